@@ -1,0 +1,22 @@
+use Rattle.std.specs.Prelude.{ℕ, ◌+◌, ◌-◌, ◌++◌, List, length, take, replicate, slice_set}
+use Rattle.linx_base.specs.declared.signaling.SigNote.{SigNote}
+use Rattle.linx_base.specs.declared.signaling.Reason.{Reason}
+use Rattle.linx_base.specs.declared.signaling.Reason.TheVariants.{Closed, Lost, Dead}
+
+-- the size of a signal: 4 bytes of number, and its data
+abbrev pub size_of : SigNote → ℕ
+size_of note = 4 + length note.bytes
+
+-- data cut or filled up with zeros to n bytes
+abbrev pub resized : List ℕ → ℕ → List ℕ
+resized bytes n = take n bytes ++ replicate (n - length bytes) 0
+
+-- data with another last byte
+abbrev pub with_last : List ℕ → ℕ → List ℕ
+with_last bytes last = slice_set bytes (length bytes - 1) last
+
+-- the byte that a notification's signal carries for its reason
+abbrev pub reason_byte : Reason → ℕ
+reason_byte Closed = 0
+reason_byte Lost = 1
+reason_byte Dead = 2
