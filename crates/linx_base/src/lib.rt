@@ -21,3 +21,6 @@ pub use memory::NoMemory;
 pub use naming::{Name, NameError, NameList, Names, Path};
 pub use sequences::Sequence;
 pub use signaling::{BufferError, Reason, SigNote, Signal};
+
+#[cfg(test)]
+mod tests;

@@ -8,3 +8,6 @@ mod spelling;
 
 pub use filters::{Numbers, Sigsel};
 pub use spelling::SelError;
+
+#[cfg(test)]
+mod tests;

@@ -1,0 +1,149 @@
+use crate::{
+    Blob, BufferError, Frame, Frames, Inc, LinkNo, Message, Name, NameError, NameList, Names,
+    NoMemory, Path, Peer, Reason, SentFrame, SentFrames, Session, Signal, TryCopy,
+};
+use std::test::Fail;
+
+#[test]
+fn signal_size_limits(rt: HostRuntime) -> Result<(), Fail> {
+    let long = vec![in rt.alloc(); 7u8; 65_533]?;
+    assert!(rt;
+        matches!(
+            &Signal::alloc(rt.alloc(), 9, &long),
+            Err(BufferError::TooLarge)
+        )
+    );
+    let mut signal = Signal::alloc(rt.alloc(), 9, &long[..65_532])?;
+    assert_eq!(rt; signal.size(), 65_536);
+    assert_eq!(rt; signal.resize(65_533), Err(BufferError::TooLarge));
+    assert_eq!(rt; signal.bytes(), &long[..65_532]);
+    signal.resize(0)?;
+    assert!(rt; signal.bytes().is_empty());
+    assert_eq!(rt; (signal.number(), signal.size()), (9, 4));
+    Ok(())
+}
+
+#[test]
+fn resize_keeps_the_first_bytes_and_adds_zeros(rt: HostRuntime) -> Result<(), Fail> {
+    let mut signal = Signal::alloc(rt.alloc(), 3, &[1, 2, 3])?;
+    signal.resize(5)?;
+    assert_eq!(rt; signal.bytes(), [1, 2, 3, 0, 0].as_slice());
+    signal.resize(2)?;
+    assert_eq!(rt; signal.bytes(), [1, 2].as_slice());
+    let note = signal.note()?;
+    assert_eq!(rt; (note.number, note.bytes.bytes()), (3, [1, 2].as_slice()));
+    let reasons = [Reason::Closed, Reason::Lost, Reason::Dead];
+    assert_eq!(rt; reasons.map(|reason| reason.byte()), [0, 1, 2]);
+    Ok(())
+}
+
+#[test]
+fn name_bounds(rt: HostRuntime) -> Result<(), Fail> {
+    let letters = [b'a'; 33];
+    assert!(rt; Name::of(rt.alloc(), &letters[..32]).is_ok());
+    for wrong in [
+        &letters[..],
+        b"",
+        b"a b",
+        b"a/b",
+        b"\x7f",
+        b"@",
+        b"[",
+        b"`",
+        b"{",
+        b"/",
+        b":",
+    ] {
+        assert!(rt;
+            matches!(&Name::of(rt.alloc(), wrong), Err(NameError::BadName)),
+            "{wrong:?}"
+        );
+    }
+    let marks = Name::of(rt.alloc(), b"aZ09_-.")?;
+    assert!(rt; marks.same(&Name::of(rt.alloc(), b"aZ09_-.")?));
+    assert!(rt; !marks.same(&Name::of(rt.alloc(), b"aZ09_-")?));
+    assert_eq!(rt; marks.copy()?.bytes(), b"aZ09_-.".as_slice());
+    Ok(())
+}
+
+#[test]
+fn lists_give_their_elements_in_order(rt: HostRuntime) -> Result<(), Fail> {
+    let mut names = NameList::new(rt.alloc());
+    assert!(rt; names.is_empty() && names.get(0).is_none() && names.pop_first().is_none());
+    names.push(Name::of(rt.alloc(), b"m")?)?;
+    names.push(Name::of(rt.alloc(), b"n")?)?;
+    let both = Names {
+        nodes: names.copy()?,
+        links: NameList::new(rt.alloc()),
+    };
+    assert_eq!(rt; (both.copy()?.nodes.len(), both.links.len()), (2, 0));
+    assert!(rt;
+        names
+            .get(1)
+            .is_some_and(|name| name.bytes() == b"n".as_slice())
+    );
+    assert!(rt;
+        names
+            .pop_first()
+            .is_some_and(|name| name.bytes() == b"m".as_slice())
+    );
+    assert_eq!(rt; names.into_vec().len(), 1);
+    Ok(())
+}
+
+fn first_piece(alloc: std::alloc::Global, payload: &[u8]) -> Result<Frame, NoMemory> {
+    Ok(Frame::First {
+        more: true,
+        from: 1,
+        to: 2,
+        size: 9,
+        payload: Blob::of(alloc, payload)?,
+    })
+}
+
+#[test]
+fn copies_equal_their_originals(rt: HostRuntime) -> Result<(), Fail> {
+    let alloc = rt.alloc();
+    let path = Path::Over {
+        link: LinkNo(4),
+        name: Name::of(alloc, b"v")?,
+    };
+    assert!(rt;
+        matches!(&path.copy()?, Path::Over { link: LinkNo(4), name } if name.bytes() == b"v".as_slice())
+    );
+    let message = Message {
+        from: 1,
+        to: 2,
+        body: Blob::of_vec([5, 6].to_vec(alloc)?)?,
+    };
+    let other = message.copy()?;
+    assert_eq!(rt;
+        (other.from, other.to, other.body.bytes()),
+        (1, 2, [5, 6].as_slice())
+    );
+    let mut frames = Frames::new(alloc);
+    frames.push(first_piece(alloc, &[5])?)?;
+    frames.push(Frame::Next {
+        more: false,
+        payload: Blob::of(alloc, &[6])?,
+    })?;
+    assert_eq!(rt; frames.copy()?.len(), 2);
+    let mut sent = SentFrames::new(alloc);
+    sent.push(SentFrame {
+        number: 3,
+        frame: first_piece(alloc, &[5])?,
+    })?;
+    assert!(rt; sent.copy()?.get(0).is_some_and(|first| first.number == 3));
+    Ok(())
+}
+
+#[test]
+fn peers_differ_by_session(rt: HostRuntime) {
+    let there = |session| Peer::There {
+        link: LinkNo(1),
+        session: Session(session),
+        inc: Inc(7),
+    };
+    assert!(rt; there(1) == there(1) && there(1) != there(2));
+    assert!(rt; Peer::Here(Inc(7)) != there(1));
+}
