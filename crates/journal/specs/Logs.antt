@@ -1,0 +1,51 @@
+use Rattle.std.specs.Prelude.{ℕ, suc, ◌+◌, Bool, ◌||◌, ◌==◌, nat_le, List, [], ◌∷◌, length, Option, Some, None, if◌then◌else◌, sum_by}
+use Rattle.linx_base.specs.Content.{size_of}
+use Rattle.linx_base.specs.declared.naming.Names.{Names}
+use Rattle.journal.specs.declared.heads.Head.{Head}
+use Rattle.journal.specs.declared.heads.Head.TheVariants.{Send, Hunt, Attach}
+use Rattle.journal.specs.declared.happenings.Effect.{Effect}
+use Rattle.journal.specs.declared.happenings.Effect.TheVariants.{Arrived, Found, Notified}
+use Rattle.journal.specs.declared.happenings.Step.{Step}
+use Rattle.journal.specs.declared.book.TheConstants.{STEPS_MOST, SIGNAL_BYTES_MOST}
+
+-- what a journal says: the names of nodes and links, and the steps, the newest first
+pub record Log : Type 0 where
+  pub names : Names
+  pub steps : List Step
+
+-- what a journal is seen as: its log, and the steps that it has room for
+pub record Book : Type 0 where
+  pub log : Log
+  pub spare : ℕ
+
+-- the step at a position, from 1
+abbrev pub step_at : List Step → ℕ → Option Step
+step_at [] k = None
+step_at (s ∷ P) k = if k == suc (length P) then Some s else step_at P k
+
+-- the size of the signal that a head notes
+abbrev pub head_bytes : Head → ℕ
+head_bytes (Send peer note answer) = size_of note
+head_bytes (Hunt path note) = size_of note
+head_bytes (Attach peer note) = size_of note
+head_bytes _ = 0
+
+-- the size of the signal that an effect notes
+abbrev pub effect_bytes : Effect → ℕ
+effect_bytes (Arrived at from note) = size_of note
+effect_bytes (Found at from note number) = size_of note
+effect_bytes (Notified at from note reference reason) = size_of note
+effect_bytes _ = 0
+
+-- the sizes of the signals that a step notes
+abbrev pub step_bytes : Step → ℕ
+step_bytes s = head_bytes s.head + sum_by effect_bytes s.effects
+
+-- the sizes of all noted signals
+abbrev pub signal_bytes_of : List Step → ℕ
+signal_bytes_of [] = 0
+signal_bytes_of (s ∷ P) = signal_bytes_of P + step_bytes s
+
+-- the journal takes no further step
+abbrev pub is_full : List Step → Bool
+is_full P = nat_le STEPS_MOST (length P) || nat_le SIGNAL_BYTES_MOST (signal_bytes_of P)

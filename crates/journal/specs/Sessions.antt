@@ -1,0 +1,48 @@
+use Rattle.std.specs.Prelude.{ℕ, Bool, false, not, ◌&&◌, ◌==◌, List, [], ◌∷◌, Option, Some, None, if◌then◌else◌}
+use Rattle.std.specs.List.{list_any}
+use Rattle.linx_base.specs.Peers.{same_inc, same_peer}
+use Rattle.linx_base.specs.declared.identity.Session.{Session}
+use Rattle.linx_base.specs.declared.identity.Peer.{Peer}
+use Rattle.linx_base.specs.declared.identity.Peer.TheVariants.{Here, There}
+use Rattle.journal.specs.declared.happenings.Effect.{Effect}
+use Rattle.journal.specs.declared.happenings.Effect.TheVariants.{Met, Gone, Up, Down}
+use Rattle.journal.specs.declared.happenings.Step.{Step}
+use Rattle.journal.specs.History.{effects_of, open_endpoints}
+
+-- the session of a node on a link after an effect
+abbrev pub session_after : ℕ → ℕ → Option Session → Effect → Option Session
+session_after node link before (Up n l x y) = if n.0 == node && l.0 == link then Some x else before
+session_after node link before (Down n l x) = if n.0 == node && l.0 == link then None else before
+session_after node link before _ = before
+
+-- the same after effects, in order
+abbrev pub session_past : ℕ → ℕ → Option Session → List Effect → Option Session
+session_past node link before [] = before
+session_past node link before (e ∷ es) = session_past node link (session_after node link before e) es
+
+-- the session of a node on a link that is up: of the last Up there, unless a Down followed
+abbrev pub up_session : List Step → ℕ → ℕ → Option Session
+up_session [] node link = None
+up_session (s ∷ P) node link = session_past node link (up_session P node link) s.effects
+
+-- the session is this one
+abbrev pub is_session : Session → Option Session → Bool
+is_session x None = false
+is_session x (Some y) = x.0 == y.0
+
+-- the effect meets, or parts from, a peer at a node
+abbrev pub meets : ℕ → Peer → Effect → Bool
+meets node q (Met n p name) = n.0 == node && same_peer p q
+meets node q _ = false
+
+abbrev pub parts : ℕ → Peer → Effect → Bool
+parts node q (Gone n p) = n.0 == node && same_peer p q
+parts node q _ = false
+
+-- a peer is alive at a node: an endpoint of the node while it is open, one over a link from its
+-- meeting to its parting while its session is up
+abbrev pub is_alive : List Step → ℕ → Peer → Bool
+is_alive P node (Here i) = list_any (same_inc i) (open_endpoints P node)
+is_alive P node (There l x i) =
+    is_session x (up_session P node l.0) && list_any (meets node (There l x i)) (effects_of P)
+    && not (list_any (parts node (There l x i)) (effects_of P))

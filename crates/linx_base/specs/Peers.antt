@@ -1,0 +1,24 @@
+use Rattle.std.specs.Prelude.{ℕ, Bool, false, ◌&&◌, ◌==◌, ◌/◌}
+use Rattle.linx_base.specs.declared.identity.Inc.{Inc}
+use Rattle.linx_base.specs.declared.identity.ItemAt.{ItemAt}
+use Rattle.linx_base.specs.declared.identity.Peer.{Peer}
+use Rattle.linx_base.specs.declared.identity.Peer.TheVariants.{Here, There}
+
+-- one incarnation
+abbrev pub same_inc : Inc → Inc → Bool
+same_inc a b = a.0 == b.0
+
+-- the incarnation was opened on the node of this number
+abbrev pub is_on : ℕ → Inc → Bool
+is_on node inc = inc.0 / 4294967296 == node
+
+-- one peer
+abbrev pub same_peer : Peer → Peer → Bool
+same_peer (Here a) (Here b) = same_inc a b
+same_peer (Here a) (There l x b) = false
+same_peer (There l x a) (Here b) = false
+same_peer (There l x a) (There m y b) = l.0 == m.0 && x.0 == y.0 && same_inc a b
+
+-- one position
+abbrev pub same_position : ItemAt → ItemAt → Bool
+same_position p q = p.step == q.step && p.place == q.place
