@@ -1,6 +1,7 @@
-use Rattle.std.specs.Prelude.{ℕ, suc, ◌+◌, Bool, true, false, not, ◌&&◌, ◌==◌, List, [], ◌∷◌, ◌++◌, length, filter, find, Option, if◌then◌else◌}
+use Rattle.std.specs.Prelude.{ℕ, suc, ◌+◌, Bool, true, false, not, ◌&&◌, ◌==◌, List, [], ◌∷◌, ◌++◌, length, filter, Option, if◌then◌else◌}
 use Rattle.std.specs.List.{list_any}
 use Rattle.linx_base.specs.Peers.{same_inc, same_position}
+use Rattle.linx_base.specs.FirstMatch.{first_match}
 use Rattle.linx_base.specs.declared.identity.Inc.{Inc}
 use Rattle.linx_base.specs.declared.identity.ItemAt.{ItemAt}
 use Rattle.sigsel.specs.declared.filters.Sigsel.{Sigsel}
@@ -73,4 +74,4 @@ is_selected filter e = selects filter (number_in e.effect)
 
 -- the earliest selected item
 abbrev pub first_selected : Sigsel → List Entry → Option Entry
-first_selected filter items = find (is_selected filter) items
+first_selected filter items = first_match (is_selected filter) items

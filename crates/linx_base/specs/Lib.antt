@@ -1,3 +1,4 @@
 pub mod NameText
 pub mod Content
 pub mod Peers
+pub mod FirstMatch
