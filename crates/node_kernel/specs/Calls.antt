@@ -29,10 +29,15 @@ RefusesOpening endpoints name (Full back) = (back ≡ name) × (length endpoints
 RefusesOpening endpoints name (NoMemory back) = back ≡ name
 
 -- The endpoints after a send: a signal to a living endpoint goes last into its queue, one to a peer
--- that isn't alive is freed
-abbrev pub Sends : List OpenEndpoint → Inc → Peer → SigNote → ℕ → Sent → List OpenEndpoint → Type 0
-Sends old from (Here i) signal step Queued new =
-    (is_living old (Here i) ≡ true) × (new ≡ with_items old i (items_at old i ++ plain_item signal from step ∷ []))
-Sends old from (There link session i) signal step Queued new = ⊥
-Sends old from to signal step (Link back) new = (back ≡ signal) × (is_living old to ≡ true) × (new ≡ old)
-Sends old from to signal step Dead new = (is_living old to ≡ false) × (new ≡ old)
+-- that isn't alive is freed, and one over a link is for the link
+abbrev pub after_send : List OpenEndpoint → Inc → Peer → SigNote → ℕ → List OpenEndpoint
+after_send old from (Here i) signal step =
+    if is_open old i then with_items old i (items_at old i ++ plain_item signal from step ∷ []) else old
+after_send old from (There link session i) signal step = old
+
+-- what became of a signal to a peer, which is alive or not
+abbrev pub IsSent : Bool → Peer → SigNote → Sent → Type 0
+IsSent false to signal Dead = Unit {0}
+IsSent true (Here i) signal Queued = Unit {0}
+IsSent true (There link session i) signal (Link back) = back ≡ signal
+IsSent _ to signal _ = ⊥

@@ -1,5 +1,6 @@
-use journal::Effects;
-use linx_base::{Inc, Name, Signal};
+use endpoint_queue::Item;
+use journal::{Detached, Effects, Refusal, SentTo};
+use linx_base::{AttRef, Inc, Name, Signal};
 
 /// A new endpoint, and the effects of its opening.
 #[derive(Drop)]
@@ -25,4 +26,23 @@ pub enum Sent {
     Link(Signal),
     /// The peer isn't alive. The signal was freed.
     Dead,
+}
+
+/// The answer to an event.
+#[derive(Drop)]
+pub enum StepAnswer {
+    Opened(Inc),
+    Closed,
+    Sent(SentTo),
+    Took(Item),
+    /// Nothing is selected, and all else is at rest.
+    Nothing,
+    /// Nothing is selected yet.
+    NotYet,
+    /// The position of the hunting step.
+    Hunted(u64),
+    Attached(AttRef),
+    Detached(Detached),
+    Done,
+    Refused(Refusal),
 }

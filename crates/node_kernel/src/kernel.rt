@@ -45,7 +45,7 @@ fn one_effect(alloc: Global, effect: Effect) -> Result<Effects, NoMemory>
 
 impl Kernel {
     ghost use Rattle.node_kernel.specs.Nodes.{is_open, items_at, with_items, without_endpoint, is_living, following_inc};
-    ghost use Rattle.node_kernel.specs.Calls.{after_open, RefusesOpening, Sends};
+    ghost use Rattle.node_kernel.specs.Calls.{after_open, RefusesOpening, after_send, IsSent};
 
     /// A node that opened no endpoint yet.
     pub fn new(alloc: Global, node: NodeNo) -> Kernel
@@ -121,8 +121,8 @@ impl Kernel {
         step: u64,
     ) -> Result<Sent, (NoMemory, Signal)>
         requires { IsTrue (is_open self.old.endpoints from) }
-        ensures ok { IfOk result (λ sent. Sends self.old.endpoints from to signal step sent self.new.endpoints) }
-        ensures others { self.new ≡ record self.old { endpoints = self.new.endpoints } }
+        ensures sent { IfOk result (IsSent (is_living self.old.endpoints to) to signal) }
+        ensures ok { OnOk result (self.new ≡ record self.old { endpoints = after_send self.old.endpoints from to signal step }) }
         ensures err { IfErr result (λ back. (back.1 ≡ signal) × (self.new ≡ self.old)) }
     {
         let Peer::Here(inc) = to else {

@@ -7,5 +7,5 @@ mod answers;
 mod endpoints;
 mod kernel;
 
-pub use answers::{OpenError, OpenedAs, Sent};
+pub use answers::{OpenError, OpenedAs, Sent, StepAnswer};
 pub use kernel::Kernel;

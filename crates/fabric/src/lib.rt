@@ -1,0 +1,12 @@
+//! The fabric: the nodes of a run, and the journal of what was done on them. Each call of `step` is
+//! one event of one maker, and adds at most one step. What a fabric keeps, whatever is asked of it, is
+//! that its journal is legal, and that its kernels are what this journal leaves. It has one node, one
+//! actor and no link as yet.
+#![tactic(auto)]
+
+mod makings;
+mod stepping;
+mod stops;
+
+pub use stepping::Fabric;
+pub use stops::{StepStop, StopCause};
