@@ -1,4 +1,4 @@
-use Rattle.std.specs.Prelude.{ℕ, ◌+◌, ◌≡◌, true, false, List, [], ◌∷◌, ◌++◌, length}
+use Rattle.std.specs.Prelude.{ℕ, ◌+◌, ◌≡◌, Bool, true, false, List, [], ◌∷◌, ◌++◌, length, if◌then◌else◌}
 use Rattle.linx_base.specs.declared.identity.Inc.{Inc}
 use Rattle.linx_base.specs.declared.identity.Peer.{Peer}
 use Rattle.linx_base.specs.declared.identity.Peer.TheVariants.{Here, There}
@@ -10,7 +10,7 @@ use Rattle.node_kernel.specs.declared.answers.OpenError.{OpenError}
 use Rattle.node_kernel.specs.declared.answers.OpenError.TheVariants.{Full, NoMemory}
 use Rattle.node_kernel.specs.declared.answers.Sent.{Sent}
 use Rattle.node_kernel.specs.declared.answers.Sent.TheVariants.{Queued, Link, Dead}
-use Rattle.node_kernel.specs.Nodes.{OpenEndpoint, NodeState, is_living, items_at, with_items, following_inc}
+use Rattle.node_kernel.specs.Nodes.{OpenEndpoint, NodeState, is_open, items_at, with_items, following_inc}
 
 -- the node after an opening: one more endpoint at the end, with an empty queue
 abbrev pub after_open : NodeState → List ℕ → NodeState
