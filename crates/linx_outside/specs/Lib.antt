@@ -1,0 +1,5 @@
+pub mod Counts
+pub mod Told
+pub mod Reading
+pub mod Writing
+pub mod Contents
