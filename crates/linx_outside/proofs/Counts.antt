@@ -10,7 +10,7 @@ NeverFalls-refl last count = record { no_lower = omega arith; stands = λ _. ref
 pub NeverFalls-trans : (last : Option ℕ) (old mid new : ℕ) → NeverFalls last old mid → NeverFalls last mid new → NeverFalls last old new
 NeverFalls-trans last old mid new before after = record {
   no_lower = omega (arith, before.no_lower, after.no_lower);
-  stands = λ at_last. after.stands (at_last ∙ ap Some (sym (before.stands at_last))) ∙ before.stands at_last
+  stands = λ at_last. after.stands (at_last ∙ ap Some (sym (before.stands at_last))) ∙ before.stands at_last;
 }
 
 -- a fault, and then calls of whatever answer

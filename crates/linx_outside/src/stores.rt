@@ -31,11 +31,11 @@ impl Model for MemSink {
     ghost Value = { Store };
 
     ghost view = { λ sink. record {
-        held = sink.held.items;
-        most = sink.most;
-        room = sink.room;
-        plan = sink.plan;
-        faults = sink.faults
+      held = sink.held.items;
+      most = sink.most;
+      room = sink.room;
+      plan = sink.plan;
+      faults = sink.faults;
     } };
 
     ghost invariant = { λ sink. (1 ≤ sink.most) × (length sink.held.items ≤ sink.room)
@@ -94,9 +94,13 @@ impl Sink for MemSink {
         ensures count { IfTook result (λ n. n ≡ min self.old.most
             (min (length piece.now) (self.old.room - length self.old.held))) }
         ensures took { IfTook result (λ n. self.new ≡ record self.old {
-            held = self.old.held ++ take n piece.now; plan = counted self.old.plan }) }
+          held = self.old.held ++ take n piece.now;
+          plan = counted self.old.plan;
+        }) }
         ensures failed { IfWriteFailed result (self.new ≡ record self.old {
-            faults = raised self.old.faults; plan = counted self.old.plan }) }
+          faults = raised self.old.faults;
+          plan = counted self.old.plan;
+        }) }
 
         ensures within { IfTook result (λ n. n ≤ length piece.now) }
         ensures some { IfTook result (λ n. 0 < length piece.now → 0 < n) }

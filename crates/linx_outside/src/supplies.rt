@@ -90,10 +90,10 @@ impl Model for MemSource {
     ghost Value = { Supply };
 
     ghost view = { λ source. record {
-        left = source.source;
-        most = source.most;
-        plan = source.plan;
-        faults = source.faults
+      left = source.source;
+      most = source.most;
+      plan = source.plan;
+      faults = source.faults;
     } };
 
     ghost invariant = { λ source. (1 ≤ source.most) × (source.faults ≤ source.plan.calls) };
@@ -134,9 +134,13 @@ impl Source for MemSource {
         ensures count { IfGot result
             (λ n. n ≡ min self.old.most (min (length buffer.old) (length self.old.left))) }
         ensures got { IfGot result (λ n. self.new ≡ record self.old {
-            left = drop n self.old.left; plan = counted self.old.plan }) }
+          left = drop n self.old.left;
+          plan = counted self.old.plan;
+        }) }
         ensures failed { IfReadFailed result (self.new ≡ record self.old {
-            faults = self.old.faults + 1; plan = counted self.old.plan }) }
+          faults = self.old.faults + 1;
+          plan = counted self.old.plan;
+        }) }
 
         ensures within { IfGot result (λ n. n ≤ length buffer.new) }
         ensures given { IfGot result

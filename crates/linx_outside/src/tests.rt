@@ -122,7 +122,10 @@ fn readers_and_writers_of_std_are_sources_and_sinks(rt: HostRuntime) -> Result<(
     expect_read(&rt, &mut reader, 2, Some(b""));
 
     let mut taken = Vec::new(rt.alloc());
-    assert_eq!(rt; WriteTo::new(&mut taken).write(b"abc"), WriteAnswer::Took(3));
+    assert_eq!(rt;
+        WriteTo::new(&mut taken).write(b"abc"),
+        WriteAnswer::Took(3)
+    );
     assert_eq!(rt; taken.as_slice(), b"abc".as_slice());
     let mut writer = WriteTo::new(Halting { calls: 0 });
     let writes: [(&[u8], WriteAnswer); 4] = [
@@ -145,7 +148,10 @@ fn all_is_written_or_a_front_of_it(rt: HostRuntime) -> Result<(), Fail> {
     assert_eq!(rt; write_all(&mut sink, b"."), Ok(()));
     assert_eq!(rt; sink.held(), b"opened a, sent 5.".as_slice());
     let mut halting = MemSink::new(alloc, 10, 4096, [2].to_vec(alloc)?)?;
-    assert_eq!(rt; write_all(&mut halting, b"opened a, sent 5"), Err(WriteFault));
+    assert_eq!(rt;
+        write_all(&mut halting, b"opened a, sent 5"),
+        Err(WriteFault)
+    );
     assert_eq!(rt; halting.held(), b"opened a, ".as_slice());
     Ok(())
 }
@@ -183,7 +189,10 @@ fn bytes_are_read_up_to_a_limit(rt: HostRuntime) -> Result<(), Fail> {
     let long = vec![in alloc; 7u8; 10_000]?;
     let mut buffer = Vec::new(alloc);
     let mut source = PlainSource::new(vec![in alloc; 7u8; 10_000]?);
-    assert_eq!(rt; read_up_to(&mut source, &mut buffer, 20_000), Ok(Reached::End));
+    assert_eq!(rt;
+        read_up_to(&mut source, &mut buffer, 20_000),
+        Ok(Reached::End)
+    );
     assert_eq!(rt; buffer.as_slice(), long.as_slice());
     Ok(())
 }

@@ -11,7 +11,7 @@ invariant-chunks g l = record {
   room : vec_len l.buffer + l.missing ≤ vec_capacity l.buffer;
   chunk : length l.chunk ≡ 4096;
   counts : g.S.Source.faults l.source ≡ g.S.Source.faults l.initial.source;
-  faultless : g.S.Source.is_faultless l.initial.source → g.S.Source.is_faultless l.source
+  faultless : g.S.Source.is_faultless l.initial.source → g.S.Source.is_faultless l.source;
 }
 
 abbrev pub decreases-chunks : goal.decreases-chunks

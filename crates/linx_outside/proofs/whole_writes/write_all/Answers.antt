@@ -17,6 +17,6 @@ pieces-preserved g c =
       taken = told.taken ∙ ap (λ held. appended held (take count rest)) before.taken ∙ appended-rest (g.K.Sink.held c.args.out.now) bytes done count;
       counts = told.took_counts_nothing ∙ before.counts;
       takes = λ room can enough.
-        let left : room - done - count ≡ room - (done + count) = omega arith in
-        subst (g.K.Sink.can_take c.write.new.self) left (told.takes (room - done) (before.takes room can enough) (omega arith))
+          let left : room - done - count ≡ room - (done + count) = omega arith in
+          subst (g.K.Sink.can_take c.write.new.self) left (told.takes (room - done) (before.takes room can enough) (omega arith));
     }

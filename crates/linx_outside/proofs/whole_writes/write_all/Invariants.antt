@@ -8,7 +8,7 @@ invariant-pieces g l = record {
   within : l.done ≤ length l.bytes;
   taken : g.K.Sink.held l.out ≡ appended (g.K.Sink.held l.initial.out) (take l.done l.bytes);
   counts : g.K.Sink.faults l.out ≡ g.K.Sink.faults l.initial.out;
-  takes : (room : ℕ) → g.K.Sink.can_take l.initial.out room → length l.bytes ≤ room → g.K.Sink.can_take l.out (room - l.done)
+  takes : (room : ℕ) → g.K.Sink.can_take l.initial.out room → length l.bytes ≤ room → g.K.Sink.can_take l.out (room - l.done);
 }
 
 abbrev pub decreases-pieces : goal.decreases-pieces
