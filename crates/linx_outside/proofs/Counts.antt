@@ -1,5 +1,5 @@
 -- Counts of faults over several calls, one after another.
-use Rattle.std.proofs.Common.{◌≡◌, ℕ, ◌<◌, ◌≤◌, ◌⊎◌, Option, Some, inl, inr, refl, sym, ap, ◌∙◌, arith}
+use Rattle.std.proofs.Common.{ℕ, Option, Some, inl, inr, refl, sym, ap, ◌∙◌, arith}
 use Rattle.linx_outside.specs.Counts.{HasFaulted, NeverFalls}
 
 -- nothing happened
@@ -22,3 +22,6 @@ HasFaulted-then last old mid new (inr at_last) after = inr (at_last ∙ ap Some 
 pub HasFaulted-after : (last : Option ℕ) (old mid new : ℕ) → NeverFalls last old mid → HasFaulted last mid new → HasFaulted last old new
 HasFaulted-after last old mid new before (inl rose) = inl (omega (arith, before.no_lower, rose))
 HasFaulted-after last old mid new before (inr at_last) = inr at_last
+
+-- what a caller of several calls needs
+pub ruleset counts = (NeverFalls-refl, NeverFalls-trans, HasFaulted-then, HasFaulted-after)

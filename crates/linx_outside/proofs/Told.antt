@@ -1,5 +1,5 @@
 -- Bytes moved in several calls, one after another.
-use Rattle.std.proofs.Common.{◌≡◌, ℕ, ◌+◌, ◌-◌, ◌<◌, ◌≤◌, List, ◌++◌, length, take, drop, Option, Some, None, refl, sym, ap, ◌∙◌, append_assoc, length-append, length-drop, arith}
+use Rattle.std.proofs.Common.{◌≡◌, ℕ, ◌+◌, ◌-◌, List, ◌++◌, length, take, drop, Option, Some, None, refl, sym, ap, ◌∙◌, append_assoc, length-append, length-drop, arith}
 use Rattle.std.proofs.Math.Seq.{take-add, take-length, take-append-add}
 use Rattle.std.proofs.lemmas.List.{take-append-le}
 use Rattle.linx_outside.specs.Told.{prepended, appended, AppendsFront, Moves}
@@ -26,15 +26,30 @@ appended-rest told bytes done count =
 
 -- a front of the first piece is a front of the whole
 pub AppendsFront-append : (old new : Option (List ℕ)) (first second : List ℕ) → AppendsFront old new first → AppendsFront old new (first ++ second)
-AppendsFront-append old new first second front =
-    (front.0, omega (arith, length-append first second, front.1), front.2 ∙ ap (appended old) (sym (take-append-le front.0 first second (omega (arith, front.1)))))
+AppendsFront-append old new first second front = record {
+  count = front.count;
+  within = omega (arith, length-append first second, front.within);
+  front = front.front ∙ ap (appended old) (sym (take-append-le front.count first second (omega (arith, front.within))));
+}
 
 -- the whole first piece, and then a front of the second
 pub AppendsFront-after : (old mid new : Option (List ℕ)) (first second : List ℕ) → mid ≡ appended old first → AppendsFront mid new second → AppendsFront old new (first ++ second)
-AppendsFront-after old mid new first second whole front =
-    (length first + front.0, omega (arith, length-append first second, front.1), front.2 ∙ ap (λ told. appended told (take front.0 second)) whole ∙ appended-appended old first (take front.0 second) ∙ ap (appended old) (sym (take-append-add first second front.0)))
+AppendsFront-after old mid new first second whole front = record {
+  count = length first + front.count;
+  within = omega (arith, length-append first second, front.within);
+  front = front.front ∙ ap (λ told. appended told (take front.count second)) whole ∙ appended-appended old first (take front.count second) ∙ ap (appended old) (sym (take-append-add first second front.count));
+}
 
 -- two moves, one after the other
 pub Moves-trans : (filled mid grown : List ℕ) (left rest end : Option (List ℕ)) → Moves filled mid left rest → Moves mid grown rest end → Moves filled grown left end
-Moves-trans filled mid grown left rest end first second =
-    (first.0 ++ second.0, second.1 ∙ ap (λ bytes. bytes ++ second.0) first.1 ∙ append_assoc filled first.0 second.0, first.2 ∙ ap (prepended first.0) second.2 ∙ prepended-prepended end first.0 second.0)
+Moves-trans filled mid grown left rest end first second = record {
+  bytes = first.bytes ++ second.bytes;
+  gained = second.gained ∙ ap (λ bytes. bytes ++ second.bytes) first.gained ∙ append_assoc filled first.bytes second.bytes;
+  lost = first.lost ∙ ap (prepended first.bytes) second.lost ∙ prepended-prepended end first.bytes second.bytes;
+}
+
+-- what a caller that writes in several calls needs
+pub ruleset writes = (appended-appended, AppendsFront-append, AppendsFront-after)
+
+-- what a caller that reads in several calls needs
+pub ruleset reads = (prepended-prepended, Moves-trans)

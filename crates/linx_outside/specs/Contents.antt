@@ -1,5 +1,5 @@
 -- What a source and a sink in memory are.
-use Rattle.std.specs.Prelude.{◌≡◌, ℕ, ◌+◌, ◌-◌, ◌<◌, List, [], length, min}
+use Rattle.std.specs.Prelude.{◌≡◌, ℕ, ◌<◌, List, length}
 use Rattle.linx_outside.specs.Counts.{raised}
 
 -- the calls made so far, up to the last value of a `u64`, and the numbers of those that fail

@@ -1,4 +1,4 @@
-use Rattle.std.proofs.Common.{◌≡◌, ◌+◌, ◌-◌, ◌≤◌, length, take, drop, ap, ◌∙◌, subst, arith, length-drop}
+use Rattle.std.proofs.Common.{◌≡◌, ◌+◌, ◌-◌, length, take, drop, ap, ◌∙◌, subst, arith, length-drop}
 use Rattle.linx_outside.specs.Told.{appended}
 use Rattle.linx_outside.proofs.Told.{appended-rest, rest-drop}
 use Rattle.linx_outside.proofs.whole_writes.write_all.Goals as goal
