@@ -1,5 +1,5 @@
 -- Counts of faults over several calls, one after another.
-use Rattle.std.proofs.Common.{ℕ, Option, Some, inl, inr, refl, sym, ap, ◌∙◌, arith}
+use Rattle.std.proofs.Common.{◌≡◌, ℕ, Option, Some, inl, inr, refl, sym, ap, ◌∙◌, arith}
 use Rattle.linx_outside.specs.Counts.{HasFaulted, NeverFalls}
 
 -- nothing happened
@@ -23,5 +23,10 @@ pub HasFaulted-after : (last : Option ℕ) (old mid new : ℕ) → NeverFalls la
 HasFaulted-after last old mid new before (inl rose) = inl (omega (arith, before.no_lower, rose))
 HasFaulted-after last old mid new before (inr at_last) = inr at_last
 
+-- a count that stayed shows no fault, unless it stands at its last value
+pub HasFaulted-same : (last : Option ℕ) (count : ℕ) → HasFaulted last count count → last ≡ Some count
+HasFaulted-same last count (inl rose) = absurd (omega (arith, rose))
+HasFaulted-same last count (inr at_last) = at_last
+
 -- what a caller of several calls needs
-pub ruleset counts = (NeverFalls-refl, NeverFalls-trans, HasFaulted-then, HasFaulted-after)
+pub ruleset counts = (NeverFalls-refl, NeverFalls-trans, HasFaulted-then, HasFaulted-after, HasFaulted-same)

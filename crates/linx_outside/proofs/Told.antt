@@ -14,6 +14,11 @@ pub prepended-prepended : (told : Option (List ℕ)) (first second : List ℕ) �
 prepended-prepended None first second = refl
 prepended-prepended (Some bytes) first second = ap Some (sym (append_assoc first second bytes))
 
+-- a source that doesn't tell what it has left goes on not telling
+pub None-prepended : (bytes : List ℕ) (told : Option (List ℕ)) → None ≡ prepended bytes told → told ≡ None
+None-prepended bytes None untold = refl
+None-prepended bytes (Some left) untold = cc
+
 -- the slice from an index on is what is left behind it
 pub rest-drop : (bytes : List ℕ) (done : ℕ) → take (length bytes - done) (drop done bytes) ≡ drop done bytes
 rest-drop bytes done =

@@ -3,3 +3,4 @@ pub mod Told
 pub mod Reading
 pub mod Writing
 pub mod Contents
+pub mod Failures

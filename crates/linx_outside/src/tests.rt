@@ -6,6 +6,7 @@ use std::alloc::Global;
 use std::io;
 use std::io::{ErrorKind, Read, Write};
 use std::process::Abort;
+use std::sync::Wait;
 use std::test::Fail;
 
 // Reads once into a buffer of `size` bytes, and compares the answer and the bytes given.
@@ -197,9 +198,14 @@ fn bytes_are_read_up_to_a_limit(rt: HostRuntime) -> Result<(), Fail> {
     Ok(())
 }
 
+// Passes a gate that threads may share.
+fn pass_all<R: Wait, G: Gate + Sync>(rt: &R, gate: &G) {
+    for turn in 1..100u64 {
+        gate.pass(rt, 1, turn);
+    }
+}
+
 #[test]
 fn the_open_gate_lets_every_turn_pass(rt: HostRuntime) {
-    for turn in 1..100u64 {
-        OpenGate.pass(&rt, 1, turn);
-    }
+    pass_all(&rt, &OpenGate);
 }
