@@ -1,5 +1,5 @@
 -- What a fabric keeps through each kind of step, and that the step is legal.
-use Rattle.std.proofs.Common.{◌≡◌, ℕ, suc, ◌<◌, ◌≤◌, ◌+◌, Bool, true, false, cond, not, List, [], ◌∷◌, ◌++◌, length, Option, Some, None, map, refl, sym, ◌∙◌, ap, subst, arith}
+use Rattle.std.proofs.Common.{◌≡◌, ℕ, suc, ◌<◌, ◌≤◌, ◌+◌, Bool, true, false, cond, not, ◌||◌, List, [], ◌∷◌, ◌++◌, length, Option, Some, None, map, refl, sym, ◌∙◌, ap, subst, arith}
 use Rattle.std.specs.Prelude.{IsSomeAnd, IsTrue}
 use Rattle.std.specs.List.{list_any, filter, filter_map, count_by}
 use Rattle.std.specs.Option.{option_to_list, option_map}
@@ -16,7 +16,8 @@ use Rattle.journal.specs.declared.makers.By.{By}
 use Rattle.journal.specs.declared.makers.By.TheVariants.{Actor, Pump}
 use Rattle.journal.specs.declared.heads.Head.{Head}
 use Rattle.journal.specs.declared.heads.Head.TheVariants.{Open, Close, Send, Take, TakeNone, Ended}
-use Rattle.journal.specs.declared.happenings.Effect.TheVariants.{Opened, Closed}
+use Rattle.journal.specs.declared.happenings.Effect.TheVariants.{Opened, Closed, Arrived, Found, Notified}
+use Rattle.journal.specs.declared.heads.SentTo.TheVariants.{Dead}
 use Rattle.journal.specs.declared.happenings.Step.{Step}
 use Rattle.journal.specs.History.{is_by, opened_in, closes, endpoint_of, endpoint_by, openings, open_endpoints, next_inc, has_ended}
 use Rattle.journal.specs.Sessions.{is_alive}
@@ -24,11 +25,13 @@ use Rattle.journal.specs.Queues.{Entry, removes, queued, is_selected, first_sele
 use Rattle.journal.specs.Laws.{Shape, IsMaker, IsLegal, IsLegalStep, IsAtRest, HasEffects, KeepsSends, KeepsReceives, node_by, answer_to, arrivals_of}
 use Rattle.journal.proofs.Openings.{length-openings, same_inc-refl, same_inc-true, next_inc-not_closed, open_endpoints-open, next_inc-is_on, open_endpoints-close, open_endpoints-same, endpoint_of-open, endpoint_of-close, endpoint_of-same}
 use Rattle.endpoint_queue.specs.declared.items.Item.{Item}
-use Rattle.endpoint_queue.specs.Selection.{first_selected as item_first, without_first}
-use Rattle.node_kernel.specs.Nodes.{OpenEndpoint, NodeState, is_open, is_living, items_at, with_items, without_endpoint, following_inc}
+use Rattle.endpoint_queue.specs.Selection.{is_selected as selects_item, first_selected as item_first, without_first}
+use Rattle.linx_base.specs.declared.identity.ItemAt.{ItemAt}
+use Rattle.journal.specs.declared.happenings.Effect.{Effect}
+use Rattle.node_kernel.specs.Nodes.{OpenEndpoint, NodeState, is_at, items_of, is_open, is_living, items_at, with_items, without_endpoint, following_inc}
 use Rattle.node_kernel.specs.Calls.{after_open, after_send}
 use Rattle.fabric.specs.Remains.{item_of, node_left, only_node, IsOneActor, IsKept}
-use Rattle.fabric.specs.Events.{sent_step, take_head}
+use Rattle.fabric.specs.Events.{sent_step, take_head, take_answer, IsAnswerOf}
 use Rattle.fabric.proofs.Leavings.{node_left-quiet, node_left-open, node_left-close, node_left-arrival, node_left-take, living_left, first_alike}
 
 -- a maker in a fabric of one actor is that actor
@@ -56,10 +59,13 @@ keeps_open shape P kernel name kept maker short =
   where
     i : Inc
     i = next_inc P 1
+
     s : Step
     s = record { by = Actor 1; head = Open name; effects = Opened i ∷ [] }
+
     none : endpoint_of P 1 ≡ None
     none = sym kept.endpoint_known
+
     step : IsLegalStep shape P s
     step = record {
       makers = maker;
@@ -67,10 +73,13 @@ keeps_open shape P kernel name kept maker short =
       sends = tt;
       receives = rw none tt;
     }
+
     nothing_open : open_endpoints P 1 ≡ []
     nothing_open = kept.alone ∙ ap option_to_list none
+
     new : endpoint_of (s ∷ P) 1 ≡ Some i
     new = endpoint_of-open P s 1 i refl refl (next_inc-not_closed shape P kept.legal short 1)
+
     keeps : IsKept shape (s ∷ P) (after_open (node_left P only_node) name) (Some i)
     keeps = record {
       one_actor = kept.one_actor;
@@ -88,8 +97,10 @@ keeps_close shape P kernel j head kept maker has_effects sends receives =
   where
     s : Step
     s = record { by = Actor 1; head = head; effects = Closed j ∷ [] }
+
     mine : endpoint_of P 1 ≡ Some j
     mine = sym kept.endpoint_known
+
     step : IsLegalStep shape P s
     step = record {
       makers = maker;
@@ -97,12 +108,16 @@ keeps_close shape P kernel j head kept maker has_effects sends receives =
       sends = rw (node_of_first shape kept.one_actor) sends;
       receives = rw mine receives;
     }
+
     alone : open_endpoints P 1 ≡ j ∷ []
     alone = kept.alone ∙ ap option_to_list mine
+
     closed : endpoint_of (s ∷ P) 1 ≡ None
     closed = endpoint_of-close P s 1 j mine refl
+
     dropped : filter (λ i. not (same_inc i j)) (j ∷ []) ≡ []
     dropped = rw (same_inc-refl j) refl
+
     keeps : IsKept shape (s ∷ P) (record (node_left P only_node) { endpoints = without_endpoint (node_left P only_node).endpoints j }) None
     keeps = record {
       one_actor = kept.one_actor;
@@ -166,24 +181,158 @@ pub openings_left : (shape : Shape) (P : List Step) (kernel : NodeState) (endpoi
 openings_left shape P kernel endpoint kept =
     rw kept.kernel_left (omega (arith, count_by-le-length (is_on 1) (openings P), length-openings shape P kept.legal))
 
--- a receive: the first selected item is taken, or there is none
-pub keeps_take : (shape : Shape) (P : List Step) (kernel : NodeState) (j : Inc) (filter : Sigsel) (took : Option Item) → IsKept shape P kernel (Some j) → IsMaker shape P (Actor 1) → took ≡ item_first filter (items_at kernel.endpoints j) → Keeps shape P (record kernel { endpoints = with_items kernel.endpoints j (without_first filter (items_at kernel.endpoints j)) }) (Some j) (record { by = Actor 1; head = take_head filter took; effects = [] })
-keeps_take shape P kernel j filter took kept maker is =
-    by_first (first_selected filter (queued P j)) refl took (is ∙ ap (item_first filter) (items_left shape P kernel j kept) ∙ first_alike filter (queued P j))
+-- a queue that is put back as it was changes nothing
+put_back : (es : List OpenEndpoint) (j : Inc) → with_items es j (items_at es j) ≡ es
+put_back [] j = refl
+put_back (e ∷ es) j =
+    elim (is_at j e) as (λ b. cond b (record e { items = items_of (cond b (Some e) (first_match (is_at j) es)) } ∷ es) (e ∷ with_items es j (items_of (cond b (Some e) (first_match (is_at j) es)))) ≡ e ∷ es) [
+      | true ↦ refl
+      | false ↦ ap (λ l. e ∷ l) (put_back es j)
+    ]
+
+-- a filter that selects nothing takes nothing out
+pub without_none : (filter : Sigsel) (items : List Item) → item_first filter items ≡ None → without_first filter items ≡ items
+without_none filter [] none = refl
+without_none filter (x ∷ xs) none =
+    let go : (b : Bool) → cond b (Some x) (item_first filter xs) ≡ None → cond b xs (x ∷ without_first filter xs) ≡ x ∷ xs = λ b.
+    elim b as (λ c. cond c (Some x) (item_first filter xs) ≡ None → cond c xs (x ∷ without_first filter xs) ≡ x ∷ xs) [
+      | true ↦ λ e. cc
+      | false ↦ λ e. ap (λ l. x ∷ l) (without_none filter xs e)
+    ]
+    in
+    go (selects_item filter x) none
+
+-- what is left of a kernel after a receive at an endpoint
+abbrev pub after_take : NodeState → Inc → Sigsel → NodeState
+after_take kernel j filter = record kernel { endpoints = with_items kernel.endpoints j (without_first filter (items_at kernel.endpoints j)) }
+
+after_take-none : (kernel : NodeState) (j : Inc) (filter : Sigsel) → item_first filter (items_at kernel.endpoints j) ≡ None → after_take kernel j filter ≡ kernel
+after_take-none kernel j filter none =
+    let same : with_items kernel.endpoints j (without_first filter (items_at kernel.endpoints j)) ≡ kernel.endpoints = ap (with_items kernel.endpoints j) (without_none filter (items_at kernel.endpoints j) none) ∙ put_back kernel.endpoints j in
+    ap (λ (es : List OpenEndpoint). let k : NodeState = record kernel { endpoints = es } in k) same
+
+-- a receive that finds none
+keeps_take_none : (shape : Shape) (P : List Step) (kernel : NodeState) (j : Inc) (filter : Sigsel) → IsKept shape P kernel (Some j) → IsMaker shape P (Actor 1) → first_selected filter (queued P j) ≡ None → item_first filter (items_at kernel.endpoints j) ≡ None → Keeps shape P (after_take kernel j filter) (Some j) (record { by = Actor 1; head = TakeNone filter; effects = [] })
+keeps_take_none shape P kernel j filter kept maker none item_none =
+    let Kernel : NodeState → Type 0 = λ k. Keeps shape P k (Some j) (record { by = Actor 1; head = TakeNone filter; effects = [] }) in
+    subst Kernel (sym (after_take-none kernel j filter item_none)) (keeps_quiet shape P kernel (Some j) (TakeNone filter) kept maker (λ e. refl) refl tt (none, first_at_rest shape P kept.one_actor))
+
+-- a receive that takes the earliest selected item
+keeps_take_some : (shape : Shape) (P : List Step) (kernel : NodeState) (j : Inc) (filter : Sigsel) (e : Entry) → IsKept shape P kernel (Some j) → IsMaker shape P (Actor 1) → first_selected filter (queued P j) ≡ Some e → Keeps shape P (after_take kernel j filter) (Some j) (record { by = Actor 1; head = Take filter e.at; effects = [] })
+keeps_take_some shape P kernel j filter e kept maker some =
+    let s : Step = record { by = Actor 1; head = Take filter e.at; effects = [] } in
+    let mine : endpoint_of P 1 ≡ Some j = sym kept.endpoint_known in
+    let alone : open_endpoints P 1 ≡ j ∷ [] = kept.alone ∙ ap option_to_list mine in
+    let step : IsLegalStep shape P s = record {
+      makers = maker;
+      effects = rw mine refl;
+      sends = tt;
+      receives = rw mine (rw some refl);
+    } in
+    let State : NodeState → Type 0 = λ k. Keeps shape P (after_take k j filter) (Some j) s in
+    subst State (sym kept.kernel_left)
+    (step, keeps_same shape P kernel (after_take (node_left P only_node) j filter) (Some j) s kept step refl (λ i. refl) (sym (node_left-take P s j filter e alone refl refl some)))
+
+-- the position of the item that an entry is
+position_of_item : (e : Entry) → (item_of e).pos ≡ e.at
+position_of_item e = of e.at e.effect
   where
-    after : NodeState
-    after = record kernel { endpoints = with_items kernel.endpoints j (without_first filter (items_at kernel.endpoints j)) }
-    alone : open_endpoints P 1 ≡ j ∷ []
-    alone = kept.alone ∙ ap option_to_list (sym kept.endpoint_known)
+    of : (at : ItemAt) (effect : Effect) → (item_of (record { at = at; effect = effect })).pos ≡ at
+    of at (Arrived i from note) = refl
+    of at (Found i from note number) = refl
+    of at (Notified i from note reference reason) = refl
+    of at _ = refl
+
+-- a receive: the first selected item is taken, or there is none
+pub keeps_take : (shape : Shape) (P : List Step) (kernel : NodeState) (j : Inc) (filter : Sigsel) (took : Option Item) → IsKept shape P kernel (Some j) → IsMaker shape P (Actor 1) → took ≡ item_first filter (items_at kernel.endpoints j) → Keeps shape P (after_take kernel j filter) (Some j) (record { by = Actor 1; head = take_head filter took; effects = [] })
+keeps_take shape P kernel j filter took kept maker is =
+    let alike : item_first filter (items_at kernel.endpoints j) ≡ option_map item_of (first_selected filter (queued P j)) = ap (item_first filter) (items_left shape P kernel j kept) ∙ first_alike filter (queued P j) in
+    by_first (first_selected filter (queued P j)) refl alike
+  where
+    Taken : Option Item → Type 0
+    Taken t = Keeps shape P (after_take kernel j filter) (Some j) (record { by = Actor 1; head = take_head filter t; effects = [] })
+
+    by_first : (first : Option Entry) → first_selected filter (queued P j) ≡ first → item_first filter (items_at kernel.endpoints j) ≡ option_map item_of (first_selected filter (queued P j)) → Taken took
+    by_first None none alike =
+        let nothing : item_first filter (items_at kernel.endpoints j) ≡ None = alike ∙ ap (option_map item_of) none in
+        subst Taken (sym (is ∙ nothing)) (keeps_take_none shape P kernel j filter kept maker none nothing)
+    by_first (Some e) some alike =
+        let one : took ≡ Some (item_of e) = is ∙ alike ∙ ap (option_map item_of) some in
+        let At : ItemAt → Type 0 = λ p. Keeps shape P (after_take kernel j filter) (Some j) (record { by = Actor 1; head = Take filter p; effects = [] }) in
+        subst Taken (sym one) (subst At (sym (position_of_item e)) (keeps_take_some shape P kernel j filter e kept maker some))
+
+-- the answer of a receive is the item that stands at the named position
+pub taken_answer : (shape : Shape) (P : List Step) (kernel : NodeState) (j : Inc) (filter : Sigsel) (took : Option Item) → IsKept shape P kernel (Some j) → took ≡ item_first filter (items_at kernel.endpoints j) → IsAnswerOf P (Some j) (take_head filter took) [] (take_answer took)
+taken_answer shape P kernel j filter took kept is =
+    let alike : took ≡ option_map item_of (first_selected filter (queued P j)) = is ∙ ap (item_first filter) (items_left shape P kernel j kept) ∙ first_alike filter (queued P j) in
+    by_item took alike
+  where
+    found : (item : Item) (first : Option Entry) → Some item ≡ option_map item_of first → IsSomeAnd first (λ e. item ≡ item_of e)
+    found item None is = cc
+    found item (Some e) is = cc
+
+    by_item : (t : Option Item) → t ≡ option_map item_of (first_selected filter (queued P j)) → IsAnswerOf P (Some j) (take_head filter t) [] (take_answer t)
+    by_item None is = tt
+    by_item (Some item) is = found item (first_selected filter (queued P j)) is
+
+-- a send
+pub keeps_send : (shape : Shape) (P : List Step) (kernel : NodeState) (j : Inc) (to : Peer) (signal : SigNote) → IsKept shape P kernel (Some j) → IsMaker shape P (Actor 1) → Keeps shape P (record kernel { endpoints = after_send kernel.endpoints j to signal (length P + 1) }) (Some j) (sent_step (Actor 1) j to signal (is_living kernel.endpoints to))
+keeps_send shape P kernel j to signal kept maker =
+    let State : NodeState → Type 0 = λ k. Keeps shape P (record k { endpoints = after_send k.endpoints j to signal (length P + 1) }) (Some j) (sent_step (Actor 1) j to signal (is_living k.endpoints to)) in
+    subst State (sym kept.kernel_left) (to_peer to)
+  where
+    left : NodeState
+    left = node_left P only_node
+
     mine : endpoint_of P 1 ≡ Some j
     mine = sym kept.endpoint_known
-    by_first : (first : Option Entry) → first_selected filter (queued P j) ≡ first → (took' : Option Item) → took' ≡ option_map item_of (first_selected filter (queued P j)) → Keeps shape P after (Some j) (record { by = Actor 1; head = take_head filter took'; effects = [] })
-    by_first None none took' same =
-        let nothing : took' ≡ None = same ∙ ap (option_map item_of) none in
-        let Taken : Option Item → Type 0 = λ t. Keeps shape P after (Some j) (record { by = Actor 1; head = take_head filter t; effects = [] }) in
-        let unchanged : after ≡ kernel = no_change none in
-        let Kernel : NodeState → Type 0 = λ k. Keeps shape P k (Some j) (record { by = Actor 1; head = TakeNone filter; effects = [] }) in
-        subst Taken (sym nothing) (subst Kernel (sym unchanged) (keeps_quiet shape P kernel (Some j) (TakeNone filter) kept maker (λ e. refl) refl tt (none, first_at_rest shape P kept.one_actor)))
-    by_first (Some e) some took' same = ?
-    no_change : first_selected filter (queued P j) ≡ None → after ≡ kernel
-    no_change none = ?
+
+    alone : open_endpoints P 1 ≡ j ∷ []
+    alone = kept.alone ∙ ap option_to_list mine
+
+    known : IsKept shape P (node_left P only_node) (Some j)
+    known = let Of : NodeState → Type 0 = λ k. IsKept shape P k (Some j) in subst Of kept.kernel_left kept
+
+    alive : (q : Peer) → is_alive P 1 q ≡ is_living left.endpoints q
+    alive q = sym (living_left shape P kept.legal q)
+
+    step_of : (q : Peer) → IsLegalStep shape P (sent_step (Actor 1) j q signal (is_living left.endpoints q))
+    step_of q = record {
+      makers = maker;
+      effects = rw (node_of_first shape kept.one_actor, mine, alive q) refl;
+      sends = rw (node_of_first shape kept.one_actor, alive q) refl;
+      receives = rw mine tt;
+    }
+
+    After : Peer → NodeState
+    After q = record left { endpoints = after_send left.endpoints j q signal (length P + 1) }
+
+    Sends : Peer → Bool → Type 0
+    Sends q living = Keeps shape P (After q) (Some j) (sent_step (Actor 1) j q signal living)
+
+    dead : (q : Peer) → is_living left.endpoints q ≡ false → after_send left.endpoints j q signal (length P + 1) ≡ left.endpoints → Sends q (is_living left.endpoints q)
+    dead q not_living unchanged =
+        let not_alive : is_alive P 1 q ≡ false = alive q ∙ not_living in
+        let quiet : Keeps shape P left (Some j) (sent_step (Actor 1) j q signal false) = keeps_quiet shape P left (Some j) (Send q signal Dead) known maker (λ e. refl) (rw not_alive refl) (rw not_alive refl) tt in
+        let Left : List OpenEndpoint → Type 0 = λ es. Keeps shape P (record left { endpoints = es }) (Some j) (sent_step (Actor 1) j q signal false) in
+        subst (Sends q) (sym not_living) (subst Left (sym unchanged) quiet)
+
+    living_is : (i : Inc) → is_living left.endpoints (Here i) ≡ same_inc i j
+    living_is i = rw alone (elim (same_inc i j) as (λ b. b || false ≡ b) [ true ↦ refl | false ↦ refl ])
+
+    to_itself : Sends (Here j) true
+    to_itself =
+        let s : Step = sent_step (Actor 1) j (Here j) signal true in
+        let living : is_living left.endpoints (Here j) ≡ true = living_is j ∙ same_inc-refl j in
+        let step : IsLegalStep shape P s = subst (λ (b : Bool). IsLegalStep shape P (sent_step (Actor 1) j (Here j) signal b)) living (step_of (Here j)) in
+        (step, keeps_same shape P left (After (Here j)) (Some j) s known step refl (λ i. refl) (sym (node_left-arrival shape P s j signal kept.legal alone (λ e. refl) refl)))
+
+    to_here : (i : Inc) (b : Bool) → same_inc i j ≡ b → Sends (Here i) (is_living left.endpoints (Here i))
+    to_here i true same =
+        let mine_too : j ≡ i = sym (same_inc-true i j same) in
+        subst (Sends (Here i)) (sym (living_is i ∙ same)) (subst (λ (k : Inc). Sends (Here k) true) mine_too to_itself)
+    to_here i false other = dead (Here i) (living_is i ∙ other) (rw (living_is i ∙ other) refl)
+
+    to_peer : (q : Peer) → Sends q (is_living left.endpoints q)
+    to_peer (Here i) = to_here i (same_inc i j) refl
+    to_peer (There l x i) = dead (There l x i) refl refl

@@ -64,7 +64,7 @@ node_left-quiet P s node none keeps =
     let same : open_endpoints (s ∷ P) node.0 ≡ open_endpoints P node.0 = open_endpoints-same P s node.0 (ap (filter_map opened_in) none) (λ i. ap (list_any (closes i)) none) in
     let each : (j : Inc) → endpoint_left (s ∷ P) j ≡ endpoint_left P j = λ j. endpoint_left-quiet P s j (ap (list_any (opens j)) none) keeps (ap (entries_in j (suc (length P)) 1) none) in
     let endpoints : map (endpoint_left (s ∷ P)) (open_endpoints (s ∷ P) node.0) ≡ map (endpoint_left P) (open_endpoints P node.0) =
-        ap (map (endpoint_left (s ∷ P))) same ∙ map-ext (endpoint_left (s ∷ P)) (endpoint_left P) each (open_endpoints P node.0)
+    ap (map (endpoint_left (s ∷ P))) same ∙ map-ext (endpoint_left (s ∷ P)) (endpoint_left P) each (open_endpoints P node.0)
     in
     state_by_parts node _ _ _ _ (ap (count_by (is_on node.0)) opened) endpoints
 
@@ -75,17 +75,17 @@ node_left-open shape P s name legal short none head effects =
     let on : is_on 1 i ≡ true = next_inc-is_on shape P legal short 1 in
     let opened : openings (s ∷ P) ≡ openings P ++ i ∷ [] = openings-step P s ∙ ap (λ es. openings P ++ filter_map opened_in es) effects in
     let counted : count_by (is_on 1) (openings (s ∷ P)) ≡ count_by (is_on 1) (openings P) + 1 =
-        ap (count_by (is_on 1)) opened ∙ count_by-push (is_on 1) (openings P) i ∙ ap (λ b. count_by (is_on 1) (openings P) + cond b 1 0) on
+    ap (count_by (is_on 1)) opened ∙ count_by-push (is_on 1) (openings P) i ∙ ap (λ b. count_by (is_on 1) (openings P) + cond b 1 0) on
     in
     let open_now : open_endpoints (s ∷ P) 1 ≡ i ∷ [] = open_endpoints-open P s 1 i effects on (next_inc-not_closed shape P legal short 1) ∙ ap (λ l. l ++ i ∷ []) none in
     let queue : queued (s ∷ P) i ≡ [] =
-        queued-quiet P s i (λ e. rw head refl) (ap (entries_in i (suc (length P)) 1) effects)
-        ∙ ap (filter (λ e. not (list_any (λ t. removes e t.head) P))) (next_inc-no_items shape P legal short 1)
+    queued-quiet P s i (λ e. rw head refl) (ap (entries_in i (suc (length P)) 1) effects)
+    ∙ ap (filter (λ e. not (list_any (λ t. removes e t.head) P))) (next_inc-no_items shape P legal short 1)
     in
     let named : name_of (s ∷ P) i ≡ name = rw (effects, head) (rw (same_inc-refl i) refl) in
     let left : endpoint_left (s ∷ P) i ≡ record { inc = i; name = name; items = [] } = rw (queue, named) refl in
     let endpoints : map (endpoint_left (s ∷ P)) (open_endpoints (s ∷ P) 1) ≡ map (endpoint_left P) (open_endpoints P 1) ++ (record { inc = i; name = name; items = [] }) ∷ [] =
-        rw (open_now, none) (ap (λ (e : OpenEndpoint). e ∷ []) left)
+    rw (open_now, none) (ap (λ (e : OpenEndpoint). e ∷ []) left)
     in
     state_by_parts only_node _ _ _ _ counted endpoints
 
@@ -95,7 +95,7 @@ node_left-close P s j alone effects =
     let opened : openings (s ∷ P) ≡ openings P = openings-step P s ∙ ap (λ es. openings P ++ filter_map opened_in es) effects ∙ append-nil (openings P) in
     let open_now : open_endpoints (s ∷ P) 1 ≡ [] = open_endpoints-close P s 1 j effects ∙ ap (filter (λ i. not (same_inc i j))) alone ∙ dropped in
     let endpoints : map (endpoint_left (s ∷ P)) (open_endpoints (s ∷ P) 1) ≡ without_match (is_at j) (map (endpoint_left P) (open_endpoints P 1)) =
-        rw (open_now, alone) (rw (same_inc-refl j) refl)
+    rw (open_now, alone) (rw (same_inc-refl j) refl)
     in
     state_by_parts only_node _ _ _ _ (ap (count_by (is_on 1)) opened) endpoints
   where
@@ -112,10 +112,10 @@ node_left-arrival shape P s j note legal alone keeps effects =
     let queue : queued (s ∷ P) j ≡ queued P j ++ e ∷ [] = queued-more P s j e keeps one (not_taken_before shape P legal e (omega arith)) in
     let named : name_of (s ∷ P) j ≡ name_of P j = rw effects refl in
     let left : endpoint_left (s ∷ P) j ≡ record { inc = j; name = name_of P j; items = map item_of (queued P j) ++ plain_item note j (length P + 1) ∷ [] } =
-        rw (queue, named, map-append item_of (queued P j) (e ∷ []), add-one (length P)) refl
+    rw (queue, named, map-append item_of (queued P j) (e ∷ []), add-one (length P)) refl
     in
     let endpoints : map (endpoint_left (s ∷ P)) (open_endpoints (s ∷ P) 1) ≡ after_send (map (endpoint_left P) (open_endpoints P 1)) j (Here j) note (length P + 1) =
-        rw (open_now, alone) (rw (same_inc-refl j) (ap (λ (x : OpenEndpoint). x ∷ []) left))
+    rw (open_now, alone) (rw (same_inc-refl j) (ap (λ (x : OpenEndpoint). x ∷ []) left))
     in
     state_by_parts only_node _ _ _ _ (ap (count_by (is_on 1)) opened) endpoints
   where
@@ -137,9 +137,9 @@ items_without selection [] = refl
 items_without selection (e ∷ es) =
     rw (selects_alike selection e)
     (elim (is_selected selection e) as (λ b. map item_of (cond b es (e ∷ without_match (is_selected selection) es)) ≡ cond b (map item_of es) (item_of e ∷ without_first selection (map item_of es))) [
-        | true ↦ refl
-        | false ↦ ap (λ l. item_of e ∷ l) (items_without selection es)
-      ])
+      | true ↦ refl
+      | false ↦ ap (λ l. item_of e ∷ l) (items_without selection es)
+    ])
 
 -- the earliest selected entry is the first selected item
 pub first_alike : (selection : Sigsel) (es : List Entry) → item_first selection (map item_of es) ≡ option_map item_of (first_selected selection es)
@@ -147,9 +147,9 @@ first_alike selection [] = refl
 first_alike selection (e ∷ es) =
     rw (selects_alike selection e)
     (elim (is_selected selection e) as (λ b. cond b (Some (item_of e)) (item_first selection (map item_of es)) ≡ option_map item_of (cond b (Some e) (first_selected selection es))) [
-        | true ↦ refl
-        | false ↦ first_alike selection es
-      ])
+      | true ↦ refl
+      | false ↦ first_alike selection es
+    ])
 
 -- a node with one open endpoint, after it took the earliest selected item
 pub node_left-take : (P : List Step) (s : Step) (j : Inc) (selection : Sigsel) (e : Entry) → open_endpoints P 1 ≡ j ∷ [] → s.head ≡ Take selection e.at → s.effects ≡ [] → first_selected selection (queued P j) ≡ Some e → node_left (s ∷ P) only_node ≡ record (node_left P only_node) { endpoints = with_items (node_left P only_node).endpoints j (without_first selection (items_at (node_left P only_node).endpoints j)) }
@@ -160,7 +160,7 @@ node_left-take P s j selection e alone takes none is =
     let named : name_of (s ∷ P) j ≡ name_of P j = rw none refl in
     let left : endpoint_left (s ∷ P) j ≡ record { inc = j; name = name_of P j; items = without_first selection (map item_of (queued P j)) } = rw (queue, named) refl in
     let endpoints : map (endpoint_left (s ∷ P)) (open_endpoints (s ∷ P) 1) ≡ with_items (map (endpoint_left P) (open_endpoints P 1)) j (without_first selection (items_at (map (endpoint_left P) (open_endpoints P 1)) j)) =
-        rw (open_now, alone) (rw (same_inc-refl j) (ap (λ (x : OpenEndpoint). x ∷ []) left))
+    rw (open_now, alone) (rw (same_inc-refl j) (ap (λ (x : OpenEndpoint). x ∷ []) left))
     in
     state_by_parts only_node _ _ _ _ (ap (count_by (is_on 1)) opened) endpoints
 
