@@ -7,6 +7,8 @@
 mod items;
 mod places;
 mod queueing;
+#[cfg(test)]
+mod tests;
 
 pub use items::{Item, Kind};
 pub use places::Place;
