@@ -1,12 +1,12 @@
-use Rattle.std.proofs.Common.{◌≡◌, ℕ, zero, suc, ◌+◌, ◌-◌, ◌<◌, ◌≤◌, Bool, true, false, cond, ◌&&◌, List, [], ◌∷◌, ◌++◌, length, get_or, refl, ap, sym, subst, ◌∙◌, arith, ◌⊎◌, inl, inr, eqb, length-append}
+use Rattle.std.proofs.Common.{◌≡◌, ℕ, zero, suc, ◌+◌, ◌-◌, ◌<◌, ◌≤◌, Bool, true, false, cond, ◌&&◌, List, [], ◌∷◌, ◌++◌, length, get_or, refl, ap, sym, subst, ◌∙◌, arith, ◌⊎◌, inl, inr, eqb, length-append, add-one}
 use Rattle.std.specs.Prelude.{Option, Some, None, Result, Ok, Err, is_some}
-use Rattle.std.specs.List.{All, AllPairs, Contains, remove, insert, sum_by, position}
+use Rattle.std.specs.List.{All, AllPairs, Contains, remove, insert, sum_by, position, range_with_len}
 use Rattle.std.specs.List.Sorted.{IsPermutation, IsPartitionPoint}
 use Rattle.std.proofs.lemmas.Bool.Decides.{nat_tests}
 use Rattle.std.proofs.lemmas.List.Edits.{length-insert, get_or-insert_below, get_or-insert_at, get_or-insert_above, length-remove, get_or-remove_below, get_or-remove_above}
 use Rattle.std.proofs.lemmas.List.Quantifiers.{all_pairs_push, all_pairs_remove}
 use Rattle.std.proofs.lemmas.List.Elements.{All-push}
-use Rattle.std.proofs.lemmas.List.Sorted.{IsPermutation-refl, IsPermutation-sym, IsPermutation-trans, IsPermutation-cons, IsPermutation-push_more, IsPermutation-insert, IsPermutation-remove, All-permutation, Contains-permutation, sum_by-IsPermutation}
+use Rattle.std.proofs.lemmas.List.Sorted.{IsPermutation-refl, IsPermutation-sym, IsPermutation-trans, IsPermutation-cons, IsPermutation-push_more, IsPermutation-insert, IsPermutation-remove, All-permutation, Contains-permutation, length_permutation, sum_by-IsPermutation}
 use Rattle.std.proofs.lemmas.List.Sums.{sum_by-cons}
 use Rattle.endpoint_queue.specs.declared.items.Item.{Item}
 use Rattle.endpoint_queue.specs.declared.places.Place.{Place}
@@ -219,6 +219,10 @@ module _ (items : List Item) (tickets : List ℕ) (index : List Place) (next : �
         },
       )
 
+-- as many places as items
+pub length-index : {items : List Item} {tickets : List ℕ} {index : List Place} {next : ℕ} → IsKept items tickets index next → length index ≡ length items
+length-index {items} {tickets} {index} kept = length_permutation (places_of items tickets) index kept.placed ∙ length-places_of items tickets kept.paired
+
 -- the same in the forms that the code gives
 module _ {items : List Item} {tickets : List ℕ} {index : List Place} {next : ℕ} (kept : IsKept items tickets index next) where
   pub put_kept : (item : Item) {number at : ℕ} {places : List Place} {items' : List Item} {tickets' : List ℕ} {index' : List Place} → number ≡ item.signal.number → places ≡ index → at ≤ length places
@@ -241,6 +245,14 @@ module _ {items : List Item} {tickets : List ℕ} {index : List Place} {next : �
       (subst (λ l. IsPartitionPoint (λ p. is_before p (record { number = number; ticket = ticket }) ≡ true) (λ p. is_before p (record { number = number; ticket = ticket }) ≡ false) l at) places_is between)
       in
       kept_remove items tickets index next kept k at item ticket within item_is ticket_is between'
+
+range_suc : (a n j : ℕ) → a + n ≡ j → range_with_len a (suc n) ≡ range_with_len a n ++ j ∷ []
+range_suc a zero j is = ap (λ i. i ∷ []) (omega arith)
+range_suc a (suc n) j is = ap (λ l. a ∷ l) (range_suc (a + 1) n j (omega arith))
+
+-- the numbers below n, and one more
+pub range_more : (a n j : ℕ) → a + n ≡ j → range_with_len a (n + 1) ≡ range_with_len a n ++ j ∷ []
+range_more a n j is = rw (add-one n) (range_suc a n j is)
 
 true_or_false : (b : Bool) → (b ≡ true) ⊎ (b ≡ false)
 true_or_false true = inl refl

@@ -1,4 +1,5 @@
-use Rattle.std.specs.Prelude.{ℕ, List}
+use Rattle.std.specs.Prelude.{ℕ, Bool, ◌+◌, ◌^◌, nat_lt, List, length, if◌then◌else◌}
+use Rattle.std.specs.List.{range_with_len}
 use Rattle.endpoint_queue.specs.declared.items.Item.{Item}
 
 -- what a queue is seen as: its items in order, their tickets, the ticket that the next `put` gives,
@@ -8,3 +9,14 @@ pub record QueueContent : Type 0 where
   pub tickets : List ℕ
   pub next : ℕ
   pub spare : ℕ
+
+-- whether n more tickets follow before the end of a u64
+abbrev pub has_tickets : ℕ → ℕ → Bool
+has_tickets next n = nat_lt (next + n) (2 ^ 64)
+
+-- a queue with tickets for n more items: its own, or numbered anew from 0 where those would pass
+-- the end of a u64
+abbrev pub ticketed_for : QueueContent → ℕ → QueueContent
+ticketed_for q n =
+    if has_tickets q.next n then q
+    else record q { tickets = range_with_len 0 (length q.items); next = length q.items }

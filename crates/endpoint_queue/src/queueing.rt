@@ -1,7 +1,9 @@
-ghost use Rattle.std.specs.Prelude.{◌≡◌, ◌≤◌, ◌<◌, ◌+◌, ◌-◌, [], ◌∷◌, ◌++◌, Some, None, length, max, is_some, slice_get, slice_index_or, OnOk, OnErr, IsOk};
-ghost use Rattle.std.specs.List.{position, remove, AllPairs};
+ghost use Rattle.std.specs.Prelude.{◌≡◌, ◌≤◌, ◌<◌, ◌+◌, ◌^◌, [], ◌∷◌, ◌++◌, if◌then◌else◌, is_some, length, max, slice_index_or, vec_capacity, vec_len, OnOk, OnErr, IsOk};
+ghost use Rattle.std.specs.List.{position, range_with_len, remove, AllPairs};
 ghost use Rattle.std.specs.List.Sorted.{IsPermutation};
 ghost use Rattle.std.specs.VecDeque.{deque_capacity, deque_len};
+ghost use Rattle.endpoint_queue.specs.Places.{IsKept};
+ghost use Rattle.endpoint_queue.specs.QueueContent.{has_tickets};
 ghost use Rattle.endpoint_queue.specs.Selection.{notifies};
 ghost use Rattle.linx_base.specs.FirstMatch.{first_match, without_match, without_beside};
 
@@ -60,8 +62,56 @@ fn notifies(kind: &Kind, attach: AttRef) -> bool
     }
 }
 
+/// Gives the items tickets from 0 on, and makes the index anew.
+fn number_anew(items: &VecDeque<Item>, tickets: &mut VecDeque<u64>, index: &mut Vec<Place>)
+    requires room_for_tickets { deque_len items.now ≤ deque_capacity tickets.old }
+    requires room_for_places { deque_len items.now ≤ vec_capacity index.old }
+    ensures kept { IsKept items.now.items tickets.new.items index.new.items (length items.now.items) }
+    ensures anew { tickets.new.items ≡ range_with_len 0 (length items.now.items) }
+    ensures lengths { (deque_len tickets.new ≡ deque_len items.now) × (vec_len index.new ≡ deque_len items.now) }
+    ensures room { (deque_capacity tickets.new ≡ deque_capacity tickets.old) × (vec_capacity index.new ≡ vec_capacity index.old) }
+{
+    tickets.clear();
+    index.clear();
+    for at in 0..items.len() {
+        let place = Place {
+            number: items[at].signal.number(),
+            ticket: at as u64,
+        };
+        let before = count_before(index, &place);
+        insert_place(index, before, place);
+        tickets.push_back_reserved(at as u64);
+    }
+}
+
+/// Sees to it that n more tickets can follow, and answers the next one.
+fn ticketed(
+    items: &VecDeque<Item>,
+    tickets: &mut VecDeque<u64>,
+    index: &mut Vec<Place>,
+    next: u64,
+    n: usize,
+) -> u64
+    requires kept { IsKept items.now.items tickets.old.items index.old.items next }
+    requires lengths { (deque_len tickets.old ≡ deque_len items.now) × (vec_len index.old ≡ deque_len items.now) }
+    requires room { (deque_len items.now + n ≤ deque_capacity tickets.old) × (deque_len items.now + n ≤ vec_capacity index.old) }
+    ensures kept { IsKept items.now.items tickets.new.items index.new.items result }
+    ensures tickets { tickets.new.items ≡ (if has_tickets next n then tickets.old.items else range_with_len 0 (length items.now.items)) }
+    ensures next { result ≡ (if has_tickets next n then next else length items.now.items) }
+    ensures enough { result + n < 2 ^ 64 }
+    ensures lengths { (deque_len tickets.new ≡ deque_len items.now) × (vec_len index.new ≡ deque_len items.now) }
+    ensures room { (deque_capacity tickets.new ≡ deque_capacity tickets.old) × (vec_capacity index.new ≡ vec_capacity index.old) }
+{
+    if n as u64 <= u64::MAX - next {
+        return next;
+    }
+    number_anew(items, tickets, index);
+    items.len() as u64
+}
+
 impl Queue {
     ghost use Rattle.endpoint_queue.specs.Places.{AreTickets, IsBefore, is_listed, places_of};
+    ghost use Rattle.endpoint_queue.specs.QueueContent.{ticketed_for};
     ghost use Rattle.endpoint_queue.specs.Selection.{first_selected, is_notice_of, is_selected, without_first};
 
     /// The empty queue. It takes no memory.
@@ -77,21 +127,26 @@ impl Queue {
         }
     }
 
-    /// Makes room and tickets for at least n items. A refusal changes nothing.
+    /// Makes room and tickets for at least n items. Where the tickets of so many would pass the end
+    /// of a u64, the items are numbered anew from 0. A refusal changes nothing.
     pub fn reserve(&mut self, n: usize) -> Result<(), NoMemory>
-        ensures ok { OnOk result (self.new ≡ record self.old { spare = max self.old.spare n }) }
+        ensures ok { OnOk result (self.new ≡ record (ticketed_for self.old n) { spare = max self.old.spare n }) }
         ensures enough { n ≤ self.old.spare → IsOk result }
         ensures err { OnErr result (self.new ≡ self.old) }
     {
         if n <= self.spare {
             return Ok(());
         }
-        if n as u64 > u64::MAX - self.next {
-            return Err(NoMemory);
-        }
         self.items.reserve(n)?;
         self.tickets.reserve(n)?;
         self.index.reserve(n)?;
+        self.next = ticketed(
+            &self.items,
+            &mut self.tickets,
+            &mut self.index,
+            self.next,
+            n,
+        );
         self.spare = n;
         Ok(())
     }
