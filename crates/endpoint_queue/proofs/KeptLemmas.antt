@@ -17,8 +17,8 @@ use Rattle.std.specs.List.Sorted.{IsBinarySearchResult}
 use Rattle.std.specs.Ordering.{nat_cmp}
 use Rattle.std.specs.Result.{result_ok}
 use Rattle.std.proofs.lemmas.List.Sorted.{searched}
-use Rattle.linx_base.specs.FirstMatch.{first_match, without_match, without_beside}
-use Rattle.linx_base.proofs.FirstMatches.{position_at, position_none, none_from_position, first_match-position, without_match-position, without_beside-position, first_match_none, without_match_none, without_beside_none}
+use Rattle.linx_base.specs.FirstMatch.{TakesEarliest, first_match, without_match, without_beside}
+use Rattle.linx_base.proofs.FirstMatches.{earliest_first_match, position_at, position_none, none_from_position, first_match-position, without_match-position, without_beside-position, first_match_none, without_match_none, without_beside_none}
 use Rattle.endpoint_queue.specs.Places.{places_of, IsBefore, is_before, IsKept, is_listed, IsLeastTicket}
 use Rattle.endpoint_queue.proofs.PlaceLemmas.{before_from_test, test_from_before, after_from_test, not_before_itself}
 
@@ -352,10 +352,16 @@ module _ (p : Item → Bool) (items : List Item) (at : ℕ) (found : Some at ≡
   pub taken_tickets : (item : Item) (tickets left : List ℕ) → length tickets ≡ length items → left ≡ remove tickets at → left ≡ without_beside p items tickets
   taken_tickets item tickets left same is = is ∙ sym (without_beside-position p items tickets at item same (sym found))
 
+  pub taken_earliest : (item : Item) (left : List Item) → item ≡ get_or items at item → left ≡ remove items at → TakesEarliest p items item left
+  taken_earliest item left is left_is = rw (taken_others item left left_is) (earliest_first_match p items item (taken_item item is))
+
 -- and where none passes
 module _ (p : Item → Bool) (items : List Item) (none : None ≡ position p items) where
   pub missing_item : None ≡ first_match p items
   missing_item = sym (first_match_none p items (none_from_position p items (sym none)))
+
+  pub missing_all : All (λ item. p item ≡ false) items
+  missing_all = none_from_position p items (sym none)
 
   pub missing_others : items ≡ without_match p items
   missing_others = sym (without_match_none p items (none_from_position p items (sym none)))

@@ -14,9 +14,11 @@ pub record QueueContent : Type 0 where
 abbrev pub has_tickets : ℕ → ℕ → Bool
 has_tickets next n = nat_lt (next + n) (2 ^ 64)
 
--- a queue with tickets for n more items: its own, or numbered anew from 0 where those would pass
--- the end of a u64
-abbrev pub ticketed_for : QueueContent → ℕ → QueueContent
-ticketed_for q n =
-    if has_tickets q.next n then q
-    else record q { tickets = range_with_len 0 (length q.items); next = length q.items }
+-- the tickets of a queue that makes room for n more items: its own, or numbered anew from 0 where
+-- those would pass the end of a u64
+abbrev pub tickets_for : QueueContent → ℕ → List ℕ
+tickets_for q n = if has_tickets q.next n then q.tickets else range_with_len 0 (length q.items)
+
+-- and the ticket that its next `put` gives
+abbrev pub next_for : QueueContent → ℕ → ℕ
+next_for q n = if has_tickets q.next n then q.next else length q.items

@@ -1,11 +1,11 @@
-ghost use Rattle.std.specs.Prelude.{◌≡◌, ◌≤◌, ◌<◌, ◌+◌, ◌^◌, [], ◌∷◌, ◌++◌, if◌then◌else◌, is_some, length, max, slice_index_or, vec_capacity, vec_len, OnOk, OnErr, IsOk};
-ghost use Rattle.std.specs.List.{position, range_with_len, remove, AllPairs};
+ghost use Rattle.std.specs.Prelude.{◌≡◌, ◌≤◌, ◌<◌, ◌+◌, ◌^◌, [], ◌∷◌, ◌++◌, if◌then◌else◌, false, is_some, length, max, slice_index_or, vec_capacity, vec_len, IfNone, IfSome, OnOk, OnErr, IsOk};
+ghost use Rattle.std.specs.List.{position, range_with_len, remove, All, AllPairs};
 ghost use Rattle.std.specs.List.Sorted.{IsPermutation};
 ghost use Rattle.std.specs.VecDeque.{deque_capacity, deque_len};
 ghost use Rattle.endpoint_queue.specs.Places.{IsKept};
 ghost use Rattle.endpoint_queue.specs.QueueContent.{has_tickets};
 ghost use Rattle.endpoint_queue.specs.Selection.{notifies};
-ghost use Rattle.linx_base.specs.FirstMatch.{first_match, without_match, without_beside};
+ghost use Rattle.linx_base.specs.FirstMatch.{TakesEarliest, first_match, without_match, without_beside};
 
 use crate::items::{Item, Kind};
 use crate::places::{Place, count_before, insert_place, least_ticket};
@@ -111,7 +111,7 @@ fn ticketed(
 
 impl Queue {
     ghost use Rattle.endpoint_queue.specs.Places.{AreTickets, IsBefore, is_listed, places_of};
-    ghost use Rattle.endpoint_queue.specs.QueueContent.{ticketed_for};
+    ghost use Rattle.endpoint_queue.specs.QueueContent.{next_for, tickets_for};
     ghost use Rattle.endpoint_queue.specs.Selection.{first_selected, is_notice_of, is_selected, without_first};
 
     /// The empty queue. It takes no memory.
@@ -130,7 +130,10 @@ impl Queue {
     /// Makes room and tickets for at least n items. Where the tickets of so many would pass the end
     /// of a u64, the items are numbered anew from 0. A refusal changes nothing.
     pub fn reserve(&mut self, n: usize) -> Result<(), NoMemory>
-        ensures ok { OnOk result (self.new ≡ record (ticketed_for self.old n) { spare = max self.old.spare n }) }
+        ensures items { self.new.items ≡ self.old.items }
+        ensures spare { OnOk result (self.new.spare ≡ max self.old.spare n) }
+        ensures tickets { OnOk result (self.new.tickets ≡ tickets_for self.old n) }
+        ensures next { OnOk result (self.new.next ≡ next_for self.old n) }
         ensures enough { n ≤ self.old.spare → IsOk result }
         ensures err { OnErr result (self.new ≡ self.old) }
     {
@@ -228,6 +231,8 @@ impl Queue {
     pub fn take(&mut self, sel: &Sigsel) -> Option<Item>
         ensures item { result ≡ first_selected sel.now self.old.items }
         ensures others { self.new.items ≡ without_first sel.now self.old.items }
+        ensures earliest { IfSome result (λ item. TakesEarliest (is_selected sel.now) self.old.items item self.new.items) }
+        ensures none { IfNone result (All (λ item. is_selected sel.now item ≡ false) self.old.items) }
         ensures tickets { self.new.tickets ≡ without_beside (is_selected sel.now) self.old.items self.old.tickets }
         ensures counts { (self.new.next ≡ self.old.next) × (self.new.spare ≡ self.old.spare) }
     {
@@ -248,6 +253,8 @@ impl Queue {
     pub fn remove_ref(&mut self, attach: AttRef) -> Option<Item>
         ensures item { result ≡ first_match (is_notice_of attach) self.old.items }
         ensures others { self.new.items ≡ without_match (is_notice_of attach) self.old.items }
+        ensures earliest { IfSome result (λ item. TakesEarliest (is_notice_of attach) self.old.items item self.new.items) }
+        ensures none { IfNone result (All (λ item. is_notice_of attach item ≡ false) self.old.items) }
         ensures tickets { self.new.tickets ≡ without_beside (is_notice_of attach) self.old.items self.old.tickets }
         ensures counts { (self.new.next ≡ self.old.next) × (self.new.spare ≡ self.old.spare) }
     {

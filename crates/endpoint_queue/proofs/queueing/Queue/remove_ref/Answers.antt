@@ -1,5 +1,5 @@
 use Rattle.endpoint_queue.specs.Selection.{is_notice_of}
-use Rattle.endpoint_queue.proofs.KeptLemmas.{taken_item, taken_others, taken_tickets, missing_item, missing_others, missing_tickets}
+use Rattle.endpoint_queue.proofs.KeptLemmas.{taken_earliest, missing_all, taken_item, taken_others, taken_tickets, missing_item, missing_others, missing_tickets}
 use Rattle.endpoint_queue.proofs.queueing.Queue.remove_ref.Goals as goal
 
 pub returns-in-Some-clause-item : goal.returns-in-Some-clause-item
@@ -19,3 +19,9 @@ returns-in-None-clause-others c = missing_others (is_notice_of c.args.attach) _ 
 
 pub returns-in-None-clause-tickets : goal.returns-in-None-clause-tickets
 returns-in-None-clause-tickets c = missing_tickets (is_notice_of c.args.attach) _ c.in-None.ensures _
+
+pub returns-in-Some-clause-earliest : goal.returns-in-Some-clause-earliest
+returns-in-Some-clause-earliest c = taken_earliest (is_notice_of c.args.attach) _ _ c.in-Some.ensures _ _ c.remove_at.ensures.item c.remove_at.ensures.items
+
+pub returns-in-None-clause-none : goal.returns-in-None-clause-none
+returns-in-None-clause-none c = missing_all (is_notice_of c.args.attach) _ c.in-None.ensures
