@@ -49,23 +49,23 @@ module _ {X : Type 0} (p : X → Bool) where
   earliest_first_match [] x is = cc
   earliest_first_match (y ∷ xs) x is =
       let go : (b : Bool) → p y ≡ b → TakesEarliest p (y ∷ xs) x (without_match p (y ∷ xs)) = λ b.
-              elim b as (λ c. p y ≡ c → TakesEarliest p (y ∷ xs) x (without_match p (y ∷ xs))) [
-                true ↦ λ e.
-                let found : Some x ≡ Some y = rw e at is in
-                let same : x ≡ y = cc in
-                record { front = []; back = xs; was = ap (λ z. z ∷ xs) (sym same); earlier = All-nil (λ z. p z ≡ false); passes = rw same e; left = rw e refl }
-                | false ↦ λ e.
-                let later : Some x ≡ first_match p xs = rw e at is in
-                let rest : TakesEarliest p xs x (without_match p xs) = earliest_first_match xs x later in
-                record {
-                  front = y ∷ rest.front;
-                  back = rest.back;
-                  was = ap (λ l. y ∷ l) rest.was;
-                  earlier = All-cons (λ z. p z ≡ false) y rest.front e rest.earlier;
-                  passes = rest.passes;
-                  left = rw e (ap (λ l. y ∷ l) rest.left)
-                }
-              ]
+      elim b as (λ c. p y ≡ c → TakesEarliest p (y ∷ xs) x (without_match p (y ∷ xs))) [
+        | true ↦ λ e.
+            let found : Some x ≡ Some y = rw e at is in
+            let same : x ≡ y = cc in
+            record { front = []; back = xs; was = ap (λ z. z ∷ xs) (sym same); earlier = All-nil (λ z. p z ≡ false); passes = rw same e; left = rw e refl }
+        | false ↦ λ e.
+            let later : Some x ≡ first_match p xs = rw e at is in
+            let rest : TakesEarliest p xs x (without_match p xs) = earliest_first_match xs x later in
+            record {
+              front = y ∷ rest.front;
+              back = rest.back;
+              was = ap (λ l. y ∷ l) rest.was;
+              earlier = All-cons (λ z. p z ≡ false) y rest.front e rest.earlier;
+              passes = rest.passes;
+              left = rw e (ap (λ l. y ∷ l) rest.left);
+            }
+      ]
       in
       go (p y) refl
 
@@ -74,10 +74,10 @@ module _ {X : Type 0} (p : X → Bool) where
   all_fail_first_match [] is = All-nil (λ x. p x ≡ false)
   all_fail_first_match (y ∷ xs) is =
       let go : (b : Bool) → p y ≡ b → All (λ x. p x ≡ false) (y ∷ xs) = λ b.
-              elim b as (λ c. p y ≡ c → All (λ x. p x ≡ false) (y ∷ xs)) [
-                true ↦ λ e. let found : None ≡ Some y = rw e at is in cc
-                | false ↦ λ e. let later : None ≡ first_match p xs = rw e at is in All-cons (λ x. p x ≡ false) y xs e (all_fail_first_match xs later)
-              ]
+      elim b as (λ c. p y ≡ c → All (λ x. p x ≡ false) (y ∷ xs)) [
+        | true ↦ λ e. let found : None ≡ Some y = rw e at is in cc
+        | false ↦ λ e. let later : None ≡ first_match p xs = rw e at is in All-cons (λ x. p x ≡ false) y xs e (all_fail_first_match xs later)
+      ]
       in
       go (p y) refl
 
