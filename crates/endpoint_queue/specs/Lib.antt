@@ -1,1 +1,3 @@
 pub mod Selection
+pub mod Places
+pub mod QueueContent

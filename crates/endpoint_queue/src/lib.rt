@@ -1,6 +1,15 @@
-//! The queue of an endpoint: items in order of arrival, and what a filter selects among them.
+//! The queue of an endpoint: items in order of arrival. A receive takes the earliest item whose
+//! signal's number a filter selects, and the other items keep their order. Room is reserved before
+//! an item is put, so that a put can't fail. Each item has a ticket, and an index keeps the items'
+//! places by number and ticket, so that a receive of some numbers looks at no other item.
 #![tactic(auto)]
 
 mod items;
+mod places;
+mod queueing;
+#[cfg(test)]
+mod tests;
 
 pub use items::{Item, Kind};
+pub use places::Place;
+pub use queueing::Queue;

@@ -1,12 +1,21 @@
+<<<<<<< HEAD
 use Rattle.std.proofs.Common.{◌≡◌, ℕ, zero, suc, ◌<◌, Bool, true, false, cond, List, [], ◌∷◌, ◌++◌, length, get_or, refl, ap, arith, nat_lt}
+=======
+use Rattle.std.proofs.Common.{◌≡◌, ℕ, zero, suc, ◌<◌, Bool, true, false, cond, List, [], ◌∷◌, ◌++◌, length, get_or, refl, ap, sym, arith, nat_lt}
+>>>>>>> d71f2853269764bf84b7b36ab000de7cf9344984
 use Rattle.std.specs.Prelude.{Some, None, is_some}
 use Rattle.std.specs.List.{find, remove, list_any, All, position, position_or_len}
 use Rattle.std.specs.Option.{option_or}
 use Rattle.std.proofs.lemmas.List.Quantifiers.{position-Some}
 use Rattle.std.proofs.lemmas.List.Sums.{fails_before_first, position_or_len_is}
 use Rattle.std.proofs.lemmas.Bool.Decides.{nat_tests}
+<<<<<<< HEAD
 use Rattle.std.proofs.lemmas.List.Elements.{All-tail}
 use Rattle.linx_base.specs.FirstMatch.{first_match, without_match, without_beside}
+=======
+use Rattle.std.proofs.lemmas.List.Elements.{All-cons, All-nil, All-tail}
+use Rattle.linx_base.specs.FirstMatch.{TakesEarliest, first_match, without_match, without_beside}
+>>>>>>> d71f2853269764bf84b7b36ab000de7cf9344984
 
 module _ {X : Type 0} (p : X → Bool) where
   -- the first match is what std's `find` gives
@@ -44,6 +53,46 @@ module _ {X : Type 0} (p : X → Bool) where
       let fails : p x ≡ false = earlier 0 (omega arith) in
       rw fails (ap (λ l. y ∷ l) (without_beside_at xs ys k d (omega arith) (omega arith) passes (λ j below. earlier (suc j) (omega arith))))
 
+<<<<<<< HEAD
+=======
+  -- the first match is the earliest that passes
+  pub earliest_first_match : (xs : List X) (x : X) → Some x ≡ first_match p xs → TakesEarliest p xs x (without_match p xs)
+  earliest_first_match [] x is = cc
+  earliest_first_match (y ∷ xs) x is =
+      let go : (b : Bool) → p y ≡ b → TakesEarliest p (y ∷ xs) x (without_match p (y ∷ xs)) = λ b.
+      elim b as (λ c. p y ≡ c → TakesEarliest p (y ∷ xs) x (without_match p (y ∷ xs))) [
+        | true ↦ λ e.
+            let found : Some x ≡ Some y = rw e at is in
+            let same : x ≡ y = cc in
+            record { front = []; back = xs; was = ap (λ z. z ∷ xs) (sym same); earlier = All-nil (λ z. p z ≡ false); passes = rw same e; left = rw e refl }
+        | false ↦ λ e.
+            let later : Some x ≡ first_match p xs = rw e at is in
+            let rest : TakesEarliest p xs x (without_match p xs) = earliest_first_match xs x later in
+            record {
+              front = y ∷ rest.front;
+              back = rest.back;
+              was = ap (λ l. y ∷ l) rest.was;
+              earlier = All-cons (λ z. p z ≡ false) y rest.front e rest.earlier;
+              passes = rest.passes;
+              left = rw e (ap (λ l. y ∷ l) rest.left);
+            }
+      ]
+      in
+      go (p y) refl
+
+  -- and where there is none, all fail
+  pub all_fail_first_match : (xs : List X) → None ≡ first_match p xs → All (λ x. p x ≡ false) xs
+  all_fail_first_match [] is = All-nil (λ x. p x ≡ false)
+  all_fail_first_match (y ∷ xs) is =
+      let go : (b : Bool) → p y ≡ b → All (λ x. p x ≡ false) (y ∷ xs) = λ b.
+      elim b as (λ c. p y ≡ c → All (λ x. p x ≡ false) (y ∷ xs)) [
+        | true ↦ λ e. let found : None ≡ Some y = rw e at is in cc
+        | false ↦ λ e. let later : None ≡ first_match p xs = rw e at is in All-cons (λ x. p x ≡ false) y xs e (all_fail_first_match xs later)
+      ]
+      in
+      go (p y) refl
+
+>>>>>>> d71f2853269764bf84b7b36ab000de7cf9344984
   -- where all fail
   pub first_match_none : (xs : List X) → All (λ x. p x ≡ false) xs → first_match p xs ≡ None
   first_match_none [] all = refl

@@ -1,5 +1,6 @@
-use Rattle.std.specs.Prelude.{Bool, List, [], ◌∷◌, if◌then◌else◌}
+use Rattle.std.specs.Prelude.{◌≡◌, Bool, true, false, List, [], ◌∷◌, ◌++◌, if◌then◌else◌}
 use Rattle.std.specs.Prelude.{Option, Some, None}
+use Rattle.std.specs.List.{All}
 
 -- the first element that passes a test
 abbrev pub first_match : {X : Type 0} → (X → Bool) → List X → Option X
@@ -16,3 +17,12 @@ abbrev pub without_beside : {X Y : Type 0} → (X → Bool) → List X → List 
 without_beside p [] ys = ys
 without_beside p (x ∷ xs) [] = []
 without_beside p (x ∷ xs) (y ∷ ys) = if p x then ys else y ∷ without_beside p xs ys
+
+-- x passes, all that stands before it in xs fails, and ys is xs without it
+pub record TakesEarliest {X : Type 0} (p : X → Bool) (xs : List X) (x : X) (ys : List X) : Type 0 where
+  pub front : List X
+  pub back : List X
+  pub was : xs ≡ front ++ x ∷ back
+  pub earlier : All (λ y. p y ≡ false) front
+  pub passes : p x ≡ true
+  pub left : ys ≡ front ++ back

@@ -1,0 +1,71 @@
+ghost use Rattle.std.specs.Prelude.{◌≡◌, ◌+◌, ◌≤◌, ◌<◌, true, false, insert, length, vec_len, vec_capacity};
+ghost use Rattle.std.specs.List.{AllPairs};
+ghost use Rattle.std.specs.List.Sorted.{IsPartitionPoint};
+ghost use Rattle.endpoint_queue.specs.Places.{IsBefore, IsFirstTicket, IsLeastTicket, is_before, lower_of};
+
+/// Where an item stands in the index of a queue: its signal's number, then its ticket.
+#[derive(Clone, Copy, Debug, PartialEq, Eq, Hash)]
+pub struct Place {
+    pub number: u32,
+    pub ticket: u64,
+}
+
+fn is_before(one: &Place, other: &Place) -> bool
+    ensures { result ≡ is_before one.now other.now }
+{
+    one.number < other.number || one.number == other.number && one.ticket < other.ticket
+}
+
+/// How many places stand before this one.
+pub(crate) fn count_before(places: &[Place], place: &Place) -> usize
+    requires { AllPairs IsBefore places.now }
+    ensures within { result ≤ length places.now }
+    ensures between { IsPartitionPoint (λ p. is_before p place.now ≡ true) (λ p. is_before p place.now ≡ false) places.now result }
+{
+    places.partition_point(|other| is_before(other, place))
+}
+
+/// Adds a place, for which there is room.
+pub(crate) fn insert_place(places: &mut Vec<Place>, at: usize, place: Place)
+    requires within { at ≤ vec_len places.old }
+    requires room { vec_len places.old < vec_capacity places.old }
+    ensures items { places.new.items ≡ insert places.old.items at place }
+    ensures len { vec_len places.new ≡ vec_len places.old + 1 }
+    ensures capacity { vec_capacity places.new ≡ vec_capacity places.old }
+{
+    let _ = places.insert(at, place);
+}
+
+/// The ticket of the first item of a number.
+fn first_ticket(places: &[Place], number: u32) -> Option<u64>
+    requires { AllPairs IsBefore places.now }
+    ensures { IsFirstTicket places.now number result }
+{
+    let at = count_before(places, &Place { number, ticket: 0 });
+    if at == places.len() || places[at].number != number {
+        return None;
+    }
+    Some(places[at].ticket)
+}
+
+fn lower_of(one: Option<u64>, other: Option<u64>) -> Option<u64>
+    ensures { result ≡ lower_of one other }
+{
+    match (one, other) {
+        (Some(one), Some(other)) => Some(one.min(other)),
+        (Some(one), None) => Some(one),
+        (None, other) => other,
+    }
+}
+
+/// The least ticket of the listed numbers. It looks at one place of each listed number.
+pub(crate) fn least_ticket(places: &[Place], listed: &[u32]) -> Option<u64>
+    requires { AllPairs IsBefore places.now }
+    ensures { IsLeastTicket places.now listed.now result }
+{
+    let mut least = None;
+    for number in listed {
+        least = lower_of(least, first_ticket(places, *number));
+    }
+    least
+}
