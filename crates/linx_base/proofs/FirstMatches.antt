@@ -1,21 +1,12 @@
-<<<<<<< HEAD
-use Rattle.std.proofs.Common.{◌≡◌, ℕ, zero, suc, ◌<◌, Bool, true, false, cond, List, [], ◌∷◌, ◌++◌, length, get_or, refl, ap, arith, nat_lt}
-=======
 use Rattle.std.proofs.Common.{◌≡◌, ℕ, zero, suc, ◌<◌, Bool, true, false, cond, List, [], ◌∷◌, ◌++◌, length, get_or, refl, ap, sym, arith, nat_lt}
->>>>>>> d71f2853269764bf84b7b36ab000de7cf9344984
 use Rattle.std.specs.Prelude.{Some, None, is_some}
 use Rattle.std.specs.List.{find, remove, list_any, All, position, position_or_len}
 use Rattle.std.specs.Option.{option_or}
 use Rattle.std.proofs.lemmas.List.Quantifiers.{position-Some}
 use Rattle.std.proofs.lemmas.List.Sums.{fails_before_first, position_or_len_is}
 use Rattle.std.proofs.lemmas.Bool.Decides.{nat_tests}
-<<<<<<< HEAD
-use Rattle.std.proofs.lemmas.List.Elements.{All-tail}
-use Rattle.linx_base.specs.FirstMatch.{first_match, without_match, without_beside}
-=======
 use Rattle.std.proofs.lemmas.List.Elements.{All-cons, All-nil, All-tail}
 use Rattle.linx_base.specs.FirstMatch.{TakesEarliest, first_match, without_match, without_beside}
->>>>>>> d71f2853269764bf84b7b36ab000de7cf9344984
 
 module _ {X : Type 0} (p : X → Bool) where
   -- the first match is what std's `find` gives
@@ -53,8 +44,6 @@ module _ {X : Type 0} (p : X → Bool) where
       let fails : p x ≡ false = earlier 0 (omega arith) in
       rw fails (ap (λ l. y ∷ l) (without_beside_at xs ys k d (omega arith) (omega arith) passes (λ j below. earlier (suc j) (omega arith))))
 
-<<<<<<< HEAD
-=======
   -- the first match is the earliest that passes
   pub earliest_first_match : (xs : List X) (x : X) → Some x ≡ first_match p xs → TakesEarliest p xs x (without_match p xs)
   earliest_first_match [] x is = cc
@@ -92,7 +81,6 @@ module _ {X : Type 0} (p : X → Bool) where
       in
       go (p y) refl
 
->>>>>>> d71f2853269764bf84b7b36ab000de7cf9344984
   -- where all fail
   pub first_match_none : (xs : List X) → All (λ x. p x ≡ false) xs → first_match p xs ≡ None
   first_match_none [] all = refl

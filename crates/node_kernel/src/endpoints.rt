@@ -3,7 +3,7 @@ ghost use Rattle.std.specs.List.{position};
 ghost use Rattle.endpoint_queue.specs.Selection.{is_selected, first_selected, without_first};
 ghost use Rattle.node_kernel.specs.Nodes.{is_at, is_open, items_at, with_items, without_endpoint};
 
-use endpoint_queue::Item;
+use endpoint_queue::{Item, Queue};
 use linx_base::{Inc, Name};
 use sigsel::Sigsel;
 use std::alloc::Global;
@@ -14,7 +14,7 @@ use std::marker::Model;
 pub(crate) struct Endpoint {
     inc: Inc,
     name: Name,
-    queue: Vec<Item>,
+    queue: Queue,
 }
 
 impl Model for Endpoint {
@@ -25,29 +25,6 @@ impl Model for Endpoint {
     ghost view = { λ e. record { inc = e.inc; name = e.name; items = e.queue.items } };
 }
 
-/// The first item that the filter selects, taken out of the queue.
-fn take_first(queue: &mut Vec<Item>, filter: &Sigsel) -> Option<Item>
-    ensures item { result ≡ first_selected filter.now queue.old.items }
-    ensures others { queue.new.items ≡ without_first filter.now queue.old.items }
-{
-    let place = place_selected(queue, filter)?;
-    Some(queue.remove(place))
-}
-
-fn place_selected(items: &[Item], filter: &Sigsel) -> Option<usize>
-    ensures { result ≡ position (is_selected filter.now) items.now }
-{
-    items
-        .iter()
-        .position(|item| filter.selects(item.signal.number()))
-}
-
-fn has_selected(items: &[Item], filter: &Sigsel) -> bool
-    ensures { result ≡ is_some (first_selected filter.now items.now) }
-{
-    place_selected(items, filter).is_some()
-}
-
 impl Endpoint {
     pub(crate) fn new(alloc: Global, inc: Inc, name: Name) -> Endpoint
         ensures { result ≡ record { inc = inc; name = name; items = [] } }
@@ -55,7 +32,7 @@ impl Endpoint {
         Endpoint {
             inc,
             name,
-            queue: Vec::new(alloc),
+            queue: Queue::new(alloc),
         }
     }
 
@@ -70,10 +47,11 @@ impl Endpoint {
         ensures ok { OnOk result (self.new ≡ record self.old { items = self.old.items ++ item ∷ [] }) }
         ensures err { IfErr result (λ back. (back ≡ item) × (self.new ≡ self.old)) }
     {
-        match self.queue.push(item) {
-            Ok(()) => Ok(()),
-            Err(refused) => Err(refused.value),
+        if self.queue.reserve(1).is_err() {
+            return Err(item);
         }
+        self.queue.put(item);
+        Ok(())
     }
 
     /// Takes out the first item that the filter selects.
@@ -81,14 +59,14 @@ impl Endpoint {
         ensures item { result ≡ first_selected filter.now self.old.items }
         ensures others { self.new ≡ record self.old { items = without_first filter.now self.old.items } }
     {
-        take_first(&mut self.queue, filter)
+        self.queue.take(filter)
     }
 
     /// Whether the filter selects an item.
     pub(crate) fn holds(&self, filter: &Sigsel) -> bool
         ensures { result ≡ is_some (first_selected filter.now self.now.items) }
     {
-        has_selected(&self.queue, filter)
+        self.queue.holds(filter)
     }
 }
 
