@@ -61,8 +61,9 @@ last_opened-opened : (before : Option Inc) (es : List Effect) (j : Inc) → last
 last_opened-opened before [] j is = inl is
 last_opened-opened before (Opened i ∷ es) j is =
     elim (last_opened-opened (Some i) es j is) [
-      inl e ↦ inr (or_left (same_inc j i) (list_any (same_inc j) (filter_map opened_in es)) (let e' : j ≡ i = cc in same_inc-from j i e'))
-    | inr e ↦ inr (or_right (same_inc j i) (list_any (same_inc j) (filter_map opened_in es)) e) ]
+      | inl e ↦ inr (or_left (same_inc j i) (list_any (same_inc j) (filter_map opened_in es)) (let e' : j ≡ i = cc in same_inc-from j i e'))
+      | inr e ↦ inr (or_right (same_inc j i) (list_any (same_inc j) (filter_map opened_in es)) e)
+    ]
 last_opened-opened before (_ ∷ es) j is = last_opened-opened before es j is
 
 last_endpoint-by : (mine : Bool) (before : Option Inc) (es : List Effect) (j : Inc) → cond mine (last_opened before es) before ≡ Some j → (before ≡ Some j) ⊎ (list_any (same_inc j) (filter_map opened_in es) ≡ true)
@@ -75,8 +76,9 @@ last_endpoint-opened [] k j is = absurd cc
 last_endpoint-opened (s ∷ P) k j is =
     opened-after P s j ∙ either (list_any (same_inc j) (openings P)) (list_any (same_inc j) (filter_map opened_in s.effects))
     (elim (last_endpoint-by (is_by s.by k) (last_endpoint P k) s.effects j is) [
-      inl e ↦ inl (last_endpoint-opened P k j e)
-    | inr e ↦ inr e ])
+      | inl e ↦ inl (last_endpoint-opened P k j e)
+      | inr e ↦ inr e
+    ])
 
 some_open : (closed : Bool) (i j : Inc) → cond closed None (Some i) ≡ Some j → (i ≡ j) × (closed ≡ false)
 some_open true i j is = absurd cc
@@ -103,8 +105,9 @@ pub list_any-filter : {X : Type 0} (p q : X → Bool) (xs : List X) → list_any
 list_any-filter p q [] is = is
 list_any-filter p q (x ∷ xs) is =
     elim (list_any-kept p (q x) x (filter q xs) is) [
-      inl e ↦ or_left (p x) (list_any p xs) e
-    | inr e ↦ or_right (p x) (list_any p xs) (list_any-filter p q xs e) ]
+      | inl e ↦ or_left (p x) (list_any p xs) e
+      | inr e ↦ or_right (p x) (list_any p xs) (list_any-filter p q xs e)
+    ]
 
 -- (3) a living endpoint was opened
 pub alive-opened : (P : List Step) (node : ℕ) (i : Inc) → is_alive P node (Here i) ≡ true → list_any (same_inc i) (openings P) ≡ true
@@ -160,8 +163,9 @@ concerned-opened shape (s ∷ P) legal i is =
     opened-after P s i ∙
     either (list_any (same_inc i) (openings P)) (list_any (same_inc i) (filter_map opened_in s.effects))
     (elim (or_cases (list_any (concerns i) (effects_of P)) (list_any (concerns i) s.effects) (sym (list_any-append (concerns i) (effects_of P) s.effects) ∙ is)) [
-      inl e ↦ inl (concerned-opened shape P legal.0 i e)
-    | inr e ↦ concerned-step P (node_by shape s.by) (endpoint_by P s.by) s.effects (step_makes shape P s legal.1) (endpoint_by-opened P s.by) i e ])
+      | inl e ↦ inl (concerned-opened shape P legal.0 i e)
+      | inr e ↦ concerned-step P (node_by shape s.by) (endpoint_by P s.by) s.effects (step_makes shape P s legal.1) (endpoint_by-opened P s.by) i e
+    ])
 
 opens_one : (P : List Step) (node : ℕ) (me : Option Inc) (es : List Effect) → Makes P node me es → length (filter_map opened_in es) ≤ 1
 opens_one P node me es (nothing e) = subst (λ (fs : List Effect). length (filter_map opened_in fs) ≤ 1) (sym e) (omega arith)
@@ -176,7 +180,7 @@ length-openings shape (s ∷ P) legal =
     let before = length-openings shape P legal.0 in
     let one = opens_one P (node_by shape s.by) (endpoint_by P s.by) s.effects (step_makes shape P s legal.1) in
     let all : length (openings (s ∷ P)) ≡ length (openings P) + length (filter_map opened_in s.effects) =
-      ap length (filter_map-append opened_in (effects_of P) s.effects) ∙ length-append (openings P) (filter_map opened_in s.effects) in
+    ap length (filter_map-append opened_in (effects_of P) s.effects) ∙ length-append (openings P) (filter_map opened_in s.effects) in
     omega arith
 
 count-openings : (shape : Shape) (P : List Step) → IsLegal shape P → length P < 4294967295 → (node : ℕ) → count_by (is_on node) (openings P) < 4294967295
@@ -215,33 +219,35 @@ pub opened-below : (shape : Shape) (P : List Step) → IsLegal shape P → lengt
 opened-below shape [] legal short i is = absurd (true≢false (sym is))
 opened-below shape (s ∷ P) legal short i is =
     elim (or_cases (list_any (same_inc i) (openings P)) (list_any (same_inc i) (filter_map opened_in s.effects)) (sym (opened-after P s i) ∙ is)) [
-      inl e ↦
-        let before = opened-below shape P legal.0 (omega arith) i e in
-        let more = count-after P s (i.0 / 4294967296) in
-        omega arith
-    | inr e ↦
-        let next = opened-next P (node_by shape s.by) (endpoint_by P s.by) s.effects (step_makes shape P s legal.1) i e in
-        let on : i.0 / 4294967296 ≡ node_by shape s.by = ap (λ (x : Inc). x.0 / 4294967296) next.0 ∙ next_inc-div shape P legal.0 (omega arith) (node_by shape s.by) in
-        let number : i.0 ≡ (next_inc P (i.0 / 4294967296)).0 = ap (λ (x : Inc). x.0) next.0 ∙ ap (λ (n : ℕ). (next_inc P n).0) (sym on) in
-        let one : count_by (is_on (i.0 / 4294967296)) (filter_map opened_in s.effects) ≡ 1 =
+      | inl e ↦
+          let before = opened-below shape P legal.0 (omega arith) i e in
+          let more = count-after P s (i.0 / 4294967296) in
+          omega arith
+      | inr e ↦
+          let next = opened-next P (node_by shape s.by) (endpoint_by P s.by) s.effects (step_makes shape P s legal.1) i e in
+          let on : i.0 / 4294967296 ≡ node_by shape s.by = ap (λ (x : Inc). x.0 / 4294967296) next.0 ∙ next_inc-div shape P legal.0 (omega arith) (node_by shape s.by) in
+          let number : i.0 ≡ (next_inc P (i.0 / 4294967296)).0 = ap (λ (x : Inc). x.0) next.0 ∙ ap (λ (n : ℕ). (next_inc P n).0) (sym on) in
+          let one : count_by (is_on (i.0 / 4294967296)) (filter_map opened_in s.effects) ≡ 1 =
           ap (count_by (is_on (i.0 / 4294967296))) next.1 ∙ ap (λ (b : Bool). 0 + cond b 1 0) (eq-eqb (i.0 / 4294967296) (i.0 / 4294967296) refl) in
-        let more = count-after P s (i.0 / 4294967296) in
-        omega arith ]
+          let more = count-after P s (i.0 / 4294967296) in
+          omega arith
+    ]
 
 pub next_inc-new : (shape : Shape) (P : List Step) → IsLegal shape P → length P < 4294967295 → (node : ℕ) → list_any (same_inc (next_inc P node)) (openings P) ≡ false
 next_inc-new shape P legal short node =
     false_from_ne_true (list_any (same_inc (next_inc P node)) (openings P)) (λ is.
-      let below = opened-below shape P legal short (next_inc P node) is in
-      let same : (next_inc P ((next_inc P node).0 / 4294967296)).0 ≡ (next_inc P node).0 = ap (λ (n : ℕ). (next_inc P n).0) (next_inc-div shape P legal short node) in
-      omega arith)
+    let below = opened-below shape P legal short (next_inc P node) is in
+    let same : (next_inc P ((next_inc P node).0 / 4294967296)).0 ≡ (next_inc P node).0 = ap (λ (n : ℕ). (next_inc P n).0) (next_inc-div shape P legal short node) in
+    omega arith)
 
 -- what passes the narrower test somewhere, passes the wider one
 pub list_any-wider : {X : Type 0} (p q : X → Bool) → ((x : X) → p x ≡ true → q x ≡ true) → (xs : List X) → list_any p xs ≡ true → list_any q xs ≡ true
 list_any-wider p q wider [] is = is
 list_any-wider p q wider (x ∷ xs) is =
     elim (or_cases (p x) (list_any p xs) is) [
-      inl e ↦ or_left (q x) (list_any q xs) (wider x e)
-    | inr e ↦ or_right (q x) (list_any q xs) (list_any-wider p q wider xs e) ]
+      | inl e ↦ or_left (q x) (list_any q xs) (wider x e)
+      | inr e ↦ or_right (q x) (list_any q xs) (list_any-wider p q wider xs e)
+    ]
 
 closes-concerns : (i : Inc) (e : Effect) → closes i e ≡ true → concerns i e ≡ true
 closes-concerns i (Closed j) is = is
@@ -256,12 +262,12 @@ item-concerns i _ is = is
 pub next_inc-not_concerned : (shape : Shape) (P : List Step) → IsLegal shape P → length P < 4294967295 → (node : ℕ) → list_any (concerns (next_inc P node)) (effects_of P) ≡ false
 next_inc-not_concerned shape P legal short node =
     false_from_ne_true (list_any (concerns (next_inc P node)) (effects_of P)) (λ is.
-      true≢false (sym (concerned-opened shape P legal (next_inc P node) is) ∙ next_inc-new shape P legal short node))
+    true≢false (sym (concerned-opened shape P legal (next_inc P node) is) ∙ next_inc-new shape P legal short node))
 
 pub next_inc-not_closed : (shape : Shape) (P : List Step) → IsLegal shape P → length P < 4294967295 → (node : ℕ) → is_closed P (next_inc P node) ≡ false
 next_inc-not_closed shape P legal short node =
     false_from_ne_true (is_closed P (next_inc P node)) (λ is.
-      true≢false (sym (list_any-wider (closes (next_inc P node)) (concerns (next_inc P node)) (closes-concerns (next_inc P node)) (effects_of P) is) ∙ next_inc-not_concerned shape P legal short node))
+    true≢false (sym (list_any-wider (closes (next_inc P node)) (concerns (next_inc P node)) (closes-concerns (next_inc P node)) (effects_of P) is) ∙ next_inc-not_concerned shape P legal short node))
 
 -- without items nothing was delivered
 entries_in-none : (j : Inc) (step place : ℕ) (es : List Effect) → list_any (is_item_of j) es ≡ false → entries_in j step place es ≡ []
@@ -281,7 +287,7 @@ pub next_inc-no_items : (shape : Shape) (P : List Step) → IsLegal shape P → 
 next_inc-no_items shape P legal short node =
     delivered-none P (next_inc P node)
     (false_from_ne_true (list_any (is_item_of (next_inc P node)) (effects_of P)) (λ is.
-      true≢false (sym (list_any-wider (is_item_of (next_inc P node)) (concerns (next_inc P node)) (item-concerns (next_inc P node)) (effects_of P) is) ∙ next_inc-not_concerned shape P legal short node)))
+    true≢false (sym (list_any-wider (is_item_of (next_inc P node)) (concerns (next_inc P node)) (item-concerns (next_inc P node)) (effects_of P) is) ∙ next_inc-not_concerned shape P legal short node)))
 
 pub filter-same : {X : Type 0} (p q : X → Bool) → ((x : X) → p x ≡ q x) → (xs : List X) → filter p xs ≡ filter q xs
 filter-same p q same [] = refl

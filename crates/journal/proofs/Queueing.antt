@@ -107,13 +107,13 @@ without_first_position p (x ∷ xs) e all is =
     let go : (b : Bool) → cond b (Some x) (first_match p xs) ≡ Some e → filter (λ f. not (same_position e.at f.at)) (x ∷ xs) ≡ cond b xs (x ∷ without_match p xs) = λ b.
     elim b as (λ c. cond c (Some x) (first_match p xs) ≡ Some e → filter (λ f. not (same_position e.at f.at)) (x ∷ xs) ≡ cond c xs (x ∷ without_match p xs)) [
       | true ↦ λ same.
-        let is_x : x ≡ e = cc in
-        let P : Entry → Type 0 = λ d. filter (λ f. not (same_position d.at f.at)) (x ∷ xs) ≡ xs in
-        subst P is_x
-        (rw (position_itself x.at) (filter-all (λ f. not (same_position x.at f.at)) xs (all-impl (Differs x) (λ f. not (same_position x.at f.at) ≡ true) (λ f d. ap not d) xs all.0)))
+          let is_x : x ≡ e = cc in
+          let P : Entry → Type 0 = λ d. filter (λ f. not (same_position d.at f.at)) (x ∷ xs) ≡ xs in
+          subst P is_x
+          (rw (position_itself x.at) (filter-all (λ f. not (same_position x.at f.at)) xs (all-impl (Differs x) (λ f. not (same_position x.at f.at) ≡ true) (λ f d. ap not d) xs all.0)))
       | false ↦ λ later.
-        let apart : same_position e.at x.at ≡ false = position_sym x.at e.at (all-first_match (Differs x) p xs e all.0 later) in
-        rw apart (ap (λ l. x ∷ l) (without_first_position p xs e all.1 later))
+          let apart : same_position e.at x.at ≡ false = position_sym x.at e.at (all-first_match (Differs x) p xs e all.0 later) in
+          rw apart (ap (λ l. x ∷ l) (without_first_position p xs e all.1 later))
     ]
     in
     go (p x) is
@@ -157,7 +157,7 @@ delivered_differ (s ∷ P) j =
     let stand : AllByRecursion (StandsFrom (suc (length P)) 1) new = entries_stand j (suc (length P)) 1 s.effects in
     differ-append (delivered P j) new (delivered_differ P j) (entries_differ j (suc (length P)) 1 s.effects)
     (all-impl (λ e. e.at.step ≤ length P) (λ e. AllByRecursion (Differs e) new)
-        (λ e old. all-impl (StandsFrom (suc (length P)) 1) (Differs e) (λ f h. grind (arith, nat_tests)) new stand) (delivered P j) (delivered_stand P j))
+    (λ e old. all-impl (StandsFrom (suc (length P)) 1) (Differs e) (λ f h. grind (arith, nat_tests)) new stand) (delivered P j) (delivered_stand P j))
 
 pub queued_stand : (P : List Step) (j : Inc) → AllByRecursion (λ e. e.at.step ≤ length P) (queued P j)
 queued_stand P j = all-filter (λ e. e.at.step ≤ length P) _ (delivered P j) (delivered_stand P j)
@@ -169,7 +169,7 @@ queued_differ P j = differ-filter _ (delivered P j) (delivered_differ P j)
 pub queued-quiet : (P : List Step) (s : Step) (j : Inc) → ((e : Entry) → removes e s.head ≡ false) → entries_in j (suc (length P)) 1 s.effects ≡ [] → queued (s ∷ P) j ≡ queued P j
 queued-quiet P s j keeps none =
     rw none (rw (append-nil (delivered P j))
-        (filter-ext (λ e. not (removes e s.head || list_any (λ t. removes e t.head) P)) (λ e. not (list_any (λ t. removes e t.head) P)) (λ e. rw (keeps e) refl) (delivered P j)))
+    (filter-ext (λ e. not (removes e s.head || list_any (λ t. removes e t.head) P)) (λ e. not (list_any (λ t. removes e t.head) P)) (λ e. rw (keeps e) refl) (delivered P j)))
 
 -- a step that takes nothing out and brings one item, which no step took out before, adds it
 pub queued-more : (P : List Step) (s : Step) (j : Inc) (e : Entry) → ((f : Entry) → removes f s.head ≡ false) → entries_in j (suc (length P)) 1 s.effects ≡ e ∷ [] → list_any (λ t. removes e t.head) P ≡ false → queued (s ∷ P) j ≡ queued P j ++ e ∷ []
@@ -178,16 +178,16 @@ queued-more P s j e keeps one fresh =
     let kept : filter test (e ∷ []) ≡ e ∷ [] = rw fresh refl in
     rw one
     (filter-ext (λ f. not (removes f s.head || list_any (λ t. removes f t.head) P)) test (λ f. rw (keeps f) refl) (delivered P j ++ e ∷ [])
-        ∙ filter-append test (delivered P j) (e ∷ []) ∙ ap (λ l. filter test (delivered P j) ++ l) kept)
+    ∙ filter-append test (delivered P j) (e ∷ []) ∙ ap (λ l. filter test (delivered P j) ++ l) kept)
 
 -- a step that takes the earliest selected item leaves the others
 pub queued-take : (P : List Step) (s : Step) (j : Inc) (selection : Sigsel) (e : Entry) → s.head ≡ Take selection e.at → s.effects ≡ [] → first_selected selection (queued P j) ≡ Some e → queued (s ∷ P) j ≡ without_match (is_selected selection) (queued P j)
 queued-take P s j selection e takes none is =
     let test : Entry → Bool = λ f. not (list_any (λ t. removes f t.head) P) in
     rw (takes, none) (rw (append-nil (delivered P j))
-        (filter-ext (λ f. not (same_position e.at f.at || list_any (λ t. removes f t.head) P)) (λ f. test f && not (same_position e.at f.at)) (λ f. grind arith) (delivered P j)
-            ∙ sym (filter-filter (λ f. not (same_position e.at f.at)) test (delivered P j))
-            ∙ without_first_position (is_selected selection) (queued P j) e (queued_differ P j) is))
+    (filter-ext (λ f. not (same_position e.at f.at || list_any (λ t. removes f t.head) P)) (λ f. test f && not (same_position e.at f.at)) (λ f. grind arith) (delivered P j)
+    ∙ sym (filter-filter (λ f. not (same_position e.at f.at)) test (delivered P j))
+    ∙ without_first_position (is_selected selection) (queued P j) e (queued_differ P j) is))
 
 -- a legal step takes out nothing that stands in a later step
 not_removed : (shape : Shape) (P : List Step) (node : ℕ) (by : By) (me : Option Inc) (head : Head) (effects : List Effect) → HasEffects P node me head effects → KeepsReceives shape P by me head → (e : Entry) → length P < e.at.step → removes e head ≡ false

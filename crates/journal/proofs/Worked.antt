@@ -54,13 +54,22 @@ abbrev after : (P : List Step) (s : Step) → IsLegal one_actor P → IsLegalSte
 after P s before step = (before, step)
 
 self_send_is_legal : IsLegal one_actor self_send
-self_send_is_legal =
-    (((((tt,
-    record { makers = (omega arith, omega arith, refl); effects = refl; sends = tt; receives = tt }),
-    record { makers = (omega arith, omega arith, refl); effects = refl; sends = refl; receives = tt }),
-    record { makers = (omega arith, omega arith, refl); effects = refl; sends = tt; receives = refl }),
-    record { makers = (omega arith, omega arith, refl); effects = refl; sends = tt; receives = tt }),
-    record { makers = (omega arith, omega arith, refl); effects = refl; sends = tt; receives = tt })
+self_send_is_legal = (
+  (
+    (
+      (
+        (
+          tt,
+          record { makers = (omega arith, omega arith, refl); effects = refl; sends = tt; receives = tt },
+        ),
+        record { makers = (omega arith, omega arith, refl); effects = refl; sends = refl; receives = tt },
+      ),
+      record { makers = (omega arith, omega arith, refl); effects = refl; sends = tt; receives = refl },
+    ),
+    record { makers = (omega arith, omega arith, refl); effects = refl; sends = tt; receives = tt },
+  ),
+  record { makers = (omega arith, omega arith, refl); effects = refl; sends = tt; receives = tt },
+)
 
 self_send_traffic : sent_to self_send first (Here first) ≡ note 5 [] ∷ []
 self_send_traffic = refl

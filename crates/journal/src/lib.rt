@@ -16,3 +16,6 @@ pub use events::Event;
 pub use happenings::{Effect, Effects, Step};
 pub use heads::{Detached, Head, Refusal, SentTo};
 pub use makers::By;
+
+#[cfg(test)]
+mod tests;

@@ -9,3 +9,6 @@ mod kernel;
 
 pub use answers::{OpenError, OpenedAs, Sent, StepAnswer};
 pub use kernel::Kernel;
+
+#[cfg(test)]
+mod tests;
