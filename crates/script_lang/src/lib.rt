@@ -4,6 +4,7 @@
 #![tactic(auto)]
 
 mod commands;
+mod sameness;
 mod script;
 
 pub use commands::{ActorScript, Command, Commands, Filling, Target};

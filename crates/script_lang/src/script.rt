@@ -1,9 +1,10 @@
-ghost use Rattle.std.specs.Prelude.{◌≡◌, ◌+◌, ◌<◌, ◌≤◌, length, OnOk, OnErr, IsTrue, slice_get, false};
+ghost use Rattle.std.specs.Prelude.{◌≡◌, ◌↔◌, ◌+◌, ◌<◌, ◌≤◌, length, OnOk, OnErr, IsTrue, slice_get, false};
 ghost use Rattle.std.specs.List.{list_all};
 ghost use Rattle.script_lang.specs.Parts.{empty_script, plan_of, with_node, with_link, with_verdict, with_actor, planned_at, plan_in};
 ghost use Rattle.script_lang.specs.Fits.{is_node, is_link, is_among, fits_link, fits_verdict, fits_command, commands_of, IsScript};
 
 use crate::commands::{ActorScript, Commands};
+use crate::sameness::all_same;
 use linx_base::{
     LinkDecl, LinkNo, Name, NameList, Names, NoMemory, NodeNo, Sequence, Side, Verdict,
 };
@@ -110,6 +111,17 @@ impl Script {
         ensures script { IsScript self.now }
     {
         self.actors.as_slice()
+    }
+
+    /// Whether both are one script.
+    pub fn same(&self, other: &Script) -> bool
+        ensures { IsTrue result ↔ (self.now ≡ other.now) }
+    {
+        all_same(self.names.nodes.as_slice(), other.names.nodes.as_slice())
+            && all_same(self.names.links.as_slice(), other.names.links.as_slice())
+            && all_same(self.links.as_slice(), other.links.as_slice())
+            && all_same(self.plans.as_slice(), other.plans.as_slice())
+            && all_same(self.actors.as_slice(), other.actors.as_slice())
     }
 
     /// The verdicts of one direction of a declared link, in order.
