@@ -1,2 +1,5 @@
 pub mod Parts
 pub mod Fits
+pub mod Gives
+pub mod Lines
+pub mod Values

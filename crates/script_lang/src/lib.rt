@@ -4,8 +4,13 @@
 #![tactic(auto)]
 
 mod commands;
+mod faults;
+mod lines;
 mod sameness;
 mod script;
+mod statements;
+mod values;
 
 pub use commands::{ActorScript, Command, Commands, Filling, Target};
+pub use faults::{BadKind, ScriptError};
 pub use script::{Plans, Script, Verdicts};
