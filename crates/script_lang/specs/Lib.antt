@@ -3,3 +3,4 @@ pub mod Fits
 pub mod Gives
 pub mod Lines
 pub mod Values
+pub mod Statements

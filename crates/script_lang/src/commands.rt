@@ -1,3 +1,6 @@
+ghost use Rattle.std.specs.Prelude.{◌≡◌, ◌==◌, length};
+ghost use Rattle.script_lang.specs.Parts.{data_of};
+
 use linx_base::{Blob, LinkNo, Name, NoMemory, NodeNo, Path, Sequence, TryCopy};
 use sigsel::Sigsel;
 
@@ -23,6 +26,23 @@ pub enum Filling {
 impl Filling {
     /// No data. It takes no memory.
     pub const EMPTY: Filling = Filling::Repeat { count: 0, byte: 0 };
+
+    /// The number of data bytes.
+    pub fn len(&self) -> usize
+        ensures { result ≡ length (data_of self.now) }
+    {
+        match self {
+            Filling::Bytes(bytes) => bytes.bytes().len(),
+            Filling::Repeat { count, .. } => *count as usize,
+        }
+    }
+
+    /// Whether there are no data.
+    pub fn is_empty(&self) -> bool
+        ensures { result ≡ (length (data_of self.now) == 0) }
+    {
+        self.len() == 0
+    }
 }
 
 /// What an actor does, a command at a time.

@@ -33,10 +33,7 @@ pub enum BadKind {
 #[derive(Clone, Copy, Debug, PartialEq, Eq, Hash)]
 pub enum ScriptError {
     /// The first bad line, from 1, and what is wrong with it.
-    Bad {
-        line: u32,
-        kind: BadKind,
-    },
+    Bad { line: u32, kind: BadKind },
     NoMemory,
 }
 

@@ -288,3 +288,51 @@ pub(crate) fn signal(alloc: Global, default: u32, words: &[&[u8]]) -> Result<(u3
         _ => Err(BAD_SHAPE),
     }
 }
+
+/// The words as numbers.
+fn numbers(alloc: Global, words: &[&[u8]]) -> Result<Numbers, Fault>
+    ensures { Gives (λ n. n) result (numbers_of (map (λ w. w.now) words.now)) }
+{
+    let mut numbers = Numbers::new(alloc);
+    for word in words {
+        let number = any_number(word)?;
+        numbers.push(number)?;
+    }
+    Ok(numbers)
+}
+
+/// What a receive selects.
+#[tactic(auto, unfolding(crate::specs::Values::filter_of))]
+pub(crate) fn filter(alloc: Global, words: &[&[u8]]) -> Result<Sigsel, Fault>
+    ensures { Gives (λ f. f) result (filter_of (map (λ w. w.now) words.now)) }
+{
+    match words {
+        [] => Err(BAD_SHAPE),
+        [first, rest @ ..] => {
+            if is_text(first, b"any") {
+                if !rest.is_empty() {
+                    return Err(BAD_SHAPE);
+                }
+                return Ok(Sigsel::Any);
+            }
+            if is_text(first, b"not") {
+                let listed = numbers(alloc, rest)?;
+                return Ok(Sigsel::Not(listed));
+            }
+            let listed = numbers(alloc, words)?;
+            Ok(Sigsel::Only(listed))
+        }
+    }
+}
+
+/// The words as verdicts.
+pub(crate) fn verdicts(alloc: Global, words: &[&[u8]]) -> Result<Verdicts, Fault>
+    ensures { Gives (λ v. v) result (verdicts_of (map (λ w. w.now) words.now)) }
+{
+    let mut verdicts = Verdicts::new(alloc);
+    for word in words {
+        let planned = verdict(word)?;
+        verdicts.push(planned)?;
+    }
+    Ok(verdicts)
+}
