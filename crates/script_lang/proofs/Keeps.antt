@@ -127,7 +127,7 @@ link_kept s name decl h room fresh fits = record {
   commands = h.commands;
 }
 
-length-planned_at : (plans : List Plans) (place : ℕ) (from : Side) (verdict : Verdict) → length (planned_at plans place from verdict) ≡ length plans
+pub length-planned_at : (plans : List Plans) (place : ℕ) (from : Side) (verdict : Verdict) → length (planned_at plans place from verdict) ≡ length plans
 length-planned_at [] place from verdict = refl
 length-planned_at (p ∷ plans) zero from verdict = refl
 length-planned_at (p ∷ plans) (suc place) from verdict = ap suc (length-planned_at plans place from verdict)

@@ -38,10 +38,13 @@ joins None node = false
 abbrev pub has_end : ScriptParts → LinkNo → NodeNo → Bool
 has_end s link node = is_link s link && joins (slice_get s.links (link.0 - 1)) node
 
--- two nodes, a window of 1 to 256 and a piece of 64 to 8,192
+-- a window of 1 to 256 and a piece of 64 to 8,192
+abbrev pub has_link_size : ℕ → ℕ → Bool
+has_link_size window piece = nat_le 1 window && nat_le window 256 && nat_le 64 piece && nat_le piece 8192
+
+-- two nodes, with a window and a piece in range
 abbrev pub is_link_shape : LinkDecl → Bool
-is_link_shape decl =
-    not (decl.first.0 == decl.second.0) && nat_le 1 decl.window && nat_le decl.window 256 && nat_le 64 decl.piece && nat_le decl.piece 8192
+is_link_shape decl = not (decl.first.0 == decl.second.0) && has_link_size decl.window decl.piece
 
 -- the same, with both nodes declared
 abbrev pub fits_link : ℕ → LinkDecl → Bool

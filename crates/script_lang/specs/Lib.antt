@@ -4,3 +4,5 @@ pub mod Gives
 pub mod Lines
 pub mod Values
 pub mod Statements
+pub mod Keeping
+pub mod Reading

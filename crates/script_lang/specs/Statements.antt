@@ -11,7 +11,7 @@ use Rattle.script_lang.specs.declared.statements.Statement.TheVariants.{Node, Li
 use Rattle.script_lang.specs.declared.faults.BadKind.{BadKind}
 use Rattle.script_lang.specs.declared.faults.BadKind.TheVariants.{BadShape, UnknownWord}
 use Rattle.script_lang.specs.Gives.{◌>>=◌}
-use Rattle.script_lang.specs.Fits.{fits_data, fits_filter, fits_verdict}
+use Rattle.script_lang.specs.Fits.{fits_data, fits_filter, fits_verdict, has_link_size}
 use Rattle.script_lang.specs.Values.{within, name_of, kept_name_of, target_of, route_of, filling_of, signal_of, filter_of, side_in, verdicts_of, no_data}
 
 -- ---- outside a block
@@ -25,12 +25,12 @@ node_of (name ∷ []) = do
 node_of (name ∷ word ∷ words) = Err BadShape
 
 -- a number behind its word, if the word stands here, and the words behind it
-unfoldable pub option_of : List ℕ → ℕ → ℕ → ℕ → List (List ℕ) → Result (ℕ × List (List ℕ)) BadKind
-option_of keyword low high default [] = Ok (default, [])
-option_of keyword low high default (word ∷ []) = Ok (default, word ∷ [])
-option_of keyword low high default (word ∷ value ∷ words) =
+unfoldable pub option_of : List ℕ → ℕ → List (List ℕ) → Result (ℕ × List (List ℕ)) BadKind
+option_of keyword default [] = Ok (default, [])
+option_of keyword default (word ∷ []) = Ok (default, word ∷ [])
+option_of keyword default (word ∷ value ∷ words) =
     if bytes_eq word keyword then (do
-      number ← within low high value
+      number ← within 0 4294967295 value
       Ok (number, words))
     else Ok (default, word ∷ value ∷ words)
 
@@ -43,8 +43,8 @@ link_of (name ∷ first ∷ second ∷ words) = do
   n ← name_of name
   a ← name_of first
   b ← name_of second
-  window ← option_of (codes "window") 1 256 32 words
-  piece ← option_of (codes "piece") 64 8192 1400 window.1
+  window ← option_of (codes "window") 32 words
+  piece ← option_of (codes "piece") 1400 window.1
   if length piece.1 == 0 then Ok (Link n a b window.0 piece.0) else Err BadShape
 
 -- `plan LINK DIR V ..V`
@@ -232,10 +232,10 @@ is_sized_command (Mending link) = false
 is_sized_command (Restarting node) = false
 is_sized_command (Settling link) = false
 
--- data, filters and exchanges are in range
+-- windows, pieces, exchanges, filters and data are in range
 abbrev pub is_sized : Statement → Bool
 is_sized (Node name) = true
-is_sized (Link name first second window piece) = true
+is_sized (Link name first second window piece) = has_link_size window piece
 is_sized (Plan link from verdicts) = list_all fits_verdict verdicts
 is_sized (Actor name node) = true
 is_sized (Plain command) = is_sized_command command

@@ -6,6 +6,8 @@
 mod commands;
 mod faults;
 mod lines;
+mod parsing;
+mod reading;
 mod sameness;
 mod script;
 mod statements;
@@ -13,4 +15,8 @@ mod values;
 
 pub use commands::{ActorScript, Command, Commands, Filling, Target};
 pub use faults::{BadKind, ScriptError};
+pub use parsing::parse;
 pub use script::{Plans, Script, Verdicts};
+
+#[cfg(test)]
+mod tests;

@@ -3,7 +3,7 @@
 ghost use Rattle.std.specs.Prelude.{◌≡◌, map, IfOk, IsTrue, true};
 ghost use Rattle.std.specs.List.{list_all};
 ghost use Rattle.script_lang.specs.Gives.{Gives};
-ghost use Rattle.script_lang.specs.Fits.{fits_data, fits_filter, fits_verdict};
+ghost use Rattle.script_lang.specs.Fits.{fits_data, fits_filter, fits_verdict, has_link_size};
 ghost use Rattle.script_lang.specs.Statements.{node_of, option_of, link_of, plan_of, actor_of, declaration_of, alone, open_of, send_of, forward_of, recv_of, hunt_of, attach_of, detach_of, keep_of, one_name_of, repeat_of, distant_of, command_of, inner_of, outer_of, spelled_at, is_sized_command, is_sized, statement_of};
 
 use crate::commands::{Command, Filling};
@@ -88,16 +88,14 @@ fn node(alloc: Global, words: &[&[u8]]) -> Result<Statement, Fault>
 fn option<'a, 'b>(
     words: &'a [&'b [u8]],
     keyword: &[u8],
-    low: u32,
-    high: u32,
     default: u32,
 ) -> Result<(u32, &'a [&'b [u8]]), Fault>
-    ensures { Gives (λ x. (x.0, map (λ w. w.now) x.1.now)) result (option_of keyword.now low high default (map (λ w. w.now) words.now)) }
+    ensures { Gives (λ x. (x.0, map (λ w. w.now) x.1.now)) result (option_of keyword.now default (map (λ w. w.now) words.now)) }
 {
     match words {
         [word, value, rest @ ..] => {
             if is_text(word, keyword) {
-                let number = number_within(value, low, high)?;
+                let number = number_within(value, 0, u32::MAX)?;
                 Ok((number, rest))
             } else {
                 Ok((default, words))
@@ -116,8 +114,8 @@ fn link(alloc: Global, words: &[&[u8]]) -> Result<Statement, Fault>
             let link = name(alloc, link)?;
             let first = name(alloc, first)?;
             let second = name(alloc, second)?;
-            let (window, rest) = option(rest, b"window", 1, 256, 32)?;
-            let (piece, rest) = option(rest, b"piece", 64, 8192, 1400)?;
+            let (window, rest) = option(rest, b"window", 32)?;
+            let (piece, rest) = option(rest, b"piece", 1400)?;
             if !rest.is_empty() {
                 return Err(BAD_SHAPE);
             }
@@ -491,10 +489,17 @@ fn has_plain_size(command: &Command) -> bool
     }
 }
 
+fn has_link_range(window: u32, piece: u32) -> bool
+    ensures { result ≡ has_link_size window piece }
+{
+    1 <= window && window <= 256 && 64 <= piece && piece <= 8192
+}
+
 fn has_size(statement: &Statement) -> bool
     ensures { result ≡ is_sized statement.now }
 {
     match statement {
+        Statement::Link { window, piece, .. } => has_link_range(*window, *piece),
         Statement::Plan { verdicts, .. } => are_in_range(verdicts.as_slice()),
         Statement::Plain(command) => has_plain_size(command),
         Statement::Hunt { bytes, .. } => has_data(bytes, 65_532),
