@@ -62,24 +62,24 @@ block_more s node commands command h fits room =
 -- one command more in a repeated block
 pub repeated_more : (s : ScriptParts) (node : NodeNo) (commands : List Command) (times : ℕ) (repeated : List Command) (command : Command) → FitsBlock s (record { node = node; commands = commands; repeat = Some (record { times = times; commands = repeated }) }) → fits_command s node command ≡ true → FitsBlock s (record { node = node; commands = commands; repeat = Some (record { times = times; commands = repeated ++ command ∷ [] }) })
 repeated_more s node commands times repeated command h fits = record {
-    node = h.node;
-    room = h.room;
-    few = h.few;
-    all_few = h.all_few;
-    fits = h.fits;
-    repeated = list_all_push (fits_command s node) repeated command h.repeated fits;
-  }
+  node = h.node;
+  room = h.room;
+  few = h.few;
+  all_few = h.all_few;
+  fits = h.fits;
+  repeated = list_all_push (fits_command s node) repeated command h.repeated fits;
+}
 
 -- a repeated block begins empty
 pub repeat_starts : (s : ScriptParts) (node : NodeNo) (commands : List Command) (times : ℕ) → FitsBlock s (record { node = node; commands = commands; repeat = None }) → FitsBlock s (record { node = node; commands = commands; repeat = Some (record { times = times; commands = [] }) })
 repeat_starts s node commands times h = record {
-    node = h.node;
-    room = h.room;
-    few = h.few;
-    all_few = h.all_few;
-    fits = h.fits;
-    repeated = refl;
-  }
+  node = h.node;
+  room = h.room;
+  few = h.few;
+  all_few = h.all_few;
+  fits = h.fits;
+  repeated = refl;
+}
 
 length-repeat : {A : Type 0} (n : ℕ) (xs : List A) → length (repeat n xs) ≡ n * length xs
 length-repeat zero xs = omega arith

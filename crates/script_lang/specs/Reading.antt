@@ -24,6 +24,8 @@ use Rattle.script_lang.specs.declared.faults.BadKind.{BadKind}
 use Rattle.script_lang.specs.declared.faults.BadKind.TheVariants.{ScriptTooLong, LineTooLong, BadByte, UnknownWord, UnknownName, TwiceNamed, OverLimit, Unfinished}
 use Rattle.script_lang.specs.declared.faults.ScriptError.{ScriptError}
 use Rattle.script_lang.specs.declared.faults.ScriptError.TheVariants.{Bad, NoMemory}
+use Rattle.script_lang.specs.declared.faults.Fault.{Fault}
+use Rattle.script_lang.specs.declared.faults.Fault.TheVariants as faults
 use Rattle.script_lang.specs.Gives.{◌>>=◌}
 use Rattle.script_lang.specs.Parts.{ScriptParts, empty_script, plan_of, with_node, with_link, with_verdict, with_actor}
 use Rattle.script_lang.specs.Fits.{is_among, has_end, commands_of}
@@ -63,9 +65,9 @@ link_added s name first second window piece = do
   a ← node_named s first
   b ← node_named s second
   if is_among s.names.links name then Err TwiceNamed
-    else if a.0 == b.0 then Err TwiceNamed
-    else if nat_lt (length s.names.links) 32 then Ok (with_link s name (record { first = a; second = b; window = window; piece = piece }))
-    else Err OverLimit
+      else if a.0 == b.0 then Err TwiceNamed
+      else if nat_lt (length s.names.links) 32 then Ok (with_link s name (record { first = a; second = b; window = window; piece = piece }))
+      else Err OverLimit
 
 -- verdicts behind those of a direction's plan
 abbrev pub with_verdicts : ScriptParts → LinkNo → Side → List Verdict → ScriptParts
@@ -81,8 +83,8 @@ unfoldable pub actor_begun : ScriptParts → List (List ℕ) → List ℕ → Li
 actor_begun s actors name node = do
   n ← node_named s node
   if is_among actors name then Err TwiceNamed
-    else if nat_lt (length s.actors) 64 then Ok (record { script = s; actors = actors ++ name ∷ []; block = Some (record { node = n; commands = []; repeat = None }) })
-    else Err OverLimit
+      else if nat_lt (length s.actors) 64 then Ok (record { script = s; actors = actors ++ name ∷ []; block = Some (record { node = n; commands = []; repeat = None }) })
+      else Err OverLimit
 
 -- outside a block, with the script changed
 abbrev pub outside : List (List ℕ) → Result ScriptParts BadKind → Result Reading BadKind
@@ -247,6 +249,11 @@ nothing_read = record { script = empty_script; actors = []; block = None }
 -- the script that the bytes spell, or the first bad line with the first kind that holds for it
 unfoldable pub script_of : List ℕ → Result ScriptParts (ℕ × BadKind)
 script_of bytes = read_from nothing_read 0 0 (lines_of bytes)
+
+-- a line's fault as an error
+abbrev pub error_in : Fault → ℕ → ScriptError
+error_in (faults.Bad kind) line = Bad line kind
+error_in faults.Memory line = NoMemory
 
 -- the error is the bad line, unless memory ran out
 abbrev pub IsBadOf : Result ScriptParts (ℕ × BadKind) → ScriptError → Type 0

@@ -19,8 +19,11 @@ use linx_base::{LinkDecl, LinkNo, Name, NameList, NoMemory, NodeNo, Path, Side, 
 use std::alloc::Global;
 
 const UNKNOWN_WORD: Fault = Fault::Bad(BadKind::UnknownWord);
+
 const UNKNOWN_NAME: Fault = Fault::Bad(BadKind::UnknownName);
+
 const TWICE_NAMED: Fault = Fault::Bad(BadKind::TwiceNamed);
+
 const OVER_LIMIT: Fault = Fault::Bad(BadKind::OverLimit);
 
 /// A repeated block so far.
@@ -110,7 +113,14 @@ fn add_node(script: Script, name: Name) -> Result<Script, Fault>
 }
 
 #[tactic(auto, unfolding(crate::specs::Reading::link_added))]
-fn add_link(script: Script, name: Name, first: &Name, second: &Name, window: u32, piece: u32) -> Result<Script, Fault>
+fn add_link(
+    script: Script,
+    name: Name,
+    first: &Name,
+    second: &Name,
+    window: u32,
+    piece: u32,
+) -> Result<Script, Fault>
     requires { has_link_size window piece ≡ true }
     ensures { Gives (λ s. s) result (link_added script name first.now second.now window piece) }
 {
@@ -140,7 +150,12 @@ fn add_link(script: Script, name: Name, first: &Name, second: &Name, window: u32
 
 /// The script with these verdicts behind those of the direction's plan.
 #[tactic(auto, using(crate::proofs::Blocks::plan_longer))]
-fn add_verdicts(script: Script, link: LinkNo, from: Side, verdicts: &[Verdict]) -> Result<Script, NoMemory>
+fn add_verdicts(
+    script: Script,
+    link: LinkNo,
+    from: Side,
+    verdicts: &[Verdict],
+) -> Result<Script, NoMemory>
     requires link { IsTrue (is_link script link) }
     requires place { link.0 - 1 < length script.plans }
     requires room { length (plan_of script link from) + length verdicts.now ≤ 10000 }
@@ -170,7 +185,13 @@ fn add_plan(script: Script, link: &Name, from: Side, verdicts: &[Verdict]) -> Re
 
 /// An actor's block begins.
 #[tactic(auto, unfolding(crate::specs::Reading::actor_begun))]
-fn begin_actor(alloc: Global, script: Script, actors: NameList, name: Name, node: &Name) -> Result<Reading, Fault>
+fn begin_actor(
+    alloc: Global,
+    script: Script,
+    actors: NameList,
+    name: Name,
+    node: &Name,
+) -> Result<Reading, Fault>
     ensures gives { Gives (λ r. r) result (actor_begun script actors name node.now) }
     ensures fits { IfOk result (λ r. IsReading r) }
 {
@@ -196,7 +217,12 @@ fn begin_actor(alloc: Global, script: Script, actors: NameList, name: Name, node
 
 /// A line outside a block.
 #[tactic(auto, unfolding(crate::specs::Reading::declared))]
-fn declare(alloc: Global, script: Script, actors: NameList, statement: Statement) -> Result<Reading, Fault>
+fn declare(
+    alloc: Global,
+    script: Script,
+    actors: NameList,
+    statement: Statement,
+) -> Result<Reading, Fault>
     requires { is_sized statement ≡ true }
     ensures gives { Gives (λ r. r) result (declared script actors statement) }
     ensures fits { IfOk result (λ r. IsReading r) }
@@ -239,7 +265,13 @@ fn joins_node(script: &Script, link: LinkNo, node: NodeNo) -> bool
 }
 
 #[tactic(auto, unfolding(crate::specs::Reading::hunt_resolved))]
-fn resolve_hunt(script: &Script, node: NodeNo, route: Route, number: u32, bytes: Filling) -> Result<Command, Fault>
+fn resolve_hunt(
+    script: &Script,
+    node: NodeNo,
+    route: Route,
+    number: u32,
+    bytes: Filling,
+) -> Result<Command, Fault>
     requires { fits_data 65532 bytes ≡ true }
     ensures fits { IfOk result (λ c. fits_command script.now node c ≡ true) }
     ensures gives { Gives (λ c. c) result (hunt_resolved script.now node route number bytes) }
@@ -349,10 +381,12 @@ fn add_command(script: &Script, block: Block, command: Command) -> Result<Block,
                 repeat: None,
             })
         }
-        Some(Repetition {
-            times,
-            commands: mut repeated,
-        }) => {
+        Some(
+            Repetition {
+                times,
+                commands: mut repeated,
+            },
+        ) => {
             repeated.push(command)?;
             Ok(Block {
                 node,
@@ -414,7 +448,12 @@ fn write_out(commands: Commands, repeated: &[Command], times: u32) -> Result<Com
 
 /// The repeated block ends and is written out.
 #[tactic(auto, using(crate::proofs::Blocks::written_fits, crate::proofs::Blocks::no_room), unfolding(crate::specs::Reading::repeat_ended))]
-fn end_repeat(script: &Script, node: NodeNo, commands: Commands, repetition: Repetition) -> Result<Block, Fault>
+fn end_repeat(
+    script: &Script,
+    node: NodeNo,
+    commands: Commands,
+    repetition: Repetition,
+) -> Result<Block, Fault>
     requires fits { FitsBlock script.now (record { node = node; commands = commands; repeat = Some repetition }) }
     ensures gives { Gives (λ b. b) result (repeat_ended script.now node commands repetition) }
     ensures fits { IfOk result (λ b. FitsBlock script.now b) }
@@ -484,7 +523,13 @@ fn command(script: &Script, block: Block, statement: Statement) -> Result<Block,
 
 /// A line in an actor's block.
 #[tactic(auto, unfolding(crate::specs::Reading::in_block))]
-fn within_block(alloc: Global, script: Script, actors: NameList, block: Block, statement: Statement) -> Result<Reading, Fault>
+fn within_block(
+    alloc: Global,
+    script: Script,
+    actors: NameList,
+    block: Block,
+    statement: Statement,
+) -> Result<Reading, Fault>
     requires fits { FitsBlock script block }
     requires sized { is_sized statement ≡ true }
     ensures gives { Gives (λ r. r) result (in_block script actors block statement) }
@@ -567,7 +612,12 @@ fn take_text(alloc: Global, reading: Reading, text: &[u8]) -> Result<Reading, Fa
 
 /// What the lines say with one line more, behind so many bytes.
 #[tactic(auto, unfolding(crate::specs::Reading::lined))]
-pub(crate) fn take_line(alloc: Global, reading: Reading, before: usize, line: &[u8]) -> Result<Reading, Fault>
+pub(crate) fn take_line(
+    alloc: Global,
+    reading: Reading,
+    before: usize,
+    line: &[u8],
+) -> Result<Reading, Fault>
     requires fits { IsReading reading }
     requires before { before ≤ 1048576 }
     ensures gives { Gives (λ r. r) result (lined reading before line.now) }
