@@ -1,0 +1,13 @@
+use Rattle.script_lang.proofs.Blocks.{room_more, plans_stay, verdicts_more}
+use Rattle.script_lang.proofs.reading.add_verdicts.Goals as goal
+
+pub loop-verdict-preserved : goal.loop-verdict-preserved
+loop-verdict-preserved c =
+    let so_far = c.loop-verdict.invariant in
+    let one = c.in_ok-add_verdict.ensures.ok in
+    record {
+      is = verdicts_more c.args.script c.loop-verdict.script c.add_verdict.new.self c.args.link c.args.from c.args.verdicts.now c.loop-verdict.verdict-index _ c.loop-verdict-test.true so_far.is one;
+      link = rw one so_far.link;
+      place = rw one (plans_stay c.loop-verdict.script c.args.link c.args.from _ so_far.place);
+      room = rw one (room_more c.loop-verdict.script c.args.link c.args.from _ _ c.loop-verdict.verdict-index so_far.place so_far.room);
+    }

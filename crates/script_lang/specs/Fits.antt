@@ -1,0 +1,126 @@
+use Rattle.std.specs.Prelude.{◌≡◌, ℕ, ◌-◌, ◌≤◌, Bool, true, false, not, ◌&&◌, ◌||◌, ◌==◌, nat_le, Option, Some, None, List, [], ◌∷◌, length, sum_by, slice_get, IsTrue}
+use Rattle.std.specs.List.{list_all, list_any}
+use Rattle.std.specs.Str.{bytes_eq}
+use Rattle.linx_base.specs.declared.naming.Path.{Path}
+use Rattle.linx_base.specs.declared.naming.Path.TheVariants.{Local, Over}
+use Rattle.linx_base.specs.declared.identity.LinkNo.{LinkNo}
+use Rattle.linx_base.specs.declared.identity.NodeNo.{NodeNo}
+use Rattle.linx_base.specs.declared.framing.LinkDecl.{LinkDecl}
+use Rattle.linx_base.specs.declared.framing.Verdict.{Verdict}
+use Rattle.linx_base.specs.declared.framing.Verdict.TheVariants.{Deliver, Lose, Repeat, Swap}
+use Rattle.sigsel.specs.declared.filters.Sigsel.{Sigsel}
+use Rattle.sigsel.specs.declared.filters.Sigsel.TheVariants.{Any, Only, Not}
+use Rattle.script_lang.specs.declared.commands.Filling.{Filling}
+use Rattle.script_lang.specs.declared.commands.Command.{Command}
+use Rattle.script_lang.specs.declared.commands.Command.TheVariants.{Open, Close, Send, Forward, Recv, Hunt, Attach, Detach, Keep, Cut, Mend, Restart, Settle}
+use Rattle.script_lang.specs.declared.commands.ActorScript.{ActorScript}
+use Rattle.script_lang.specs.declared.script.Plans.{Plans}
+use Rattle.script_lang.specs.Parts.{ScriptParts, data_of}
+
+-- a number from 1 to the count
+abbrev pub is_numbered : ℕ → ℕ → Bool
+is_numbered count number = nat_le 1 number && nat_le number count
+
+-- the node is declared
+abbrev pub is_node : ScriptParts → NodeNo → Bool
+is_node s node = is_numbered (length s.names.nodes) node.0
+
+-- the link is declared
+abbrev pub is_link : ScriptParts → LinkNo → Bool
+is_link s link = is_numbered (length s.names.links) link.0
+
+-- a link has an end on the node
+abbrev pub joins : Option LinkDecl → NodeNo → Bool
+joins (Some decl) node = (decl.first.0 == node.0) || (decl.second.0 == node.0)
+joins None node = false
+
+-- the link is declared and has an end on the node
+abbrev pub has_end : ScriptParts → LinkNo → NodeNo → Bool
+has_end s link node = is_link s link && joins (slice_get s.links (link.0 - 1)) node
+
+-- a window of 1 to 256 and a piece of 64 to 8,192
+abbrev pub has_link_size : ℕ → ℕ → Bool
+has_link_size window piece = nat_le 1 window && nat_le window 256 && nat_le 64 piece && nat_le piece 8192
+
+-- two nodes, with a window and a piece in range
+abbrev pub is_link_shape : LinkDecl → Bool
+is_link_shape decl = not (decl.first.0 == decl.second.0) && has_link_size decl.window decl.piece
+
+-- the same, with both nodes declared
+abbrev pub fits_link : ℕ → LinkDecl → Bool
+fits_link nodes decl = is_numbered nodes decl.first.0 && (is_numbered nodes decl.second.0 && is_link_shape decl)
+
+-- an exchange is with a place from 1 to 9
+abbrev pub fits_verdict : Verdict → Bool
+fits_verdict Deliver = true
+fits_verdict Lose = true
+fits_verdict Repeat = true
+fits_verdict (Swap place) = nat_le 1 place && nat_le place 9
+
+-- at most 10,000 verdicts in each direction
+abbrev pub fits_plans : Plans → Bool
+fits_plans plans =
+    nat_le (length plans.from_first) 10000 && nat_le (length plans.from_second) 10000
+    && list_all fits_verdict plans.from_first && list_all fits_verdict plans.from_second
+
+-- a filter that lists numbers lists 1 to 64
+abbrev pub fits_filter : Sigsel → Bool
+fits_filter Any = true
+fits_filter (Only numbers) = nat_le 1 (length numbers) && nat_le (length numbers) 64
+fits_filter (Not numbers) = nat_le 1 (length numbers) && nat_le (length numbers) 64
+
+-- a path over a link goes over one with an end on the node
+abbrev pub fits_path : ScriptParts → NodeNo → Path → Bool
+fits_path s node (Local name) = true
+fits_path s node (Over link name) = has_end s link node
+
+-- at most so many data bytes
+abbrev pub fits_data : ℕ → Filling → Bool
+fits_data most bytes = nat_le (length (data_of bytes)) most
+
+-- a command of an actor on the node: what it names is declared, and its sizes are in range
+abbrev pub fits_command : ScriptParts → NodeNo → Command → Bool
+fits_command s node (Open name) = true
+fits_command s node Close = true
+fits_command s node (Send to number bytes) = fits_data 65532 bytes
+fits_command s node (Forward to) = true
+fits_command s node (Recv filter) = fits_filter filter
+fits_command s node (Hunt path number bytes) = fits_path s node path && fits_data 65532 bytes
+fits_command s node (Attach to r number bytes) = fits_data 65531 bytes
+fits_command s node (Detach r) = true
+fits_command s node (Keep name) = true
+fits_command s node (Cut link) = is_link s link
+fits_command s node (Mend link) = is_link s link
+fits_command s node (Restart other) = is_node s other
+fits_command s node (Settle link) = is_link s link
+
+-- an actor on a declared node with at most 20,000 commands
+abbrev pub fits_actor : ScriptParts → ActorScript → Bool
+fits_actor s actor = is_node s actor.node && nat_le (length actor.commands) 20000 && list_all (fits_command s actor.node) actor.commands
+
+-- the commands of all actors
+abbrev pub commands_of : List ActorScript → ℕ
+commands_of actors = sum_by (λ a. length a.commands) actors
+
+-- a name is among these
+abbrev pub is_among : List (List ℕ) → List ℕ → Bool
+is_among names name = list_any (λ other. bytes_eq other name) names
+
+-- no name stands twice
+abbrev pub are_distinct : List (List ℕ) → Bool
+are_distinct [] = true
+are_distinct (name ∷ names) = not (list_any (bytes_eq name) names) && are_distinct names
+
+-- what holds of every script
+pub record IsScript (s : ScriptParts) : Type 0 where
+  pub nodes : length s.names.nodes ≤ 16
+  pub node_names : are_distinct s.names.nodes ≡ true
+  pub links : length s.names.links ≤ 32
+  pub link_names : are_distinct s.names.links ≡ true
+  pub each_name : length s.links ≡ length s.names.links
+  pub each_link : list_all (fits_link (length s.names.nodes)) s.links ≡ true
+  pub each_plan : length s.plans ≡ length s.links
+  pub plans : list_all fits_plans s.plans ≡ true
+  pub actors : length s.actors ≤ 64
+  pub each_actor : list_all (fits_actor s) s.actors ≡ true
+  pub commands : commands_of s.actors ≤ 400000
