@@ -1,2 +1,7 @@
 pub mod Values
 pub mod Steps
+pub mod Blocks
+pub mod Texts
+pub mod Owners
+pub mod Histories
+pub mod Collected

@@ -27,7 +27,7 @@ fn nth(names: &NameList, number: u32) -> Option<&Name>
     }
 }
 
-fn write_name_or_mark(out: &mut Vec<u8>, name: Option<&Name>) -> Result<(), NoMemory>
+pub(crate) fn write_name_or_mark(out: &mut Vec<u8>, name: Option<&Name>) -> Result<(), NoMemory>
     ensures { OnOk result (out.new.items ≡ out.old.items ++ name_or_mark (option_copied name.entry)) }
 {
     match name {
