@@ -1,3 +1,4 @@
 pub mod Openings
 pub mod Positions
 pub mod LogLines
+pub mod Choices

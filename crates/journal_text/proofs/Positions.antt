@@ -3,7 +3,7 @@ use Rattle.std.proofs.Common.{◌≡◌, ◌≢◌, ℕ, zero, suc, ◌+◌, ◌
 use Rattle.std.specs.Prelude.{Option, IsSome}
 use Rattle.std.proofs.lemmas.Bool.{eq-eqb, ne_eqb, cases_eq}
 use Rattle.std.proofs.Common.{⊎_elim}
-use Rattle.std.proofs.Math.Nat.{sub-zero, sub_self}
+use Rattle.std.proofs.Math.Nat.{sub-zero}
 use Rattle.std.proofs.Math.Seq.{drop-length}
 use Rattle.journal.specs.declared.happenings.Step.{Step}
 use Rattle.journal.specs.Logs.{step_at}
@@ -21,6 +21,10 @@ first_steps_all s P k h = let e : suc (length P) - k ≡ 0 = omega arith in rw e
 first_steps_more : (s : Step) (P : List Step) (k : ℕ) → k ≤ length P → first_steps k (s ∷ P) ≡ first_steps k P
 first_steps_more s P k h = let e : suc (length P) - k ≡ suc (length P - k) = omega arith in rw e refl
 
+-- after all
+pub first_steps_done : (P : List Step) (k : ℕ) → k ≡ length P → first_steps k P ≡ P
+first_steps_done P k h = let e : length P - k ≡ 0 = omega arith in rw e refl
+
 -- one step more, if a step stands at the position
 pub first_steps_next : (P : List Step) (k : ℕ) (s : Step) → step_at P (k + 1) ≡ Some s → k < length P → first_steps (k + 1) P ≡ s ∷ first_steps k P
 first_steps_next [] k s is h = absurd (omega arith)
@@ -31,7 +35,7 @@ first_steps_next (t ∷ P) k s is h = ⊎_elim
         let here : k ≤ length P = omega arith in
         let all : k ≡ length P = omega arith in
         first_steps_all t P (k + 1) last ∙ ap (λ (u : Step). u ∷ P) same
-        ∙ ap (λ (Q : List Step). s ∷ Q) (sym (first_steps_more t P k here ∙ whole P k all)))
+        ∙ ap (λ (Q : List Step). s ∷ Q) (sym (first_steps_more t P k here ∙ first_steps_done P k all)))
     (λ (other : k + 1 ≡ suc (length P) → ⊥).
         let found : step_at P (k + 1) ≡ Some s = rw (ne_eqb (k + 1) (suc (length P)) other) at is in
         let less : k < length P = omega arith in
@@ -40,9 +44,6 @@ first_steps_next (t ∷ P) k s is h = ⊎_elim
         first_steps_more t P (k + 1) now ∙ first_steps_next P k s found less
         ∙ ap (λ (Q : List Step). s ∷ Q) (sym (first_steps_more t P k before)))
     (cases_eq (k + 1) (suc (length P)))
-  where
-    whole : (P : List Step) (k : ℕ) → k ≡ length P → first_steps k P ≡ P
-    whole P k h = let e : length P - k ≡ 0 = omega arith in rw e refl
 
 -- a step stands at each position
 pub step_at_stands : (P : List Step) (k : ℕ) → k < length P → step_at P (k + 1) ≡ None → ⊥
@@ -58,7 +59,3 @@ step_at_stands (t ∷ P) k h is = ⊎_elim
 -- before any step
 pub first_steps_none : (P : List Step) → first_steps 0 P ≡ []
 first_steps_none P = ap (λ (n : ℕ). drop n P) (sub-zero (length P)) ∙ drop-length P
-
--- after all
-pub first_steps_whole : (P : List Step) → first_steps (length P) P ≡ P
-first_steps_whole P = ap (λ (n : ℕ). drop n P) (sub_self (length P))

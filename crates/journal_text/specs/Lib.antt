@@ -5,3 +5,4 @@ pub mod Texts
 pub mod Owners
 pub mod Histories
 pub mod Collected
+pub mod Text

@@ -12,7 +12,7 @@ ghost use Rattle.journal_text.specs.Collected.{Collects};
 
 use crate::entries::{concerns, write_effect_log, write_head_log};
 use crate::logs::name_of;
-use crate::texts::{Texts, append_at};
+use crate::texts::{Texts, append_at, kept_at};
 use journal::{Effect, Head, Journal, Step};
 use linx_base::{Inc, Name, Names, NoMemory, TryCopy};
 use std::alloc::Global;
@@ -159,5 +159,19 @@ impl Logs {
         keep_opened(&mut self.opened, &step.head, effects)?;
         add_head(alloc, &mut self.lines, journal, owner, &step.head)?;
         add_effects(alloc, &mut self.lines, journal.names(), effects)
+    }
+
+    /// The name that the incarnation was opened with.
+    pub(crate) fn name(&self, inc: Inc) -> Option<&Name>
+        ensures { option_copied result ≡ get nat_eq self.now.opened inc.0 }
+    {
+        self.opened.get(&inc.0)
+    }
+
+    /// The lines of its log.
+    pub(crate) fn lines(&self, inc: Inc) -> &[u8]
+        ensures { result.now ≡ kept self.now.lines inc.0 }
+    {
+        kept_at(&self.lines, inc.0)
     }
 }

@@ -1,6 +1,7 @@
 //! The printed text of a journal: the lines of a step, and the log of an incarnation.
 #![tactic(auto)]
 
+mod all_logs;
 mod collecting;
 mod digits;
 mod effects;
@@ -14,5 +15,6 @@ mod steps;
 mod texts;
 mod words;
 
+pub use all_logs::write_logs;
 pub use logs::write_log;
-pub use steps::write_step;
+pub use steps::{write_count, write_step};

@@ -1,7 +1,8 @@
 //! The lines of a step.
-ghost use Rattle.std.specs.Prelude.{◌≡◌, ◌++◌, codes, decimal, OnOk, OnErr};
+ghost use Rattle.std.specs.Prelude.{◌≡◌, ◌++◌, codes, decimal, length, OnOk, OnErr};
 ghost use Rattle.journal_text.specs.Values.{maker_text};
 ghost use Rattle.journal_text.specs.Steps.{head_text, step_text, step_text_at};
+ghost use Rattle.journal_text.specs.Text.{count_text};
 
 use crate::digits::{write_bytes, write_number};
 use crate::effects::write_effects;
@@ -53,5 +54,19 @@ pub fn write_step(out: &mut Vec<u8>, journal: &Journal, k: u64) -> Result<(), No
     let mut lines = Vec::with_capacity(*out.allocator(), LINES_ROOM)?;
     write_lines(&mut lines, journal.names(), k, step)?;
     out.extend_from_slice(&lines)?;
+    Ok(())
+}
+
+/// Appends the line `journal N` with the number of steps. A refusal leaves the buffer as it was.
+#[tactic(auto, unfolding(crate::specs::Text::count_text))]
+pub fn write_count(out: &mut Vec<u8>, journal: &Journal) -> Result<(), NoMemory>
+    ensures ok { OnOk result (out.new.items ≡ out.old.items ++ count_text (length journal.now.log.steps)) }
+    ensures err { OnErr result (out.new.items ≡ out.old.items) }
+{
+    let mut line = Vec::new(*out.allocator());
+    write_bytes(&mut line, b"journal ")?;
+    write_number(&mut line, journal.len())?;
+    write_bytes(&mut line, b"\n")?;
+    out.extend_from_slice(&line)?;
     Ok(())
 }
