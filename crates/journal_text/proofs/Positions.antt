@@ -30,19 +30,19 @@ pub first_steps_next : (P : List Step) (k : ℕ) (s : Step) → step_at P (k + 1
 first_steps_next [] k s is h = absurd (omega arith)
 first_steps_next (t ∷ P) k s is h = ⊎_elim
     (λ (last : k + 1 ≡ suc (length P)).
-        let found : Some t ≡ Some s = rw (eq-eqb (k + 1) (suc (length P)) last) at is in
-        let same : t ≡ s = cc in
-        let here : k ≤ length P = omega arith in
-        let all : k ≡ length P = omega arith in
-        first_steps_all t P (k + 1) last ∙ ap (λ (u : Step). u ∷ P) same
-        ∙ ap (λ (Q : List Step). s ∷ Q) (sym (first_steps_more t P k here ∙ first_steps_done P k all)))
+    let found : Some t ≡ Some s = rw (eq-eqb (k + 1) (suc (length P)) last) at is in
+    let same : t ≡ s = cc in
+    let here : k ≤ length P = omega arith in
+    let all : k ≡ length P = omega arith in
+    first_steps_all t P (k + 1) last ∙ ap (λ (u : Step). u ∷ P) same
+    ∙ ap (λ (Q : List Step). s ∷ Q) (sym (first_steps_more t P k here ∙ first_steps_done P k all)))
     (λ (other : k + 1 ≡ suc (length P) → ⊥).
-        let found : step_at P (k + 1) ≡ Some s = rw (ne_eqb (k + 1) (suc (length P)) other) at is in
-        let less : k < length P = omega arith in
-        let now : k + 1 ≤ length P = omega arith in
-        let before : k ≤ length P = omega arith in
-        first_steps_more t P (k + 1) now ∙ first_steps_next P k s found less
-        ∙ ap (λ (Q : List Step). s ∷ Q) (sym (first_steps_more t P k before)))
+    let found : step_at P (k + 1) ≡ Some s = rw (ne_eqb (k + 1) (suc (length P)) other) at is in
+    let less : k < length P = omega arith in
+    let now : k + 1 ≤ length P = omega arith in
+    let before : k ≤ length P = omega arith in
+    first_steps_more t P (k + 1) now ∙ first_steps_next P k s found less
+    ∙ ap (λ (Q : List Step). s ∷ Q) (sym (first_steps_more t P k before)))
     (cases_eq (k + 1) (suc (length P)))
 
 -- a step stands at each position
@@ -50,10 +50,10 @@ pub step_at_stands : (P : List Step) (k : ℕ) → k < length P → step_at P (k
 step_at_stands [] k h is = absurd (omega arith)
 step_at_stands (t ∷ P) k h is = ⊎_elim
     (λ (last : k + 1 ≡ suc (length P)).
-        let found : Some t ≡ None = rw (eq-eqb (k + 1) (suc (length P)) last) at is in cc)
+    let found : Some t ≡ None = rw (eq-eqb (k + 1) (suc (length P)) last) at is in cc)
     (λ (other : k + 1 ≡ suc (length P) → ⊥).
-        let found : step_at P (k + 1) ≡ None = rw (ne_eqb (k + 1) (suc (length P)) other) at is in
-        step_at_stands P k (omega arith) found)
+    let found : step_at P (k + 1) ≡ None = rw (ne_eqb (k + 1) (suc (length P)) other) at is in
+    step_at_stands P k (omega arith) found)
     (cases_eq (k + 1) (suc (length P)))
 
 -- before any step

@@ -29,12 +29,7 @@ fn collect(alloc: Global, journal: &Journal) -> Result<Logs, NoMemory>
 }
 
 #[tactic(auto, unfolding(crate::specs::Blocks::log_text))]
-fn write_block(
-    out: &mut Vec<u8>,
-    journal: &Journal,
-    logs: &Logs,
-    inc: Inc,
-) -> Result<(), NoMemory>
+fn write_block(out: &mut Vec<u8>, journal: &Journal, logs: &Logs, inc: Inc) -> Result<(), NoMemory>
     requires { Collects journal.now.log.names journal.now.log.steps journal.now.log.steps logs.now }
     ensures { OnOk result (out.new.items ≡ out.old.items ++ log_text journal.now.log inc) }
 {
@@ -78,7 +73,12 @@ fn write_blocks(out: &mut Vec<u8>, journal: &Journal, logs: &Logs) -> Result<(),
     ensures { OnOk result (out.new.items ≡ out.old.items ++ logs_text journal.now.log) }
 {
     for done in 0..journal.len() {
-        write_opened(out, journal, logs, step_after(journal, done).effects.as_slice())?;
+        write_opened(
+            out,
+            journal,
+            logs,
+            step_after(journal, done).effects.as_slice(),
+        )?;
     }
     Ok(())
 }

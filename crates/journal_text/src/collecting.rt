@@ -26,11 +26,7 @@ pub(crate) struct Logs {
 }
 
 /// Keeps the name of an incarnation, in the place of an earlier one.
-fn keep_name(
-    opened: &mut HashMap<u64, Name>,
-    inc: Inc,
-    name: Option<&Name>,
-) -> Result<(), NoMemory>
+fn keep_name(opened: &mut HashMap<u64, Name>, inc: Inc, name: Option<&Name>) -> Result<(), NoMemory>
     ensures { OnOk result ((q : ℕ) → get nat_eq opened.new q
         ≡ (if q == inc.0 then option_copied name.entry else get nat_eq opened.old q)) }
 {

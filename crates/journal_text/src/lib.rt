@@ -18,3 +18,8 @@ mod words;
 pub use all_logs::write_logs;
 pub use logs::write_log;
 pub use steps::{write_count, write_step};
+
+#[cfg(test)]
+mod log_tests;
+#[cfg(test)]
+mod tests;

@@ -19,11 +19,7 @@ pub(crate) struct Owners {
     closed: HashSet<u64>,
 }
 
-fn note_opening(
-    last: &mut HashMap<u32, Inc>,
-    actor: u32,
-    effect: &Effect,
-) -> Result<(), NoMemory>
+fn note_opening(last: &mut HashMap<u32, Inc>, actor: u32, effect: &Effect) -> Result<(), NoMemory>
     ensures { OnOk result ((q : ℕ) → get nat_eq last.new q
         ≡ (if actor == q then last_opened (get nat_eq last.old q) (effect.now ∷ []) else get nat_eq last.old q)) }
 {

@@ -12,5 +12,5 @@ returns c =
     let all : c.loop-done.done ≡ length S = omega arith in
     c.loop-done.invariant
     ∙ ap (λ (P : List Step). c.args.out.now.items ++ flat_map (opened_log c.args.journal.now.log) (effects_of P))
-      (first_steps_done S c.loop-done.done all)
+    (first_steps_done S c.loop-done.done all)
     ∙ ap (λ (text : List ℕ). c.args.out.now.items ++ text) (logs_text-effects c.args.journal.now.log)
