@@ -1,0 +1,24 @@
+-- What a read answered.
+use Rattle.std.specs.Prelude.{ℕ}
+use Rattle.linx_outside.specs.declared.reading.ReadAnswer.{ReadAnswer}
+use Rattle.linx_outside.specs.declared.reading.ReadAnswer.TheVariants.{Got, Failed}
+
+-- if bytes were given, this holds of their number
+abbrev pub IfGot : ReadAnswer → (ℕ → Type 0) → Type 0
+IfGot (Got count) holds = holds count
+IfGot Failed holds = Unit {0}
+
+-- bytes were given
+abbrev pub IsGot : ReadAnswer → Type 0
+IsGot (Got count) = Unit {0}
+IsGot Failed = ⊥
+
+-- the read failed
+abbrev pub IsReadFailed : ReadAnswer → Type 0
+IsReadFailed (Got count) = ⊥
+IsReadFailed Failed = Unit {0}
+
+-- if the read failed, this holds
+abbrev pub IfReadFailed : ReadAnswer → Type 0 → Type 0
+IfReadFailed (Got count) holds = Unit {0}
+IfReadFailed Failed holds = holds
