@@ -2,3 +2,4 @@ pub mod Openings
 pub mod Positions
 pub mod LogLines
 pub mod Choices
+pub mod StepLines

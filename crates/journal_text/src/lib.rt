@@ -13,11 +13,13 @@ mod peers;
 mod reading;
 mod steps;
 mod texts;
+mod whole_text;
 mod words;
 
 pub use all_logs::write_logs;
 pub use logs::write_log;
 pub use steps::{write_count, write_step};
+pub use whole_text::text;
 
 #[cfg(test)]
 mod log_tests;

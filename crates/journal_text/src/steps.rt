@@ -35,7 +35,12 @@ fn write_first_line(
 }
 
 #[tactic(auto, unfolding(crate::specs::Steps::step_text))]
-fn write_lines(out: &mut Vec<u8>, names: &Names, position: u64, step: &Step) -> Result<(), NoMemory>
+pub(crate) fn write_lines(
+    out: &mut Vec<u8>,
+    names: &Names,
+    position: u64,
+    step: &Step,
+) -> Result<(), NoMemory>
     ensures { OnOk result (out.new.items ≡ out.old.items ++ step_text names.now position step.now) }
 {
     write_first_line(out, names, position, step.by, &step.head)?;

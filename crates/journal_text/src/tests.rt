@@ -12,7 +12,7 @@ pub(crate) const A: Inc = Inc(4_294_967_297);
 
 pub(crate) const B: Inc = Inc(4_294_967_298);
 
-const C: Inc = Inc(4_294_967_299);
+const C: Peer = Peer::Here(Inc(4_294_967_299));
 
 const FAR: Peer = Peer::There {
     link: LinkNo(1),
@@ -20,6 +20,13 @@ const FAR: Peer = Peer::There {
     inc: Inc(8_589_934_593),
 };
 
+const NODE: NodeNo = NodeNo(1);
+
+const LINK: LinkNo = LinkNo(1);
+
+const SESSION: Session = Session(4_294_967_297);
+
+/// A journal with node n and link l.
 pub(crate) fn journal(alloc: Global) -> Result<Journal, Fail> {
     let mut nodes = NameList::new(alloc);
     nodes.push(Name::of(alloc, b"n")?)?;
@@ -50,46 +57,164 @@ pub(crate) fn note(alloc: Global, number: u32, bytes: &[u8]) -> Result<SigNote, 
     })
 }
 
-pub(crate) fn only(alloc: Global, numbers: &[u32]) -> Result<Sigsel, NoMemory> {
-    Ok(Sigsel::Only(Numbers::of(Vec::from_slice(alloc, numbers)?)))
+pub(crate) fn numbers(alloc: Global, numbers: &[u32]) -> Result<Numbers, NoMemory> {
+    Ok(Numbers::of(Vec::from_slice(alloc, numbers)?))
 }
 
-/// What is printed of a journal with one step.
-fn printed(alloc: Global, head: Head, effects: Vec<Effect>) -> Result<Vec<u8>, Fail> {
+pub(crate) fn local(alloc: Global) -> Result<Path, Fail> {
+    Ok(Path::Local(Name::of(alloc, b"b")?))
+}
+
+fn over(alloc: Global) -> Result<Path, Fail> {
+    Ok(Path::Over {
+        link: LINK,
+        name: Name::of(alloc, b"b")?,
+    })
+}
+
+/// Heads of an actor's own commands.
+fn command(alloc: Global, k: usize) -> Result<Head, Fail> {
+    Ok(match k {
+        0 => Head::Open(Name::of(alloc, b"a")?),
+        1 => Head::Close,
+        2 => Head::Send(Peer::Here(A), note(alloc, 5, &[])?, SentTo::Queued),
+        3 => Head::Send(FAR, note(alloc, 9, &[0x5a; 32])?, SentTo::Link),
+        4 => Head::Send(C, note(alloc, 9, &[0x5a; 33])?, SentTo::Dead),
+        5 => Head::Take(
+            Sigsel::Only(numbers(alloc, &[7, 8])?),
+            ItemAt { step: 6, place: 2 },
+        ),
+        6 => Head::TakeNone(Sigsel::Not(numbers(alloc, &[8])?)),
+        7 => Head::Waits(Sigsel::Any),
+        8 => Head::Hunt(over(alloc)?, note(alloc, 251, &[])?),
+        9 => Head::Hunt(local(alloc)?, note(alloc, 251, &[0xaa])?),
+        10 => Head::Attach(FAR, note(alloc, 252, &[])?),
+        11 => Head::Detach(AttRef(9), Detached::Pending),
+        12 => Head::Detach(AttRef(2), Detached::Queued),
+        13 => Head::Detach(AttRef(2), Detached::None),
+        _ => Head::Ended,
+    })
+}
+
+/// What is printed of them.
+const COMMANDS: [&str; 15] = [
+    "open a",
+    "close",
+    "send 1.1 5 - queued",
+    "send l:1.1:2.1 9 5a5a5a5a5a5a5a5a5a5a5a5a5a5a5a5a5a5a5a5a5a5a5a5a5a5a5a5a5a5a5a5a link",
+    "send 1.3 9 33:2bde9738e693aaad3d56d9c2e03bad27e611504d714f63d0a7263d2c4b2e4816 dead",
+    "take only:7,8 6.2",
+    "none not:8",
+    "waits any",
+    "hunt l/b 251 -",
+    "hunt b 251 aa",
+    "attach l:1.1:2.1 252 -",
+    "detach @9 pending",
+    "detach @2 queued",
+    "detach @2 none",
+    "ended",
+];
+
+/// Heads of links, nodes and refusals.
+fn happening(k: usize) -> Head {
+    match k {
+        0 => Head::Cut(LINK),
+        1 => Head::Mend(LinkNo(2)),
+        2 => Head::Settle(LinkNo(0)),
+        3 => Head::Restart(NODE),
+        4 => Head::Restart(NodeNo(2)),
+        5 => Head::Wire(LINK, Side::First, Verdict::Deliver),
+        6 => Head::Wire(LINK, Side::Second, Verdict::Lose),
+        7 => Head::Wire(LINK, Side::First, Verdict::Repeat),
+        8 => Head::Wire(LINK, Side::First, Verdict::Swap(1)),
+        9 => Head::Wire(LINK, Side::First, Verdict::Swap(9)),
+        10 => Head::Wire(LINK, Side::First, Verdict::Swap(10)),
+        11 => Head::Tick(LINK, Side::Second),
+        12 => Head::Refused(Refusal::NotOpen { at: 3 }),
+        13 => Head::Refused(Refusal::IsOpen { inc: A }),
+        14 => Head::Refused(Refusal::NoPeer),
+        15 => Head::Refused(Refusal::NoSignal),
+        _ => Head::Refused(Refusal::NoRef),
+    }
+}
+
+/// What is printed of them.
+const HAPPENINGS: [&str; 17] = [
+    "cut l",
+    "mend ?",
+    "settle ?",
+    "restart n",
+    "restart ?",
+    "wire l > deliver",
+    "wire l < lose",
+    "wire l > repeat",
+    "wire l > swap1",
+    "wire l > swap9",
+    "wire l > swap?",
+    "tick l <",
+    "refused not-open",
+    "refused is-open",
+    "refused no-peer",
+    "refused no-signal",
+    "refused no-ref",
+];
+
+fn effect(alloc: Global, k: usize) -> Result<Effect, Fail> {
+    Ok(match k {
+        0 => Effect::Opened(A),
+        1 => Effect::Closed(B),
+        2 => Effect::Arrived(A, FAR, note(alloc, 1, &[0, 255])?),
+        3 => Effect::Found(A, C, note(alloc, 251, &[])?, 3),
+        4 => Effect::Notified(A, C, note(alloc, 252, &[0])?, AttRef(9), Reason::Closed),
+        5 => Effect::Notified(A, FAR, note(alloc, 252, &[1])?, AttRef(10), Reason::Lost),
+        6 => Effect::Notified(A, C, note(alloc, 252, &[2])?, AttRef(11), Reason::Dead),
+        7 => Effect::Met(NODE, FAR, Name::of(alloc, b"b")?),
+        8 => Effect::Gone(NODE, FAR),
+        9 => Effect::Up(NODE, LINK, SESSION, Session(8_589_934_594)),
+        _ => Effect::Down(NODE, LINK, SESSION),
+    })
+}
+
+/// What is printed of them.
+const EFFECTS: [&str; 11] = [
+    "opened 1.1",
+    "closed 1.2",
+    "arrived 1.1 l:1.1:2.1 1 00ff",
+    "found 1.1 1.3 251 - @3",
+    "notified 1.1 1.3 252 00 @9 closed",
+    "notified 1.1 l:1.1:2.1 252 01 @10 lost",
+    "notified 1.1 1.3 252 02 @11 dead",
+    "met n l:1.1:2.1 b",
+    "gone n l:1.1:2.1",
+    "up n l 1.1 2.2",
+    "down n l 1.1",
+];
+
+/// Whether these lines are printed of a journal with this step.
+fn prints(alloc: Global, head: Head, effects: Vec<Effect>, want: &[u8]) -> Result<bool, Fail> {
     let mut one = journal(alloc)?;
     add(&mut one, 1, head, effects)?;
     let mut out = Vec::new(alloc);
     write_step(&mut out, &one, 1)?;
-    Ok(out)
+    Ok(out.as_slice() == want)
+}
+
+fn line(alloc: Global, front: &[u8], text: &str) -> Result<Vec<u8>, Fail> {
+    let mut line = Vec::from_slice(alloc, front)?;
+    line.extend_from_slice(text.as_bytes())?;
+    line.push(b'\n')?;
+    Ok(line)
 }
 
 #[test]
-fn heads_without_signals(rt: HostRuntime) -> Result<(), Fail> {
+fn heads_of_commands(rt: HostRuntime) -> Result<(), Fail> {
     let alloc = rt.alloc();
-    let at = ItemAt { step: 6, place: 2 };
-    let not_8 = Sigsel::Not(Numbers::of(Vec::from_slice(alloc, &[8u32])?));
-    let cases = [
-        (Head::Open(Name::of(alloc, b"a")?), "1 A1 open a\n"),
-        (Head::Close, "1 A1 close\n"),
-        (
-            Head::Take(only(alloc, &[7, 8])?, at),
-            "1 A1 take only:7,8 6.2\n",
-        ),
-        (Head::TakeNone(not_8), "1 A1 none not:8\n"),
-        (Head::Waits(Sigsel::Any), "1 A1 waits any\n"),
-        (
-            Head::Detach(AttRef(9), Detached::Pending),
-            "1 A1 detach @9 pending\n",
-        ),
-        (Head::Cut(LinkNo(1)), "1 A1 cut l\n"),
-        (Head::Mend(LinkNo(2)), "1 A1 mend ?\n"),
-        (Head::Settle(LinkNo(0)), "1 A1 settle ?\n"),
-        (Head::Restart(NodeNo(1)), "1 A1 restart n\n"),
-        (Head::Ended, "1 A1 ended\n"),
-    ];
-    for (head, want) in cases {
-        let out = printed(alloc, head, Vec::new(alloc))?;
-        assert!(rt; out.as_slice() == want.as_bytes(), "{want}");
+    for (k, want) in COMMANDS.iter().enumerate() {
+        let want_line = line(alloc, b"1 A1 ", want)?;
+        assert!(rt;
+            prints(alloc, command(alloc, k)?, Vec::new(alloc), &want_line)?,
+            "{want}"
+        );
     }
     Ok(())
 }
@@ -97,121 +222,23 @@ fn heads_without_signals(rt: HostRuntime) -> Result<(), Fail> {
 #[test]
 fn heads_of_links_and_refusals(rt: HostRuntime) -> Result<(), Fail> {
     let alloc = rt.alloc();
-    let link = LinkNo(1);
-    let cases = [
-        (
-            Head::Wire(link, Side::First, Verdict::Deliver),
-            "1 A1 wire l > deliver\n",
-        ),
-        (
-            Head::Wire(link, Side::Second, Verdict::Lose),
-            "1 A1 wire l < lose\n",
-        ),
-        (
-            Head::Wire(link, Side::First, Verdict::Repeat),
-            "1 A1 wire l > repeat\n",
-        ),
-        (
-            Head::Wire(link, Side::First, Verdict::Swap(9)),
-            "1 A1 wire l > swap9\n",
-        ),
-        (
-            Head::Wire(link, Side::First, Verdict::Swap(10)),
-            "1 A1 wire l > swap?\n",
-        ),
-        (Head::Tick(link, Side::Second), "1 A1 tick l <\n"),
-        (
-            Head::Refused(Refusal::NotOpen { at: 3 }),
-            "1 A1 refused not-open\n",
-        ),
-        (
-            Head::Refused(Refusal::IsOpen { inc: A }),
-            "1 A1 refused is-open\n",
-        ),
-        (Head::Refused(Refusal::NoPeer), "1 A1 refused no-peer\n"),
-        (Head::Refused(Refusal::NoSignal), "1 A1 refused no-signal\n"),
-        (Head::Refused(Refusal::NoRef), "1 A1 refused no-ref\n"),
-        (
-            Head::Detach(AttRef(2), Detached::Queued),
-            "1 A1 detach @2 queued\n",
-        ),
-        (
-            Head::Detach(AttRef(2), Detached::None),
-            "1 A1 detach @2 none\n",
-        ),
-    ];
-    for (head, want) in cases {
-        let out = printed(alloc, head, Vec::new(alloc))?;
-        assert!(rt; out.as_slice() == want.as_bytes(), "{want}");
+    for (k, want) in HAPPENINGS.iter().enumerate() {
+        let want_line = line(alloc, b"1 A1 ", want)?;
+        assert!(rt;
+            prints(alloc, happening(k), Vec::new(alloc), &want_line)?,
+            "{want}"
+        );
     }
     Ok(())
 }
 
 #[test]
-fn heads_with_signals(rt: HostRuntime) -> Result<(), Fail> {
+fn effects_of_a_step(rt: HostRuntime) -> Result<(), Fail> {
     let alloc = rt.alloc();
-    let over = Path::Over {
-        link: LinkNo(1),
-        name: Name::of(alloc, b"b")?,
-    };
-    let local = Path::Local(Name::of(alloc, b"b")?);
-    let cases = [
-        (
-            Head::Send(Peer::Here(A), note(alloc, 5, &[])?, SentTo::Queued),
-            "1 A1 send 1.1 5 - queued\n",
-        ),
-        (
-            Head::Send(FAR, note(alloc, 9, &[0x5a; 32])?, SentTo::Link),
-            "1 A1 send l:1.1:2.1 9 5a5a5a5a5a5a5a5a5a5a5a5a5a5a5a5a5a5a5a5a5a5a5a5a5a5a5a5a5a5a5a5a link\n",
-        ),
-        (
-            Head::Send(FAR, note(alloc, 9, &[0x5a; 33])?, SentTo::Dead),
-            "1 A1 send l:1.1:2.1 9 33:2bde9738e693aaad3d56d9c2e03bad27e611504d714f63d0a7263d2c4b2e4816 dead\n",
-        ),
-        (
-            Head::Hunt(over, note(alloc, 251, &[])?),
-            "1 A1 hunt l/b 251 -\n",
-        ),
-        (
-            Head::Hunt(local, note(alloc, 251, &[0xaa])?),
-            "1 A1 hunt b 251 aa\n",
-        ),
-        (
-            Head::Attach(FAR, note(alloc, 252, &[])?),
-            "1 A1 attach l:1.1:2.1 252 -\n",
-        ),
-    ];
-    for (head, want) in cases {
-        let out = printed(alloc, head, Vec::new(alloc))?;
-        assert!(rt; out.as_slice() == want.as_bytes(), "{want}");
+    for (k, want) in EFFECTS.iter().enumerate() {
+        let want_line = line(alloc, b"1 A1 close\n+ ", want)?;
+        let effects = vec![in alloc; effect(alloc, k)?]?;
+        assert!(rt; prints(alloc, Head::Close, effects, &want_line)?, "{want}");
     }
-    Ok(())
-}
-
-#[test]
-fn effects_in_their_order(rt: HostRuntime) -> Result<(), Fail> {
-    let alloc = rt.alloc();
-    let (node, link) = (NodeNo(1), LinkNo(1));
-    let (one, two) = (Session(4_294_967_297), Session(8_589_934_594));
-    let gone = Peer::Here(C);
-    let effects = vec![in alloc;
-        Effect::Opened(A),
-        Effect::Closed(C),
-        Effect::Arrived(A, FAR, note(alloc, 1, &[0, 255])?),
-        Effect::Found(A, gone, note(alloc, 251, &[])?, 3),
-        Effect::Notified(A, gone, note(alloc, 252, &[0])?, AttRef(9), Reason::Closed),
-        Effect::Notified(A, FAR, note(alloc, 252, &[1])?, AttRef(10), Reason::Lost),
-        Effect::Notified(A, gone, note(alloc, 252, &[2])?, AttRef(11), Reason::Dead),
-        Effect::Met(node, FAR, Name::of(alloc, b"b")?),
-        Effect::Gone(node, FAR),
-        Effect::Up(node, link, one, two),
-        Effect::Down(node, link, one),
-    ]?;
-    let want = "1 A1 close\n+ opened 1.1\n+ closed 1.3\n+ arrived 1.1 l:1.1:2.1 1 00ff\n\
-        + found 1.1 1.3 251 - @3\n+ notified 1.1 1.3 252 00 @9 closed\n\
-        + notified 1.1 l:1.1:2.1 252 01 @10 lost\n+ notified 1.1 1.3 252 02 @11 dead\n\
-        + met n l:1.1:2.1 b\n+ gone n l:1.1:2.1\n+ up n l 1.1 2.2\n+ down n l 1.1\n";
-    let out = printed(alloc, Head::Close, effects)?;
-    assert!(rt; out.as_slice() == want.as_bytes());
     Ok(())
 }
