@@ -1,0 +1,108 @@
+-- The log of an incarnation.
+use Rattle.std.specs.Prelude.{ℕ, suc, zero, ◌/◌, ◌++◌, Bool, false, List, [], ◌∷◌, flat_map, codes, slice_get, Option, Some, None, if◌then◌else◌}
+use Rattle.std.specs.List.{list_any}
+use Rattle.linx_base.specs.declared.identity.Inc.{Inc}
+use Rattle.linx_base.specs.declared.identity.ItemAt.{ItemAt}
+use Rattle.linx_base.specs.declared.naming.Names.{Names}
+use Rattle.linx_base.specs.Peers.{same_inc}
+use Rattle.journal.specs.declared.heads.Head.{Head}
+use Rattle.journal.specs.declared.heads.Head.TheVariants.{Open, Send, Take, TakeNone, Hunt, Attach, Detach}
+use Rattle.journal.specs.declared.happenings.Effect.{Effect}
+use Rattle.journal.specs.declared.happenings.Effect.TheVariants.{Opened, Closed, Arrived, Found, Notified}
+use Rattle.journal.specs.declared.happenings.Step.{Step}
+use Rattle.journal.specs.Logs.{Log, step_at}
+use Rattle.journal.specs.History.{endpoint_by, openings}
+use Rattle.journal.specs.Traffic.{is_endpoint}
+use Rattle.journal_text.specs.Values.{halves_text, name_or_mark, node_text, peer_signal_text, path_text, signal_text, reason_text, sent_text, detached_text}
+
+-- the effect opens this incarnation
+abbrev pub opens : Inc → Effect → Bool
+opens i (Opened j) = same_inc i j
+opens i _ = false
+
+-- the name in the head of an opening
+abbrev pub name_in : Head → Option (List ℕ)
+name_in (Open name) = Some name
+name_in _ = None
+
+-- the name that an incarnation was opened with
+abbrev pub opening_name : List Step → Inc → Option (List ℕ)
+opening_name [] i = None
+opening_name (s ∷ P) i = if list_any (opens i) s.effects then name_in s.head else opening_name P i
+
+-- the first line of a log: the incarnation, its name and its node
+unfoldable pub title_text : Names → Inc → Option (List ℕ) → List ℕ
+title_text names i name =
+    codes "log " ++ halves_text i.0 ++ codes " " ++ name_or_mark name ++ codes " "
+    ++ node_text names (i.0 / 4294967296) ++ codes "\n"
+
+-- the incarnation whose log has a line of the effect: the one that something came to, or that closed
+abbrev pub concerned : Effect → Option Inc
+concerned (Closed i) = Some i
+concerned (Arrived i peer note) = Some i
+concerned (Found i peer note hunt) = Some i
+concerned (Notified i peer note reference reason) = Some i
+concerned _ = None
+
+-- that line
+unfoldable pub effect_log : Names → Effect → List ℕ
+effect_log names (Closed i) = codes "closed\n"
+effect_log names (Arrived i peer note) = codes "arrived " ++ peer_signal_text names peer note ++ codes "\n"
+effect_log names (Found i peer note hunt) = codes "found " ++ peer_signal_text names peer note ++ codes "\n"
+effect_log names (Notified i peer note reference reason) =
+    codes "notified " ++ peer_signal_text names peer note ++ codes " " ++ reason_text reason ++ codes "\n"
+effect_log names _ = []
+
+-- the effect at a place, from 1
+abbrev pub nth_effect : ℕ → Option Step → Option Effect
+nth_effect place None = None
+nth_effect zero (Some s) = None
+nth_effect (suc k) (Some s) = slice_get s.effects k
+
+-- the effect at an item's position
+abbrev pub effect_at : List Step → ItemAt → Option Effect
+effect_at P at = nth_effect at.place (step_at P at.step)
+
+-- the sender and the content of an item; `?` where no item is there
+unfoldable pub item_text : Names → Option Effect → List ℕ
+item_text names (Some (Arrived i peer note)) = peer_signal_text names peer note
+item_text names (Some (Found i peer note hunt)) = peer_signal_text names peer note
+item_text names (Some (Notified i peer note reference reason)) = peer_signal_text names peer note
+item_text names _ = codes "?"
+
+-- the line that a head makes in the log of the maker's endpoint, in a journal with these steps
+unfoldable pub head_log : Names → List Step → Head → List ℕ
+head_log names steps (Send peer note answer) =
+    codes "sent " ++ peer_signal_text names peer note ++ codes " " ++ sent_text answer ++ codes "\n"
+head_log names steps (Take filter at) = codes "took " ++ item_text names (effect_at steps at) ++ codes "\n"
+head_log names steps (TakeNone filter) = codes "none\n"
+head_log names steps (Hunt path note) =
+    codes "hunt " ++ path_text names path ++ codes " " ++ signal_text note ++ codes "\n"
+head_log names steps (Attach peer note) = codes "attach " ++ peer_signal_text names peer note ++ codes "\n"
+head_log names steps (Detach reference answer) = codes "detach " ++ detached_text answer ++ codes "\n"
+head_log names steps _ = []
+
+-- a line, if it is for the log of this incarnation
+abbrev pub if_for : Inc → Option Inc → List ℕ → List ℕ
+if_for i owner line = if is_endpoint i owner then line else []
+
+-- the lines of some effects in the log of an incarnation
+abbrev pub effect_logs : Names → Inc → List Effect → List ℕ
+effect_logs names i effects = flat_map (λ e. if_for i (concerned e) (effect_log names e)) effects
+
+-- the lines in the log of an incarnation that the steps P of a journal with these steps make: from
+-- each step that of its head, where the maker's endpoint is the incarnation, and those of its effects
+unfoldable pub log_lines : Names → List Step → List Step → Inc → List ℕ
+log_lines names steps [] i = []
+log_lines names steps (s ∷ P) i =
+    log_lines names steps P i ++ if_for i (endpoint_by P s.by) (head_log names steps s.head)
+    ++ effect_logs names i s.effects
+
+-- the log of an incarnation: its title, and its lines in the order of the steps
+unfoldable pub log_text : Log → Inc → List ℕ
+log_text log i =
+    title_text log.names i (opening_name log.steps i) ++ log_lines log.names log.steps log.steps i
+
+-- the logs of all incarnations that were opened, in order of opening
+unfoldable pub logs_text : Log → List ℕ
+logs_text log = flat_map (log_text log) (openings log.steps)

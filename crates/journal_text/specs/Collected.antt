@@ -1,0 +1,22 @@
+-- What is kept of all logs while a journal is read in order.
+use Rattle.std.specs.Prelude.{◌≡◌, ℕ, nat_eq, List, []}
+use Rattle.std.specs.HashMap.{get}
+use Rattle.linx_base.specs.declared.naming.Names.{Names}
+use Rattle.journal.specs.declared.happenings.Effect.{Effect}
+use Rattle.journal.specs.declared.happenings.Effect.TheVariants.{Opened}
+use Rattle.journal.specs.declared.happenings.Step.{Step}
+use Rattle.journal.specs.Logs.{Log}
+use Rattle.journal_text.specs.declared.collecting.Logs.{Logs}
+use Rattle.journal_text.specs.Texts.{kept}
+use Rattle.journal_text.specs.Blocks.{opening_name, log_lines, log_text}
+
+-- the logs are those after the steps P of a journal with these names and steps: of each incarnation
+-- the lines so far, and the name that it was opened with
+pub record Collects (names : Names) (steps P : List Step) (logs : Logs) : Type 0 where
+  pub lines : (n : ℕ) → kept logs.lines n ≡ log_lines names steps P (record { 0 = n })
+  pub opened : (n : ℕ) → get nat_eq logs.opened n ≡ opening_name P (record { 0 = n })
+
+-- the log of the incarnation that an effect opens
+abbrev pub opened_log : Log → Effect → List ℕ
+opened_log log (Opened i) = log_text log i
+opened_log log _ = []

@@ -1,0 +1,26 @@
+-- The whole text of a journal.
+use Rattle.std.specs.Prelude.{ℕ, suc, ◌++◌, List, [], ◌∷◌, length, codes, decimal}
+use Rattle.linx_base.specs.declared.naming.Names.{Names}
+use Rattle.journal.specs.declared.happenings.Step.{Step}
+use Rattle.journal.specs.Logs.{Log}
+use Rattle.journal_text.specs.Steps.{step_text}
+use Rattle.journal_text.specs.Blocks.{logs_text}
+
+-- the line between the logs and the steps: how many steps there are
+unfoldable pub count_text : ℕ → List ℕ
+count_text count = codes "journal " ++ decimal count ++ codes "\n"
+
+-- the steps in order
+unfoldable pub steps_text : Names → List Step → List ℕ
+steps_text names [] = []
+steps_text names (s ∷ P) = steps_text names P ++ step_text names (suc (length P)) s
+
+-- the text, if there are steps
+abbrev pub text_if_steps : Log → List Step → List ℕ
+text_if_steps log [] = []
+text_if_steps log (s ∷ P) = logs_text log ++ count_text (length log.steps) ++ steps_text log.names log.steps
+
+-- the text of a journal: nothing where it has no steps; else the logs of all opened incarnations in
+-- order of opening, the number of steps, and the steps
+abbrev pub text_of : Log → List ℕ
+text_of log = text_if_steps log log.steps

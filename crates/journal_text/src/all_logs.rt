@@ -1,0 +1,98 @@
+//! The logs of all incarnations, in order of opening. The journal is read twice, however many
+//! incarnations there are.
+ghost use Rattle.std.specs.Prelude.{◌≡◌, ◌++◌, flat_map, OnOk, OnErr, IfOk};
+ghost use Rattle.journal.specs.History.{effects_of};
+ghost use Rattle.journal_text.specs.Blocks.{log_text, logs_text};
+ghost use Rattle.journal_text.specs.Collected.{Collects, opened_log};
+
+use crate::collecting::Logs;
+use crate::digits::write_bytes;
+use crate::entries::write_title;
+use crate::owners::Owners;
+use crate::reading::step_after;
+use journal::{Effect, Journal};
+use linx_base::{Inc, NoMemory};
+use std::alloc::Global;
+
+fn collect(alloc: Global, journal: &Journal) -> Result<Logs, NoMemory>
+    ensures { IfOk result (λ logs.
+        Collects journal.now.log.names journal.now.log.steps journal.now.log.steps logs) }
+{
+    let mut owners = Owners::new(alloc);
+    let mut logs = Logs::new(alloc);
+    for done in 0..journal.len() {
+        let step = step_after(journal, done);
+        logs.note(alloc, journal, owners.endpoint(step.by), step)?;
+        owners.note(step)?;
+    }
+    Ok(logs)
+}
+
+#[tactic(auto, unfolding(crate::specs::Blocks::log_text))]
+fn write_block(out: &mut Vec<u8>, journal: &Journal, logs: &Logs, inc: Inc) -> Result<(), NoMemory>
+    requires { Collects journal.now.log.names journal.now.log.steps journal.now.log.steps logs.now }
+    ensures { OnOk result (out.new.items ≡ out.old.items ++ log_text journal.now.log inc) }
+{
+    write_title(out, journal.names(), inc, logs.name(inc))?;
+    write_bytes(out, logs.lines(inc))
+}
+
+fn write_if_opened(
+    out: &mut Vec<u8>,
+    journal: &Journal,
+    logs: &Logs,
+    effect: &Effect,
+) -> Result<(), NoMemory>
+    requires { Collects journal.now.log.names journal.now.log.steps journal.now.log.steps logs.now }
+    ensures { OnOk result (out.new.items ≡ out.old.items ++ opened_log journal.now.log effect.now) }
+{
+    match effect {
+        Effect::Opened(inc) => write_block(out, journal, logs, *inc),
+        _ => Ok(()),
+    }
+}
+
+fn write_opened(
+    out: &mut Vec<u8>,
+    journal: &Journal,
+    logs: &Logs,
+    effects: &[Effect],
+) -> Result<(), NoMemory>
+    requires { Collects journal.now.log.names journal.now.log.steps journal.now.log.steps logs.now }
+    ensures { OnOk result (out.new.items ≡ out.old.items
+        ++ flat_map (opened_log journal.now.log) effects.now) }
+{
+    for effect in effects {
+        write_if_opened(out, journal, logs, effect)?;
+    }
+    Ok(())
+}
+
+fn write_blocks(out: &mut Vec<u8>, journal: &Journal, logs: &Logs) -> Result<(), NoMemory>
+    requires { Collects journal.now.log.names journal.now.log.steps journal.now.log.steps logs.now }
+    ensures { OnOk result (out.new.items ≡ out.old.items ++ logs_text journal.now.log) }
+{
+    for done in 0..journal.len() {
+        write_opened(
+            out,
+            journal,
+            logs,
+            step_after(journal, done).effects.as_slice(),
+        )?;
+    }
+    Ok(())
+}
+
+/// Appends the logs of all opened incarnations in order of opening. A refusal leaves the buffer as
+/// it was.
+pub fn write_logs(out: &mut Vec<u8>, journal: &Journal) -> Result<(), NoMemory>
+    ensures ok { OnOk result (out.new.items ≡ out.old.items ++ logs_text journal.now.log) }
+    ensures err { OnErr result (out.new.items ≡ out.old.items) }
+{
+    let alloc = *out.allocator();
+    let logs = collect(alloc, journal)?;
+    let mut blocks = Vec::new(alloc);
+    write_blocks(&mut blocks, journal, &logs)?;
+    out.extend_from_slice(&blocks)?;
+    Ok(())
+}

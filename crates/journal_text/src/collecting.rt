@@ -1,0 +1,173 @@
+//! The logs of all incarnations, collected in one pass over a journal.
+ghost use Rattle.std.specs.Prelude.{◌≡◌, ◌==◌, ◌++◌, ℕ, List, [], ◌∷◌, OnOk, nat_eq, if◌then◌else◌};
+ghost use Rattle.std.specs.List.{list_any};
+ghost use Rattle.std.specs.Option.{option_copied};
+ghost use Rattle.std.specs.HashMap.{get};
+ghost use Rattle.linx_base.specs.declared.naming.Names.{Names as NamesOf};
+ghost use Rattle.journal.specs.declared.happenings.Step.{Step as StepOf};
+ghost use Rattle.journal.specs.History.{endpoint_by};
+ghost use Rattle.journal_text.specs.Texts.{kept};
+ghost use Rattle.journal_text.specs.Blocks.{opens, name_in, if_for, head_log, concerned, effect_log, effect_logs};
+ghost use Rattle.journal_text.specs.Collected.{Collects};
+
+use crate::entries::{concerns, write_effect_log, write_head_log};
+use crate::logs::name_of;
+use crate::texts::{Texts, append_at, kept_at};
+use journal::{Effect, Head, Journal, Step};
+use linx_base::{Inc, Name, Names, NoMemory, TryCopy};
+use std::alloc::Global;
+use std::collections::HashMap;
+
+/// The lines of each log so far, and the names that incarnations were opened with.
+#[derive(Drop)]
+pub(crate) struct Logs {
+    lines: Texts,
+    opened: HashMap<u64, Name>,
+}
+
+/// Keeps the name of an incarnation, in the place of an earlier one.
+fn keep_name(opened: &mut HashMap<u64, Name>, inc: Inc, name: Option<&Name>) -> Result<(), NoMemory>
+    ensures { OnOk result ((q : ℕ) → get nat_eq opened.new q
+        ≡ (if q == inc.0 then option_copied name.entry else get nat_eq opened.old q)) }
+{
+    match name {
+        Some(name) => {
+            opened.insert(inc.0, name.copy()?)?;
+            Ok(())
+        }
+        None => {
+            opened.remove(&inc.0);
+            Ok(())
+        }
+    }
+}
+
+fn keep_if_opened(
+    opened: &mut HashMap<u64, Name>,
+    head: &Head,
+    effect: &Effect,
+) -> Result<(), NoMemory>
+    ensures { OnOk result ((q : ℕ) → get nat_eq opened.new q
+        ≡ (if opens (record { 0 = q }) effect.now then name_in head.now else get nat_eq opened.old q)) }
+{
+    match effect {
+        Effect::Opened(inc) => keep_name(opened, *inc, name_of(head)),
+        _ => Ok(()),
+    }
+}
+
+fn keep_opened(
+    opened: &mut HashMap<u64, Name>,
+    head: &Head,
+    effects: &[Effect],
+) -> Result<(), NoMemory>
+    ensures { OnOk result ((q : ℕ) → get nat_eq opened.new q
+        ≡ (if list_any (opens (record { 0 = q })) effects.now then name_in head.now else get nat_eq opened.old q)) }
+{
+    for effect in effects {
+        keep_if_opened(opened, head, effect)?;
+    }
+    Ok(())
+}
+
+/// Adds the line of a head to the log of its maker's endpoint.
+fn add_head(
+    alloc: Global,
+    lines: &mut Texts,
+    journal: &Journal,
+    owner: Option<Inc>,
+    head: &Head,
+) -> Result<(), NoMemory>
+    ensures { OnOk result ((q : ℕ) → kept lines.new q ≡ kept lines.old q
+        ++ if_for (record { 0 = q }) owner (head_log journal.now.log.names journal.now.log.steps head.now)) }
+{
+    match owner {
+        Some(inc) => {
+            let mut line = Vec::new(alloc);
+            write_head_log(&mut line, journal, head)?;
+            append_at(alloc, lines, inc.0, &line)
+        }
+        None => Ok(()),
+    }
+}
+
+/// Adds the line of an effect to the log of the incarnation that it concerns.
+fn add_effect(
+    alloc: Global,
+    lines: &mut Texts,
+    names: &Names,
+    effect: &Effect,
+) -> Result<(), NoMemory>
+    ensures { OnOk result ((q : ℕ) → kept lines.new q ≡ kept lines.old q
+        ++ if_for (record { 0 = q }) (concerned effect.now) (effect_log names.now effect.now)) }
+{
+    match concerns(effect) {
+        Some(inc) => {
+            let mut line = Vec::new(alloc);
+            write_effect_log(&mut line, names, effect)?;
+            append_at(alloc, lines, inc.0, &line)
+        }
+        None => Ok(()),
+    }
+}
+
+fn add_effects(
+    alloc: Global,
+    lines: &mut Texts,
+    names: &Names,
+    effects: &[Effect],
+) -> Result<(), NoMemory>
+    ensures { OnOk result ((q : ℕ) → kept lines.new q ≡ kept lines.old q
+        ++ effect_logs names.now (record { 0 = q }) effects.now) }
+{
+    for effect in effects {
+        add_effect(alloc, lines, names, effect)?;
+    }
+    Ok(())
+}
+
+impl Logs {
+    /// Those before any step.
+    #[tactic(auto, unfolding(crate::specs::Blocks::log_lines))]
+    pub(crate) fn new(alloc: Global) -> Logs
+        ensures { (names : NamesOf) (steps : List StepOf) → Collects names steps [] result }
+    {
+        Logs {
+            lines: Texts::new(alloc),
+            opened: HashMap::new(alloc),
+        }
+    }
+
+    /// Takes in the next step; `owner` is the endpoint of its maker.
+    #[tactic(auto, unfolding(crate::specs::Blocks::log_lines))]
+    pub(crate) fn note(
+        &mut self,
+        alloc: Global,
+        journal: &Journal,
+        owner: Option<Inc>,
+        step: &Step,
+    ) -> Result<(), NoMemory>
+        ensures { (P : List StepOf) → owner ≡ endpoint_by P step.now.by
+            → Collects journal.now.log.names journal.now.log.steps P self.old
+            → OnOk result (Collects journal.now.log.names journal.now.log.steps (step.now ∷ P) self.new) }
+    {
+        let effects = step.effects.as_slice();
+        keep_opened(&mut self.opened, &step.head, effects)?;
+        add_head(alloc, &mut self.lines, journal, owner, &step.head)?;
+        add_effects(alloc, &mut self.lines, journal.names(), effects)
+    }
+
+    /// The name that the incarnation was opened with.
+    pub(crate) fn name(&self, inc: Inc) -> Option<&Name>
+        ensures { option_copied result ≡ get nat_eq self.now.opened inc.0 }
+    {
+        self.opened.get(&inc.0)
+    }
+
+    /// The lines of its log.
+    pub(crate) fn lines(&self, inc: Inc) -> &[u8]
+        ensures { result.now ≡ kept self.now.lines inc.0 }
+    {
+        kept_at(&self.lines, inc.0)
+    }
+}

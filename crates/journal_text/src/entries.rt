@@ -1,0 +1,151 @@
+//! The lines of a log.
+ghost use Rattle.std.specs.Prelude.{◌≡◌, ◌++◌, codes, flat_map, OnOk};
+ghost use Rattle.std.specs.Option.{option_copied};
+ghost use Rattle.journal_text.specs.Values.{peer_signal_text, reason_text};
+ghost use Rattle.journal_text.specs.Blocks.{title_text, concerned, effect_log, effect_at, item_text, head_log};
+
+use crate::digits::write_bytes;
+use crate::heads::{write_hunt, write_sending, write_word_and_signal};
+use crate::peers::{write_halves, write_name_or_mark, write_node, write_peer_signal};
+use crate::reading::item_at;
+use crate::words::{write_detached, write_reason};
+use journal::{Effect, Head, Journal};
+use linx_base::{Inc, Name, Names, NoMemory, NodeNo, Peer, Reason, SigNote};
+
+/// The first line of a log.
+#[tactic(auto, unfolding(crate::specs::Blocks::title_text))]
+pub(crate) fn write_title(
+    out: &mut Vec<u8>,
+    names: &Names,
+    inc: Inc,
+    name: Option<&Name>,
+) -> Result<(), NoMemory>
+    ensures { OnOk result (out.new.items ≡ out.old.items ++ title_text names.now inc (option_copied name.entry)) }
+{
+    write_bytes(out, b"log ")?;
+    write_halves(out, inc.0)?;
+    write_bytes(out, b" ")?;
+    write_name_or_mark(out, name)?;
+    write_bytes(out, b" ")?;
+    write_node(out, names, NodeNo((inc.0 / 4_294_967_296) as u32))?;
+    write_bytes(out, b"\n")
+}
+
+/// The incarnation whose log has a line of the effect.
+pub(crate) fn concerns(effect: &Effect) -> Option<Inc>
+    ensures { result ≡ concerned effect.now }
+{
+    match effect {
+        Effect::Closed(inc)
+        | Effect::Arrived(inc, _, _)
+        | Effect::Found(inc, _, _, _)
+        | Effect::Notified(inc, _, _, _, _) => Some(*inc),
+        _ => None,
+    }
+}
+
+/// A line of a word, a peer and a signal.
+fn write_item_line(
+    out: &mut Vec<u8>,
+    names: &Names,
+    word: &[u8],
+    peer: &Peer,
+    note: &SigNote,
+) -> Result<(), NoMemory>
+    ensures { OnOk result (out.new.items ≡ out.old.items
+        ++ (word.now ++ peer_signal_text names.now peer.now note.now ++ codes "\n")) }
+{
+    write_word_and_signal(out, names, word, peer, note)?;
+    write_bytes(out, b"\n")
+}
+
+fn write_notified(
+    out: &mut Vec<u8>,
+    names: &Names,
+    peer: &Peer,
+    note: &SigNote,
+    reason: Reason,
+) -> Result<(), NoMemory>
+    ensures { OnOk result (out.new.items ≡ out.old.items
+        ++ (codes "notified " ++ peer_signal_text names.now peer.now note.now ++ codes " "
+        ++ reason_text reason ++ codes "\n")) }
+{
+    write_word_and_signal(out, names, b"notified ", peer, note)?;
+    write_bytes(out, b" ")?;
+    write_reason(out, reason)?;
+    write_bytes(out, b"\n")
+}
+
+/// The line of an effect in the log of the incarnation that it concerns.
+#[tactic(auto, unfolding(crate::specs::Blocks::effect_log))]
+pub(crate) fn write_effect_log(
+    out: &mut Vec<u8>,
+    names: &Names,
+    effect: &Effect,
+) -> Result<(), NoMemory>
+    ensures { OnOk result (out.new.items ≡ out.old.items ++ effect_log names.now effect.now) }
+{
+    match effect {
+        Effect::Closed(_) => write_bytes(out, b"closed\n"),
+        Effect::Arrived(_, peer, note) => write_item_line(out, names, b"arrived ", peer, note),
+        Effect::Found(_, peer, note, _) => write_item_line(out, names, b"found ", peer, note),
+        Effect::Notified(_, peer, note, _, reason) => {
+            write_notified(out, names, peer, note, *reason)
+        }
+        _ => Ok(()),
+    }
+}
+
+/// The sender and the content of an item, `?` where there is none.
+#[tactic(auto, unfolding(crate::specs::Blocks::item_text))]
+fn write_item(out: &mut Vec<u8>, names: &Names, item: Option<&Effect>) -> Result<(), NoMemory>
+    ensures { OnOk result (out.new.items ≡ out.old.items ++ item_text names.now (option_copied item.entry)) }
+{
+    match item {
+        Some(Effect::Arrived(_, peer, note)) => write_peer_signal(out, names, peer, note),
+        Some(Effect::Found(_, peer, note, _)) => write_peer_signal(out, names, peer, note),
+        Some(Effect::Notified(_, peer, note, _, _)) => write_peer_signal(out, names, peer, note),
+        _ => write_bytes(out, b"?"),
+    }
+}
+
+fn write_took(out: &mut Vec<u8>, names: &Names, item: Option<&Effect>) -> Result<(), NoMemory>
+    ensures { OnOk result (out.new.items ≡ out.old.items
+        ++ (codes "took " ++ item_text names.now (option_copied item.entry) ++ codes "\n")) }
+{
+    write_bytes(out, b"took ")?;
+    write_item(out, names, item)?;
+    write_bytes(out, b"\n")
+}
+
+/// The line that a head makes in the log of its maker's endpoint.
+#[tactic(auto, unfolding(crate::specs::Blocks::head_log))]
+pub(crate) fn write_head_log(
+    out: &mut Vec<u8>,
+    journal: &Journal,
+    head: &Head,
+) -> Result<(), NoMemory>
+    ensures { OnOk result (out.new.items ≡ out.old.items
+        ++ head_log journal.now.log.names journal.now.log.steps head.now) }
+{
+    let names = journal.names();
+    match head {
+        Head::Send(peer, note, answer) => {
+            write_sending(out, names, b"sent ", peer, note, *answer)?;
+            write_bytes(out, b"\n")
+        }
+        Head::Take(_, at) => write_took(out, names, item_at(journal, *at)),
+        Head::TakeNone(_) => write_bytes(out, b"none\n"),
+        Head::Hunt(path, note) => {
+            write_hunt(out, names, path, note)?;
+            write_bytes(out, b"\n")
+        }
+        Head::Attach(peer, note) => write_item_line(out, names, b"attach ", peer, note),
+        Head::Detach(_, answer) => {
+            write_bytes(out, b"detach ")?;
+            write_detached(out, *answer)?;
+            write_bytes(out, b"\n")
+        }
+        _ => Ok(()),
+    }
+}

@@ -1,0 +1,30 @@
+//! The printed text of a journal: the lines of each step, the log of each incarnation, and the whole
+//! text of both. Each part of a line has one spelling, a definition by cases in `specs/`, and each
+//! call that prints is proved to append just those bytes. What memory refuses isn't printed: a buffer
+//! is left as it was.
+#![tactic(auto)]
+
+mod all_logs;
+mod collecting;
+mod digits;
+mod effects;
+mod entries;
+mod heads;
+mod logs;
+mod owners;
+mod peers;
+mod reading;
+mod steps;
+mod texts;
+mod whole_text;
+mod words;
+
+pub use all_logs::write_logs;
+pub use logs::write_log;
+pub use steps::{write_count, write_step};
+pub use whole_text::text;
+
+#[cfg(test)]
+mod log_tests;
+#[cfg(test)]
+mod tests;

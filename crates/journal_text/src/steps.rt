@@ -1,0 +1,77 @@
+//! The lines of a step.
+ghost use Rattle.std.specs.Prelude.{◌≡◌, ◌++◌, codes, decimal, length, OnOk, OnErr};
+ghost use Rattle.journal_text.specs.Values.{maker_text};
+ghost use Rattle.journal_text.specs.Steps.{head_text, step_text, step_text_at};
+ghost use Rattle.journal_text.specs.Text.{count_text};
+
+use crate::digits::{write_bytes, write_number};
+use crate::effects::write_effects;
+use crate::heads::write_head;
+use crate::words::write_maker;
+use journal::{By, Head, Journal, Step};
+use linx_base::{Names, NoMemory};
+
+/// The room that most steps' lines fit in.
+const LINES_ROOM: usize = 256;
+
+/// A step's first line: its position, its maker and its head.
+fn write_first_line(
+    out: &mut Vec<u8>,
+    names: &Names,
+    position: u64,
+    by: By,
+    head: &Head,
+) -> Result<(), NoMemory>
+    ensures { OnOk result (out.new.items ≡ out.old.items
+        ++ (decimal position ++ codes " " ++ maker_text by ++ codes " " ++ head_text names.now head.now
+        ++ codes "\n")) }
+{
+    write_number(out, position)?;
+    write_bytes(out, b" ")?;
+    write_maker(out, by)?;
+    write_bytes(out, b" ")?;
+    write_head(out, names, head)?;
+    write_bytes(out, b"\n")
+}
+
+#[tactic(auto, unfolding(crate::specs::Steps::step_text))]
+pub(crate) fn write_lines(
+    out: &mut Vec<u8>,
+    names: &Names,
+    position: u64,
+    step: &Step,
+) -> Result<(), NoMemory>
+    ensures { OnOk result (out.new.items ≡ out.old.items ++ step_text names.now position step.now) }
+{
+    write_first_line(out, names, position, step.by, &step.head)?;
+    write_effects(out, names, step.effects.as_slice())
+}
+
+/// Appends the lines of the step at position k, from 1; nothing where k is no position. A refusal
+/// leaves the buffer as it was.
+pub fn write_step(out: &mut Vec<u8>, journal: &Journal, k: u64) -> Result<(), NoMemory>
+    ensures ok { OnOk result (out.new.items ≡ out.old.items ++ step_text_at journal.now.log k) }
+    ensures err { OnErr result (out.new.items ≡ out.old.items) }
+{
+    let Some(step) = journal.step(k) else {
+        return Ok(());
+    };
+    let mut lines = Vec::with_capacity(*out.allocator(), LINES_ROOM)?;
+    write_lines(&mut lines, journal.names(), k, step)?;
+    out.extend_from_slice(&lines)?;
+    Ok(())
+}
+
+/// Appends the line `journal N` with the number of steps. A refusal leaves the buffer as it was.
+#[tactic(auto, unfolding(crate::specs::Text::count_text))]
+pub fn write_count(out: &mut Vec<u8>, journal: &Journal) -> Result<(), NoMemory>
+    ensures ok { OnOk result (out.new.items ≡ out.old.items ++ count_text (length journal.now.log.steps)) }
+    ensures err { OnErr result (out.new.items ≡ out.old.items) }
+{
+    let mut line = Vec::new(*out.allocator());
+    write_bytes(&mut line, b"journal ")?;
+    write_number(&mut line, journal.len())?;
+    write_bytes(&mut line, b"\n")?;
+    out.extend_from_slice(&line)?;
+    Ok(())
+}

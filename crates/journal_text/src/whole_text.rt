@@ -1,0 +1,36 @@
+//! The whole text of a journal.
+ghost use Rattle.std.specs.Prelude.{◌≡◌, ◌++◌, OnOk, IfOk};
+ghost use Rattle.journal_text.specs.Text.{steps_text, text_of};
+
+use crate::all_logs::write_logs;
+use crate::reading::step_after;
+use crate::steps::{write_count, write_lines};
+use journal::Journal;
+use linx_base::NoMemory;
+use std::alloc::Global;
+
+fn write_steps(out: &mut Vec<u8>, journal: &Journal) -> Result<(), NoMemory>
+    ensures { OnOk result (out.new.items ≡ out.old.items
+        ++ steps_text journal.now.log.names journal.now.log.steps) }
+{
+    for done in 0..journal.len() {
+        let step = step_after(journal, done);
+        write_lines(out, journal.names(), done + 1, step)?;
+    }
+    Ok(())
+}
+
+/// The text of the journal: nothing where it has no steps; else the logs of all opened incarnations
+/// in order of opening, the number of steps, and the steps.
+pub fn text(alloc: Global, journal: &Journal) -> Result<Vec<u8>, NoMemory>
+    ensures { IfOk result (λ printed. printed.items ≡ text_of journal.now.log) }
+{
+    let mut printed = Vec::new(alloc);
+    if journal.is_empty() {
+        return Ok(printed);
+    }
+    write_logs(&mut printed, journal)?;
+    write_count(&mut printed, journal)?;
+    write_steps(&mut printed, journal)?;
+    Ok(printed)
+}
