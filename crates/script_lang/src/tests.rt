@@ -162,32 +162,56 @@ fn repeated(rt: &HostRuntime, piece: &[u8], times: u32, end: &[u8]) -> Result<Ve
     Ok(text)
 }
 
+/// A line of 64 bytes, its line feed counted.
+const LINE: &str = "#23456789 123456789 123456789 123456789 123456789 123456789 123\n";
+
 /// Long texts: a piece, how often it stands, an end, and the bad line with its kind.
-const LONG: [(&str, u32, &str, u32, BadKind); 6] = [
-    ("#", 4097, "\nnod", 1, BadKind::LineTooLong),
-    (" ", 4097, "", 1, BadKind::LineTooLong),
-    (" ", 4096, "\r\n", 1, BadKind::LineTooLong),
-    ("\n", 1_048_576, "n", 1_048_577, BadKind::ScriptTooLong),
+const LONG: [(&str, u32, &str, Option<ScriptError>); 6] = [
+    ("#", 4096, "\n", None),
     (
-        "#23456\n",
-        149_796,
-        "#4567",
-        149_797,
-        BadKind::ScriptTooLong,
+        "#",
+        4097,
+        "\nnod",
+        Some(ScriptError::Bad {
+            line: 1,
+            kind: BadKind::LineTooLong,
+        }),
     ),
-    ("#23456\n", 149_796, "#45\n", 149_797, BadKind::Unfinished),
+    (
+        " ",
+        4096,
+        "\r\n",
+        Some(ScriptError::Bad {
+            line: 1,
+            kind: BadKind::LineTooLong,
+        }),
+    ),
+    (LINE, 16384, "", None),
+    (
+        LINE,
+        16384,
+        "n",
+        Some(ScriptError::Bad {
+            line: 16385,
+            kind: BadKind::ScriptTooLong,
+        }),
+    ),
+    (
+        LINE,
+        16383,
+        "#23456789 123456789 123456789 123456789 123456789 123456789 1234\n",
+        Some(ScriptError::Bad {
+            line: 16384,
+            kind: BadKind::ScriptTooLong,
+        }),
+    ),
 ];
 
 #[test]
 fn long_texts(rt: HostRuntime) -> Result<(), Fail> {
-    for (piece, times, end, line, kind) in LONG {
+    for (piece, times, end, wanted) in LONG {
         let text = repeated(&rt, piece.as_bytes(), times, end.as_bytes())?;
-        let answer = parse(rt.alloc(), text.as_slice()).err();
-        if kind == BadKind::Unfinished {
-            assert_eq!(rt; answer, None);
-        } else {
-            assert_eq!(rt; answer, Some(ScriptError::Bad { line, kind }));
-        }
+        assert_eq!(rt; parse(rt.alloc(), text.as_slice()).err(), wanted);
     }
     Ok(())
 }
@@ -260,5 +284,110 @@ fn declarations(rt: HostRuntime) -> Result<(), Fail> {
         assert_eq!(rt; (link.first, link.second), (NodeNo(1), NodeNo(2)));
         assert_eq!(rt; (link.window, link.piece), (32, 1400));
     }
+    Ok(())
+}
+
+/// An actor's script with these commands.
+fn acted(rt: &HostRuntime, commands: &str) -> Result<Script, Fail> {
+    let mut text = Vec::new(rt.alloc());
+    text.extend_from_slice(b"node m\nnode n\nlink l m n\nactor p m\n")?;
+    text.extend_from_slice(commands.as_bytes())?;
+    text.extend_from_slice(b"\nend")?;
+    let script = parse(rt.alloc(), text.as_slice()).ok().ok_or("a script")?;
+    Ok(script)
+}
+
+/// Commands that are the same, or not.
+const PAIRS: [(&str, &str, bool); 22] = [
+    ("hunt a", "hunt a 251", true),
+    ("hunt a hex:00", "hunt a 251 hex:00", true),
+    ("hunt l/a 7 hex:0A", "hunt l/a 007 hex:0a", true),
+    ("attach self r", "attach self r 252", true),
+    ("attach last r hex:ff", "attach last r 252 hex:FF", true),
+    ("send x 1 fill:3:5a # data", "\tsend  x 1\tfill:3:5A", true),
+    ("recv 1 2", "recv 01 02", true),
+    (
+        "repeat 3\nopen a\nclose\nend",
+        "open a\nclose\nopen a\nclose\nopen a\nclose",
+        true,
+    ),
+    ("repeat 5\nend", "", true),
+    ("forward self", "forward last", false),
+    ("recv any", "recv 1", false),
+    ("recv 1 2", "recv 2 1", false),
+    ("recv 1", "recv not 1", false),
+    ("send self 1", "send last 1", false),
+    ("send a 1", "send b 1", false),
+    ("send self 1 fill:1:00", "send self 1 fill:1:01", false),
+    ("hunt a", "hunt l/a", false),
+    ("cut l", "mend l", false),
+    ("settle l", "cut l", false),
+    ("restart m", "restart n", false),
+    ("keep a", "detach a", false),
+    ("open a", "open a\nclose", false),
+];
+
+#[test]
+fn pairs(rt: HostRuntime) -> Result<(), Fail> {
+    for (one, other, same) in PAIRS {
+        let left = acted(&rt, one)?;
+        let right = acted(&rt, other)?;
+        assert_eq!(rt; left.same(&right), same, "at {one}");
+    }
+    Ok(())
+}
+
+#[test]
+fn commands_of_actors(rt: HostRuntime) -> Result<(), Fail> {
+    let script = parse(rt.alloc(), GOOD.as_bytes()).ok().ok_or("a script")?;
+    for actor in script.actors() {
+        if actor.node == NodeNo(2) {
+            assert_eq!(rt; actor.commands.len(), 7);
+        } else {
+            assert_eq!(rt; actor.commands.len(), 20);
+            assert!(rt;
+                matches!(
+                    actor.commands.get(1),
+                    Some(Command::Send {
+                        to: Target::Me,
+                        number: 1,
+                        ..
+                    })
+                )
+            );
+            assert!(rt; matches!(actor.commands.get(7), Some(Command::Recv(Sigsel::Not(_)))));
+            assert!(rt;
+                matches!(
+                    actor.commands.get(9),
+                    Some(Command::Hunt {
+                        path: Path::Over {
+                            link: LinkNo(1),
+                            ..
+                        },
+                        number: 7,
+                        ..
+                    })
+                )
+            );
+            assert!(rt; matches!(actor.commands.get(18), Some(Command::Restart(NodeNo(2)))));
+        }
+    }
+    Ok(())
+}
+
+#[test]
+fn plans(rt: HostRuntime) -> Result<(), Fail> {
+    let script = parse(rt.alloc(), GOOD.as_bytes()).ok().ok_or("a script")?;
+    assert!(rt; 1 <= script.names().links.len());
+    let there = [
+        Verdict::Deliver,
+        Verdict::Lose,
+        Verdict::Repeat,
+        Verdict::Swap(9),
+        Verdict::Deliver,
+    ];
+    assert!(rt; script.plan(LinkNo(1), Side::First) == there.as_slice());
+    let back = [Verdict::Swap(1)];
+    assert!(rt; script.plan(LinkNo(1), Side::Second) == back.as_slice());
     Ok(())
 }
