@@ -40,7 +40,7 @@ fn empty_handed(event: Event) -> Ask
 fn ask_of(alloc: Global, command: Option<&Command>, me: Option<Inc>) -> Result<Ask, NoMemory>
     requires plain { is_plain_at (option_copied command) ≡ true }
     requires itself { NeedsItself (option_copied command) me }
-    ensures { IfOk result (λ asked. IsAskOf (option_copied command) me asked.event asked.hand) }
+    ensures { IfOk result (λ asked. IsAskOf (option_copied command.entry) me asked.event asked.hand) }
 {
     let Some(command) = command else {
         return Ok(empty_handed(Event::End));

@@ -1,0 +1,1 @@
+//! One actor's turns on a fabric, to its end.

@@ -1,0 +1,1 @@
+//! The top call: words, script, run, text.
