@@ -1,23 +1,19 @@
 -- The queue of an endpoint after one more step.
 use Rattle.std.proofs.Common.{◌≡◌, ℕ, suc, ◌<◌, ◌≤◌, ◌+◌, Bool, true, false, cond, not, ◌||◌, ◌&&◌, List, [], ◌∷◌, ◌++◌, length, Option, Some, None, refl, sym, ◌∙◌, ap, subst, arith}
-use Rattle.std.specs.Prelude.{◌==◌, IsSomeAnd}
+use Rattle.std.specs.Prelude.{IsSomeAnd}
 use Rattle.std.specs.List.{list_any, filter, AllByRecursion}
-use Rattle.std.proofs.Math.Dec.{eqb_refl}
 use Rattle.std.proofs.lemmas.Bool.Decides.{nat_tests}
 use Rattle.std.proofs.lemmas.List.{append-nil}
 use Rattle.std.proofs.lemmas.List.Elements.{filter-append}
 use Rattle.linx_base.specs.FirstMatch.{first_match, without_match}
-use Rattle.linx_base.specs.Peers.{same_inc, same_position}
+use Rattle.linx_base.specs.Peers.{same_position}
 use Rattle.linx_base.specs.declared.identity.Inc.{Inc}
 use Rattle.linx_base.specs.declared.identity.ItemAt.{ItemAt}
-use Rattle.linx_base.specs.declared.identity.Peer.{Peer}
-use Rattle.linx_base.specs.declared.signaling.SigNote.{SigNote}
 use Rattle.sigsel.specs.declared.filters.Sigsel.{Sigsel}
 use Rattle.journal.specs.declared.heads.Head.{Head}
 use Rattle.journal.specs.declared.heads.Head.TheVariants.{Take, Detach}
 use Rattle.journal.specs.declared.makers.By.{By}
 use Rattle.journal.specs.declared.happenings.Effect.{Effect}
-use Rattle.journal.specs.declared.happenings.Effect.TheVariants.{Arrived}
 use Rattle.journal.specs.declared.happenings.Step.{Step}
 use Rattle.journal.specs.History.{endpoint_by}
 use Rattle.journal.specs.Laws.{Shape, HasEffects, KeepsReceives, IsLegal, node_by}

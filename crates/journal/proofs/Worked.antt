@@ -1,22 +1,20 @@
 -- The definitions computed on worked runs: one actor on one node opens an endpoint, sends itself
 -- signals and receives them.
-use Rattle.std.proofs.Common.{◌≡◌, ℕ, List, [], ◌∷◌, Option, Some, None, true, false, refl, arith}
+use Rattle.std.proofs.Common.{◌≡◌, ℕ, List, [], ◌∷◌, Some, None, false, refl, arith}
 use Rattle.linx_base.specs.declared.identity.Inc.{Inc}
 use Rattle.linx_base.specs.declared.identity.ItemAt.{ItemAt}
-use Rattle.linx_base.specs.declared.identity.Peer.{Peer}
 use Rattle.linx_base.specs.declared.identity.Peer.TheVariants.{Here}
 use Rattle.linx_base.specs.declared.signaling.SigNote.{SigNote}
-use Rattle.sigsel.specs.declared.filters.Sigsel.{Sigsel}
 use Rattle.sigsel.specs.declared.filters.Sigsel.TheVariants.{Any, Only, Not}
 use Rattle.journal.specs.declared.makers.By.TheVariants.{Actor}
 use Rattle.journal.specs.declared.heads.Head.{Head}
-use Rattle.journal.specs.declared.heads.Head.TheVariants.{Open, Close, Send, Take, TakeNone, Ended}
+use Rattle.journal.specs.declared.heads.Head.TheVariants.{Open, Close, Send, Take, Ended}
 use Rattle.journal.specs.declared.heads.SentTo.TheVariants.{Queued}
 use Rattle.journal.specs.declared.happenings.Effect.{Effect}
 use Rattle.journal.specs.declared.happenings.Effect.TheVariants.{Opened, Closed, Arrived}
 use Rattle.journal.specs.declared.happenings.Step.{Step}
 use Rattle.journal.specs.Logs.{step_at, signal_bytes_of}
-use Rattle.journal.specs.History.{endpoint_of, open_endpoints, next_inc}
+use Rattle.journal.specs.History.{next_inc}
 use Rattle.journal.specs.Sessions.{is_alive}
 use Rattle.journal.specs.Traffic.{sent_to, arrived_from}
 use Rattle.journal.specs.Queues.{Entry, queued, first_selected}
