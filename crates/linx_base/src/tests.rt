@@ -13,10 +13,11 @@ fn signal_size_limits(rt: HostRuntime) -> Result<(), Fail> {
             Err(BufferError::TooLarge)
         )
     );
-    let mut signal = Signal::alloc(rt.alloc(), 9, &long[..65_532])?;
+    let most = &long[..65_532];
+    let mut signal = Signal::alloc(rt.alloc(), 9, most)?;
     assert_eq!(rt; signal.size(), 65_536);
     assert_eq!(rt; signal.resize(65_533), Err(BufferError::TooLarge));
-    assert_eq!(rt; signal.bytes(), &long[..65_532]);
+    assert_eq!(rt; signal.bytes(), most);
     signal.resize(0)?;
     assert!(rt; signal.bytes().is_empty());
     assert_eq!(rt; (signal.number(), signal.size()), (9, 4));
