@@ -1,3 +1,4 @@
 pub mod Selection
 pub mod Places
 pub mod QueueContent
+pub mod IndexContent

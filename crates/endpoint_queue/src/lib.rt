@@ -4,6 +4,7 @@
 //! places by number and ticket, so that a receive of some numbers looks at no other item.
 #![tactic(auto)]
 
+mod indexing;
 mod items;
 mod places;
 mod queueing;

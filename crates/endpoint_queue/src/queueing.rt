@@ -1,4 +1,4 @@
-ghost use Rattle.std.specs.Prelude.{◌≡◌, ◌≤◌, ◌<◌, ◌+◌, ◌^◌, [], ◌∷◌, ◌++◌, if◌then◌else◌, false, is_some, length, max, slice_index_or, vec_capacity, vec_len, IfNone, IfSome, OnOk, OnErr, IsOk};
+ghost use Rattle.std.specs.Prelude.{◌≡◌, ◌≤◌, ◌<◌, ◌+◌, ◌^◌, [], ◌∷◌, ◌++◌, if◌then◌else◌, false, is_some, length, max, slice_index_or, IfNone, IfSome, OnOk, OnErr, IsOk};
 ghost use Rattle.std.specs.List.{position, range_with_len, remove, All, AllPairs};
 ghost use Rattle.std.specs.List.Sorted.{IsPermutation};
 ghost use Rattle.std.specs.VecDeque.{deque_capacity, deque_len};
@@ -7,8 +7,9 @@ ghost use Rattle.endpoint_queue.specs.QueueContent.{has_tickets};
 ghost use Rattle.endpoint_queue.specs.Selection.{notifies};
 ghost use Rattle.linx_base.specs.FirstMatch.{TakesEarliest, first_match, without_match, without_beside};
 
+use crate::indexing::Index;
 use crate::items::{Item, Kind};
-use crate::places::{Place, count_before, insert_place, least_ticket};
+use crate::places::{Place, count_before, least_ticket};
 use linx_base::{AttRef, NoMemory};
 use sigsel::Sigsel;
 use std::alloc::Global;
@@ -20,13 +21,13 @@ use std::marker::Model;
 pub struct Queue {
     items: VecDeque<Item>,
     tickets: VecDeque<u64>,
-    index: Vec<Place>,
+    index: Index,
     next: u64,
     spare: usize,
 }
 
 impl Model for Queue {
-    ghost use Rattle.std.specs.Prelude.{◌+◌, ◌<◌, ◌≤◌, ◌^◌, vec_capacity, vec_len};
+    ghost use Rattle.std.specs.Prelude.{◌+◌, ◌<◌, ◌≤◌, ◌^◌};
     ghost use Rattle.std.specs.VecDeque.{deque_capacity, deque_len};
     ghost use Rattle.endpoint_queue.specs.QueueContent.{QueueContent};
     ghost use Rattle.endpoint_queue.specs.Places.{IsKept};
@@ -35,10 +36,10 @@ impl Model for Queue {
 
     ghost view = { λ q. record { items = q.items.items; tickets = q.tickets.items; next = q.next; spare = q.spare } };
 
-    ghost invariant = { λ q. IsKept q.items.items q.tickets.items q.index.items q.next
+    ghost invariant = { λ q. IsKept q.items.items q.tickets.items q.index.places q.next
         × (deque_len q.items + q.spare ≤ deque_capacity q.items)
         × (deque_len q.tickets + q.spare ≤ deque_capacity q.tickets)
-        × (vec_len q.index + q.spare ≤ vec_capacity q.index)
+        × (q.spare ≤ q.index.room)
         × (q.next + q.spare < 2 ^ 64) };
 }
 
@@ -63,13 +64,14 @@ fn notifies(kind: &Kind, attach: AttRef) -> bool
 }
 
 /// Gives the items tickets from 0 on, and makes the index anew.
-fn number_anew(items: &VecDeque<Item>, tickets: &mut VecDeque<u64>, index: &mut Vec<Place>)
+fn number_anew(items: &VecDeque<Item>, tickets: &mut VecDeque<u64>, index: &mut Index)
     requires room_for_tickets { deque_len items.now ≤ deque_capacity tickets.old }
-    requires room_for_places { deque_len items.now ≤ vec_capacity index.old }
-    ensures kept { IsKept items.now.items tickets.new.items index.new.items (length items.now.items) }
+    requires room_for_places { deque_len items.now ≤ length index.old.places + index.old.room }
+    ensures kept { IsKept items.now.items tickets.new.items index.new.places (length items.now.items) }
     ensures anew { tickets.new.items ≡ range_with_len 0 (length items.now.items) }
-    ensures lengths { (deque_len tickets.new ≡ deque_len items.now) × (vec_len index.new ≡ deque_len items.now) }
-    ensures room { (deque_capacity tickets.new ≡ deque_capacity tickets.old) × (vec_capacity index.new ≡ vec_capacity index.old) }
+    ensures len { deque_len tickets.new ≡ deque_len items.now }
+    ensures capacity { deque_capacity tickets.new ≡ deque_capacity tickets.old }
+    ensures room { length index.old.places + index.old.room ≤ deque_len items.now + index.new.room }
 {
     tickets.clear();
     index.clear();
@@ -78,8 +80,8 @@ fn number_anew(items: &VecDeque<Item>, tickets: &mut VecDeque<u64>, index: &mut 
             number: items[at].signal.number(),
             ticket: at as u64,
         };
-        let before = count_before(index, &place);
-        insert_place(index, before, place);
+        let before = count_before(index.as_slice(), &place);
+        index.insert(before, place);
         tickets.push_back_reserved(at as u64);
     }
 }
@@ -88,19 +90,19 @@ fn number_anew(items: &VecDeque<Item>, tickets: &mut VecDeque<u64>, index: &mut 
 fn ticketed(
     items: &VecDeque<Item>,
     tickets: &mut VecDeque<u64>,
-    index: &mut Vec<Place>,
+    index: &mut Index,
     next: u64,
     n: usize,
 ) -> u64
-    requires kept { IsKept items.now.items tickets.old.items index.old.items next }
-    requires lengths { (deque_len tickets.old ≡ deque_len items.now) × (vec_len index.old ≡ deque_len items.now) }
-    requires room { (deque_len items.now + n ≤ deque_capacity tickets.old) × (deque_len items.now + n ≤ vec_capacity index.old) }
-    ensures kept { IsKept items.now.items tickets.new.items index.new.items result }
+    requires kept { IsKept items.now.items tickets.old.items index.old.places next }
+    requires lengths { (deque_len tickets.old ≡ deque_len items.now) × (length index.old.places ≡ deque_len items.now) }
+    requires room { (deque_len items.now + n ≤ deque_capacity tickets.old) × (n ≤ index.old.room) }
+    ensures kept { IsKept items.now.items tickets.new.items index.new.places result }
     ensures tickets { tickets.new.items ≡ (if has_tickets next n then tickets.old.items else range_with_len 0 (length items.now.items)) }
     ensures next { result ≡ (if has_tickets next n then next else length items.now.items) }
     ensures enough { result + n < 2 ^ 64 }
-    ensures lengths { (deque_len tickets.new ≡ deque_len items.now) × (vec_len index.new ≡ deque_len items.now) }
-    ensures room { (deque_capacity tickets.new ≡ deque_capacity tickets.old) × (vec_capacity index.new ≡ vec_capacity index.old) }
+    ensures len { deque_len tickets.new ≡ deque_len items.now }
+    ensures room { (deque_capacity tickets.new ≡ deque_capacity tickets.old) × (n ≤ index.new.room) }
 {
     if n as u64 <= u64::MAX - next {
         return next;
@@ -121,7 +123,7 @@ impl Queue {
         Queue {
             items: VecDeque::new(alloc),
             tickets: VecDeque::new(alloc),
-            index: Vec::new(alloc),
+            index: Index::new(alloc),
             next: 0,
             spare: 0,
         }
@@ -166,8 +168,8 @@ impl Queue {
             number: item.signal.number(),
             ticket: self.next,
         };
-        let at = count_before(&self.index, &place);
-        insert_place(&mut self.index, at, place);
+        let at = count_before(self.index.as_slice(), &place);
+        self.index.insert(at, place);
         self.items.push_back_reserved(item);
         self.tickets.push_back_reserved(self.next);
         self.next += 1;
@@ -178,7 +180,7 @@ impl Queue {
     fn first_listed(&self, listed: &[u32]) -> Option<usize>
         ensures { result ≡ position (λ item. is_listed listed.now item.signal.number) self.now.items }
     {
-        let ticket = least_ticket(&self.index, listed)?;
+        let ticket = least_ticket(self.index.as_slice(), listed)?;
         self.tickets.binary_search(&ticket).ok()
     }
 
@@ -221,7 +223,7 @@ impl Queue {
             number: item.signal.number(),
             ticket,
         };
-        let found = count_before(&self.index, &place);
+        let found = count_before(self.index.as_slice(), &place);
         self.index.remove(found);
         item
     }
@@ -271,6 +273,6 @@ impl Queue {
         ensures ticketed { length self.now.tickets ≡ length self.now.items }
         ensures rising { AreTickets self.now.tickets self.now.next }
     {
-        &self.index
+        self.index.as_slice()
     }
 }

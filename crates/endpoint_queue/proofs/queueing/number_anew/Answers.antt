@@ -12,10 +12,9 @@ loop-at-preserved c =
     let within : at < length items = grind (arith, common_steps) in
     let one_more : take (at + 1) items ≡ take at items ++ c.index.result.now ∷ [] = take_more items at c.index.result.now within ∙ ap (λ item. take at items ++ item ∷ []) (sym c.index.ensures) in
     record {
-      kept = put_kept was.kept c.index.result.now c.number.ensures c.deref.ensures.value c.count_before-before.ensures.within c.count_before-before.ensures.between one_more c.push_back_reserved.ensures.items c.insert_place.ensures.items;
+      kept = put_kept was.kept c.index.result.now c.number.ensures c.as_slice.ensures c.count_before-before.ensures.within c.count_before-before.ensures.between one_more c.push_back_reserved.ensures.items c.insert.ensures.places;
       anew = c.push_back_reserved.ensures.items ∙ ap (λ l. l ++ at ∷ []) was.anew ∙ sym (range_more 0 at at (omega arith));
-      tickets_len = omega arith;
-      index_len = omega arith;
-      tickets_room = omega arith;
-      index_room = omega arith;
+      len = omega arith;
+      capacity = omega arith;
+      room = omega arith;
     }

@@ -4,10 +4,10 @@ use Rattle.endpoint_queue.proofs.queueing.Queue.first_listed.Goals as goal
 
 pub returns-in_err-ticket : goal.returns-in_err-ticket
 returns-in_err-ticket c =
-    let none = position_none_listed _ _ _ _ c.self.invariant.0 c.args.listed.now (rw c.deref.ensures.value at c.in_err-ticket.ensures) in
+    let none = position_none_listed _ _ _ _ c.self.invariant.0 c.args.listed.now (rw c.as_slice.ensures at c.in_err-ticket.ensures) in
     rw (← c.self.view_is) (c.from_residual.ensures ∙ sym none)
 
 pub returns : goal.returns
 returns c =
-    let found = position_listed _ _ _ _ c.self.invariant.0 c.args.listed.now _ _ (rw c.deref.ensures.value at c.in_ok-ticket.ensures) c.binary_search.ensures.position in
+    let found = position_listed _ _ _ _ c.self.invariant.0 c.args.listed.now _ _ (rw c.as_slice.ensures at c.in_ok-ticket.ensures) c.binary_search.ensures.position in
     rw (← c.self.view_is) (c.ok.ensures.value ∙ sym found)

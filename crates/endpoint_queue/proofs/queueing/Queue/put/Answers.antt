@@ -5,7 +5,7 @@ use Rattle.endpoint_queue.proofs.queueing.Queue.put.Goals as goal
 
 pub invariant_of-self : goal.invariant_of-self
 invariant_of-self c = (
-  put_kept c.self.invariant.0 c.args.item c.number.ensures c.deref.ensures.value c.count_before-at.ensures.within c.count_before-at.ensures.between c.push_back_reserved.ensures.items c.push_back_reserved-2.ensures.items c.insert_place.ensures.items,
+  put_kept c.self.invariant.0 c.args.item c.number.ensures c.as_slice.ensures c.count_before-at.ensures.within c.count_before-at.ensures.between c.push_back_reserved.ensures.items c.push_back_reserved-2.ensures.items c.insert.ensures.places,
   omega arith,
   omega arith,
   omega arith,
