@@ -1,0 +1,121 @@
+//! The lock.
+ghost use Rattle.std.specs.Prelude.{◌≡◌, ◌+◌, ◌<◌, ◌≤◌, List, [], ◌∷◌, ◌++◌, Some, IfOk, vec_capacity, vec_len};
+ghost use Rattle.turn_lock.specs.Passes.{IsPassOf, AreDealt, own_steps};
+ghost use Rattle.turn_lock.specs.Stories.{RestsFor, IsAddedBy};
+ghost use Rattle.turn_lock.specs.Turns.{front, resting, pass_view, seen_first, IsAtRest, IsOut, Deals, Won, Holds};
+ghost use Rattle.turn_lock.specs.declared.story.Made.{Made};
+
+use crate::pass::{Held, Parts, Pass};
+use crate::story::Story;
+use crate::turns::{About, Deal, Give, Known, Place, Try, Turns};
+use atomic_table::{Refused, Table};
+use linx_base::NoMemory;
+use std::alloc::Global;
+use std::marker::Model;
+use std::snapshot::Snapshot;
+use std::sync::Wait;
+
+/// A state that one pass at a time may hold.
+#[derive(Drop)]
+pub struct TurnLock<S: Story> {
+    table: Table<Option<S>, Known<S::Step, S::Fixed>, About<S>, Turns, Global>,
+    seats: u32,
+}
+
+impl<S: Story> Model for TurnLock<S> {
+    ghost use Rattle.std.specs.Prelude.{◌≡◌};
+    ghost use Rattle.turn_lock.specs.Passes.{LockView};
+
+    ghost Value = { LockView };
+
+    ghost view = { λ l. record { id = l.table.shared.table_id; seats = l.seats } };
+
+    ghost invariant = { λ l. (l.table.shared.table_id.words ≡ 1) × (l.table.shared.table_id.slots ≡ 1) × (l.table.shared.key.seats ≡ l.seats) };
+}
+
+impl<S: Story> TurnLock<S> {
+    // Waits until no pass holds the state, and takes the slot.
+    fn win<R: Wait>(&self, rt: &R, mut parts: Parts<S>) -> Parts<S>
+        requires seat { parts.seat.table_id ≡ self.now.id }
+        requires rests { IsAtRest parts.number (S.fixed parts.about.value.state.value) parts.seat.me }
+        ensures same { (result.number ≡ parts.number) × (result.about ≡ parts.about) × (result.seat.table_id ≡ parts.seat.table_id) }
+        ensures won { Won S.story S.fixed parts.number (S.fixed parts.about.value.state.value) (seen_first parts.seat.me.0.fronts) result.seat.me }
+    {
+        for _ in rt.forever() {
+            let number = u64::from(parts.number);
+            let holder = self
+                .table
+                .shared
+                .compare_exchange::<Try>(&mut parts.seat, 0, 0, number);
+            if holder == 0 {
+                return parts;
+            }
+            let holder = u32::try_from(holder).unwrap_or(0);
+            self.table.shared.park(rt, 0, holder);
+        }
+        unreachable!()
+    }
+
+    // Takes the state out of the slot.
+    fn take_out(&self, mut parts: Parts<S>) -> Held<S>
+        requires seat { parts.seat.table_id ≡ self.now.id }
+        requires holds { (x : S) × Holds S.story S.fixed parts.number (S.fixed parts.about.value.state.value) parts.seat.me x }
+        ensures holds { Holds S.story S.fixed parts.number (S.fixed parts.about.value.state.value) parts.seat.me result.state }
+        ensures turn { result.turn ≡ pass_view parts.seat.table_id parts.number (S.fixed parts.about.value.state.value) parts.seat.me.0 }
+    {
+        let slot = self.table.shared.exchange(&mut parts.seat, 0, None);
+        let Some(state) = slot else {
+            unreachable!()
+        };
+        Held {
+            turn: parts.into_turn(),
+            state,
+        }
+    }
+
+    /// Waits until no pass holds the state, and takes it.
+    pub fn take<R: Wait>(&self, rt: &R, pass: Pass<S>) -> Held<S>
+        requires { IsPassOf self.now pass }
+        ensures turn { result.turn ≡ record pass { front = S.story result.state } }
+        ensures rests { RestsFor pass.number (S.story result.state) pass.front }
+        ensures own { own_steps result.turn ≡ own_steps pass }
+        ensures fixed { S.fixed result.state ≡ pass.fixed }
+    {
+        let parts = self.win(rt, Parts::of_pass(pass));
+        self.take_out(parts)
+    }
+
+    // Puts the state into the slot, and gives the slot back.
+    fn put_back(&self, mut parts: Parts<S>, state: S) -> Parts<S>
+        requires seat { parts.seat.table_id ≡ self.now.id }
+        requires out { IsOut parts.number (S.fixed parts.about.value.state.value) parts.seat.me }
+        requires added { IsAddedBy parts.number (S.story state) (seen_first parts.seat.me.0.fronts) }
+        requires fixed { S.fixed state ≡ S.fixed parts.about.value.state.value }
+        ensures same { (result.number ≡ parts.number) × (result.about ≡ parts.about) × (result.seat.table_id ≡ parts.seat.table_id) }
+        ensures rests { result.seat.me ≡ (resting (front parts.number (S.fixed parts.about.value.state.value) (S.story state)), []) }
+    {
+        let slot = self
+            .table
+            .shared
+            .exchange(&mut parts.seat, 0, Some(state));
+        let None = slot else {
+            unreachable!()
+        };
+        self.table.shared.store::<Give>(&mut parts.seat, 0, 0);
+        parts
+    }
+
+    /// Gives the state back, with the steps that were added.
+    pub fn give(&self, held: Held<S>) -> Pass<S>
+        requires lock { IsPassOf self.now held.turn }
+        requires added { IsAddedBy held.turn.number (S.story held.state) held.turn.front }
+        requires fixed { S.fixed held.state ≡ held.turn.fixed }
+        ensures pass { result ≡ record held.turn { front = S.story held.state } }
+        ensures own { (added : List (Made S.Step)) → S.story held.state ≡ added ++ held.turn.front → own_steps result ≡ added ++ own_steps held.turn }
+    {
+        let Held { turn, state } = held;
+        let parts = self.put_back(Parts::of_turn(turn), state);
+        self.table.shared.wake_one(0);
+        parts.into_pass()
+    }
+}
