@@ -202,3 +202,83 @@ module _ {S E F : Type 0} (story_of : S → List (Made E)) (fixed_of : S → F) 
         let here : x ≡ x' = cc in
         λ i. (resting (with_seen (head_same f f' (sym fronts ∙ fronts') i) (story_of (here i))), ap rest carried i),
   )
+
+  -- where k is not the number n, the seat of k is as it was; and the seat of n is `at`
+  abbrev seated : (seat : ℕ → ℕ) → ℕ → ℕ → ℕ → ℕ
+  seated seat n at k = cond (eqb k n) at (seat k)
+
+  seated_else : (seat : ℕ → ℕ) (n at k : ℕ) → k ≢ n → seated seat n at k ≡ seat k
+  seated_else seat n at k apart = ap (λ b. cond b at (seat k)) (ne_eqb k n apart)
+
+  seated_here : (seat : ℕ → ℕ) (n at : ℕ) → seated seat n at n ≡ at
+  seated_here seat n at = ap (λ b. cond b at (seat n)) (eq-eqb n n refl)
+
+  -- a view that does not deal fits still where one more number is dealt
+  dealt_on : (story : List (Made E)) (top : ℕ) (seat : ℕ → ℕ) (w at to : ℕ) (v : Known E F) → (v.deals ≡ true → ⊥) → FitsView story base top seat w at v → FitsView story base (top + 1) (seated seat (top + 1) to) w at v
+  dealt_on story top seat w at to v idle k = record {
+    fronts = All-weaker (FitsFront story base top seat at) (FitsFront story base (top + 1) (seated seat (top + 1) to) at)
+        (λ f h. let few = h.dealt.1 in moved story base top (top + 1) seat (seated seat (top + 1) to) at at f h (omega arith) (seated_else seat (top + 1) to f.number (λ e. omega arith) ∙ h.seated)) v.fronts k.fronts;
+    held = k.held;
+    last = λ e. absurd (idle e);
+  }
+
+  -- the seat that deals on
+  new_view : (s : St) (r : Rule s) (f : Front E F) → f.number ≡ r.top → f.fixed ≡ base
+      → FitsView r.story base (r.top + 1) (seated r.seat (r.top + 1) (length s.views)) (word s) (length s.views) (dealing (next_front f))
+  new_view s r f number fixed =
+      let seat' : ℕ → ℕ = seated r.seat (r.top + 1) (length s.views) in
+      let P : Front E F → Type 0 = FitsFront r.story base (r.top + 1) seat' (length s.views) in
+      let g : Front E F = front (r.top + 1) base [] in
+      let is : next_front f ≡ g = λ i. front (number i + 1) (fixed i) [] in
+      let fits : P g = record {
+        dealt = (omega arith, omega arith);
+        seated = seated_here r.seat (r.top + 1) (length s.views);
+        same = refl;
+        rests = (r.story, sym (append-nil r.story), made_by-above r.top (r.top + 1) r.story (omega arith) r.makers);
+      } in record {
+        fronts = All-cons P (next_front f) [] (subst P (sym is) fits) (All-nil P);
+        held = λ e. cc;
+        last = λ _. ([], ap (λ (h : Front E F). h ∷ []) is);
+      }
+
+  dealt_views : (s : St) (r : Rule s) (id : ℕ) (f : Front E F) → get_elem? s.views id ≡ some (dealing f) → f.number ≡ r.top → f.fixed ≡ base
+      → (at : ℕ) (v : Known E F) → get_elem? (set s.views id (resting f) ++ dealing (next_front f) ∷ []) at ≡ some v
+      → FitsView r.story base (r.top + 1) (seated r.seat (r.top + 1) (length s.views)) (word s) at v
+  dealt_views s r id f here number fixed at v e =
+      let vs : List (Known E F) = set s.views id (resting f) in
+      let K : ℕ → Known E F → Type 0 = FitsView r.story base (r.top + 1) (seated r.seat (r.top + 1) (length s.views)) (word s) in
+      let mine = only_front s r id (dealing f) f here refl in
+      ⊎_elim
+      (λ (t : get_elem? vs at ≡ some v). views_set K s.views id (resting f)
+          (dealt_on r.story r.top r.seat (word s) id (length s.views) (resting f) (λ e. cc) (fits_resting r.story base r.top r.seat (word s) id (f ∷ []) (r.views id (dealing f) here).fronts))
+          (λ j u apart there. let k = r.views j u there in dealt_on r.story r.top r.seat (word s) j (length s.views) u
+              (λ deals. let one = k.last deals in let g = only_front s r j u (front r.top base one.0) there one.1 in absurd (apart (sym g.seated ∙ (ap r.seat (sym number) ∙ mine.seated)))) k) at v t)
+      (λ (t : (at ≡ length vs) × (dealing (next_front f) ≡ v)). subst (λ (x : ℕ × Known E F). K x.0 x.1) (λ i. (sym (t.0 ∙ length-set s.views id (resting f)) i, t.1 i)) (new_view s r f number fixed))
+      (at_end vs (dealing (next_front f)) v at e)
+
+  -- a seat that deals is cut in two, and the new one deals on
+  pub deals : (id : ℕ) (v : Known E F) (f : Front E F) → v ≡ dealing f → f.number < about.seats → Splits Rule id v (dealt v) (dealt_next v)
+  deals id v f is few s r there =
+      let here : get_elem? s.views id ≡ some (dealing f) = there ∙ ap some is in
+      let last = (r.views id (dealing f) here).last refl in
+      let same : f ≡ front r.top base last.0 = head_same f (front r.top base last.0) last.1 in
+      let number : f.number ≡ r.top = ap (λ (g : Front E F). g.number) same in
+      let fixed : f.fixed ≡ base = ap (λ (g : Front E F). g.fixed) same in
+      let state : Known E F → St = λ u. record { words = s.words; homes = s.homes; views = set s.views id (dealt u) ++ dealt_next u ∷ [] } in
+      let kept : Rule (state (dealing f)) = record {
+        story = r.story;
+        top = r.top + 1;
+        seat = seated r.seat (r.top + 1) (length s.views);
+        one_word = r.one_word;
+        few = omega arith;
+        makers = All-weaker (λ m. m.maker ≤ r.top) (λ m. m.maker ≤ r.top + 1) (λ m l. omega arith) r.story r.makers;
+        views = dealt_views s r id f here number fixed;
+        home = r.home;
+        out = λ away. let o = r.out away in (
+          o.0,
+          o.1,
+          at_longer (set s.views id (resting f)) (dealing (next_front f) ∷ []) o.0 o.1 (set_else s.views id o.0 (resting f)
+              (λ e. absurd (let u : o.1 ≡ dealing f = some-injective o.1 (dealing f) (sym o.2 ∙ (ap (get_elem? s.views) e ∙ here)) in let no : true ≡ false = sym o.3 ∙ ap (λ (k : Known E F). k.holds) u in cc)) ∙ o.2),
+          o.3,
+        );
+      } in subst (λ u. Rule (state u)) (sym is) kept

@@ -28,9 +28,13 @@ module _ {E F : Type 0} where
   abbrev pub new_pass : TableId → F → ℕ → PassView E F
   new_pass id fixed n = record { lock = id; number = n; fixed = fixed; front = [] }
 
-  -- these are the passes of a new lock, numbered from 1 in their order
+  -- these are the first n passes of a new lock, numbered from 1 in their order
+  abbrev pub AreFirst : TableId → F → ℕ → List (PassView E F) → Type 0
+  AreFirst id fixed n passes = (length passes ≡ n) × ((k : ℕ) → k < n → slice_get passes k ≡ Some (new_pass id fixed (k + 1)))
+
+  -- these are all passes of a new lock
   abbrev pub AreDealt : LockView → F → List (PassView E F) → Type 0
-  AreDealt lock fixed passes = (length passes ≡ lock.seats) × ((k : ℕ) → k < lock.seats → slice_get passes k ≡ Some (new_pass lock.id fixed (k + 1)))
+  AreDealt lock fixed passes = AreFirst lock.id fixed lock.seats passes
 
   abbrev pub numbers : List (PassView E F) → List ℕ
   numbers passes = map (λ p. p.number) passes

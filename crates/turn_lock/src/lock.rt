@@ -2,7 +2,7 @@
 ghost use Rattle.std.specs.Prelude.{◌≡◌, ◌+◌, ◌<◌, ◌≤◌, List, [], ◌∷◌, ◌++◌, Some, IfOk, vec_capacity, vec_len};
 ghost use Rattle.turn_lock.specs.Passes.{IsPassOf, AreDealt, own_steps};
 ghost use Rattle.turn_lock.specs.Stories.{RestsFor, IsAddedBy};
-ghost use Rattle.turn_lock.specs.Turns.{front, resting, pass_view, seen_first, IsAtRest, IsOut, Deals, Won, Holds};
+ghost use Rattle.turn_lock.specs.Turns.{front, resting, dealing, pass_view, seen_first, IsAtRest, IsOut, Deals, Won, Holds};
 ghost use Rattle.turn_lock.specs.declared.story.Made.{Made};
 
 use crate::pass::{Held, Parts, Pass};
@@ -34,6 +34,45 @@ impl<S: Story> Model for TurnLock<S> {
 }
 
 impl<S: Story> TurnLock<S> {
+    /// Puts a state with no steps behind a lock of 1 to 96 passes, and deals out the passes, numbered from 1.
+    /// `NoMemory` drops the state.
+    pub fn new(alloc: Global, state: S, seats: u32) -> Result<(TurnLock<S>, Vec<Pass<S>>), NoMemory>
+    where
+        S: Drop,
+        requires fresh { S.story state ≡ [] }
+        requires seats { (0 < seats) × (seats ≤ 96) }
+        ensures { IfOk result (λ r. (r.0.seats ≡ seats) × AreDealt r.0 (S.fixed state) r.1.items) }
+    {
+        let about = About {
+            state: Snapshot::of(&state),
+            seats,
+        };
+        let mut passes = Vec::with_capacity(alloc, seats as usize)?;
+        let mut slots = Vec::with_capacity(alloc, 1)?;
+        slots.push_reserved(Some(state));
+        let Ok((table, seat)) = Table::new(alloc, &[0], slots, &about) else {
+            return Err(NoMemory);
+        };
+        let lock = TurnLock { table, seats };
+        lock.deal(&about, seat, &mut passes);
+        Ok((lock, passes))
+    }
+
+    // Deals out the passes, of which the first has the seat.
+    fn deal(&self, about: &About<S>, seat: Place<S>, passes: &mut Vec<Pass<S>>)
+        requires seat { (seat.table_id ≡ self.now.id) × (seat.me ≡ (dealing (front 1 (S.fixed about.now.state.value) []), [])) }
+        requires passes { (passes.old.items ≡ []) × (vec_len passes.old ≡ 0) × (vec_capacity passes.old ≡ self.now.seats) × (0 < self.now.seats) }
+        ensures { AreDealt self.now (S.fixed about.now.state.value) passes.new.items }
+    {
+        let mut last = seat;
+        for number in 1..self.seats {
+            let next = self.table.shared.split_seat::<Deal>(&mut last);
+            passes.push_reserved(Pass::of(number, last, about));
+            last = next;
+        }
+        passes.push_reserved(Pass::of(self.seats, last, about));
+    }
+
     // Waits until no pass holds the state, and takes the slot.
     fn win<R: Wait>(&self, rt: &R, mut parts: Parts<S>) -> Parts<S>
         requires seat { parts.seat.table_id ≡ self.now.id }

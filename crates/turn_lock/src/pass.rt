@@ -29,6 +29,19 @@ impl<S: Story> Model for Pass<S> {
     ghost invariant = { λ p. IsAtRest p.number (S.fixed p.about.value.state.value) p.seat.me };
 }
 
+impl<S: Story> Pass<S> {
+    pub(crate) fn of(number: u32, seat: Place<S>, about: &About<S>) -> Pass<S>
+        requires { IsAtRest number (S.fixed about.now.state.value) seat.me }
+        ensures { result ≡ pass_view seat.table_id number (S.fixed about.now.state.value) seat.me.0 }
+    {
+        Pass {
+            number,
+            seat,
+            about: Snapshot::of(about),
+        }
+    }
+}
+
 /// A pass while it holds the state: its front is the story that it found.
 pub struct Turn<S: Story> {
     number: u32,

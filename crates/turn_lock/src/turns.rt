@@ -20,6 +20,7 @@ pub struct Known<E, F> {
 }
 
 /// What the table is told once: the state as it was put in, and the number of passes.
+#[derive(Drop)]
 pub struct About<S> {
     pub state: Snapshot<S>,
     pub seats: u32,
