@@ -1,7 +1,7 @@
 -- Each step of a lock keeps its rule.
-use Rattle.std.proofs.Common.{◌≡◌, ◌≢◌, ℕ, zero, suc, ◌+◌, ◌<◌, ◌≤◌, eqb, ◌⊎◌, List, [], ◌∷◌, ◌++◌, length, get_or, set, Option, Some, None, true, false, cond, sym, refl, ap, ◌∙◌, subst, inl, inr, ⊎_elim, arith, length-set, get_or-set_same, eq-eqb, ne_eqb, All}
+use Rattle.std.proofs.Common.{◌≡◌, ◌≢◌, ℕ, zero, suc, ◌+◌, ◌<◌, ◌≤◌, eqb, ◌⊎◌, List, [], ◌∷◌, ◌++◌, length, get_or, set, Option, Some, None, true, false, cond, sym, refl, ap, ◌∙◌, subst, inl, inr, ⊎_elim, arith, length-set, get_or-set_same, eq-eqb, ne_eqb, All, map, Contains}
 use Rattle.std.proofs.lemmas.List.{append-nil}
-use Rattle.std.proofs.lemmas.List.Elements.{All-nil, All-cons, All-head, All-append, All-weaker, All-same}
+use Rattle.std.proofs.lemmas.List.Elements.{All-nil, All-cons, All-head, All-append, All-weaker, All-same, All-tail, All-map, All-contains}
 use mathlib.Core.Logic.{dite}
 use mathlib.Core.Option.{none, some, some-injective, some-ne-none}
 use native.Mathlib.Decide.{ℕ_discrete}
@@ -15,7 +15,8 @@ use Rattle.turn_lock.specs.declared.turns.Front.{Front}
 use Rattle.turn_lock.specs.declared.turns.Known.{Known}
 use Rattle.turn_lock.specs.declared.turns.About.{About}
 use Rattle.turn_lock.specs.Stories.{RestsFor, IsAddedBy}
-use Rattle.turn_lock.specs.Turns.{front, resting, dealing, holding, with_seen, next_front, dealt, dealt_next, joined, spent, FitsFront, FitsView, OneStory, tried, gave}
+use Rattle.turn_lock.specs.Turns.{front, resting, dealing, holding, with_seen, next_front, dealt, dealt_next, joined, spent, FitsFront, FitsView, OneStory, tried, gave, front_of, HasFronts}
+use Rattle.turn_lock.specs.Passes.{PassView, numbers, Tells}
 use Rattle.turn_lock.proofs.Stories.{rests_itself, rests_added, added_makers, made_by-above}
 
 module _ {A : Type 0} where
@@ -250,9 +251,9 @@ module _ {S E F : Type 0} (story_of : S → List (Made E)) (fixed_of : S → F) 
       let mine = only_front s r id (dealing f) f here refl in
       ⊎_elim
       (λ (t : get_elem? vs at ≡ some v). views_set K s.views id (resting f)
-          (dealt_on r.story r.top r.seat (word s) id (length s.views) (resting f) (λ e. cc) (fits_resting r.story base r.top r.seat (word s) id (f ∷ []) (r.views id (dealing f) here).fronts))
-          (λ j u apart there. let k = r.views j u there in dealt_on r.story r.top r.seat (word s) j (length s.views) u
-              (λ deals. let one = k.last deals in let g = only_front s r j u (front r.top base one.0) there one.1 in absurd (apart (sym g.seated ∙ (ap r.seat (sym number) ∙ mine.seated)))) k) at v t)
+      (dealt_on r.story r.top r.seat (word s) id (length s.views) (resting f) (λ e. cc) (fits_resting r.story base r.top r.seat (word s) id (f ∷ []) (r.views id (dealing f) here).fronts))
+      (λ j u apart there. let k = r.views j u there in dealt_on r.story r.top r.seat (word s) j (length s.views) u
+      (λ deals. let one = k.last deals in let g = only_front s r j u (front r.top base one.0) there one.1 in absurd (apart (sym g.seated ∙ (ap r.seat (sym number) ∙ mine.seated)))) k) at v t)
       (λ (t : (at ≡ length vs) × (dealing (next_front f) ≡ v)). subst (λ (x : ℕ × Known E F). K x.0 x.1) (λ i. (sym (t.0 ∙ length-set s.views id (resting f)) i, t.1 i)) (new_view s r f number fixed))
       (at_end vs (dealing (next_front f)) v at e)
 
@@ -282,3 +283,87 @@ module _ {S E F : Type 0} (story_of : S → List (Made E)) (fixed_of : S → F) 
           o.3,
         );
       } in subst (λ u. Rule (state u)) (sym is) kept
+
+  -- the seats of two that are one
+  abbrev merged : (seat : ℕ → ℕ) → ℕ → ℕ → ℕ → ℕ
+  merged seat id other k = cond (eqb (seat k) other) id (seat k)
+
+  merged_else : (seat : ℕ → ℕ) (id other k at : ℕ) → seat k ≡ at → at ≢ other → merged seat id other k ≡ at
+  merged_else seat id other k at e apart = ap (λ b. cond b id (seat k)) (ne_eqb (seat k) other (λ t. apart (sym e ∙ t))) ∙ e
+
+  merged_here : (seat : ℕ → ℕ) (id other k : ℕ) → seat k ≡ other → merged seat id other k ≡ id
+  merged_here seat id other k e = ap (λ b. cond b id (seat k)) (eq-eqb (seat k) other e)
+
+  joined_fits : (s : St) (r : Rule s) (id other : ℕ) (v w : Known E F) → other ≢ id → get_elem? s.views id ≡ some v → get_elem? s.views other ≡ some w
+      → FitsView r.story base r.top (merged r.seat id other) (word s) id (joined v w)
+  joined_fits s r id other v w apart here there =
+      let P : ℕ → Front E F → Type 0 = FitsFront r.story base r.top r.seat in
+      let Q : Front E F → Type 0 = FitsFront r.story base r.top (merged r.seat id other) id in
+      let to : (at : ℕ) (f : Front E F) → merged r.seat id other f.number ≡ id → P at f → Q f = λ at f e h. record { dealt = h.dealt; seated = e; same = h.same; rests = h.rests } in
+      fits_resting r.story base r.top (merged r.seat id other) (word s) id (w.fronts ++ v.fronts) (All-append Q w.fronts v.fronts
+      (All-weaker (P other) Q (λ f h. to other f (merged_here r.seat id other f.number h.seated) h) w.fronts (r.views other w there).fronts)
+      (All-weaker (P id) Q (λ f h. to id f (merged_else r.seat id other f.number id h.seated (λ e. apart (sym e))) h) v.fronts (r.views id v here).fronts))
+
+  -- two seats that rest are joined
+  pub gathers : (id : ℕ) (v : Known E F) (other : ℕ) (w : Known E F) → v.holds ≡ false → w.holds ≡ false → Joins Rule id v other w (joined v w) spent
+  gathers id v other w idle idle' s r here apart there' =
+      let there : get_elem? s.views other ≡ some w = sym (set_else s.views id other (joined v w) apart) ∙ there' in
+      let seat' : ℕ → ℕ = merged r.seat id other in
+      let K : ℕ → Known E F → Type 0 = FitsView r.story base r.top seat' (word s) in
+      let vs : List (Known E F) = set s.views id (joined v w) in record {
+        story = r.story;
+        top = r.top;
+        seat = seat';
+        one_word = r.one_word;
+        few = r.few;
+        makers = r.makers;
+        views = views_set K vs other spent (fits_resting r.story base r.top seat' (word s) other [] (All-nil _))
+            (λ j u away at. views_set (λ i x. i ≢ other → K i x) s.views id (joined v w) (λ _. joined_fits s r id other v w apart here there)
+            (λ i x _ e off. let k = r.views i x e in record {
+              fronts = All-weaker (FitsFront r.story base r.top r.seat i) (FitsFront r.story base r.top seat' i) (λ f h. record { dealt = h.dealt; seated = merged_else r.seat id other f.number i h.seated off; same = h.same; rests = h.rests }) x.fronts k.fronts;
+              held = k.held;
+              last = k.last;
+            }) j u at away);
+        home = r.home;
+        out = λ gone. let o = r.out gone in
+            let differs : (i : ℕ) (u : Known E F) → get_elem? s.views i ≡ some u → u.holds ≡ false → o.0 ≢ i = λ i u e no is.
+            (let same : o.1 ≡ u = some-injective o.1 u (sym o.2 ∙ (ap (get_elem? s.views) is ∙ e)) in let bad : true ≡ false = sym o.3 ∙ (ap (λ (k : Known E F). k.holds) same ∙ no) in cc) in
+            (o.0, o.1, set_else vs other o.0 spent (differs other w there idle') ∙ (set_else s.views id o.0 (joined v w) (differs id v here idle) ∙ o.2), o.3);
+      }
+
+  All-unmap : {A B : Type 0} (P : B → Type 0) (f : A → B) (xs : List A) → All P (map f xs) → All (λ a. P (f a)) xs
+  All-unmap {A} P f [] h = All-nil (λ (a : A). P (f a))
+  All-unmap {A} P f (x ∷ xs) h = All-cons (λ (a : A). P (f a)) x xs (All-head P (f x) (map f xs) h) (All-unmap P f xs (All-tail P (f x) (map f xs) h))
+
+  all_home : (s : St) (r : Rule s) (id : ℕ) (v : Known E F) (passes : List (PassView E F)) → get_elem? s.views id ≡ some v → v.holds ≡ false → v.fronts ≡ map front_of passes
+      → ((n : ℕ) → 0 < n → n ≤ about.seats → Contains (numbers passes) n) → 0 < word s → ⊥
+  all_home s r id v passes here idle fronts each away =
+      let o = r.out away in
+      let held = (r.views o.0 o.1 o.2).held o.3 in
+      let g = only_front s r o.0 o.1 (front (word s) base r.story) o.2 held.1 in
+      let P : Front E F → Type 0 = FitsFront r.story base r.top r.seat id in
+      let top : word s ≤ r.top = g.dealt.1 in
+      let few : r.top ≤ about.seats = r.few in
+      let there : Contains (numbers passes) (word s) = each (word s) away (omega arith) in
+      let mine : All (λ (p : PassView E F). r.seat p.number ≡ id) passes = All-weaker (λ p. P (front_of p)) (λ p. r.seat p.number ≡ id) (λ p h. h.seated) passes
+      (All-unmap P front_of passes (All-same P (map front_of passes) v.fronts (sym fronts) (r.views id v here).fronts)) in
+      let at : r.seat (word s) ≡ id = All-contains (λ n. r.seat n ≡ id) (numbers passes) (word s) (All-map (λ n. r.seat n ≡ id) (λ (p : PassView E F). p.number) passes mine) there in
+      let same : o.1 ≡ v = some-injective o.1 v (sym o.2 ∙ (ap (get_elem? s.views) (sym g.seated ∙ at) ∙ here)) in
+      let bad : true ≡ false = sym o.3 ∙ (ap (λ (k : Known E F). k.holds) same ∙ idle) in cc
+
+  -- where all passes are joined to one seat, the slot has a state, which tells of each
+  pub closes : (id : ℕ) (m : M) (passes : List (PassView E F)) (seats : ℕ) (ws : List ℕ) (xs : List (Option S)) (slot : Option S) → Final (Seen Rule id m.0) ws xs → HasFronts passes m
+      → about.seats ≡ seats → ((n : ℕ) → 0 < n → n ≤ seats → Contains (numbers passes) n) → get_elem? xs 0 ≡ some slot → (x : S) × (slot ≡ Some x) × All (Tells (fixed_of x) (story_of x)) passes
+  closes id m passes seats ws xs slot end fronts as_many each there =
+      let s = end.0 in
+      let r = end.1.0 in
+      let here = end.1.1 in
+      let free : word s ≡ 0 = dite (ℕ_discrete (word s) 0) (λ e. e) (λ ne. absurd (all_home s r id m.0 passes here fronts.1 fronts.2 (λ n low high. each n low (omega arith)) (omega arith))) in
+      let h = r.home free in
+      let x : S = h.0 in
+      let P : Front E F → Type 0 = FitsFront r.story base r.top r.seat id in (
+        x,
+        some-injective slot (Some x) (sym there ∙ end.4 0 (Some x) h.1),
+        All-weaker (λ p. P (front_of p)) (Tells (fixed_of x) (story_of x)) (λ p k. (h.3 ∙ sym k.same, subst (λ t. RestsFor p.number t p.front) (sym h.2) k.rests)) passes
+            (All-unmap P front_of passes (All-same P (map front_of passes) m.0.fronts (sym fronts.2) (r.views id m.0 here).fronts)),
+      )

@@ -2,7 +2,7 @@
 use Rattle.std.specs.Prelude.{◌≡◌, ℕ, ◌+◌, ◌<◌, ◌≤◌, List, [], ◌∷◌, Some, length, slice_get, map, Contains, All}
 use Rattle.atomic_table.specs.Seated.{TableId}
 use Rattle.turn_lock.specs.declared.story.Made.{Made}
-use Rattle.turn_lock.specs.Stories.{made_by, BeginsWith}
+use Rattle.turn_lock.specs.Stories.{made_by, RestsFor}
 
 -- which lock it is, and how many passes it has
 pub record LockView : Type 0 where
@@ -46,3 +46,7 @@ module _ {E F : Type 0} where
   -- the least number of a pass of the lock that is not among these
   abbrev pub IsLeastMissing : LockView → List (PassView E F) → ℕ → Type 0
   IsLeastMissing lock passes n = (0 < n) × (n ≤ lock.seats) × ¬ (Contains (numbers passes) n) × ((k : ℕ) → 0 < k → k < n → Contains (numbers passes) k)
+
+  -- a state with this fixed part and this story: what the pass has seen begins it, and the pass made no step of it since
+  abbrev pub Tells : F → List (Made E) → PassView E F → Type 0
+  Tells fixed story p = (fixed ≡ p.fixed) × RestsFor p.number story p.front

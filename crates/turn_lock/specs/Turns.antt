@@ -1,6 +1,6 @@
 -- The rule of the lock, and what each of its steps tells.
 -- The word is 0, or the number of the pass that holds the state. The slot has the state where the word is 0.
-use Rattle.std.specs.Prelude.{◌≡◌, ◌≢◌, ℕ, ◌+◌, ◌<◌, ◌≤◌, List, [], ◌∷◌, ◌++◌, Option, Some, None, false, true, All, slice_index, length}
+use Rattle.std.specs.Prelude.{◌≡◌, ◌≢◌, ℕ, ◌+◌, ◌<◌, ◌≤◌, List, [], ◌∷◌, ◌++◌, Option, Some, None, false, true, All, slice_index, length, map}
 use mathlib.Core.Option.{some}
 use lib.ListN.{get_elem?}
 use Rattle.atomic_table.specs.Table.{State, Me, Step}
@@ -44,9 +44,9 @@ module _ {E F : Type 0} where
   abbrev pub dealt_next : Known E F → Known E F
   dealt_next v = record { holds = false; deals = true; fronts = next_fronts v.fronts }
 
-  -- two seats that rest, as one
+  -- two seats that rest, as one, with the fronts of the second before those of the first
   abbrev pub joined : Known E F → Known E F → Known E F
-  joined v w = record { holds = false; deals = false; fronts = v.fronts ++ w.fronts }
+  joined v w = record { holds = false; deals = false; fronts = w.fronts ++ v.fronts }
 
   -- a seat that was joined to another
   abbrev pub spent : Known E F
@@ -125,3 +125,14 @@ module _ {E F : Type 0} where
     -- the seat holds the state x
     abbrev pub Holds : ℕ → F → Me (Option S) (Known E F) → S → Type 0
     Holds n fixed m x = (0 < n) × (m ≡ (holding (front n fixed (story_of x)), (0, Some x) ∷ []))
+
+  abbrev pub front_of : PassView E F → Front E F
+  front_of p = front p.number p.fixed p.front
+
+  -- the seat rests, and has the fronts of these passes
+  abbrev pub HasFronts : {S : Type 0} → List (PassView E F) → Me (Option S) (Known E F) → Type 0
+  HasFronts passes m = (m.1 ≡ []) × (m.0.holds ≡ false) × (m.0.fronts ≡ map front_of passes)
+
+  -- of all these passes some are left, and the seat has the fronts of the others
+  abbrev pub Gathers : {S : Type 0} → List (PassView E F) → List (PassView E F) → Me (Option S) (Known E F) → Type 0
+  Gathers all left m = (late : List (PassView E F)) × (all ≡ left ++ late) × HasFronts late m

@@ -1,13 +1,13 @@
 //! The lock.
-ghost use Rattle.std.specs.Prelude.{◌≡◌, ◌+◌, ◌<◌, ◌≤◌, List, [], ◌∷◌, ◌++◌, Some, IfOk, vec_capacity, vec_len};
-ghost use Rattle.turn_lock.specs.Passes.{IsPassOf, AreDealt, own_steps};
-ghost use Rattle.turn_lock.specs.Stories.{RestsFor, IsAddedBy};
-ghost use Rattle.turn_lock.specs.Turns.{front, resting, dealing, pass_view, seen_first, IsAtRest, IsOut, Deals, Won, Holds};
+ghost use Rattle.std.specs.Prelude.{◌≡◌, ◌+◌, ◌<◌, ◌≤◌, List, [], ◌∷◌, ◌++◌, ◌↔◌, Some, All, Contains, IfOk, IfErr, OnOk, IsTrue, MatchOption, vec_capacity, vec_len};
+ghost use Rattle.turn_lock.specs.Passes.{IsPassOf, AreDealt, HasEach, IsLeastMissing, Tells, numbers, own_steps};
+ghost use Rattle.turn_lock.specs.Stories.{BeginsWith, RestsFor, IsAddedBy, made_by};
+ghost use Rattle.turn_lock.specs.Turns.{front, resting, dealing, pass_view, seen_first, IsAtRest, IsOut, Won, Holds, HasFronts};
 ghost use Rattle.turn_lock.specs.declared.story.Made.{Made};
 
 use crate::pass::{Held, Parts, Pass};
 use crate::story::Story;
-use crate::turns::{About, Deal, Give, Known, Place, Try, Turns};
+use crate::turns::{About, Deal, Gather, Give, Known, Place, Try, Turns};
 use atomic_table::{Refused, Table};
 use linx_base::NoMemory;
 use std::alloc::Global;
@@ -23,14 +23,23 @@ pub struct TurnLock<S: Story> {
 }
 
 impl<S: Story> Model for TurnLock<S> {
-    ghost use Rattle.std.specs.Prelude.{◌≡◌};
+    ghost use Rattle.std.specs.Prelude.{◌≡◌, ◌<◌};
     ghost use Rattle.turn_lock.specs.Passes.{LockView};
 
     ghost Value = { LockView };
 
     ghost view = { λ l. record { id = l.table.shared.table_id; seats = l.seats } };
 
-    ghost invariant = { λ l. (l.table.shared.table_id.words ≡ 1) × (l.table.shared.table_id.slots ≡ 1) × (l.table.shared.key.seats ≡ l.seats) };
+    ghost invariant = { λ l. (l.table.shared.table_id.words ≡ 1) × (l.table.shared.table_id.slots ≡ 1) × (l.table.shared.key.seats ≡ l.seats) × (0 < l.seats) };
+}
+
+/// A pass of the lock was not among those that it was to be closed with. All come back.
+#[derive(Drop)]
+pub struct CloseRefused<S: Story> {
+    pub lock: TurnLock<S>,
+    pub passes: Vec<Pass<S>>,
+    /// The least number of a pass that was not there.
+    pub missing: u32,
 }
 
 impl<S: Story> TurnLock<S> {
@@ -103,9 +112,7 @@ impl<S: Story> TurnLock<S> {
         ensures turn { result.turn ≡ pass_view parts.seat.table_id parts.number (S.fixed parts.about.value.state.value) parts.seat.me.0 }
     {
         let slot = self.table.shared.exchange(&mut parts.seat, 0, None);
-        let Some(state) = slot else {
-            unreachable!()
-        };
+        let Some(state) = slot else { unreachable!() };
         Held {
             turn: parts.into_turn(),
             state,
@@ -133,13 +140,8 @@ impl<S: Story> TurnLock<S> {
         ensures same { (result.number ≡ parts.number) × (result.about ≡ parts.about) × (result.seat.table_id ≡ parts.seat.table_id) }
         ensures rests { result.seat.me ≡ (resting (front parts.number (S.fixed parts.about.value.state.value) (S.story state)), []) }
     {
-        let slot = self
-            .table
-            .shared
-            .exchange(&mut parts.seat, 0, Some(state));
-        let None = slot else {
-            unreachable!()
-        };
+        let slot = self.table.shared.exchange(&mut parts.seat, 0, Some(state));
+        let None = slot else { unreachable!() };
         self.table.shared.store::<Give>(&mut parts.seat, 0, 0);
         parts
     }
@@ -157,4 +159,80 @@ impl<S: Story> TurnLock<S> {
         self.table.shared.wake_one(0);
         parts.into_pass()
     }
+
+    /// Closes the lock and gives the state, if all passes of the lock are there.
+    pub fn close(self, passes: Vec<Pass<S>>) -> Result<S, CloseRefused<S>>
+        requires { All (IsPassOf self) passes.items }
+        ensures each { OnOk result (HasEach self passes.items) }
+        ensures fixed { IfOk result (λ x. All (λ p. S.fixed x ≡ p.fixed) passes.items) }
+        ensures front { IfOk result (λ x. All (λ p. BeginsWith (S.story x) p.front) passes.items) }
+        ensures own { IfOk result (λ x. All (λ p. made_by p.number (S.story x) ≡ own_steps p) passes.items) }
+        ensures missing { IfErr result (λ e. IsLeastMissing self passes.items e.missing) }
+        ensures back { IfErr result (λ e. (e.lock ≡ self) × (e.passes.items ≡ passes.items)) }
+    {
+        if let Some(missing) = self.first_missing(passes.as_slice()) {
+            return Err(CloseRefused {
+                lock: self,
+                passes,
+                missing,
+            });
+        }
+        Ok(self.finish(passes))
+    }
+
+    // The least number of a pass that is not among these.
+    fn first_missing(&self, passes: &[Pass<S>]) -> Option<u32>
+        ensures some { 0 < self.now.seats }
+        ensures missing { MatchOption result (HasEach self.now passes.now) (IsLeastMissing self.now passes.now) }
+    {
+        for index in 0..self.seats {
+            if !has_number(passes, index + 1) {
+                return Some(index + 1);
+            }
+        }
+        None
+    }
+
+    // Takes the state out of a lock that no pass holds, since all are here.
+    fn finish(self, passes: Vec<Pass<S>>) -> S
+        requires of { All (IsPassOf self) passes.items }
+        requires each { (0 < self.seats) × HasEach self passes.items }
+        ensures { All (Tells (S.fixed result) (S.story result)) passes.items }
+    {
+        let seat = self.gather(passes);
+        let TurnLock { table, seats: _ } = self;
+        let mut closed = table.close_with(seat);
+        let slot = closed.take(0);
+        closed.free();
+        let Some(state) = slot else { unreachable!() };
+        state
+    }
+
+    // One seat, which knows what all these passes know.
+    fn gather(&self, mut passes: Vec<Pass<S>>) -> Place<S>
+        requires of { All (IsPassOf self.now) passes.items }
+        requires some { 0 < vec_len passes }
+        ensures { (result.table_id ≡ self.now.id) × HasFronts passes.items result.me }
+    {
+        let Some(pass) = passes.pop() else {
+            unreachable!()
+        };
+        let mut seat = Parts::of_pass(pass).seat;
+        while let Some(pass) = passes.pop() {
+            let other = Parts::of_pass(pass);
+            self.table.shared.join_seat::<Gather>(&mut seat, other.seat);
+        }
+        seat
+    }
+}
+
+fn has_number<S: Story>(passes: &[Pass<S>], number: u32) -> bool
+    ensures { IsTrue result ↔ Contains (numbers passes.now) number }
+{
+    for pass in passes {
+        if pass.number() == number {
+            return true;
+        }
+    }
+    false
 }

@@ -30,6 +30,13 @@ impl<S: Story> Model for Pass<S> {
 }
 
 impl<S: Story> Pass<S> {
+    /// Its number, from 1.
+    pub fn number(&self) -> u32
+        ensures { result ≡ self.now.number }
+    {
+        self.number
+    }
+
     pub(crate) fn of(number: u32, seat: Place<S>, about: &About<S>) -> Pass<S>
         requires { IsAtRest number (S.fixed about.now.state.value) seat.me }
         ensures { result ≡ pass_view seat.table_id number (S.fixed about.now.state.value) seat.me.0 }
@@ -82,6 +89,7 @@ impl<S: Story> Held<S> {
 }
 
 /// The fields of a pass or a turn.
+#[derive(Drop)]
 pub(crate) struct Parts<S: Story> {
     pub(crate) number: u32,
     pub(crate) seat: Seat<Option<S>, Known<S::Step, S::Fixed>>,

@@ -8,8 +8,7 @@ use Rattle.turn_lock.proofs.lock.TurnLock.deal.Goals as goal
 pub split_seat-next-requires : goal.split_seat-next-requires
 split_seat-next-requires g c =
     let i = c.loop-number.invariant in
-    let v = c.self.invariant in
-    (
+    let v = c.self.invariant in (
       i.0 ∙ ap (λ l. l.id) (sym c.self.view_is),
       omega arith,
       deals g.S.Story.story g.S.Story.fixed _ _ _ (front c.loop-number.number (g.S.Story.fixed c.args.about.now.state.value) []) (ap (λ m. m.0) i.1) (omega arith),
@@ -21,8 +20,7 @@ loop-number-preserved g c =
     let x = g.S.Story.fixed c.args.about.now.state.value in
     let s = c.split_seat-next.ensures in
     let up : vec_len c.push_reserved.new.self ≡ vec_len c.loop-number.passes + 1 = c.push_reserved.ensures.len in
-    let p : c.of.result ≡ new_pass c.args.self.now.id x (vec_len c.loop-number.passes + 1) = c.of.ensures ∙ (λ j. record { lock = (s.0 ∙ i.0) j; number = sym i.2 j; fixed = x; front = seen_first ((s.2 ∙ ap (λ m. (dealt m.0, m.1)) i.1) j).0.fronts }) in
-    (
+    let p : c.of.result ≡ new_pass c.args.self.now.id x (vec_len c.loop-number.passes + 1) = c.of.ensures ∙ (λ j. record { lock = (s.0 ∙ i.0) j; number = sym i.2 j; fixed = x; front = seen_first ((s.2 ∙ ap (λ m. (dealt m.0, m.1)) i.1) j).0.fronts }) in (
       s.3 ∙ i.0,
       s.4 ∙ ap (λ m. (dealt_next m.0, [])) i.1,
       omega arith,

@@ -10,8 +10,7 @@ store-requires g c =
     let put = c.exchange-slot.ensures.3 in
     let x = g.S.Story.fixed c.args.parts.about.value.state.value in
     let f = front c.args.parts.number x (seen_first c.args.parts.seat.me.0.fronts) in
-    let counts = c.self.invariant in
-    (
+    let counts = c.self.invariant in (
       c.exchange-slot.ensures.0 ∙ (c.requires.seat ∙ ap (λ l. l.id) (sym c.self.view_is)),
       omega arith,
       gives_back g.S.Story.story g.S.Story.fixed _ _ _ _ f c.args.state (omega arith) (ap (λ m. m.0.holds) put ∙ out.1) (ap (λ m. m.0.fronts) put ∙ out.2.1)

@@ -9,8 +9,7 @@ compare_exchange-holder-requires g c =
     let rests = c.requires.rests in
     let x = g.S.Story.fixed c.args.parts.about.value.state.value in
     let f = front c.args.parts.number x (seen_first c.args.parts.seat.me.0.fronts) in
-    let words = c.self.invariant.0 in
-    (
+    let words = c.self.invariant.0 in (
       kept.2 ∙ (c.requires.seat ∙ ap (λ l. l.id) (sym c.self.view_is)),
       omega arith,
       tries g.S.Story.story g.S.Story.fixed _ _ _ _ _ f (omega arith) (ap (λ m. m.0.fronts) kept.3 ∙ rests.2.1) (sym kept.0 ∙ sym c.from-number.ensures),
