@@ -58,8 +58,8 @@ module _ {E F : Type 0} where
       let long : length (numbers passes) ≡ length passes = length-map passes (λ (p : PassView E F). p.number) in omega arith
 
   module _ {S : Type 0} where
-    pub one_front : (p : PassView E F) (id : TableId) (n : ℕ) (fixed : F) (m : Me (Option S) (Known E F)) → IsAtRest n fixed m → p ≡ pass_view id n fixed m.0 → HasFronts (p ∷ []) m
-    one_front p id n fixed m h e = (h.0, h.1, h.2.1 ∙ ap (λ (q : PassView E F). front_of q ∷ []) (sym e))
+    pub one_front : (none : F) (p : PassView E F) (id : TableId) (n : ℕ) (m : Me (Option S) (Known E F)) → IsAtRest none n m → p ≡ pass_view none id n m.0 → HasFronts (p ∷ []) m
+    one_front none p id n m h e = (h.0, h.1, h.2.1 ∙ ap (λ (q : PassView E F). front_of q ∷ []) (sym e))
 
     pub gathers_one : (all left : List (PassView E F)) (p : PassView E F) (m : Me (Option S) (Known E F)) → all ≡ left ++ p ∷ [] → HasFronts (p ∷ []) m → Gathers all left m
     gathers_one all left p m e h = (p ∷ [], e, h)

@@ -1,9 +1,10 @@
 -- Stories: what goes on from a front, and what one maker made.
-use Rattle.std.proofs.Common.{◌≡◌, ◌≢◌, ℕ, ◌<◌, ◌≤◌, List, [], ◌∷◌, ◌++◌, eqb, true, false, refl, sym, ap, ◌∙◌, arith, append_assoc, eq-eqb, ne_eqb, All}
+use Rattle.std.proofs.Common.{◌≡◌, ◌≢◌, ℕ, ◌<◌, ◌≤◌, List, [], ◌∷◌, ◌++◌, eqb, true, false, refl, sym, ap, ◌∙◌, arith, append_assoc, eq-eqb, ne_eqb, All, zero, suc, map, length, get_or, Some}
+use Rattle.std.specs.Prelude.{slice_get}
 use Rattle.std.proofs.lemmas.List.{append-nil, append_cancel_right}
-use Rattle.std.proofs.lemmas.List.Elements.{filter-append, All-head, All-tail, All-append, All-weaker, All-same}
+use Rattle.std.proofs.lemmas.List.Elements.{filter-append, All-nil, All-cons, All-head, All-tail, All-append, All-weaker, All-same}
 use Rattle.turn_lock.specs.declared.story.Made.{Made}
-use Rattle.turn_lock.specs.Stories.{made_by, AllMadeBy, BeginsWith, RestsFor, IsAddedBy}
+use Rattle.turn_lock.specs.Stories.{made, made_by, AllMadeBy, BeginsWith, RestsFor, IsAddedBy}
 
 module _ {E : Type 0} where
   pub made_by-append : (n : ℕ) (xs ys : List (Made E)) → made_by n (xs ++ ys) ≡ made_by n xs ++ made_by n ys
@@ -51,6 +52,12 @@ module _ {E : Type 0} where
     made_by-append k a.0 p.0 ∙ (ap (λ t. t ++ made_by k p.0) (made_by-others n k a.0 apart a.2) ∙ p.2),
   )
 
+  pub added_none : (n : ℕ) (story : List (Made E)) → IsAddedBy n story story
+  added_none n story = ([], refl, All-nil (λ m. m.maker ≡ n))
+
+  pub added_one : (n : ℕ) (e : E) (story : List (Made E)) → IsAddedBy n (made n e ∷ story) story
+  added_one n e story = (made n e ∷ [], refl, All-cons (λ m. m.maker ≡ n) (made n e) [] refl (All-nil (λ m. m.maker ≡ n)))
+
   -- what n added is of n
   pub added_own : (n : ℕ) (story front added : List (Made E)) → IsAddedBy n story front → story ≡ added ++ front → made_by n story ≡ added ++ made_by n front
   added_own n story front added a e = let same : added ≡ a.0 = append_cancel_right added a.0 front (sym e ∙ a.1) in
@@ -59,3 +66,9 @@ module _ {E : Type 0} where
   pub added_makers : (n top : ℕ) (story front : List (Made E)) → n ≤ top → IsAddedBy n story front → All (λ m. m.maker ≤ top) front → All (λ m. m.maker ≤ top) story
   added_makers n top story front few a h = All-same (λ m. m.maker ≤ top) story (a.0 ++ front) a.1
       (All-append (λ m. m.maker ≤ top) a.0 front (All-weaker (λ m. m.maker ≡ n) (λ m. m.maker ≤ top) (λ m e. omega arith) a.0 a.2) h)
+
+  -- the maker of the step at i, as `maker` of a story has to answer it
+  pub maker_at : (story : List (Made E)) (i : ℕ) (m : Made E) → i < length story → m ≡ get_or story i m → slice_get (map (λ (x : Made E). x.maker) story) i ≡ Some m.maker
+  maker_at [] i m l e = absurd (omega arith)
+  maker_at (x ∷ xs) zero m l e = ap (λ (y : Made E). Some y.maker) (sym e)
+  maker_at (x ∷ xs) (suc i) m l e = maker_at xs i m (omega arith) e

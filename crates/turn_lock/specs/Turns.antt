@@ -95,36 +95,37 @@ module _ {E F : Type 0} where
   seen_first [] = []
   seen_first (f ∷ fs) = f.seen
 
-  -- a seat as a pass
-  abbrev pub pass_view : TableId → ℕ → F → Known E F → PassView E F
-  pass_view id n fixed v = record { lock = id; number = n; fixed = fixed; front = seen_first v.fronts }
+  -- what no step changes, by the first front; `none` where there is no front
+  abbrev pub fixed_first : F → List (Front E F) → F
+  fixed_first none [] = none
+  fixed_first none (f ∷ fs) = f.fixed
 
-  -- the seat has the one front of this number
-  abbrev pub HasFront : ℕ → F → Known E F → Type 0
-  HasFront n fixed v = (0 < n) × (v.fronts ≡ front n fixed (seen_first v.fronts) ∷ [])
+  -- a seat as a pass
+  abbrev pub pass_view : F → TableId → ℕ → Known E F → PassView E F
+  pass_view none id n v = record { lock = id; number = n; fixed = fixed_first none v.fronts; front = seen_first v.fronts }
+
+  -- the seat has one front, of this number
+  abbrev pub HasFront : F → ℕ → Known E F → Type 0
+  HasFront none n v = (0 < n) × (v.fronts ≡ front n (fixed_first none v.fronts) (seen_first v.fronts) ∷ [])
 
   module _ {S : Type 0} where
     -- the pass holds nothing
-    abbrev pub IsAtRest : ℕ → F → Me (Option S) (Known E F) → Type 0
-    IsAtRest n fixed m = (m.1 ≡ []) × (m.0.holds ≡ false) × HasFront n fixed m.0
+    abbrev pub IsAtRest : F → ℕ → Me (Option S) (Known E F) → Type 0
+    IsAtRest none n m = (m.1 ≡ []) × (m.0.holds ≡ false) × HasFront none n m.0
 
     -- the pass holds the slot, and has taken the state out of it
-    abbrev pub IsOut : ℕ → F → Me (Option S) (Known E F) → Type 0
-    IsOut n fixed m = (m.1 ≡ (0, None) ∷ []) × (m.0.holds ≡ true) × HasFront n fixed m.0
+    abbrev pub IsOut : F → ℕ → Me (Option S) (Known E F) → Type 0
+    IsOut none n m = (m.1 ≡ (0, None) ∷ []) × (m.0.holds ≡ true) × HasFront none n m.0
+
+    -- the pass holds the slot with the state x in it
+    abbrev pub Holds : F → ℕ → Me (Option S) (Known E F) → S → Type 0
+    Holds none n m x = (m.1 ≡ (0, Some x) ∷ []) × (m.0.holds ≡ true) × HasFront none n m.0
 
 module _ {E F : Type 0} where
-  -- the first seat of a new lock, which deals out the passes
-  abbrev pub Deals : {S : Type 0} → ℕ → F → Me (Option S) (Known E F) → Type 0
-  Deals n fixed m = (0 < n) × (m ≡ (dealing (front n fixed []), []))
-
   module _ {S : Type 0} (story_of : S → List (Made E)) (fixed_of : S → F) where
     -- the seat holds the state x, whose story goes on from what the seat had seen
     abbrev pub Won : ℕ → F → List (Made E) → Me (Option S) (Known E F) → Type 0
     Won n fixed seen m = (x : S) × (m ≡ (holding (front n fixed (story_of x)), (0, Some x) ∷ [])) × (fixed_of x ≡ fixed) × RestsFor n (story_of x) seen
-
-    -- the seat holds the state x
-    abbrev pub Holds : ℕ → F → Me (Option S) (Known E F) → S → Type 0
-    Holds n fixed m x = (0 < n) × (m ≡ (holding (front n fixed (story_of x)), (0, Some x) ∷ []))
 
   abbrev pub front_of : PassView E F → Front E F
   front_of p = front p.number p.fixed p.front

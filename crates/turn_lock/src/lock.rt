@@ -2,7 +2,7 @@
 ghost use Rattle.std.specs.Prelude.{◌≡◌, ◌+◌, ◌<◌, ◌≤◌, List, [], ◌∷◌, ◌++◌, ◌↔◌, Some, All, Contains, IfOk, IfErr, OnOk, IsTrue, MatchOption, vec_capacity, vec_len};
 ghost use Rattle.turn_lock.specs.Passes.{IsPassOf, AreDealt, HasEach, IsLeastMissing, Tells, numbers, own_steps};
 ghost use Rattle.turn_lock.specs.Stories.{BeginsWith, RestsFor, IsAddedBy, made_by};
-ghost use Rattle.turn_lock.specs.Turns.{front, resting, dealing, pass_view, seen_first, IsAtRest, IsOut, Won, Holds, HasFronts};
+ghost use Rattle.turn_lock.specs.Turns.{front, resting, dealing, pass_view, fixed_first, seen_first, IsAtRest, IsOut, Won, Holds, HasFronts};
 ghost use Rattle.turn_lock.specs.declared.story.Made.{Made};
 
 use crate::pass::{Held, Parts, Pass};
@@ -76,18 +76,18 @@ impl<S: Story> TurnLock<S> {
         let mut last = seat;
         for number in 1..self.seats {
             let next = self.table.shared.split_seat::<Deal>(&mut last);
-            passes.push_reserved(Pass::of(number, last, about));
+            passes.push_reserved(Pass::of(number, last));
             last = next;
         }
-        passes.push_reserved(Pass::of(self.seats, last, about));
+        passes.push_reserved(Pass::of(self.seats, last));
     }
 
     // Waits until no pass holds the state, and takes the slot.
     fn win<R: Wait>(&self, rt: &R, mut parts: Parts<S>) -> Parts<S>
         requires seat { parts.seat.table_id ≡ self.now.id }
-        requires rests { IsAtRest parts.number (S.fixed parts.about.value.state.value) parts.seat.me }
-        ensures same { (result.number ≡ parts.number) × (result.about ≡ parts.about) × (result.seat.table_id ≡ parts.seat.table_id) }
-        ensures won { Won S.story S.fixed parts.number (S.fixed parts.about.value.state.value) (seen_first parts.seat.me.0.fronts) result.seat.me }
+        requires rests { IsAtRest S.any_fixed parts.number parts.seat.me }
+        ensures same { (result.number ≡ parts.number) × (result.seat.table_id ≡ parts.seat.table_id) }
+        ensures won { Won S.story S.fixed parts.number (fixed_first S.any_fixed parts.seat.me.0.fronts) (seen_first parts.seat.me.0.fronts) result.seat.me }
     {
         for _ in rt.forever() {
             let number = u64::from(parts.number);
@@ -107,9 +107,9 @@ impl<S: Story> TurnLock<S> {
     // Takes the state out of the slot.
     fn take_out(&self, mut parts: Parts<S>) -> Held<S>
         requires seat { parts.seat.table_id ≡ self.now.id }
-        requires holds { (x : S) × Holds S.story S.fixed parts.number (S.fixed parts.about.value.state.value) parts.seat.me x }
-        ensures holds { Holds S.story S.fixed parts.number (S.fixed parts.about.value.state.value) parts.seat.me result.state }
-        ensures turn { result.turn ≡ pass_view parts.seat.table_id parts.number (S.fixed parts.about.value.state.value) parts.seat.me.0 }
+        requires holds { (x : S) × Holds S.any_fixed parts.number parts.seat.me x }
+        ensures holds { Holds S.any_fixed parts.number parts.seat.me result.state }
+        ensures turn { result.turn ≡ pass_view S.any_fixed parts.seat.table_id parts.number parts.seat.me.0 }
     {
         let slot = self.table.shared.exchange(&mut parts.seat, 0, None);
         let Some(state) = slot else { unreachable!() };
@@ -134,11 +134,11 @@ impl<S: Story> TurnLock<S> {
     // Puts the state into the slot, and gives the slot back.
     fn put_back(&self, mut parts: Parts<S>, state: S) -> Parts<S>
         requires seat { parts.seat.table_id ≡ self.now.id }
-        requires out { IsOut parts.number (S.fixed parts.about.value.state.value) parts.seat.me }
+        requires out { IsOut S.any_fixed parts.number parts.seat.me }
         requires added { IsAddedBy parts.number (S.story state) (seen_first parts.seat.me.0.fronts) }
-        requires fixed { S.fixed state ≡ S.fixed parts.about.value.state.value }
-        ensures same { (result.number ≡ parts.number) × (result.about ≡ parts.about) × (result.seat.table_id ≡ parts.seat.table_id) }
-        ensures rests { result.seat.me ≡ (resting (front parts.number (S.fixed parts.about.value.state.value) (S.story state)), []) }
+        requires fixed { S.fixed state ≡ fixed_first S.any_fixed parts.seat.me.0.fronts }
+        ensures same { (result.number ≡ parts.number) × (result.seat.table_id ≡ parts.seat.table_id) }
+        ensures rests { result.seat.me ≡ (resting (front parts.number (fixed_first S.any_fixed parts.seat.me.0.fronts) (S.story state)), []) }
     {
         let slot = self.table.shared.exchange(&mut parts.seat, 0, Some(state));
         let None = slot else { unreachable!() };

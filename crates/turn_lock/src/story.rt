@@ -1,6 +1,8 @@
+//! Stories: what a locked state tells of its steps.
 ghost use Rattle.std.specs.Prelude.{◌≡◌, ℕ, ◌-◌, ◌<◌, ◌≤◌, List, map, length, slice_get, Some};
 
 /// A step of a story, with the number of its maker.
+#[derive(Drop)]
 pub struct Made<E> {
     pub maker: u32,
     pub step: E,
@@ -21,6 +23,9 @@ pub trait Story {
 
     // What no step changes.
     ghost fixed: { Self → Self.Fixed };
+
+    // Some value of that type, no matter which. No clause says anything of it.
+    ghost any_fixed: { Self.Fixed };
 
     /// How many steps were made.
     fn steps(&self) -> u64

@@ -11,7 +11,7 @@ loop-pass-init g c =
     let h = All-pop (IsPassOf c.args.self.now) _ _ (Some p) c.in-Some.ensures.items c.requires.of in (
       ap (λ q. q.lock) (sym c.of_pass.ensures.view) ∙ h.1,
       h.0,
-      gathers_one _ _ p c.of_pass.result.seat.me c.in-Some.ensures.items (one_front p _ _ _ c.of_pass.result.seat.me c.of_pass.ensures.rests c.of_pass.ensures.view),
+      gathers_one _ _ p c.of_pass.result.seat.me c.in-Some.ensures.items (one_front _ p _ _ c.of_pass.result.seat.me c.of_pass.ensures.rests c.of_pass.ensures.view),
     )
 
 pub join_seat-requires : goal.join_seat-requires
@@ -35,7 +35,7 @@ loop-pass-preserved g c =
     let h = All-pop (IsPassOf c.args.self.now) _ _ (Some p) c.in-Some-pop.ensures.items i.1 in (
       c.join_seat.ensures.0 ∙ i.0,
       h.0,
-      gathers_more _ _ _ p c.loop-pass.seat.me c.join_seat.new.seat.me c.of_pass-other.result.seat.me i.2 c.in-Some-pop.ensures.items (one_front p _ _ _ c.of_pass-other.result.seat.me c.of_pass-other.ensures.rests c.of_pass-other.ensures.view) c.join_seat.ensures.2,
+      gathers_more _ _ _ p c.loop-pass.seat.me c.join_seat.new.seat.me c.of_pass-other.result.seat.me i.2 c.in-Some-pop.ensures.items (one_front _ p _ _ c.of_pass-other.result.seat.me c.of_pass-other.ensures.rests c.of_pass-other.ensures.view) c.join_seat.ensures.2,
     )
 
 pub returns : goal.returns

@@ -1,6 +1,6 @@
 use Rattle.std.proofs.Common.{◌≡◌, ◌<◌, List, ◌∷◌, [], ℕ, Option, Some, sym, ap, ◌∙◌, refl, subst, arith}
 use Rattle.atomic_table.specs.Table.{rest}
-use Rattle.turn_lock.specs.Turns.{front, seen_first, IsOut}
+use Rattle.turn_lock.specs.Turns.{front, fixed_first, seen_first, IsOut}
 use Rattle.turn_lock.proofs.Steps.{gives_back}
 use Rattle.turn_lock.proofs.lock.TurnLock.put_back.Goals as goal
 
@@ -8,7 +8,7 @@ pub store-requires : goal.store-requires
 store-requires g c =
     let out = c.requires.out in
     let put = c.exchange-slot.ensures.3 in
-    let x = g.S.Story.fixed c.args.parts.about.value.state.value in
+    let x = fixed_first g.S.Story.any_fixed c.args.parts.seat.me.0.fronts in
     let f = front c.args.parts.number x (seen_first c.args.parts.seat.me.0.fronts) in
     let counts = c.self.invariant in (
       c.exchange-slot.ensures.0 ∙ (c.requires.seat ∙ ap (λ l. l.id) (sym c.self.view_is)),
@@ -21,5 +21,5 @@ pub returns-clause-rests : goal.returns-clause-rests
 returns-clause-rests g c =
     let out = c.requires.out in
     let put = c.exchange-slot.ensures.3 in
-    let f = front c.args.parts.number (g.S.Story.fixed c.args.parts.about.value.state.value) (seen_first c.args.parts.seat.me.0.fronts) in
+    let f = front c.args.parts.number (fixed_first g.S.Story.any_fixed c.args.parts.seat.me.0.fronts) (seen_first c.args.parts.seat.me.0.fronts) in
     c.store.ensures.2 f c.args.state (ap (λ m. m.0.fronts) put ∙ out.2.1) (ap (λ m. m.1) put ∙ ap (λ l. (0, Some c.args.state) ∷ rest l) out.0)

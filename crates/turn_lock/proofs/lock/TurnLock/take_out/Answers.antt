@@ -5,5 +5,5 @@ use Rattle.turn_lock.proofs.lock.TurnLock.take_out.Goals as goal
 
 pub exchange-slot-requires : goal.exchange-slot-requires
 exchange-slot-requires g c = let h = c.requires.holds in
-    let e : c.args.parts.seat.me.1 ≡ (0, Some h.0) ∷ [] = ap (λ m. m.1) h.1.1 in
+    let e : c.args.parts.seat.me.1 ≡ (0, Some h.0) ∷ [] = h.1.0 in
     (c.requires.seat ∙ ap (λ l. l.id) (sym c.self.view_is), (Some h.0, e ∙ ap (λ l. (0, Some h.0) ∷ l) (sym (ap rest e))))
