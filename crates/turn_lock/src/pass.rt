@@ -39,10 +39,7 @@ impl<S: Story> Pass<S> {
         requires { IsAtRest S.any_fixed number seat.me }
         ensures { result ≡ pass_view S.any_fixed seat.table_id number seat.me.0 }
     {
-        Pass {
-            number,
-            seat,
-        }
+        Pass { number, seat }
     }
 }
 
@@ -112,55 +109,31 @@ impl<S: Story> Parts<S> {
         ensures rests { IsAtRest S.any_fixed result.number result.seat.me }
         ensures view { pass ≡ pass_view S.any_fixed result.seat.table_id result.number result.seat.me.0 }
     {
-        let Pass {
-            number,
-            seat,
-        } = pass;
-        Parts {
-            number,
-            seat,
-        }
+        let Pass { number, seat } = pass;
+        Parts { number, seat }
     }
 
     pub(crate) fn of_turn(turn: Turn<S>) -> Parts<S>
         ensures out { IsOut S.any_fixed result.number result.seat.me }
         ensures view { turn ≡ pass_view S.any_fixed result.seat.table_id result.number result.seat.me.0 }
     {
-        let Turn {
-            number,
-            seat,
-        } = turn;
-        Parts {
-            number,
-            seat,
-        }
+        let Turn { number, seat } = turn;
+        Parts { number, seat }
     }
 
     pub(crate) fn into_pass(self) -> Pass<S>
         requires { IsAtRest S.any_fixed self.number self.seat.me }
         ensures { result ≡ pass_view S.any_fixed self.seat.table_id self.number self.seat.me.0 }
     {
-        let Parts {
-            number,
-            seat,
-        } = self;
-        Pass {
-            number,
-            seat,
-        }
+        let Parts { number, seat } = self;
+        Pass { number, seat }
     }
 
     pub(crate) fn into_turn(self) -> Turn<S>
         requires { IsOut S.any_fixed self.number self.seat.me }
         ensures { result ≡ pass_view S.any_fixed self.seat.table_id self.number self.seat.me.0 }
     {
-        let Parts {
-            number,
-            seat,
-        } = self;
-        Turn {
-            number,
-            seat,
-        }
+        let Parts { number, seat } = self;
+        Turn { number, seat }
     }
 }

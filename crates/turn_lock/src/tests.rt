@@ -129,6 +129,9 @@ fn two_threads_make_a_thousand_steps_each(rt: HostRuntime) -> Result<(), Fail> {
     let Ok(log) = lock.close(with(with(passes, one?)?, two?)?) else {
         return Err(Fail::new("refused all passes"));
     };
-    assert_eq!(rt; (log.steps(), log.count(1), log.count(2)), (2000, 1000, 1000));
+    assert_eq!(rt;
+        (log.steps(), log.count(1), log.count(2)),
+        (2000, 1000, 1000)
+    );
     Ok(())
 }
