@@ -1,5 +1,5 @@
 -- What a pass and a lock are to a contract.
-use Rattle.std.specs.Prelude.{◌≡◌, ℕ, ◌+◌, ◌<◌, ◌≤◌, List, [], ◌∷◌, Some, length, slice_get, map, Contains, All}
+use Rattle.std.specs.Prelude.{◌≡◌, ℕ, ◌+◌, ◌<◌, ◌≤◌, List, [], Some, length, slice_get, map, Contains}
 use Rattle.atomic_table.specs.Seated.{TableId}
 use Rattle.turn_lock.specs.declared.story.Made.{Made}
 use Rattle.turn_lock.specs.Stories.{made_by, RestsFor}
@@ -21,6 +21,7 @@ module _ {E F : Type 0} where
   abbrev pub own_steps : PassView E F → List (Made E)
   own_steps p = made_by p.number p.front
 
+  -- the pass is of this lock
   abbrev pub IsPassOf : LockView → PassView E F → Type 0
   IsPassOf lock p = p.lock ≡ lock.id
 
@@ -36,6 +37,7 @@ module _ {E F : Type 0} where
   abbrev pub AreDealt : LockView → F → List (PassView E F) → Type 0
   AreDealt lock fixed passes = AreFirst lock.id fixed lock.seats passes
 
+  -- the numbers of these passes
   abbrev pub numbers : List (PassView E F) → List ℕ
   numbers passes = map (λ p. p.number) passes
 

@@ -1,8 +1,9 @@
 -- Stories: lists of steps with their makers, the newest step first.
-use Rattle.std.specs.Prelude.{◌≡◌, ℕ, List, [], ◌∷◌, ◌++◌, ◌==◌, All}
+use Rattle.std.specs.Prelude.{◌≡◌, ℕ, List, [], ◌++◌, ◌==◌, All}
 use Rattle.std.specs.List.{filter}
 use Rattle.turn_lock.specs.declared.story.Made.{Made}
 
+-- a step with its maker
 abbrev pub made : {E : Type 0} → ℕ → E → Made E
 made n e = record { maker = n; step = e }
 

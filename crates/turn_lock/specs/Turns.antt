@@ -9,13 +9,15 @@ use Rattle.turn_lock.specs.declared.story.Made.{Made}
 use Rattle.turn_lock.specs.declared.turns.Front.{Front}
 use Rattle.turn_lock.specs.declared.turns.Known.{Known}
 use Rattle.turn_lock.specs.declared.turns.About.{About}
-use Rattle.turn_lock.specs.Stories.{RestsFor, IsAddedBy}
+use Rattle.turn_lock.specs.Stories.{RestsFor}
 use Rattle.turn_lock.specs.Passes.{PassView}
 
 module _ {E F : Type 0} where
+  -- the front of the pass number n
   abbrev pub front : ℕ → F → List (Made E) → Front E F
   front n fixed seen = record { number = n; fixed = fixed; seen = seen }
 
+  -- a seat that holds nothing
   abbrev pub resting : Front E F → Known E F
   resting f = record { holds = false; deals = false; fronts = f ∷ [] }
 
@@ -23,15 +25,19 @@ module _ {E F : Type 0} where
   abbrev pub dealing : Front E F → Known E F
   dealing f = record { holds = false; deals = true; fronts = f ∷ [] }
 
+  -- a seat that holds the state
   abbrev pub holding : Front E F → Known E F
   holding f = record { holds = true; deals = false; fronts = f ∷ [] }
 
+  -- the front, with these steps seen
   abbrev pub with_seen : Front E F → List (Made E) → Front E F
   with_seen f seen = record f { seen = seen }
 
+  -- the front of the next pass, which has seen nothing
   abbrev pub next_front : Front E F → Front E F
   next_front f = front (f.number + 1) f.fixed []
 
+  -- the next front after the first
   abbrev pub next_fronts : List (Front E F) → List (Front E F)
   next_fronts [] = []
   next_fronts (f ∷ fs) = next_front f ∷ []
@@ -91,6 +97,7 @@ module _ {S E F : Type 0} (story_of : S → List (Made E)) (fixed_of : S → F) 
   gave st m found m' = (f : Front E F) (x : S) → m.0.fronts ≡ f ∷ [] → m.1 ≡ (0, Some x) ∷ [] → m' ≡ (resting (with_seen f (story_of x)), [])
 
 module _ {E F : Type 0} where
+  -- what was seen, by the first front
   abbrev pub seen_first : List (Front E F) → List (Made E)
   seen_first [] = []
   seen_first (f ∷ fs) = f.seen
@@ -121,12 +128,12 @@ module _ {E F : Type 0} where
     abbrev pub Holds : F → ℕ → Me (Option S) (Known E F) → S → Type 0
     Holds none n m x = (m.1 ≡ (0, Some x) ∷ []) × (m.0.holds ≡ true) × HasFront none n m.0
 
-module _ {E F : Type 0} where
   module _ {S : Type 0} (story_of : S → List (Made E)) (fixed_of : S → F) where
-    -- the seat holds the state x, whose story goes on from what the seat had seen
+    -- the seat holds a state x, whose story goes on from what the seat had seen
     abbrev pub Won : ℕ → F → List (Made E) → Me (Option S) (Known E F) → Type 0
     Won n fixed seen m = (x : S) × (m ≡ (holding (front n fixed (story_of x)), (0, Some x) ∷ [])) × (fixed_of x ≡ fixed) × RestsFor n (story_of x) seen
 
+  -- a pass as a front
   abbrev pub front_of : PassView E F → Front E F
   front_of p = front p.number p.fixed p.front
 

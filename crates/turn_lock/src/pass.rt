@@ -63,8 +63,8 @@ impl<S: Story> Model for Turn<S> {
 
 /// The state, out of the lock, and the turn that brings it back. It has no `Drop`: give it back.
 pub struct Held<S: Story> {
-    pub(crate) turn: Turn<S>,
-    pub(crate) state: S,
+    pub turn: Turn<S>,
+    pub state: S,
 }
 
 impl<S: Story> Held<S> {

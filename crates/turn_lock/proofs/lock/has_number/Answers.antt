@@ -1,4 +1,4 @@
-use Rattle.std.proofs.Common.{◌≡◌, ◌<◌, ◌≢◌, ℕ, length, get_or, sym, ◌∙◌, arith, below_more}
+use Rattle.std.proofs.Common.{◌<◌, ◌≢◌, length, get_or, sym, ◌∙◌, below_more}
 use Rattle.turn_lock.specs.Passes.{numbers}
 use Rattle.turn_lock.proofs.Passes.{number_at, none_numbered}
 use Rattle.turn_lock.proofs.lock.has_number.Goals as goal

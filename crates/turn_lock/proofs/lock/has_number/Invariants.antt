@@ -1,4 +1,4 @@
-use Rattle.std.proofs.Common.{◌≡◌, ◌≢◌, ℕ, ◌<◌, get_or}
+use Rattle.std.proofs.Common.{◌≢◌, ℕ, ◌<◌, get_or}
 use Rattle.turn_lock.specs.Passes.{numbers}
 use Rattle.turn_lock.proofs.lock.has_number.Given as goal
 

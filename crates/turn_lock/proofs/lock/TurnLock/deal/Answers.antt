@@ -1,6 +1,6 @@
-use Rattle.std.proofs.Common.{rules, ◌≡◌, ◌+◌, ℕ, ◌<◌, ◌∷◌, [], sym, ap, ◌∙◌, refl, subst, arith, vec_len}
-use Rattle.turn_lock.specs.Turns.{front, dealing, dealt, dealt_next, fixed_first, seen_first}
-use Rattle.turn_lock.specs.Passes.{AreFirst, new_pass}
+use Rattle.std.proofs.Common.{◌≡◌, ◌+◌, [], sym, ap, ◌∙◌, arith, vec_len}
+use Rattle.turn_lock.specs.Turns.{front, dealt, dealt_next, fixed_first, seen_first}
+use Rattle.turn_lock.specs.Passes.{new_pass}
 use Rattle.turn_lock.proofs.Passes.{first_push}
 use Rattle.turn_lock.proofs.Steps.{deals}
 use Rattle.turn_lock.proofs.lock.TurnLock.deal.Goals as goal

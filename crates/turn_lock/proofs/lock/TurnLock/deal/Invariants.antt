@@ -1,4 +1,4 @@
-use Rattle.std.proofs.Common.{◌≡◌, ◌+◌, ◌-◌, [], vec_len, vec_capacity}
+use Rattle.std.proofs.Common.{◌≡◌, ◌+◌, [], vec_len, vec_capacity}
 use Rattle.turn_lock.specs.Passes.{AreFirst}
 use Rattle.turn_lock.specs.Turns.{front, dealing}
 use Rattle.turn_lock.proofs.lock.TurnLock.deal.Given as goal

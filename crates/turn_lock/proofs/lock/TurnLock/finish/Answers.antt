@@ -1,4 +1,4 @@
-use Rattle.std.proofs.Common.{◌≡◌, ◌<◌, ℕ, Some, All, length, vec_len, sym, ap, ◌∙◌, subst, arith}
+use Rattle.std.proofs.Common.{◌≡◌, ◌<◌, Some, All, length, sym, ap, ◌∙◌, subst, arith}
 use Rattle.turn_lock.specs.Passes.{Tells}
 use Rattle.turn_lock.proofs.Passes.{some_pass}
 use Rattle.turn_lock.proofs.Steps.{closes}

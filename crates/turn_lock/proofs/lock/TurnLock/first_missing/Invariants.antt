@@ -1,4 +1,4 @@
-use Rattle.std.proofs.Common.{◌≡◌, ℕ, ◌+◌, ◌<◌, Contains}
+use Rattle.std.proofs.Common.{ℕ, ◌+◌, ◌<◌, Contains}
 use Rattle.turn_lock.specs.Passes.{numbers}
 use Rattle.turn_lock.proofs.lock.TurnLock.first_missing.Given as goal
 

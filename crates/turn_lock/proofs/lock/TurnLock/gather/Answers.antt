@@ -1,4 +1,4 @@
-use Rattle.std.proofs.Common.{rules, ◌≡◌, ℕ, List, ◌<◌, Some, vec_len, length, sym, ap, ◌∙◌, arith}
+use Rattle.std.proofs.Common.{Some, sym, ap, ◌∙◌, arith}
 use Rattle.std.proofs.lemmas.List.Elements.{All-pop}
 use Rattle.turn_lock.specs.Passes.{IsPassOf}
 use Rattle.turn_lock.proofs.Passes.{one_front, gathers_one, gathers_more, gathers_all, nothing}

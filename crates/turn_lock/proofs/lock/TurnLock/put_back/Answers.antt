@@ -1,6 +1,6 @@
-use Rattle.std.proofs.Common.{◌≡◌, ◌<◌, List, ◌∷◌, [], ℕ, Option, Some, sym, ap, ◌∙◌, refl, subst, arith}
+use Rattle.std.proofs.Common.{◌∷◌, Some, sym, ap, ◌∙◌, arith}
 use Rattle.atomic_table.specs.Table.{rest}
-use Rattle.turn_lock.specs.Turns.{front, fixed_first, seen_first, IsOut}
+use Rattle.turn_lock.specs.Turns.{front, fixed_first, seen_first}
 use Rattle.turn_lock.proofs.Steps.{gives_back}
 use Rattle.turn_lock.proofs.lock.TurnLock.put_back.Goals as goal
 

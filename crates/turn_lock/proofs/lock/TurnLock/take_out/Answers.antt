@@ -1,6 +1,5 @@
-use Rattle.std.proofs.Common.{◌≡◌, ◌∷◌, List, ℕ, Option, [], Some, sym, ap, ◌∙◌}
+use Rattle.std.proofs.Common.{◌≡◌, ◌∷◌, [], Some, sym, ap, ◌∙◌}
 use Rattle.atomic_table.specs.Table.{rest}
-use Rattle.turn_lock.proofs.Steps.{opens}
 use Rattle.turn_lock.proofs.lock.TurnLock.take_out.Goals as goal
 
 pub exchange-slot-requires : goal.exchange-slot-requires

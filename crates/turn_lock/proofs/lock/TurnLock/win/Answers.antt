@@ -1,5 +1,5 @@
-use Rattle.std.proofs.Common.{◌≡◌, ◌<◌, ◌∷◌, [], sym, ap, ◌∙◌, refl, subst, arith}
-use Rattle.turn_lock.specs.Turns.{front, fixed_first, seen_first, IsAtRest}
+use Rattle.std.proofs.Common.{sym, ap, ◌∙◌, arith}
+use Rattle.turn_lock.specs.Turns.{front, fixed_first, seen_first}
 use Rattle.turn_lock.proofs.Steps.{tries}
 use Rattle.turn_lock.proofs.lock.TurnLock.win.Goals as goal
 
