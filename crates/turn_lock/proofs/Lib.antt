@@ -1,0 +1,3 @@
+pub mod Stories
+pub mod Passes
+pub mod Steps

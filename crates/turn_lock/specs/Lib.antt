@@ -1,0 +1,4 @@
+pub mod Stories
+pub mod Passes
+pub mod Turns
+pub mod Holding

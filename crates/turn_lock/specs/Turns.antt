@@ -1,0 +1,146 @@
+-- The rule of the lock, and what each of its steps tells.
+-- The word is 0, or the number of the pass that holds the state. The slot has the state where the word is 0.
+use Rattle.std.specs.Prelude.{◌≡◌, ◌≢◌, ℕ, ◌+◌, ◌<◌, ◌≤◌, List, [], ◌∷◌, ◌++◌, Option, Some, None, false, true, All, slice_index, length, map}
+use mathlib.Core.Option.{some}
+use lib.ListN.{get_elem?}
+use Rattle.atomic_table.specs.Table.{State, Me, Step}
+use Rattle.atomic_table.specs.Seated.{TableId}
+use Rattle.turn_lock.specs.declared.story.Made.{Made}
+use Rattle.turn_lock.specs.declared.turns.Front.{Front}
+use Rattle.turn_lock.specs.declared.turns.Known.{Known}
+use Rattle.turn_lock.specs.declared.turns.About.{About}
+use Rattle.turn_lock.specs.Stories.{RestsFor}
+use Rattle.turn_lock.specs.Passes.{PassView}
+
+module _ {E F : Type 0} where
+  -- the front of the pass number n
+  abbrev pub front : ℕ → F → List (Made E) → Front E F
+  front n fixed seen = record { number = n; fixed = fixed; seen = seen }
+
+  -- a seat that holds nothing
+  abbrev pub resting : Front E F → Known E F
+  resting f = record { holds = false; deals = false; fronts = f ∷ [] }
+
+  -- it deals out the numbers that follow its own
+  abbrev pub dealing : Front E F → Known E F
+  dealing f = record { holds = false; deals = true; fronts = f ∷ [] }
+
+  -- a seat that holds the state
+  abbrev pub holding : Front E F → Known E F
+  holding f = record { holds = true; deals = false; fronts = f ∷ [] }
+
+  -- the front, with these steps seen
+  abbrev pub with_seen : Front E F → List (Made E) → Front E F
+  with_seen f seen = record f { seen = seen }
+
+  -- the front of the next pass, which has seen nothing
+  abbrev pub next_front : Front E F → Front E F
+  next_front f = front (f.number + 1) f.fixed []
+
+  -- the next front after the first
+  abbrev pub next_fronts : List (Front E F) → List (Front E F)
+  next_fronts [] = []
+  next_fronts (f ∷ fs) = next_front f ∷ []
+
+  -- the seat that has dealt
+  abbrev pub dealt : Known E F → Known E F
+  dealt v = record v { deals = false }
+
+  -- the seat that was dealt, and deals on
+  abbrev pub dealt_next : Known E F → Known E F
+  dealt_next v = record { holds = false; deals = true; fronts = next_fronts v.fronts }
+
+  -- two seats that rest, as one, with the fronts of the second before those of the first
+  abbrev pub joined : Known E F → Known E F → Known E F
+  joined v w = record { holds = false; deals = false; fronts = w.fronts ++ v.fronts }
+
+  -- a seat that was joined to another
+  abbrev pub spent : Known E F
+  spent = record { holds = false; deals = false; fronts = [] }
+
+  module _ (story : List (Made E)) (fixed : F) (top : ℕ) (seat : ℕ → ℕ) where
+    -- the front is of a number that was dealt to the seat `at`, and the story goes on from it with no step of that number
+    pub record FitsFront (at : ℕ) (f : Front E F) : Type 0 where
+      pub dealt : (0 < f.number) × (f.number ≤ top)
+      pub seated : seat f.number ≡ at
+      pub same : f.fixed ≡ fixed
+      pub rests : RestsFor f.number story f.seen
+
+    -- the seat that holds has the number in the word and has seen the whole story, and the seat that deals has the last number
+    pub record FitsView (word at : ℕ) (v : Known E F) : Type 0 where
+      pub fronts : All (FitsFront at) v.fronts
+      pub held : v.holds ≡ true → (0 < word) × (v.fronts ≡ front word fixed story ∷ [])
+      pub last : v.deals ≡ true → (seen : List (Made E)) × (v.fronts ≡ front top fixed seen ∷ [])
+
+module _ {S E F : Type 0} (story_of : S → List (Made E)) (fixed_of : S → F) where
+  -- There is one story, which no one made but those with a number. Each view fits it. Where the word is 0 the state that
+  -- tells it is at home, and else some seat holds it.
+  pub record OneStory (about : About S) (s : State (Option S) (Known E F)) : Type 0 where
+    pub story : List (Made E)
+    pub top : ℕ
+    pub seat : ℕ → ℕ
+    pub one_word : length s.words ≡ 1
+    pub few : top ≤ about.seats
+    pub makers : All (λ m. m.maker ≤ top) story
+    pub views : (at : ℕ) (v : Known E F) → get_elem? s.views at ≡ some v → FitsView story (fixed_of about.state.value) top seat (slice_index s.words 0) at v
+    pub home : slice_index s.words 0 ≡ 0 → (x : S) × (get_elem? s.homes 0 ≡ some (some (Some x))) × (story_of x ≡ story) × (fixed_of x ≡ fixed_of about.state.value)
+    pub out : 0 < slice_index s.words 0 → (at : ℕ) × (v : Known E F) × (get_elem? s.views at ≡ some v) × (v.holds ≡ true)
+
+  -- a try wins where it finds 0: the seat holds the state and has seen its story. Else nothing changes
+  abbrev pub tried : Step (Option S) → Me (Option S) (Known E F) → ℕ → Me (Option S) (Known E F) → Type 0
+  tried st m found m' = (f : Front E F) → m.0.fronts ≡ f ∷ []
+      → (found ≡ 0 → (x : S) × (m' ≡ (holding (with_seen f (story_of x)), (0, Some x) ∷ m.1)) × (fixed_of x ≡ f.fixed) × RestsFor f.number (story_of x) f.seen)
+      × (found ≢ 0 → m' ≡ m)
+
+  -- a give: the seat has seen the story of the state that it gave
+  abbrev pub gave : Step (Option S) → Me (Option S) (Known E F) → ℕ → Me (Option S) (Known E F) → Type 0
+  gave st m found m' = (f : Front E F) (x : S) → m.0.fronts ≡ f ∷ [] → m.1 ≡ (0, Some x) ∷ [] → m' ≡ (resting (with_seen f (story_of x)), [])
+
+module _ {E F : Type 0} where
+  -- what was seen, by the first front
+  abbrev pub seen_first : List (Front E F) → List (Made E)
+  seen_first [] = []
+  seen_first (f ∷ fs) = f.seen
+
+  -- what no step changes, by the first front; `none` where there is no front
+  abbrev pub fixed_first : F → List (Front E F) → F
+  fixed_first none [] = none
+  fixed_first none (f ∷ fs) = f.fixed
+
+  -- a seat as a pass
+  abbrev pub pass_view : F → TableId → ℕ → Known E F → PassView E F
+  pass_view none id n v = record { lock = id; number = n; fixed = fixed_first none v.fronts; front = seen_first v.fronts }
+
+  -- the seat has one front, of this number
+  abbrev pub HasFront : F → ℕ → Known E F → Type 0
+  HasFront none n v = (0 < n) × (v.fronts ≡ front n (fixed_first none v.fronts) (seen_first v.fronts) ∷ [])
+
+  module _ {S : Type 0} where
+    -- the pass holds nothing
+    abbrev pub IsAtRest : F → ℕ → Me (Option S) (Known E F) → Type 0
+    IsAtRest none n m = (m.1 ≡ []) × (m.0.holds ≡ false) × HasFront none n m.0
+
+    -- the pass holds the slot, and has taken the state out of it
+    abbrev pub IsOut : F → ℕ → Me (Option S) (Known E F) → Type 0
+    IsOut none n m = (m.1 ≡ (0, None) ∷ []) × (m.0.holds ≡ true) × HasFront none n m.0
+
+    -- the pass holds the slot with the state x in it
+    abbrev pub Holds : F → ℕ → Me (Option S) (Known E F) → S → Type 0
+    Holds none n m x = (m.1 ≡ (0, Some x) ∷ []) × (m.0.holds ≡ true) × HasFront none n m.0
+
+  module _ {S : Type 0} (story_of : S → List (Made E)) (fixed_of : S → F) where
+    -- the seat holds a state x, whose story goes on from what the seat had seen
+    abbrev pub Won : ℕ → F → List (Made E) → Me (Option S) (Known E F) → Type 0
+    Won n fixed seen m = (x : S) × (m ≡ (holding (front n fixed (story_of x)), (0, Some x) ∷ [])) × (fixed_of x ≡ fixed) × RestsFor n (story_of x) seen
+
+  -- a pass as a front
+  abbrev pub front_of : PassView E F → Front E F
+  front_of p = front p.number p.fixed p.front
+
+  -- the seat rests, and has the fronts of these passes
+  abbrev pub HasFronts : {S : Type 0} → List (PassView E F) → Me (Option S) (Known E F) → Type 0
+  HasFronts passes m = (m.1 ≡ []) × (m.0.holds ≡ false) × (m.0.fronts ≡ map front_of passes)
+
+  -- of all these passes some are left, and the seat has the fronts of the others
+  abbrev pub Gathers : {S : Type 0} → List (PassView E F) → List (PassView E F) → Me (Option S) (Known E F) → Type 0
+  Gathers all left m = (late : List (PassView E F)) × (all ≡ left ++ late) × HasFronts late m
