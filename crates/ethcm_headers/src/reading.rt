@@ -1,5 +1,4 @@
 ghost use Rattle.std.specs.Prelude.{◌≡◌, ◌++◌, List, ℕ, IfSome, IfNone, IfOk, IfErr};
-ghost use Rattle.linx_base.specs.declared.memory.NoMemory.{NoMemory as Refused};
 ghost use Rattle.ethcm_headers.specs.declared.packets.Packet.{Packet as AnyPacket};
 ghost use Rattle.ethcm_headers.specs.declared.reading.ReadError.TheVariants.{NoMemory as OutOfMemory};
 ghost use Rattle.ethcm_headers.specs.Packets.{Spells};
