@@ -1,0 +1,86 @@
+-- What the steps of reading tell of the packet whose spelling the bytes are.
+use Rattle.std.proofs.Common.{◌≡◌, ℕ, ◌+◌, ◌<◌, List, ◌++◌, length, Some, None, sym, ap, ◌∙◌, arith}
+use Rattle.std.proofs.lemmas.List.{length-append, append_cancel_left}
+use Rattle.ethcm_headers.specs.declared.packets.Packet.{Packet}
+use Rattle.ethcm_headers.specs.declared.chains.Chain.{Chain}
+use Rattle.ethcm_headers.specs.declared.chains.Chain.TheVariants.{Conn, Ack, Nack, First, Next}
+use Rattle.ethcm_headers.specs.declared.chains.Headers.{Headers}
+use Rattle.ethcm_headers.specs.Packets.{FitsPart, IsWithinBounds, Spells}
+use Rattle.ethcm_headers.specs.Chains.{header_bytes, headers_at, part_with, packet_with, payload_in, headers_in, FitsChain, FitsHeaders, StandsBehind, length_of}
+use Rattle.ethcm_headers.proofs.Again.{length-chain_bytes}
+use Rattle.ethcm_headers.proofs.Apart.{spelled_apart, headers_found, short_packet, spelling-part_with, packet_with-apart, stands_behind}
+
+-- no packet is longer than the longest
+pub too_long : (packet : Packet) (bytes : List ℕ) → Spells packet bytes → 8240 < length bytes → ⊥
+too_long packet bytes spells long = omega (arith, short_packet packet spells.is_packet, ap length spells.spelled)
+
+-- the fields of a packet make headers
+pub headers_missing : (packet : Packet) (bytes : List ℕ) → Spells packet bytes → headers_at bytes ≡ None → ⊥
+headers_missing packet bytes spells none =
+    let found = headers_found packet bytes spells in
+    cc
+
+the_headers : (packet : Packet) (bytes : List ℕ) (headers : Headers) → Spells packet bytes → headers_at bytes ≡ Some headers → headers ≡ headers_in packet
+the_headers packet bytes headers spells read =
+    let found = headers_found packet bytes spells in
+    cc
+
+-- a packet begins with its headers, spelled again
+pub payload_missing : (packet : Packet) (bytes : List ℕ) (headers : Headers) → Spells packet bytes → headers_at bytes ≡ Some headers
+    → ((rest : List ℕ) → ¬ (bytes ≡ header_bytes (length bytes) headers ++ rest)) → ⊥
+payload_missing packet bytes headers spells read none =
+    none (payload_in packet.part) (rw (the_headers packet bytes headers spells read) (spelled_apart packet bytes spells))
+
+the_payload : (packet : Packet) (bytes : List ℕ) (headers : Headers) (payload : List ℕ) → Spells packet bytes → headers_at bytes ≡ Some headers
+    → bytes ≡ header_bytes (length bytes) headers ++ payload → payload ≡ payload_in packet.part
+the_payload packet bytes headers payload spells read behind =
+    let same = the_headers packet bytes headers spells read in
+    let again : header_bytes (length bytes) headers ++ payload ≡ header_bytes (length bytes) headers ++ payload_in packet.part =
+    sym behind ∙ (rw same (spelled_apart packet bytes spells)) in
+    append_cancel_left (header_bytes (length bytes) headers) payload (payload_in packet.part) again
+
+-- the packet is what was read
+pub the_packet : (packet : Packet) (bytes : List ℕ) (headers : Headers) (payload : List ℕ) → Spells packet bytes → headers_at bytes ≡ Some headers
+    → bytes ≡ header_bytes (length bytes) headers ++ payload → packet_with headers payload ≡ packet
+the_packet packet bytes headers payload spells read behind =
+    rw (the_headers packet bytes headers spells read, the_payload packet bytes headers payload spells read behind) (packet_with-apart packet)
+
+-- a packet keeps the bounds
+pub out_of_bounds : (packet : Packet) (bytes : List ℕ) (headers : Headers) (payload : List ℕ) → Spells packet bytes → headers_at bytes ≡ Some headers
+    → bytes ≡ header_bytes (length bytes) headers ++ payload → (IsWithinBounds (packet_with headers payload) × StandsBehind payload headers.chain → ⊥) → ⊥
+out_of_bounds packet bytes headers payload spells read behind out =
+    out (
+      rw (the_packet packet bytes headers payload spells read behind) spells.is_packet.bounds,
+      rw (the_headers packet bytes headers spells read, the_payload packet bytes headers payload spells read behind) (stands_behind packet.part),
+    )
+
+fits_part : (chain : Chain) (payload : List ℕ) → FitsChain chain → FitsPart (part_with chain payload)
+fits_part (Conn kind) payload fits = tt
+fits_part (Ack next) payload fits = fits
+fits_part (Nack next count) payload fits = fits.0
+fits_part (First next seq more from to size) payload fits = (fits.0, (fits.2, fits.3))
+fits_part (Next next seq more) payload fits = (fits.0, tt)
+
+-- what was read is spelled so
+pub is_spelled : (bytes : List ℕ) (headers : Headers) (payload : List ℕ) → FitsHeaders headers
+    → bytes ≡ header_bytes (length bytes) headers ++ payload → IsWithinBounds (packet_with headers payload) × StandsBehind payload headers.chain
+    → Spells (packet_with headers payload) bytes
+is_spelled bytes headers payload fits behind within =
+    let len : length bytes ≡ length_of headers.chain + length payload =
+    omega (arith, ap length behind, length-append (header_bytes (length bytes) headers) payload, length-chain_bytes (length bytes) headers.src headers.dst headers.chain) in
+    record {
+      is_packet = record {
+        bounds = within.0;
+        sender_fits = fits.0;
+        receiver_fits = fits.1;
+        part_fits = fits_part headers.chain payload fits.2;
+      };
+      spelled = behind ∙ ap (λ (n : ℕ). header_bytes n headers ++ payload) len
+          ∙ sym (spelling-part_with headers.src headers.dst headers.chain payload within.1);
+    }
+
+-- no bytes spell two packets
+pub unique : (a b : Packet) (bytes : List ℕ) → Spells a bytes → Spells b bytes → a ≡ b
+unique a b bytes first second =
+    sym (packet_with-apart a)
+    ∙ the_packet b bytes (headers_in a) (payload_in a.part) second (headers_found a bytes first) (spelled_apart a bytes first)

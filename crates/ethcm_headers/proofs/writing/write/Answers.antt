@@ -1,0 +1,7 @@
+use Rattle.std.proofs.Common.{refl}
+use Rattle.ethcm_headers.proofs.Apart.{spelling_apart}
+use Rattle.ethcm_headers.proofs.writing.write.Goals as goal
+
+pub returns-clause-ok : goal.returns-clause-ok
+returns-clause-ok c =
+    rw (c.in_ok-push_both.ensures.ok, c.as_slice.ensures, c.bytes-spelled.ensures, c.payload_in-payload.ensures, c.length_of.ensures, c.headers_in-headers.ensures.value, spelling_apart c.args.packet.now) refl

@@ -1,0 +1,4 @@
+pub mod Headers
+pub mod Packets
+pub mod Chains
+pub mod Laws

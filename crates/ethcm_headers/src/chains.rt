@@ -1,0 +1,80 @@
+ghost use Rattle.std.specs.Prelude.{◌≡◌};
+
+use crate::header_bytes::HeaderBytes;
+use crate::headers::{
+    ACK, CONN, FRAG, NACK, NONE, UDATA, ack_header, conn_header, frag_header, main_header,
+    nack_header, udata_header,
+};
+use linx_base::ConnKind;
+
+/// The headers behind MAIN, without the payload.
+#[derive(Clone, Copy)]
+pub enum Chain {
+    Conn(ConnKind),
+    Ack {
+        next: u32,
+    },
+    Nack {
+        next: u32,
+        count: u16,
+    },
+    First {
+        next: u32,
+        seq: u32,
+        more: bool,
+        from: u32,
+        to: u32,
+        size: u32,
+    },
+    Next {
+        next: u32,
+        seq: u32,
+        more: bool,
+    },
+}
+
+/// The headers of a packet.
+#[derive(Clone, Copy)]
+pub struct Headers {
+    pub src: u64,
+    pub dst: u64,
+    pub chain: Chain,
+}
+
+impl Headers {
+    ghost use Rattle.ethcm_headers.specs.Chains.{header_bytes};
+
+    /// The bytes of the headers of a packet that has this length.
+    #[tactic(auto, unfolding(crate::specs::Chains::chain_bytes))]
+    pub fn bytes(&self, length: u16) -> HeaderBytes
+        ensures { result ≡ header_bytes length self.now }
+    {
+        let main = |next: u8| main_header(next, length, self.src, self.dst);
+        match self.chain {
+            Chain::Conn(kind) => HeaderBytes::new()
+                .then(&main(CONN))
+                .then(&conn_header(kind)),
+            Chain::Ack { next } => HeaderBytes::new()
+                .then(&main(ACK))
+                .then(&ack_header(NONE, next)),
+            Chain::Nack { next, count } => HeaderBytes::new()
+                .then(&main(NACK))
+                .then(&nack_header(next, count)),
+            Chain::First {
+                next,
+                seq,
+                more,
+                from,
+                to,
+                size,
+            } => HeaderBytes::new()
+                .then(&main(ACK))
+                .then(&ack_header(UDATA, next))
+                .then(&udata_header(more, seq, from, to, size)),
+            Chain::Next { next, seq, more } => HeaderBytes::new()
+                .then(&main(ACK))
+                .then(&ack_header(FRAG, next))
+                .then(&frag_header(more, seq)),
+        }
+    }
+}

@@ -1,0 +1,52 @@
+ghost use Rattle.std.specs.Prelude.{◌≡◌, ◌+◌, ◌≤◌, ◌++◌, [], length};
+
+use std::marker::Model;
+
+/// The most bytes of the headers of a packet.
+const HEADERS_MOST: usize = 48;
+
+/// The bytes of some headers, one after the other.
+#[derive(Drop)]
+pub struct HeaderBytes {
+    bytes: [u8; HEADERS_MOST],
+    len: usize,
+}
+
+impl Model for HeaderBytes {
+    ghost use Rattle.std.specs.Prelude.{◌≤◌, List, ℕ, take};
+
+    ghost Value = { List ℕ };
+
+    ghost view = { λ h. take h.len h.bytes };
+
+    ghost invariant = { λ h. h.len ≤ 48 };
+}
+
+impl HeaderBytes {
+    pub fn new() -> HeaderBytes
+        ensures { result ≡ [] }
+    {
+        HeaderBytes {
+            bytes: [0; HEADERS_MOST],
+            len: 0,
+        }
+    }
+
+    /// These bytes with another header behind them.
+    pub fn then(mut self, header: &[u8]) -> HeaderBytes
+        requires { length self + length header.now ≤ 48 }
+        ensures { result ≡ self ++ header.now }
+    {
+        let start = self.len;
+        let end = start + header.len();
+        self.bytes[start..end].copy_from_slice(header);
+        self.len = end;
+        self
+    }
+
+    pub fn as_slice(&self) -> &[u8]
+        ensures { result.now ≡ self.now }
+    {
+        &self.bytes[..self.len]
+    }
+}

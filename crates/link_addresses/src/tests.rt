@@ -1,0 +1,48 @@
+use super::*;
+use linx_base::{Inc, TryCopy};
+use std::test::*;
+
+const INC_1_1: Inc = Inc(0x0000_0001_0000_0001);
+
+const INC_1_2: Inc = Inc(0x0000_0001_0000_0002);
+
+const INC_1_3: Inc = Inc(0x0000_0001_0000_0003);
+
+/// Publishes what isn't live.
+fn publish(addresses: &mut Addresses, inc: Inc) -> Result<u32, Fail> {
+    if addresses.used() == u32::MAX {
+        return Err(Fail::from("no address is left"));
+    }
+    match addresses.addr_of(inc) {
+        Some(_) => Err(Fail::from("it is live")),
+        None => Ok(addresses.publish(inc)?),
+    }
+}
+
+#[test]
+fn an_address_is_freed_at_its_acknowledgement(rt: HostRuntime) -> Result<(), Fail> {
+    let mut addresses = Addresses::new(rt.alloc());
+    assert_eq!(rt; publish(&mut addresses, INC_1_1)?, 1);
+    assert_eq!(rt; addresses.meaning(1), Meaning::Live(INC_1_1));
+    assert_eq!(rt; addresses.addr_of(INC_1_1), Some(1));
+    assert_eq!(rt; addresses.closing(INC_1_1), Some(1));
+    assert_eq!(rt; addresses.closing(INC_1_1), None);
+    assert_eq!(rt; addresses.meaning(1), Meaning::Closing(INC_1_1));
+    assert_eq!(rt; addresses.addr_of(INC_1_1), None);
+    assert_eq!(rt; publish(&mut addresses, INC_1_2)?, 2);
+    assert_eq!(rt; addresses.used(), 2);
+    assert_eq!(rt; addresses.acked(2), None);
+    assert_eq!(rt; addresses.acked(1), Some(INC_1_1));
+    assert_eq!(rt; addresses.acked(1), None);
+    assert_eq!(rt; addresses.meaning(1), Meaning::Free);
+    let mut copy = addresses.copy()?;
+    assert_eq!(rt; publish(&mut addresses, INC_1_3)?, 1);
+    assert_eq!(rt; addresses.used(), 2);
+    assert_eq!(rt; copy.used(), 1);
+    assert_eq!(rt; copy.addr_of(INC_1_2), Some(2));
+    assert_eq!(rt; publish(&mut copy, INC_1_1)?, 1);
+    assert_eq!(rt; publish(&mut copy, INC_1_3)?, 3);
+    assert_eq!(rt; copy.meaning(0), Meaning::Free);
+    assert_eq!(rt; copy.meaning(4), Meaning::Free);
+    Ok(())
+}

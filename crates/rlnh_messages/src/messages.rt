@@ -1,0 +1,49 @@
+use linx_base::{Inc, Name, NoMemory, TryCopy};
+
+/// The types of messages, each a message's first byte.
+pub const INIT: u8 = 1;
+
+pub const INIT_REPLY: u8 = 2;
+
+pub const QUERY_NAME: u8 = 3;
+
+pub const PUBLISH: u8 = 4;
+
+pub const UNPUBLISH: u8 = 5;
+
+pub const UNPUBLISH_ACK: u8 = 6;
+
+/// What one node of a link says to the other about endpoints. Addresses are the sender's link
+/// addresses, and never 0.
+#[derive(Drop)]
+pub enum Rlnh {
+    /// Begins a session.
+    Init,
+    /// Answers INIT.
+    InitReply,
+    /// Asks for the endpoint of this name.
+    QueryName(Name),
+    /// Gives an endpoint of the sender a link address.
+    Publish { addr: u32, inc: Inc, name: Name },
+    /// The endpoint that had this address is closed.
+    Unpublish(u32),
+    /// Answers UNPUBLISH. The address may be given again.
+    UnpublishAck(u32),
+}
+
+impl TryCopy for Rlnh {
+    fn copy(&self) -> Result<Rlnh, NoMemory> {
+        match self {
+            Rlnh::Init => Ok(Rlnh::Init),
+            Rlnh::InitReply => Ok(Rlnh::InitReply),
+            Rlnh::QueryName(name) => Ok(Rlnh::QueryName(name.copy()?)),
+            Rlnh::Publish { addr, inc, name } => Ok(Rlnh::Publish {
+                addr: *addr,
+                inc: *inc,
+                name: name.copy()?,
+            }),
+            Rlnh::Unpublish(addr) => Ok(Rlnh::Unpublish(*addr)),
+            Rlnh::UnpublishAck(addr) => Ok(Rlnh::UnpublishAck(*addr)),
+        }
+    }
+}
