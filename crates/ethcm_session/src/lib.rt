@@ -1,0 +1,13 @@
+//! The session of a link end: whether it is connecting or up with a session of its peer, what each
+//! packet means to it by the table of sessions, and what it replies. A session number never falls,
+//! and it rises exactly where the end goes down.
+#![tactic(auto)]
+
+mod standing;
+mod talking;
+
+pub use standing::{Change, Standing, TalkState};
+pub use talking::Talk;
+
+#[cfg(test)]
+mod tests;
