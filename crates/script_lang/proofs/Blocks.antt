@@ -1,5 +1,5 @@
 -- what is read keeps the script within its limits
-use Rattle.std.proofs.Common.{◌≡◌, ℕ, suc, zero, ◌+◌, ◌-◌, ◌*◌, ◌<◌, ◌≤◌, ◌^◌, Bool, true, false, ◌&&◌, ◌||◌, ◌==◌, nat_le, Option, Some, None, List, [], ◌∷◌, ◌++◌, length, take, get_or, refl, sym, ◌∙◌, ap, arith, length-append, append_assoc}
+use Rattle.std.proofs.Common.{◌≡◌, ℕ, suc, zero, ◌+◌, ◌-◌, ◌*◌, ◌<◌, ◌≤◌, Bool, true, false, ◌||◌, ◌==◌, nat_le, Some, None, List, [], ◌∷◌, ◌++◌, length, take, get_or, refl, sym, ◌∙◌, ap, arith, length-append, append_assoc}
 use Rattle.std.specs.List.{list_all, repeat, slice_get}
 use Rattle.std.proofs.lemmas.Bool.{and_parts, and_from, leb-true, lt-leb}
 use Rattle.std.proofs.lemmas.List.{append-nil}
@@ -13,13 +13,11 @@ use Rattle.linx_base.specs.declared.framing.LinkDecl.{LinkDecl}
 use Rattle.linx_base.specs.declared.framing.Verdict.{Verdict}
 use Rattle.script_lang.specs.declared.commands.Command.{Command}
 use Rattle.script_lang.specs.declared.commands.Command.TheVariants.{Open, Close, Send, Forward, Recv, Hunt, Attach, Detach, Keep, Cut, Mend, Restart, Settle}
-use Rattle.script_lang.specs.declared.reading.Block.{Block}
-use Rattle.script_lang.specs.declared.reading.Repetition.{Repetition}
 use Rattle.script_lang.specs.declared.script.Plans.{Plans}
-use Rattle.script_lang.specs.Parts.{ScriptParts, side_of, plan_in, plan_of, planned, planned_at, with_verdict}
-use Rattle.script_lang.specs.Fits.{is_node, is_link, joins, has_end, fits_command, commands_of, IsScript}
+use Rattle.script_lang.specs.Parts.{ScriptParts, plan_in, plan_of, planned_at, with_verdict}
+use Rattle.script_lang.specs.Fits.{is_link, has_end, fits_command, commands_of}
 use Rattle.script_lang.specs.Statements.{is_sized_command}
-use Rattle.script_lang.specs.Keeping.{FitsBlock, fits_repetition}
+use Rattle.script_lang.specs.Keeping.{FitsBlock}
 use Rattle.script_lang.specs.Reading.{has_room, with_verdicts}
 use Rattle.script_lang.proofs.Lists.{list_all_push}
 use Rattle.script_lang.proofs.Keeps.{length-planned_at}

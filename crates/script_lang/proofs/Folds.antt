@@ -1,5 +1,5 @@
 -- the lines of a script, one after the other
-use Rattle.std.proofs.Common.{◌≡◌, ℕ, ◌+◌, ◌-◌, ◌≤◌, List, [], ◌∷◌, Result, Ok, Err, length, refl, sym, ◌∙◌, ap, subst, arith}
+use Rattle.std.proofs.Common.{◌≡◌, ℕ, ◌+◌, ◌-◌, ◌≤◌, List, [], ◌∷◌, Result, Ok, Err, length, sym, ◌∙◌, ap, subst, arith}
 use Rattle.script_lang.specs.declared.reading.Reading.{Reading}
 use Rattle.script_lang.specs.declared.faults.BadKind.{BadKind}
 use Rattle.script_lang.specs.Parts.{ScriptParts}

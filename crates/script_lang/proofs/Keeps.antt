@@ -1,5 +1,5 @@
 -- each new entry keeps a script within its limits
-use Rattle.std.proofs.Common.{◌≡◌, ℕ, suc, zero, ◌+◌, ◌-◌, ◌<◌, ◌≤◌, Bool, true, false, not, ◌&&◌, ◌||◌, ◌==◌, nat_le, slice_set, slice_index_or, Option, Some, None, List, [], ◌∷◌, ◌++◌, length, refl, sym, ◌∙◌, ap, subst, arith, length-append}
+use Rattle.std.proofs.Common.{◌≡◌, ℕ, suc, zero, ◌+◌, ◌-◌, ◌<◌, ◌≤◌, true, false, not, ◌&&◌, nat_le, slice_set, slice_index_or, List, [], ◌∷◌, ◌++◌, length, refl, ◌∙◌, ap, subst, arith, length-append}
 use Rattle.std.specs.List.{list_all, list_any, slice_get}
 use Rattle.std.specs.Str.{bytes_eq}
 use Rattle.std.proofs.lemmas.Bool.{and_parts, and_from, or_parts, not_from_false, not-true, leb-true, le-leb}
@@ -17,8 +17,8 @@ use Rattle.script_lang.specs.declared.commands.Command.TheVariants.{Open, Close,
 use Rattle.script_lang.specs.declared.commands.ActorScript.{ActorScript}
 use Rattle.script_lang.specs.declared.script.Plans.{Plans}
 use Rattle.script_lang.specs.Parts.{ScriptParts, side_of, plan_in, plan_of, planned, planned_at, with_node, with_link, with_verdict, with_actor}
-use Rattle.script_lang.specs.Fits.{is_numbered, is_node, is_link, joins, has_end, fits_link, fits_verdict, fits_plans, fits_path, fits_data, fits_filter, fits_command, fits_actor, commands_of, is_among, are_distinct, IsScript}
-use Rattle.script_lang.proofs.Lists.{list_all_push, list_all_weaken, list_any_push, slice_get_stays}
+use Rattle.script_lang.specs.Fits.{is_numbered, is_node, joins, has_end, fits_link, fits_verdict, fits_plans, fits_path, fits_command, fits_actor, commands_of, is_among, are_distinct, IsScript}
+use Rattle.script_lang.proofs.Lists.{list_all_push, list_all_weaken, list_any_push}
 
 -- a new name beside distinct ones
 pub distinct_push : (names : List (List ℕ)) (name : List ℕ) → are_distinct names ≡ true → is_among names name ≡ false → are_distinct (names ++ name ∷ []) ≡ true

@@ -1,6 +1,6 @@
-use Rattle.std.proofs.Common.{◌≡◌, ℕ, suc, zero, ◌+◌, ◌<◌, ◌≤◌, Bool, true, false, not, ◌&&◌, ◌||◌, Option, Some, None, List, [], ◌∷◌, ◌++◌, length, refl, sym, ◌∙◌, ap, arith}
-use Rattle.std.specs.List.{list_all, list_any, slice_get}
-use Rattle.std.proofs.lemmas.Bool.{and_parts, and_from, or_parts, or_from, not_from_false, not-true}
+use Rattle.std.proofs.Common.{◌≡◌, Bool, true, false, List, [], ◌∷◌, ◌++◌, refl, ◌∙◌}
+use Rattle.std.specs.List.{list_all, list_any}
+use Rattle.std.proofs.lemmas.Bool.{and_parts, and_from, or_from}
 use Rattle.std.proofs.lemmas.List.Folds.{list_all-append, list_any-append}
 
 -- one more element that passes
@@ -17,9 +17,3 @@ list_all_weaken p q (x ∷ xs) weaker h =
 -- one more element that fails
 pub list_any_push : {X : Type 0} (p : X → Bool) (xs : List X) (x : X) → list_any p xs ≡ false → p x ≡ false → list_any p (xs ++ x ∷ []) ≡ false
 list_any_push p xs x none one = list_any-append p xs (x ∷ []) ∙ or_from _ _ none (or_from _ _ one refl)
-
--- an element stays in its place when others come behind it
-pub slice_get_stays : {X : Type 0} (xs ys : List X) (k : ℕ) (x : X) → slice_get xs k ≡ Some x → slice_get (xs ++ ys) k ≡ Some x
-slice_get_stays [] ys k x h = cc
-slice_get_stays (y ∷ xs) ys zero x h = h
-slice_get_stays (y ∷ xs) ys (suc k) x h = slice_get_stays xs ys k x h

@@ -1,5 +1,7 @@
--- a script, line by line
-use Rattle.std.specs.Prelude.{ℕ, suc, ◌+◌, ◌-◌, ◌*◌, ◌≡◌, ◌≤◌, ◌<◌, Bool, true, false, not, ◌||◌, ◌&&◌, nat_le, nat_lt, ◌==◌, Option, Some, None, Result, Ok, Err, List, [], ◌∷◌, ◌++◌, length, fold, position, if◌then◌else◌}
+-- A script, line by line. A line's kinds are tried in the order of their table: ScriptTooLong by `lined`, LineTooLong and
+-- BadByte by `texted`, UnknownWord and BadShape by `statement_of`, UnknownName by `number_among` and `hunt_resolved`,
+-- TwiceNamed and OverLimit by what is added, and Unfinished by `finished`.
+use Rattle.std.specs.Prelude.{ℕ, ◌+◌, ◌*◌, ◌≡◌, Bool, ◌&&◌, nat_le, nat_lt, ◌==◌, Option, Some, None, Result, Ok, Err, List, [], ◌∷◌, ◌++◌, length, fold, position, if◌then◌else◌}
 use Rattle.std.specs.List.{list_all, repeat}
 use Rattle.std.specs.Str.{bytes_eq}
 use Rattle.std.specs.Io.BufRead.{strip_last}

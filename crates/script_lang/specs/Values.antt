@@ -1,5 +1,5 @@
 -- what a word of a statement means
-use Rattle.std.specs.Prelude.{ℕ, ◌+◌, ◌-◌, ◌*◌, ◌/◌, ◌%◌, ◌≡◌, Bool, true, false, ◌&&◌, nat_le, ◌==◌, Option, Some, None, option_map, Result, Ok, Err, List, [], ◌∷◌, length, take, drop, fold, codes, position, if◌then◌else◌}
+use Rattle.std.specs.Prelude.{ℕ, ◌+◌, ◌-◌, ◌*◌, Bool, ◌&&◌, nat_le, ◌==◌, Option, Some, None, option_map, Result, Ok, Err, List, [], ◌∷◌, length, take, drop, fold, codes, position, if◌then◌else◌}
 use Rattle.std.specs.List.{list_all}
 use Rattle.std.specs.Str.{bytes_eq}
 use Rattle.hex.specs.declared.error.FromHexError.{FromHexError}

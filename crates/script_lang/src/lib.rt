@@ -17,6 +17,3 @@ pub use commands::{ActorScript, Command, Commands, Filling, Target};
 pub use faults::{BadKind, ScriptError};
 pub use parsing::parse;
 pub use script::{Plans, Script, Verdicts};
-
-#[cfg(test)]
-mod tests;

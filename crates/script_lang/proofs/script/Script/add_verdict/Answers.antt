@@ -1,4 +1,4 @@
-use Rattle.std.proofs.Common.{◌≡◌, ◌<◌, true, length, subst, sym}
+use Rattle.std.proofs.Common.{◌<◌, length, subst, sym}
 use Rattle.script_lang.specs.Parts.{ScriptParts, plan_of}
 use Rattle.script_lang.proofs.Keeps.{verdict_kept}
 use Rattle.script_lang.proofs.script.Script.add_verdict.Goals as goal

@@ -1,5 +1,5 @@
-use super::*;
 use linx_base::{LinkNo, NodeNo, Path, Side, Verdict};
+use script_lang::{BadKind, Command, Script, ScriptError, Target, parse};
 use sigsel::Sigsel;
 use std::test::*;
 
