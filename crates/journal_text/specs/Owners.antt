@@ -1,5 +1,5 @@
 -- Who owns a step, while a journal is read in order.
-use Rattle.std.specs.Prelude.{◌≡◌, ℕ, nat_eq, Bool, List, Option}
+use Rattle.std.specs.Prelude.{◌≡◌, ℕ, nat_eq, List}
 use Rattle.std.specs.HashMap.{get}
 use Rattle.std.specs.HashSet.{contains}
 use Rattle.journal.specs.declared.happenings.Step.{Step}

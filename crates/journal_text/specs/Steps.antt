@@ -1,5 +1,5 @@
 -- The lines of a step.
-use Rattle.std.specs.Prelude.{ℕ, suc, ◌++◌, List, [], ◌∷◌, length, flat_map, codes, decimal, Option, Some, None}
+use Rattle.std.specs.Prelude.{ℕ, ◌++◌, List, [], flat_map, codes, decimal, Option, Some, None}
 use Rattle.linx_base.specs.declared.naming.Names.{Names}
 use Rattle.journal.specs.declared.heads.Head.{Head}
 use Rattle.journal.specs.declared.heads.Head.TheVariants.{Open, Close, Send, Take, TakeNone, Waits, Hunt, Attach, Detach, Cut, Mend, Settle, Restart, Wire, Tick, Refused, Ended}

@@ -1,4 +1,4 @@
-use Rattle.std.proofs.Common.{◌≡◌, ◌+◌, sym, subst, List}
+use Rattle.std.proofs.Common.{◌+◌, sym, subst, List}
 use Rattle.journal.specs.declared.happenings.Step.{Step}
 use Rattle.journal_text.specs.Owners.{Tracks}
 use Rattle.journal_text.specs.Histories.{first_steps}

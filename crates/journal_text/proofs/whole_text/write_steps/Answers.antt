@@ -1,4 +1,4 @@
-use Rattle.std.proofs.Common.{◌≡◌, ◌+◌, ◌++◌, List, length, ℕ, ap, ◌∙◌, arith}
+use Rattle.std.proofs.Common.{◌≡◌, ◌+◌, ◌++◌, List, length, ap, ◌∙◌, arith}
 use Rattle.journal.specs.declared.happenings.Step.{Step}
 use Rattle.linx_base.specs.declared.naming.Names.{Names}
 use Rattle.journal_text.specs.Histories.{first_steps}
