@@ -6,6 +6,8 @@
 
 use linx_outside::{OpenGate, ReadFrom, WriteTo};
 use outcome::Status;
+use std::alloc::{Alloc, Global};
+use std::env::Env;
 use std::process::ExitCode;
 use std::{env, io};
 
@@ -15,8 +17,8 @@ mod playing;
 mod serving;
 
 /// The words of the command line after the program's name.
-fn words_after_name(rt: &impl Env, alloc: Global) -> io::Result<Vec<String>> {
-    env::args(rt)?.skip(1).collect(alloc)
+fn words_after_name(rt: &(impl Env + Alloc<A = Global>), alloc: Global) -> io::Result<Vec<String>> {
+    Ok(env::args(rt)?.skip(1).collect(alloc)?)
 }
 
 fn main(rt: HostRuntime) -> io::Result<ExitCode> {
