@@ -46,7 +46,7 @@ made_open shape P kernel endpoint by name kept maker asked short now new is_now 
     let nothing : endpoint ≡ None = own shape P kernel endpoint by kept maker ∙ asked in
     let bare : IsKept shape P kernel None = subst (IsKept shape P kernel) nothing kept in
     let made_it : Done shape P (Actor 1) (asks.Open name) None (answers.Opened (following_inc kernel)) (after_open kernel name) (Some (following_inc kernel)) (record { by = Actor 1; head = heads.Open name; effects = Opened (following_inc kernel) ∷ [] } ∷ P) =
-        made shape P (asks.Open name) None _ _ _ (record { by = Actor 1; head = heads.Open name; effects = Opened (following_inc kernel) ∷ [] }) refl (keeps_open shape P kernel name bare (subst (IsMaker shape P) first maker) (omega arith)) refl refl
+    made shape P (asks.Open name) None _ _ _ (record { by = Actor 1; head = heads.Open name; effects = Opened (following_inc kernel) ∷ [] }) refl (keeps_open shape P kernel name bare (subst (IsMaker shape P) first maker) (omega arith)) refl refl
     in
     rw (is_now, is_new, first) made_it
 
@@ -55,7 +55,7 @@ made_close shape P kernel endpoint by j kept maker mine now new is_now is_new =
     let first : by ≡ Actor 1 = maker_is_first shape P by kept.one_actor maker in
     let known : IsKept shape P kernel (Some j) = subst (IsKept shape P kernel) mine kept in
     let made_it : Done shape P (Actor 1) asks.Close None answers.Closed (record kernel { endpoints = without_endpoint kernel.endpoints j }) None (record { by = Actor 1; head = heads.Close; effects = Closed j ∷ [] } ∷ P) =
-        made shape P asks.Close None _ _ _ (record { by = Actor 1; head = heads.Close; effects = Closed j ∷ [] }) refl (keeps_close shape P kernel j heads.Close known (subst (IsMaker shape P) first maker) refl tt tt) tt tt
+    made shape P asks.Close None _ _ _ (record { by = Actor 1; head = heads.Close; effects = Closed j ∷ [] }) refl (keeps_close shape P kernel j heads.Close known (subst (IsMaker shape P) first maker) refl tt tt) tt tt
     in
     rw (is_now, is_new, first) made_it
 
@@ -64,7 +64,7 @@ made_end_open shape P kernel endpoint by j kept maker mine now new is_now is_new
     let first : by ≡ Actor 1 = maker_is_first shape P by kept.one_actor maker in
     let known : IsKept shape P kernel (Some j) = subst (IsKept shape P kernel) mine kept in
     let made_it : Done shape P (Actor 1) asks.End None answers.Done (record kernel { endpoints = without_endpoint kernel.endpoints j }) None (record { by = Actor 1; head = heads.Ended; effects = Closed j ∷ [] } ∷ P) =
-        made shape P asks.End None _ _ _ (record { by = Actor 1; head = heads.Ended; effects = Closed j ∷ [] }) refl (keeps_close shape P kernel j heads.Ended known (subst (IsMaker shape P) first maker) refl tt tt) tt tt
+    made shape P asks.End None _ _ _ (record { by = Actor 1; head = heads.Ended; effects = Closed j ∷ [] }) refl (keeps_close shape P kernel j heads.Ended known (subst (IsMaker shape P) first maker) refl tt tt) tt tt
     in
     rw (is_now, is_new, first) made_it
 
@@ -73,7 +73,7 @@ made_end_closed shape P kernel endpoint by kept maker nothing new is_new =
     let first : by ≡ Actor 1 = maker_is_first shape P by kept.one_actor maker in
     let bare : IsKept shape P kernel None = subst (IsKept shape P kernel) nothing kept in
     let made_it : Done shape P (Actor 1) asks.End None answers.Done kernel None (record { by = Actor 1; head = heads.Ended; effects = [] } ∷ P) =
-        made shape P asks.End None _ _ _ (record { by = Actor 1; head = heads.Ended; effects = [] }) refl (keeps_quiet shape P kernel None heads.Ended bare (subst (IsMaker shape P) first maker) (λ e. refl) refl tt tt) tt tt
+    made shape P asks.End None _ _ _ (record { by = Actor 1; head = heads.Ended; effects = [] }) refl (keeps_quiet shape P kernel None heads.Ended bare (subst (IsMaker shape P) first maker) (λ e. refl) refl tt tt) tt tt
     in
     rw (is_new, first, nothing) made_it
 
@@ -83,7 +83,7 @@ made_look shape P kernel endpoint by j filter took kept maker mine is now new is
     let known : IsKept shape P kernel (Some j) = subst (IsKept shape P kernel) mine kept in
     let at : endpoint_of P 1 ≡ Some j = sym known.endpoint_known in
     let made_it : Done shape P (Actor 1) (asks.Look filter) None (take_answer took) (after_take kernel j filter) (Some j) (record { by = Actor 1; head = take_head filter took; effects = [] } ∷ P) =
-        made shape P (asks.Look filter) None (take_answer took) _ _ (record { by = Actor 1; head = take_head filter took; effects = [] }) refl (keeps_take shape P kernel j filter took known (subst (IsMaker shape P) first maker) is) (head_of took) (rw at (taken_answer shape P kernel j filter took known is))
+    made shape P (asks.Look filter) None (take_answer took) _ _ (record { by = Actor 1; head = take_head filter took; effects = [] }) refl (keeps_take shape P kernel j filter took known (subst (IsMaker shape P) first maker) is) (head_of took) (rw at (taken_answer shape P kernel j filter took known is))
     in
     rw (is_now, is_new, first, mine) made_it
   where
@@ -96,6 +96,6 @@ made_send shape P kernel endpoint by j to signal kept maker mine now new is_now 
     let first : by ≡ Actor 1 = maker_is_first shape P by kept.one_actor maker in
     let known : IsKept shape P kernel (Some j) = subst (IsKept shape P kernel) mine kept in
     let made_it : Done shape P (Actor 1) (asks.Send to) (Some signal) (answers.Sent (answer_to (is_living kernel.endpoints to) to)) (record kernel { endpoints = after_send kernel.endpoints j to signal (length P + 1) }) (Some j) (sent_step (Actor 1) j to signal (is_living kernel.endpoints to) ∷ P) =
-        made shape P (asks.Send to) (Some signal) _ _ _ (sent_step (Actor 1) j to signal (is_living kernel.endpoints to)) refl (keeps_send shape P kernel j to signal known (subst (IsMaker shape P) first maker)) (refl, refl) refl
+    made shape P (asks.Send to) (Some signal) _ _ _ (sent_step (Actor 1) j to signal (is_living kernel.endpoints to)) refl (keeps_send shape P kernel j to signal known (subst (IsMaker shape P) first maker)) (refl, refl) refl
     in
     rw (is_now, is_new, first, mine) made_it
