@@ -1,5 +1,5 @@
 -- What is known of a script that can be run.
-use Rattle.std.proofs.Common.{◌≡◌, ℕ, suc, Bool, true, false, ◌&&◌, ◌==◌, List, [], ◌∷◌, length, refl, sym, ◌∙◌, ap, subst, arith}
+use Rattle.std.proofs.Common.{◌≡◌, ℕ, suc, ◌<◌, ◌≤◌, Bool, true, false, ◌&&◌, ◌==◌, List, [], ◌∷◌, length, refl, sym, ◌∙◌, ap, subst, arith}
 use Rattle.std.specs.Prelude.{nat_le}
 use Rattle.std.specs.List.{list_all}
 use Rattle.std.proofs.lemmas.Bool.{eqb-true, and_parts, and_from}
@@ -11,8 +11,13 @@ use Rattle.script_lang.specs.declared.commands.ActorScript.{ActorScript}
 use Rattle.script_lang.specs.Parts.{ScriptParts}
 use Rattle.script_lang.specs.Fits.{IsScript, is_node, fits_command, fits_actor}
 use Rattle.fabric.specs.Remains.{only_node}
-use Rattle.linx_sim.specs.Runs.{is_built, is_first_path, is_one_actor}
-use Rattle.linx_sim.specs.Turns.{is_sized, IsAlone}
+use Rattle.linx_sim.specs.Runs.{is_built, is_first_path, is_one_actor, shape_of, IsOver, IsRunOf}
+use Rattle.linx_sim.specs.Turns.{is_sized, IsAlone, lone_shape}
+use Rattle.journal.specs.declared.happenings.Step.{Step}
+use Rattle.journal.specs.Logs.{Log}
+use Rattle.journal.specs.Laws.{Shape, IsLegal}
+use Rattle.journal.specs.History.{has_ended}
+use Rattle.actor_run.specs.Following.{FollowsWhole}
 
 three : (x y z : Bool) → (x && y && z) ≡ true → (x ≡ true) × ((y ≡ true) × (z ≡ true))
 three true true true all = (refl, (refl, refl))
@@ -50,4 +55,22 @@ alone s actor script built one =
       node = ap (λ (n : ℕ). record { 0 = n }) (eqb-true actor.node.0 1 both.0);
       path = both.1;
       sized = all_sized s actor.node actor.commands fit.1.1;
+    }
+
+shape_is : (s : ScriptParts) (actor : ActorScript) → IsAlone s actor → s.actors ≡ actor ∷ [] → shape_of s ≡ lone_shape
+shape_is s actor facts one = rw (facts.no_links, one, facts.node) refl
+
+all_ended : (P : List Step) (k : ℕ) → has_ended P 1 ≡ true → 0 < k → k ≤ 1 → has_ended P k ≡ true
+all_ended P k ended some most = let first : 1 ≡ k = omega arith in subst (λ (n : ℕ). has_ended P n ≡ true) first ended
+
+-- the journal is a whole run of the script
+pub is_run : (s : ScriptParts) (actor : ActorScript) (log : Log) → IsAlone s actor → s.actors ≡ actor ∷ [] → log.names ≡ s.names → IsLegal lone_shape log.steps → FollowsWhole actor.commands 1 log.steps → has_ended log.steps 1 ≡ true → IsRunOf s log
+is_run s actor log facts one names legal follows ended =
+    let shape : shape_of s ≡ lone_shape = shape_is s actor facts one in
+    let over : IsOver lone_shape log.steps = record { actors = λ k some most. all_ended log.steps k ended some most; links = refl } in
+    record {
+      names = names;
+      legal = subst (λ (x : Shape). IsLegal x log.steps) (sym shape) legal;
+      follows = rw one (follows, tt);
+      over = subst (λ (x : Shape). IsOver x log.steps) (sym shape) over;
     }

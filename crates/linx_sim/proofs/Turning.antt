@@ -248,9 +248,10 @@ at_command shape commands P place me command playing at =
 pub asked_command : (shape : Shape) (commands : List Command) (P : List Step) (place : ℕ) (me : Option Inc) → Playing shape commands P place me → (at : Option Command) → slice_get commands place ≡ at → (is_plain_at at ≡ true) × NeedsItself at me
 asked_command shape commands P place me playing None at = (refl, tt)
 asked_command shape commands P place me playing (Some command) at =
-    let facts = at_command shape commands P place me command playing at in
-    (plain command (endpoint_of P 1) (drop (suc place) commands) facts.ready facts.sized,
-    needs command me (endpoint_of P 1) (drop (suc place) commands) facts.ready (λ j mine. playing.mine ∙ (if_not_closed-some P (last_endpoint P 1) j mine).0))
+    let facts = at_command shape commands P place me command playing at in (
+      plain command (endpoint_of P 1) (drop (suc place) commands) facts.ready facts.sized,
+      needs command me (endpoint_of P 1) (drop (suc place) commands) facts.ready (λ j mine. playing.mine ∙ (if_not_closed-some P (last_endpoint P 1) j mine).0),
+    )
 
 pub asked_step : (shape : Shape) (commands : List Command) (P : List Step) (place : ℕ) (me : Option Inc) (event : Event) (hand : Option SigNote) → Playing shape commands P place me → (at : Option Command) → slice_get commands place ≡ at → IsAskOf at me event hand → CanAsk (endpoint_of P 1) event hand
 asked_step shape commands P place me event hand playing None at ask = can_end me (endpoint_of P 1) event hand ask
@@ -292,7 +293,7 @@ played shape commands P place me command event hand answer next [] one short at 
 played shape commands P place me command event hand answer next (s ∷ rest) one short at ask playing is_next makes =
     let made : IsMade shape P (Actor 1) event hand answer s = makes.1 in
     let first : Playing shape commands (first_step s.head s.effects ∷ P) (suc place) (endpoint_after me answer) =
-        played_first shape commands P place me command event hand answer s.head s.effects one short at ask playing (legal_first shape P s made.maker made.legal) made.head made.answered
+    played_first shape commands P place me command event hand answer s.head s.effects one short at ask playing (legal_first shape P s made.maker made.legal) made.head made.answered
     in
     rw (is_next, makes.0) (subst (λ (b : By). Playing shape commands (record { by = b; head = s.head; effects = s.effects } ∷ P) (suc place) (endpoint_after me answer)) (sym made.maker) first)
 

@@ -86,11 +86,7 @@ fn finish(
 
 /// Runs the actor's commands and then its end, one step each, or stops where the journal is full or
 /// memory is refused.
-pub(crate) fn play(
-    alloc: Global,
-    fabric: &mut Fabric,
-    actor: &ActorScript,
-) -> Result<(), StepStop>
+pub(crate) fn play(alloc: Global, fabric: &mut Fabric, actor: &ActorScript) -> Result<(), StepStop>
     requires one_actor { IsOneActor fabric.old.shape }
     requires unstarted { fabric.old.log.steps ≡ [] }
     requires built { is_first_path actor.now.commands ≡ true }

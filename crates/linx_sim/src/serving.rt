@@ -9,7 +9,7 @@ ghost use Rattle.journal.specs.Laws.{IsLegal};
 ghost use Rattle.journal.specs.History.{has_ended};
 ghost use Rattle.journal_text.specs.Text.{text_of};
 ghost use Rattle.actor_run.specs.Following.{FollowsWhole};
-ghost use Rattle.linx_sim.specs.Runs.{is_first_path};
+ghost use Rattle.linx_sim.specs.Runs.{is_first_path, IsRunOf, IsDone};
 ghost use Rattle.linx_sim.specs.Turns.{IsAlone, lone_shape, is_quiet, is_sized, read_status, script_status, stop_status};
 
 use crate::building::is_built;
@@ -86,12 +86,7 @@ fn write_run<K: Sink>(alloc: Global, journal: Journal, out: &mut K) -> Outcome
 }
 
 /// Runs the actor on the fabric, and writes the text of the whole run.
-fn run_actor<K: Sink>(
-    alloc: Global,
-    fabric: Fabric,
-    actor: &ActorScript,
-    out: &mut K,
-) -> Outcome
+fn run_actor<K: Sink>(alloc: Global, fabric: Fabric, actor: &ActorScript, out: &mut K) -> Outcome
     requires one_actor { fabric.shape ≡ lone_shape }
     requires unstarted { fabric.log.steps ≡ [] }
     requires path { is_first_path actor.now.commands ≡ true }
@@ -126,6 +121,7 @@ fn fabric_of(alloc: Global, script: &Script, actor: &ActorScript) -> Result<Fabr
 
 /// Runs a script, where it is one that can be run as yet.
 fn run_script<K: Sink>(alloc: Global, script: &Script, out: &mut K) -> Outcome
+    ensures run { result.status ≡ Status.Done → IsRunOf script.now result.journal.log }
     ensures legal { IsLegal lone_shape result.journal.log.steps }
     ensures quiet { is_quiet result.status ≡ true → out.new ≡ out.old }
     ensures written { result.status ≡ Status.Done → K.held out.new ≡ appended (K.held out.old) (text_of result.journal.log) }
@@ -147,6 +143,8 @@ fn run_script<K: Sink>(alloc: Global, script: &Script, out: &mut K) -> Outcome
 
 /// Reads a script, runs it step by step, and writes the text of the whole run.
 pub fn serial<S: Source, K: Sink>(alloc: Global, script: &mut S, out: &mut K) -> Outcome
+    ensures done { result.status ≡ Status.Done → IsDone (S.left script.old) result.journal.log }
+    ensures read_fault { result.status ≡ Status.ReadFault → HasFaulted S.last_count (S.faults script.old) (S.faults script.new) }
     ensures legal { IsLegal lone_shape result.journal.log.steps }
     ensures quiet { is_quiet result.status ≡ true → out.new ≡ out.old }
     ensures written { result.status ≡ Status.Done → K.held out.new ≡ appended (K.held out.old) (text_of result.journal.log) }
@@ -175,12 +173,12 @@ fn is_run(words: &[String]) -> bool {
 
 /// Does what the words of the command line say. The one command is `run`.
 pub fn run<S: Source, K: Sink, G: Gate + Sync, R: Wait>(
-    rt: &R,
+    _rt: &R,
     alloc: Global,
     words: &[String],
     script: &mut S,
     out: &mut K,
-    gate: &G,
+    _gate: &G,
 ) -> Outcome
     ensures legal { IsLegal lone_shape result.journal.log.steps }
     ensures quiet { is_quiet result.status ≡ true → out.new ≡ out.old }
@@ -189,7 +187,6 @@ pub fn run<S: Source, K: Sink, G: Gate + Sync, R: Wait>(
     ensures write_fault { result.status ≡ Status.WriteFault → HasFaulted K.last_count (K.faults out.old) (K.faults out.new) }
     ensures full { result.status ≡ Status.JournalFull → is_full result.journal.log.steps ≡ true }
 {
-    let _ = (rt, gate);
     if !is_run(words) {
         return unstarted(alloc, Status::Usage);
     }
