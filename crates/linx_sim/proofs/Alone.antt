@@ -1,6 +1,6 @@
 -- What is known of a script that can be run.
 use Rattle.std.proofs.Common.{◌≡◌, ℕ, suc, ◌<◌, ◌≤◌, Bool, true, false, ◌&&◌, ◌==◌, List, [], ◌∷◌, length, refl, sym, ◌∙◌, ap, subst, arith}
-use Rattle.std.specs.Prelude.{nat_le}
+use Rattle.std.specs.Prelude.{nat_le, get_or}
 use Rattle.std.specs.List.{list_all}
 use Rattle.std.proofs.lemmas.Bool.{eqb-true, and_parts, and_from}
 use Rattle.linx_base.specs.declared.identity.NodeNo.{NodeNo}
@@ -74,3 +74,13 @@ is_run s actor log facts one names legal follows ended =
       follows = rw one (follows, tt);
       over = subst (λ (x : Shape). IsOver x log.steps) (sym shape) over;
     }
+
+single : (actors : List ActorScript) (actor : ActorScript) → 1 ≤ length actors → length actors < 2 → actor ≡ get_or actors 0 actor → actors ≡ actor ∷ []
+single [] actor some few is = absurd (omega (arith, some))
+single (first ∷ []) actor some few is = ap (λ (x : ActorScript). x ∷ []) (sym is)
+single (first ∷ second ∷ rest) actor some few is = absurd (omega (arith, few))
+
+pub alone_in : (s : ScriptParts) (actors : List ActorScript) (actor : ActorScript) → IsScript s → is_built s ≡ true → actors ≡ s.actors → 1 ≤ length actors → length actors < 2 → actor ≡ get_or actors 0 actor → IsAlone s actor × (s.actors ≡ actor ∷ [])
+alone_in s actors actor script built same some few is =
+    let one : s.actors ≡ actor ∷ [] = sym same ∙ single actors actor some few is in
+    (alone s actor script built one, one)
