@@ -1,4 +1,5 @@
-use Rattle.std.specs.Prelude.{ℕ, ◌≡◌, ◌+◌, ◌<◌, ◌≤◌, Bool, true, false, ◌&&◌, ◌==◌, List, [], ◌∷◌, length, if◌then◌else◌}
+use Rattle.std.specs.Prelude.{ℕ, ◌≡◌, ◌+◌, ◌<◌, ◌≤◌, Bool, true, false, ◌&&◌, ◌==◌, List, [], ◌∷◌, length, if◌then◌else◌, take, Option, Ok, IfSome}
+use Rattle.script_lang.specs.Reading.{script_of}
 use Rattle.linx_base.specs.declared.identity.NodeNo.{NodeNo}
 use Rattle.linx_base.specs.declared.naming.Names.{Names}
 use Rattle.sigsel.specs.declared.filters.Sigsel.{Sigsel}
@@ -92,3 +93,9 @@ pub record IsRunOf (script : ScriptParts) (log : Log) : Type 0 where
   pub legal : IsLegal (shape_of script) log.steps
   pub follows : FollowAll script.actors 1 log.steps
   pub over : IsOver (shape_of script) log.steps
+
+-- the script that a journal is a whole run of: the bytes told by a source spell it
+pub record IsDone (told : Option (List ℕ)) (log : Log) : Type 0 where
+  pub script : ScriptParts
+  pub run : IsRunOf script log
+  pub spelled : IfSome told (λ bytes. script_of (take 1048577 bytes) ≡ Ok script)

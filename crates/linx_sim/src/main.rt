@@ -25,14 +25,7 @@ fn main(rt: HostRuntime) -> io::Result<ExitCode> {
     let words = words_after_name(&rt, rt.alloc())?;
     let mut script = ReadFrom::new(rt.reader());
     let mut text = WriteTo::new(io::writer(&rt));
-    let outcome = serving::run(
-        &rt,
-        rt.alloc(),
-        &words,
-        &mut script,
-        &mut text,
-        &OpenGate,
-    );
+    let outcome = serving::run(&rt, rt.alloc(), &words, &mut script, &mut text, &OpenGate);
     match outcome.status {
         Status::Done => {}
         Status::Usage => eprintln!(rt; "linx_sim: usage: linx_sim run")?,

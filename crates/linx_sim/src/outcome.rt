@@ -10,9 +10,7 @@ pub enum Status {
     /// The words aren't those of a command.
     Usage,
     /// The bytes are no script. `line` is the first bad line, from 1.
-    Script {
-        line: u32,
-    },
+    Script { line: u32 },
     /// The source failed.
     ReadFault,
     /// The sink failed. A front of the text was written.

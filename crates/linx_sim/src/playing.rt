@@ -1,5 +1,14 @@
 //! One actor's turns on a fabric, to its end.
 
+ghost use Rattle.std.specs.Prelude.{◌≡◌, ◌+◌, ◌<◌, ◌≤◌, true, [], length, IfOk, IfErr, OnOk, slice_get, Some, None};
+ghost use Rattle.std.specs.List.{list_all};
+ghost use Rattle.fabric.specs.Remains.{IsOneActor};
+ghost use Rattle.journal.specs.Logs.{is_full};
+ghost use Rattle.journal.specs.History.{has_ended};
+ghost use Rattle.actor_run.specs.Following.{Follows, FollowsWhole};
+ghost use Rattle.linx_sim.specs.Runs.{is_first_path};
+ghost use Rattle.linx_sim.specs.Turns.{Playing, endpoint_after, is_sized};
+
 use actor_run::Mind;
 use fabric::{Fabric, StepStop, StopCause};
 use journal::By;
@@ -9,45 +18,90 @@ use script_lang::ActorScript;
 use std::alloc::Global;
 
 /// The endpoint that the actor opened last, after this answer.
-fn endpoint_after(me: Option<Inc>, answer: &StepAnswer) -> Option<Inc> {
+fn endpoint_after(me: Option<Inc>, answer: &StepAnswer) -> Option<Inc>
+    ensures { result ≡ endpoint_after me answer.now }
+{
     match answer {
         StepAnswer::Opened(inc) => Some(*inc),
         _ => me,
     }
 }
 
-/// One turn: the ask of the actor's place becomes a step. The answer is the endpoint that the actor
-/// opened last.
+fn no_memory() -> StepStop
+    ensures { result ≡ record { cause = StopCause.NoMemory; hand = None } }
+{
+    StepStop {
+        cause: StopCause::NoMemory,
+        hand: None,
+    }
+}
+
+/// One turn: the command at the actor's place becomes a step. The answer is the endpoint that the
+/// actor opened last.
 fn turn(
     alloc: Global,
     fabric: &mut Fabric,
     actor: &ActorScript,
     mind: &Mind,
     me: Option<Inc>,
-) -> Result<Option<Inc>, StepStop> {
+) -> Result<Option<Inc>, StepStop>
+    requires one_actor { IsOneActor fabric.old.shape }
+    requires playing { Playing fabric.old.shape actor.now.commands fabric.old.log.steps mind.now me }
+    requires more { mind.now < length actor.now.commands }
+    ensures playing { IfOk result (λ now. Playing fabric.old.shape actor.now.commands fabric.new.log.steps (mind.now + 1) now) }
+    ensures fixed { fabric.new ≡ record fabric.old { log = record fabric.old.log { steps = fabric.new.log.steps } } }
+    ensures full { IfErr result (λ stop. stop.cause ≡ StopCause.JournalFull → is_full fabric.old.log.steps ≡ true) }
+    ensures unchanged { IfErr result (λ stop. fabric.new ≡ fabric.old) }
+{
     let Ok(ask) = mind.next(alloc, actor, me) else {
-        return Err(StepStop {
-            cause: StopCause::NoMemory,
-            hand: None,
-        });
+        return Err(no_memory());
     };
     let answer = fabric.step(By::Actor(1), ask.event, ask.hand)?;
     Ok(endpoint_after(me, &answer))
 }
 
-/// Runs the actor's commands and then its end, one step each, or stops where the journal is full or
-/// memory is refused.
-pub(crate) fn play(
+/// The last turn, after all commands: the actor ends.
+fn finish(
     alloc: Global,
     fabric: &mut Fabric,
     actor: &ActorScript,
-) -> Result<(), StepStop> {
+    mind: &Mind,
+    me: Option<Inc>,
+) -> Result<(), StepStop>
+    requires one_actor { IsOneActor fabric.old.shape }
+    requires playing { Playing fabric.old.shape actor.now.commands fabric.old.log.steps mind.now me }
+    requires all { mind.now ≡ length actor.now.commands }
+    ensures whole { OnOk result (FollowsWhole actor.now.commands 1 fabric.new.log.steps) }
+    ensures ended { OnOk result (has_ended fabric.new.log.steps 1 ≡ true) }
+    ensures fixed { fabric.new ≡ record fabric.old { log = record fabric.old.log { steps = fabric.new.log.steps } } }
+    ensures full { IfErr result (λ stop. stop.cause ≡ StopCause.JournalFull → is_full fabric.old.log.steps ≡ true) }
+    ensures unchanged { IfErr result (λ stop. fabric.new ≡ fabric.old) }
+{
+    let Ok(ask) = mind.next(alloc, actor, me) else {
+        return Err(no_memory());
+    };
+    fabric.step(By::Actor(1), ask.event, ask.hand)?;
+    Ok(())
+}
+
+/// Runs the actor's commands and then its end, one step each, or stops where the journal is full or
+/// memory is refused.
+pub(crate) fn play(alloc: Global, fabric: &mut Fabric, actor: &ActorScript) -> Result<(), StepStop>
+    requires one_actor { IsOneActor fabric.old.shape }
+    requires unstarted { fabric.old.log.steps ≡ [] }
+    requires built { is_first_path actor.now.commands ≡ true }
+    requires sized { list_all is_sized actor.now.commands ≡ true }
+    ensures whole { OnOk result (FollowsWhole actor.now.commands 1 fabric.new.log.steps) }
+    ensures ended { OnOk result (has_ended fabric.new.log.steps 1 ≡ true) }
+    ensures follows { Follows actor.now.commands 1 fabric.new.log.steps }
+    ensures fixed { fabric.new ≡ record fabric.old { log = record fabric.old.log { steps = fabric.new.log.steps } } }
+    ensures full { IfErr result (λ stop. stop.cause ≡ StopCause.JournalFull → is_full fabric.new.log.steps ≡ true) }
+{
     let mut mind = Mind::new();
     let mut me = None;
-    for _ in 0..actor.commands.len() {
+    'turns: for place in 0..actor.commands.len() {
         me = turn(alloc, fabric, actor, &mind, me)?;
         mind.told();
     }
-    turn(alloc, fabric, actor, &mind, me)?;
-    Ok(())
+    finish(alloc, fabric, actor, &mind, me)
 }

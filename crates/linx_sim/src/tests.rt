@@ -51,7 +51,10 @@ fn scripts_that_are_not_run(rt: HostRuntime) -> Result<(), Fail> {
     let mut sink = MemSink::new(alloc, 10, 4096, Vec::new(alloc))?;
     let two = b"node n\nactor p n\nopen a\nclose\nend\nactor q n\nopen b\nclose\nend\n";
     assert_eq!(rt; run_of(alloc, two, &mut sink)?, Status::NotBuilt);
-    assert_eq!(rt; run_of(alloc, b"nod n\n", &mut sink)?, Status::Script { line: 1 });
+    assert_eq!(rt;
+        run_of(alloc, b"nod n\n", &mut sink)?,
+        Status::Script { line: 1 }
+    );
     assert!(rt; sink.held().is_empty());
     Ok(())
 }

@@ -1,0 +1,85 @@
+-- What holds between the turns of one actor.
+use Rattle.std.specs.Prelude.{ℕ, ◌≡◌, Bool, true, false, ◌&&◌, List, [], ◌∷◌, drop, Option, Some, None}
+use Rattle.std.specs.List.{list_all}
+use Rattle.linx_base.specs.declared.identity.Inc.{Inc}
+use Rattle.journal.specs.declared.happenings.Step.{Step}
+use Rattle.journal.specs.History.{last_endpoint, endpoint_of, has_ended}
+use Rattle.journal.specs.Laws.{Shape, IsLegal}
+use Rattle.node_kernel.specs.declared.answers.StepAnswer.{StepAnswer}
+use Rattle.node_kernel.specs.declared.answers.StepAnswer.TheVariants as answers
+use Rattle.script_lang.specs.declared.commands.Command.{Command}
+use Rattle.script_lang.specs.declared.commands.Command.TheVariants.{Send}
+use Rattle.script_lang.specs.Fits.{fits_data}
+use Rattle.actor_run.specs.Following.{Follows, steps_by}
+use Rattle.linx_sim.specs.Runs.{is_open, is_body, is_first_path}
+use Rattle.script_lang.specs.Parts.{ScriptParts}
+use Rattle.script_lang.specs.declared.commands.ActorScript.{ActorScript}
+use Rattle.fabric.specs.Remains.{only_node}
+use Rattle.linx_sim.specs.declared.outcome.Status.{Status}
+use Rattle.linx_sim.specs.declared.outcome.Status.TheVariants.{Done, Usage, Script, ReadFault, WriteFault, JournalFull, NoMemory, NotBuilt}
+use Rattle.linx_outside.specs.declared.whole_reads.ReadError.{ReadError}
+use Rattle.linx_outside.specs.declared.whole_reads.ReadError.TheVariants as reads
+use Rattle.script_lang.specs.declared.faults.ScriptError.{ScriptError}
+use Rattle.script_lang.specs.declared.faults.ScriptError.TheVariants as scripts
+use Rattle.fabric.specs.declared.stops.StopCause.{StopCause}
+use Rattle.fabric.specs.declared.stops.StopCause.TheVariants as stops
+
+-- a send has at most as many data bytes as a signal holds
+abbrev pub is_sized : Command → Bool
+is_sized (Send to number bytes) = fits_data 65532 bytes
+is_sized _ = true
+
+-- the commands can be run by an actor with this endpoint
+abbrev pub is_ready : Option Inc → List Command → Bool
+is_ready None [] = true
+is_ready None (command ∷ rest) = is_open command && is_body rest
+is_ready (Some j) rest = is_body rest
+
+-- the endpoint that an actor opened last, after an answer
+abbrev pub endpoint_after : Option Inc → StepAnswer → Option Inc
+endpoint_after me (answers.Opened i) = Some i
+endpoint_after me _ = me
+
+-- the actor has followed its commands up to this place, me is the endpoint that it opened last, and
+-- the others can be run
+pub record Playing (shape : Shape) (commands : List Command) (P : List Step) (place : ℕ) (me : Option Inc) : Type 0 where
+  pub legal : IsLegal shape P
+  pub follows : Follows commands 1 P
+  pub counted : steps_by P 1 ≡ place
+  pub mine : me ≡ last_endpoint P 1
+  pub running : has_ended P 1 ≡ false
+  pub ready : is_ready (endpoint_of P 1) (drop place commands) ≡ true
+  pub sized : list_all is_sized (drop place commands) ≡ true
+
+-- what is known of the actor of a script that can be run
+pub record IsAlone (s : ScriptParts) (actor : ActorScript) : Type 0 where
+  pub no_links : s.links ≡ []
+  pub node : actor.node ≡ only_node
+  pub path : is_first_path actor.commands ≡ true
+  pub sized : list_all is_sized actor.commands ≡ true
+
+-- what such a script is run on
+abbrev pub lone_shape : Shape
+lone_shape = record { links = []; actors = only_node ∷ [] }
+
+-- nothing is written at this status
+abbrev pub is_quiet : Status → Bool
+is_quiet Done = false
+is_quiet WriteFault = false
+is_quiet NoMemory = false
+is_quiet _ = true
+
+-- the status of a read that stopped short
+abbrev pub read_status : ReadError → Status
+read_status reads.ReadFault = ReadFault
+read_status reads.NoMemory = NoMemory
+
+-- the status of bytes that are no script
+abbrev pub script_status : ScriptError → Status
+script_status (scripts.Bad line kind) = Script line
+script_status scripts.NoMemory = NoMemory
+
+-- the status of a step that wasn't made
+abbrev pub stop_status : StopCause → Status
+stop_status stops.JournalFull = JournalFull
+stop_status stops.NoMemory = NoMemory
