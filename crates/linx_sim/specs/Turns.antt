@@ -69,6 +69,11 @@ is_quiet WriteFault = false
 is_quiet NoMemory = false
 is_quiet _ = true
 
+-- the status comes of a read that failed
+abbrev pub is_of_reading : Status → Bool
+is_of_reading ReadFault = true
+is_of_reading _ = false
+
 -- the status of a read that stopped short
 abbrev pub read_status : ReadError → Status
 read_status reads.ReadFault = ReadFault

@@ -10,7 +10,7 @@ ghost use Rattle.journal.specs.History.{has_ended};
 ghost use Rattle.journal_text.specs.Text.{text_of};
 ghost use Rattle.actor_run.specs.Following.{FollowsWhole};
 ghost use Rattle.linx_sim.specs.Runs.{is_first_path, IsRunOf, IsDone};
-ghost use Rattle.linx_sim.specs.Turns.{IsAlone, lone_shape, is_quiet, is_sized, read_status, script_status, stop_status};
+ghost use Rattle.linx_sim.specs.Turns.{IsAlone, lone_shape, is_of_reading, is_quiet, is_sized, read_status, script_status, stop_status};
 
 use crate::building::is_built;
 use crate::outcome::{Outcome, Status};
@@ -72,6 +72,7 @@ fn status_of_stop(cause: StopCause) -> Status
 /// The text of a whole run goes to the sink.
 fn write_run<K: Sink>(alloc: Global, journal: Journal, out: &mut K) -> Outcome
     ensures journal { result.journal ≡ journal }
+    ensures read_before { is_of_reading result.status ≡ false }
     ensures loud { is_quiet result.status ≡ false }
     ensures written { result.status ≡ Status.Done → K.held out.new ≡ appended (K.held out.old) (text_of journal.log) }
     ensures front { result.status ≡ Status.WriteFault → AppendsFront (K.held out.old) (K.held out.new) (text_of journal.log) }
@@ -93,6 +94,7 @@ fn run_actor<K: Sink>(alloc: Global, fabric: Fabric, actor: &ActorScript, out: &
     requires sized { list_all is_sized actor.now.commands ≡ true }
     ensures legal { IsLegal lone_shape result.journal.log.steps }
     ensures names { result.journal.log.names ≡ fabric.log.names }
+    ensures read_before { is_of_reading result.status ≡ false }
     ensures quiet { is_quiet result.status ≡ true → out.new ≡ out.old }
     ensures whole { result.status ≡ Status.Done → FollowsWhole actor.now.commands 1 result.journal.log.steps }
     ensures ended { result.status ≡ Status.Done → has_ended result.journal.log.steps 1 ≡ true }
@@ -123,6 +125,7 @@ fn fabric_of(alloc: Global, script: &Script, actor: &ActorScript) -> Result<Fabr
 fn run_script<K: Sink>(alloc: Global, script: &Script, out: &mut K) -> Outcome
     ensures run { result.status ≡ Status.Done → IsRunOf script.now result.journal.log }
     ensures legal { IsLegal lone_shape result.journal.log.steps }
+    ensures read_before { is_of_reading result.status ≡ false }
     ensures quiet { is_quiet result.status ≡ true → out.new ≡ out.old }
     ensures written { result.status ≡ Status.Done → K.held out.new ≡ appended (K.held out.old) (text_of result.journal.log) }
     ensures front { result.status ≡ Status.WriteFault → AppendsFront (K.held out.old) (K.held out.new) (text_of result.journal.log) }
