@@ -11,13 +11,15 @@ use Rattle.script_lang.specs.declared.commands.ActorScript.{ActorScript}
 use Rattle.script_lang.specs.Parts.{ScriptParts}
 use Rattle.script_lang.specs.Fits.{IsScript, is_node, fits_command, fits_actor}
 use Rattle.fabric.specs.Remains.{only_node}
-use Rattle.linx_sim.specs.Runs.{is_built, is_first_path, is_one_actor, shape_of, IsOver, IsRunOf}
-use Rattle.linx_sim.specs.Turns.{is_sized, IsAlone, lone_shape}
+use Rattle.linx_sim.specs.Runs.{is_built, is_first_path, is_one_actor, shape_of, IsOver, IsRunOf, IsSoFar, IsStopped, HasTurn, ForEachActor, IsAnswerTo}
+use Rattle.linx_sim.specs.Turns.{is_sized, IsAlone, IsPlayed, lone_shape}
+use Rattle.linx_sim.specs.declared.outcome.Status.{Status}
+use Rattle.linx_sim.specs.declared.outcome.Status.TheVariants.{Done, Usage, Script, ReadFault, WriteFault, JournalFull, NoMemory, NotBuilt}
 use Rattle.journal.specs.declared.happenings.Step.{Step}
 use Rattle.journal.specs.Logs.{Log}
 use Rattle.journal.specs.Laws.{Shape, IsLegal}
 use Rattle.journal.specs.History.{has_ended}
-use Rattle.actor_run.specs.Following.{FollowsWhole}
+use Rattle.actor_run.specs.Following.{Follows, FollowsWhole}
 
 three : (x y z : Bool) → (x && y && z) ≡ true → (x ≡ true) × ((y ≡ true) × (z ≡ true))
 three true true true all = (refl, (refl, refl))
@@ -63,17 +65,52 @@ shape_is s actor facts one = rw (facts.no_links, one, facts.node) refl
 all_ended : (P : List Step) (k : ℕ) → has_ended P 1 ≡ true → 0 < k → k ≤ 1 → has_ended P k ≡ true
 all_ended P k ended some most = let first : 1 ≡ k = omega arith in subst (λ (n : ℕ). has_ended P n ≡ true) first ended
 
+-- the script's names and actors, behind the one actor's
+follows_lone : (Holds : List Command → ℕ → Type 0) (s : ScriptParts) (actor : ActorScript) → s.actors ≡ actor ∷ [] → Holds actor.commands 1 → ForEachActor Holds s.actors 1
+follows_lone Holds s actor one holds = subst (λ (actors : List ActorScript). ForEachActor Holds actors 1) (sym one) (holds, tt)
+
 -- the journal is a whole run of the script
-pub is_run : (s : ScriptParts) (actor : ActorScript) (log : Log) → IsAlone s actor → s.actors ≡ actor ∷ [] → log.names ≡ s.names → IsLegal lone_shape log.steps → FollowsWhole actor.commands 1 log.steps → has_ended log.steps 1 ≡ true → IsRunOf s log
-is_run s actor log facts one names legal follows ended =
+is_run : (s : ScriptParts) (actor : ActorScript) (log : Log) → IsAlone s actor → s.actors ≡ actor ∷ [] → is_built s ≡ true → log.names ≡ s.names → IsLegal lone_shape log.steps → FollowsWhole actor.commands 1 log.steps → has_ended log.steps 1 ≡ true → IsRunOf s log
+is_run s actor log facts one built names legal follows ended =
     let shape : shape_of s ≡ lone_shape = shape_is s actor facts one in
     let over : IsOver lone_shape log.steps = record { actors = λ k some most. all_ended log.steps k ended some most; links = refl } in
     record {
+      built = built;
       names = names;
       legal = subst (λ (x : Shape). IsLegal x log.steps) (sym shape) legal;
-      follows = rw one (follows, tt);
+      follows = follows_lone (λ commands k. FollowsWhole commands k log.steps) s actor one follows;
       over = subst (λ (x : Shape). IsOver x log.steps) (sym shape) over;
     }
+
+-- the journal is the script's so far
+is_so_far : (s : ScriptParts) (actor : ActorScript) (log : Log) → IsAlone s actor → s.actors ≡ actor ∷ [] → log.names ≡ s.names → IsLegal lone_shape log.steps → Follows actor.commands 1 log.steps → IsSoFar s log
+is_so_far s actor log facts one names legal follows = record {
+  names = names;
+  legal = subst (λ (x : Shape). IsLegal x log.steps) (sym (shape_is s actor facts one)) legal;
+  follows = follows_lone (λ commands k. Follows commands k log.steps) s actor one follows;
+}
+
+-- the actor of such a script has a turn to take
+has_turn : (s : ScriptParts) (actor : ActorScript) (P : List Step) → IsAlone s actor → s.actors ≡ actor ∷ [] → has_ended P 1 ≡ false → HasTurn (shape_of s) P
+has_turn s actor P facts one running =
+    let turn : HasTurn lone_shape P = record { actor = 1; some = omega arith; within = omega arith; running = running } in
+    subst (λ (x : Shape). HasTurn x P) (sym (shape_is s actor facts one)) turn
+
+-- what the status of the actor's run says of the script
+pub answers : (status : Status) (s : ScriptParts) (actor : ActorScript) (log : Log) → IsAlone s actor → s.actors ≡ actor ∷ [] → is_built s ≡ true → log.names ≡ s.names → IsLegal lone_shape log.steps → IsPlayed status actor.commands log.steps → IsAnswerTo status s log
+answers Done s actor log facts one built names legal played = is_run s actor log facts one built names legal played.0 played.1
+answers WriteFault s actor log facts one built names legal played = is_run s actor log facts one built names legal played.0 played.1
+answers JournalFull s actor log facts one built names legal played = record {
+  built = built;
+  so_far = is_so_far s actor log facts one names legal played.0;
+  full = played.1;
+  turn = has_turn s actor log.steps facts one played.2;
+}
+answers NoMemory s actor log facts one built names legal played = is_so_far s actor log facts one names legal played
+answers Usage s actor log facts one built names legal played = absurd played
+answers (Script line) s actor log facts one built names legal played = absurd played
+answers ReadFault s actor log facts one built names legal played = absurd played
+answers NotBuilt s actor log facts one built names legal played = absurd played
 
 single : (actors : List ActorScript) (actor : ActorScript) → 1 ≤ length actors → length actors < 2 → actor ≡ get_or actors 0 actor → actors ≡ actor ∷ []
 single [] actor some few is = absurd (omega (arith, some))

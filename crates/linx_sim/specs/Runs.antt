@@ -1,19 +1,21 @@
-use Rattle.std.specs.Prelude.{ℕ, ◌≡◌, ◌+◌, ◌<◌, ◌≤◌, Bool, true, false, ◌&&◌, ◌==◌, List, [], ◌∷◌, length, if◌then◌else◌, take, Option, Ok, IfSome}
+use Rattle.std.specs.Prelude.{ℕ, ◌≡◌, ◌+◌, ◌<◌, ◌≤◌, Bool, true, false, ◌&&◌, ◌==◌, List, [], ◌∷◌, length, if◌then◌else◌, take, Option, Result, Ok, Err, IfSome, ◌⊎◌}
 use Rattle.script_lang.specs.Reading.{script_of}
 use Rattle.linx_base.specs.declared.identity.NodeNo.{NodeNo}
 use Rattle.linx_base.specs.declared.naming.Names.{Names}
 use Rattle.sigsel.specs.declared.filters.Sigsel.{Sigsel}
 use Rattle.sigsel.specs.declared.filters.Sigsel.TheVariants.{Any, Only, Not}
 use Rattle.journal.specs.declared.happenings.Step.{Step}
-use Rattle.journal.specs.Logs.{Log}
+use Rattle.journal.specs.Logs.{Log, is_full}
+use Rattle.linx_outside.specs.Told.{prepended}
 use Rattle.journal.specs.Laws.{Shape, IsLegal}
 use Rattle.script_lang.specs.declared.commands.Command.{Command}
 use Rattle.script_lang.specs.declared.commands.Command.TheVariants.{Open, Close, Send, Recv}
 use Rattle.script_lang.specs.declared.commands.ActorScript.{ActorScript}
+use Rattle.script_lang.specs.declared.faults.BadKind.{BadKind}
 use Rattle.script_lang.specs.Parts.{ScriptParts}
 use Rattle.journal.specs.History.{has_ended}
 use Rattle.actor_run.specs.Asks.{is_itself}
-use Rattle.actor_run.specs.Following.{FollowsWhole}
+use Rattle.actor_run.specs.Following.{Follows, FollowsWhole}
 use Rattle.linx_sim.specs.declared.outcome.Status.{Status}
 use Rattle.linx_sim.specs.declared.outcome.Status.TheVariants.{Done, Usage, Script, ReadFault, WriteFault, JournalFull, NoMemory, NotBuilt}
 
@@ -82,20 +84,113 @@ pub record IsOver (shape : Shape) (P : List Step) : Type 0 where
   pub actors : (k : ℕ) → 0 < k → k ≤ length shape.actors → has_ended P k ≡ true
   pub links : shape.links ≡ []
 
--- each actor's steps are those of its commands, all of them
-abbrev pub FollowAll : List ActorScript → ℕ → List Step → Type 0
-FollowAll [] k P = Unit {0}
-FollowAll (actor ∷ actors) k P = FollowsWhole actor.commands k P × FollowAll actors (k + 1) P
+-- an actor has a turn to take: it hasn't ended
+pub record HasTurn (shape : Shape) (P : List Step) : Type 0 where
+  pub actor : ℕ
+  pub some : 0 < actor
+  pub within : actor ≤ length shape.actors
+  pub running : has_ended P actor ≡ false
 
--- a journal is a whole run of a script
-pub record IsRunOf (script : ScriptParts) (log : Log) : Type 0 where
+-- something holds of each actor's commands and number, from this number on
+abbrev pub ForEachActor : (List Command → ℕ → Type 0) → List ActorScript → ℕ → Type 0
+ForEachActor Holds [] k = Unit {0}
+ForEachActor Holds (actor ∷ actors) k = Holds actor.commands k × ForEachActor Holds actors (k + 1)
+
+-- a journal of a script so far: it has the script's names, is legal, and each actor's steps are the
+-- first of its commands
+pub record IsSoFar (script : ScriptParts) (log : Log) : Type 0 where
   pub names : log.names ≡ script.names
   pub legal : IsLegal (shape_of script) log.steps
-  pub follows : FollowAll script.actors 1 log.steps
+  pub follows : ForEachActor (λ commands k. Follows commands k log.steps) script.actors 1
+
+-- a journal is a whole run of a script: each actor's steps are all of its commands, and all is over
+pub record IsRunOf (script : ScriptParts) (log : Log) : Type 0 where
+  pub built : is_built script ≡ true
+  pub names : log.names ≡ script.names
+  pub legal : IsLegal (shape_of script) log.steps
+  pub follows : ForEachActor (λ commands k. FollowsWhole commands k log.steps) script.actors 1
   pub over : IsOver (shape_of script) log.steps
 
--- the script that a journal is a whole run of: the bytes told by a source spell it
-pub record IsDone (told : Option (List ℕ)) (log : Log) : Type 0 where
+-- a run of a script stopped where an actor has a turn to take, and the journal takes no further step
+pub record IsStopped (script : ScriptParts) (log : Log) : Type 0 where
+  pub built : is_built script ≡ true
+  pub so_far : IsSoFar script log
+  pub full : is_full log.steps ≡ true
+  pub turn : HasTurn (shape_of script) log.steps
+
+-- what each status says of a script and of the journal
+abbrev pub IsAnswerTo : Status → ScriptParts → Log → Type 0
+IsAnswerTo Done script log = IsRunOf script log
+IsAnswerTo WriteFault script log = IsRunOf script log
+IsAnswerTo JournalFull script log = IsStopped script log
+IsAnswerTo NoMemory script log = IsSoFar script log
+IsAnswerTo NotBuilt script log = (is_built script ≡ false) × (log.steps ≡ [])
+IsAnswerTo _ script log = ⊥
+
+-- the script of a source, whose bytes spell it where the source tells them
+pub record IsAnswered (status : Status) (told : Option (List ℕ)) (log : Log) : Type 0 where
   pub script : ScriptParts
-  pub run : IsRunOf script log
-  pub spelled : IfSome told (λ bytes. script_of (take 1048577 bytes) ≡ Ok script)
+  pub spelled : IfSome told (λ bytes. script_of bytes ≡ Ok script)
+  pub answer : IsAnswerTo status script log
+
+-- the bytes that a run reads: all, or one more than a script can have
+abbrev pub read_of : List ℕ → List ℕ
+read_of bytes = take 1048577 bytes
+
+-- no script, and the first bad line
+abbrev pub IsBadAt : ℕ → Result ScriptParts (ℕ × BadKind) → Type 0
+IsBadAt line (Ok script) = ⊥
+IsBadAt line (Err bad) = bad.0 ≡ line
+
+-- The cause of each status: what it says of the bytes that a source had, where it told them, and of
+-- the journal
+abbrev pub IsCaused : Status → Option (List ℕ) → Log → Type 0
+IsCaused Usage told log = log.steps ≡ []
+IsCaused ReadFault told log = log.steps ≡ []
+IsCaused (Script line) told log = IfSome told (λ bytes. IsBadAt line (script_of (read_of bytes))) × (log.steps ≡ [])
+IsCaused NoMemory told log = (log.steps ≡ []) ⊎ IsAnswered NoMemory told log
+IsCaused status told log = IsAnswered status told log
+
+-- a script that can be run as yet
+abbrev pub IsBuilt : Result ScriptParts (ℕ × BadKind) → Type 0
+IsBuilt (Ok script) = is_built script ≡ true
+IsBuilt (Err bad) = ⊥
+
+-- the whole text was written, or memory was refused
+abbrev pub IsDoneOrRefused : Status → Type 0
+IsDoneOrRefused Done = Unit {0}
+IsDoneOrRefused NoMemory = Unit {0}
+IsDoneOrRefused _ = ⊥
+
+-- the words weren't those of a command, or memory was refused
+abbrev pub IsUsageOrRefused : Status → Type 0
+IsUsageOrRefused Usage = Unit {0}
+IsUsageOrRefused NoMemory = Unit {0}
+IsUsageOrRefused _ = ⊥
+
+-- the status comes only where the source was read to its end
+abbrev pub is_of_whole : Status → Bool
+is_of_whole Done = true
+is_of_whole WriteFault = true
+is_of_whole JournalFull = true
+is_of_whole NotBuilt = true
+is_of_whole _ = false
+
+-- nothing is written at this status
+abbrev pub is_silent : Status → Bool
+is_silent Done = false
+is_silent WriteFault = false
+is_silent _ = true
+
+-- the status comes only where no fault was counted
+abbrev pub is_unfaulted : Status → Bool
+is_unfaulted ReadFault = false
+is_unfaulted WriteFault = false
+is_unfaulted NoMemory = false
+is_unfaulted _ = true
+
+-- at most so many first bytes were taken of those told
+pub record TakesAtMost (most : ℕ) (left rest : Option (List ℕ)) : Type 0 where
+  pub bytes : List ℕ
+  pub within : length bytes ≤ most
+  pub lost : left ≡ prepended bytes rest

@@ -1,8 +1,9 @@
 -- What holds between the turns of one actor.
-use Rattle.std.specs.Prelude.{ℕ, ◌≡◌, Bool, true, false, ◌&&◌, List, [], ◌∷◌, drop, Option, Some, None}
+use Rattle.std.specs.Prelude.{ℕ, ◌≡◌, Bool, true, false, ◌&&◌, List, [], ◌∷◌, drop, Option, Some, None, IfSome}
 use Rattle.std.specs.List.{list_all}
 use Rattle.linx_base.specs.declared.identity.Inc.{Inc}
 use Rattle.journal.specs.declared.happenings.Step.{Step}
+use Rattle.journal.specs.Logs.{is_full}
 use Rattle.journal.specs.History.{last_endpoint, endpoint_of, has_ended}
 use Rattle.journal.specs.Laws.{Shape, IsLegal}
 use Rattle.node_kernel.specs.declared.answers.StepAnswer.{StepAnswer}
@@ -10,8 +11,9 @@ use Rattle.node_kernel.specs.declared.answers.StepAnswer.TheVariants as answers
 use Rattle.script_lang.specs.declared.commands.Command.{Command}
 use Rattle.script_lang.specs.declared.commands.Command.TheVariants.{Send}
 use Rattle.script_lang.specs.Fits.{fits_data}
-use Rattle.actor_run.specs.Following.{Follows, steps_by}
-use Rattle.linx_sim.specs.Runs.{is_open, is_body, is_first_path}
+use Rattle.actor_run.specs.Following.{Follows, FollowsWhole, steps_by}
+use Rattle.linx_sim.specs.Runs.{is_open, is_body, is_first_path, read_of, IsBadAt}
+use Rattle.script_lang.specs.Reading.{script_of}
 use Rattle.script_lang.specs.Parts.{ScriptParts}
 use Rattle.script_lang.specs.declared.commands.ActorScript.{ActorScript}
 use Rattle.fabric.specs.Remains.{only_node}
@@ -62,17 +64,27 @@ pub record IsAlone (s : ScriptParts) (actor : ActorScript) : Type 0 where
 abbrev pub lone_shape : Shape
 lone_shape = record { links = []; actors = only_node ∷ [] }
 
--- nothing is written at this status
-abbrev pub is_quiet : Status → Bool
-is_quiet Done = false
-is_quiet WriteFault = false
-is_quiet NoMemory = false
-is_quiet _ = true
+-- what each status says of the one actor's run
+abbrev pub IsPlayed : Status → List Command → List Step → Type 0
+IsPlayed Done commands P = FollowsWhole commands 1 P × (has_ended P 1 ≡ true)
+IsPlayed WriteFault commands P = FollowsWhole commands 1 P × (has_ended P 1 ≡ true)
+IsPlayed JournalFull commands P = Follows commands 1 P × (is_full P ≡ true) × (has_ended P 1 ≡ false)
+IsPlayed NoMemory commands P = Follows commands 1 P
+IsPlayed _ commands P = ⊥
 
--- the status comes of a read that failed
-abbrev pub is_of_reading : Status → Bool
-is_of_reading ReadFault = true
-is_of_reading _ = false
+-- what each status says of a source's bytes that gave no script
+abbrev pub IsUnread : Status → Option (List ℕ) → Type 0
+IsUnread (Script line) told = IfSome told (λ bytes. IsBadAt line (script_of (read_of bytes)))
+IsUnread ReadFault told = Unit {0}
+IsUnread NoMemory told = Unit {0}
+IsUnread _ told = ⊥
+
+-- the status of a text's writing
+abbrev pub is_of_writing : Status → Bool
+is_of_writing Done = true
+is_of_writing WriteFault = true
+is_of_writing NoMemory = true
+is_of_writing _ = false
 
 -- the status of a read that stopped short
 abbrev pub read_status : ReadError → Status

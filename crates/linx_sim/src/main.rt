@@ -15,6 +15,7 @@ mod building;
 mod outcome;
 mod playing;
 mod serving;
+mod words;
 
 /// The words of the command line after the program's name.
 fn words_after_name(rt: &(impl Env + Alloc<A = Global>), alloc: Global) -> io::Result<Vec<String>> {

@@ -1,6 +1,6 @@
 //! One actor's turns on a fabric, to its end.
 
-ghost use Rattle.std.specs.Prelude.{◌≡◌, ◌+◌, ◌<◌, ◌≤◌, true, [], length, IfOk, IfErr, OnOk, slice_get, Some, None};
+ghost use Rattle.std.specs.Prelude.{◌≡◌, ◌+◌, ◌<◌, ◌≤◌, true, false, [], length, IfOk, IfErr, OnOk, OnErr, slice_get, Some, None};
 ghost use Rattle.std.specs.List.{list_all};
 ghost use Rattle.fabric.specs.Remains.{IsOneActor};
 ghost use Rattle.journal.specs.Logs.{is_full};
@@ -96,6 +96,7 @@ pub(crate) fn play(alloc: Global, fabric: &mut Fabric, actor: &ActorScript) -> R
     ensures follows { Follows actor.now.commands 1 fabric.new.log.steps }
     ensures fixed { fabric.new ≡ record fabric.old { log = record fabric.old.log { steps = fabric.new.log.steps } } }
     ensures full { IfErr result (λ stop. stop.cause ≡ StopCause.JournalFull → is_full fabric.new.log.steps ≡ true) }
+    ensures running { OnErr result (has_ended fabric.new.log.steps 1 ≡ false) }
 {
     let mut mind = Mind::new();
     let mut me = None;

@@ -1,20 +1,23 @@
 //! The top call: words, script, run, text.
 
-ghost use Rattle.std.specs.Prelude.{◌≡◌, true, false, [], IfOk};
+ghost use Rattle.std.specs.Prelude.{◌≡◌, ◌⊎◌, ℕ, List, Option, Some, true, false, [], IfOk, IfErr, OnOk, IfSome, Ok};
 ghost use Rattle.std.specs.List.{list_all};
-ghost use Rattle.linx_outside.specs.Counts.{HasFaulted};
-ghost use Rattle.linx_outside.specs.Told.{appended, AppendsFront};
-ghost use Rattle.journal.specs.Logs.{is_full};
+ghost use Rattle.linx_outside.specs.Counts.{HasFaulted, NeverFalls};
+ghost use Rattle.linx_outside.specs.Told.{appended, AppendsFront, HasNothingLeft};
 ghost use Rattle.journal.specs.Laws.{IsLegal};
+ghost use Rattle.journal.specs.Logs.{is_full};
 ghost use Rattle.journal.specs.History.{has_ended};
 ghost use Rattle.journal_text.specs.Text.{text_of};
-ghost use Rattle.actor_run.specs.Following.{FollowsWhole};
-ghost use Rattle.linx_sim.specs.Runs.{is_first_path, IsRunOf, IsDone};
-ghost use Rattle.linx_sim.specs.Turns.{IsAlone, lone_shape, is_of_reading, is_quiet, is_sized, read_status, script_status, stop_status};
+ghost use Rattle.script_lang.specs.Reading.{script_of};
+ghost use Rattle.actor_run.specs.Following.{Follows, FollowsWhole};
+ghost use Rattle.linx_sim.specs.CommandLine.{IsRun};
+ghost use Rattle.linx_sim.specs.Runs.{is_first_path, IsAnswerTo, IsCaused, IsBuilt, IsDoneOrRefused, IsUsageOrRefused, TakesAtMost, is_of_whole, is_silent, is_unfaulted};
+ghost use Rattle.linx_sim.specs.Turns.{IsAlone, IsPlayed, IsUnread, lone_shape, is_of_writing, is_sized, read_status, script_status, stop_status};
 
 use crate::building::is_built;
 use crate::outcome::{Outcome, Status};
 use crate::playing::play;
+use crate::words::asks_for_run;
 use fabric::{Fabric, StopCause};
 use journal::Journal;
 use linx_base::{NameList, Names, NoMemory, TryCopy};
@@ -72,11 +75,13 @@ fn status_of_stop(cause: StopCause) -> Status
 /// The text of a whole run goes to the sink.
 fn write_run<K: Sink>(alloc: Global, journal: Journal, out: &mut K) -> Outcome
     ensures journal { result.journal ≡ journal }
-    ensures read_before { is_of_reading result.status ≡ false }
-    ensures loud { is_quiet result.status ≡ false }
+    ensures kinds { is_of_writing result.status ≡ true }
     ensures written { result.status ≡ Status.Done → K.held out.new ≡ appended (K.held out.old) (text_of journal.log) }
     ensures front { result.status ≡ Status.WriteFault → AppendsFront (K.held out.old) (K.held out.new) (text_of journal.log) }
+    ensures silent { is_silent result.status ≡ true → out.new ≡ out.old }
     ensures faulted { result.status ≡ Status.WriteFault → HasFaulted K.last_count (K.faults out.old) (K.faults out.new) }
+    ensures unfaulted { is_unfaulted result.status ≡ true → K.faults out.new ≡ K.faults out.old }
+    ensures never_falls { NeverFalls K.last_count (K.faults out.old) (K.faults out.new) }
 {
     let status = match write_report(alloc, &journal, out) {
         Ok(()) => Status::Done,
@@ -94,14 +99,13 @@ fn run_actor<K: Sink>(alloc: Global, fabric: Fabric, actor: &ActorScript, out: &
     requires sized { list_all is_sized actor.now.commands ≡ true }
     ensures legal { IsLegal lone_shape result.journal.log.steps }
     ensures names { result.journal.log.names ≡ fabric.log.names }
-    ensures read_before { is_of_reading result.status ≡ false }
-    ensures quiet { is_quiet result.status ≡ true → out.new ≡ out.old }
-    ensures whole { result.status ≡ Status.Done → FollowsWhole actor.now.commands 1 result.journal.log.steps }
-    ensures ended { result.status ≡ Status.Done → has_ended result.journal.log.steps 1 ≡ true }
+    ensures played { IsPlayed result.status actor.now.commands result.journal.log.steps }
     ensures written { result.status ≡ Status.Done → K.held out.new ≡ appended (K.held out.old) (text_of result.journal.log) }
     ensures front { result.status ≡ Status.WriteFault → AppendsFront (K.held out.old) (K.held out.new) (text_of result.journal.log) }
+    ensures silent { is_silent result.status ≡ true → out.new ≡ out.old }
     ensures faulted { result.status ≡ Status.WriteFault → HasFaulted K.last_count (K.faults out.old) (K.faults out.new) }
-    ensures full { result.status ≡ Status.JournalFull → is_full result.journal.log.steps ≡ true }
+    ensures unfaulted { is_unfaulted result.status ≡ true → K.faults out.new ≡ K.faults out.old }
+    ensures never_falls { NeverFalls K.last_count (K.faults out.old) (K.faults out.new) }
 {
     let mut fabric = fabric;
     match play(alloc, &mut fabric, actor) {
@@ -123,14 +127,14 @@ fn fabric_of(alloc: Global, script: &Script, actor: &ActorScript) -> Result<Fabr
 
 /// Runs a script, where it is one that can be run as yet.
 fn run_script<K: Sink>(alloc: Global, script: &Script, out: &mut K) -> Outcome
-    ensures run { result.status ≡ Status.Done → IsRunOf script.now result.journal.log }
+    ensures answer { ((result.status ≡ Status.NoMemory) × (result.journal.log.steps ≡ [])) ⊎ IsAnswerTo result.status script.now result.journal.log }
     ensures legal { IsLegal lone_shape result.journal.log.steps }
-    ensures read_before { is_of_reading result.status ≡ false }
-    ensures quiet { is_quiet result.status ≡ true → out.new ≡ out.old }
     ensures written { result.status ≡ Status.Done → K.held out.new ≡ appended (K.held out.old) (text_of result.journal.log) }
     ensures front { result.status ≡ Status.WriteFault → AppendsFront (K.held out.old) (K.held out.new) (text_of result.journal.log) }
+    ensures silent { is_silent result.status ≡ true → out.new ≡ out.old }
     ensures faulted { result.status ≡ Status.WriteFault → HasFaulted K.last_count (K.faults out.old) (K.faults out.new) }
-    ensures full { result.status ≡ Status.JournalFull → is_full result.journal.log.steps ≡ true }
+    ensures unfaulted { is_unfaulted result.status ≡ true → K.faults out.new ≡ K.faults out.old }
+    ensures never_falls { NeverFalls K.last_count (K.faults out.old) (K.faults out.new) }
 {
     if !is_built(script) {
         return unstarted(alloc, Status::NotBuilt);
@@ -144,33 +148,57 @@ fn run_script<K: Sink>(alloc: Global, script: &Script, out: &mut K) -> Outcome
     }
 }
 
-/// Reads a script, runs it step by step, and writes the text of the whole run.
-pub fn serial<S: Source, K: Sink>(alloc: Global, script: &mut S, out: &mut K) -> Outcome
-    ensures done { result.status ≡ Status.Done → IsDone (S.left script.old) result.journal.log }
-    ensures read_fault { result.status ≡ Status.ReadFault → HasFaulted S.last_count (S.faults script.old) (S.faults script.new) }
-    ensures legal { IsLegal lone_shape result.journal.log.steps }
-    ensures quiet { is_quiet result.status ≡ true → out.new ≡ out.old }
-    ensures written { result.status ≡ Status.Done → K.held out.new ≡ appended (K.held out.old) (text_of result.journal.log) }
-    ensures front { result.status ≡ Status.WriteFault → AppendsFront (K.held out.old) (K.held out.new) (text_of result.journal.log) }
-    ensures write_fault { result.status ≡ Status.WriteFault → HasFaulted K.last_count (K.faults out.old) (K.faults out.new) }
-    ensures full { result.status ≡ Status.JournalFull → is_full result.journal.log.steps ≡ true }
+/// Reads a source to its end, and gives the script that its bytes spell, or the status that says why
+/// there is none.
+fn read_script<S: Source>(alloc: Global, source: &mut S) -> Result<Script, Status>
+    ensures spelled { IfOk result (λ script. IfSome (S.left source.old) (λ told. script_of told ≡ Ok script)) }
+    ensures whole { OnOk result (HasNothingLeft (S.left source.new)) }
+    ensures unread { IfErr result (λ status. IsUnread status (S.left source.old)) }
+    ensures faulted { IfErr result (λ status. status ≡ Status.ReadFault → HasFaulted S.last_count (S.faults source.old) (S.faults source.new)) }
+    ensures counts_nothing { OnOk result (S.faults source.new ≡ S.faults source.old) }
+    ensures unfaulted { IfErr result (λ status. is_unfaulted status ≡ true → S.faults source.new ≡ S.faults source.old) }
+    ensures taken { TakesAtMost 1048577 (S.left source.old) (S.left source.new) }
+    ensures never_falls { NeverFalls S.last_count (S.faults source.old) (S.faults source.new) }
 {
     let mut bytes = Vec::new(alloc);
-    match read_up_to(script, &mut bytes, READ_MOST) {
-        Ok(_) => {}
-        Err(error) => return unstarted(alloc, status_of_read(error)),
+    if let Err(error) = read_up_to(source, &mut bytes, READ_MOST) {
+        return Err(status_of_read(error));
     }
     match parse(alloc, bytes.as_slice()) {
-        Ok(script) => run_script(alloc, &script, out),
-        Err(error) => unstarted(alloc, status_of_script(error)),
+        Ok(script) => Ok(script),
+        Err(error) => Err(status_of_script(error)),
     }
 }
 
-/// Whether the words are the one word `run`.
-fn is_run(words: &[String]) -> bool {
-    match words {
-        [word] => word.as_str() == "run",
-        _ => false,
+/// Reads a script, runs it step by step, and writes the text of the whole run.
+pub fn serial<S: Source, K: Sink>(alloc: Global, script: &mut S, out: &mut K) -> Outcome
+    // Of the bytes, the run and the journal.
+    ensures cause { IsCaused result.status (S.left script.old) result.journal.log }
+    ensures legal { IsLegal lone_shape result.journal.log.steps }
+    ensures never_usage { result.status ≡ Status.Usage → ⊥ }
+    ensures complete { (told : List ℕ) → S.left script.old ≡ Some told → IsBuilt (script_of told)
+        → (HasFaulted S.last_count (S.faults script.old) (S.faults script.new) → ⊥)
+        → (HasFaulted K.last_count (K.faults out.old) (K.faults out.new) → ⊥)
+        → is_full result.journal.log.steps ≡ false → IsDoneOrRefused result.status }
+
+    // Of the source.
+    ensures whole { is_of_whole result.status ≡ true → HasNothingLeft (S.left script.new) }
+    ensures taken { TakesAtMost 1048577 (S.left script.old) (S.left script.new) }
+    ensures read_fault { result.status ≡ Status.ReadFault → HasFaulted S.last_count (S.faults script.old) (S.faults script.new) }
+    ensures read_unfaulted { is_unfaulted result.status ≡ true → S.faults script.new ≡ S.faults script.old }
+    ensures read_count { NeverFalls S.last_count (S.faults script.old) (S.faults script.new) }
+
+    // Of the sink.
+    ensures written { result.status ≡ Status.Done → K.held out.new ≡ appended (K.held out.old) (text_of result.journal.log) }
+    ensures front { result.status ≡ Status.WriteFault → AppendsFront (K.held out.old) (K.held out.new) (text_of result.journal.log) }
+    ensures silent { is_silent result.status ≡ true → out.new ≡ out.old }
+    ensures write_fault { result.status ≡ Status.WriteFault → HasFaulted K.last_count (K.faults out.old) (K.faults out.new) }
+    ensures write_unfaulted { is_unfaulted result.status ≡ true → K.faults out.new ≡ K.faults out.old }
+    ensures write_count { NeverFalls K.last_count (K.faults out.old) (K.faults out.new) }
+{
+    match read_script(alloc, script) {
+        Ok(script) => run_script(alloc, &script, out),
+        Err(status) => unstarted(alloc, status),
     }
 }
 
@@ -183,15 +211,37 @@ pub fn run<S: Source, K: Sink, G: Gate + Sync, R: Wait>(
     out: &mut K,
     _gate: &G,
 ) -> Outcome
+    // Of the words.
+    ensures usage { result.status ≡ Status.Usage → IsRun words.now → ⊥ }
+    ensures other_words { (IsRun words.now → ⊥) → IsUsageOrRefused result.status }
+    ensures untouched { (IsRun words.now → ⊥) → (script.new ≡ script.old) × (out.new ≡ out.old) }
+
+    // Of the bytes, the run and the journal.
+    ensures cause { IsCaused result.status (S.left script.old) result.journal.log }
     ensures legal { IsLegal lone_shape result.journal.log.steps }
-    ensures quiet { is_quiet result.status ≡ true → out.new ≡ out.old }
+    ensures complete { IsRun words.now → (told : List ℕ) → S.left script.old ≡ Some told → IsBuilt (script_of told)
+        → (HasFaulted S.last_count (S.faults script.old) (S.faults script.new) → ⊥)
+        → (HasFaulted K.last_count (K.faults out.old) (K.faults out.new) → ⊥)
+        → is_full result.journal.log.steps ≡ false → IsDoneOrRefused result.status }
+
+    // Of the source.
+    ensures whole { is_of_whole result.status ≡ true → HasNothingLeft (S.left script.new) }
+    ensures taken { TakesAtMost 1048577 (S.left script.old) (S.left script.new) }
+    ensures read_fault { result.status ≡ Status.ReadFault → HasFaulted S.last_count (S.faults script.old) (S.faults script.new) }
+    ensures read_unfaulted { is_unfaulted result.status ≡ true → S.faults script.new ≡ S.faults script.old }
+    ensures read_count { NeverFalls S.last_count (S.faults script.old) (S.faults script.new) }
+
+    // Of the sink.
     ensures written { result.status ≡ Status.Done → K.held out.new ≡ appended (K.held out.old) (text_of result.journal.log) }
     ensures front { result.status ≡ Status.WriteFault → AppendsFront (K.held out.old) (K.held out.new) (text_of result.journal.log) }
+    ensures silent { is_silent result.status ≡ true → out.new ≡ out.old }
     ensures write_fault { result.status ≡ Status.WriteFault → HasFaulted K.last_count (K.faults out.old) (K.faults out.new) }
-    ensures full { result.status ≡ Status.JournalFull → is_full result.journal.log.steps ≡ true }
+    ensures write_unfaulted { is_unfaulted result.status ≡ true → K.faults out.new ≡ K.faults out.old }
+    ensures write_count { NeverFalls K.last_count (K.faults out.old) (K.faults out.new) }
 {
-    if !is_run(words) {
-        return unstarted(alloc, Status::Usage);
+    match asks_for_run(alloc, words) {
+        Ok(true) => serial(alloc, script, out),
+        Ok(false) => unstarted(alloc, Status::Usage),
+        Err(NoMemory) => unstarted(alloc, Status::NoMemory),
     }
-    serial(alloc, script, out)
 }

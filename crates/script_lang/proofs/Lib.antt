@@ -4,3 +4,4 @@ pub mod Cuts
 pub mod Words
 pub mod Blocks
 pub mod Folds
+pub mod Sizes

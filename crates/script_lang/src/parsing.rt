@@ -1,6 +1,6 @@
 //! From bytes to a script.
 
-ghost use Rattle.std.specs.Prelude.{◌≡◌, IfOk, IfErr};
+ghost use Rattle.std.specs.Prelude.{◌≡◌, ◌≤◌, length, IfOk, IfErr, OnOk};
 ghost use Rattle.script_lang.specs.Reading.{script_of, finished, error_in, IsBadOf};
 
 use crate::faults::{BadKind, Fault, ScriptError};
@@ -35,11 +35,12 @@ fn finish(reading: Reading, line: u32) -> Result<Script, ScriptError>
 }
 
 /// The script that the bytes spell. Where they spell none, `Bad` has the first bad line, from 1, and
-/// the first kind that holds for it.
+/// the first kind that holds for it. A script has at most 1,048,576 bytes.
 #[tactic(auto, unfolding(crate::specs::Reading::script_of))]
 pub fn parse(alloc: Global, bytes: &[u8]) -> Result<Script, ScriptError>
     ensures read { IfOk result (λ script. script_of bytes.now ≡ Ok script) }
     ensures bad { IfErr result (λ e. IsBadOf (script_of bytes.now) e) }
+    ensures short { OnOk result (length bytes.now ≤ 1048576) }
 {
     let mut reading = Reading {
         script: Script::new(alloc),

@@ -1,4 +1,4 @@
-use Rattle.std.proofs.Common.{refl, arith, rules, sym, ap, subst, ◌≡◌, ◌∙◌, suc, ◌+◌}
+use Rattle.std.proofs.Common.{refl}
 use Rattle.linx_sim.proofs.Turning.{asked_command, asked_step, over_at, is_maker}
 use Rattle.linx_sim.proofs.playing.finish.Goals as goal
 

@@ -1,4 +1,4 @@
-use Rattle.std.proofs.Common.{refl, arith, rules, sym, ap, ◌≡◌, suc, ◌+◌}
+use Rattle.std.proofs.Common.{refl, arith, ◌+◌}
 use Rattle.linx_sim.proofs.Turning.{asked_command, asked_step, played_at, short_of, is_maker}
 use Rattle.linx_sim.proofs.playing.turn.Goals as goal
 

@@ -1,0 +1,61 @@
+-- how many bytes a script has at most
+use Rattle.std.proofs.Common.{◌≡◌, ℕ, ◌+◌, ◌==◌, ◌≤◌, Bool, true, false, cond, List, [], ◌∷◌, Result, Ok, Err, length, refl, ◌∙◌, arith}
+use Rattle.std.specs.Prelude.{sum_by, nat_lt}
+use Rattle.std.specs.List.{onto_first}
+use Rattle.std.specs.Io.BufRead.{strip_last}
+use Rattle.std.proofs.lemmas.Bool.{ltb-false}
+use Rattle.std.proofs.lemmas.List.Sums.{sum_by-cons}
+use Rattle.script_lang.specs.declared.reading.Reading.{Reading}
+use Rattle.script_lang.specs.declared.faults.BadKind.{BadKind}
+use Rattle.script_lang.specs.declared.faults.BadKind.TheVariants.{ScriptTooLong}
+use Rattle.script_lang.specs.Parts.{ScriptParts}
+use Rattle.script_lang.specs.Lines.{lines_of}
+use Rattle.script_lang.specs.Reading.{nothing_read, lined, texted, behind, read_from, script_of}
+
+onto_one : (b : ℕ) (lines : List (List ℕ)) → sum_by length (onto_first b lines) ≡ 1 + sum_by length lines
+onto_one b [] = refl
+onto_one b (line ∷ lines) =
+    let grown : sum_by length (onto_first b (line ∷ lines)) ≡ length (b ∷ line) + sum_by length lines = sum_by-cons length (b ∷ line) lines in
+    let before : sum_by length (line ∷ lines) ≡ length line + sum_by length lines = sum_by-cons length line lines in
+    omega (arith, grown, before)
+
+feed_or_not : (t : Bool) (b : ℕ) (bs : List ℕ) → sum_by length (lines_of bs) ≡ length bs → sum_by length (cond t ((b ∷ []) ∷ lines_of bs) (onto_first b (lines_of bs))) ≡ length (b ∷ bs)
+feed_or_not true b bs rest = let grown = sum_by-cons length (b ∷ []) (lines_of bs) in omega (arith, grown, rest)
+feed_or_not false b bs rest = onto_one b (lines_of bs) ∙ omega (arith, rest)
+
+-- all bytes are in the lines
+all_lines : (bs : List ℕ) → sum_by length (lines_of bs) ≡ length bs
+all_lines [] = refl
+all_lines (b ∷ bs) = feed_or_not (b == 10) b bs (all_lines bs)
+
+within_limit : (long : Bool) (total : ℕ) (text : Result Reading BadKind) (s : Reading) → nat_lt 1048576 total ≡ long → cond long (Err ScriptTooLong) text ≡ Ok s → total ≤ 1048576
+within_limit true total text s is good = absurd cc
+within_limit false total text s is good = ltb-false 1048576 total is
+
+-- a line that was taken ends within the limit
+taken : (r s : Reading) (before : ℕ) (line : List ℕ) → lined r before line ≡ Ok s → before + length line ≤ 1048576
+unfolding lined
+taken r s before line good = within_limit (nat_lt 1048576 (before + length line)) (before + length line) (texted r (strip_last 10 line)) s refl good
+
+-- the rest of the lines, behind one
+on : (r : Reading) (one : Result Reading BadKind) (before line : ℕ) (next : List ℕ) (rest : List (List ℕ)) (s : ScriptParts) → lined r before next ≡ one → behind one (line + 1) (λ t. read_from t (before + length next) (line + 1) rest) ≡ Ok s
+    → ((t : Reading) → read_from t (before + length next) (line + 1) rest ≡ Ok s → before + length next ≤ 1048576 → before + length next + sum_by length rest ≤ 1048576) → before + sum_by length (next ∷ rest) ≤ 1048576
+on r (Err kind) before line next rest s is good more = absurd cc
+on r (Ok t) before line next rest s is good more =
+    let here : before + length next ≤ 1048576 = taken r t before next is in
+    let all : before + length next + sum_by length rest ≤ 1048576 = more t good here in
+    let whole = sum_by-cons length next rest in
+    omega (arith, all, whole)
+
+read_within : (r : Reading) (before line : ℕ) (lines : List (List ℕ)) (s : ScriptParts) → read_from r before line lines ≡ Ok s → before ≤ 1048576 → before + sum_by length lines ≤ 1048576
+unfolding read_from
+read_within r before line [] s good small = omega (arith, small)
+read_within r before line (next ∷ rest) s good small =
+    on r (lined r before next) before line next rest s refl good (λ t more here. read_within t (before + length next) (line + 1) rest s more here)
+
+-- what is a script has at most 1,048,576 bytes
+pub script_within : (bytes : List ℕ) (s : ScriptParts) → script_of bytes ≡ Ok s → length bytes ≤ 1048576
+unfolding script_of
+script_within bytes s is =
+    let all : 0 + sum_by length (lines_of bytes) ≤ 1048576 = read_within nothing_read 0 0 (lines_of bytes) s is (omega arith) in
+    omega (arith, all, all_lines bytes)
