@@ -1,3 +1,4 @@
 pub mod Alone
+mod CommandLine
 pub mod Turning
 mod Causes
