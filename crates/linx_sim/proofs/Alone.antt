@@ -1,5 +1,5 @@
 -- What is known of a script that can be run.
-use Rattle.std.proofs.Common.{◌≡◌, ℕ, suc, ◌<◌, ◌≤◌, Bool, true, false, ◌&&◌, ◌==◌, List, [], ◌∷◌, length, refl, sym, ◌∙◌, ap, subst, arith}
+use Rattle.std.proofs.Common.{◌≡◌, ℕ, ◌<◌, ◌≤◌, Bool, true, false, ◌&&◌, ◌==◌, List, [], ◌∷◌, length, refl, sym, ◌∙◌, ap, subst, arith}
 use Rattle.std.specs.Prelude.{nat_le, get_or}
 use Rattle.std.specs.List.{list_all}
 use Rattle.std.proofs.lemmas.Bool.{eqb-true, and_parts, and_from}
@@ -10,8 +10,7 @@ use Rattle.script_lang.specs.declared.commands.Command.TheVariants.{Send}
 use Rattle.script_lang.specs.declared.commands.ActorScript.{ActorScript}
 use Rattle.script_lang.specs.Parts.{ScriptParts}
 use Rattle.script_lang.specs.Fits.{IsScript, is_node, fits_command, fits_actor}
-use Rattle.fabric.specs.Remains.{only_node}
-use Rattle.linx_sim.specs.Runs.{is_built, is_first_path, is_one_actor, shape_of, IsOver, IsRunOf, IsSoFar, IsStopped, HasTurn, ForEachActor, IsAnswerTo}
+use Rattle.linx_sim.specs.Runs.{is_built, is_first_path, is_one_actor, shape_of, IsOver, IsRunOf, IsSoFar, HasTurn, ForEachActor, IsAnswerTo}
 use Rattle.linx_sim.specs.Turns.{is_sized, IsAlone, IsPlayed, lone_shape}
 use Rattle.linx_sim.specs.declared.outcome.Status.{Status}
 use Rattle.linx_sim.specs.declared.outcome.Status.TheVariants.{Done, Usage, Script, ReadFault, WriteFault, JournalFull, NoMemory, NotBuilt}

@@ -1,25 +1,14 @@
 -- From what each part of a run says to the cause of the status.
-use Rattle.std.proofs.Common.{◌≡◌, ℕ, ◌+◌, ◌<◌, ◌≤◌, ◌++◌, ◌⊎◌, inl, inr, Bool, true, false, List, [], ◌∷◌, length, take, refl, sym, ◌∙◌, ap, subst, arith}
-use Rattle.std.specs.Prelude.{Option, Some, None, Result, Ok, Err, IfSome, IfOk, OnOk, min}
-use Rattle.std.proofs.lemmas.List.{length-take, take_all}
-use Rattle.linx_outside.specs.Told.{HasNothingLeft, prepended, Moves}
-use Rattle.linx_outside.specs.declared.whole_reads.Reached.{Reached}
-use Rattle.linx_outside.specs.declared.whole_reads.Reached.TheVariants.{End, Limit}
-use Rattle.journal.specs.declared.happenings.Step.{Step}
+use Rattle.std.proofs.Common.{◌≡◌, ℕ, ◌≤◌, inl, Bool, true, false, List, [], length, refl, sym, ◌∙◌, ap, subst, arith}
+use Rattle.std.specs.Prelude.{Option, Some, Result, Ok, Err}
+use Rattle.std.proofs.lemmas.List.{take_all}
 use Rattle.journal.specs.Logs.{Log, is_full}
-use Rattle.journal.specs.History.{has_ended}
-use Rattle.actor_run.specs.Following.{Follows, FollowsWhole}
-use Rattle.script_lang.specs.declared.commands.Command.{Command}
 use Rattle.script_lang.specs.declared.faults.BadKind.{BadKind}
-use Rattle.script_lang.specs.declared.faults.ScriptError.{ScriptError}
-use Rattle.script_lang.specs.declared.faults.ScriptError.TheVariants as scripts
 use Rattle.script_lang.specs.Parts.{ScriptParts}
-use Rattle.script_lang.specs.Reading.{script_of, IsBadOf}
+use Rattle.script_lang.specs.Reading.{script_of}
 use Rattle.script_lang.proofs.Sizes.{script_within}
-use Rattle.fabric.specs.declared.stops.StopCause.{StopCause}
-use Rattle.fabric.specs.declared.stops.StopCause.TheVariants as stops
-use Rattle.linx_sim.specs.Runs.{is_built, IsAnswerTo, IsAnswered, IsCaused, IsBadAt, IsBuilt, IsDoneOrRefused, TakesAtMost, read_of}
-use Rattle.linx_sim.specs.Turns.{IsPlayed, IsUnread, is_of_writing, script_status, stop_status}
+use Rattle.linx_sim.specs.Runs.{is_built, IsCaused, IsBadAt, IsBuilt, IsDoneOrRefused, read_of}
+use Rattle.linx_sim.specs.Turns.{IsUnread}
 use Rattle.linx_sim.specs.declared.outcome.Status.{Status}
 use Rattle.linx_sim.specs.declared.outcome.Status.TheVariants.{Done, Usage, Script, ReadFault, WriteFault, JournalFull, NoMemory, NotBuilt}
 

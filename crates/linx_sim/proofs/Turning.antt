@@ -1,6 +1,6 @@
 -- One turn of an actor, by the command at its place.
-use Rattle.std.proofs.Common.{◌≡◌, ℕ, zero, suc, ◌<◌, ◌≤◌, ◌+◌, Bool, true, false, cond, ◌&&◌, ◌||◌, ◌==◌, List, [], ◌∷◌, length, drop, Option, Some, None, refl, sym, ◌∙◌, ap, subst, arith}
-use Rattle.std.specs.Prelude.{slice_get, count_by, Result, Ok, Err, nat_le}
+use Rattle.std.proofs.Common.{◌≡◌, ℕ, zero, suc, ◌<◌, ◌≤◌, ◌+◌, Bool, true, false, cond, ◌&&◌, ◌==◌, List, [], ◌∷◌, length, drop, Option, Some, None, refl, sym, ◌∙◌, ap, subst, arith}
+use Rattle.std.specs.Prelude.{slice_get, Result, Ok, Err, nat_le}
 use Rattle.fabric.specs.declared.stops.StepStop.{StepStop}
 use Rattle.journal.specs.Logs.{signal_bytes_of}
 use Rattle.journal.specs.declared.book.TheConstants.{STEPS_MOST, SIGNAL_BYTES_MOST}
@@ -19,12 +19,11 @@ use Rattle.journal.specs.declared.events.Event.TheVariants as asks
 use Rattle.journal.specs.declared.heads.Head.{Head}
 use Rattle.journal.specs.declared.heads.Head.TheVariants as heads
 use Rattle.journal.specs.declared.happenings.Effect.{Effect}
-use Rattle.journal.specs.declared.happenings.Effect.TheVariants.{Opened, Closed, Arrived}
 use Rattle.journal.specs.declared.happenings.Step.{Step}
 use Rattle.journal.specs.Logs.{is_full}
-use Rattle.journal.specs.History.{is_by, opened_in, closes, last_opened, last_endpoint, is_closed, endpoint_of, endpoint_by, next_inc, is_end, has_ended}
+use Rattle.journal.specs.History.{is_by, opened_in, closes, last_opened, last_endpoint, is_closed, endpoint_of, next_inc, is_end, has_ended}
 use Rattle.journal.specs.Sessions.{is_alive}
-use Rattle.journal.specs.Laws.{Shape, IsMaker, IsLegal, IsLegalStep, HasEffects, node_by, arrivals_of}
+use Rattle.journal.specs.Laws.{Shape, IsMaker, IsLegalStep, HasEffects, arrivals_of}
 use Rattle.journal.proofs.Openings.{endpoint_of-open, endpoint_of-close, endpoint_of-same, last_endpoint-same, next_inc-not_closed, if_not_closed-some}
 use Rattle.node_kernel.specs.declared.answers.StepAnswer.{StepAnswer}
 use Rattle.node_kernel.specs.declared.answers.StepAnswer.TheVariants as answers
@@ -39,11 +38,10 @@ use Rattle.script_lang.specs.declared.commands.Filling.{Filling}
 use Rattle.journal.specs.declared.heads.SentTo.{SentTo}
 use Rattle.sigsel.specs.declared.filters.Sigsel.{Sigsel}
 use Rattle.linx_base.specs.declared.identity.ItemAt.{ItemAt}
-use Rattle.script_lang.specs.Fits.{fits_data}
 use Rattle.script_lang.specs.Parts.{data_of}
 use Rattle.actor_run.specs.Asks.{is_plain, is_plain_at, NeedsItself, IsAskOf, signal_of}
-use Rattle.actor_run.specs.Following.{IsStepOf, Follows, FollowsWhole, steps_by}
-use Rattle.linx_sim.specs.Runs.{is_open, is_body, is_first_path}
+use Rattle.actor_run.specs.Following.{IsStepOf, FollowsWhole, steps_by}
+use Rattle.linx_sim.specs.Runs.{is_body, is_first_path}
 use Rattle.linx_sim.specs.Turns.{is_sized, is_ready, endpoint_after, Playing}
 
 -- the command at a place, and those behind it

@@ -1,7 +1,6 @@
 use Rattle.std.specs.Prelude.{ℕ, ◌≡◌, ◌+◌, ◌<◌, ◌≤◌, Bool, true, false, ◌&&◌, ◌==◌, List, [], ◌∷◌, length, if◌then◌else◌, take, Option, Result, Ok, Err, IfSome, ◌⊎◌}
 use Rattle.script_lang.specs.Reading.{script_of}
 use Rattle.linx_base.specs.declared.identity.NodeNo.{NodeNo}
-use Rattle.linx_base.specs.declared.naming.Names.{Names}
 use Rattle.sigsel.specs.declared.filters.Sigsel.{Sigsel}
 use Rattle.sigsel.specs.declared.filters.Sigsel.TheVariants.{Any, Only, Not}
 use Rattle.journal.specs.declared.happenings.Step.{Step}

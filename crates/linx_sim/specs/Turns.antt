@@ -18,7 +18,7 @@ use Rattle.script_lang.specs.Parts.{ScriptParts}
 use Rattle.script_lang.specs.declared.commands.ActorScript.{ActorScript}
 use Rattle.fabric.specs.Remains.{only_node}
 use Rattle.linx_sim.specs.declared.outcome.Status.{Status}
-use Rattle.linx_sim.specs.declared.outcome.Status.TheVariants.{Done, Usage, Script, ReadFault, WriteFault, JournalFull, NoMemory, NotBuilt}
+use Rattle.linx_sim.specs.declared.outcome.Status.TheVariants.{Done, Script, ReadFault, WriteFault, JournalFull, NoMemory}
 use Rattle.linx_outside.specs.declared.whole_reads.ReadError.{ReadError}
 use Rattle.linx_outside.specs.declared.whole_reads.ReadError.TheVariants as reads
 use Rattle.script_lang.specs.declared.faults.ScriptError.{ScriptError}

@@ -7,8 +7,7 @@ use std::test::Fail;
 
 const SCRIPT: &[u8] = b"node n\nactor p n\nopen a\nsend self 5\nrecv any\nclose\nend\n";
 
-const TWO_ACTORS: &[u8] =
-    b"node n\nactor p n\nopen a\nclose\nend\nactor q n\nopen b\nclose\nend\n";
+const TWO_ACTORS: &[u8] = b"node n\nactor p n\nopen a\nclose\nend\nactor q n\nopen b\nclose\nend\n";
 
 const A_LINK: &[u8] = b"node n\nnode m\nlink l n m\nactor p n\nopen a\nclose\nend\n";
 
@@ -42,7 +41,10 @@ fn self_send_and_receive(rt: HostRuntime) -> Result<(), Fail> {
 fn write_that_fails(rt: HostRuntime) -> Result<(), Fail> {
     let alloc = rt.alloc();
     let mut sink = MemSink::new(alloc, 10, 4096, Vec::from_slice(alloc, &[2u64])?)?;
-    assert_eq!(rt; outcome_of(alloc, SCRIPT, &mut sink)?.status, Status::WriteFault);
+    assert_eq!(rt;
+        outcome_of(alloc, SCRIPT, &mut sink)?.status,
+        Status::WriteFault
+    );
     assert!(rt; sink.held() == b"log 1.1 a ".as_slice());
     Ok(())
 }
@@ -102,7 +104,10 @@ fn as_many_commands_as_an_actor_may_have(rt: HostRuntime) -> Result<(), Fail> {
     let outcome = outcome_of(alloc, MOST_COMMANDS, &mut sink)?;
     assert_eq!(rt; outcome.status, Status::Done);
     assert_eq!(rt; outcome.journal.len(), 19_999);
-    assert!(rt; sink.held().starts_with(b"log 1.1 a n\nsent 1.1 5 - queued\n"));
+    assert!(rt;
+        sink.held()
+            .starts_with(b"log 1.1 a n\nsent 1.1 5 - queued\n")
+    );
     Ok(())
 }
 
@@ -113,7 +118,17 @@ fn status_for(rt: &impl Wait, alloc: Global, words: &[&str]) -> Result<Status, F
     }
     let mut source = PlainSource::new(Vec::from_slice(alloc, SCRIPT)?);
     let mut sink = MemSink::new(alloc, 10, 4096, Vec::new(alloc))?;
-    Ok(serving::run(rt, alloc, owned.as_slice(), &mut source, &mut sink, &OpenGate).status)
+    Ok(
+        serving::run(
+            rt,
+            alloc,
+            owned.as_slice(),
+            &mut source,
+            &mut sink,
+            &OpenGate,
+        )
+        .status,
+    )
 }
 
 #[test]
