@@ -23,11 +23,19 @@ fn words_after_name(rt: &(impl Env + Alloc<A = Global>), alloc: Global) -> io::R
 }
 
 fn main(rt: HostRuntime) -> io::Result<ExitCode> {
-    let words = words_after_name(&rt, rt.alloc())?;
-    let mut script = ReadFrom::new(rt.reader());
-    let mut text = WriteTo::new(io::writer(&rt));
-    let outcome = serving::run(&rt, rt.alloc(), &words, &mut script, &mut text, &OpenGate);
-    match outcome.status {
+    let status = match words_after_name(&rt, rt.alloc()) {
+        Ok(words) => {
+            let mut script = ReadFrom::new(rt.reader());
+            let mut text = WriteTo::new(io::writer(&rt));
+            serving::run(&rt, rt.alloc(), &words, &mut script, &mut text, &OpenGate).status
+        }
+        Err(error) => match error.kind() {
+            io::ErrorKind::OutOfMemory => Status::NoMemory,
+            // A word that isn't UTF-8 is no command.
+            _ => Status::Usage,
+        },
+    };
+    match status {
         Status::Done => {}
         Status::Usage => eprintln!(rt; "linx_sim: usage: linx_sim run")?,
         Status::Script { line } => eprintln!(rt; "linx_sim: script line {line}")?,
@@ -37,7 +45,7 @@ fn main(rt: HostRuntime) -> io::Result<ExitCode> {
         Status::NoMemory => eprintln!(rt; "linx_sim: out of memory")?,
         Status::NotBuilt => eprintln!(rt; "linx_sim: not built")?,
     }
-    Ok(ExitCode::from(outcome.status.exit_code()))
+    Ok(ExitCode::from(status.exit_code()))
 }
 
 #[cfg(test)]
