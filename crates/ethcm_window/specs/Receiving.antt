@@ -1,0 +1,94 @@
+-- What a receiver is seen as, and what it does with a frame.
+use Rattle.std.specs.Prelude.{◌≡◌, ℕ, suc, ◌+◌, ◌-◌, ◌<◌, ◌≤◌, ◌==◌, nat_lt, min, if◌then◌else◌, Bool, true, false, List, [], ◌∷◌, ◌++◌, filter, find, option_map, Option}
+use Rattle.std.specs.List.{list_any}
+use Rattle.linx_base.specs.declared.framing.Frame.{Frame}
+use Rattle.linx_base.specs.declared.framing.SentFrame.{SentFrame}
+use Rattle.ethcm_window.specs.declared.receiving.Accept.{Accept}
+use Rattle.ethcm_window.specs.declared.receiving.Accept.TheVariants.{Taken, Early, Old}
+
+-- a receiver: the number that it expects, and the frames that came early and are kept, in order of
+-- their numbers
+pub record Receiver : Type 0 where
+  pub expected : ℕ
+  pub kept : List SentFrame
+
+-- the numbers of these frames rise from `low` on, and are below `high`
+abbrev pub RisesWithin : ℕ → ℕ → List SentFrame → Type 0
+RisesWithin low high [] = Unit {0}
+RisesWithin low high (s ∷ kept) = (low ≤ s.number) × ((s.number < high) × RisesWithin (suc s.number) high kept)
+
+-- what is kept is in order, not below the expected number, and less than 256 above it
+abbrev pub KeepsInOrder : ℕ → List SentFrame → Type 0
+KeepsInOrder expected kept = RisesWithin expected (min (expected + 256) 4294967295) kept
+
+-- the frame has this number
+abbrev pub has_number : ℕ → SentFrame → Bool
+has_number n s = s.number == n
+
+-- a frame of this number is kept
+abbrev pub is_kept : ℕ → List SentFrame → Bool
+is_kept n kept = list_any (has_number n) kept
+
+-- the frame that is kept with this number
+abbrev pub kept_at : ℕ → List SentFrame → Option Frame
+kept_at n kept = option_map (λ s. s.frame) (find (has_number n) kept)
+
+-- the kept frames below a number, and above it
+abbrev pub kept_below : ℕ → List SentFrame → List SentFrame
+kept_below n kept = filter (λ s. nat_lt s.number n) kept
+
+abbrev pub kept_above : ℕ → List SentFrame → List SentFrame
+kept_above n kept = filter (λ s. nat_lt n s.number) kept
+
+-- what is kept with one more frame; nothing changes where one of its number is kept already
+abbrev pub kept_with : SentFrame → List SentFrame → List SentFrame
+kept_with s kept = if is_kept s.number kept then kept else kept_below s.number kept ++ s ∷ kept_above s.number kept
+
+-- what is kept after a frame came early: it is kept where it is less than 256 above the expected one
+abbrev pub kept_early : ℕ → List SentFrame → SentFrame → List SentFrame
+kept_early expected kept s = if nat_lt s.number (expected + 256) then kept_with s kept else kept
+
+-- from the expected number to the first of these frames; 256 where there is none
+abbrev pub distance : ℕ → List SentFrame → ℕ
+distance expected [] = 256
+distance expected (s ∷ above) = s.number - expected
+
+-- from the expected number to the least kept one above it; 256 where none is
+abbrev pub count_of : ℕ → List SentFrame → ℕ
+count_of expected kept = distance expected (kept_above expected kept)
+
+-- the receiver after it took the expected number: what is kept above it stays
+abbrev pub after_taking : Receiver → Receiver
+after_taking rx = record { expected = rx.expected + 1; kept = kept_above rx.expected rx.kept }
+
+-- the receiver after a frame
+abbrev pub after_frame : Receiver → SentFrame → Receiver
+after_frame rx s =
+    if s.number == rx.expected then after_taking rx
+    else (if nat_lt s.number rx.expected then rx else record rx { kept = kept_early rx.expected rx.kept s })
+
+-- what it does with the frame
+abbrev pub answer_to : Receiver → SentFrame → Accept
+answer_to rx s =
+    if s.number == rx.expected then Taken s.frame
+    else (if nat_lt s.number rx.expected then Old else Early (count_of rx.expected (kept_early rx.expected rx.kept s)))
+
+-- the frame of this number is to be kept: it comes early, is near, and isn't kept yet
+pub record IsToKeep (rx : Receiver) (n : ℕ) : Type 0 where
+  pub early : rx.expected < n
+  pub near : n < rx.expected + 256
+  pub missing : is_kept n rx.kept ≡ false
+
+-- `count` numbers are missing: none is kept from the expected one on up to the next that is kept,
+-- which is `count` above it, and at 256 none is kept at all
+pub record CountsMissing (rx : Receiver) (count : ℕ) : Type 0 where
+  pub at_least : 1 ≤ count
+  pub at_most : count ≤ 256
+  pub missing : (n : ℕ) → rx.expected < n → n < rx.expected + count → is_kept n rx.kept ≡ false
+  pub next : count < 256 → is_kept (rx.expected + count) rx.kept ≡ true
+
+-- an early frame's count is of the missing numbers
+abbrev pub CountsIfEarly : Receiver → Accept → Type 0
+CountsIfEarly rx (Taken frame) = Unit {0}
+CountsIfEarly rx (Early count) = CountsMissing rx count
+CountsIfEarly rx Old = Unit {0}

@@ -1,0 +1,11 @@
+//! The sliding window of a link end. The sender numbers its frames from 0 and sends as many as the
+//! window holds; each acknowledgement lets as many follow, and what wasn't acknowledged can be sent
+//! again. The receiver takes every number once and in order, and keeps what comes early for later.
+#![tactic(auto)]
+
+mod copying;
+mod receiving;
+mod sending;
+
+pub use receiving::{Accept, Rx};
+pub use sending::Tx;
