@@ -1,11 +1,13 @@
 use Rattle.std.proofs.Common.{◌≡◌, ◌≢◌, ℕ, zero, suc, ◌+◌, ◌<◌, ◌≤◌, min, Bool, true, false, List, [], ◌∷◌, ◌++◌, length, take, drop, get_or, refl, ap, sym, ◌∙◌, subst, arith, ◌⊎◌, inl, inr, eqb, ltb, filter, find}
-use Rattle.std.specs.Prelude.{Option, Some, None, insert}
+use Rattle.std.specs.Prelude.{◌-◌, Option, Some, None, insert, if◌then◌else◌}
 use Rattle.std.specs.List.Sorted.{IsPartitionPoint, IsPartitionedBy}
 use Rattle.std.proofs.lemmas.Bool.{eqb-true, eqb-false, ltb-true, ltb-false, eq-eqb, lt-ltb}
+use Rattle.std.proofs.lemmas.List.{get_or_default, drop_more, drop_all}
+use Rattle.std.proofs.Math.Dec.{lit≤}
 use Rattle.std.proofs.lemmas.Bool.Decides.{nat_tests, eqb_tells}
 use Rattle.linx_base.specs.declared.framing.Frame.{Frame}
 use Rattle.linx_base.specs.declared.framing.SentFrame.{SentFrame}
-use Rattle.ethcm_window.specs.Receiving.{RisesWithin, KeepsInOrder, has_number, is_kept, kept_at, kept_below, kept_above, kept_with, kept_early}
+use Rattle.ethcm_window.specs.Receiving.{RisesWithin, KeepsInOrder, has_number, is_kept, kept_at, kept_below, kept_above, kept_with, kept_early, count_of, distance, CountsMissing}
 
 -- the tests of two numbers
 not_below : (a b : ℕ) → b ≤ a → ltb a b ≡ false
@@ -74,6 +76,10 @@ IsPlaceOf n kept at = IsPartitionPoint (λ s. ltb s.number n ≡ true) (λ s. lt
 place_later : (n : ℕ) (s : SentFrame) (kept : List SentFrame) (at : ℕ) → IsPlaceOf n (s ∷ kept) (suc at) → IsPlaceOf n kept at
 place_later n s kept at place =
     (λ k d low below. place.0 (suc k) d (omega arith) (omega arith), λ k d low below. place.1 (suc k) d (omega arith) (omega arith))
+
+place_same : (n : ℕ) (s : SentFrame) (kept : List SentFrame) → IsPlaceOf n (s ∷ kept) zero → IsPlaceOf n kept zero
+place_same n s kept place =
+    (λ k d low below. absurd (omega arith), λ k d low below. place.1 (suc k) d (omega arith) (omega arith))
 
 pub kept_found : (n : ℕ) (kept : List SentFrame) (at : ℕ) (d : SentFrame) → at < length kept → (get_or kept at d).number ≡ n → is_kept n kept ≡ true
 kept_found n [] at d h e = absurd (omega arith)
@@ -148,3 +154,99 @@ rises_from_zero expected kept r = rises_wider expected (min (expected + 256) 429
 
 pub rises_from_expected : (expected : ℕ) (kept : List SentFrame) → KeepsInOrder expected kept → RisesWithin expected 4294967295 kept
 rises_from_expected expected kept r = rises_wider expected (min (expected + 256) 4294967295) expected 4294967295 kept (omega arith) (omega arith) r
+
+-- whether the frame at the place of a number has it
+pub kept_here : (low high n : ℕ) (kept : List SentFrame) (at : ℕ) (s : SentFrame) → RisesWithin low high kept → IsPlaceOf n kept at → at < length kept → s ≡ get_or kept at s → eqb s.number n ≡ is_kept n kept
+kept_here low high n kept at s r place h read =
+    let number : (get_or kept at s).number ≡ s.number = ap (λ (t : SentFrame). t.number) (sym read) in
+    elim (eqb_tells s.number n) [
+      | inl same ↦ same.0 ∙ sym (kept_found n kept at s h (number ∙ same.1))
+      | inr other ↦ other.0 ∙ sym (kept_missing low high n kept at r place (omega arith) (λ d within e. other.1 (sym number ∙ ap (λ (t : SentFrame). t.number) (get_or_default kept at s d within) ∙ e))).missing
+    ]
+
+pub kept_past : (low high n : ℕ) (kept : List SentFrame) (at : ℕ) → RisesWithin low high kept → IsPlaceOf n kept at → length kept ≡ at → false ≡ is_kept n kept
+kept_past low high n kept at r place h =
+    sym (kept_missing low high n kept at r place (omega arith) (λ d within. absurd (omega arith))).missing
+
+-- nothing is added where the number is kept
+pub kept_already : (s : SentFrame) (kept : List SentFrame) → is_kept s.number kept ≡ true → kept ≡ kept_with s kept
+kept_already s kept e = rw e refl
+
+-- the first frame of what is kept from a number on
+pub first_missing : (n high : ℕ) (kept : List SentFrame) (d : SentFrame) → RisesWithin n high kept → (0 < length kept → (get_or kept 0 d).number ≢ n) → (None ≡ kept_at n kept) × (kept ≡ kept_above n kept)
+first_missing n high [] d r other = (refl, refl)
+first_missing n high (s ∷ kept) d r other =
+    let from = r.0 in
+    let apart : s.number ≢ n = other (omega arith) in
+    let all = all_above s.number high n (s ∷ kept) ((omega arith), r.1) (omega arith) in
+    (rw all.3 refl, sym all.2)
+
+pub first_kept : (n high : ℕ) (kept : List SentFrame) (d : SentFrame) → RisesWithin n high kept → 0 < length kept → (get_or kept 0 d).number ≡ n → (Some (get_or kept 0 d).frame ≡ kept_at n kept) × (drop 1 kept ≡ kept_above n kept) × (n < high)
+first_kept n high [] d r h e = absurd (omega arith)
+first_kept n high (s ∷ kept) d r h e =
+    let to = r.1.0 in
+    let all = all_above (suc s.number) high n kept r.1.1 (omega arith) in
+    let same = eq-eqb s.number n e in
+    let not_over = not_below n s.number (omega arith) in
+    (rw same refl, rw (not_over, all.2) refl, omega arith)
+
+-- the place behind all numbers up to the expected one
+pub above_from : (expected : ℕ) (kept : List SentFrame) (at : ℕ) → IsPlaceOf (expected + 1) kept at → at ≤ length kept → kept_above expected kept ≡ drop at kept
+above_from expected [] zero place h = refl
+above_from expected [] (suc at) place h = absurd (omega arith)
+above_from expected (s ∷ kept) zero place h =
+    let here : expected + 1 ≤ s.number = ltb-false _ _ (place.1 0 s (omega arith) (omega arith)) in
+    let test = lt-ltb expected s.number (omega arith) in
+    let rest : kept_above expected kept ≡ drop 0 kept = above_from expected kept 0 (place_same (expected + 1) s kept place) (omega arith) in
+    rw (test, rest) refl
+above_from expected (s ∷ kept) (suc at) place h =
+    let here : s.number < expected + 1 = ltb-true _ _ (place.0 0 s (omega arith) (omega arith)) in
+    let test = not_below expected s.number (omega arith) in
+    rw test (above_from expected kept at (place_later (expected + 1) s kept at place) (omega arith))
+
+-- the count by that place
+pub count_here : (expected : ℕ) (kept : List SentFrame) (at : ℕ) (s : SentFrame) → IsPlaceOf (expected + 1) kept at → at < length kept → s ≡ get_or kept at s → s.number - expected ≡ count_of expected kept
+count_here expected kept at s place h read =
+    let above : kept_above expected kept ≡ s ∷ drop (at + 1) kept = above_from expected kept at place (omega arith) ∙ drop_more kept at s h ∙ ap (λ t. t ∷ drop (at + 1) kept) (sym read) in
+    rw above refl
+
+pub over_here : (expected : ℕ) (kept : List SentFrame) (at : ℕ) (s : SentFrame) → IsPlaceOf (expected + 1) kept at → at < length kept → s ≡ get_or kept at s → expected < s.number
+over_here expected kept at s place h read =
+    let number : (get_or kept at s).number ≡ s.number = ap (λ (t : SentFrame). t.number) (sym read) in
+    let over : expected + 1 ≤ (get_or kept at s).number = ltb-false _ _ (place.1 at s (omega arith) h) in
+    omega arith
+
+pub count_past : (expected : ℕ) (kept : List SentFrame) (at : ℕ) → IsPlaceOf (expected + 1) kept at → length kept ≡ at → 256 ≡ count_of expected kept
+count_past expected kept at place h =
+    let none : kept_above expected kept ≡ [] = above_from expected kept at place (omega arith) ∙ drop_all at kept (omega arith) in
+    rw none refl
+
+-- what is kept above a number
+kept_among : (n expected : ℕ) (kept : List SentFrame) → expected < n → is_kept n kept ≡ is_kept n (kept_above expected kept)
+kept_among n expected [] h = refl
+kept_among n expected (s ∷ kept) h =
+    let rest = kept_among n expected kept h in
+    elim (le_cases expected s.number) [
+      | inl over ↦ let t = lt-ltb expected s.number over in rw (t, rest) refl
+      | inr under ↦ let t = not_below expected s.number under in let other = other_number s.number n (λ e. omega arith) in rw (t, other) rest
+    ]
+
+counts_above : (expected : ℕ) (kept above : List SentFrame) → RisesWithin (suc expected) (expected + 256) above → ((n : ℕ) → expected < n → is_kept n kept ≡ is_kept n above) → CountsMissing (record { expected = expected; kept = kept }) (distance expected above)
+counts_above expected kept [] r same = record { at_least = lit≤ tt; at_most = lit≤ tt; missing = λ n over below. same n over; next = λ h. absurd (omega arith) }
+counts_above expected kept (s ∷ above) r same =
+    let from = r.0 in
+    let to = r.1.0 in
+    let there : expected + (s.number - expected) ≡ s.number = omega arith in
+    record {
+      at_least = omega arith;
+      at_most = omega arith;
+      missing = λ n over below. same n over ∙ (all_above s.number (expected + 256) n (s ∷ above) ((omega arith), r.1) (omega arith)).0;
+      next = λ h. rw there (same s.number (omega arith) ∙ rw (eq-eqb s.number s.number refl) refl);
+    }
+
+-- the count is that of the missing numbers
+pub counts_missing : (expected : ℕ) (kept : List SentFrame) → KeepsInOrder expected kept → CountsMissing (record { expected = expected; kept = kept }) (count_of expected kept)
+counts_missing expected kept r =
+    let above : RisesWithin (suc expected) (expected + 256) (kept_above expected kept) =
+    rises_filter (λ s. ltb expected s.number) expected (min (expected + 256) 4294967295) (suc expected) (expected + 256) kept r (λ s from to e. (let over = ltb-true _ _ e in omega arith, omega arith)) in
+    counts_above expected kept (kept_above expected kept) above (λ n over. kept_among n expected kept over)

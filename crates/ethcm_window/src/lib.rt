@@ -9,3 +9,6 @@ mod sending;
 
 pub use receiving::{Accept, Rx};
 pub use sending::Tx;
+
+#[cfg(test)]
+mod tests;

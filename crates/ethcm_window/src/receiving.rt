@@ -1,6 +1,5 @@
-ghost use Rattle.std.specs.Prelude.{◌≡◌, ◌+◌, ◌<◌, ◌≤◌, [], true, false, length, IfOk, IfErr, IfNone, OnOk, OnErr, OnSome};
+ghost use Rattle.std.specs.Prelude.{◌≡◌, ◌+◌, ◌<◌, ◌≤◌, [], true, false, length, nat_lt, IfOk, IfErr, IfNone, OnOk, OnErr, OnSome};
 ghost use Rattle.std.specs.List.Sorted.{IsPartitionPoint};
-ghost use Rattle.std.specs.Prelude.{nat_lt};
 ghost use Rattle.ethcm_window.specs.Receiving.{RisesWithin, KeepsInOrder, is_kept, kept_at, kept_above, kept_with, kept_early, count_of, after_taking, after_frame, answer_to, IsToKeep, CountsIfEarly};
 
 use crate::copying::copies;
@@ -92,6 +91,7 @@ fn take_first(kept: &mut VecDeque<SentFrame>, number: u32) -> Option<Frame>
     requires { RisesWithin number 4294967295 kept.old.items }
     ensures frame { result ≡ kept_at number kept.old.items }
     ensures others { kept.new.items ≡ kept_above number kept.old.items }
+    ensures none { IfNone result (kept.new.items ≡ kept.old.items) }
     ensures below { OnSome result (number < 4294967295) }
 {
     if kept.front()?.number != number {
@@ -105,9 +105,11 @@ fn take_first(kept: &mut VecDeque<SentFrame>, number: u32) -> Option<Frame>
 
 /// How many numbers are missing from the expected one on before the next frame that is kept.
 fn count(kept: &VecDeque<SentFrame>, expected: u32) -> u32
+    requires rising { RisesWithin 0 4294967295 kept.now.items }
+    requires numbered { expected < 4294967295 }
     ensures { result ≡ count_of expected kept.now.items }
 {
-    match kept.iter().find(|other| expected < other.number) {
+    match kept.get(count_below(kept, expected + 1)) {
         Some(next) => next.number - expected,
         None => TOO_EARLY,
     }
@@ -176,7 +178,7 @@ impl Rx {
         }
         if seq == self.expected {
             let _ = take_first(&mut self.kept, seq);
-            self.expected += 1;
+            self.expected = seq + 1;
             return Ok(Accept::Taken(frame));
         }
         match accept_early(&mut self.kept, self.expected, seq, frame) {
