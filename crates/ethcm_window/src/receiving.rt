@@ -65,11 +65,7 @@ fn has(kept: &VecDeque<SentFrame>, place: usize, number: u32) -> bool
 
 /// Keeps a frame, unless one of its number is kept already. A refusal gives it back and changes
 /// nothing.
-fn keep(
-    kept: &mut VecDeque<SentFrame>,
-    number: u32,
-    frame: Frame,
-) -> Result<(), (NoMemory, Frame)>
+fn keep(kept: &mut VecDeque<SentFrame>, number: u32, frame: Frame) -> Result<(), (NoMemory, Frame)>
     requires { RisesWithin 0 4294967295 kept.old.items }
     ensures ok { OnOk result (kept.new.items ≡ kept_with (record { number = number; frame = frame }) kept.old.items) }
     ensures err { OnErr result (kept.new.items ≡ kept.old.items) }

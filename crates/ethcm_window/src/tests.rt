@@ -31,8 +31,7 @@ fn assert_sent(rt: &impl Abort, sent: &SentFrames, bytes: &[u8]) {
 }
 
 /// A sender with window 2, to which three frames were offered.
-fn offered(rt: &HostRuntime) -> Result<Tx, Fail> {
-    let alloc = rt.alloc();
+fn offered(rt: &impl Abort, alloc: Global) -> Result<Tx, Fail> {
     let mut tx = Tx::new(alloc, 2);
     let mut frames = Frames::new(alloc);
     for byte in 0..3 {
@@ -48,7 +47,7 @@ fn offered(rt: &HostRuntime) -> Result<Tx, Fail> {
 
 #[test]
 fn frames_follow_into_the_window_as_others_are_acknowledged(rt: HostRuntime) -> Result<(), Fail> {
-    let mut tx = offered(&rt)?;
+    let mut tx = offered(&rt, rt.alloc())?;
     assert_sent(&rt, &tx.acked(1)?, &[2]);
     assert_sent(&rt, &tx.acked(4)?, &[]);
     assert_sent(&rt, &tx.resend(1, 1)?, &[1]);
