@@ -1,13 +1,12 @@
-use Rattle.std.proofs.Common.{◌≡◌, ◌≢◌, ℕ, zero, suc, ◌+◌, ◌<◌, ◌≤◌, min, Bool, true, false, List, [], ◌∷◌, ◌++◌, length, take, drop, get_or, refl, ap, sym, ◌∙◌, subst, arith, ◌⊎◌, inl, inr, eqb, ltb, filter, find}
-use Rattle.std.specs.Prelude.{◌-◌, Option, Some, None, insert, if◌then◌else◌}
+use Rattle.std.proofs.Common.{◌≡◌, ◌≢◌, ℕ, zero, suc, ◌+◌, ◌<◌, ◌≤◌, min, Bool, true, false, List, [], ◌∷◌, ◌++◌, length, take, drop, get_or, refl, ap, sym, ◌∙◌, arith, ◌⊎◌, inl, inr, eqb, ltb, filter, find}
+use Rattle.std.specs.Prelude.{◌-◌, Some, None, insert, if◌then◌else◌}
 use Rattle.std.specs.List.Sorted.{IsPartitionPoint, IsPartitionedBy}
-use Rattle.std.proofs.lemmas.Bool.{eqb-true, eqb-false, ltb-true, ltb-false, eq-eqb, lt-ltb}
+use Rattle.std.proofs.lemmas.Bool.{ltb-true, ltb-false, eq-eqb, lt-ltb}
 use Rattle.std.proofs.lemmas.List.{get_or_default, drop_more, drop_all}
 use Rattle.std.proofs.Math.Dec.{lit≤}
 use Rattle.std.proofs.lemmas.Bool.Decides.{nat_tests, eqb_tells}
-use Rattle.linx_base.specs.declared.framing.Frame.{Frame}
 use Rattle.linx_base.specs.declared.framing.SentFrame.{SentFrame}
-use Rattle.ethcm_window.specs.Receiving.{RisesWithin, KeepsInOrder, has_number, is_kept, kept_at, kept_below, kept_above, kept_with, kept_early, count_of, distance, CountsMissing}
+use Rattle.ethcm_window.specs.Receiving.{RisesWithin, KeepsInOrder, has_number, is_kept, kept_at, kept_below, kept_above, kept_with, count_of, distance, CountsMissing}
 
 -- the tests of two numbers
 not_below : (a b : ℕ) → b ≤ a → ltb a b ≡ false

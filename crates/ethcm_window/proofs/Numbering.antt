@@ -1,5 +1,5 @@
-use Rattle.std.proofs.Common.{◌≡◌, ℕ, zero, suc, ◌+◌, ◌-◌, ◌<◌, ◌≤◌, min, List, [], ◌∷◌, ◌++◌, length, take, drop, get_or, refl, ap, sym, ◌∙◌, subst, arith, ◌⊎◌, inl, inr, append_assoc, add-zero, filter, leb, true, false, nat_le, Result, Ok, Err, IfOk}
-use Rattle.std.proofs.lemmas.List.{take_more, take_all, take-take, take_min, drop-take, drop_at, drop_all, drop-drop, length-take, length-drop, length-append, nil_from_length, get_or-drop}
+use Rattle.std.proofs.Common.{◌≡◌, ℕ, zero, suc, ◌+◌, ◌-◌, ◌<◌, ◌≤◌, min, List, [], ◌∷◌, ◌++◌, length, take, drop, get_or, refl, ap, sym, ◌∙◌, arith, ◌⊎◌, inl, inr, add-zero, leb, true, false, Result, Ok, Err, IfOk}
+use Rattle.std.proofs.lemmas.List.{take_more, take_all, take-take, take_min, drop_at, drop_all, drop-drop, length-take, length-drop, get_or-drop}
 use Rattle.std.proofs.lemmas.Bool.Decides.{nat_tests}
 use Rattle.linx_base.specs.declared.memory.NoMemory.{NoMemory}
 use Rattle.linx_base.specs.declared.framing.Frame.{Frame}

@@ -79,8 +79,7 @@ pub record IsToKeep (rx : Receiver) (n : ℕ) : Type 0 where
   pub near : n < rx.expected + 256
   pub missing : is_kept n rx.kept ≡ false
 
--- `count` numbers are missing: none is kept from the expected one on up to the next that is kept,
--- which is `count` above it, and at 256 none is kept at all
+-- the least kept number above the expected one is `count` above it; at 256 none is kept above it
 pub record CountsMissing (rx : Receiver) (count : ℕ) : Type 0 where
   pub at_least : 1 ≤ count
   pub at_most : count ≤ 256

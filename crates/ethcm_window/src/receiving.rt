@@ -16,8 +16,8 @@ const TOO_EARLY: u32 = 256;
 pub enum Accept {
     /// Its number is the expected one: it is taken.
     Taken(Frame),
-    /// It comes early: from the expected number on `count` numbers are missing before the next frame
-    /// that is kept, and 256 where none is.
+    /// It comes early. The least kept number above the expected one is `count` above it; 256 where none
+    /// is kept above it.
     Early { count: u32 },
     /// Its number was taken before.
     Old,
@@ -99,7 +99,7 @@ fn take_first(kept: &mut VecDeque<SentFrame>, number: u32) -> Option<Frame>
     }
 }
 
-/// How many numbers are missing from the expected one on before the next frame that is kept.
+/// How far above the expected number the least kept one above it is; 256 where there is none.
 fn count(kept: &VecDeque<SentFrame>, expected: u32) -> u32
     requires rising { RisesWithin 0 4294967295 kept.now.items }
     requires numbered { expected < 4294967295 }
@@ -111,7 +111,7 @@ fn count(kept: &VecDeque<SentFrame>, expected: u32) -> u32
     }
 }
 
-/// Keeps a frame that comes early where it is near, and counts the missing numbers.
+/// Keeps a frame that comes early where it is near, and answers the count.
 fn accept_early(
     kept: &mut VecDeque<SentFrame>,
     expected: u32,

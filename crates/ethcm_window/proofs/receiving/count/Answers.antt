@@ -1,5 +1,5 @@
 use Rattle.std.proofs.Common.{◌≡◌, ◌<◌, length, arith}
-use Rattle.ethcm_window.proofs.Keeping.{count_here, over_here, count_past}
+use Rattle.ethcm_window.proofs.Keeping.{count_here, count_past}
 use Rattle.ethcm_window.proofs.receiving.count.Goals as goal
 
 pub returns-in-Some : goal.returns-in-Some

@@ -1,4 +1,4 @@
-use Rattle.std.proofs.Common.{◌≡◌, arith}
+use Rattle.std.proofs.Common.{◌≡◌}
 use Rattle.ethcm_window.proofs.Keeping.{rises_from_expected, rises_taken, counts_missing}
 use Rattle.ethcm_window.proofs.receiving.Rx.accept.Goals as goal
 use Rattle.ethcm_window.proofs.receiving.Rx.accept.Goals.{in-Ok, in-Err}

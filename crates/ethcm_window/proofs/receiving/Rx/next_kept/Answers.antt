@@ -1,4 +1,3 @@
-use Rattle.std.proofs.Common.{arith}
 use Rattle.ethcm_window.proofs.Keeping.{rises_from_expected, rises_taken}
 use Rattle.ethcm_window.proofs.receiving.Rx.next_kept.Goals as goal
 
