@@ -1,3 +1,4 @@
 pub mod Messages
 pub mod Readings
 pub mod Laws
+pub mod Failures

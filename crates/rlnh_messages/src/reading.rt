@@ -19,6 +19,11 @@ pub enum RlnhError {
 }
 
 impl fmt::Display for RlnhError {
+    ghost use Rattle.std.specs.Prelude.{Some};
+    ghost use Rattle.rlnh_messages.specs.Failures.{error_text};
+
+    ghost output = { λ error. Some (error_text error) };
+
     fn fmt<W: fmt::Write>(&self, f: &mut fmt::Formatter<W>) -> fmt::Result {
         f.write_str(match self {
             RlnhError::Bad => "not a message",
