@@ -14,10 +14,10 @@ use Rattle.turn_lock.specs.declared.story.Made.{Made}
 use Rattle.turn_lock.specs.declared.turns.Front.{Front}
 use Rattle.turn_lock.specs.declared.turns.Known.{Known}
 use Rattle.turn_lock.specs.declared.turns.About.{About}
-use Rattle.turn_lock.specs.Stories.{RestsFor, IsAddedBy}
+use Rattle.turn_lock.specs.Stories.{AllMadeUpTo, RestsFor, IsAddedBy}
 use Rattle.turn_lock.specs.Turns.{front, resting, dealing, holding, with_seen, next_front, dealt, dealt_next, joined, spent, FitsFront, FitsView, OneStory, tried, gave, front_of, HasFronts}
 use Rattle.turn_lock.specs.Passes.{PassView, numbers, Tells}
-use Rattle.turn_lock.proofs.Stories.{rests_itself, rests_added, added_makers, made_by-above}
+use Rattle.turn_lock.proofs.Stories.{rests_itself, rests_added, added_makers, more_makers, made_by-above}
 
 module _ {A : Type 0} where
   -- an item of a list with one more at its end is one of the list, or the last
@@ -175,7 +175,7 @@ module _ {S E F : Type 0} (story_of : S → List (Made E)) (fixed_of : S → F) 
         seat = r.seat;
         one_word = length-set s.words 0 0 ∙ one;
         few = r.few;
-        makers = added_makers f.number r.top (story_of x) r.story mine.dealt.1 grown r.makers;
+        makers = added_makers f.number r.top (story_of x) r.story mine.dealt.0 mine.dealt.1 grown r.makers;
         views = subst (λ (w : ℕ). (j : ℕ) (v : Known E F) → get_elem? (set s.views id (resting f')) j ≡ some v → K w j v) (sym now) (views_set (K 0) s.views id (resting f')
             (fits_resting (story_of x) base r.top r.seat 0 id (f' ∷ []) (All-cons (P id) f' [] mine' (All-nil (P id))))
             (λ j v apart e. let q = r.views j v e in record {
@@ -272,7 +272,7 @@ module _ {S E F : Type 0} (story_of : S → List (Made E)) (fixed_of : S → F) 
         seat = seated r.seat (r.top + 1) (length s.views);
         one_word = r.one_word;
         few = omega arith;
-        makers = All-weaker (λ m. m.maker ≤ r.top) (λ m. m.maker ≤ r.top + 1) (λ m l. omega arith) r.story r.makers;
+        makers = more_makers r.top (r.top + 1) r.story (omega arith) r.makers;
         views = dealt_views s r id f here number fixed;
         home = r.home;
         out = λ away. let o = r.out away in (
@@ -351,9 +351,9 @@ module _ {S E F : Type 0} (story_of : S → List (Made E)) (fixed_of : S → F) 
       let same : o.1 ≡ v = some-injective o.1 v (sym o.2 ∙ (ap (get_elem? s.views) (sym g.seated ∙ at) ∙ here)) in
       let bad : true ≡ false = sym o.3 ∙ (ap (λ (k : Known E F). k.holds) same ∙ idle) in cc
 
-  -- where all passes are joined to one seat, the slot has a state, which tells of each
+  -- where all passes are joined to one seat, the slot has a state, which tells of each, and which nobody else made
   pub closes : (id : ℕ) (m : M) (passes : List (PassView E F)) (seats : ℕ) (ws : List ℕ) (xs : List (Option S)) (slot : Option S) → Final (Seen Rule id m.0) ws xs → HasFronts passes m
-      → about.seats ≡ seats → ((n : ℕ) → 0 < n → n ≤ seats → Contains (numbers passes) n) → get_elem? xs 0 ≡ some slot → (x : S) × (slot ≡ Some x) × All (Tells (fixed_of x) (story_of x)) passes
+      → about.seats ≡ seats → ((n : ℕ) → 0 < n → n ≤ seats → Contains (numbers passes) n) → get_elem? xs 0 ≡ some slot → (x : S) × (slot ≡ Some x) × All (Tells (fixed_of x) (story_of x)) passes × AllMadeUpTo seats (story_of x)
   closes id m passes seats ws xs slot end fronts as_many each there =
       let s = end.0 in
       let r = end.1.0 in
@@ -366,4 +366,5 @@ module _ {S E F : Type 0} (story_of : S → List (Made E)) (fixed_of : S → F) 
         some-injective slot (Some x) (sym there ∙ end.4 0 (Some x) h.1),
         All-weaker (λ p. P (front_of p)) (Tells (fixed_of x) (story_of x)) (λ p k. (h.3 ∙ sym k.same, subst (λ t. RestsFor p.number t p.front) (sym h.2) k.rests)) passes
             (All-unmap P front_of passes (All-same P (map front_of passes) m.0.fronts (sym fronts.2) (r.views id m.0 here).fronts)),
+        subst (AllMadeUpTo seats) (sym h.2) (more_makers r.top seats r.story (let few = r.few in omega arith) r.makers),
       )

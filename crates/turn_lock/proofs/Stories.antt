@@ -4,7 +4,7 @@ use Rattle.std.specs.Prelude.{slice_get}
 use Rattle.std.proofs.lemmas.List.{append_cancel_right}
 use Rattle.std.proofs.lemmas.List.Elements.{filter-append, All-nil, All-cons, All-head, All-tail, All-append, All-weaker, All-same}
 use Rattle.turn_lock.specs.declared.story.Made.{Made}
-use Rattle.turn_lock.specs.Stories.{made, made_by, AllMadeBy, BeginsWith, RestsFor, IsAddedBy}
+use Rattle.turn_lock.specs.Stories.{made, made_by, AllMadeBy, AllMadeUpTo, BeginsWith, RestsFor, IsAddedBy}
 
 module _ {E : Type 0} where
   pub made_by-append : (n : ℕ) (xs ys : List (Made E)) → made_by n (xs ++ ys) ≡ made_by n xs ++ made_by n ys
@@ -25,8 +25,8 @@ module _ {E : Type 0} where
   pub made_by-others : (n k : ℕ) (xs : List (Made E)) → n ≢ k → AllMadeBy n xs → made_by k xs ≡ []
   made_by-others n k xs apart h = made_by-none k xs (All-weaker (λ m. m.maker ≡ n) (λ m. m.maker ≢ k) (λ m e i. apart (sym e ∙ i)) xs h)
 
-  pub made_by-above : (top n : ℕ) (xs : List (Made E)) → top < n → All (λ m. m.maker ≤ top) xs → made_by n xs ≡ []
-  made_by-above top n xs more h = made_by-none n xs (All-weaker (λ m. m.maker ≤ top) (λ m. m.maker ≢ n) (λ m l i. omega arith) xs h)
+  pub made_by-above : (top n : ℕ) (xs : List (Made E)) → top < n → AllMadeUpTo top xs → made_by n xs ≡ []
+  made_by-above top n xs more h = made_by-none n xs (All-weaker (λ m. (0 < m.maker) × (m.maker ≤ top)) (λ m. m.maker ≢ n) (λ m l i. let few = l.1 in omega arith) xs h)
 
   pub begins_itself : (story : List (Made E)) → BeginsWith story story
   begins_itself story = ([], refl)
@@ -63,9 +63,13 @@ module _ {E : Type 0} where
   added_own n story front added a e = let same : added ≡ a.0 = append_cancel_right added a.0 front (sym e ∙ a.1) in
       ap (made_by n) e ∙ (made_by-append n added front ∙ ap (λ t. t ++ made_by n front) (made_by-all n added (All-same (λ m. m.maker ≡ n) added a.0 same a.2)))
 
-  pub added_makers : (n top : ℕ) (story front : List (Made E)) → n ≤ top → IsAddedBy n story front → All (λ m. m.maker ≤ top) front → All (λ m. m.maker ≤ top) story
-  added_makers n top story front few a h = All-same (λ m. m.maker ≤ top) story (a.0 ++ front) a.1
-      (All-append (λ m. m.maker ≤ top) a.0 front (All-weaker (λ m. m.maker ≡ n) (λ m. m.maker ≤ top) (λ m e. omega arith) a.0 a.2) h)
+  pub added_makers : (n top : ℕ) (story front : List (Made E)) → 0 < n → n ≤ top → IsAddedBy n story front → AllMadeUpTo top front → AllMadeUpTo top story
+  added_makers n top story front some few a h = let P : Made E → Type 0 = λ m. (0 < m.maker) × (m.maker ≤ top) in All-same P story (a.0 ++ front) a.1
+      (All-append P a.0 front (All-weaker (λ m. m.maker ≡ n) P (λ m e. (omega arith, omega arith)) a.0 a.2) h)
+
+  -- makers 1 to n are among those up to a greater number
+  pub more_makers : (n top : ℕ) (xs : List (Made E)) → n ≤ top → AllMadeUpTo n xs → AllMadeUpTo top xs
+  more_makers n top xs few h = All-weaker (λ m. (0 < m.maker) × (m.maker ≤ n)) (λ m. (0 < m.maker) × (m.maker ≤ top)) (λ m l. (l.0, let most = l.1 in omega arith)) xs h
 
   -- the maker of the step at i, as `maker` of a story has to answer it
   pub maker_at : (story : List (Made E)) (i : ℕ) (m : Made E) → i < length story → m ≡ get_or story i m → slice_get (map (λ (x : Made E). x.maker) story) i ≡ Some m.maker

@@ -1,5 +1,5 @@
 -- Stories: lists of steps with their makers, the newest step first.
-use Rattle.std.specs.Prelude.{◌≡◌, ℕ, List, [], ◌++◌, ◌==◌, All}
+use Rattle.std.specs.Prelude.{◌≡◌, ℕ, ◌<◌, ◌≤◌, List, [], ◌++◌, ◌==◌, All}
 use Rattle.std.specs.List.{filter}
 use Rattle.turn_lock.specs.declared.story.Made.{Made}
 
@@ -15,6 +15,10 @@ module _ {E : Type 0} where
   -- the maker n made each of these
   abbrev pub AllMadeBy : ℕ → List (Made E) → Type 0
   AllMadeBy n steps = All (λ m. m.maker ≡ n) steps
+
+  -- each of these is of one of the makers 1 to n
+  abbrev pub AllMadeUpTo : ℕ → List (Made E) → Type 0
+  AllMadeUpTo n steps = All (λ m. (0 < m.maker) × (m.maker ≤ n)) steps
 
   -- the story goes on from the front: it is what came since, and then the front
   abbrev pub BeginsWith : List (Made E) → List (Made E) → Type 0

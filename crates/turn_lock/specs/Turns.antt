@@ -9,7 +9,7 @@ use Rattle.turn_lock.specs.declared.story.Made.{Made}
 use Rattle.turn_lock.specs.declared.turns.Front.{Front}
 use Rattle.turn_lock.specs.declared.turns.Known.{Known}
 use Rattle.turn_lock.specs.declared.turns.About.{About}
-use Rattle.turn_lock.specs.Stories.{RestsFor}
+use Rattle.turn_lock.specs.Stories.{AllMadeUpTo, RestsFor}
 use Rattle.turn_lock.specs.Passes.{PassView}
 
 module _ {E F : Type 0} where
@@ -81,7 +81,7 @@ module _ {S E F : Type 0} (story_of : S → List (Made E)) (fixed_of : S → F) 
     pub seat : ℕ → ℕ
     pub one_word : length s.words ≡ 1
     pub few : top ≤ about.seats
-    pub makers : All (λ m. m.maker ≤ top) story
+    pub makers : AllMadeUpTo top story
     pub views : (at : ℕ) (v : Known E F) → get_elem? s.views at ≡ some v → FitsView story (fixed_of about.state.value) top seat (slice_index s.words 0) at v
     pub home : slice_index s.words 0 ≡ 0 → (x : S) × (get_elem? s.homes 0 ≡ some (some (Some x))) × (story_of x ≡ story) × (fixed_of x ≡ fixed_of about.state.value)
     pub out : 0 < slice_index s.words 0 → (at : ℕ) × (v : Known E F) × (get_elem? s.views at ≡ some v) × (v.holds ≡ true)

@@ -1,7 +1,7 @@
 //! The lock.
 ghost use Rattle.std.specs.Prelude.{◌≡◌, ◌+◌, ◌<◌, ◌≤◌, List, [], ◌∷◌, ◌++◌, ◌↔◌, Some, All, Contains, IfOk, IfErr, OnOk, IsTrue, MatchOption, vec_capacity, vec_len};
 ghost use Rattle.turn_lock.specs.Passes.{IsPassOf, AreDealt, HasEach, IsLeastMissing, Tells, numbers, own_steps};
-ghost use Rattle.turn_lock.specs.Stories.{BeginsWith, RestsFor, IsAddedBy, made_by};
+ghost use Rattle.turn_lock.specs.Stories.{BeginsWith, RestsFor, IsAddedBy, AllMadeUpTo, made_by};
 ghost use Rattle.turn_lock.specs.Turns.{front, resting, dealing, pass_view, fixed_first, seen_first, IsAtRest, IsOut, Won, Holds, HasFronts};
 ghost use Rattle.turn_lock.specs.declared.story.Made.{Made};
 
@@ -167,6 +167,7 @@ impl<S: Story> TurnLock<S> {
         ensures fixed { IfOk result (λ x. All (λ p. S.fixed x ≡ p.fixed) passes.items) }
         ensures front { IfOk result (λ x. All (λ p. BeginsWith (S.story x) p.front) passes.items) }
         ensures own { IfOk result (λ x. All (λ p. made_by p.number (S.story x) ≡ own_steps p) passes.items) }
+        ensures makers { IfOk result (λ x. AllMadeUpTo self.seats (S.story x)) }
         ensures missing { IfErr result (λ e. IsLeastMissing self passes.items e.missing) }
         ensures back { IfErr result (λ e. (e.lock ≡ self) × (e.passes.items ≡ passes.items)) }
     {
@@ -197,7 +198,8 @@ impl<S: Story> TurnLock<S> {
     fn finish(self, passes: Vec<Pass<S>>) -> S
         requires of { All (IsPassOf self) passes.items }
         requires each { (0 < self.seats) × HasEach self passes.items }
-        ensures { All (Tells (S.fixed result) (S.story result)) passes.items }
+        ensures tells { All (Tells (S.fixed result) (S.story result)) passes.items }
+        ensures makers { AllMadeUpTo self.seats (S.story result) }
     {
         let seat = self.gather(passes);
         let TurnLock { table, seats: _ } = self;

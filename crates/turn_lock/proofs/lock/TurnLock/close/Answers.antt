@@ -13,10 +13,10 @@ pub returns-clause-each : goal.returns-clause-each
 returns-clause-each g c = subst (λ ps. HasEach c.args.self ps) c.as_slice.ensures.value c.in_default.ensures.missing
 
 pub returns-clause-fixed : goal.returns-clause-fixed
-returns-clause-fixed g c = tells_fixed _ _ c.args.passes.items c.finish.ensures
+returns-clause-fixed g c = tells_fixed _ _ c.args.passes.items c.finish.ensures.tells
 
 pub returns-clause-front : goal.returns-clause-front
-returns-clause-front g c = tells_front _ _ c.args.passes.items c.finish.ensures
+returns-clause-front g c = tells_front _ _ c.args.passes.items c.finish.ensures.tells
 
 pub returns-clause-own : goal.returns-clause-own
-returns-clause-own g c = tells_own _ _ c.args.passes.items c.finish.ensures
+returns-clause-own g c = tells_own _ _ c.args.passes.items c.finish.ensures.tells
