@@ -1,6 +1,6 @@
 -- Stories: what goes on from a front, and what one maker made.
 use Rattle.std.proofs.Common.{◌≡◌, ◌≢◌, ℕ, ◌<◌, ◌≤◌, List, [], ◌∷◌, ◌++◌, eqb, true, false, refl, sym, ap, ◌∙◌, arith, append_assoc, eq-eqb, ne_eqb, All, zero, suc, map, length, get_or, Some}
-use Rattle.std.specs.Prelude.{slice_get}
+use Rattle.std.specs.Prelude.{slice_get, Result, Ok, Err, OnOk, OnErr}
 use Rattle.std.proofs.lemmas.List.{append_cancel_right}
 use Rattle.std.proofs.lemmas.List.Elements.{filter-append, All-nil, All-cons, All-head, All-tail, All-append, All-weaker, All-same}
 use Rattle.turn_lock.specs.declared.story.Made.{Made}
@@ -57,6 +57,11 @@ module _ {E : Type 0} where
 
   pub added_one : (n : ℕ) (e : E) (story : List (Made E)) → IsAddedBy n (made n e ∷ story) story
   added_one n e story = (made n e ∷ [], refl, All-cons (λ m. m.maker ≡ n) (made n e) [] refl (All-nil (λ m. m.maker ≡ n)))
+
+  -- one step more, or none where memory was refused
+  pub added_or_refused : {X : Type 0} (added : Result (Unit {0}) X) (n : ℕ) (e : E) (after story : List (Made E)) → OnOk added (after ≡ made n e ∷ story) → OnErr added (after ≡ story) → IsAddedBy n after story
+  added_or_refused (Ok done) n e after story grown same = rw grown (added_one n e story)
+  added_or_refused (Err refusal) n e after story grown same = rw same (added_none n story)
 
   -- what n added is of n
   pub added_own : (n : ℕ) (story front added : List (Made E)) → IsAddedBy n story front → story ≡ added ++ front → made_by n story ≡ added ++ made_by n front

@@ -6,6 +6,7 @@
 #![tactic(auto)]
 
 pub mod lock;
+pub mod log;
 pub mod pass;
 pub mod story;
 #[cfg(test)]
@@ -13,5 +14,6 @@ mod tests;
 pub mod turns;
 
 pub use lock::{CloseRefused, TurnLock};
+pub use log::{Log, add_step};
 pub use pass::{Held, Pass, Turn};
 pub use story::{Made, Story};

@@ -1,71 +1,24 @@
-ghost use Rattle.std.specs.Prelude.{◌≡◌, ◌≤◌, ◌++◌, ◌∷◌, [], IfOk};
+ghost use Rattle.std.specs.Prelude.{◌≡◌, ◌++◌, ◌∷◌, [], IfOk};
 ghost use Rattle.turn_lock.specs.Passes.{IsPassOf};
-ghost use Rattle.turn_lock.specs.Stories.{IsAddedBy};
 
-use crate::{CloseRefused, Made, Pass, Story, TurnLock};
+use crate::{CloseRefused, Log, Pass, Story, TurnLock, add_step};
 use std::alloc::{AllocError, Global};
-use std::collections::VecDeque;
 use std::sync::Wait;
 use std::test::Fail;
 use std::thread;
 
-/// Its steps say nothing but who made them, the newest first. No step changes the title.
-#[derive(Drop)]
-struct Log {
-    title: u32,
-    made: VecDeque<Made<()>>,
-}
-
-impl Story for Log {
-    type Step = ();
-
-    type Fixed = u32;
-
-    ghost story = { λ l. l.made.items };
-
-    ghost fixed = { λ l. l.title };
-
-    ghost any_fixed = { 0 };
-
-    fn steps(&self) -> u64 {
-        self.made.len() as u64
-    }
-
-    fn maker(&self, k: u64) -> u32 {
-        self.made[self.made.len() - k as usize].maker
-    }
-}
-
-impl Log {
-    fn new(alloc: Global, title: u32) -> Log
-        ensures { (result.title ≡ title) × (result.made.items ≡ []) }
-    {
-        Log {
-            title,
-            made: VecDeque::new(alloc),
+// How many steps of the log are of this maker.
+fn count(log: &Log, maker: u32) -> u64 {
+    let mut count = 0;
+    for k in 0..log.steps() {
+        if log.maker(k + 1) == maker {
+            count += 1;
         }
     }
-
-    fn add(&mut self, maker: u32) -> Result<(), AllocError>
-        ensures title { self.new.title ≡ self.old.title }
-        ensures added { IsAddedBy maker self.new.made.items self.old.made.items }
-    {
-        self.made.push_front(Made { maker, step: () })?;
-        Ok(())
-    }
-
-    fn count(&self, maker: u32) -> u64 {
-        let mut count = 0;
-        for k in 0..self.steps() {
-            if self.maker(k + 1) == maker {
-                count += 1;
-            }
-        }
-        count
-    }
+    count
 }
 
-// Takes the turn, adds a step and gives it back, so many times.
+// Adds so many steps, one a turn.
 fn work<R: Wait>(
     rt: &R,
     lock: &TurnLock<Log>,
@@ -76,10 +29,8 @@ fn work<R: Wait>(
     ensures { IfOk result (λ p. IsPassOf lock.now p) }
 {
     for _ in 0..times {
-        let mut held = lock.take(rt, pass);
-        let number = held.number();
-        let added = held.state().add(number);
-        pass = lock.give(held);
+        let (back, added) = add_step(rt, lock, pass);
+        pass = back;
         added?;
     }
     Ok(pass)
@@ -110,7 +61,7 @@ fn a_lock_closes_with_all_its_passes_alone(rt: HostRuntime) -> Result<(), Fail> 
     let Ok(log) = lock.close(with(passes, two)?) else {
         return Err(Fail::new("refused all passes"));
     };
-    assert_eq!(rt; (log.steps(), log.title), (0, 7));
+    assert_eq!(rt; (log.steps(), log.title()), (0, 7));
     Ok(())
 }
 
@@ -130,7 +81,7 @@ fn two_threads_make_a_thousand_steps_each(rt: HostRuntime) -> Result<(), Fail> {
         return Err(Fail::new("refused all passes"));
     };
     assert_eq!(rt;
-        (log.steps(), log.count(1), log.count(2)),
+        (log.steps(), count(&log, 1), count(&log, 2)),
         (2000, 1000, 1000)
     );
     Ok(())

@@ -1,6 +1,6 @@
 use Rattle.std.proofs.Common.{rules, ◌≡◌, ◌-◌, ◌<◌, length, get_or, ap, ◌∙◌, arith}
 use Rattle.turn_lock.proofs.Stories.{maker_at}
-use Rattle.turn_lock.proofs.tests.LogStory.maker.Goals as goal
+use Rattle.turn_lock.proofs.log.LogStory.maker.Goals as goal
 
 pub returns : goal.returns
 returns c =
