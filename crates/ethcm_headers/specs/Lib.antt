@@ -2,3 +2,4 @@ pub mod Headers
 pub mod Packets
 pub mod Chains
 pub mod Laws
+pub mod Failures

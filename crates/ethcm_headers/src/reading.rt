@@ -24,6 +24,11 @@ pub enum ReadError {
 }
 
 impl fmt::Display for ReadError {
+    ghost use Rattle.std.specs.Prelude.{Some};
+    ghost use Rattle.ethcm_headers.specs.Failures.{error_text};
+
+    ghost output = { λ error. Some (error_text error) };
+
     fn fmt<W: fmt::Write>(&self, f: &mut fmt::Formatter<W>) -> fmt::Result {
         f.write_str(match self {
             ReadError::Bad => "not a packet",
