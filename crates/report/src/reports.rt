@@ -20,6 +20,11 @@ pub enum ReportError {
 }
 
 impl fmt::Display for ReportError {
+    ghost use Rattle.std.specs.Prelude.{Some};
+    ghost use Rattle.report.specs.Failures.{report_error_text};
+
+    ghost output = { λ error. Some (report_error_text error) };
+
     fn fmt<W: fmt::Write>(&self, f: &mut fmt::Formatter<W>) -> fmt::Result {
         f.write_str(match self {
             ReportError::WriteFault => "write fault",
