@@ -7,3 +7,6 @@ mod asking;
 mod fillings;
 
 pub use asking::{Ask, Mind};
+
+#[cfg(test)]
+mod tests;
