@@ -1,15 +1,13 @@
 //! The top call: words, script, run, text.
 
-ghost use Rattle.std.specs.Prelude.{◌≡◌, ◌⊎◌, ℕ, List, Option, Some, true, false, [], IfOk, IfErr, OnOk, IfSome, Ok};
+ghost use Rattle.std.specs.Prelude.{◌≡◌, ◌⊎◌, ℕ, List, Some, true, false, [], IfOk, IfErr, OnOk, IfSome, Ok};
 ghost use Rattle.std.specs.List.{list_all};
 ghost use Rattle.linx_outside.specs.Counts.{HasFaulted, NeverFalls};
 ghost use Rattle.linx_outside.specs.Told.{appended, AppendsFront, HasNothingLeft};
 ghost use Rattle.journal.specs.Laws.{IsLegal};
 ghost use Rattle.journal.specs.Logs.{is_full};
-ghost use Rattle.journal.specs.History.{has_ended};
 ghost use Rattle.journal_text.specs.Text.{text_of};
 ghost use Rattle.script_lang.specs.Reading.{script_of};
-ghost use Rattle.actor_run.specs.Following.{Follows, FollowsWhole};
 ghost use Rattle.linx_sim.specs.CommandLine.{IsRun};
 ghost use Rattle.linx_sim.specs.Runs.{is_first_path, IsAnswerTo, IsCaused, IsBuilt, IsDoneOrRefused, IsUsageOrRefused, TakesAtMost, is_of_whole, is_silent, is_unfaulted};
 ghost use Rattle.linx_sim.specs.Turns.{IsAlone, IsPlayed, IsUnread, lone_shape, is_of_writing, is_sized, read_status, script_status, stop_status};
