@@ -1,13 +1,13 @@
 use Rattle.std.specs.Prelude.{ℕ, ◌≡◌, Bool, true, false, ◌&&◌, nat_le, List, [], ◌∷◌, length, slice_get, Option, Some, None}
 use Rattle.linx_base.specs.declared.identity.Inc.{Inc}
 use Rattle.linx_base.specs.declared.identity.Peer.TheVariants.{Here}
-use Rattle.linx_base.specs.declared.signaling.SigNote.{SigNote}
-use Rattle.journal.specs.declared.events.Event.{Event}
-use Rattle.journal.specs.declared.events.Event.TheVariants as asks
-use Rattle.script_lang.specs.declared.commands.Command.{Command}
-use Rattle.script_lang.specs.declared.commands.Command.TheVariants.{Open, Close, Send, Recv}
-use Rattle.script_lang.specs.declared.commands.Target.{Target}
-use Rattle.script_lang.specs.declared.commands.Target.TheVariants.{Me, Last, Kept}
+use Rattle.linx_base.specs.declared.signal.SigNote.{SigNote}
+use Rattle.journal.specs.declared.event.Event.{Event}
+use Rattle.journal.specs.declared.event.Event.TheVariants as asks
+use Rattle.script_lang.specs.declared.command.Command.{Command}
+use Rattle.script_lang.specs.declared.command.Command.TheVariants.{Open, Close, Send, Recv}
+use Rattle.script_lang.specs.declared.command.Target.{Target}
+use Rattle.script_lang.specs.declared.command.Target.TheVariants.{Me, Last, Kept}
 use Rattle.script_lang.specs.Fits.{fits_data}
 use Rattle.script_lang.specs.Parts.{data_of}
 

@@ -1,12 +1,12 @@
 use Rattle.std.specs.Prelude.{ℕ, ◌≡◌, ◌+◌, Bool, true, List, [], ◌∷◌, length, count_by, slice_get, Option, Some, None, IsTrue}
 use Rattle.linx_base.specs.declared.identity.Inc.{Inc}
 use Rattle.linx_base.specs.declared.identity.Peer.TheVariants.{Here}
-use Rattle.journal.specs.declared.heads.Head.{Head}
-use Rattle.journal.specs.declared.heads.Head.TheVariants as heads
-use Rattle.journal.specs.declared.happenings.Step.{Step}
+use Rattle.journal.specs.declared.head.Head.{Head}
+use Rattle.journal.specs.declared.head.Head.TheVariants as heads
+use Rattle.journal.specs.declared.effect.Step.{Step}
 use Rattle.journal.specs.History.{is_by, last_endpoint}
-use Rattle.script_lang.specs.declared.commands.Command.{Command}
-use Rattle.script_lang.specs.declared.commands.Command.TheVariants.{Open, Close, Send, Recv}
+use Rattle.script_lang.specs.declared.command.Command.{Command}
+use Rattle.script_lang.specs.declared.command.Command.TheVariants.{Open, Close, Send, Recv}
 use Rattle.script_lang.specs.Parts.{data_of}
 use Rattle.actor_run.specs.Asks.{signal_of}
 

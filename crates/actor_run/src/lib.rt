@@ -3,10 +3,10 @@
 //! opens an endpoint, closes it, sends a new signal to itself, or receives.
 #![tactic(auto)]
 
-mod asking;
 mod fillings;
+mod mind;
 
-pub use asking::{Ask, Mind};
+pub use mind::{Ask, Mind};
 
 #[cfg(test)]
 mod tests;

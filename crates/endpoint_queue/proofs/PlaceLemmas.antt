@@ -4,7 +4,7 @@ use Rattle.std.specs.List.{All, AllPairs}
 use Rattle.std.specs.List.Sorted.{IsPartitionPoint, IsPartitionedBy}
 use Rattle.std.proofs.lemmas.Bool.Decides.{nat_tests}
 use Rattle.std.proofs.lemmas.List.{get_or_default}
-use Rattle.endpoint_queue.specs.declared.places.Place.{Place}
+use Rattle.endpoint_queue.specs.declared.place.Place.{Place}
 use Rattle.endpoint_queue.specs.Places.{IsBefore, is_before, IsFirstTicket, IsLeastTicket, is_listed, lower_of}
 
 -- the order of places by its test

@@ -1,5 +1,5 @@
 use Rattle.std.specs.Prelude.{ℕ, List}
-use Rattle.endpoint_queue.specs.declared.places.Place.{Place}
+use Rattle.endpoint_queue.specs.declared.place.Place.{Place}
 
 -- what an index is seen as: its places in order, and room for how many more
 pub record IndexContent : Type 0 where

@@ -1,8 +1,8 @@
 use Rattle.std.specs.Prelude.{◌≡◌, ◌≢◌, ℕ, ◌<◌, ◌≤◌, ◌⊎◌, Bool, true, false, ◌&&◌, ◌||◌, ◌==◌, nat_lt, min, List, [], ◌∷◌, length, Option, Some, None}
 use Rattle.std.specs.List.{All, AllPairs, Any, Contains, list_any}
 use Rattle.std.specs.List.Sorted.{IsPermutation}
-use Rattle.endpoint_queue.specs.declared.items.Item.{Item}
-use Rattle.endpoint_queue.specs.declared.places.Place.{Place}
+use Rattle.endpoint_queue.specs.declared.item.Item.{Item}
+use Rattle.endpoint_queue.specs.declared.place.Place.{Place}
 
 -- the place of each item: its signal's number, and the ticket beside it
 abbrev pub places_of : List Item → List ℕ → List Place

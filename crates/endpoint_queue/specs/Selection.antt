@@ -2,10 +2,10 @@ use Rattle.std.specs.Prelude.{Bool, false, ◌==◌, List, Option}
 use Rattle.linx_base.specs.FirstMatch.{first_match, without_match}
 use Rattle.linx_base.specs.declared.identity.AttRef.{AttRef}
 use Rattle.sigsel.specs.Selects.{selects}
-use Rattle.sigsel.specs.declared.filters.Sigsel.{Sigsel}
-use Rattle.endpoint_queue.specs.declared.items.Item.{Item}
-use Rattle.endpoint_queue.specs.declared.items.Kind.{Kind}
-use Rattle.endpoint_queue.specs.declared.items.Kind.TheVariants.{Plain, Found, Notice}
+use Rattle.sigsel.specs.declared.sigsel.Sigsel.{Sigsel}
+use Rattle.endpoint_queue.specs.declared.item.Item.{Item}
+use Rattle.endpoint_queue.specs.declared.item.Kind.{Kind}
+use Rattle.endpoint_queue.specs.declared.item.Kind.TheVariants.{Plain, Found, Notice}
 
 -- a filter selects an item by its signal's number
 abbrev pub is_selected : Sigsel → Item → Bool

@@ -4,13 +4,13 @@
 //! places by number and ticket, so that a receive of some numbers looks at no other item.
 #![tactic(auto)]
 
-mod indexing;
-mod items;
-mod places;
-mod queueing;
+mod index;
+mod item;
+mod place;
+mod queue;
 #[cfg(test)]
 mod tests;
 
-pub use items::{Item, Kind};
-pub use places::Place;
-pub use queueing::Queue;
+pub use item::{Item, Kind};
+pub use place::Place;
+pub use queue::Queue;

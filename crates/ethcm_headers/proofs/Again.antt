@@ -4,8 +4,8 @@ use Rattle.std.proofs.lemmas.Bool.{le-ltb}
 use Rattle.std.proofs.lemmas.List.{length-append}
 use Rattle.byteorder.specs.Endian.{big_bytes}
 use Rattle.byteorder.specs.Numbers.{big_number-reads_back}
-use Rattle.linx_base.specs.declared.framing.ConnKind.{ConnKind}
-use Rattle.linx_base.specs.declared.framing.ConnKind.TheVariants as kinds
+use Rattle.linx_base.specs.declared.frame.ConnKind.{ConnKind}
+use Rattle.linx_base.specs.declared.frame.ConnKind.TheVariants as kinds
 use Rattle.ethcm_headers.specs.declared.chains.Chain.{Chain}
 use Rattle.ethcm_headers.specs.declared.chains.Chain.TheVariants.{Conn, Ack, Nack, First, Next}
 use Rattle.ethcm_headers.specs.declared.chains.Headers.{Headers}

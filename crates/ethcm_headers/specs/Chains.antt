@@ -1,9 +1,9 @@
 -- Packets taken apart into their headers and the payload behind them.
 use Rattle.std.specs.Prelude.{◌≡◌, ℕ, ◌^◌, ◌<◌, ◌==◌, nat_lt, List, [], ◌++◌, length, drop, slice_index, if◌then◌else◌, Option, Some, None}
 use Rattle.byteorder.specs.Endian.{big_number}
-use Rattle.linx_base.specs.declared.framing.ConnKind.{ConnKind}
-use Rattle.linx_base.specs.declared.framing.ConnKind.TheVariants as kinds
-use Rattle.linx_base.specs.declared.framing.Frame.TheVariants as frames
+use Rattle.linx_base.specs.declared.frame.ConnKind.{ConnKind}
+use Rattle.linx_base.specs.declared.frame.ConnKind.TheVariants as kinds
+use Rattle.linx_base.specs.declared.frame.Frame.TheVariants as frames
 use Rattle.ethcm_headers.specs.declared.packets.Packet.{Packet}
 use Rattle.ethcm_headers.specs.declared.packets.Part.{Part}
 use Rattle.ethcm_headers.specs.declared.packets.Part.TheVariants as parts

@@ -1,8 +1,8 @@
 -- The bytes of each header. Numbers stand with their highest byte first.
 use Rattle.std.specs.Prelude.{ℕ, Bool, List, [], ◌∷◌, ◌++◌, if◌then◌else◌}
 use Rattle.byteorder.specs.Endian.{big_bytes}
-use Rattle.linx_base.specs.declared.framing.ConnKind.{ConnKind}
-use Rattle.linx_base.specs.declared.framing.ConnKind.TheVariants.{Connect, ConnectAck, Ack, Reset}
+use Rattle.linx_base.specs.declared.frame.ConnKind.{ConnKind}
+use Rattle.linx_base.specs.declared.frame.ConnKind.TheVariants.{Connect, ConnectAck, Ack, Reset}
 
 -- MAIN: the version, the next header's type, the packet's length, and the sessions of sender and receiver
 unfoldable pub main_header : ℕ → ℕ → ℕ → ℕ → List ℕ

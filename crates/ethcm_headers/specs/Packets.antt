@@ -1,8 +1,8 @@
 -- Which packets there are, and the bytes that spell each.
 use Rattle.std.specs.Prelude.{◌≡◌, ℕ, ◌+◌, ◌^◌, ◌<◌, ◌≤◌, ◌↔◌, List, ◌++◌, length, MatchBool}
-use Rattle.linx_base.specs.declared.framing.ConnKind.TheVariants.{Connect}
-use Rattle.linx_base.specs.declared.framing.Frame.{Frame}
-use Rattle.linx_base.specs.declared.framing.Frame.TheVariants.{First, Next}
+use Rattle.linx_base.specs.declared.frame.ConnKind.TheVariants.{Connect}
+use Rattle.linx_base.specs.declared.frame.Frame.{Frame}
+use Rattle.linx_base.specs.declared.frame.Frame.TheVariants.{First, Next}
 use Rattle.ethcm_headers.specs.declared.packets.Packet.{Packet}
 use Rattle.ethcm_headers.specs.declared.packets.Part.{Part}
 use Rattle.ethcm_headers.specs.declared.packets.Part.TheVariants.{Conn, Ack, Nack, Piece}

@@ -1,7 +1,7 @@
 //! The bounds of a packet that is taken apart into headers and payload.
 
 ghost use Rattle.std.specs.Prelude.{◌≡◌, ◌<◌, ◌≤◌, ◌↔◌, [], length, IsTrue, MatchBool};
-ghost use Rattle.linx_base.specs.declared.framing.ConnKind.TheVariants.{Connect};
+ghost use Rattle.linx_base.specs.declared.frame.ConnKind.TheVariants.{Connect};
 ghost use Rattle.ethcm_headers.specs.declared.packets.Part.TheVariants.{Conn};
 ghost use Rattle.ethcm_headers.specs.Packets.{IsPayload, IsPart, IsWithinBounds};
 ghost use Rattle.ethcm_headers.specs.Chains.{StandsBehind, part_with, packet_with};

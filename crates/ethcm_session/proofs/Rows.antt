@@ -1,7 +1,7 @@
 use Rattle.std.proofs.Common.{◌≡◌, ◌≢◌, ℕ, ◌<◌, ◌≤◌, ◌↔◌, Bool, true, false, Option, None, Some, eqb, ltb, refl, sym, ap, subst, ◌⊎◌, inl, inr, arith}
 use Rattle.linx_base.specs.declared.identity.Session.{Session}
-use Rattle.linx_base.specs.declared.framing.ConnKind.{ConnKind}
-use Rattle.linx_base.specs.declared.framing.ConnKind.TheVariants.{Connect, ConnectAck, Ack, Reset}
+use Rattle.linx_base.specs.declared.frame.ConnKind.{ConnKind}
+use Rattle.linx_base.specs.declared.frame.ConnKind.TheVariants.{Connect, ConnectAck, Ack, Reset}
 use Rattle.ethcm_session.specs.declared.standing.Standing.{Standing}
 use Rattle.ethcm_session.specs.declared.standing.Standing.TheVariants.{Connecting, Up}
 use Rattle.ethcm_session.specs.declared.standing.TalkState.{TalkState}

@@ -1,7 +1,7 @@
 use Rattle.std.specs.Prelude.{◌≡◌, ◌≢◌, ℕ, ◌<◌, ◌==◌, nat_lt, if◌then◌else◌, Bool, true, false, Option, None, Some}
 use Rattle.linx_base.specs.declared.identity.Session.{Session}
-use Rattle.linx_base.specs.declared.framing.ConnKind.{ConnKind}
-use Rattle.linx_base.specs.declared.framing.ConnKind.TheVariants.{Connect, ConnectAck, Ack, Reset}
+use Rattle.linx_base.specs.declared.frame.ConnKind.{ConnKind}
+use Rattle.linx_base.specs.declared.frame.ConnKind.TheVariants.{Connect, ConnectAck, Ack, Reset}
 use Rattle.ethcm_session.specs.declared.standing.Standing.{Standing}
 use Rattle.ethcm_session.specs.declared.standing.Standing.TheVariants.{Connecting, Up}
 use Rattle.ethcm_session.specs.declared.standing.TalkState.{TalkState}

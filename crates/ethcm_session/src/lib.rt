@@ -4,10 +4,10 @@
 #![tactic(auto)]
 
 mod standing;
-mod talking;
+mod talk;
 
 pub use standing::{Change, Standing, TalkState};
-pub use talking::Talk;
+pub use talk::Talk;
 
 #[cfg(test)]
 mod tests;

@@ -5,7 +5,7 @@ use Rattle.std.proofs.lemmas.Bool.{ltb-true, ltb-false, eq-eqb, lt-ltb}
 use Rattle.std.proofs.lemmas.List.{get_or_default, drop_more, drop_all}
 use Rattle.std.proofs.Math.Dec.{lit≤}
 use Rattle.std.proofs.lemmas.Bool.Decides.{nat_tests, eqb_tells}
-use Rattle.linx_base.specs.declared.framing.SentFrame.{SentFrame}
+use Rattle.linx_base.specs.declared.frame.SentFrame.{SentFrame}
 use Rattle.ethcm_window.specs.Receiving.{RisesWithin, KeepsInOrder, has_number, is_kept, kept_at, kept_below, kept_above, kept_with, count_of, distance, CountsMissing}
 
 -- the tests of two numbers

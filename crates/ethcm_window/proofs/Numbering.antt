@@ -2,8 +2,8 @@ use Rattle.std.proofs.Common.{◌≡◌, ℕ, zero, suc, ◌+◌, ◌-◌, ◌<�
 use Rattle.std.proofs.lemmas.List.{take_more, take_all, take-take, take_min, drop_at, drop_all, drop-drop, length-take, length-drop, get_or-drop}
 use Rattle.std.proofs.lemmas.Bool.Decides.{nat_tests}
 use Rattle.linx_base.specs.declared.memory.NoMemory.{NoMemory}
-use Rattle.linx_base.specs.declared.framing.Frame.{Frame}
-use Rattle.linx_base.specs.declared.framing.SentFrame.{SentFrame}
+use Rattle.linx_base.specs.declared.frame.Frame.{Frame}
+use Rattle.linx_base.specs.declared.frame.SentFrame.{SentFrame}
 use Rattle.ethcm_window.specs.Sending.{Sender, numbered, from_number, sent_of, coming_in, sent_again}
 
 pub numbered-nil : (n m : ℕ) → numbered n [] ≡ numbered m []

@@ -1,10 +1,10 @@
 -- What a receiver is seen as, and what it does with a frame.
 use Rattle.std.specs.Prelude.{◌≡◌, ℕ, suc, ◌+◌, ◌-◌, ◌<◌, ◌≤◌, ◌==◌, nat_lt, min, if◌then◌else◌, Bool, true, false, List, [], ◌∷◌, ◌++◌, filter, find, option_map, Option}
 use Rattle.std.specs.List.{list_any}
-use Rattle.linx_base.specs.declared.framing.Frame.{Frame}
-use Rattle.linx_base.specs.declared.framing.SentFrame.{SentFrame}
-use Rattle.ethcm_window.specs.declared.receiving.Accept.{Accept}
-use Rattle.ethcm_window.specs.declared.receiving.Accept.TheVariants.{Taken, Early, Old}
+use Rattle.linx_base.specs.declared.frame.Frame.{Frame}
+use Rattle.linx_base.specs.declared.frame.SentFrame.{SentFrame}
+use Rattle.ethcm_window.specs.declared.rx.Accept.{Accept}
+use Rattle.ethcm_window.specs.declared.rx.Accept.TheVariants.{Taken, Early, Old}
 
 -- a receiver: the number that it expects, and the frames that came early and are kept, in order of
 -- their numbers

@@ -1,7 +1,7 @@
 -- What a sender is seen as, and which of its frames are in the window.
 use Rattle.std.specs.Prelude.{ℕ, suc, ◌+◌, ◌-◌, min, nat_le, ◌&&◌, if◌then◌else◌, List, [], ◌∷◌, length, take, drop, filter}
-use Rattle.linx_base.specs.declared.framing.Frame.{Frame}
-use Rattle.linx_base.specs.declared.framing.SentFrame.{SentFrame}
+use Rattle.linx_base.specs.declared.frame.Frame.{Frame}
+use Rattle.linx_base.specs.declared.frame.SentFrame.{SentFrame}
 
 -- a sender: its window in frames, the number of the first frame that isn't acknowledged, and the
 -- frames from it on

@@ -4,11 +4,11 @@
 #![tactic(auto)]
 
 mod copying;
-mod receiving;
-mod sending;
+mod rx;
+mod tx;
 
-pub use receiving::{Accept, Rx};
-pub use sending::Tx;
+pub use rx::{Accept, Rx};
+pub use tx::Tx;
 
 #[cfg(test)]
 mod tests;

@@ -10,24 +10,24 @@ use Rattle.linx_base.specs.declared.identity.Inc.{Inc}
 use Rattle.linx_base.specs.declared.identity.NodeNo.{NodeNo}
 use Rattle.linx_base.specs.declared.identity.Peer.{Peer}
 use Rattle.linx_base.specs.declared.identity.Peer.TheVariants.{Here, There}
-use Rattle.linx_base.specs.declared.signaling.SigNote.{SigNote}
-use Rattle.sigsel.specs.declared.filters.Sigsel.{Sigsel}
-use Rattle.journal.specs.declared.makers.By.{By}
-use Rattle.journal.specs.declared.makers.By.TheVariants.{Actor, Pump}
-use Rattle.journal.specs.declared.heads.Head.{Head}
-use Rattle.journal.specs.declared.heads.Head.TheVariants.{Open, Close, Send, Take, TakeNone, Ended}
-use Rattle.journal.specs.declared.happenings.Effect.TheVariants.{Opened, Closed, Arrived, Found, Notified}
-use Rattle.journal.specs.declared.heads.SentTo.TheVariants.{Dead}
-use Rattle.journal.specs.declared.happenings.Step.{Step}
+use Rattle.linx_base.specs.declared.signal.SigNote.{SigNote}
+use Rattle.sigsel.specs.declared.sigsel.Sigsel.{Sigsel}
+use Rattle.journal.specs.declared.by.By.{By}
+use Rattle.journal.specs.declared.by.By.TheVariants.{Actor, Pump}
+use Rattle.journal.specs.declared.head.Head.{Head}
+use Rattle.journal.specs.declared.head.Head.TheVariants.{Open, Close, Send, Take, TakeNone, Ended}
+use Rattle.journal.specs.declared.effect.Effect.TheVariants.{Opened, Closed, Arrived, Found, Notified}
+use Rattle.journal.specs.declared.head.SentTo.TheVariants.{Dead}
+use Rattle.journal.specs.declared.effect.Step.{Step}
 use Rattle.journal.specs.History.{is_by, opened_in, closes, endpoint_of, endpoint_by, openings, open_endpoints, next_inc, has_ended}
 use Rattle.journal.specs.Sessions.{is_alive}
 use Rattle.journal.specs.Queues.{Entry, removes, queued, is_selected, first_selected}
 use Rattle.journal.specs.Laws.{Shape, IsMaker, IsLegal, IsLegalStep, IsAtRest, HasEffects, KeepsSends, KeepsReceives, node_by, answer_to, arrivals_of}
 use Rattle.journal.proofs.Openings.{length-openings, same_inc-refl, same_inc-true, next_inc-not_closed, open_endpoints-open, next_inc-is_on, open_endpoints-close, open_endpoints-same, endpoint_of-open, endpoint_of-close, endpoint_of-same}
-use Rattle.endpoint_queue.specs.declared.items.Item.{Item}
+use Rattle.endpoint_queue.specs.declared.item.Item.{Item}
 use Rattle.endpoint_queue.specs.Selection.{is_selected as selects_item, first_selected as item_first, without_first}
 use Rattle.linx_base.specs.declared.identity.ItemAt.{ItemAt}
-use Rattle.journal.specs.declared.happenings.Effect.{Effect}
+use Rattle.journal.specs.declared.effect.Effect.{Effect}
 use Rattle.node_kernel.specs.Nodes.{OpenEndpoint, NodeState, is_at, items_of, is_open, is_living, items_at, with_items, without_endpoint, following_inc}
 use Rattle.node_kernel.specs.Calls.{after_open, after_send}
 use Rattle.fabric.specs.Remains.{item_of, node_left, only_node, IsOneActor, IsKept}

@@ -11,20 +11,20 @@ use Rattle.linx_base.specs.declared.identity.NodeNo.{NodeNo}
 use Rattle.linx_base.specs.declared.identity.Session.{Session}
 use Rattle.linx_base.specs.declared.identity.Peer.{Peer}
 use Rattle.linx_base.specs.declared.identity.Peer.TheVariants.{Here, There}
-use Rattle.linx_base.specs.declared.signaling.SigNote.{SigNote}
-use Rattle.sigsel.specs.declared.filters.Sigsel.{Sigsel}
-use Rattle.journal.specs.declared.heads.Head.{Head}
-use Rattle.journal.specs.declared.heads.Head.TheVariants.{Open, Take}
-use Rattle.journal.specs.declared.happenings.Effect.{Effect}
-use Rattle.journal.specs.declared.happenings.Effect.TheVariants.{Opened, Closed, Arrived, Found, Notified}
-use Rattle.journal.specs.declared.happenings.Step.{Step}
+use Rattle.linx_base.specs.declared.signal.SigNote.{SigNote}
+use Rattle.sigsel.specs.declared.sigsel.Sigsel.{Sigsel}
+use Rattle.journal.specs.declared.head.Head.{Head}
+use Rattle.journal.specs.declared.head.Head.TheVariants.{Open, Take}
+use Rattle.journal.specs.declared.effect.Effect.{Effect}
+use Rattle.journal.specs.declared.effect.Effect.TheVariants.{Opened, Closed, Arrived, Found, Notified}
+use Rattle.journal.specs.declared.effect.Step.{Step}
 use Rattle.journal.specs.History.{endpoint_by, effects_of, opened_in, closes, is_closed, openings, open_endpoints, next_inc}
 use Rattle.journal.specs.Sessions.{up_session, session_past, is_alive}
 use Rattle.journal.specs.Queues.{Entry, delivered, entries_in, removes, queued, is_selected, first_selected}
 use Rattle.journal.specs.Laws.{Shape, IsLegal, node_by}
 use Rattle.journal.proofs.Openings.{same_inc-refl, Makes, nothing, opening, closing, arriving, step_makes, next_inc-is_on, next_inc-no_items, next_inc-not_closed, open_endpoints-open, open_endpoints-close, open_endpoints-same}
 use Rattle.journal.proofs.Queueing.{queued-quiet, queued-more, queued-take, not_taken_before}
-use Rattle.endpoint_queue.specs.declared.items.Item.{Item}
+use Rattle.endpoint_queue.specs.declared.item.Item.{Item}
 use Rattle.endpoint_queue.specs.Selection.{is_selected as selects_item, first_selected as item_first, without_first}
 use Rattle.linx_base.specs.declared.identity.ItemAt.{ItemAt}
 use Rattle.std.specs.Option.{option_map}

@@ -3,18 +3,18 @@ use Rattle.std.proofs.Common.{◌≡◌, ℕ, ◌<◌, ◌+◌, List, [], ◌∷
 use Rattle.std.specs.Prelude.{IsSome}
 use Rattle.linx_base.specs.declared.identity.Inc.{Inc}
 use Rattle.linx_base.specs.declared.identity.Peer.{Peer}
-use Rattle.linx_base.specs.declared.signaling.SigNote.{SigNote}
-use Rattle.sigsel.specs.declared.filters.Sigsel.{Sigsel}
-use Rattle.journal.specs.declared.makers.By.{By}
-use Rattle.journal.specs.declared.makers.By.TheVariants.{Actor}
-use Rattle.journal.specs.declared.events.Event.{Event}
-use Rattle.journal.specs.declared.events.Event.TheVariants as asks
-use Rattle.journal.specs.declared.heads.Head.TheVariants as heads
-use Rattle.journal.specs.declared.happenings.Effect.TheVariants.{Opened, Closed}
-use Rattle.journal.specs.declared.happenings.Step.{Step}
+use Rattle.linx_base.specs.declared.signal.SigNote.{SigNote}
+use Rattle.sigsel.specs.declared.sigsel.Sigsel.{Sigsel}
+use Rattle.journal.specs.declared.by.By.{By}
+use Rattle.journal.specs.declared.by.By.TheVariants.{Actor}
+use Rattle.journal.specs.declared.event.Event.{Event}
+use Rattle.journal.specs.declared.event.Event.TheVariants as asks
+use Rattle.journal.specs.declared.head.Head.TheVariants as heads
+use Rattle.journal.specs.declared.effect.Effect.TheVariants.{Opened, Closed}
+use Rattle.journal.specs.declared.effect.Step.{Step}
 use Rattle.journal.specs.History.{endpoint_of, endpoint_by}
 use Rattle.journal.specs.Laws.{Shape, IsMaker, IsLegalStep, answer_to}
-use Rattle.endpoint_queue.specs.declared.items.Item.{Item}
+use Rattle.endpoint_queue.specs.declared.item.Item.{Item}
 use Rattle.endpoint_queue.specs.Selection.{first_selected as item_first}
 use Rattle.node_kernel.specs.Nodes.{NodeState, is_living, items_at, without_endpoint, following_inc}
 use Rattle.node_kernel.specs.Calls.{after_open, after_send}

@@ -5,17 +5,17 @@ use Rattle.linx_base.specs.Peers.{same_inc, is_on}
 use Rattle.linx_base.specs.declared.identity.Inc.{Inc}
 use Rattle.linx_base.specs.declared.identity.NodeNo.{NodeNo}
 use Rattle.linx_base.specs.declared.identity.Peer.TheVariants.{Here}
-use Rattle.journal.specs.declared.heads.Head.{Head}
-use Rattle.journal.specs.declared.heads.Head.TheVariants.{Open}
-use Rattle.journal.specs.declared.happenings.Effect.{Effect}
-use Rattle.journal.specs.declared.happenings.Effect.TheVariants.{Opened, Arrived, Found, Notified}
-use Rattle.journal.specs.declared.happenings.Step.{Step}
+use Rattle.journal.specs.declared.head.Head.{Head}
+use Rattle.journal.specs.declared.head.Head.TheVariants.{Open}
+use Rattle.journal.specs.declared.effect.Effect.{Effect}
+use Rattle.journal.specs.declared.effect.Effect.TheVariants.{Opened, Arrived, Found, Notified}
+use Rattle.journal.specs.declared.effect.Step.{Step}
 use Rattle.journal.specs.Logs.{Log}
 use Rattle.journal.specs.History.{endpoint_of, openings, open_endpoints}
 use Rattle.journal.specs.Queues.{Entry, queued}
 use Rattle.journal.specs.Laws.{Shape, IsLegal}
-use Rattle.endpoint_queue.specs.declared.items.Item.{Item}
-use Rattle.endpoint_queue.specs.declared.items.Kind.TheVariants.{Plain, Found as FoundBy, Notice}
+use Rattle.endpoint_queue.specs.declared.item.Item.{Item}
+use Rattle.endpoint_queue.specs.declared.item.Kind.TheVariants.{Plain, Found as FoundBy, Notice}
 use Rattle.node_kernel.specs.Nodes.{OpenEndpoint, NodeState}
 
 -- the item that an entry of a queue is, as a kernel holds it

@@ -4,9 +4,9 @@
 //! actor and no link as yet.
 #![tactic(auto)]
 
+mod fabric;
 mod makings;
-mod stepping;
-mod stops;
+mod stop;
 
-pub use stepping::Fabric;
-pub use stops::{StepStop, StopCause};
+pub use fabric::Fabric;
+pub use stop::{StepStop, StopCause};

@@ -2,9 +2,9 @@
 
 ghost use Rattle.std.specs.Prelude.{◌≡◌, ◌+◌, ◌<◌, true, [], ◌∷◌, length, IfOk, IfErr, OnOk, OnErr, IsTrue, Some, None};
 ghost use Rattle.linx_base.specs.declared.identity.Peer.TheVariants.{Here};
-ghost use Rattle.journal.specs.declared.heads.Head.TheVariants as heads;
-ghost use Rattle.journal.specs.declared.heads.SentTo.TheVariants as sent_to;
-ghost use Rattle.journal.specs.declared.happenings.Effect.TheVariants.{Opened, Closed, Arrived};
+ghost use Rattle.journal.specs.declared.head.Head.TheVariants as heads;
+ghost use Rattle.journal.specs.declared.head.SentTo.TheVariants as sent_to;
+ghost use Rattle.journal.specs.declared.effect.Effect.TheVariants.{Opened, Closed, Arrived};
 ghost use Rattle.node_kernel.specs.Nodes.{is_open, is_living, items_at, following_inc};
 ghost use Rattle.node_kernel.specs.Calls.{after_open, after_send};
 ghost use Rattle.endpoint_queue.specs.Selection.{first_selected, without_first};

@@ -2,12 +2,12 @@ use Rattle.std.proofs.Common.{◌≡◌, ◌≢◌, ℕ, ◌+◌, ◌≤◌, ◌
 use Rattle.std.specs.Prelude.{if◌then◌else◌}
 use Rattle.std.proofs.lemmas.Bool.{eqb-true, eqb-false, ltb-true, ltb-false}
 use Rattle.linx_base.specs.declared.memory.NoMemory.{NoMemory}
-use Rattle.linx_base.specs.declared.framing.Message.{Message}
-use Rattle.linx_base.specs.declared.framing.Frame.{Frame}
-use Rattle.linx_base.specs.declared.framing.Frame.TheVariants.{First, Next}
-use Rattle.fragmenter.specs.declared.joining.Begun.{Begun}
-use Rattle.fragmenter.specs.declared.joining.Joined.{Joined}
-use Rattle.fragmenter.specs.declared.joining.Joined.TheVariants.{More, Whole, Broken}
+use Rattle.linx_base.specs.declared.frame.Message.{Message}
+use Rattle.linx_base.specs.declared.frame.Frame.{Frame}
+use Rattle.linx_base.specs.declared.frame.Frame.TheVariants.{First, Next}
+use Rattle.fragmenter.specs.declared.joiner.Begun.{Begun}
+use Rattle.fragmenter.specs.declared.joiner.Joined.{Joined}
+use Rattle.fragmenter.specs.declared.joiner.Joined.TheVariants.{More, Whole, Broken}
 use Rattle.fragmenter.specs.Pieces.{has_more}
 use Rattle.fragmenter.specs.Joining.{answer_of, IsBroken, Misfits, message_of, judged}
 

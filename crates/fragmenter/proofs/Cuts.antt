@@ -3,9 +3,9 @@ use Rattle.std.proofs.lemmas.Bool.Decides.{eqb_tells}
 use Rattle.std.specs.List.{flat_map}
 use Rattle.std.proofs.lemmas.List.{take-append-drop, length-drop, length-take, append-nil}
 use Rattle.std.proofs.lemmas.List.Elements.{All-nil, All-cons}
-use Rattle.linx_base.specs.declared.framing.Message.{Message}
-use Rattle.linx_base.specs.declared.framing.Frame.{Frame}
-use Rattle.linx_base.specs.declared.framing.Frame.TheVariants.{First, Next}
+use Rattle.linx_base.specs.declared.frame.Message.{Message}
+use Rattle.linx_base.specs.declared.frame.Frame.{Frame}
+use Rattle.linx_base.specs.declared.frame.Frame.TheVariants.{First, Next}
 use Rattle.fragmenter.specs.Pieces.{payload_of, has_more, is_more, cut, followers, framed, pieces_of, GoesOn, AllButLast, IsMarked, IsCutInto}
 
 -- two numbers that differ fail the test

@@ -3,11 +3,11 @@ use Rattle.std.specs.Prelude.{if◌then◌else◌}
 use Rattle.std.specs.List.{flat_map}
 use Rattle.std.proofs.lemmas.Bool.{eq-eqb, lt-ltb}
 use Rattle.std.proofs.lemmas.List.{append-nil, length-take}
-use Rattle.linx_base.specs.declared.framing.Message.{Message}
-use Rattle.linx_base.specs.declared.framing.Frame.{Frame}
-use Rattle.linx_base.specs.declared.framing.Frame.TheVariants.{First, Next}
-use Rattle.fragmenter.specs.declared.joining.Begun.{Begun}
-use Rattle.fragmenter.specs.declared.joining.Joined.TheVariants.{More, Whole}
+use Rattle.linx_base.specs.declared.frame.Message.{Message}
+use Rattle.linx_base.specs.declared.frame.Frame.{Frame}
+use Rattle.linx_base.specs.declared.frame.Frame.TheVariants.{First, Next}
+use Rattle.fragmenter.specs.declared.joiner.Begun.{Begun}
+use Rattle.fragmenter.specs.declared.joiner.Joined.TheVariants.{More, Whole}
 use Rattle.fragmenter.specs.Pieces.{is_more, cut, followers, framed, pieces_of}
 use Rattle.fragmenter.specs.Joining.{answer_of, held_after, answers_to, held_after_all, whole_at_the_last}
 use Rattle.fragmenter.proofs.Cuts.{cut_first, joined-cut}

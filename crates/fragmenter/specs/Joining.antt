@@ -1,12 +1,12 @@
 use Rattle.std.specs.Prelude.{◌≢◌, ℕ, ◌+◌, ◌<◌, ◌≤◌, ◌==◌, nat_lt, if◌then◌else◌, Bool, true, false, Option, None, Some, List, [], ◌∷◌, ◌++◌, length}
 use Rattle.std.specs.Option.{ForSome}
-use Rattle.linx_base.specs.declared.framing.Message.{Message}
-use Rattle.linx_base.specs.declared.framing.Frame.{Frame}
-use Rattle.linx_base.specs.declared.framing.Frame.TheVariants.{First, Next}
+use Rattle.linx_base.specs.declared.frame.Message.{Message}
+use Rattle.linx_base.specs.declared.frame.Frame.{Frame}
+use Rattle.linx_base.specs.declared.frame.Frame.TheVariants.{First, Next}
 use Rattle.fragmenter.specs.Pieces.{has_more}
-use Rattle.fragmenter.specs.declared.joining.Begun.{Begun}
-use Rattle.fragmenter.specs.declared.joining.Joined.{Joined}
-use Rattle.fragmenter.specs.declared.joining.Joined.TheVariants.{More, Whole, Broken}
+use Rattle.fragmenter.specs.declared.joiner.Begun.{Begun}
+use Rattle.fragmenter.specs.declared.joiner.Joined.{Joined}
+use Rattle.fragmenter.specs.declared.joiner.Joined.TheVariants.{More, Whole, Broken}
 
 -- the message so far with the payload of a frame; none where a first frame comes inside a message
 -- or a next one outside

@@ -1,8 +1,8 @@
 use Rattle.std.specs.Prelude.{◌≡◌, ℕ, suc, zero, ◌≤◌, Bool, true, false, List, [], ◌∷◌, length, take, drop, All}
 use Rattle.std.specs.List.{flat_map}
-use Rattle.linx_base.specs.declared.framing.Message.{Message}
-use Rattle.linx_base.specs.declared.framing.Frame.{Frame}
-use Rattle.linx_base.specs.declared.framing.Frame.TheVariants.{First, Next}
+use Rattle.linx_base.specs.declared.frame.Message.{Message}
+use Rattle.linx_base.specs.declared.frame.Frame.{Frame}
+use Rattle.linx_base.specs.declared.frame.Frame.TheVariants.{First, Next}
 
 -- the bytes that a frame carries
 abbrev pub payload_of : Frame → List ℕ

@@ -4,12 +4,12 @@
 #![tactic(auto)]
 
 mod cutting;
-mod joining;
-mod promises;
+mod joiner;
+mod laws;
 
 pub use cutting::pieces;
-pub use joining::{Begun, Joined, Joiner};
-pub use promises::pieces_join;
+pub use joiner::{Begun, Joined, Joiner};
+pub use laws::pieces_join;
 
 #[cfg(test)]
 mod tests;

@@ -11,14 +11,14 @@ use Rattle.linx_base.specs.Peers.{same_inc, is_on}
 use Rattle.linx_base.specs.declared.identity.Inc.{Inc}
 use Rattle.linx_base.specs.declared.identity.Peer.{Peer}
 use Rattle.linx_base.specs.declared.identity.Peer.TheVariants.{Here, There}
-use Rattle.linx_base.specs.declared.signaling.SigNote.{SigNote}
-use Rattle.journal.specs.declared.makers.By.{By}
-use Rattle.journal.specs.declared.makers.By.TheVariants.{Actor, Pump}
-use Rattle.journal.specs.declared.heads.Head.{Head}
-use Rattle.journal.specs.declared.heads.Head.TheVariants.{Open, Close, Send, Take, TakeNone, Ended}
-use Rattle.journal.specs.declared.happenings.Effect.{Effect}
-use Rattle.journal.specs.declared.happenings.Effect.TheVariants.{Opened, Closed, Arrived}
-use Rattle.journal.specs.declared.happenings.Step.{Step}
+use Rattle.linx_base.specs.declared.signal.SigNote.{SigNote}
+use Rattle.journal.specs.declared.by.By.{By}
+use Rattle.journal.specs.declared.by.By.TheVariants.{Actor, Pump}
+use Rattle.journal.specs.declared.head.Head.{Head}
+use Rattle.journal.specs.declared.head.Head.TheVariants.{Open, Close, Send, Take, TakeNone, Ended}
+use Rattle.journal.specs.declared.effect.Effect.{Effect}
+use Rattle.journal.specs.declared.effect.Effect.TheVariants.{Opened, Closed, Arrived}
+use Rattle.journal.specs.declared.effect.Step.{Step}
 use Rattle.journal.specs.History.{effects_of, is_by, opened_in, closes, last_opened, last_endpoint, is_closed, if_not_closed, endpoint_of, endpoint_by, openings, open_endpoints, next_inc}
 use Rattle.journal.specs.Sessions.{is_alive}
 use Rattle.journal.specs.Queues.{Entry, entries_in, delivered, is_item_of}

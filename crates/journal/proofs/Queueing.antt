@@ -9,12 +9,12 @@ use Rattle.linx_base.specs.FirstMatch.{first_match, without_match}
 use Rattle.linx_base.specs.Peers.{same_position}
 use Rattle.linx_base.specs.declared.identity.Inc.{Inc}
 use Rattle.linx_base.specs.declared.identity.ItemAt.{ItemAt}
-use Rattle.sigsel.specs.declared.filters.Sigsel.{Sigsel}
-use Rattle.journal.specs.declared.heads.Head.{Head}
-use Rattle.journal.specs.declared.heads.Head.TheVariants.{Take, Detach}
-use Rattle.journal.specs.declared.makers.By.{By}
-use Rattle.journal.specs.declared.happenings.Effect.{Effect}
-use Rattle.journal.specs.declared.happenings.Step.{Step}
+use Rattle.sigsel.specs.declared.sigsel.Sigsel.{Sigsel}
+use Rattle.journal.specs.declared.head.Head.{Head}
+use Rattle.journal.specs.declared.head.Head.TheVariants.{Take, Detach}
+use Rattle.journal.specs.declared.by.By.{By}
+use Rattle.journal.specs.declared.effect.Effect.{Effect}
+use Rattle.journal.specs.declared.effect.Step.{Step}
 use Rattle.journal.specs.History.{endpoint_by}
 use Rattle.journal.specs.Laws.{Shape, HasEffects, KeepsReceives, IsLegal, node_by}
 use Rattle.journal.specs.Queues.{Entry, is_item_of, entries_in, delivered, removes, queued, is_selected, first_selected}

@@ -4,7 +4,7 @@ use Rattle.std.specs.Prelude.{◌==◌}
 use Rattle.std.specs.List.{slice_get}
 use Rattle.std.proofs.Math.Dec.{eqb-suc-suc, eqb-suc-zero, eqb-zero-suc}
 use Rattle.std.proofs.lemmas.List.{reverse-append, reverse-reverse, length-reverse}
-use Rattle.journal.specs.declared.happenings.Step.{Step}
+use Rattle.journal.specs.declared.effect.Step.{Step}
 use Rattle.journal.specs.Logs.{step_at}
 
 -- a list with one more at its end, read at a place

@@ -3,17 +3,17 @@ use Rattle.linx_base.specs.declared.identity.Inc.{Inc}
 use Rattle.linx_base.specs.declared.identity.NodeNo.{NodeNo}
 use Rattle.linx_base.specs.declared.identity.Peer.{Peer}
 use Rattle.linx_base.specs.declared.identity.Peer.TheVariants.{Here, There}
-use Rattle.linx_base.specs.declared.framing.LinkDecl.{LinkDecl}
-use Rattle.linx_base.specs.declared.signaling.SigNote.{SigNote}
-use Rattle.journal.specs.declared.makers.By.{By}
-use Rattle.journal.specs.declared.makers.By.TheVariants.{Actor, Pump}
-use Rattle.journal.specs.declared.heads.SentTo.{SentTo}
-use Rattle.journal.specs.declared.heads.SentTo.TheVariants.{Queued, Link, Dead}
-use Rattle.journal.specs.declared.heads.Head.{Head}
-use Rattle.journal.specs.declared.heads.Head.TheVariants.{Open, Close, Send, Take, TakeNone, Waits, Ended}
-use Rattle.journal.specs.declared.happenings.Effect.{Effect}
-use Rattle.journal.specs.declared.happenings.Effect.TheVariants.{Opened, Closed, Arrived}
-use Rattle.journal.specs.declared.happenings.Step.{Step}
+use Rattle.linx_base.specs.declared.frame.LinkDecl.{LinkDecl}
+use Rattle.linx_base.specs.declared.signal.SigNote.{SigNote}
+use Rattle.journal.specs.declared.by.By.{By}
+use Rattle.journal.specs.declared.by.By.TheVariants.{Actor, Pump}
+use Rattle.journal.specs.declared.head.SentTo.{SentTo}
+use Rattle.journal.specs.declared.head.SentTo.TheVariants.{Queued, Link, Dead}
+use Rattle.journal.specs.declared.head.Head.{Head}
+use Rattle.journal.specs.declared.head.Head.TheVariants.{Open, Close, Send, Take, TakeNone, Waits, Ended}
+use Rattle.journal.specs.declared.effect.Effect.{Effect}
+use Rattle.journal.specs.declared.effect.Effect.TheVariants.{Opened, Closed, Arrived}
+use Rattle.journal.specs.declared.effect.Step.{Step}
 use Rattle.journal.specs.History.{is_by, endpoint_of, endpoint_by, next_inc, has_ended}
 use Rattle.journal.specs.Sessions.{is_alive}
 use Rattle.journal.specs.Queues.{queued, first_selected}

@@ -1,12 +1,12 @@
 use Rattle.std.specs.Prelude.{ℕ, suc, ◌+◌, Bool, ◌||◌, ◌==◌, nat_le, List, [], ◌∷◌, length, Option, Some, None, if◌then◌else◌, sum_by}
 use Rattle.linx_base.specs.Content.{size_of}
-use Rattle.linx_base.specs.declared.naming.Names.{Names}
-use Rattle.journal.specs.declared.heads.Head.{Head}
-use Rattle.journal.specs.declared.heads.Head.TheVariants.{Send, Hunt, Attach}
-use Rattle.journal.specs.declared.happenings.Effect.{Effect}
-use Rattle.journal.specs.declared.happenings.Effect.TheVariants.{Arrived, Found, Notified}
-use Rattle.journal.specs.declared.happenings.Step.{Step}
-use Rattle.journal.specs.declared.book.TheConstants.{STEPS_MOST, SIGNAL_BYTES_MOST}
+use Rattle.linx_base.specs.declared.name.Names.{Names}
+use Rattle.journal.specs.declared.head.Head.{Head}
+use Rattle.journal.specs.declared.head.Head.TheVariants.{Send, Hunt, Attach}
+use Rattle.journal.specs.declared.effect.Effect.{Effect}
+use Rattle.journal.specs.declared.effect.Effect.TheVariants.{Arrived, Found, Notified}
+use Rattle.journal.specs.declared.effect.Step.{Step}
+use Rattle.journal.specs.declared.journal.TheConstants.{STEPS_MOST, SIGNAL_BYTES_MOST}
 
 -- what a journal says: the names of nodes and links, and the steps, the newest first
 pub record Log : Type 0 where

@@ -4,15 +4,15 @@ use Rattle.linx_base.specs.Peers.{same_inc, same_position}
 use Rattle.linx_base.specs.FirstMatch.{first_match}
 use Rattle.linx_base.specs.declared.identity.Inc.{Inc}
 use Rattle.linx_base.specs.declared.identity.ItemAt.{ItemAt}
-use Rattle.sigsel.specs.declared.filters.Sigsel.{Sigsel}
+use Rattle.sigsel.specs.declared.sigsel.Sigsel.{Sigsel}
 use Rattle.sigsel.specs.Selects.{selects}
-use Rattle.journal.specs.declared.heads.Head.{Head}
-use Rattle.journal.specs.declared.heads.Head.TheVariants.{Take, Detach}
-use Rattle.journal.specs.declared.heads.Detached.{Detached}
-use Rattle.journal.specs.declared.heads.Detached.TheVariants.{Pending, Queued, None as Neither}
-use Rattle.journal.specs.declared.happenings.Effect.{Effect}
-use Rattle.journal.specs.declared.happenings.Effect.TheVariants.{Arrived, Found, Notified}
-use Rattle.journal.specs.declared.happenings.Step.{Step}
+use Rattle.journal.specs.declared.head.Head.{Head}
+use Rattle.journal.specs.declared.head.Head.TheVariants.{Take, Detach}
+use Rattle.journal.specs.declared.head.Detached.{Detached}
+use Rattle.journal.specs.declared.head.Detached.TheVariants.{Pending, Queued, None as Neither}
+use Rattle.journal.specs.declared.effect.Effect.{Effect}
+use Rattle.journal.specs.declared.effect.Effect.TheVariants.{Arrived, Found, Notified}
+use Rattle.journal.specs.declared.effect.Step.{Step}
 
 -- an item of a queue: its position, and the effect that stands there
 pub record Entry : Type 0 where

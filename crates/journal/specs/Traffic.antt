@@ -3,14 +3,14 @@ use Rattle.std.specs.List.{filter_map}
 use Rattle.linx_base.specs.Peers.{same_inc, same_peer}
 use Rattle.linx_base.specs.declared.identity.Inc.{Inc}
 use Rattle.linx_base.specs.declared.identity.Peer.{Peer}
-use Rattle.linx_base.specs.declared.signaling.SigNote.{SigNote}
-use Rattle.journal.specs.declared.heads.Head.{Head}
-use Rattle.journal.specs.declared.heads.Head.TheVariants.{Send}
-use Rattle.journal.specs.declared.heads.SentTo.{SentTo}
-use Rattle.journal.specs.declared.heads.SentTo.TheVariants.{Queued, Link, Dead}
-use Rattle.journal.specs.declared.happenings.Effect.{Effect}
-use Rattle.journal.specs.declared.happenings.Effect.TheVariants.{Arrived}
-use Rattle.journal.specs.declared.happenings.Step.{Step}
+use Rattle.linx_base.specs.declared.signal.SigNote.{SigNote}
+use Rattle.journal.specs.declared.head.Head.{Head}
+use Rattle.journal.specs.declared.head.Head.TheVariants.{Send}
+use Rattle.journal.specs.declared.head.SentTo.{SentTo}
+use Rattle.journal.specs.declared.head.SentTo.TheVariants.{Queued, Link, Dead}
+use Rattle.journal.specs.declared.effect.Effect.{Effect}
+use Rattle.journal.specs.declared.effect.Effect.TheVariants.{Arrived}
+use Rattle.journal.specs.declared.effect.Step.{Step}
 use Rattle.journal.specs.History.{endpoint_by, effects_of}
 
 -- the signal went to a queue or a link

@@ -5,17 +5,17 @@
 //! every other list is oldest first.
 #![tactic(auto)]
 
-mod book;
-mod events;
-mod happenings;
-mod heads;
-mod makers;
+mod by;
+mod effect;
+mod event;
+mod head;
+mod journal;
 
-pub use book::Journal;
-pub use events::Event;
-pub use happenings::{Effect, Effects, Step};
-pub use heads::{Detached, Head, Refusal, SentTo};
-pub use makers::By;
+pub use by::By;
+pub use effect::{Effect, Effects, Step};
+pub use event::Event;
+pub use head::{Detached, Head, Refusal, SentTo};
+pub use journal::Journal;
 
 #[cfg(test)]
 mod tests;

@@ -3,8 +3,8 @@ use Rattle.std.proofs.Common.{◌≡◌, ℕ, List, ◌∷◌, ◌++◌, ◌∙�
 use Rattle.std.proofs.lemmas.List.{append-nil}
 use Rattle.std.specs.Prelude.{Option}
 use Rattle.linx_base.specs.declared.identity.Inc.{Inc}
-use Rattle.linx_base.specs.declared.naming.Names.{Names}
-use Rattle.journal.specs.declared.happenings.Step.{Step}
+use Rattle.linx_base.specs.declared.name.Names.{Names}
+use Rattle.journal.specs.declared.effect.Step.{Step}
 use Rattle.journal.specs.History.{endpoint_by}
 use Rattle.journal_text.specs.Histories.{first_steps}
 use Rattle.journal_text.specs.Blocks.{if_for, head_log, effect_logs, log_lines}

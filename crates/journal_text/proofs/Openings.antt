@@ -3,8 +3,8 @@ use Rattle.std.proofs.Common.{◌≡◌, ℕ, List, [], ◌∷◌, ◌++◌, fla
 use Rattle.std.specs.Prelude.{Option, Some}
 use Rattle.std.specs.List.{filter_map}
 use Rattle.linx_base.specs.declared.identity.Inc.{Inc}
-use Rattle.journal.specs.declared.happenings.Effect.{Effect}
-use Rattle.journal.specs.declared.happenings.Effect.TheVariants.{Opened}
+use Rattle.journal.specs.declared.effect.Effect.{Effect}
+use Rattle.journal.specs.declared.effect.Effect.TheVariants.{Opened}
 use Rattle.journal.specs.Logs.{Log}
 use Rattle.journal.specs.History.{last_opened, opened_in, effects_of}
 use Rattle.journal_text.specs.Blocks.{log_text, logs_text}

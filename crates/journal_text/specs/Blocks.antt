@@ -3,13 +3,13 @@ use Rattle.std.specs.Prelude.{ℕ, suc, zero, ◌/◌, ◌++◌, Bool, false, Li
 use Rattle.std.specs.List.{list_any}
 use Rattle.linx_base.specs.declared.identity.Inc.{Inc}
 use Rattle.linx_base.specs.declared.identity.ItemAt.{ItemAt}
-use Rattle.linx_base.specs.declared.naming.Names.{Names}
+use Rattle.linx_base.specs.declared.name.Names.{Names}
 use Rattle.linx_base.specs.Peers.{same_inc}
-use Rattle.journal.specs.declared.heads.Head.{Head}
-use Rattle.journal.specs.declared.heads.Head.TheVariants.{Open, Send, Take, TakeNone, Hunt, Attach, Detach}
-use Rattle.journal.specs.declared.happenings.Effect.{Effect}
-use Rattle.journal.specs.declared.happenings.Effect.TheVariants.{Opened, Closed, Arrived, Found, Notified}
-use Rattle.journal.specs.declared.happenings.Step.{Step}
+use Rattle.journal.specs.declared.head.Head.{Head}
+use Rattle.journal.specs.declared.head.Head.TheVariants.{Open, Send, Take, TakeNone, Hunt, Attach, Detach}
+use Rattle.journal.specs.declared.effect.Effect.{Effect}
+use Rattle.journal.specs.declared.effect.Effect.TheVariants.{Opened, Closed, Arrived, Found, Notified}
+use Rattle.journal.specs.declared.effect.Step.{Step}
 use Rattle.journal.specs.Logs.{Log, step_at}
 use Rattle.journal.specs.History.{endpoint_by, openings}
 use Rattle.journal.specs.Traffic.{is_endpoint}

@@ -1,10 +1,10 @@
 -- What is kept of all logs while a journal is read in order.
 use Rattle.std.specs.Prelude.{◌≡◌, ℕ, nat_eq, List, []}
 use Rattle.std.specs.HashMap.{get}
-use Rattle.linx_base.specs.declared.naming.Names.{Names}
-use Rattle.journal.specs.declared.happenings.Effect.{Effect}
-use Rattle.journal.specs.declared.happenings.Effect.TheVariants.{Opened}
-use Rattle.journal.specs.declared.happenings.Step.{Step}
+use Rattle.linx_base.specs.declared.name.Names.{Names}
+use Rattle.journal.specs.declared.effect.Effect.{Effect}
+use Rattle.journal.specs.declared.effect.Effect.TheVariants.{Opened}
+use Rattle.journal.specs.declared.effect.Step.{Step}
 use Rattle.journal.specs.Logs.{Log}
 use Rattle.journal_text.specs.declared.collecting.Logs.{Logs}
 use Rattle.journal_text.specs.Texts.{kept}

@@ -1,11 +1,11 @@
 -- The lines of a step.
 use Rattle.std.specs.Prelude.{ℕ, ◌++◌, List, [], flat_map, codes, decimal, Option, Some, None}
-use Rattle.linx_base.specs.declared.naming.Names.{Names}
-use Rattle.journal.specs.declared.heads.Head.{Head}
-use Rattle.journal.specs.declared.heads.Head.TheVariants.{Open, Close, Send, Take, TakeNone, Waits, Hunt, Attach, Detach, Cut, Mend, Settle, Restart, Wire, Tick, Refused, Ended}
-use Rattle.journal.specs.declared.happenings.Effect.{Effect}
-use Rattle.journal.specs.declared.happenings.Effect.TheVariants.{Opened, Closed, Arrived, Found, Notified, Met, Gone, Up, Down}
-use Rattle.journal.specs.declared.happenings.Step.{Step}
+use Rattle.linx_base.specs.declared.name.Names.{Names}
+use Rattle.journal.specs.declared.head.Head.{Head}
+use Rattle.journal.specs.declared.head.Head.TheVariants.{Open, Close, Send, Take, TakeNone, Waits, Hunt, Attach, Detach, Cut, Mend, Settle, Restart, Wire, Tick, Refused, Ended}
+use Rattle.journal.specs.declared.effect.Effect.{Effect}
+use Rattle.journal.specs.declared.effect.Effect.TheVariants.{Opened, Closed, Arrived, Found, Notified, Met, Gone, Up, Down}
+use Rattle.journal.specs.declared.effect.Step.{Step}
 use Rattle.journal.specs.Logs.{Log, step_at}
 use Rattle.journal_text.specs.Values.{halves_text, node_text, link_text, peer_text, peer_signal_text, filter_text, path_text, signal_text, maker_text, position_text, reference_text, side_text, verdict_text, reason_text, sent_text, detached_text, refusal_text}
 

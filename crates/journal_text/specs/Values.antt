@@ -7,24 +7,24 @@ use Rattle.linx_base.specs.declared.identity.Side.{Side}
 use Rattle.linx_base.specs.declared.identity.Side.TheVariants.{First, Second}
 use Rattle.linx_base.specs.declared.identity.Peer.{Peer}
 use Rattle.linx_base.specs.declared.identity.Peer.TheVariants.{Here, There}
-use Rattle.linx_base.specs.declared.framing.Verdict.{Verdict}
-use Rattle.linx_base.specs.declared.framing.Verdict.TheVariants.{Deliver, Lose, Repeat, Swap}
-use Rattle.linx_base.specs.declared.naming.Names.{Names}
-use Rattle.linx_base.specs.declared.naming.Path.{Path}
-use Rattle.linx_base.specs.declared.naming.Path.TheVariants.{Local, Over}
-use Rattle.linx_base.specs.declared.signaling.SigNote.{SigNote}
-use Rattle.linx_base.specs.declared.signaling.Reason.{Reason}
-use Rattle.linx_base.specs.declared.signaling.Reason.TheVariants.{Closed, Lost, Dead as DeadAlready}
-use Rattle.sigsel.specs.declared.filters.Sigsel.{Sigsel}
-use Rattle.sigsel.specs.declared.filters.Sigsel.TheVariants.{Any, Only, Not}
-use Rattle.journal.specs.declared.makers.By.{By}
-use Rattle.journal.specs.declared.makers.By.TheVariants.{Actor, Pump}
-use Rattle.journal.specs.declared.heads.SentTo.{SentTo}
-use Rattle.journal.specs.declared.heads.SentTo.TheVariants.{Queued, Link, Dead}
-use Rattle.journal.specs.declared.heads.Detached.{Detached}
-use Rattle.journal.specs.declared.heads.Detached.TheVariants.{Pending, Queued as QueuedNotice, None as Neither}
-use Rattle.journal.specs.declared.heads.Refusal.{Refusal}
-use Rattle.journal.specs.declared.heads.Refusal.TheVariants.{NotOpen, IsOpen, NoPeer, NoSignal, NoRef}
+use Rattle.linx_base.specs.declared.frame.Verdict.{Verdict}
+use Rattle.linx_base.specs.declared.frame.Verdict.TheVariants.{Deliver, Lose, Repeat, Swap}
+use Rattle.linx_base.specs.declared.name.Names.{Names}
+use Rattle.linx_base.specs.declared.name.Path.{Path}
+use Rattle.linx_base.specs.declared.name.Path.TheVariants.{Local, Over}
+use Rattle.linx_base.specs.declared.signal.SigNote.{SigNote}
+use Rattle.linx_base.specs.declared.signal.Reason.{Reason}
+use Rattle.linx_base.specs.declared.signal.Reason.TheVariants.{Closed, Lost, Dead as DeadAlready}
+use Rattle.sigsel.specs.declared.sigsel.Sigsel.{Sigsel}
+use Rattle.sigsel.specs.declared.sigsel.Sigsel.TheVariants.{Any, Only, Not}
+use Rattle.journal.specs.declared.by.By.{By}
+use Rattle.journal.specs.declared.by.By.TheVariants.{Actor, Pump}
+use Rattle.journal.specs.declared.head.SentTo.{SentTo}
+use Rattle.journal.specs.declared.head.SentTo.TheVariants.{Queued, Link, Dead}
+use Rattle.journal.specs.declared.head.Detached.{Detached}
+use Rattle.journal.specs.declared.head.Detached.TheVariants.{Pending, Queued as QueuedNotice, None as Neither}
+use Rattle.journal.specs.declared.head.Refusal.{Refusal}
+use Rattle.journal.specs.declared.head.Refusal.TheVariants.{NotOpen, IsOpen, NoPeer, NoSignal, NoRef}
 
 -- a number of 64 bits as its two halves: an incarnation as `node.k`, a session as `boot.count`
 unfoldable pub halves_text : ℕ → List ℕ

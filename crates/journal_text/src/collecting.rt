@@ -3,8 +3,8 @@ ghost use Rattle.std.specs.Prelude.{◌≡◌, ◌==◌, ◌++◌, ℕ, List, []
 ghost use Rattle.std.specs.List.{list_any};
 ghost use Rattle.std.specs.Option.{option_copied};
 ghost use Rattle.std.specs.HashMap.{get};
-ghost use Rattle.linx_base.specs.declared.naming.Names.{Names as NamesOf};
-ghost use Rattle.journal.specs.declared.happenings.Step.{Step as StepOf};
+ghost use Rattle.linx_base.specs.declared.name.Names.{Names as NamesOf};
+ghost use Rattle.journal.specs.declared.effect.Step.{Step as StepOf};
 ghost use Rattle.journal.specs.History.{endpoint_by};
 ghost use Rattle.journal_text.specs.Texts.{kept};
 ghost use Rattle.journal_text.specs.Blocks.{opens, name_in, if_for, head_log, concerned, effect_log, effect_logs};

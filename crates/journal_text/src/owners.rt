@@ -3,7 +3,7 @@ ghost use Rattle.std.specs.Prelude.{◌≡◌, ℕ, ◌∷◌, [], List, ◌==�
 ghost use Rattle.std.specs.List.{list_any};
 ghost use Rattle.std.specs.HashMap.{get};
 ghost use Rattle.std.specs.HashSet.{contains};
-ghost use Rattle.journal.specs.declared.happenings.Step.{Step};
+ghost use Rattle.journal.specs.declared.effect.Step.{Step};
 ghost use Rattle.journal.specs.History.{last_opened, closes, endpoint_by};
 ghost use Rattle.journal_text.specs.Owners.{Tracks};
 

@@ -4,8 +4,8 @@ use Rattle.std.specs.Prelude.{option_map, ◌⊎◌}
 use Rattle.std.proofs.lemmas.Bool.{eqb-true, eq-eqb}
 use Rattle.std.proofs.lemmas.Bool.Decides.{eqb_tells}
 use Rattle.linx_base.specs.declared.identity.Inc.{Inc}
-use Rattle.link_addresses.specs.declared.meanings.Meaning.{Meaning}
-use Rattle.link_addresses.specs.declared.meanings.Meaning.TheVariants.{Free, Live, Closing}
+use Rattle.link_addresses.specs.declared.meaning.Meaning.{Meaning}
+use Rattle.link_addresses.specs.declared.meaning.Meaning.TheVariants.{Free, Live, Closing}
 use Rattle.link_addresses.specs.Meanings.{meaning_of, means_live, address_of, IsLive, IsLowestFree, ChangesMeaning, KeepsUsed}
 use Rattle.link_addresses.specs.Index.{IsIndexOf, AnswersAt, NoneFreeTo}
 

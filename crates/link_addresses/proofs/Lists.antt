@@ -7,8 +7,8 @@ use Rattle.std.proofs.lemmas.List.{length-set, get_or_past, get_or-set_same, get
 use Rattle.std.proofs.Math.Seq.{get_or-append_seam}
 use Rattle.std.proofs.lemmas.List.Sums.{sum_by-set, sum_by-cons, sum_by_push}
 use Rattle.linx_base.specs.declared.identity.Inc.{Inc}
-use Rattle.link_addresses.specs.declared.meanings.Meaning.{Meaning}
-use Rattle.link_addresses.specs.declared.meanings.Meaning.TheVariants.{Free, Live, Closing}
+use Rattle.link_addresses.specs.declared.meaning.Meaning.{Meaning}
+use Rattle.link_addresses.specs.declared.meaning.Meaning.TheVariants.{Free, Live, Closing}
 use Rattle.link_addresses.specs.Meanings.{meaning_of, lowest_free, with_lowest, is_used, used_in, ChangesMeaning}
 use Rattle.link_addresses.specs.Index.{NoneFreeTo}
 

@@ -1,8 +1,8 @@
 -- What is kept beside the meanings, so that nothing is searched for.
 use Rattle.std.specs.Prelude.{◌≡◌, ◌≢◌, ◌↔◌, ℕ, ◌≤◌, ◌<◌, ◌==◌, if◌then◌else◌, List, Option, Some}
 use Rattle.linx_base.specs.declared.identity.Inc.{Inc}
-use Rattle.link_addresses.specs.declared.meanings.Meaning.{Meaning}
-use Rattle.link_addresses.specs.declared.meanings.Meaning.TheVariants.{Free, Live}
+use Rattle.link_addresses.specs.declared.meaning.Meaning.{Meaning}
+use Rattle.link_addresses.specs.declared.meaning.Meaning.TheVariants.{Free, Live}
 use Rattle.link_addresses.specs.Meanings.{meaning_of}
 
 -- the index has the address of each live incarnation, and no other

@@ -1,8 +1,8 @@
 -- The meanings of link addresses, as a list from address 1 on.
 use Rattle.std.specs.Prelude.{◌≡◌, ◌≢◌, ℕ, zero, suc, ◌-◌, ◌<◌, Bool, true, false, ◌==◌, if◌then◌else◌, List, [], ◌∷◌, count_by, slice_index_or, slice_set, Option, Some, None, option_map}
 use Rattle.linx_base.specs.declared.identity.Inc.{Inc}
-use Rattle.link_addresses.specs.declared.meanings.Meaning.{Meaning}
-use Rattle.link_addresses.specs.declared.meanings.Meaning.TheVariants.{Free, Live, Closing}
+use Rattle.link_addresses.specs.declared.meaning.Meaning.{Meaning}
+use Rattle.link_addresses.specs.declared.meaning.Meaning.TheVariants.{Free, Live, Closing}
 
 -- the meaning of an address: 0 and the addresses past the list's end are free
 abbrev pub meaning_of : List Meaning → ℕ → Meaning

@@ -1,11 +1,11 @@
 ghost use Rattle.std.specs.Prelude.{◌≡◌, ◌≢◌, ◌<◌, ◌≤◌, [], ◌∷◌, ◌++◌, length, ℕ, suc, nat_eq, slice_set, vec_len, vec_capacity, IfSome, IfNone, OnSome, IfOk, OnOk, OnErr};
 ghost use Rattle.std.specs.HashMap.{get};
 ghost use Rattle.linx_base.specs.declared.identity.Inc.{Inc as AnyInc};
-ghost use Rattle.link_addresses.specs.declared.meanings.Meaning.TheVariants.{Free, Live, Closing};
+ghost use Rattle.link_addresses.specs.declared.meaning.Meaning.TheVariants.{Free, Live, Closing};
 ghost use Rattle.link_addresses.specs.Meanings.{meaning_of, with_meaning, IsLive, used_in, lowest_free, with_lowest, IsLowestFree, address_of, ChangesMeaning, KeepsUsed};
 ghost use Rattle.link_addresses.specs.Index.{NoneFreeTo, AnswersAt};
 
-use crate::meanings::Meaning;
+use crate::meaning::Meaning;
 use linx_base::{Inc, NoMemory, TryCopy};
 use std::alloc::Global;
 use std::collections::HashMap;
@@ -25,7 +25,7 @@ pub struct Addresses {
 impl Model for Addresses {
     ghost use Rattle.std.specs.Prelude.{◌≡◌, ◌≤◌, List, nat_eq, vec_len};
     ghost use Rattle.std.specs.HashMap.{get};
-    ghost use Rattle.link_addresses.specs.declared.meanings.Meaning.{Meaning};
+    ghost use Rattle.link_addresses.specs.declared.meaning.Meaning.{Meaning};
     ghost use Rattle.link_addresses.specs.Meanings.{used_in};
     ghost use Rattle.link_addresses.specs.Index.{IsIndexOf, NoneFreeTo};
 

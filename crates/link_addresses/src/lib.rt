@@ -4,10 +4,10 @@
 #![tactic(auto)]
 
 mod addresses;
-mod meanings;
+mod meaning;
 
 pub use addresses::Addresses;
-pub use meanings::Meaning;
+pub use meaning::Meaning;
 
 #[cfg(test)]
 mod tests;

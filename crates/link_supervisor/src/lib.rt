@@ -2,9 +2,9 @@
 //! at the third.
 #![tactic(auto)]
 
-mod watching;
+mod watch;
 
-pub use watching::{Alive, LOST_AT, Watch};
+pub use watch::{Alive, LOST_AT, Watch};
 
 #[cfg(test)]
 mod tests;

@@ -1,7 +1,7 @@
 use Rattle.std.specs.Prelude.{ℕ, ◌+◌, ◌-◌, ◌++◌, List, length, take, replicate, slice_set}
-use Rattle.linx_base.specs.declared.signaling.SigNote.{SigNote}
-use Rattle.linx_base.specs.declared.signaling.Reason.{Reason}
-use Rattle.linx_base.specs.declared.signaling.Reason.TheVariants.{Closed, Lost, Dead}
+use Rattle.linx_base.specs.declared.signal.SigNote.{SigNote}
+use Rattle.linx_base.specs.declared.signal.Reason.{Reason}
+use Rattle.linx_base.specs.declared.signal.Reason.TheVariants.{Closed, Lost, Dead}
 
 -- the size of a signal: 4 bytes of number, and its data
 abbrev pub size_of : SigNote → ℕ

@@ -4,23 +4,23 @@
 //! of any layer above. Bytes that never change are shared: a `Blob` is copied by one pointer.
 #![tactic(auto)]
 
-mod blobs;
-mod copies;
-mod framing;
+mod blob;
+mod frame;
 mod identity;
 mod memory;
-mod naming;
-mod sequences;
-mod signaling;
+mod name;
+mod sequence;
+mod signal;
+mod try_copy;
 
-pub use blobs::Blob;
-pub use copies::TryCopy;
-pub use framing::{ConnKind, Frame, Frames, LinkDecl, Message, SentFrame, SentFrames, Verdict};
+pub use blob::Blob;
+pub use frame::{ConnKind, Frame, Frames, LinkDecl, Message, SentFrame, SentFrames, Verdict};
 pub use identity::{AttRef, Inc, ItemAt, LinkNo, NodeNo, Peer, Session, Side};
 pub use memory::NoMemory;
-pub use naming::{Name, NameError, NameList, Names, Path};
-pub use sequences::Sequence;
-pub use signaling::{BufferError, Reason, SigNote, Signal};
+pub use name::{Name, NameError, NameList, Names, Path};
+pub use sequence::Sequence;
+pub use signal::{BufferError, Reason, SigNote, Signal};
+pub use try_copy::TryCopy;
 
 #[cfg(test)]
 mod tests;

@@ -1,7 +1,7 @@
 -- What a read answered.
 use Rattle.std.specs.Prelude.{ℕ}
-use Rattle.linx_outside.specs.declared.reading.ReadAnswer.{ReadAnswer}
-use Rattle.linx_outside.specs.declared.reading.ReadAnswer.TheVariants.{Got, Failed}
+use Rattle.linx_outside.specs.declared.source.ReadAnswer.{ReadAnswer}
+use Rattle.linx_outside.specs.declared.source.ReadAnswer.TheVariants.{Got, Failed}
 
 -- if bytes were given, this holds of their number
 abbrev pub IfGot : ReadAnswer → (ℕ → Type 0) → Type 0

@@ -1,7 +1,7 @@
 -- What a write answered.
 use Rattle.std.specs.Prelude.{ℕ}
-use Rattle.linx_outside.specs.declared.writing.WriteAnswer.{WriteAnswer}
-use Rattle.linx_outside.specs.declared.writing.WriteAnswer.TheVariants.{Took, Failed}
+use Rattle.linx_outside.specs.declared.sink.WriteAnswer.{WriteAnswer}
+use Rattle.linx_outside.specs.declared.sink.WriteAnswer.TheVariants.{Took, Failed}
 
 -- if bytes were taken, this holds of their number
 abbrev pub IfTook : WriteAnswer → (ℕ → Type 0) → Type 0

@@ -3,8 +3,8 @@
 ghost use Rattle.std.specs.Prelude.{◌≡◌, None, Some};
 ghost use Rattle.linx_outside.specs.Counts.{last_u64};
 
-use crate::reading::{ReadAnswer, Source};
-use crate::writing::{Sink, WriteAnswer};
+use crate::sink::{Sink, WriteAnswer};
+use crate::source::{ReadAnswer, Source};
 use std::io::{Read, Write};
 use std::marker::Model;
 

@@ -6,22 +6,22 @@
 
 mod adapters;
 mod faults;
-mod gates;
-mod reading;
-mod stores;
-mod supplies;
+mod gate;
+mod mem_sink;
+mod mem_source;
+mod sink;
+mod source;
 mod whole_reads;
 mod whole_writes;
-mod writing;
 
 pub use adapters::{ReadFrom, WriteTo};
-pub use gates::{Gate, OpenGate};
-pub use reading::{ReadAnswer, Source};
-pub use stores::MemSink;
-pub use supplies::{MemSource, PlainSource};
+pub use gate::{Gate, OpenGate};
+pub use mem_sink::MemSink;
+pub use mem_source::{MemSource, PlainSource};
+pub use sink::{Sink, WriteAnswer};
+pub use source::{ReadAnswer, Source};
 pub use whole_reads::{Reached, ReadError, read_up_to};
 pub use whole_writes::{WriteFault, write_all};
-pub use writing::{Sink, WriteAnswer};
 
 #[cfg(test)]
 mod tests;

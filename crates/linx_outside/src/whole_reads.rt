@@ -3,8 +3,8 @@ ghost use Rattle.linx_outside.specs.Counts.{HasFaulted, NeverFalls};
 ghost use Rattle.linx_outside.specs.Told.{prepended, HasNothingLeft, Moves};
 ghost use Rattle.linx_outside.specs.Reading.{IfGot, IsGot, IfReadFailed};
 
-use crate::reading::{ReadAnswer, Source};
-use crate::stores::append_within;
+use crate::mem_sink::append_within;
+use crate::source::{ReadAnswer, Source};
 use linx_base::NoMemory;
 use std::alloc::AllocError;
 use std::error::Error;

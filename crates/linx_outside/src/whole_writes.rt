@@ -2,7 +2,7 @@ ghost use Rattle.std.specs.Prelude.{◌≡◌, ℕ, ◌-◌, ◌≤◌, IsOk, On
 ghost use Rattle.linx_outside.specs.Counts.{HasFaulted, NeverFalls};
 ghost use Rattle.linx_outside.specs.Told.{appended, AppendsFront};
 
-use crate::writing::{Sink, WriteAnswer};
+use crate::sink::{Sink, WriteAnswer};
 use std::error::Error;
 use std::fmt;
 

@@ -4,17 +4,17 @@ use Rattle.std.specs.Prelude.{nat_le, get_or}
 use Rattle.std.specs.List.{list_all}
 use Rattle.std.proofs.lemmas.Bool.{eqb-true, and_parts, and_from}
 use Rattle.linx_base.specs.declared.identity.NodeNo.{NodeNo}
-use Rattle.linx_base.specs.declared.framing.LinkDecl.{LinkDecl}
-use Rattle.script_lang.specs.declared.commands.Command.{Command}
-use Rattle.script_lang.specs.declared.commands.Command.TheVariants.{Send}
-use Rattle.script_lang.specs.declared.commands.ActorScript.{ActorScript}
+use Rattle.linx_base.specs.declared.frame.LinkDecl.{LinkDecl}
+use Rattle.script_lang.specs.declared.command.Command.{Command}
+use Rattle.script_lang.specs.declared.command.Command.TheVariants.{Send}
+use Rattle.script_lang.specs.declared.command.ActorScript.{ActorScript}
 use Rattle.script_lang.specs.Parts.{ScriptParts}
 use Rattle.script_lang.specs.Fits.{IsScript, is_node, fits_command, fits_actor}
 use Rattle.linx_sim.specs.Runs.{is_built, is_first_path, is_one_actor, shape_of, IsOver, IsRunOf, IsSoFar, HasTurn, ForEachActor, IsAnswerTo}
 use Rattle.linx_sim.specs.Turns.{is_sized, IsAlone, IsPlayed, lone_shape}
 use Rattle.linx_sim.specs.declared.outcome.Status.{Status}
 use Rattle.linx_sim.specs.declared.outcome.Status.TheVariants.{Done, Usage, Script, ReadFault, WriteFault, JournalFull, NoMemory, NotBuilt}
-use Rattle.journal.specs.declared.happenings.Step.{Step}
+use Rattle.journal.specs.declared.effect.Step.{Step}
 use Rattle.journal.specs.Logs.{Log}
 use Rattle.journal.specs.Laws.{Shape, IsLegal}
 use Rattle.journal.specs.History.{has_ended}

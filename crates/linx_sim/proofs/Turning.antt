@@ -1,25 +1,25 @@
 -- One turn of an actor, by the command at its place.
 use Rattle.std.proofs.Common.{◌≡◌, ℕ, zero, suc, ◌<◌, ◌≤◌, ◌+◌, Bool, true, false, cond, ◌&&◌, ◌==◌, List, [], ◌∷◌, length, drop, Option, Some, None, refl, sym, ◌∙◌, ap, subst, arith}
 use Rattle.std.specs.Prelude.{slice_get, Result, Ok, Err, nat_le}
-use Rattle.fabric.specs.declared.stops.StepStop.{StepStop}
+use Rattle.fabric.specs.declared.stop.StepStop.{StepStop}
 use Rattle.journal.specs.Logs.{signal_bytes_of}
-use Rattle.journal.specs.declared.book.TheConstants.{STEPS_MOST, SIGNAL_BYTES_MOST}
+use Rattle.journal.specs.declared.journal.TheConstants.{STEPS_MOST, SIGNAL_BYTES_MOST}
 use Rattle.std.specs.List.{list_all, list_any, filter_map}
 use Rattle.std.proofs.lemmas.Bool.{eqb-true, and_parts, or_left, or_from, or_parts, leb-false}
 use Rattle.std.proofs.lemmas.List.Sums.{sum_by-cons}
 use Rattle.linx_base.specs.declared.identity.Inc.{Inc}
 use Rattle.linx_base.specs.declared.identity.Peer.{Peer}
 use Rattle.linx_base.specs.declared.identity.Peer.TheVariants.{Here, There}
-use Rattle.linx_base.specs.declared.signaling.SigNote.{SigNote}
-use Rattle.sigsel.specs.declared.filters.Sigsel.TheVariants.{Any, Only, Not}
-use Rattle.journal.specs.declared.makers.By.{By}
-use Rattle.journal.specs.declared.makers.By.TheVariants.{Actor}
-use Rattle.journal.specs.declared.events.Event.{Event}
-use Rattle.journal.specs.declared.events.Event.TheVariants as asks
-use Rattle.journal.specs.declared.heads.Head.{Head}
-use Rattle.journal.specs.declared.heads.Head.TheVariants as heads
-use Rattle.journal.specs.declared.happenings.Effect.{Effect}
-use Rattle.journal.specs.declared.happenings.Step.{Step}
+use Rattle.linx_base.specs.declared.signal.SigNote.{SigNote}
+use Rattle.sigsel.specs.declared.sigsel.Sigsel.TheVariants.{Any, Only, Not}
+use Rattle.journal.specs.declared.by.By.{By}
+use Rattle.journal.specs.declared.by.By.TheVariants.{Actor}
+use Rattle.journal.specs.declared.event.Event.{Event}
+use Rattle.journal.specs.declared.event.Event.TheVariants as asks
+use Rattle.journal.specs.declared.head.Head.{Head}
+use Rattle.journal.specs.declared.head.Head.TheVariants as heads
+use Rattle.journal.specs.declared.effect.Effect.{Effect}
+use Rattle.journal.specs.declared.effect.Step.{Step}
 use Rattle.journal.specs.Logs.{is_full}
 use Rattle.journal.specs.History.{is_by, opened_in, closes, last_opened, last_endpoint, is_closed, endpoint_of, next_inc, is_end, has_ended}
 use Rattle.journal.specs.Sessions.{is_alive}
@@ -30,13 +30,13 @@ use Rattle.node_kernel.specs.declared.answers.StepAnswer.TheVariants as answers
 use Rattle.fabric.specs.Remains.{IsOneActor}
 use Rattle.fabric.specs.Events.{CanAsk, IsHeadOf, IsAnswerOf, IsMade, Makes}
 use Rattle.fabric.proofs.Keeps.{node_of_first}
-use Rattle.script_lang.specs.declared.commands.Command.{Command}
-use Rattle.script_lang.specs.declared.commands.Command.TheVariants.{Open, Close, Send, Recv}
-use Rattle.script_lang.specs.declared.commands.Target.TheVariants.{Me, Last, Kept}
-use Rattle.script_lang.specs.declared.commands.Target.{Target}
-use Rattle.script_lang.specs.declared.commands.Filling.{Filling}
-use Rattle.journal.specs.declared.heads.SentTo.{SentTo}
-use Rattle.sigsel.specs.declared.filters.Sigsel.{Sigsel}
+use Rattle.script_lang.specs.declared.command.Command.{Command}
+use Rattle.script_lang.specs.declared.command.Command.TheVariants.{Open, Close, Send, Recv}
+use Rattle.script_lang.specs.declared.command.Target.TheVariants.{Me, Last, Kept}
+use Rattle.script_lang.specs.declared.command.Target.{Target}
+use Rattle.script_lang.specs.declared.command.Filling.{Filling}
+use Rattle.journal.specs.declared.head.SentTo.{SentTo}
+use Rattle.sigsel.specs.declared.sigsel.Sigsel.{Sigsel}
 use Rattle.linx_base.specs.declared.identity.ItemAt.{ItemAt}
 use Rattle.script_lang.specs.Parts.{data_of}
 use Rattle.actor_run.specs.Asks.{is_plain, is_plain_at, NeedsItself, IsAskOf, signal_of}

@@ -1,16 +1,16 @@
 use Rattle.std.specs.Prelude.{ℕ, ◌≡◌, ◌+◌, ◌<◌, ◌≤◌, Bool, true, false, ◌&&◌, ◌==◌, List, [], ◌∷◌, length, if◌then◌else◌, take, Option, Result, Ok, Err, IfSome, ◌⊎◌}
 use Rattle.script_lang.specs.Reading.{script_of}
 use Rattle.linx_base.specs.declared.identity.NodeNo.{NodeNo}
-use Rattle.sigsel.specs.declared.filters.Sigsel.{Sigsel}
-use Rattle.sigsel.specs.declared.filters.Sigsel.TheVariants.{Any, Only, Not}
-use Rattle.journal.specs.declared.happenings.Step.{Step}
+use Rattle.sigsel.specs.declared.sigsel.Sigsel.{Sigsel}
+use Rattle.sigsel.specs.declared.sigsel.Sigsel.TheVariants.{Any, Only, Not}
+use Rattle.journal.specs.declared.effect.Step.{Step}
 use Rattle.journal.specs.Logs.{Log, is_full}
 use Rattle.linx_outside.specs.Told.{prepended}
 use Rattle.journal.specs.Laws.{Shape, IsLegal}
-use Rattle.script_lang.specs.declared.commands.Command.{Command}
-use Rattle.script_lang.specs.declared.commands.Command.TheVariants.{Open, Close, Send, Recv}
-use Rattle.script_lang.specs.declared.commands.ActorScript.{ActorScript}
-use Rattle.script_lang.specs.declared.faults.BadKind.{BadKind}
+use Rattle.script_lang.specs.declared.command.Command.{Command}
+use Rattle.script_lang.specs.declared.command.Command.TheVariants.{Open, Close, Send, Recv}
+use Rattle.script_lang.specs.declared.command.ActorScript.{ActorScript}
+use Rattle.script_lang.specs.declared.script_error.BadKind.{BadKind}
 use Rattle.script_lang.specs.Parts.{ScriptParts}
 use Rattle.journal.specs.History.{has_ended}
 use Rattle.actor_run.specs.Asks.{is_itself}

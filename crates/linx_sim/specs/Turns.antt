@@ -2,29 +2,29 @@
 use Rattle.std.specs.Prelude.{ℕ, ◌≡◌, Bool, true, false, ◌&&◌, List, [], ◌∷◌, drop, Option, Some, None, IfSome}
 use Rattle.std.specs.List.{list_all}
 use Rattle.linx_base.specs.declared.identity.Inc.{Inc}
-use Rattle.journal.specs.declared.happenings.Step.{Step}
+use Rattle.journal.specs.declared.effect.Step.{Step}
 use Rattle.journal.specs.Logs.{is_full}
 use Rattle.journal.specs.History.{last_endpoint, endpoint_of, has_ended}
 use Rattle.journal.specs.Laws.{Shape, IsLegal}
 use Rattle.node_kernel.specs.declared.answers.StepAnswer.{StepAnswer}
 use Rattle.node_kernel.specs.declared.answers.StepAnswer.TheVariants as answers
-use Rattle.script_lang.specs.declared.commands.Command.{Command}
-use Rattle.script_lang.specs.declared.commands.Command.TheVariants.{Send}
+use Rattle.script_lang.specs.declared.command.Command.{Command}
+use Rattle.script_lang.specs.declared.command.Command.TheVariants.{Send}
 use Rattle.script_lang.specs.Fits.{fits_data}
 use Rattle.actor_run.specs.Following.{Follows, FollowsWhole, steps_by}
 use Rattle.linx_sim.specs.Runs.{is_open, is_body, is_first_path, read_of, IsBadAt}
 use Rattle.script_lang.specs.Reading.{script_of}
 use Rattle.script_lang.specs.Parts.{ScriptParts}
-use Rattle.script_lang.specs.declared.commands.ActorScript.{ActorScript}
+use Rattle.script_lang.specs.declared.command.ActorScript.{ActorScript}
 use Rattle.fabric.specs.Remains.{only_node}
 use Rattle.linx_sim.specs.declared.outcome.Status.{Status}
 use Rattle.linx_sim.specs.declared.outcome.Status.TheVariants.{Done, Script, ReadFault, WriteFault, JournalFull, NoMemory}
 use Rattle.linx_outside.specs.declared.whole_reads.ReadError.{ReadError}
 use Rattle.linx_outside.specs.declared.whole_reads.ReadError.TheVariants as reads
-use Rattle.script_lang.specs.declared.faults.ScriptError.{ScriptError}
-use Rattle.script_lang.specs.declared.faults.ScriptError.TheVariants as scripts
-use Rattle.fabric.specs.declared.stops.StopCause.{StopCause}
-use Rattle.fabric.specs.declared.stops.StopCause.TheVariants as stops
+use Rattle.script_lang.specs.declared.script_error.ScriptError.{ScriptError}
+use Rattle.script_lang.specs.declared.script_error.ScriptError.TheVariants as scripts
+use Rattle.fabric.specs.declared.stop.StopCause.{StopCause}
+use Rattle.fabric.specs.declared.stop.StopCause.TheVariants as stops
 
 -- a send has at most as many data bytes as a signal holds
 abbrev pub is_sized : Command → Bool

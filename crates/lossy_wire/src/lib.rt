@@ -2,9 +2,9 @@
 //! oldest first. A wire may lose any packet and exchange any two; what stands at a place was put.
 #![tactic(auto)]
 
-mod flight;
+mod wire;
 
-pub use flight::Wire;
+pub use wire::Wire;
 
 #[cfg(test)]
 mod tests;

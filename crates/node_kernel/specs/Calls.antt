@@ -2,9 +2,9 @@ use Rattle.std.specs.Prelude.{ℕ, ◌+◌, ◌≡◌, Bool, true, false, List, 
 use Rattle.linx_base.specs.declared.identity.Inc.{Inc}
 use Rattle.linx_base.specs.declared.identity.Peer.{Peer}
 use Rattle.linx_base.specs.declared.identity.Peer.TheVariants.{Here, There}
-use Rattle.linx_base.specs.declared.signaling.SigNote.{SigNote}
-use Rattle.endpoint_queue.specs.declared.items.Item.{Item}
-use Rattle.endpoint_queue.specs.declared.items.Kind.TheVariants.{Plain}
+use Rattle.linx_base.specs.declared.signal.SigNote.{SigNote}
+use Rattle.endpoint_queue.specs.declared.item.Item.{Item}
+use Rattle.endpoint_queue.specs.declared.item.Kind.TheVariants.{Plain}
 use Rattle.node_kernel.specs.declared.kernel.TheConstants.{ENDPOINTS_MOST}
 use Rattle.node_kernel.specs.declared.answers.OpenError.{OpenError}
 use Rattle.node_kernel.specs.declared.answers.OpenError.TheVariants.{Full, NoMemory}

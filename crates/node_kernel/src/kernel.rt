@@ -1,9 +1,9 @@
 ghost use Rattle.std.specs.Prelude.{◌≡◌, ◌+◌, ◌*◌, ◌<◌, ◌≤◌, ◌↔◌, true, false, [], ◌∷◌, ◌++◌, length, is_some, IfOk, IfErr, OnOk, OnErr, IsTrue, MatchResult};
-ghost use Rattle.journal.specs.declared.happenings.Effect.TheVariants.{Opened, Closed};
+ghost use Rattle.journal.specs.declared.effect.Effect.TheVariants.{Opened, Closed};
 ghost use Rattle.endpoint_queue.specs.Selection.{first_selected, without_first};
 
 use crate::answers::{OpenError, OpenedAs, Sent};
-use crate::endpoints::{Endpoint, deliver, has_endpoint, holds, remove, take};
+use crate::endpoint::{Endpoint, deliver, has_endpoint, holds, remove, take};
 use endpoint_queue::{Item, Kind};
 use journal::{Effect, Effects};
 use linx_base::{Inc, ItemAt, Name, NoMemory, NodeNo, Peer, Signal};

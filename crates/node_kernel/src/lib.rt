@@ -4,7 +4,7 @@
 #![tactic(auto)]
 
 mod answers;
-mod endpoints;
+mod endpoint;
 mod kernel;
 
 pub use answers::{OpenError, OpenedAs, Sent, StepAnswer};

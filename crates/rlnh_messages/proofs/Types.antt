@@ -5,8 +5,8 @@ use Rattle.std.proofs.lemmas.List.{append_cancel_left, append-nil}
 use Rattle.byteorder.specs.Endian.{big_bytes, big_number}
 use Rattle.byteorder.specs.Numbers.{big_number-reads_back}
 use Rattle.linx_base.specs.NameText.{is_name}
-use Rattle.rlnh_messages.specs.declared.messages.Rlnh.{Rlnh}
-use Rattle.rlnh_messages.specs.declared.messages.Rlnh.TheVariants.{Init, InitReply, QueryName, Publish, Unpublish, UnpublishAck}
+use Rattle.rlnh_messages.specs.declared.rlnh.Rlnh.{Rlnh}
+use Rattle.rlnh_messages.specs.declared.rlnh.Rlnh.TheVariants.{Init, InitReply, QueryName, Publish, Unpublish, UnpublishAck}
 use Rattle.rlnh_messages.specs.declared.reading.RlnhError.{RlnhError}
 use Rattle.rlnh_messages.specs.declared.reading.RlnhError.TheVariants.{Bad, NoMemory}
 use Rattle.rlnh_messages.specs.Readings.{IsNameReading, IsReading}

@@ -1,6 +1,6 @@
 -- What follows from the spelling alone.
 use Rattle.std.specs.Prelude.{◌≡◌, List, ℕ}
-use Rattle.rlnh_messages.specs.declared.messages.Rlnh.{Rlnh}
+use Rattle.rlnh_messages.specs.declared.rlnh.Rlnh.{Rlnh}
 use Rattle.rlnh_messages.specs.Messages.{IsMessage, Spells, spelling_of}
 
 -- every message has a spelling

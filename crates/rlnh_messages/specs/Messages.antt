@@ -2,8 +2,8 @@
 use Rattle.std.specs.Prelude.{◌≡◌, ℕ, ◌^◌, ◌<◌, List, ◌∷◌, ◌++◌, IsTrue}
 use Rattle.byteorder.specs.Endian.{big_bytes}
 use Rattle.linx_base.specs.NameText.{is_name}
-use Rattle.rlnh_messages.specs.declared.messages.Rlnh.{Rlnh}
-use Rattle.rlnh_messages.specs.declared.messages.Rlnh.TheVariants.{Init, InitReply, QueryName, Publish, Unpublish, UnpublishAck}
+use Rattle.rlnh_messages.specs.declared.rlnh.Rlnh.{Rlnh}
+use Rattle.rlnh_messages.specs.declared.rlnh.Rlnh.TheVariants.{Init, InitReply, QueryName, Publish, Unpublish, UnpublishAck}
 
 -- a message begins with its type and three zeros
 abbrev pub typed : ℕ → List ℕ → List ℕ

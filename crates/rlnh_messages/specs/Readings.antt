@@ -1,7 +1,7 @@
 -- What reading gives.
 use Rattle.std.specs.Prelude.{◌≡◌, false, List, ℕ, IsTrue, Result, Ok, Err}
 use Rattle.linx_base.specs.NameText.{is_name}
-use Rattle.rlnh_messages.specs.declared.messages.Rlnh.{Rlnh}
+use Rattle.rlnh_messages.specs.declared.rlnh.Rlnh.{Rlnh}
 use Rattle.rlnh_messages.specs.declared.reading.RlnhError.{RlnhError}
 use Rattle.rlnh_messages.specs.declared.reading.RlnhError.TheVariants.{Bad, NoMemory}
 use Rattle.rlnh_messages.specs.Messages.{Spells}

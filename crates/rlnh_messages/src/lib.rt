@@ -4,13 +4,13 @@
 
 mod fields;
 mod laws;
-mod messages;
 mod reading;
+mod rlnh;
 mod writing;
 
 pub use laws::{each_is_spelled, one_message, one_spelling};
-pub use messages::Rlnh;
 pub use reading::{RlnhError, read};
+pub use rlnh::Rlnh;
 pub use writing::write;
 
 #[cfg(test)]

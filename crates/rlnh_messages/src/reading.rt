@@ -1,11 +1,11 @@
 ghost use Rattle.std.specs.Prelude.{◌≡◌, ◌<◌, ◌^◌, ◌++◌, ◌↔◌, List, ℕ, IsTrue, IfSome, IfNone, IfOk, IfErr};
 ghost use Rattle.byteorder.specs.Endian.{big_bytes};
-ghost use Rattle.rlnh_messages.specs.declared.messages.Rlnh.{Rlnh as AnyMessage};
+ghost use Rattle.rlnh_messages.specs.declared.rlnh.Rlnh.{Rlnh as AnyMessage};
 ghost use Rattle.rlnh_messages.specs.Messages.{typed, IsAddress, Spells};
 ghost use Rattle.rlnh_messages.specs.Readings.{IsNameReading, IsReading};
 
 use crate::fields::{address_in, type_in, u64_in};
-use crate::messages::{INIT, INIT_REPLY, PUBLISH, QUERY_NAME, Rlnh, UNPUBLISH, UNPUBLISH_ACK};
+use crate::rlnh::{INIT, INIT_REPLY, PUBLISH, QUERY_NAME, Rlnh, UNPUBLISH, UNPUBLISH_ACK};
 use linx_base::{Inc, Name, NameError};
 use std::alloc::Global;
 use std::error::Error;

@@ -2,7 +2,7 @@ ghost use Rattle.std.specs.Prelude.{◌≡◌, ◌++◌, OnOk, IfOk, [], ◌∷�
 ghost use Rattle.rlnh_messages.specs.Messages.{HasAddress, IsMessage, spelling_of, typed};
 ghost use Rattle.byteorder.specs.Endian.{big_bytes};
 
-use crate::messages::{INIT, INIT_REPLY, PUBLISH, QUERY_NAME, Rlnh, UNPUBLISH, UNPUBLISH_ACK};
+use crate::rlnh::{INIT, INIT_REPLY, PUBLISH, QUERY_NAME, Rlnh, UNPUBLISH, UNPUBLISH_ACK};
 use byteorder::{BigEndian, ByteOrder};
 use linx_base::{Blob, Inc, NoMemory};
 use std::alloc::{AllocError, Global};

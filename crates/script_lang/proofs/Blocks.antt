@@ -9,10 +9,10 @@ use Rattle.linx_base.specs.declared.identity.LinkNo.{LinkNo}
 use Rattle.linx_base.specs.declared.identity.NodeNo.{NodeNo}
 use Rattle.linx_base.specs.declared.identity.Side.{Side}
 use Rattle.linx_base.specs.declared.identity.Side.TheVariants.{First, Second}
-use Rattle.linx_base.specs.declared.framing.LinkDecl.{LinkDecl}
-use Rattle.linx_base.specs.declared.framing.Verdict.{Verdict}
-use Rattle.script_lang.specs.declared.commands.Command.{Command}
-use Rattle.script_lang.specs.declared.commands.Command.TheVariants.{Open, Close, Send, Forward, Recv, Hunt, Attach, Detach, Keep, Cut, Mend, Restart, Settle}
+use Rattle.linx_base.specs.declared.frame.LinkDecl.{LinkDecl}
+use Rattle.linx_base.specs.declared.frame.Verdict.{Verdict}
+use Rattle.script_lang.specs.declared.command.Command.{Command}
+use Rattle.script_lang.specs.declared.command.Command.TheVariants.{Open, Close, Send, Forward, Recv, Hunt, Attach, Detach, Keep, Cut, Mend, Restart, Settle}
 use Rattle.script_lang.specs.declared.script.Plans.{Plans}
 use Rattle.script_lang.specs.Parts.{ScriptParts, plan_in, plan_of, planned_at, with_verdict}
 use Rattle.script_lang.specs.Fits.{is_link, has_end, fits_command, commands_of}

@@ -1,10 +1,10 @@
 -- the lines of a script, one after the other
 use Rattle.std.proofs.Common.{◌≡◌, ℕ, ◌+◌, ◌-◌, ◌≤◌, List, [], ◌∷◌, Result, Ok, Err, length, sym, ◌∙◌, ap, subst, arith}
 use Rattle.script_lang.specs.declared.reading.Reading.{Reading}
-use Rattle.script_lang.specs.declared.faults.BadKind.{BadKind}
+use Rattle.script_lang.specs.declared.script_error.BadKind.{BadKind}
 use Rattle.script_lang.specs.Parts.{ScriptParts}
-use Rattle.script_lang.specs.declared.faults.Fault.{Fault}
-use Rattle.script_lang.specs.declared.faults.Fault.TheVariants as faults
+use Rattle.script_lang.specs.declared.script_error.Fault.{Fault}
+use Rattle.script_lang.specs.declared.script_error.Fault.TheVariants as faults
 use Rattle.script_lang.specs.Gives.{Fails}
 use Rattle.script_lang.specs.Lines.{lines_of}
 use Rattle.script_lang.specs.Reading.{lined, finished, behind, read_from, error_in, IsBadOf}

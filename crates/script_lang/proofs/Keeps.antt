@@ -4,17 +4,17 @@ use Rattle.std.specs.List.{list_all, list_any, slice_get}
 use Rattle.std.specs.Str.{bytes_eq}
 use Rattle.std.proofs.lemmas.Bool.{and_parts, and_from, or_parts, not_from_false, not-true, leb-true, le-leb}
 use Rattle.std.proofs.lemmas.List.Sums.{sum_by_push}
-use Rattle.linx_base.specs.declared.naming.Path.{Path}
-use Rattle.linx_base.specs.declared.naming.Path.TheVariants.{Local, Over}
+use Rattle.linx_base.specs.declared.name.Path.{Path}
+use Rattle.linx_base.specs.declared.name.Path.TheVariants.{Local, Over}
 use Rattle.linx_base.specs.declared.identity.LinkNo.{LinkNo}
 use Rattle.linx_base.specs.declared.identity.NodeNo.{NodeNo}
 use Rattle.linx_base.specs.declared.identity.Side.{Side}
 use Rattle.linx_base.specs.declared.identity.Side.TheVariants.{First, Second}
-use Rattle.linx_base.specs.declared.framing.LinkDecl.{LinkDecl}
-use Rattle.linx_base.specs.declared.framing.Verdict.{Verdict}
-use Rattle.script_lang.specs.declared.commands.Command.{Command}
-use Rattle.script_lang.specs.declared.commands.Command.TheVariants.{Open, Close, Send, Forward, Recv, Hunt, Attach, Detach, Keep, Cut, Mend, Restart, Settle}
-use Rattle.script_lang.specs.declared.commands.ActorScript.{ActorScript}
+use Rattle.linx_base.specs.declared.frame.LinkDecl.{LinkDecl}
+use Rattle.linx_base.specs.declared.frame.Verdict.{Verdict}
+use Rattle.script_lang.specs.declared.command.Command.{Command}
+use Rattle.script_lang.specs.declared.command.Command.TheVariants.{Open, Close, Send, Forward, Recv, Hunt, Attach, Detach, Keep, Cut, Mend, Restart, Settle}
+use Rattle.script_lang.specs.declared.command.ActorScript.{ActorScript}
 use Rattle.script_lang.specs.declared.script.Plans.{Plans}
 use Rattle.script_lang.specs.Parts.{ScriptParts, side_of, plan_in, plan_of, planned, planned_at, with_node, with_link, with_verdict, with_actor}
 use Rattle.script_lang.specs.Fits.{is_numbered, is_node, joins, has_end, fits_link, fits_verdict, fits_plans, fits_path, fits_command, fits_actor, commands_of, is_among, are_distinct, IsScript}

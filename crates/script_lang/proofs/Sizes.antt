@@ -6,8 +6,8 @@ use Rattle.std.specs.Io.BufRead.{strip_last}
 use Rattle.std.proofs.lemmas.Bool.{ltb-false}
 use Rattle.std.proofs.lemmas.List.Sums.{sum_by-cons}
 use Rattle.script_lang.specs.declared.reading.Reading.{Reading}
-use Rattle.script_lang.specs.declared.faults.BadKind.{BadKind}
-use Rattle.script_lang.specs.declared.faults.BadKind.TheVariants.{ScriptTooLong}
+use Rattle.script_lang.specs.declared.script_error.BadKind.{BadKind}
+use Rattle.script_lang.specs.declared.script_error.BadKind.TheVariants.{ScriptTooLong}
 use Rattle.script_lang.specs.Parts.{ScriptParts}
 use Rattle.script_lang.specs.Lines.{lines_of}
 use Rattle.script_lang.specs.Reading.{nothing_read, lined, texted, behind, read_from, script_of}

@@ -1,6 +1,6 @@
 -- words read one after the other, as a loop does
 use Rattle.std.proofs.Common.{List, ◌++◌, Result, Ok}
-use Rattle.script_lang.specs.declared.faults.BadKind.{BadKind}
+use Rattle.script_lang.specs.declared.script_error.BadKind.{BadKind}
 use Rattle.script_lang.specs.Gives.{◌>>=◌}
 
 -- what was read before, and what is still read

@@ -1,19 +1,19 @@
 use Rattle.std.specs.Prelude.{◌≡◌, ℕ, ◌-◌, ◌≤◌, Bool, true, false, not, ◌&&◌, ◌||◌, ◌==◌, nat_le, Option, Some, None, List, [], ◌∷◌, length, sum_by, slice_get}
 use Rattle.std.specs.List.{list_all, list_any}
 use Rattle.std.specs.Str.{bytes_eq}
-use Rattle.linx_base.specs.declared.naming.Path.{Path}
-use Rattle.linx_base.specs.declared.naming.Path.TheVariants.{Local, Over}
+use Rattle.linx_base.specs.declared.name.Path.{Path}
+use Rattle.linx_base.specs.declared.name.Path.TheVariants.{Local, Over}
 use Rattle.linx_base.specs.declared.identity.LinkNo.{LinkNo}
 use Rattle.linx_base.specs.declared.identity.NodeNo.{NodeNo}
-use Rattle.linx_base.specs.declared.framing.LinkDecl.{LinkDecl}
-use Rattle.linx_base.specs.declared.framing.Verdict.{Verdict}
-use Rattle.linx_base.specs.declared.framing.Verdict.TheVariants.{Deliver, Lose, Repeat, Swap}
-use Rattle.sigsel.specs.declared.filters.Sigsel.{Sigsel}
-use Rattle.sigsel.specs.declared.filters.Sigsel.TheVariants.{Any, Only, Not}
-use Rattle.script_lang.specs.declared.commands.Filling.{Filling}
-use Rattle.script_lang.specs.declared.commands.Command.{Command}
-use Rattle.script_lang.specs.declared.commands.Command.TheVariants.{Open, Close, Send, Forward, Recv, Hunt, Attach, Detach, Keep, Cut, Mend, Restart, Settle}
-use Rattle.script_lang.specs.declared.commands.ActorScript.{ActorScript}
+use Rattle.linx_base.specs.declared.frame.LinkDecl.{LinkDecl}
+use Rattle.linx_base.specs.declared.frame.Verdict.{Verdict}
+use Rattle.linx_base.specs.declared.frame.Verdict.TheVariants.{Deliver, Lose, Repeat, Swap}
+use Rattle.sigsel.specs.declared.sigsel.Sigsel.{Sigsel}
+use Rattle.sigsel.specs.declared.sigsel.Sigsel.TheVariants.{Any, Only, Not}
+use Rattle.script_lang.specs.declared.command.Filling.{Filling}
+use Rattle.script_lang.specs.declared.command.Command.{Command}
+use Rattle.script_lang.specs.declared.command.Command.TheVariants.{Open, Close, Send, Forward, Recv, Hunt, Attach, Detach, Keep, Cut, Mend, Restart, Settle}
+use Rattle.script_lang.specs.declared.command.ActorScript.{ActorScript}
 use Rattle.script_lang.specs.declared.script.Plans.{Plans}
 use Rattle.script_lang.specs.Parts.{ScriptParts, data_of}
 

@@ -1,7 +1,7 @@
 use Rattle.std.specs.Prelude.{◌≡◌, Result, Ok, Err}
-use Rattle.script_lang.specs.declared.faults.BadKind.{BadKind}
-use Rattle.script_lang.specs.declared.faults.Fault.{Fault}
-use Rattle.script_lang.specs.declared.faults.Fault.TheVariants.{Bad, Memory}
+use Rattle.script_lang.specs.declared.script_error.BadKind.{BadKind}
+use Rattle.script_lang.specs.declared.script_error.Fault.{Fault}
+use Rattle.script_lang.specs.declared.script_error.Fault.TheVariants.{Bad, Memory}
 
 -- goes on with the value, or stays at the fault
 infixl 10 ◌>>=◌

@@ -1,15 +1,15 @@
 use Rattle.std.specs.Prelude.{ℕ, suc, zero, ◌-◌, Option, Some, None, List, [], ◌∷◌, ◌++◌, replicate, slice_get}
-use Rattle.linx_base.specs.declared.naming.Names.{Names}
+use Rattle.linx_base.specs.declared.name.Names.{Names}
 use Rattle.linx_base.specs.declared.identity.LinkNo.{LinkNo}
 use Rattle.linx_base.specs.declared.identity.NodeNo.{NodeNo}
 use Rattle.linx_base.specs.declared.identity.Side.{Side}
 use Rattle.linx_base.specs.declared.identity.Side.TheVariants.{First, Second}
-use Rattle.linx_base.specs.declared.framing.LinkDecl.{LinkDecl}
-use Rattle.linx_base.specs.declared.framing.Verdict.{Verdict}
-use Rattle.script_lang.specs.declared.commands.Filling.{Filling}
-use Rattle.script_lang.specs.declared.commands.Filling.TheVariants.{Bytes, Repeat}
-use Rattle.script_lang.specs.declared.commands.Command.{Command}
-use Rattle.script_lang.specs.declared.commands.ActorScript.{ActorScript}
+use Rattle.linx_base.specs.declared.frame.LinkDecl.{LinkDecl}
+use Rattle.linx_base.specs.declared.frame.Verdict.{Verdict}
+use Rattle.script_lang.specs.declared.command.Filling.{Filling}
+use Rattle.script_lang.specs.declared.command.Filling.TheVariants.{Bytes, Repeat}
+use Rattle.script_lang.specs.declared.command.Command.{Command}
+use Rattle.script_lang.specs.declared.command.ActorScript.{ActorScript}
 use Rattle.script_lang.specs.declared.script.Plans.{Plans}
 
 -- the data bytes that a filling stands for

@@ -5,29 +5,29 @@ use Rattle.std.specs.Prelude.{ℕ, ◌+◌, ◌*◌, ◌≡◌, Bool, ◌&&◌, 
 use Rattle.std.specs.List.{list_all, repeat}
 use Rattle.std.specs.Str.{bytes_eq}
 use Rattle.std.specs.Io.BufRead.{strip_last}
-use Rattle.linx_base.specs.declared.naming.Path.TheVariants as paths
+use Rattle.linx_base.specs.declared.name.Path.TheVariants as paths
 use Rattle.linx_base.specs.declared.identity.LinkNo.{LinkNo}
 use Rattle.linx_base.specs.declared.identity.NodeNo.{NodeNo}
 use Rattle.linx_base.specs.declared.identity.Side.{Side}
-use Rattle.linx_base.specs.declared.framing.Verdict.{Verdict}
-use Rattle.script_lang.specs.declared.commands.Command.{Command}
-use Rattle.script_lang.specs.declared.commands.Command.TheVariants as commands
-use Rattle.script_lang.specs.declared.commands.Filling.{Filling}
-use Rattle.script_lang.specs.declared.statements.Place.{Place}
-use Rattle.script_lang.specs.declared.statements.Place.TheVariants.{Outside, InActor, InRepeat}
-use Rattle.script_lang.specs.declared.statements.Route.{Route}
-use Rattle.script_lang.specs.declared.statements.Route.TheVariants.{Local, Over}
-use Rattle.script_lang.specs.declared.statements.Statement.{Statement}
-use Rattle.script_lang.specs.declared.statements.Statement.TheVariants.{Node, Link, Plan, Actor, Plain, Hunt, Cut, Mend, Restart, Settle, Repeat, End}
+use Rattle.linx_base.specs.declared.frame.Verdict.{Verdict}
+use Rattle.script_lang.specs.declared.command.Command.{Command}
+use Rattle.script_lang.specs.declared.command.Command.TheVariants as commands
+use Rattle.script_lang.specs.declared.command.Filling.{Filling}
+use Rattle.script_lang.specs.declared.statement.Place.{Place}
+use Rattle.script_lang.specs.declared.statement.Place.TheVariants.{Outside, InActor, InRepeat}
+use Rattle.script_lang.specs.declared.statement.Route.{Route}
+use Rattle.script_lang.specs.declared.statement.Route.TheVariants.{Local, Over}
+use Rattle.script_lang.specs.declared.statement.Statement.{Statement}
+use Rattle.script_lang.specs.declared.statement.Statement.TheVariants.{Node, Link, Plan, Actor, Plain, Hunt, Cut, Mend, Restart, Settle, Repeat, End}
 use Rattle.script_lang.specs.declared.reading.Reading.{Reading}
 use Rattle.script_lang.specs.declared.reading.Block.{Block}
 use Rattle.script_lang.specs.declared.reading.Repetition.{Repetition}
-use Rattle.script_lang.specs.declared.faults.BadKind.{BadKind}
-use Rattle.script_lang.specs.declared.faults.BadKind.TheVariants.{ScriptTooLong, LineTooLong, BadByte, UnknownWord, UnknownName, TwiceNamed, OverLimit, Unfinished}
-use Rattle.script_lang.specs.declared.faults.ScriptError.{ScriptError}
-use Rattle.script_lang.specs.declared.faults.ScriptError.TheVariants.{Bad, NoMemory}
-use Rattle.script_lang.specs.declared.faults.Fault.{Fault}
-use Rattle.script_lang.specs.declared.faults.Fault.TheVariants as faults
+use Rattle.script_lang.specs.declared.script_error.BadKind.{BadKind}
+use Rattle.script_lang.specs.declared.script_error.BadKind.TheVariants.{ScriptTooLong, LineTooLong, BadByte, UnknownWord, UnknownName, TwiceNamed, OverLimit, Unfinished}
+use Rattle.script_lang.specs.declared.script_error.ScriptError.{ScriptError}
+use Rattle.script_lang.specs.declared.script_error.ScriptError.TheVariants.{Bad, NoMemory}
+use Rattle.script_lang.specs.declared.script_error.Fault.{Fault}
+use Rattle.script_lang.specs.declared.script_error.Fault.TheVariants as faults
 use Rattle.script_lang.specs.Gives.{◌>>=◌}
 use Rattle.script_lang.specs.Parts.{ScriptParts, empty_script, plan_of, with_node, with_link, with_verdict, with_actor}
 use Rattle.script_lang.specs.Fits.{is_among, has_end, commands_of}

@@ -2,14 +2,14 @@
 use Rattle.std.specs.Prelude.{ℕ, Bool, true, false, Result, Ok, Err, List, [], ◌∷◌, length, ◌==◌, codes, if◌then◌else◌}
 use Rattle.std.specs.List.{list_all}
 use Rattle.std.specs.Str.{bytes_eq}
-use Rattle.script_lang.specs.declared.commands.Command.{Command}
-use Rattle.script_lang.specs.declared.commands.Command.TheVariants.{Open, Close, Send, Forward, Recv, Hunt as Hunting, Attach, Detach, Keep, Cut as Cutting, Mend as Mending, Restart as Restarting, Settle as Settling}
-use Rattle.script_lang.specs.declared.statements.Place.{Place}
-use Rattle.script_lang.specs.declared.statements.Place.TheVariants.{Outside, InActor, InRepeat}
-use Rattle.script_lang.specs.declared.statements.Statement.{Statement}
-use Rattle.script_lang.specs.declared.statements.Statement.TheVariants.{Node, Link, Plan, Actor, Plain, Hunt, Cut, Mend, Restart, Settle, Repeat, End}
-use Rattle.script_lang.specs.declared.faults.BadKind.{BadKind}
-use Rattle.script_lang.specs.declared.faults.BadKind.TheVariants.{BadShape, UnknownWord}
+use Rattle.script_lang.specs.declared.command.Command.{Command}
+use Rattle.script_lang.specs.declared.command.Command.TheVariants.{Open, Close, Send, Forward, Recv, Hunt as Hunting, Attach, Detach, Keep, Cut as Cutting, Mend as Mending, Restart as Restarting, Settle as Settling}
+use Rattle.script_lang.specs.declared.statement.Place.{Place}
+use Rattle.script_lang.specs.declared.statement.Place.TheVariants.{Outside, InActor, InRepeat}
+use Rattle.script_lang.specs.declared.statement.Statement.{Statement}
+use Rattle.script_lang.specs.declared.statement.Statement.TheVariants.{Node, Link, Plan, Actor, Plain, Hunt, Cut, Mend, Restart, Settle, Repeat, End}
+use Rattle.script_lang.specs.declared.script_error.BadKind.{BadKind}
+use Rattle.script_lang.specs.declared.script_error.BadKind.TheVariants.{BadShape, UnknownWord}
 use Rattle.script_lang.specs.Gives.{◌>>=◌}
 use Rattle.script_lang.specs.Fits.{fits_data, fits_filter, fits_verdict, has_link_size}
 use Rattle.script_lang.specs.Values.{within, name_of, kept_name_of, target_of, route_of, filling_of, signal_of, filter_of, side_in, verdicts_of, no_data}

@@ -7,18 +7,18 @@ use Rattle.hex.specs.Hex.{decode_of}
 use Rattle.linx_base.specs.NameText.{is_name}
 use Rattle.linx_base.specs.declared.identity.Side.{Side}
 use Rattle.linx_base.specs.declared.identity.Side.TheVariants.{First, Second}
-use Rattle.linx_base.specs.declared.framing.Verdict.{Verdict}
-use Rattle.linx_base.specs.declared.framing.Verdict.TheVariants.{Deliver, Lose, Repeat as Again, Swap}
-use Rattle.sigsel.specs.declared.filters.Sigsel.{Sigsel}
-use Rattle.sigsel.specs.declared.filters.Sigsel.TheVariants.{Any, Only, Not}
-use Rattle.script_lang.specs.declared.commands.Filling.{Filling}
-use Rattle.script_lang.specs.declared.commands.Filling.TheVariants.{Bytes, Repeat}
-use Rattle.script_lang.specs.declared.commands.Target.{Target}
-use Rattle.script_lang.specs.declared.commands.Target.TheVariants.{Me, Last, Kept}
-use Rattle.script_lang.specs.declared.statements.Route.{Route}
-use Rattle.script_lang.specs.declared.statements.Route.TheVariants.{Local, Over}
-use Rattle.script_lang.specs.declared.faults.BadKind.{BadKind}
-use Rattle.script_lang.specs.declared.faults.BadKind.TheVariants.{BadShape}
+use Rattle.linx_base.specs.declared.frame.Verdict.{Verdict}
+use Rattle.linx_base.specs.declared.frame.Verdict.TheVariants.{Deliver, Lose, Repeat as Again, Swap}
+use Rattle.sigsel.specs.declared.sigsel.Sigsel.{Sigsel}
+use Rattle.sigsel.specs.declared.sigsel.Sigsel.TheVariants.{Any, Only, Not}
+use Rattle.script_lang.specs.declared.command.Filling.{Filling}
+use Rattle.script_lang.specs.declared.command.Filling.TheVariants.{Bytes, Repeat}
+use Rattle.script_lang.specs.declared.command.Target.{Target}
+use Rattle.script_lang.specs.declared.command.Target.TheVariants.{Me, Last, Kept}
+use Rattle.script_lang.specs.declared.statement.Route.{Route}
+use Rattle.script_lang.specs.declared.statement.Route.TheVariants.{Local, Over}
+use Rattle.script_lang.specs.declared.script_error.BadKind.{BadKind}
+use Rattle.script_lang.specs.declared.script_error.BadKind.TheVariants.{BadShape}
 use Rattle.script_lang.specs.Gives.{◌>>=◌}
 
 -- ---- numbers

@@ -3,17 +3,17 @@
 //! limits: whoever holds one knows that all its names are declared and its numbers are in range.
 #![tactic(auto)]
 
-mod commands;
-mod faults;
+mod command;
 mod lines;
 mod parsing;
 mod reading;
 mod sameness;
 mod script;
-mod statements;
+mod script_error;
+mod statement;
 mod values;
 
-pub use commands::{ActorScript, Command, Commands, Filling, Target};
-pub use faults::{BadKind, ScriptError};
+pub use command::{ActorScript, Command, Commands, Filling, Target};
 pub use parsing::parse;
 pub use script::{Plans, Script, Verdicts};
+pub use script_error::{BadKind, ScriptError};

@@ -3,10 +3,10 @@
 ghost use Rattle.std.specs.Prelude.{◌≡◌, ◌≤◌, length, IfOk, IfErr, OnOk};
 ghost use Rattle.script_lang.specs.Reading.{script_of, finished, error_in, IsBadOf};
 
-use crate::faults::{BadKind, Fault, ScriptError};
 use crate::lines::first_line;
 use crate::reading::{Reading, take_line};
 use crate::script::Script;
+use crate::script_error::{BadKind, Fault, ScriptError};
 use linx_base::NameList;
 use std::alloc::Global;
 

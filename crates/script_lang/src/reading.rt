@@ -10,11 +10,11 @@ ghost use Rattle.script_lang.specs.Statements.{is_sized};
 ghost use Rattle.script_lang.specs.Keeping.{IsReading, FitsBlock, fits_repetition};
 ghost use Rattle.script_lang.specs.Reading.{number_among, node_named, link_named, node_added, link_added, with_verdicts, plan_added, actor_begun, declared, hunt_resolved, resolved, has_room as room_for, command_added, repeat_begun, repeat_ended, ended, commanded, in_block, place_of, worded, texted, lined, stated};
 
-use crate::commands::{ActorScript, Command, Commands, Filling};
-use crate::faults::{BadKind, Fault};
+use crate::command::{ActorScript, Command, Commands, Filling};
 use crate::lines::{are_plain, without_feed, without_return, words};
 use crate::script::Script;
-use crate::statements::{Place, Route, Statement, read_statement};
+use crate::script_error::{BadKind, Fault};
+use crate::statement::{Place, Route, Statement, read_statement};
 use linx_base::{LinkDecl, LinkNo, Name, NameList, NoMemory, NodeNo, Path, Side, TryCopy, Verdict};
 use std::alloc::Global;
 

@@ -1,6 +1,6 @@
 ghost use Rattle.std.specs.Prelude.{◌≡◌, ◌↔◌, IsTrue};
 
-use crate::commands::{ActorScript, Command, Filling, Target};
+use crate::command::{ActorScript, Command, Filling, Target};
 use crate::script::Plans;
 use linx_base::{Blob, LinkDecl, Name, Path, Verdict};
 use sigsel::Sigsel;

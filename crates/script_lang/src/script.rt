@@ -3,7 +3,7 @@ ghost use Rattle.std.specs.List.{list_all};
 ghost use Rattle.script_lang.specs.Parts.{empty_script, plan_of, with_node, with_link, with_verdict, with_actor, planned_at, plan_in};
 ghost use Rattle.script_lang.specs.Fits.{is_node, is_link, is_among, fits_link, fits_verdict, fits_command, commands_of, IsScript};
 
-use crate::commands::{ActorScript, Commands};
+use crate::command::{ActorScript, Commands};
 use crate::sameness::all_same;
 use linx_base::{
     LinkDecl, LinkNo, Name, NameList, Names, NoMemory, NodeNo, Sequence, Side, Verdict,

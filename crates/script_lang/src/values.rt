@@ -7,10 +7,10 @@ ghost use Rattle.hex.specs.Hex.{decode_of};
 ghost use Rattle.script_lang.specs.Gives.{Gives};
 ghost use Rattle.script_lang.specs.Values.{is_digit, decimal_of, number_of, within, numbers_of, name_of, kept_name_of, target_of, after, cut_at, route_of, some_bytes, one_byte, fill_in, filling_of, signal_of, filter_of, side_in, swap_of, verdict_of, verdicts_of};
 
-use crate::commands::{Filling, Target};
-use crate::faults::{BadKind, Fault};
+use crate::command::{Filling, Target};
 use crate::script::Verdicts;
-use crate::statements::Route;
+use crate::script_error::{BadKind, Fault};
+use crate::statement::Route;
 use hex::FromHexError;
 use linx_base::{Blob, Name, NameError, Side, Verdict};
 use sigsel::{Numbers, Sigsel};

@@ -1,7 +1,7 @@
 use Rattle.std.specs.Prelude.{ℕ, Bool, true, not, ◌==◌, Contains}
 use Rattle.std.specs.List.{list_any}
-use Rattle.sigsel.specs.declared.filters.Sigsel.{Sigsel}
-use Rattle.sigsel.specs.declared.filters.Sigsel.TheVariants.{Any, Only, Not}
+use Rattle.sigsel.specs.declared.sigsel.Sigsel.{Sigsel}
+use Rattle.sigsel.specs.declared.sigsel.Sigsel.TheVariants.{Any, Only, Not}
 
 -- the filter selects signals of this number
 abbrev pub Selects : Sigsel → ℕ → Type 0

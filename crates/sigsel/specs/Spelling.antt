@@ -1,7 +1,7 @@
 use Rattle.std.specs.Prelude.{Bool, true, false, ◌==◌, ◌≢◌, nat_lt, ℤ, pos, negsuc, neg_ℤ, unsigned_abs, List, [], ◌∷◌, length, map}
 use Rattle.std.specs.List.{list_all}
-use Rattle.sigsel.specs.declared.filters.Sigsel.{Sigsel}
-use Rattle.sigsel.specs.declared.filters.Sigsel.TheVariants.{Any, Only, Not}
+use Rattle.sigsel.specs.declared.sigsel.Sigsel.{Sigsel}
+use Rattle.sigsel.specs.declared.sigsel.Sigsel.TheVariants.{Any, Only, Not}
 
 -- the list that spells a filter: a count, and the listed numbers
 abbrev pub spelling_of : Sigsel → List ℤ

@@ -3,10 +3,10 @@
 //! -n for all but the n listed.
 #![tactic(auto)]
 
-mod filters;
+mod sigsel;
 mod spelling;
 
-pub use filters::{Numbers, Sigsel};
+pub use sigsel::{Numbers, Sigsel};
 pub use spelling::SelError;
 
 #[cfg(test)]

@@ -3,7 +3,7 @@ ghost use Rattle.std.specs.List.{list_all};
 ghost use Rattle.sigsel.specs.Spelling.{spelling_of, IsCounted, has_count, is_number, lists_numbers};
 ghost use Rattle.sigsel.specs.declared.spelling.SelError.TheVariants.{NoMemory as OutOfMemory};
 
-use crate::filters::{Numbers, Sigsel};
+use crate::sigsel::{Numbers, Sigsel};
 use std::alloc::{AllocError, Global};
 use std::error::Error;
 use std::fmt;

@@ -1,6 +1,6 @@
 use Rattle.std.proofs.Common.{◌≡◌, List, length, sym, subst, arith}
-use Rattle.journal.specs.declared.happenings.Step.{Step}
-use Rattle.linx_base.specs.declared.naming.Names.{Names}
+use Rattle.journal.specs.declared.effect.Step.{Step}
+use Rattle.linx_base.specs.declared.name.Names.{Names}
 use Rattle.journal_text.specs.Owners.{Tracks}
 use Rattle.journal_text.specs.Collected.{Collects}
 use Rattle.journal_text.proofs.Positions.{first_steps_none, first_steps_done}

@@ -1,5 +1,5 @@
 use Rattle.std.proofs.Common.{◌≡◌, ◌++◌, ℕ, List, length, flat_map, ap, ◌∙◌, arith}
-use Rattle.journal.specs.declared.happenings.Step.{Step}
+use Rattle.journal.specs.declared.effect.Step.{Step}
 use Rattle.journal.specs.History.{effects_of}
 use Rattle.journal_text.specs.Collected.{opened_log}
 use Rattle.journal_text.proofs.Openings.{logs_text-effects}

@@ -1,5 +1,5 @@
 use Rattle.std.proofs.Common.{◌+◌, sym, subst, List}
-use Rattle.journal.specs.declared.happenings.Step.{Step}
+use Rattle.journal.specs.declared.effect.Step.{Step}
 use Rattle.journal_text.specs.Owners.{Tracks}
 use Rattle.journal_text.specs.Histories.{first_steps}
 use Rattle.journal_text.proofs.Positions.{first_steps_none}

@@ -1,6 +1,6 @@
 use Rattle.std.proofs.Common.{◌≡◌, ◌+◌, ◌++◌, List, length, ap, ◌∙◌, arith}
-use Rattle.journal.specs.declared.happenings.Step.{Step}
-use Rattle.linx_base.specs.declared.naming.Names.{Names}
+use Rattle.journal.specs.declared.effect.Step.{Step}
+use Rattle.linx_base.specs.declared.name.Names.{Names}
 use Rattle.journal_text.specs.Histories.{first_steps}
 use Rattle.journal_text.specs.Steps.{step_text}
 use Rattle.journal_text.specs.Text.{steps_text}

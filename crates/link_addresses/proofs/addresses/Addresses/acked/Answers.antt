@@ -1,8 +1,8 @@
 use Rattle.std.proofs.Common.{◌≡◌, ◌-◌, nat_eq, sym, subst, arith, List}
 use Rattle.std.specs.Prelude.{slice_set}
 use Rattle.std.specs.HashMap.{get}
-use Rattle.link_addresses.specs.declared.meanings.Meaning.{Meaning}
-use Rattle.link_addresses.specs.declared.meanings.Meaning.TheVariants.{Free, Closing}
+use Rattle.link_addresses.specs.declared.meaning.Meaning.{Meaning}
+use Rattle.link_addresses.specs.declared.meaning.Meaning.TheVariants.{Free, Closing}
 use Rattle.link_addresses.specs.Meanings.{meaning_of, ChangesMeaning}
 use Rattle.link_addresses.proofs.Indexing.{index_freed, none_free_freed}
 use Rattle.link_addresses.proofs.Lists.{changes_at, closing_taken, used_freed, in_list}

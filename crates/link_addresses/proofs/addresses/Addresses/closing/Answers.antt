@@ -1,8 +1,8 @@
 use Rattle.std.proofs.Common.{◌≡◌, ◌-◌, nat_eq, subst, List}
 use Rattle.std.specs.Prelude.{slice_set}
 use Rattle.std.specs.HashMap.{get}
-use Rattle.link_addresses.specs.declared.meanings.Meaning.{Meaning}
-use Rattle.link_addresses.specs.declared.meanings.Meaning.TheVariants.{Live, Closing}
+use Rattle.link_addresses.specs.declared.meaning.Meaning.{Meaning}
+use Rattle.link_addresses.specs.declared.meaning.Meaning.TheVariants.{Live, Closing}
 use Rattle.link_addresses.specs.Meanings.{meaning_of, ChangesMeaning, KeepsUsed}
 use Rattle.link_addresses.proofs.Indexing.{index_closing, closed_not_live, none_free_changed, keeps_used, closing_not_free}
 use Rattle.link_addresses.proofs.Lists.{changes_at, live_taken, used_closing}

@@ -1,8 +1,8 @@
 use Rattle.std.proofs.Common.{◌≡◌, ◌+◌, ◌<◌, ◌≤◌, ◌++◌, ◌∷◌, [], ◌∙◌, ℕ, suc, nat_eq, sym, ap, subst, arith, List, length, Some}
 use Rattle.std.specs.Prelude.{slice_set}
 use Rattle.std.specs.HashMap.{get}
-use Rattle.link_addresses.specs.declared.meanings.Meaning.{Meaning}
-use Rattle.link_addresses.specs.declared.meanings.Meaning.TheVariants.{Free, Live}
+use Rattle.link_addresses.specs.declared.meaning.Meaning.{Meaning}
+use Rattle.link_addresses.specs.declared.meaning.Meaning.TheVariants.{Free, Live}
 use Rattle.link_addresses.specs.Meanings.{meaning_of, used_in, ChangesMeaning, IsLive}
 use Rattle.link_addresses.specs.Index.{NoneFreeTo, AnswersAt}
 use Rattle.link_addresses.proofs.Indexing.{index_published, none_free_more, live_isnt_free}

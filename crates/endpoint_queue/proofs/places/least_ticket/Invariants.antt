@@ -1,7 +1,0 @@
-use Rattle.std.proofs.Common.{take}
-use Rattle.endpoint_queue.specs.Places.{IsLeastTicket}
-use Rattle.endpoint_queue.proofs.places.least_ticket.Given as goal
-
--- the least ticket of the numbers so far
-abbrev pub invariant-loop-number : goal.invariant-loop-number
-invariant-loop-number l = IsLeastTicket l.places (take l.number-index l.listed) l.least

@@ -1,8 +1,0 @@
-use Rattle.std.proofs.Common.{◌∙◌, ap}
-use Rattle.std.specs.Prelude.{is_some}
-use Rattle.endpoint_queue.specs.Selection.{is_selected}
-use Rattle.endpoint_queue.proofs.KeptLemmas.{is_some-position}
-use Rattle.endpoint_queue.proofs.queueing.Queue.holds.Goals as goal
-
-pub returns : goal.returns
-returns c = c.is_some.ensures ∙ ap (λ o. is_some o) c.first_position.ensures ∙ is_some-position (is_selected c.args.sel.now) c.args.self.now.items

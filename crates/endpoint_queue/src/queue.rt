@@ -1,0 +1,278 @@
+ghost use Rattle.std.specs.Prelude.{◌≡◌, ◌≤◌, ◌<◌, ◌+◌, ◌^◌, [], ◌∷◌, ◌++◌, if◌then◌else◌, false, is_some, length, max, slice_index_or, IfNone, IfSome, OnOk, OnErr, IsOk};
+ghost use Rattle.std.specs.List.{position, range_with_len, remove, All, AllPairs};
+ghost use Rattle.std.specs.List.Sorted.{IsPermutation};
+ghost use Rattle.std.specs.VecDeque.{deque_capacity, deque_len};
+ghost use Rattle.endpoint_queue.specs.Places.{IsKept};
+ghost use Rattle.endpoint_queue.specs.QueueContent.{has_tickets};
+ghost use Rattle.endpoint_queue.specs.Selection.{notifies};
+ghost use Rattle.linx_base.specs.FirstMatch.{TakesEarliest, first_match, without_match, without_beside};
+
+use crate::index::Index;
+use crate::item::{Item, Kind};
+use crate::place::{Place, count_before, least_ticket};
+use linx_base::{AttRef, NoMemory};
+use sigsel::Sigsel;
+use std::alloc::Global;
+use std::collections::VecDeque;
+use std::marker::Model;
+
+/// The items that wait at an endpoint, in order of arrival.
+#[derive(Drop)]
+pub struct Queue {
+    items: VecDeque<Item>,
+    tickets: VecDeque<u64>,
+    index: Index,
+    next: u64,
+    spare: usize,
+}
+
+impl Model for Queue {
+    ghost use Rattle.std.specs.Prelude.{◌+◌, ◌<◌, ◌≤◌, ◌^◌};
+    ghost use Rattle.std.specs.VecDeque.{deque_capacity, deque_len};
+    ghost use Rattle.endpoint_queue.specs.QueueContent.{QueueContent};
+    ghost use Rattle.endpoint_queue.specs.Places.{IsKept};
+
+    ghost Value = { QueueContent };
+
+    ghost view = { λ q. record { items = q.items.items; tickets = q.tickets.items; next = q.next; spare = q.spare } };
+
+    ghost invariant = { λ q. IsKept q.items.items q.tickets.items q.index.places q.next
+        × (deque_len q.items + q.spare ≤ deque_capacity q.items)
+        × (deque_len q.tickets + q.spare ≤ deque_capacity q.tickets)
+        × (q.spare ≤ q.index.room)
+        × (q.next + q.spare < 2 ^ 64) };
+}
+
+/// Takes out the element at this position.
+fn take_out<T>(elements: &mut VecDeque<T>, at: usize) -> T
+    requires { at < deque_len elements.old }
+    ensures element { result ≡ slice_index_or elements.old.items at result }
+    ensures others { elements.new.items ≡ remove elements.old.items at }
+    ensures len { deque_len elements.new + 1 ≡ deque_len elements.old }
+    ensures capacity { deque_capacity elements.new ≡ deque_capacity elements.old }
+{
+    elements.remove(at).unwrap()
+}
+
+fn notifies(kind: &Kind, attach: AttRef) -> bool
+    ensures { result ≡ notifies attach kind.now }
+{
+    match kind {
+        Kind::Notice(of) => of.0 == attach.0,
+        _ => false,
+    }
+}
+
+/// Gives the items tickets from 0 on, and makes the index anew.
+fn number_anew(items: &VecDeque<Item>, tickets: &mut VecDeque<u64>, index: &mut Index)
+    requires room_for_tickets { deque_len items.now ≤ deque_capacity tickets.old }
+    requires room_for_places { deque_len items.now ≤ length index.old.places + index.old.room }
+    ensures kept { IsKept items.now.items tickets.new.items index.new.places (length items.now.items) }
+    ensures anew { tickets.new.items ≡ range_with_len 0 (length items.now.items) }
+    ensures len { deque_len tickets.new ≡ deque_len items.now }
+    ensures capacity { deque_capacity tickets.new ≡ deque_capacity tickets.old }
+    ensures room { length index.old.places + index.old.room ≤ deque_len items.now + index.new.room }
+{
+    tickets.clear();
+    index.clear();
+    for at in 0..items.len() {
+        let place = Place {
+            number: items[at].signal.number(),
+            ticket: at as u64,
+        };
+        let before = count_before(index.as_slice(), &place);
+        index.insert(before, place);
+        tickets.push_back_reserved(at as u64);
+    }
+}
+
+/// Sees to it that n more tickets can follow, and answers the next one.
+fn ticketed(
+    items: &VecDeque<Item>,
+    tickets: &mut VecDeque<u64>,
+    index: &mut Index,
+    next: u64,
+    n: usize,
+) -> u64
+    requires kept { IsKept items.now.items tickets.old.items index.old.places next }
+    requires lengths { (deque_len tickets.old ≡ deque_len items.now) × (length index.old.places ≡ deque_len items.now) }
+    requires room { (deque_len items.now + n ≤ deque_capacity tickets.old) × (n ≤ index.old.room) }
+    ensures kept { IsKept items.now.items tickets.new.items index.new.places result }
+    ensures tickets { tickets.new.items ≡ (if has_tickets next n then tickets.old.items else range_with_len 0 (length items.now.items)) }
+    ensures next { result ≡ (if has_tickets next n then next else length items.now.items) }
+    ensures enough { result + n < 2 ^ 64 }
+    ensures len { deque_len tickets.new ≡ deque_len items.now }
+    ensures room { (deque_capacity tickets.new ≡ deque_capacity tickets.old) × (n ≤ index.new.room) }
+{
+    if n as u64 <= u64::MAX - next {
+        return next;
+    }
+    number_anew(items, tickets, index);
+    items.len() as u64
+}
+
+impl Queue {
+    ghost use Rattle.endpoint_queue.specs.Places.{AreTickets, IsBefore, is_listed, places_of};
+    ghost use Rattle.endpoint_queue.specs.QueueContent.{next_for, tickets_for};
+    ghost use Rattle.endpoint_queue.specs.Selection.{first_selected, is_notice_of, is_selected, without_first};
+
+    /// The empty queue. It takes no memory.
+    pub fn new(alloc: Global) -> Queue
+        ensures { result ≡ record { items = []; tickets = []; next = 0; spare = 0 } }
+    {
+        Queue {
+            items: VecDeque::new(alloc),
+            tickets: VecDeque::new(alloc),
+            index: Index::new(alloc),
+            next: 0,
+            spare: 0,
+        }
+    }
+
+    /// Makes room and tickets for at least n items. Where the tickets of so many would pass the end
+    /// of a u64, the items are numbered anew from 0. A refusal changes nothing.
+    pub fn reserve(&mut self, n: usize) -> Result<(), NoMemory>
+        ensures items { self.new.items ≡ self.old.items }
+        ensures spare { OnOk result (self.new.spare ≡ max self.old.spare n) }
+        ensures tickets { OnOk result (self.new.tickets ≡ tickets_for self.old n) }
+        ensures next { OnOk result (self.new.next ≡ next_for self.old n) }
+        ensures enough { n ≤ self.old.spare → IsOk result }
+        ensures err { OnErr result (self.new ≡ self.old) }
+    {
+        if n <= self.spare {
+            return Ok(());
+        }
+        self.items.reserve(n)?;
+        self.tickets.reserve(n)?;
+        self.index.reserve(n)?;
+        self.next = ticketed(
+            &self.items,
+            &mut self.tickets,
+            &mut self.index,
+            self.next,
+            n,
+        );
+        self.spare = n;
+        Ok(())
+    }
+
+    /// Adds an item at the end. It takes no memory.
+    pub fn put(&mut self, item: Item)
+        requires { 0 < self.old.spare }
+        ensures item { self.new.items ≡ self.old.items ++ item ∷ [] }
+        ensures ticket { self.new.tickets ≡ self.old.tickets ++ self.old.next ∷ [] }
+        ensures next { self.new.next ≡ self.old.next + 1 }
+        ensures spare { self.new.spare + 1 ≡ self.old.spare }
+    {
+        let place = Place {
+            number: item.signal.number(),
+            ticket: self.next,
+        };
+        let at = count_before(self.index.as_slice(), &place);
+        self.index.insert(at, place);
+        self.items.push_back_reserved(item);
+        self.tickets.push_back_reserved(self.next);
+        self.next += 1;
+        self.spare -= 1;
+    }
+
+    /// The position of the first item of a listed number.
+    fn first_listed(&self, listed: &[u32]) -> Option<usize>
+        ensures { result ≡ position (λ item. is_listed listed.now item.signal.number) self.now.items }
+    {
+        let ticket = least_ticket(self.index.as_slice(), listed)?;
+        self.tickets.binary_search(&ticket).ok()
+    }
+
+    /// The position of the first selected item.
+    fn first_position(&self, sel: &Sigsel) -> Option<usize>
+        ensures { result ≡ position (is_selected sel.now) self.now.items }
+    {
+        match sel {
+            Sigsel::Any if self.items.is_empty() => None,
+            Sigsel::Any => Some(0),
+            Sigsel::Only(listed) => self.first_listed(listed.as_slice()),
+            Sigsel::Not(_) => self
+                .items
+                .iter()
+                .position(|item| sel.selects(item.signal.number())),
+        }
+    }
+
+    /// The position of the notice of an attach.
+    fn notice_position(&self, attach: AttRef) -> Option<usize>
+        ensures { result ≡ position (is_notice_of attach) self.now.items }
+    {
+        self.items
+            .iter()
+            .position(|item| notifies(&item.kind, attach))
+    }
+
+    /// Takes out the item at this position.
+    fn remove_at(&mut self, at: usize) -> Item
+        requires { at < length self.old.items }
+        ensures ticketed { length self.old.tickets ≡ length self.old.items }
+        ensures item { result ≡ slice_index_or self.old.items at result }
+        ensures items { self.new.items ≡ remove self.old.items at }
+        ensures tickets { self.new.tickets ≡ remove self.old.tickets at }
+        ensures counts { (self.new.next ≡ self.old.next) × (self.new.spare ≡ self.old.spare) }
+    {
+        let ticket = take_out(&mut self.tickets, at);
+        let item = take_out(&mut self.items, at);
+        let place = Place {
+            number: item.signal.number(),
+            ticket,
+        };
+        let found = count_before(self.index.as_slice(), &place);
+        self.index.remove(found);
+        item
+    }
+
+    /// Takes out the first selected item; the others keep their order. `None` exactly where none is
+    /// selected. It takes no memory.
+    pub fn take(&mut self, sel: &Sigsel) -> Option<Item>
+        ensures item { result ≡ first_selected sel.now self.old.items }
+        ensures others { self.new.items ≡ without_first sel.now self.old.items }
+        ensures earliest { IfSome result (λ item. TakesEarliest (is_selected sel.now) self.old.items item self.new.items) }
+        ensures none { IfNone result (All (λ item. is_selected sel.now item ≡ false) self.old.items) }
+        ensures tickets { self.new.tickets ≡ without_beside (is_selected sel.now) self.old.items self.old.tickets }
+        ensures counts { (self.new.next ≡ self.old.next) × (self.new.spare ≡ self.old.spare) }
+    {
+        match self.first_position(sel) {
+            Some(at) => Some(self.remove_at(at)),
+            None => None,
+        }
+    }
+
+    /// Whether an item is selected.
+    pub fn holds(&self, sel: &Sigsel) -> bool
+        ensures { result ≡ is_some (first_selected sel.now self.now.items) }
+    {
+        self.first_position(sel).is_some()
+    }
+
+    /// Takes out the notice of an attach. `None` exactly where there is none. It takes no memory.
+    pub fn remove_ref(&mut self, attach: AttRef) -> Option<Item>
+        ensures item { result ≡ first_match (is_notice_of attach) self.old.items }
+        ensures others { self.new.items ≡ without_match (is_notice_of attach) self.old.items }
+        ensures earliest { IfSome result (λ item. TakesEarliest (is_notice_of attach) self.old.items item self.new.items) }
+        ensures none { IfNone result (All (λ item. is_notice_of attach item ≡ false) self.old.items) }
+        ensures tickets { self.new.tickets ≡ without_beside (is_notice_of attach) self.old.items self.old.tickets }
+        ensures counts { (self.new.next ≡ self.old.next) × (self.new.spare ≡ self.old.spare) }
+    {
+        match self.notice_position(attach) {
+            Some(at) => Some(self.remove_at(at)),
+            None => None,
+        }
+    }
+
+    /// The place of each item, by number and then by ticket. It takes no memory.
+    pub fn index(&self) -> &[Place]
+        ensures places { IsPermutation (places_of self.now.items self.now.tickets) result.now }
+        ensures ordered { AllPairs IsBefore result.now }
+        ensures ticketed { length self.now.tickets ≡ length self.now.items }
+        ensures rising { AreTickets self.now.tickets self.now.next }
+    {
+        self.index.as_slice()
+    }
+}

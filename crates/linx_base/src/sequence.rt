@@ -1,0 +1,113 @@
+ghost use Rattle.std.specs.Prelude.{◌≡◌, ◌==◌, [], ◌∷◌, ◌++◌, length, IfSome, IfNone, OnOk, OnErr, slice_get, IfOk};
+ghost use Rattle.std.specs.Option.{option_copied};
+
+use crate::memory::NoMemory;
+use crate::try_copy::TryCopy;
+use std::alloc::Global;
+use std::marker::Model;
+
+/// A list of plain values, which contracts see as a list.
+#[derive(Drop)]
+pub struct Sequence<T> {
+    elements: Vec<T>,
+}
+
+impl<T> Model for Sequence<T> {
+    ghost use Rattle.std.specs.Prelude.{List};
+
+    ghost Value = { List T };
+
+    ghost view = { λ s. s.elements.items };
+}
+
+impl<T> Sequence<T> {
+    /// The empty list. It takes no memory.
+    pub fn new(alloc: Global) -> Sequence<T>
+        ensures { result ≡ [] }
+    {
+        Sequence {
+            elements: Vec::new(alloc),
+        }
+    }
+
+    /// The list that a vector holds. It takes no memory.
+    pub fn of(elements: Vec<T>) -> Sequence<T>
+        ensures { result ≡ elements.items }
+    {
+        Sequence { elements }
+    }
+
+    /// The vector that holds the list. It takes no memory.
+    pub fn into_vec(self) -> Vec<T>
+        ensures { result.items ≡ self }
+    {
+        self.elements
+    }
+
+    /// Adds a value at the end. A refusal frees the value and changes nothing.
+    pub fn push(&mut self, value: T) -> Result<(), NoMemory>
+    where
+        T: Drop,
+        ensures ok { OnOk result (self.new ≡ self.old ++ value ∷ []) }
+        ensures err { OnErr result (self.new ≡ self.old) }
+    {
+        self.elements.push(value)?;
+        Ok(())
+    }
+
+    pub fn len(&self) -> usize
+        ensures { result ≡ length self.now }
+    {
+        self.elements.len()
+    }
+
+    pub fn is_empty(&self) -> bool
+        ensures { result ≡ (length self.now == 0) }
+    {
+        self.elements.is_empty()
+    }
+
+    /// The element at place k from 0, `None` exactly where k isn't below the length.
+    pub fn get(&self, k: usize) -> Option<&T>
+        ensures { option_copied result ≡ slice_get self.now k }
+    {
+        self.elements.get(k)
+    }
+
+    pub fn as_slice(&self) -> &[T]
+        ensures { result.now ≡ self.now }
+    {
+        self.elements.as_slice()
+    }
+
+    /// Takes out the first element, `None` exactly where the list is empty.
+    pub fn pop_first(&mut self) -> Option<T>
+        ensures first { IfSome result (λ value. self.old ≡ value ∷ self.new) }
+        ensures none { IfNone result (self.old ≡ []) }
+        ensures unchanged { IfNone result (self.new ≡ self.old) }
+    {
+        if self.elements.is_empty() {
+            return None;
+        }
+        Some(self.elements.remove(0))
+    }
+}
+
+/// Copies of some values, in their order.
+fn copies<T: TryCopy + Drop>(alloc: Global, values: &[T]) -> Result<Vec<T>, NoMemory>
+    ensures { IfOk result (λ made. made.items ≡ values.now) }
+{
+    let mut made = Vec::with_capacity(alloc, values.len())?;
+    for value in values {
+        made.push(value.copy()?)?;
+    }
+    Ok(made)
+}
+
+impl<T: TryCopy + Drop> TryCopy for Sequence<T> {
+    fn copy(&self) -> Result<Sequence<T>, NoMemory> {
+        Ok(Sequence {
+            elements: copies(*self.elements.allocator(), &self.elements)?,
+        })
+    }
+}
