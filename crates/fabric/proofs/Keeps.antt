@@ -5,7 +5,8 @@ use Rattle.std.specs.List.{list_any, filter, filter_map, count_by}
 use Rattle.std.specs.Option.{option_to_list, option_map}
 use Rattle.std.proofs.lemmas.List.Sums.{count_by-le-length}
 use Rattle.linx_base.specs.FirstMatch.{first_match}
-use Rattle.linx_base.specs.Peers.{same_inc, is_on}
+use Rattle.linx_base.specs.Numbers.{is_on}
+use Rattle.linx_base.specs.Peers.{same_inc}
 use Rattle.linx_base.specs.declared.identity.Inc.{Inc}
 use Rattle.linx_base.specs.declared.identity.NodeNo.{NodeNo}
 use Rattle.linx_base.specs.declared.identity.Peer.{Peer}

@@ -1,1 +1,2 @@
 pub mod FirstMatches
+mod Ranges

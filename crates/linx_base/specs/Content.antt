@@ -3,6 +3,10 @@ use Rattle.linx_base.specs.declared.signal.SigNote.{SigNote}
 use Rattle.linx_base.specs.declared.signal.Reason.{Reason}
 use Rattle.linx_base.specs.declared.signal.Reason.TheVariants.{Closed, Lost, Dead}
 
+-- the most data bytes of a signal
+abbrev pub data_limit : ℕ
+data_limit = 65532
+
 -- the size of a signal: 4 bytes of number, and its data
 abbrev pub size_of : SigNote → ℕ
 size_of note = 4 + length note.bytes

@@ -1,4 +1,9 @@
 pub mod NameText
 pub mod Content
+pub mod Numbers
+pub mod Sides
 pub mod Peers
+pub mod Frames
+pub mod Both
 pub mod FirstMatch
+pub mod Failures

@@ -1,4 +1,4 @@
-use Rattle.std.specs.Prelude.{ℕ, Bool, false, ◌&&◌, ◌==◌, ◌/◌}
+use Rattle.std.specs.Prelude.{Bool, false, ◌&&◌, ◌==◌}
 use Rattle.linx_base.specs.declared.identity.Inc.{Inc}
 use Rattle.linx_base.specs.declared.identity.ItemAt.{ItemAt}
 use Rattle.linx_base.specs.declared.identity.Peer.{Peer}
@@ -7,10 +7,6 @@ use Rattle.linx_base.specs.declared.identity.Peer.TheVariants.{Here, There}
 -- one incarnation
 abbrev pub same_inc : Inc → Inc → Bool
 same_inc a b = a.0 == b.0
-
--- the incarnation was opened on the node of this number
-abbrev pub is_on : ℕ → Inc → Bool
-is_on node inc = inc.0 / 4294967296 == node
 
 -- one peer
 abbrev pub same_peer : Peer → Peer → Bool

@@ -1,24 +1,29 @@
-ghost use Rattle.std.specs.Prelude.{◌≡◌, ◌↔◌, IsTrue, IfOk};
+ghost use Rattle.std.specs.Prelude.{◌≡◌, ◌≤◌, ◌↔◌, length, slice_range, IsTrue, IfOk, IfErr};
 
 use crate::memory::NoMemory;
 use crate::try_copy::TryCopy;
 use std::alloc::Global;
 use std::marker::Model;
-use std::sync::ArcSlice;
+use std::sync::Arc;
 
-/// Bytes that never change. Copies share them.
+/// Bytes that never change: a part of a buffer that copies and parts share. A part keeps the whole
+/// buffer.
 #[derive(Drop)]
 pub struct Blob {
-    shared: ArcSlice<u8>,
+    buffer: Arc<Vec<u8>>,
+    from: usize,
+    to: usize,
 }
 
 impl Model for Blob {
-    ghost use Rattle.std.specs.Prelude.{List, ℕ};
-    ghost use Rattle.std.specs.Arc.{arc_slice_items};
+    ghost use Rattle.std.specs.Prelude.{List, ℕ, ◌≤◌, length, slice_range};
+    ghost use Rattle.std.specs.Arc.{arc_value};
 
     ghost Value = { List ℕ };
 
-    ghost view = { λ b. arc_slice_items b.shared };
+    ghost view = { λ b. slice_range (arc_value b.buffer).items b.from b.to };
+
+    ghost invariant = { λ b. (b.from ≤ b.to) × (b.to ≤ length (arc_value b.buffer).items) };
 }
 
 impl Blob {
@@ -26,24 +31,59 @@ impl Blob {
     pub fn of(alloc: Global, bytes: &[u8]) -> Result<Blob, NoMemory>
         ensures { IfOk result (λ blob. blob ≡ bytes.now) }
     {
-        Ok(Blob {
-            shared: ArcSlice::from_slice(alloc, bytes)?,
-        })
+        shared(Vec::from_slice(alloc, bytes)?)
     }
 
-    /// A blob of these bytes, which are not copied.
-    pub fn of_vec(bytes: Vec<u8>) -> Result<Blob, NoMemory>
-        ensures { IfOk result (λ blob. blob ≡ bytes.items) }
+    /// A blob of these bytes, which are not copied. A refusal gives the vector back.
+    pub fn of_vec(bytes: Vec<u8>) -> Result<Blob, (NoMemory, Vec<u8>)>
+        ensures ok { IfOk result (λ blob. blob ≡ bytes.items) }
+        ensures err { IfErr result (λ back. back.1 ≡ bytes) }
     {
-        Ok(Blob {
-            shared: ArcSlice::from_vec(bytes)?,
-        })
+        let to = bytes.len();
+        match Arc::new(*bytes.allocator(), bytes) {
+            Ok(buffer) => Ok(Blob {
+                buffer,
+                from: 0,
+                to,
+            }),
+            Err(refused) => Err((NoMemory, refused.value)),
+        }
     }
 
     pub fn bytes(&self) -> &[u8]
         ensures { result.now ≡ self.now }
     {
-        self.shared.as_slice()
+        &self.buffer.as_slice()[self.from..self.to]
+    }
+
+    pub fn len(&self) -> usize
+        ensures { result ≡ length self.now }
+    {
+        self.to - self.from
+    }
+
+    pub fn is_empty(&self) -> bool
+        ensures { IsTrue result ↔ (length self.now ≡ 0) }
+    {
+        self.from == self.to
+    }
+
+    /// The bytes from one place up to another, which are shared.
+    pub fn part(&self, from: usize, to: usize) -> Result<Blob, NoMemory>
+        requires order { from ≤ to }
+        requires within { to ≤ length self.now }
+        ensures { IfOk result (λ part. part ≡ slice_range self.now from to) }
+    {
+        Ok(Blob {
+            buffer: self.buffer.clone()?,
+            from: self.from + from,
+            to: self.from + to,
+        })
+    }
+
+    /// The allocator that the buffer was made with.
+    pub(crate) fn allocator(&self) -> Global {
+        *self.buffer.allocator()
     }
 
     /// Whether both have the same bytes.
@@ -54,10 +94,22 @@ impl Blob {
     }
 }
 
+/// A blob of these bytes, which are not copied. A refusal frees them.
+pub(crate) fn shared(bytes: Vec<u8>) -> Result<Blob, NoMemory>
+    ensures { IfOk result (λ blob. blob ≡ bytes.items) }
+{
+    match Blob::of_vec(bytes) {
+        Ok(blob) => Ok(blob),
+        Err((refusal, _bytes)) => Err(refusal),
+    }
+}
+
 impl TryCopy for Blob {
     fn copy(&self) -> Result<Blob, NoMemory> {
         Ok(Blob {
-            shared: self.shared.clone()?,
+            buffer: self.buffer.clone()?,
+            from: self.from,
+            to: self.to,
         })
     }
 }

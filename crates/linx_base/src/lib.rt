@@ -5,6 +5,7 @@
 #![tactic(auto)]
 
 mod blob;
+mod bytes;
 mod frame;
 mod identity;
 mod memory;
@@ -12,8 +13,10 @@ mod name;
 mod sequence;
 mod signal;
 mod try_copy;
+mod undo_list;
 
 pub use blob::Blob;
+pub use bytes::Bytes;
 pub use frame::{ConnKind, Frame, Frames, LinkDecl, Message, SentFrame, SentFrames, Verdict};
 pub use identity::{AttRef, Inc, ItemAt, LinkNo, NodeNo, Peer, Session, Side};
 pub use memory::NoMemory;
@@ -21,6 +24,7 @@ pub use name::{Name, NameError, NameList, Names, Path};
 pub use sequence::Sequence;
 pub use signal::{BufferError, Reason, SigNote, Signal};
 pub use try_copy::TryCopy;
+pub use undo_list::UndoList;
 
 #[cfg(test)]
 mod tests;

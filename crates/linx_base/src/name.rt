@@ -14,7 +14,7 @@ use std::fmt;
 use std::marker::Model;
 
 /// The most bytes of a name.
-pub const NAME_MOST: usize = 32;
+const NAME_MOST: usize = 32;
 
 /// Why bytes were no name.
 #[derive(Clone, Copy, Debug, PartialEq, Eq, Hash)]
@@ -24,6 +24,11 @@ pub enum NameError {
 }
 
 impl fmt::Display for NameError {
+    ghost use Rattle.std.specs.Prelude.{Some};
+    ghost use Rattle.linx_base.specs.Failures.{name_error_text};
+
+    ghost output = { λ error. Some (name_error_text error) };
+
     fn fmt<W: fmt::Write>(&self, f: &mut fmt::Formatter<W>) -> fmt::Result {
         f.write_str(match self {
             NameError::BadName => "not a name",

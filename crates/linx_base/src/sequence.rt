@@ -1,4 +1,4 @@
-ghost use Rattle.std.specs.Prelude.{◌≡◌, ◌==◌, [], ◌∷◌, ◌++◌, length, IfSome, IfNone, OnOk, OnErr, slice_get, IfOk};
+ghost use Rattle.std.specs.Prelude.{◌≡◌, ◌==◌, [], ◌∷◌, ◌++◌, length, OnOk, OnErr, slice_get, IfOk};
 ghost use Rattle.std.specs.Option.{option_copied};
 
 use crate::memory::NoMemory;
@@ -6,7 +6,8 @@ use crate::try_copy::TryCopy;
 use std::alloc::Global;
 use std::marker::Model;
 
-/// A list of plain values, which contracts see as a list.
+/// A list of plain values, which contracts see as a list. It is emptied by `into_vec` and a `for`,
+/// which moves each element once.
 #[derive(Drop)]
 pub struct Sequence<T> {
     elements: Vec<T>,
@@ -78,18 +79,6 @@ impl<T> Sequence<T> {
         ensures { result.now ≡ self.now }
     {
         self.elements.as_slice()
-    }
-
-    /// Takes out the first element, `None` exactly where the list is empty.
-    pub fn pop_first(&mut self) -> Option<T>
-        ensures first { IfSome result (λ value. self.old ≡ value ∷ self.new) }
-        ensures none { IfNone result (self.old ≡ []) }
-        ensures unchanged { IfNone result (self.new ≡ self.old) }
-    {
-        if self.elements.is_empty() {
-            return None;
-        }
-        Some(self.elements.remove(0))
     }
 }
 

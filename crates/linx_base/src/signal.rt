@@ -1,16 +1,17 @@
 ghost use Rattle.std.specs.Prelude.{◌≡◌, ◌+◌, ◌-◌, ◌*◌, ◌<◌, ◌≤◌, ◌^◌, ◌↔◌, false, true, length, replicate, take, IsTrue, IfOk, IfErr, OnOk, OnErr};
+ghost use Rattle.linx_base.specs.Content.{resized, with_last};
 ghost use Rattle.linx_base.specs.declared.signal.BufferError.TheVariants.{NoMemory as OutOfMemory};
 
-use crate::blob::Blob;
+use crate::blob::{Blob, shared};
 use crate::memory::NoMemory;
 use crate::try_copy::TryCopy;
-use std::alloc::{AllocError, Global};
+use std::alloc::Global;
 use std::error::Error;
 use std::fmt;
 use std::marker::Model;
 
 /// The most data bytes of a signal.
-pub const DATA_MOST: usize = 65_532;
+const DATA_MOST: usize = 65_532;
 
 /// Why a buffer was refused.
 #[derive(Clone, Copy, Debug, PartialEq, Eq, Hash)]
@@ -20,6 +21,11 @@ pub enum BufferError {
 }
 
 impl fmt::Display for BufferError {
+    ghost use Rattle.std.specs.Prelude.{Some};
+    ghost use Rattle.linx_base.specs.Failures.{buffer_error_text};
+
+    ghost output = { λ error. Some (buffer_error_text error) };
+
     fn fmt<W: fmt::Write>(&self, f: &mut fmt::Formatter<W>) -> fmt::Result {
         f.write_str(match self {
             BufferError::TooLarge => "too large for a signal",
@@ -30,10 +36,10 @@ impl fmt::Display for BufferError {
 
 impl Error for BufferError {}
 
-impl From<AllocError> for BufferError {
+impl From<NoMemory> for BufferError {
     ghost from_gives = { λ _ e. e ≡ OutOfMemory };
 
-    fn from(_refusal: AllocError) -> BufferError {
+    fn from(_refusal: NoMemory) -> BufferError {
         BufferError::NoMemory
     }
 }
@@ -81,65 +87,93 @@ impl TryCopy for SigNote {
     }
 }
 
+/// The first n bytes, and zeros where there are fewer.
+fn resized(alloc: Global, bytes: &[u8], n: usize) -> Result<Blob, NoMemory>
+    ensures { IfOk result (λ made. made ≡ resized bytes.now n) }
+{
+    let mut changed = Vec::from_slice(alloc, bytes)?;
+    changed.resize(n, 0)?;
+    shared(changed)
+}
+
+/// The bytes with another last one.
+fn with_last(alloc: Global, bytes: &[u8], last: u8) -> Result<Blob, NoMemory>
+    requires { 0 < length bytes.now }
+    ensures { IfOk result (λ made. made ≡ with_last bytes.now last) }
+{
+    let mut changed = Vec::from_slice(alloc, bytes)?;
+    changed[bytes.len() - 1] = last;
+    shared(changed)
+}
+
 /// A signal: a number and 0 to 65,532 data bytes. It has one owner and no clone; sending moves it
-/// away. Contracts see its content.
+/// away. Its bytes are shared with its notes. Contracts see its content.
 #[derive(Drop)]
 pub struct Signal {
     number: u32,
-    bytes: Vec<u8>,
+    bytes: Blob,
 }
 
 impl Model for Signal {
-    ghost use Rattle.std.specs.Prelude.{◌≤◌, vec_len};
+    ghost use Rattle.std.specs.Prelude.{◌≤◌, length};
+    ghost use Rattle.linx_base.specs.Content.{data_limit};
     ghost use Rattle.linx_base.specs.declared.signal.SigNote.{SigNote};
-    ghost use Rattle.linx_base.specs.declared.signal.TheConstants.{DATA_MOST};
 
     ghost Value = { SigNote };
 
-    ghost view = { λ s. record { number = s.number; bytes = s.bytes.items } };
+    ghost view = { λ s. record { number = s.number; bytes = s.bytes } };
 
-    ghost invariant = { λ s. vec_len s.bytes ≤ DATA_MOST };
+    ghost invariant = { λ s. length s.bytes ≤ data_limit };
 }
 
 impl Signal {
-    ghost use Rattle.linx_base.specs.Content.{size_of, resized, with_last};
+    ghost use Rattle.linx_base.specs.Content.{data_limit, size_of, resized, with_last};
 
-    /// A signal with this number and these data bytes.
+    /// A signal with this number and these data bytes, copied once.
     pub fn alloc(alloc: Global, number: u32, bytes: &[u8]) -> Result<Signal, BufferError>
         ensures ok { IfOk result (λ signal. signal ≡ record { number = number; bytes = bytes.now }) }
-        ensures too_large { DATA_MOST < length bytes.now → result ≡ Err BufferError.TooLarge }
-        ensures too_large_only { IfErr result (λ e. e ≡ BufferError.TooLarge → DATA_MOST < length bytes.now) }
+        ensures too_large { data_limit < length bytes.now → result ≡ Err BufferError.TooLarge }
+        ensures too_large_only { IfErr result (λ e. e ≡ BufferError.TooLarge → data_limit < length bytes.now) }
     {
         if bytes.len() > DATA_MOST {
             return Err(BufferError::TooLarge);
         }
         Ok(Signal {
             number,
-            bytes: Vec::from_slice(alloc, bytes)?,
+            bytes: Blob::of(alloc, bytes)?,
         })
+    }
+
+    /// A signal with this number and these data bytes, which are shared. It takes no memory.
+    pub fn of(number: u32, bytes: Blob) -> Signal
+        requires { length bytes ≤ data_limit }
+        ensures { result ≡ record { number = number; bytes = bytes } }
+    {
+        Signal { number, bytes }
     }
 
     /// Keeps the first n data bytes, and adds zeros where there are fewer. A refusal changes nothing.
     pub fn resize(&mut self, n: usize) -> Result<(), BufferError>
         ensures ok { OnOk result (self.new ≡ record self.old { bytes = resized self.old.bytes n }) }
-        ensures too_large { DATA_MOST < n → result ≡ Err BufferError.TooLarge }
-        ensures too_large_only { IfErr result (λ e. e ≡ BufferError.TooLarge → DATA_MOST < n) }
+        ensures too_large { data_limit < n → result ≡ Err BufferError.TooLarge }
+        ensures too_large_only { IfErr result (λ e. e ≡ BufferError.TooLarge → data_limit < n) }
         ensures err { OnErr result (self.new ≡ self.old) }
     {
         if n > DATA_MOST {
             return Err(BufferError::TooLarge);
         }
-        self.bytes.resize(n, 0)?;
+        self.bytes = resized(self.bytes.allocator(), self.bytes.bytes(), n)?;
         Ok(())
     }
 
-    /// Writes the last data byte. It takes no memory.
-    pub fn set_last(&mut self, byte: u8)
+    /// Writes the last data byte. A refusal changes nothing.
+    pub fn set_last(&mut self, byte: u8) -> Result<(), NoMemory>
         requires { 0 < length self.old.bytes }
-        ensures { self.new ≡ record self.old { bytes = with_last self.old.bytes byte } }
+        ensures ok { OnOk result (self.new ≡ record self.old { bytes = with_last self.old.bytes byte }) }
+        ensures err { OnErr result (self.new ≡ self.old) }
     {
-        let last = self.bytes.len() - 1;
-        self.bytes[last] = byte;
+        self.bytes = with_last(self.bytes.allocator(), self.bytes.bytes(), byte)?;
+        Ok(())
     }
 
     pub fn number(&self) -> u32
@@ -150,26 +184,26 @@ impl Signal {
 
     pub fn bytes(&self) -> &[u8]
         ensures bytes { result.now ≡ self.now.bytes }
-        ensures bounded { length self.now.bytes ≤ DATA_MOST }
+        ensures bounded { length self.now.bytes ≤ data_limit }
     {
-        self.bytes.as_slice()
+        self.bytes.bytes()
     }
 
     /// 4, and the number of data bytes.
     pub fn size(&self) -> u32
         ensures size { result ≡ size_of self.now }
-        ensures bounded { length self.now.bytes ≤ DATA_MOST }
+        ensures bounded { length self.now.bytes ≤ data_limit }
     {
         self.bytes.len() as u32 + 4
     }
 
-    /// A copy of the content for a journal.
+    /// The content for a journal, which shares the bytes.
     pub fn note(&self) -> Result<SigNote, NoMemory>
         ensures { IfOk result (λ note. note ≡ self.now) }
     {
         Ok(SigNote {
             number: self.number,
-            bytes: Blob::of(*self.bytes.allocator(), self.bytes.as_slice())?,
+            bytes: self.bytes.copy()?,
         })
     }
 }

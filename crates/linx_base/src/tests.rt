@@ -1,6 +1,7 @@
 use crate::{
-    Blob, BufferError, Frame, Frames, Inc, LinkNo, Message, Name, NameError, NameList, Names,
-    NoMemory, Path, Peer, Reason, SentFrame, SentFrames, Session, Signal, TryCopy,
+    Blob, BufferError, Bytes, Frame, Frames, Inc, LinkNo, Message, Name, NameError, NameList,
+    Names, NoMemory, NodeNo, Path, Peer, Reason, SentFrame, SentFrames, Session, Side, Signal,
+    TryCopy, UndoList,
 };
 use std::test::Fail;
 
@@ -70,7 +71,7 @@ fn name_bounds(rt: HostRuntime) -> Result<(), Fail> {
 #[test]
 fn lists_give_their_elements_in_order(rt: HostRuntime) -> Result<(), Fail> {
     let mut names = NameList::new(rt.alloc());
-    assert!(rt; names.is_empty() && names.get(0).is_none() && names.pop_first().is_none());
+    assert!(rt; names.is_empty() && names.get(0).is_none());
     names.push(Name::of(rt.alloc(), b"m")?)?;
     names.push(Name::of(rt.alloc(), b"n")?)?;
     let both = Names {
@@ -83,12 +84,8 @@ fn lists_give_their_elements_in_order(rt: HostRuntime) -> Result<(), Fail> {
             .get(1)
             .is_some_and(|name| name.bytes() == b"n".as_slice())
     );
-    assert!(rt;
-        names
-            .pop_first()
-            .is_some_and(|name| name.bytes() == b"m".as_slice())
-    );
-    assert_eq!(rt; names.into_vec().len(), 1);
+    let first = names.into_vec().swap_remove(0);
+    assert_eq!(rt; first.bytes(), b"m".as_slice());
     Ok(())
 }
 
@@ -147,4 +144,42 @@ fn peers_differ_by_session(rt: HostRuntime) {
     };
     assert!(rt; there(1) == there(1) && there(1) != there(2));
     assert!(rt; Peer::Here(Inc(7)) != there(1));
+}
+
+#[test]
+fn a_part_shares_the_bytes_of_its_blob(rt: HostRuntime) -> Result<(), Fail> {
+    let whole = Blob::of(rt.alloc(), b"server")?;
+    let part = whole.part(1, 5)?.part(1, 3)?;
+    assert_eq!(rt; (part.bytes(), part.len()), (b"rv".as_slice(), 2));
+    assert!(rt; whole.part(6, 6)?.is_empty() && !whole.is_empty());
+    Ok(())
+}
+
+#[test]
+fn an_undo_list_goes_back_to_what_was_kept(rt: HostRuntime) -> Result<(), Fail> {
+    let mut list = UndoList::new(rt.alloc());
+    list.push(1u32)?;
+    list.keep();
+    list.push(2)?;
+    assert_eq!(rt; (list.len(), list.get(1).copied()), (2, Some(2)));
+    list.undo();
+    assert_eq!(rt; list.as_slice(), [1].as_slice());
+    Ok(())
+}
+
+#[test]
+fn numbers_of_two_halves(rt: HostRuntime) -> Result<(), Fail> {
+    let inc = Inc::of(NodeNo(2), 3);
+    assert_eq!(rt; (inc, inc.node()), (Inc(8_589_934_595), NodeNo(2)));
+    let session = Session::of(1, 2);
+    assert_eq!(rt;
+        (session.0, session.boot(), session.count()),
+        (4_294_967_298, 1, 2)
+    );
+    assert_eq!(rt; Side::First.other(), Side::Second);
+    let mut bytes = Bytes::with_room(rt.alloc(), 4)?;
+    bytes.extend(b"ab")?;
+    bytes.extend(b"c")?;
+    assert_eq!(rt; bytes.into_blob()?.bytes(), b"abc".as_slice());
+    Ok(())
 }

@@ -1,0 +1,10 @@
+-- A state with a way back: as it was when an event began, and as it is now.
+
+-- a change moves what is alone; then either what is stays, or what was comes back
+pub record Both (X : Type 0) : Type 0 where
+  pub was : X
+  pub is : X
+
+-- nothing has changed since the event began
+abbrev pub still : {X : Type 0} → X → Both X
+still x = record { was = x; is = x }
