@@ -58,7 +58,7 @@ impl Bytes {
     {
         let mut all = Vec::from_slice(*self.joined.allocator(), self.joined.as_slice())?;
         all.extend_from_slice(bytes)?;
-        Blob::of_vec(all)
+        Blob::shared(all)
     }
 }
 

@@ -11,7 +11,7 @@ fn message(rt: &HostRuntime, count: usize) -> Result<Message, Fail> {
     Ok(Message {
         from: 7,
         to: 9,
-        body: Blob::of_vec(body)?,
+        body: Blob::shared(body)?,
     })
 }
 

@@ -31,7 +31,7 @@ impl Blob {
     pub fn of(alloc: Global, bytes: &[u8]) -> Result<Blob, NoMemory>
         ensures { IfOk result (λ blob. blob ≡ bytes.now) }
     {
-        shared(Vec::from_slice(alloc, bytes)?)
+        Blob::shared(Vec::from_slice(alloc, bytes)?)
     }
 
     /// A blob of these bytes, which are not copied. A refusal gives the vector back.
@@ -47,6 +47,16 @@ impl Blob {
                 to,
             }),
             Err(refused) => Err((NoMemory, refused.value)),
+        }
+    }
+
+    /// A blob of these bytes, which are not copied. A refusal frees them.
+    pub fn shared(bytes: Vec<u8>) -> Result<Blob, NoMemory>
+        ensures { IfOk result (λ blob. blob ≡ bytes.items) }
+    {
+        match Blob::of_vec(bytes) {
+            Ok(blob) => Ok(blob),
+            Err((refusal, _bytes)) => Err(refusal),
         }
     }
 
@@ -91,16 +101,6 @@ impl Blob {
         ensures { IsTrue result ↔ (self.now ≡ other.now) }
     {
         self.bytes() == other.bytes()
-    }
-}
-
-/// A blob of these bytes, which are not copied. A refusal frees them.
-pub(crate) fn shared(bytes: Vec<u8>) -> Result<Blob, NoMemory>
-    ensures { IfOk result (λ blob. blob ≡ bytes.items) }
-{
-    match Blob::of_vec(bytes) {
-        Ok(blob) => Ok(blob),
-        Err((refusal, _bytes)) => Err(refusal),
     }
 }
 

@@ -1,6 +1,6 @@
 ghost use Rattle.std.specs.Prelude.{◌≡◌, ◌==◌, ◌++◌, [], length, OnOk, OnErr, IfOk};
 
-use crate::blob::{Blob, shared};
+use crate::blob::Blob;
 use crate::memory::NoMemory;
 use std::alloc::Global;
 use std::marker::Model;
@@ -69,6 +69,6 @@ impl Bytes {
     pub fn into_blob(self) -> Result<Blob, NoMemory>
         ensures { IfOk result (λ blob. blob ≡ self) }
     {
-        shared(self.grown)
+        Blob::shared(self.grown)
     }
 }

@@ -2,7 +2,7 @@ ghost use Rattle.std.specs.Prelude.{◌≡◌, ◌+◌, ◌-◌, ◌*◌, ◌<�
 ghost use Rattle.linx_base.specs.Content.{resized, with_last};
 ghost use Rattle.linx_base.specs.declared.signal.BufferError.TheVariants.{NoMemory as OutOfMemory};
 
-use crate::blob::{Blob, shared};
+use crate::blob::Blob;
 use crate::memory::NoMemory;
 use crate::try_copy::TryCopy;
 use std::alloc::Global;
@@ -93,7 +93,7 @@ fn resized(alloc: Global, bytes: &[u8], n: usize) -> Result<Blob, NoMemory>
 {
     let mut changed = Vec::from_slice(alloc, bytes)?;
     changed.resize(n, 0)?;
-    shared(changed)
+    Blob::shared(changed)
 }
 
 /// The bytes with another last one.
@@ -103,7 +103,7 @@ fn with_last(alloc: Global, bytes: &[u8], last: u8) -> Result<Blob, NoMemory>
 {
     let mut changed = Vec::from_slice(alloc, bytes)?;
     changed[bytes.len() - 1] = last;
-    shared(changed)
+    Blob::shared(changed)
 }
 
 /// A signal: a number and 0 to 65,532 data bytes. It has one owner and no clone; sending moves it

@@ -54,7 +54,7 @@ pub fn write(alloc: Global, m: &Rlnh) -> Result<Blob, NoMemory>
         Rlnh::InitReply => Blob::of(alloc, &numbered(INIT_REPLY, VERSION)),
         Rlnh::QueryName(name) => {
             let bytes = joined(alloc, &[QUERY_NAME, 0, 0, 0], name.bytes())?;
-            Blob::of_vec(bytes)
+            Blob::shared(bytes)
         }
         Rlnh::Publish {
             addr,
@@ -62,7 +62,7 @@ pub fn write(alloc: Global, m: &Rlnh) -> Result<Blob, NoMemory>
             name,
         } => {
             let bytes = joined(alloc, &publication(*addr, *inc), name.bytes())?;
-            Blob::of_vec(bytes)
+            Blob::shared(bytes)
         }
         Rlnh::Unpublish(addr) => Blob::of(alloc, &numbered(UNPUBLISH, *addr)),
         Rlnh::UnpublishAck(addr) => Blob::of(alloc, &numbered(UNPUBLISH_ACK, *addr)),

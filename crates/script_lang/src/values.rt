@@ -176,7 +176,7 @@ fn hex_bytes(alloc: Global, digits: &[u8]) -> Result<Filling, Fault>
             if bytes.is_empty() {
                 return Err(BAD_SHAPE);
             }
-            Ok(Filling::Bytes(Blob::of_vec(bytes)?))
+            Ok(Filling::Bytes(Blob::shared(bytes)?))
         }
         Err(FromHexError::OutOfMemory) => Err(Fault::Memory),
         Err(_) => Err(BAD_SHAPE),
