@@ -1,4 +1,4 @@
-use Rattle.std.specs.Prelude.{ℕ, ◌+◌, ◌-◌, ◌++◌, List, length, take, replicate, slice_set}
+use Rattle.std.specs.Prelude.{ℕ, ◌+◌, ◌-◌, List, [], ◌∷◌, ◌++◌, length, take, replicate}
 use Rattle.linx_base.specs.declared.signal.SigNote.{SigNote}
 use Rattle.linx_base.specs.declared.signal.Reason.{Reason}
 use Rattle.linx_base.specs.declared.signal.Reason.TheVariants.{Closed, Lost, Dead}
@@ -15,12 +15,12 @@ size_of note = 4 + length note.bytes
 abbrev pub resized : List ℕ → ℕ → List ℕ
 resized bytes n = take n bytes ++ replicate (n - length bytes) 0
 
--- data with another last byte
-abbrev pub with_last : List ℕ → ℕ → List ℕ
-with_last bytes last = slice_set bytes (length bytes - 1) last
-
 -- the byte that a notification's signal carries for its reason
 abbrev pub reason_byte : Reason → ℕ
 reason_byte Closed = 0
 reason_byte Lost = 1
 reason_byte Dead = 2
+
+-- a signal with the byte of a reason behind its data
+abbrev pub with_reason : Reason → SigNote → SigNote
+with_reason reason note = record note { bytes = note.bytes ++ reason_byte reason ∷ [] }

@@ -10,6 +10,7 @@ mod frame;
 mod identity;
 mod memory;
 mod name;
+mod pending;
 mod sequence;
 mod signal;
 mod try_copy;
@@ -21,6 +22,7 @@ pub use frame::{ConnKind, Frame, Frames, LinkDecl, Message, SentFrame, SentFrame
 pub use identity::{AttRef, Inc, ItemAt, LinkNo, NodeNo, Peer, Session, Side};
 pub use memory::NoMemory;
 pub use name::{Name, NameError, NameList, Names, Path};
+pub use pending::{MetPeer, PendingAttach, PendingHunt};
 pub use sequence::Sequence;
 pub use signal::{BufferError, Reason, SigNote, Signal};
 pub use try_copy::TryCopy;

@@ -1,5 +1,5 @@
-ghost use Rattle.std.specs.Prelude.{◌≡◌, ◌+◌, ◌-◌, ◌*◌, ◌<◌, ◌≤◌, ◌^◌, ◌↔◌, false, true, length, replicate, take, IsTrue, IfOk, IfErr, OnOk, OnErr};
-ghost use Rattle.linx_base.specs.Content.{resized, with_last};
+ghost use Rattle.std.specs.Prelude.{◌≡◌, [], ◌∷◌, ◌++◌, ◌+◌, ◌-◌, ◌*◌, ◌<◌, ◌≤◌, ◌^◌, ◌↔◌, false, true, length, replicate, take, IsTrue, IfOk, IfErr, OnOk, OnErr};
+ghost use Rattle.linx_base.specs.Content.{data_limit, resized};
 ghost use Rattle.linx_base.specs.declared.signal.BufferError.TheVariants.{NoMemory as OutOfMemory};
 
 use crate::blob::Blob;
@@ -96,14 +96,15 @@ fn resized(alloc: Global, bytes: &[u8], n: usize) -> Result<Blob, NoMemory>
     Blob::shared(changed)
 }
 
-/// The bytes with another last one.
-fn with_last(alloc: Global, bytes: &[u8], last: u8) -> Result<Blob, NoMemory>
-    requires { 0 < length bytes.now }
-    ensures { IfOk result (λ made. made ≡ with_last bytes.now last) }
+/// The bytes, and one more behind them.
+fn followed(alloc: Global, bytes: &[u8], last: u8) -> Result<Blob, NoMemory>
+    requires { length bytes.now ≤ data_limit }
+    ensures { IfOk result (λ made. made ≡ bytes.now ++ last ∷ []) }
 {
-    let mut changed = Vec::from_slice(alloc, bytes)?;
-    changed[bytes.len() - 1] = last;
-    Blob::shared(changed)
+    let mut longer = Vec::with_capacity(alloc, bytes.len() + 1)?;
+    longer.extend_from_slice(bytes)?;
+    longer.push(last)?;
+    Blob::shared(longer)
 }
 
 /// A signal: a number and 0 to 65,532 data bytes. It has one owner and no clone; sending moves it
@@ -127,7 +128,7 @@ impl Model for Signal {
 }
 
 impl Signal {
-    ghost use Rattle.linx_base.specs.Content.{data_limit, size_of, resized, with_last};
+    ghost use Rattle.linx_base.specs.Content.{data_limit, size_of, resized, with_reason};
 
     /// A signal with this number and these data bytes, copied once.
     pub fn alloc(alloc: Global, number: u32, bytes: &[u8]) -> Result<Signal, BufferError>
@@ -166,14 +167,16 @@ impl Signal {
         Ok(())
     }
 
-    /// Writes the last data byte. A refusal changes nothing.
-    pub fn set_last(&mut self, byte: u8) -> Result<(), NoMemory>
-        requires { 0 < length self.old.bytes }
-        ensures ok { OnOk result (self.new ≡ record self.old { bytes = with_last self.old.bytes byte }) }
-        ensures err { OnErr result (self.new ≡ self.old) }
+    /// A signal of the same number, with the byte of a reason behind the data.
+    pub fn with_reason(&self, reason: Reason) -> Result<Signal, NoMemory>
+        requires { length self.now.bytes < data_limit }
+        ensures { IfOk result (λ told. told ≡ with_reason reason self.now) }
     {
-        self.bytes = with_last(self.bytes.allocator(), self.bytes.bytes(), byte)?;
-        Ok(())
+        let bytes = followed(self.bytes.allocator(), self.bytes.bytes(), reason.byte())?;
+        Ok(Signal {
+            number: self.number,
+            bytes,
+        })
     }
 
     pub fn number(&self) -> u32

@@ -36,6 +36,8 @@ fn resize_keeps_the_first_bytes_and_adds_zeros(rt: HostRuntime) -> Result<(), Fa
     assert_eq!(rt; (note.number, note.bytes.bytes()), (3, [1, 2].as_slice()));
     let reasons = [Reason::Closed, Reason::Lost, Reason::Dead];
     assert_eq!(rt; reasons.map(|reason| reason.byte()), [0, 1, 2]);
+    let lost = signal.with_reason(Reason::Lost)?;
+    assert_eq!(rt; (lost.number(), lost.bytes()), (3, [1, 2, 1].as_slice()));
     Ok(())
 }
 
