@@ -8,11 +8,11 @@ use Rattle.std.proofs.lemmas.List.Quantifiers.{all_pairs_push, all_pairs_remove}
 use Rattle.std.proofs.lemmas.List.Elements.{All-push}
 use Rattle.std.proofs.lemmas.List.Sorted.{IsPermutation-refl, IsPermutation-sym, IsPermutation-trans, IsPermutation-cons, IsPermutation-push_more, IsPermutation-insert, IsPermutation-remove, All-permutation, Contains-permutation, length_permutation, sum_by-IsPermutation}
 use Rattle.std.proofs.lemmas.List.Sums.{sum_by-cons}
-use Rattle.endpoint_queue.specs.declared.item.Item.{Item}
+use Rattle.linx_base.specs.declared.item.Item.{Item}
 use Rattle.endpoint_queue.specs.declared.place.Place.{Place}
 use Rattle.sigsel.specs.declared.sigsel.Sigsel.{Sigsel}
 use Rattle.sigsel.specs.declared.sigsel.Sigsel.TheVariants.{Any}
-use Rattle.endpoint_queue.specs.Selection.{is_selected}
+use Rattle.sigsel.specs.Selection.{is_selected}
 use Rattle.std.specs.List.Sorted.{IsBinarySearchResult}
 use Rattle.std.specs.Ordering.{nat_cmp}
 use Rattle.std.specs.Result.{result_ok}

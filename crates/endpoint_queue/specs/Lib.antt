@@ -1,4 +1,3 @@
-pub mod Selection
 pub mod Places
 pub mod QueueContent
 pub mod IndexContent

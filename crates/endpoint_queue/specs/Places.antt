@@ -1,7 +1,7 @@
 use Rattle.std.specs.Prelude.{◌≡◌, ◌≢◌, ℕ, ◌<◌, ◌≤◌, ◌⊎◌, Bool, true, false, ◌&&◌, ◌||◌, ◌==◌, nat_lt, min, List, [], ◌∷◌, length, Option, Some, None}
 use Rattle.std.specs.List.{All, AllPairs, Any, Contains, list_any}
 use Rattle.std.specs.List.Sorted.{IsPermutation}
-use Rattle.endpoint_queue.specs.declared.item.Item.{Item}
+use Rattle.linx_base.specs.declared.item.Item.{Item}
 use Rattle.endpoint_queue.specs.declared.place.Place.{Place}
 
 -- the place of each item: its signal's number, and the ticket beside it

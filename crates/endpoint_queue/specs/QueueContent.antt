@@ -1,6 +1,6 @@
 use Rattle.std.specs.Prelude.{ℕ, Bool, ◌+◌, ◌^◌, nat_lt, List, length, if◌then◌else◌}
 use Rattle.std.specs.List.{range_with_len}
-use Rattle.endpoint_queue.specs.declared.item.Item.{Item}
+use Rattle.linx_base.specs.declared.item.Item.{Item}
 
 -- what a queue is seen as: its items in order, their tickets, the ticket that the next `put` gives,
 -- and how many items it has room and tickets for without asking for memory

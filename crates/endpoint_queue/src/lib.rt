@@ -5,12 +5,11 @@
 #![tactic(auto)]
 
 mod index;
-mod item;
 mod place;
 mod queue;
 #[cfg(test)]
 mod tests;
 
-pub use item::{Item, Kind};
+pub use linx_base::{Item, Kind};
 pub use place::Place;
 pub use queue::Queue;

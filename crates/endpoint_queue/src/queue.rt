@@ -4,13 +4,12 @@ ghost use Rattle.std.specs.List.Sorted.{IsPermutation};
 ghost use Rattle.std.specs.VecDeque.{deque_capacity, deque_len};
 ghost use Rattle.endpoint_queue.specs.Places.{IsKept};
 ghost use Rattle.endpoint_queue.specs.QueueContent.{has_tickets};
-ghost use Rattle.endpoint_queue.specs.Selection.{notifies};
+ghost use Rattle.sigsel.specs.Selection.{notifies};
 ghost use Rattle.linx_base.specs.FirstMatch.{TakesEarliest, first_match, without_match, without_beside};
 
 use crate::index::Index;
-use crate::item::{Item, Kind};
 use crate::place::{Place, count_before, least_ticket};
-use linx_base::{AttRef, NoMemory};
+use linx_base::{AttRef, Item, Kind, NoMemory};
 use sigsel::Sigsel;
 use std::alloc::Global;
 use std::collections::VecDeque;
@@ -114,7 +113,7 @@ fn ticketed(
 impl Queue {
     ghost use Rattle.endpoint_queue.specs.Places.{AreTickets, IsBefore, is_listed, places_of};
     ghost use Rattle.endpoint_queue.specs.QueueContent.{next_for, tickets_for};
-    ghost use Rattle.endpoint_queue.specs.Selection.{first_selected, is_notice_of, is_selected, without_first};
+    ghost use Rattle.sigsel.specs.Selection.{first_selected, is_notice_of, is_selected, without_first};
 
     /// The empty queue. It takes no memory.
     pub fn new(alloc: Global) -> Queue

@@ -25,8 +25,8 @@ use Rattle.journal.specs.Sessions.{is_alive}
 use Rattle.journal.specs.Queues.{Entry, removes, queued, is_selected, first_selected}
 use Rattle.journal.specs.Laws.{Shape, IsMaker, IsLegal, IsLegalStep, IsAtRest, HasEffects, KeepsSends, KeepsReceives, node_by, answer_to, arrivals_of}
 use Rattle.journal.proofs.Openings.{length-openings, same_inc-refl, same_inc-true, next_inc-not_closed, open_endpoints-open, next_inc-is_on, open_endpoints-close, open_endpoints-same, endpoint_of-open, endpoint_of-close, endpoint_of-same}
-use Rattle.endpoint_queue.specs.declared.item.Item.{Item}
-use Rattle.endpoint_queue.specs.Selection.{is_selected as selects_item, first_selected as item_first, without_first}
+use Rattle.linx_base.specs.declared.item.Item.{Item}
+use Rattle.sigsel.specs.Selection.{is_selected as selects_item, first_selected as item_first, without_first}
 use Rattle.linx_base.specs.declared.identity.ItemAt.{ItemAt}
 use Rattle.journal.specs.declared.effect.Effect.{Effect}
 use Rattle.node_kernel.specs.Nodes.{OpenEndpoint, NodeState, is_at, items_of, is_open, is_living, items_at, with_items, without_endpoint, following_inc}

@@ -25,8 +25,8 @@ use Rattle.journal.specs.Queues.{Entry, delivered, entries_in, removes, queued, 
 use Rattle.journal.specs.Laws.{Shape, IsLegal, node_by}
 use Rattle.journal.proofs.Openings.{same_inc-refl, Makes, nothing, opening, closing, arriving, step_makes, next_inc-is_on, next_inc-no_items, next_inc-not_closed, open_endpoints-open, open_endpoints-close, open_endpoints-same}
 use Rattle.journal.proofs.Queueing.{queued-quiet, queued-more, queued-take, not_taken_before}
-use Rattle.endpoint_queue.specs.declared.item.Item.{Item}
-use Rattle.endpoint_queue.specs.Selection.{is_selected as selects_item, first_selected as item_first, without_first}
+use Rattle.linx_base.specs.declared.item.Item.{Item}
+use Rattle.sigsel.specs.Selection.{is_selected as selects_item, first_selected as item_first, without_first}
 use Rattle.linx_base.specs.declared.identity.ItemAt.{ItemAt}
 use Rattle.std.specs.Option.{option_map}
 use Rattle.node_kernel.specs.Nodes.{OpenEndpoint, NodeState, is_at, is_open, is_living, items_at, with_items, without_endpoint, following_inc}

@@ -14,8 +14,8 @@ use Rattle.journal.specs.declared.effect.Effect.TheVariants.{Opened, Closed}
 use Rattle.journal.specs.declared.effect.Step.{Step}
 use Rattle.journal.specs.History.{endpoint_of, endpoint_by}
 use Rattle.journal.specs.Laws.{Shape, IsMaker, IsLegalStep, answer_to}
-use Rattle.endpoint_queue.specs.declared.item.Item.{Item}
-use Rattle.endpoint_queue.specs.Selection.{first_selected as item_first}
+use Rattle.linx_base.specs.declared.item.Item.{Item}
+use Rattle.sigsel.specs.Selection.{first_selected as item_first}
 use Rattle.node_kernel.specs.Nodes.{NodeState, is_living, items_at, without_endpoint, following_inc}
 use Rattle.node_kernel.specs.Calls.{after_open, after_send}
 use Rattle.node_kernel.specs.declared.answers.StepAnswer.{StepAnswer}

@@ -3,7 +3,7 @@ use Rattle.linx_base.specs.declared.identity.Inc.{Inc}
 use Rattle.linx_base.specs.declared.identity.Peer.{Peer}
 use Rattle.linx_base.specs.declared.signal.SigNote.{SigNote}
 use Rattle.sigsel.specs.declared.sigsel.Sigsel.{Sigsel}
-use Rattle.endpoint_queue.specs.declared.item.Item.{Item}
+use Rattle.linx_base.specs.declared.item.Item.{Item}
 use Rattle.journal.specs.declared.by.By.{By}
 use Rattle.journal.specs.declared.event.Event.{Event}
 use Rattle.journal.specs.declared.event.Event.TheVariants as asks

@@ -15,8 +15,8 @@ use Rattle.journal.specs.Logs.{Log}
 use Rattle.journal.specs.History.{endpoint_of, openings, open_endpoints}
 use Rattle.journal.specs.Queues.{Entry, queued}
 use Rattle.journal.specs.Laws.{Shape, IsLegal}
-use Rattle.endpoint_queue.specs.declared.item.Item.{Item}
-use Rattle.endpoint_queue.specs.declared.item.Kind.TheVariants.{Plain, Found as FoundBy, Notice}
+use Rattle.linx_base.specs.declared.item.Item.{Item}
+use Rattle.linx_base.specs.declared.item.Kind.TheVariants.{Plain, Found as FoundBy, Notice}
 use Rattle.node_kernel.specs.Nodes.{OpenEndpoint, NodeState}
 
 -- the item that an entry of a queue is, as a kernel holds it

@@ -7,7 +7,7 @@ ghost use Rattle.journal.specs.declared.head.SentTo.TheVariants as sent_to;
 ghost use Rattle.journal.specs.declared.effect.Effect.TheVariants.{Opened, Closed, Arrived};
 ghost use Rattle.node_kernel.specs.Nodes.{is_open, is_living, items_at, following_inc};
 ghost use Rattle.node_kernel.specs.Calls.{after_open, after_send};
-ghost use Rattle.endpoint_queue.specs.Selection.{first_selected, without_first};
+ghost use Rattle.sigsel.specs.Selection.{first_selected, without_first};
 ghost use Rattle.node_kernel.specs.Nodes.{with_items, without_endpoint};
 ghost use Rattle.journal.specs.Laws.{answer_to, arrivals_of};
 ghost use Rattle.fabric.specs.Events.{take_head, sent_step};

@@ -6,7 +6,7 @@ use Rattle.std.proofs.lemmas.List.Quantifiers.{position-Some}
 use Rattle.linx_base.specs.FirstMatch.{first_match, without_match}
 use Rattle.linx_base.specs.declared.identity.Inc.{Inc}
 use Rattle.linx_base.proofs.FirstMatches.{first_match-position, first_match_none, without_match_none, none_from_position, is_some-first_match}
-use Rattle.endpoint_queue.specs.declared.item.Item.{Item}
+use Rattle.linx_base.specs.declared.item.Item.{Item}
 use Rattle.node_kernel.specs.Nodes.{OpenEndpoint, is_at, is_open, items_of, items_at, with_items}
 
 module _ {X : Type 0} (p : X → Bool) where

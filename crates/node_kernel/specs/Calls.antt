@@ -3,8 +3,8 @@ use Rattle.linx_base.specs.declared.identity.Inc.{Inc}
 use Rattle.linx_base.specs.declared.identity.Peer.{Peer}
 use Rattle.linx_base.specs.declared.identity.Peer.TheVariants.{Here, There}
 use Rattle.linx_base.specs.declared.signal.SigNote.{SigNote}
-use Rattle.endpoint_queue.specs.declared.item.Item.{Item}
-use Rattle.endpoint_queue.specs.declared.item.Kind.TheVariants.{Plain}
+use Rattle.linx_base.specs.declared.item.Item.{Item}
+use Rattle.linx_base.specs.declared.item.Kind.TheVariants.{Plain}
 use Rattle.node_kernel.specs.declared.kernel.TheConstants.{ENDPOINTS_MOST}
 use Rattle.node_kernel.specs.declared.answers.OpenError.{OpenError}
 use Rattle.node_kernel.specs.declared.answers.OpenError.TheVariants.{Full, NoMemory}

@@ -1,6 +1,6 @@
 ghost use Rattle.std.specs.Prelude.{◌≡◌, ◌∷◌, ◌++◌, [], is_some, OnOk, Some, IfOk, IfErr, if◌then◌else◌, vec_len, ◌≤◌};
 ghost use Rattle.std.specs.List.{position};
-ghost use Rattle.endpoint_queue.specs.Selection.{is_selected, first_selected, without_first};
+ghost use Rattle.sigsel.specs.Selection.{is_selected, first_selected, without_first};
 ghost use Rattle.node_kernel.specs.Nodes.{is_at, is_open, items_at, with_items, without_endpoint};
 
 use endpoint_queue::{Item, Queue};

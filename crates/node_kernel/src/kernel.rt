@@ -1,6 +1,6 @@
 ghost use Rattle.std.specs.Prelude.{◌≡◌, ◌+◌, ◌*◌, ◌<◌, ◌≤◌, ◌↔◌, true, false, [], ◌∷◌, ◌++◌, length, is_some, IfOk, IfErr, OnOk, OnErr, IsTrue, MatchResult};
 ghost use Rattle.journal.specs.declared.effect.Effect.TheVariants.{Opened, Closed};
-ghost use Rattle.endpoint_queue.specs.Selection.{first_selected, without_first};
+ghost use Rattle.sigsel.specs.Selection.{first_selected, without_first};
 
 use crate::answers::{OpenError, OpenedAs, Sent};
 use crate::endpoint::{Endpoint, deliver, has_endpoint, holds, remove, take};

@@ -1,2 +1,3 @@
 pub mod Selects
 pub mod Spelling
+pub mod Selection

@@ -1,5 +1,5 @@
 use Rattle.std.proofs.Common.{sym, ap, is_some}
-use Rattle.endpoint_queue.specs.Selection.{first_selected}
+use Rattle.sigsel.specs.Selection.{first_selected}
 use Rattle.node_kernel.proofs.Places.{items_at-no_place}
 use Rattle.node_kernel.proofs.endpoint.holds.Goals as goal
 

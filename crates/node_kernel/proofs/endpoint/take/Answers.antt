@@ -1,5 +1,5 @@
 use Rattle.std.proofs.Common.{sym, ap}
-use Rattle.endpoint_queue.specs.Selection.{first_selected, without_first}
+use Rattle.sigsel.specs.Selection.{first_selected, without_first}
 use Rattle.node_kernel.specs.Nodes.{items_at}
 use Rattle.node_kernel.proofs.Places.{items_at-no_place, with_items-no_place}
 use Rattle.node_kernel.proofs.endpoint.take.Goals as goal

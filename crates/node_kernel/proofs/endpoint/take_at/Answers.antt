@@ -1,5 +1,5 @@
 use Rattle.std.proofs.Common.{get_or}
-use Rattle.endpoint_queue.specs.Selection.{without_first}
+use Rattle.sigsel.specs.Selection.{without_first}
 use Rattle.node_kernel.proofs.Places.{put_in_place, items_at-position}
 use Rattle.node_kernel.proofs.endpoint.take_at.Goals as goal
 

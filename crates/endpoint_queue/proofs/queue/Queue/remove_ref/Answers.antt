@@ -1,4 +1,4 @@
-use Rattle.endpoint_queue.specs.Selection.{is_notice_of}
+use Rattle.sigsel.specs.Selection.{is_notice_of}
 use Rattle.endpoint_queue.proofs.KeptLemmas.{taken_earliest, missing_all, taken_item, taken_others, taken_tickets, missing_item, missing_others, missing_tickets}
 use Rattle.endpoint_queue.proofs.queue.Queue.remove_ref.Goals as goal
 

@@ -3,9 +3,9 @@ use Rattle.linx_base.specs.FirstMatch.{first_match, without_match}
 use Rattle.linx_base.specs.declared.identity.AttRef.{AttRef}
 use Rattle.sigsel.specs.Selects.{selects}
 use Rattle.sigsel.specs.declared.sigsel.Sigsel.{Sigsel}
-use Rattle.endpoint_queue.specs.declared.item.Item.{Item}
-use Rattle.endpoint_queue.specs.declared.item.Kind.{Kind}
-use Rattle.endpoint_queue.specs.declared.item.Kind.TheVariants.{Plain, Found, Notice}
+use Rattle.linx_base.specs.declared.item.Item.{Item}
+use Rattle.linx_base.specs.declared.item.Kind.{Kind}
+use Rattle.linx_base.specs.declared.item.Kind.TheVariants.{Plain, Found, Notice}
 
 -- a filter selects an item by its signal's number
 abbrev pub is_selected : Sigsel → Item → Bool

@@ -1,4 +1,5 @@
-use linx_base::{AttRef, ItemAt, Peer, Signal};
+use crate::identity::{AttRef, ItemAt, Peer};
+use crate::signal::Signal;
 
 /// What brought an item into a queue.
 #[derive(Clone, Copy, Debug, PartialEq, Eq, Hash)]
