@@ -5,6 +5,7 @@ use Rattle.linx_base.specs.declared.frame.Frame.{Frame}
 use Rattle.linx_base.specs.declared.frame.SentFrame.{SentFrame}
 use Rattle.ethcm_window.specs.declared.rx.Accept.{Accept}
 use Rattle.ethcm_window.specs.declared.rx.Accept.TheVariants.{Taken, Early, Old}
+use Rattle.ethcm_window.specs.Sending.{number_limit}
 
 -- a receiver: the number that it expects, and the frames that came early and are kept, in order of
 -- their numbers
@@ -12,22 +13,35 @@ pub record Receiver : Type 0 where
   pub expected : ℕ
   pub kept : List SentFrame
 
+-- a receiver in a session that begins
+abbrev pub empty_receiver : Receiver
+empty_receiver = record { expected = 0; kept = [] }
+
+-- an early frame is kept where its number is less than this much above the expected one
+abbrev pub early_limit : ℕ
+early_limit = 256
+
 -- the numbers of these frames rise from `low` on, and are below `high`
 abbrev pub RisesWithin : ℕ → ℕ → List SentFrame → Type 0
 RisesWithin low high [] = Unit {0}
-RisesWithin low high (s ∷ kept) = (low ≤ s.number) × ((s.number < high) × RisesWithin (suc s.number) high kept)
+RisesWithin low high (s ∷ kept) =
+    (low ≤ s.number) × ((s.number < high) × RisesWithin (suc s.number) high kept)
+
+-- the numbers of these frames rise
+abbrev pub Rises : List SentFrame → Type 0
+Rises kept = RisesWithin 0 number_limit kept
 
 -- what is kept is in order, not below the expected number, and less than 256 above it
 abbrev pub KeepsInOrder : ℕ → List SentFrame → Type 0
-KeepsInOrder expected kept = RisesWithin expected (min (expected + 256) 4294967295) kept
+KeepsInOrder expected kept = RisesWithin expected (min (expected + early_limit) number_limit) kept
 
 -- the frame has this number
 abbrev pub has_number : ℕ → SentFrame → Bool
 has_number n s = s.number == n
 
 -- a frame of this number is kept
-abbrev pub is_kept : ℕ → List SentFrame → Bool
-is_kept n kept = list_any (has_number n) kept
+abbrev pub keeps_number : ℕ → List SentFrame → Bool
+keeps_number n kept = list_any (has_number n) kept
 
 -- the frame that is kept with this number
 abbrev pub kept_at : ℕ → List SentFrame → Option Frame
@@ -42,20 +56,24 @@ kept_above n kept = filter (λ s. nat_lt n s.number) kept
 
 -- what is kept with one more frame; nothing changes where one of its number is kept already
 abbrev pub kept_with : SentFrame → List SentFrame → List SentFrame
-kept_with s kept = if is_kept s.number kept then kept else kept_below s.number kept ++ s ∷ kept_above s.number kept
+kept_with s kept =
+    if keeps_number s.number kept then kept
+    else kept_below s.number kept ++ s ∷ kept_above s.number kept
 
--- what is kept after a frame came early: it is kept where it is less than 256 above the expected one
+-- what is kept after a frame came early: it is kept where it is less than 256 above the expected
+-- number
 abbrev pub kept_early : ℕ → List SentFrame → SentFrame → List SentFrame
-kept_early expected kept s = if nat_lt s.number (expected + 256) then kept_with s kept else kept
+kept_early expected kept s =
+    if nat_lt s.number (expected + early_limit) then kept_with s kept else kept
 
 -- from the expected number to the first of these frames; 256 where there is none
-abbrev pub distance : ℕ → List SentFrame → ℕ
-distance expected [] = 256
-distance expected (s ∷ above) = s.number - expected
+abbrev pub distance_to : ℕ → List SentFrame → ℕ
+distance_to expected [] = early_limit
+distance_to expected (s ∷ above) = s.number - expected
 
 -- from the expected number to the least kept one above it; 256 where none is
-abbrev pub count_of : ℕ → List SentFrame → ℕ
-count_of expected kept = distance expected (kept_above expected kept)
+abbrev pub missing_count : ℕ → List SentFrame → ℕ
+missing_count expected kept = distance_to expected (kept_above expected kept)
 
 -- the receiver after it took the expected number: what is kept above it stays
 abbrev pub after_taking : Receiver → Receiver
@@ -65,26 +83,29 @@ after_taking rx = record { expected = rx.expected + 1; kept = kept_above rx.expe
 abbrev pub after_frame : Receiver → SentFrame → Receiver
 after_frame rx s =
     if s.number == rx.expected then after_taking rx
-    else (if nat_lt s.number rx.expected then rx else record rx { kept = kept_early rx.expected rx.kept s })
+    else (if nat_lt s.number rx.expected then rx
+    else record rx { kept = kept_early rx.expected rx.kept s })
 
 -- what it does with the frame
-abbrev pub answer_to : Receiver → SentFrame → Accept
-answer_to rx s =
+abbrev pub acceptance_of : Receiver → SentFrame → Accept
+acceptance_of rx s =
     if s.number == rx.expected then Taken s.frame
-    else (if nat_lt s.number rx.expected then Old else Early (count_of rx.expected (kept_early rx.expected rx.kept s)))
+    else (if nat_lt s.number rx.expected then Old
+    else Early (missing_count rx.expected (kept_early rx.expected rx.kept s)))
 
 -- the frame of this number is to be kept: it comes early, is near, and isn't kept yet
 pub record IsToKeep (rx : Receiver) (n : ℕ) : Type 0 where
   pub early : rx.expected < n
-  pub near : n < rx.expected + 256
-  pub missing : is_kept n rx.kept ≡ false
+  pub near : n < rx.expected + early_limit
+  pub missing : keeps_number n rx.kept ≡ false
 
 -- the least kept number above the expected one is `count` above it; at 256 none is kept above it
 pub record CountsMissing (rx : Receiver) (count : ℕ) : Type 0 where
   pub at_least : 1 ≤ count
-  pub at_most : count ≤ 256
-  pub missing : (n : ℕ) → rx.expected < n → n < rx.expected + count → is_kept n rx.kept ≡ false
-  pub next : count < 256 → is_kept (rx.expected + count) rx.kept ≡ true
+  pub at_most : count ≤ early_limit
+  pub missing :
+      (n : ℕ) → rx.expected < n → n < rx.expected + count → keeps_number n rx.kept ≡ false
+  pub next : count < early_limit → keeps_number (rx.expected + count) rx.kept ≡ true
 
 -- an early frame's count is of the missing numbers
 abbrev pub CountsIfEarly : Receiver → Accept → Type 0

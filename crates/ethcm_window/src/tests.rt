@@ -1,5 +1,5 @@
 use crate::{Accept, Rx, Tx};
-use linx_base::{Blob, Frame, Frames, NoMemory, SentFrames, TryCopy};
+use linx_base::{Blob, Frame, Frames, NoMemory, SentFrames};
 use std::alloc::Global;
 use std::process::Abort;
 use std::test::Fail;
@@ -51,11 +51,27 @@ fn frames_follow_into_the_window_as_others_are_acknowledged(rt: HostRuntime) -> 
     assert_sent(&rt, &tx.acked(1)?, &[2]);
     assert_sent(&rt, &tx.acked(4)?, &[]);
     assert_sent(&rt, &tx.resend(1, 1)?, &[1]);
-    let copy = tx.copy()?;
+    assert_sent(&rt, &tx.unacknowledged()?, &[1, 2]);
     assert_sent(&rt, &tx.acked(3)?, &[]);
     assert!(rt; tx.is_empty());
     assert_eq!(rt; tx.left(), u32::MAX - 3);
-    assert_sent(&rt, &copy.resend(0, 9)?, &[1, 2]);
+    Ok(())
+}
+
+#[test]
+fn an_undone_event_leaves_the_sender_as_the_kept_ones_did(rt: HostRuntime) -> Result<(), Fail> {
+    let mut tx = offered(&rt, rt.alloc())?;
+    tx.keep();
+    assert_sent(&rt, &tx.acked(1)?, &[2]);
+    tx.begin();
+    assert!(rt; tx.is_empty());
+    tx.undo();
+    assert_sent(&rt, &tx.unacknowledged()?, &[0, 1]);
+    assert_sent(&rt, &tx.acked(2)?, &[2]);
+    tx.keep();
+    assert_sent(&rt, &tx.unacknowledged()?, &[2]);
+    tx.undo();
+    assert_sent(&rt, &tx.unacknowledged()?, &[2]);
     Ok(())
 }
 
@@ -83,18 +99,43 @@ fn taken(accept: &Accept) -> Option<u8> {
     }
 }
 
+/// The byte of the kept frame of the expected number, which is taken.
+fn next(rx: &mut Rx) -> Option<u8> {
+    let byte = byte_of(rx.ahead()?);
+    rx.pass();
+    byte
+}
+
 #[test]
 fn numbers_are_taken_in_order_and_what_comes_early_is_kept(rt: HostRuntime) -> Result<(), Fail> {
     let mut rx = Rx::new(rt.alloc());
     assert_eq!(rt; count_of(&given(&rt, &mut rx, 1)?), Some(1));
     assert_eq!(rt; count_of(&given(&rt, &mut rx, 3)?), Some(1));
     assert_eq!(rt; taken(&given(&rt, &mut rx, 0)?), Some(0));
-    let copy = rx.copy()?;
-    let next = rx.next_kept();
-    assert!(rt; next.is_some_and(|frame| byte_of(&frame) == Some(1)));
-    assert!(rt; rx.next_kept().is_none());
+    rx.keep();
+    assert_eq!(rt; next(&mut rx), Some(1));
+    assert_eq!(rt; next(&mut rx), None);
     assert!(rt; matches!(given(&rt, &mut rx, 0)?, Accept::Old));
-    assert_eq!(rt; (rx.expected(), copy.expected()), (2, 1));
+    assert_eq!(rt; rx.expected(), 2);
+    Ok(())
+}
+
+#[test]
+fn an_undone_event_leaves_the_receiver_as_the_kept_ones_did(rt: HostRuntime) -> Result<(), Fail> {
+    let mut rx = Rx::new(rt.alloc());
+    assert_eq!(rt; count_of(&given(&rt, &mut rx, 2)?), Some(2));
+    rx.keep();
+    assert_eq!(rt; count_of(&given(&rt, &mut rx, 4)?), Some(2));
+    assert_eq!(rt; count_of(&given(&rt, &mut rx, 1)?), Some(1));
+    assert_eq!(rt; taken(&given(&rt, &mut rx, 0)?), Some(0));
+    assert_eq!(rt; next(&mut rx), Some(1));
+    rx.begin();
+    assert_eq!(rt; count_of(&given(&rt, &mut rx, 7)?), Some(7));
+    rx.undo();
+    assert_eq!(rt; rx.expected(), 0);
+    assert_eq!(rt; count_of(&given(&rt, &mut rx, 3)?), Some(2));
+    assert_eq!(rt; taken(&given(&rt, &mut rx, 0)?), Some(0));
+    assert_eq!(rt; next(&mut rx), None);
     Ok(())
 }
 

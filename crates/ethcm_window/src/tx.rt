@@ -1,160 +1,214 @@
-ghost use Rattle.std.specs.Prelude.{◌≡◌, ◌+◌, ◌-◌, ◌≤◌, ◌==◌, [], ◌++◌, drop, length, min, take, IfOk, IfErr, OnOk, OnErr};
-ghost use Rattle.ethcm_window.specs.Sending.{numbered, left_of, sent_of, coming_in, after_ack, sent_again};
+ghost use Rattle.std.specs.Prelude.{◌≡◌, ◌+◌, ◌≤◌, ◌==◌, drop, length, take, IfOk, IfErr, OnOk, OnErr};
+ghost use Rattle.linx_base.specs.Both.{still};
+ghost use Rattle.ethcm_window.specs.Sending.{number_limit, empty_sender, HasNumbers, numbered_from, left_of, sent_of, unacknowledged, coming_in, with_offered, after_ack, sent_again};
 
-use crate::copying::copies;
+use crate::queue::drop_first;
 use linx_base::{Frame, Frames, NoMemory, SentFrame, SentFrames, TryCopy};
 use std::alloc::Global;
 use std::collections::VecDeque;
 use std::marker::Model;
 
-/// The sender's half of a window. Contracts see the window in frames, the number of the first frame
-/// that isn't acknowledged, and the frames from it on.
+/// The sender's half of a window, with a way back. Contracts see it as it was when an event began
+/// and as it is now: the window in frames, the number of the first frame that isn't acknowledged,
+/// and the frames from it on.
 #[derive(Drop)]
 pub struct Tx {
     window: u32,
     base: u32,
+    /// What was and what is share the queue: an acknowledged frame stays in it until the event is
+    /// kept.
     frames: VecDeque<Frame>,
+    /// How many of the first frames were acknowledged since the event began.
+    gone: usize,
+    old_base: u32,
+    old_len: usize,
 }
 
 impl Model for Tx {
-    ghost use Rattle.std.specs.Prelude.{◌+◌, ◌≤◌, length};
+    ghost use Rattle.std.specs.Prelude.{take, drop};
+    ghost use Rattle.linx_base.specs.Both.{Both};
     ghost use Rattle.ethcm_window.specs.Sending.{Sender};
+    ghost use Rattle.ethcm_window.specs.WaysBack.{SharesFrames};
 
-    ghost Value = { Sender };
+    ghost Value = { Both Sender };
 
-    ghost view = { λ t. record { window = t.window; base = t.base; frames = t.frames.items } };
+    ghost view = { λ t. record {
+      was = record {
+        window = t.window;
+        base = t.old_base;
+        frames = take t.old_len t.frames.items;
+      };
+      is = record { window = t.window; base = t.base; frames = drop t.gone t.frames.items };
+    } };
 
-    ghost invariant = { λ t. t.base + length t.frames.items ≤ 4294967295 };
+    ghost invariant = { λ t. SharesFrames t.frames.items t.gone t.base t.old_len t.old_base };
 }
 
-/// Copies of `count` frames from this place on, with their numbers. The first of all has number
-/// `base`.
+/// Copies of `count` frames from a place on, with numbers from `number` on.
 fn numbered(
-    base: u32,
+    number: u32,
     frames: &VecDeque<Frame>,
-    from: usize,
+    place: usize,
     count: usize,
 ) -> Result<SentFrames, NoMemory>
-    requires within { from + count ≤ length frames.now.items }
-    requires given { base + length frames.now.items ≤ 4294967295 }
-    ensures { IfOk result (λ sent. sent ≡ numbered (base + from) (take count (drop from frames.now.items))) }
+    requires within { place + count ≤ length frames.now.items }
+    requires given { number + count ≤ number_limit }
+    ensures { let copied = take count (drop place frames.now.items) in
+        IfOk result (λ sent. sent ≡ numbered_from number copied) }
 {
     let mut sent = Vec::with_capacity(*frames.allocator(), count)?;
-    for place in from..from + count {
+    for k in 0..count {
         sent.push(SentFrame {
-            number: base + place as u32,
-            frame: frames[place].copy()?,
+            number: number + k as u32,
+            frame: frames[place + k].copy()?,
         })?;
     }
     Ok(SentFrames::of(sent))
 }
 
-/// Frees the first frames.
-fn drop_first(frames: &mut VecDeque<Frame>, count: usize)
-    requires { count ≤ length frames.old.items }
-    ensures { frames.new.items ≡ drop count frames.old.items }
-{
-    let rest = frames.len() - count;
-    frames.rotate_left(count);
-    frames.truncate(rest);
-}
-
 impl Tx {
     /// A sender of no frames yet, whose numbers begin at 0. It takes no memory.
     pub fn new(alloc: Global, window: u32) -> Tx
-        ensures { result ≡ record { window = window; base = 0; frames = [] } }
+        ensures { result ≡ still (empty_sender window) }
     {
         Tx {
             window,
             base: 0,
             frames: VecDeque::new(alloc),
+            gone: 0,
+            old_base: 0,
+            old_len: 0,
         }
+    }
+
+    /// How many frames aren't acknowledged.
+    fn len(&self) -> usize
+        ensures len { result ≡ length self.now.is.frames }
+        ensures given { HasNumbers self.now.is }
+    {
+        self.frames.len() - self.gone
     }
 
     /// How many numbers are left to give to frames.
     pub fn left(&self) -> u32
-        ensures left { result ≡ left_of self.now }
-        ensures given { self.now.base + length self.now.frames ≤ 4294967295 }
+        ensures left { result ≡ left_of self.now.is }
+        ensures given { HasNumbers self.now.is }
     {
-        u32::MAX - self.base - self.frames.len() as u32
+        u32::MAX - self.base - self.len() as u32
     }
 
     /// Whether no frame is unacknowledged.
     pub fn is_empty(&self) -> bool
-        ensures { result ≡ (length self.now.frames == 0) }
+        ensures { result ≡ (length self.now.is.frames == 0) }
     {
-        self.frames.is_empty()
+        self.len() == 0
     }
 
     /// How many frames are sent and not acknowledged.
     fn sent(&self) -> usize
-        ensures { result ≡ sent_of self.now }
+        ensures { result ≡ sent_of self.now.is }
     {
-        self.frames.len().min(self.window as usize)
+        self.len().min(self.window as usize)
     }
 
     /// Adds frames at the end, and answers those that thereby come into the window. A refusal gives
     /// all back and changes nothing.
     pub fn offer(&mut self, frames: Frames) -> Result<SentFrames, (NoMemory, Frames)>
-        requires { length frames ≤ left_of self.old }
-        ensures sent { IfOk result (λ sent. sent ≡ coming_in self.old self.new) }
-        ensures offered { OnOk result (self.new ≡ record self.old { frames = self.old.frames ++ frames }) }
+        requires { length frames ≤ left_of self.old.is }
+        ensures sent { IfOk result (λ sent. sent ≡ coming_in self.old.is self.new.is) }
+        ensures offered { OnOk result (self.new.is ≡ with_offered self.old.is frames) }
+        ensures was { self.new.was ≡ self.old.was }
         ensures err { OnErr result (self.new ≡ self.old) }
         ensures given_back { IfErr result (λ refusal. refusal.1 ≡ frames) }
     {
-        let next = self.base + self.frames.len() as u32;
+        let len = self.len();
         let room = self.window as usize - self.sent();
+        let next = self.base + len as u32;
         let mut offered = VecDeque::from_vec(frames.into_vec());
-        let Ok(sent) = numbered(next, &offered, 0, room.min(offered.len())) else {
+        let Ok(coming) = numbered(next, &offered, 0, room.min(offered.len())) else {
             return Err((NoMemory, Frames::of(offered.into_vec())));
         };
         let Ok(()) = self.frames.append(&mut offered) else {
             return Err((NoMemory, Frames::of(offered.into_vec())));
         };
-        Ok(sent)
+        Ok(coming)
     }
 
-    /// All frames below `next` have arrived: they are freed, and those that thereby come into the
-    /// window are answered. Where `next` is below the first one or above those that were sent nothing
-    /// changes, and none is answered. A refusal changes nothing.
+    /// All frames below `next` have arrived: they are gone, and those that thereby come into the
+    /// window are answered. Where `next` is below the first one or above those that were sent,
+    /// nothing changes and none is answered. A refusal changes nothing.
     pub fn acked(&mut self, next: u32) -> Result<SentFrames, NoMemory>
-        ensures sent { IfOk result (λ sent. sent ≡ coming_in self.old self.new) }
-        ensures acked { OnOk result (self.new ≡ after_ack self.old next) }
+        ensures sent { IfOk result (λ sent. sent ≡ coming_in self.old.is self.new.is) }
+        ensures acked { OnOk result (self.new.is ≡ after_ack self.old.is next) }
+        ensures was { self.new.was ≡ self.old.was }
         ensures err { OnErr result (self.new ≡ self.old) }
     {
+        let len = self.len();
         let sent = self.sent();
         if next < self.base || sent < (next - self.base) as usize {
             return Ok(SentFrames::new(*self.frames.allocator()));
         }
-        let gone = (next - self.base) as usize;
-        let waiting = self.frames.len() - sent;
-        let coming = numbered(self.base, &self.frames, sent, waiting.min(gone))?;
-        drop_first(&mut self.frames, gone);
+        let freed = (next - self.base) as usize;
+        let coming = numbered(
+            self.base + sent as u32,
+            &self.frames,
+            self.gone + sent,
+            (len - sent).min(freed),
+        )?;
+        self.gone += freed;
         self.base = next;
         Ok(coming)
     }
 
-    /// The frames to send again from `next` on, at most `count` of them. It changes nothing.
-    pub fn resend(&self, next: u32, count: u32) -> Result<SentFrames, NoMemory>
-        ensures { IfOk result (λ again. again ≡ sent_again self.now next count) }
+    /// The frames that are sent and not acknowledged, with their numbers. Their bytes are shared.
+    pub fn unacknowledged(&self) -> Result<SentFrames, NoMemory>
+        ensures { IfOk result (λ sent. sent ≡ unacknowledged self.now.is) }
     {
+        let sent = self.sent();
+        let _ = self.len();
+        numbered(self.base, &self.frames, self.gone, sent)
+    }
+
+    /// The frames to send again from `next` on, at most `count` of them. Their bytes are shared.
+    pub fn resend(&self, next: u32, count: u32) -> Result<SentFrames, NoMemory>
+        ensures { IfOk result (λ again. again ≡ sent_again self.now.is next count) }
+    {
+        let _ = self.len();
         let sent = self.sent();
         let from = sent.min(next.saturating_sub(self.base) as usize);
         numbered(
-            self.base,
+            self.base + from as u32,
             &self.frames,
-            from,
+            self.gone + from,
             (sent - from).min(count as usize),
         )
     }
-}
 
-impl TryCopy for Tx {
-    fn copy(&self) -> Result<Tx, NoMemory> {
-        Ok(Tx {
-            window: self.window,
-            base: self.base,
-            frames: copies(*self.frames.allocator(), &self.frames)?,
-        })
+    /// A session begins: no frames, and numbers from 0 on. It takes no memory.
+    pub fn begin(&mut self)
+        ensures is { self.new.is ≡ empty_sender self.old.is.window }
+        ensures was { self.new.was ≡ self.old.was }
+    {
+        self.gone = self.frames.len();
+        self.base = 0;
+    }
+
+    /// What is now stays. It takes no memory.
+    pub fn keep(&mut self)
+        ensures { self.new ≡ still self.old.is }
+    {
+        drop_first(&mut self.frames, self.gone);
+        self.gone = 0;
+        self.old_base = self.base;
+        self.old_len = self.frames.len();
+    }
+
+    /// What was is again. It takes no memory.
+    pub fn undo(&mut self)
+        ensures { self.new ≡ still self.old.was }
+    {
+        self.frames.truncate(self.old_len);
+        self.gone = 0;
+        self.base = self.old_base;
     }
 }

@@ -1,8 +1,25 @@
-use Rattle.std.proofs.Common.{rules, ltb}
-use Rattle.std.proofs.lemmas.List.Sorted.{IsPartitionPoint-from_clause}
-use Rattle.ethcm_window.proofs.Keeping.{rises_partitioned}
+use Rattle.std.proofs.Common.{arith}
+use Rattle.ethcm_window.proofs.Keeping.{lower_before, none_lower_behind}
 use Rattle.ethcm_window.proofs.rx.count_below.Goals as goal
 
-pub returns-clause-between : goal.returns-clause-between
-returns-clause-between c =
-    IsPartitionPoint-from_clause (λ s. ltb s.number c.args.number) _ _ c.partition_point.ensures.partitioned (rises_partitioned _ _ _ _ c.requires) (λ a r q k. search rules)
+pub search-preserved-then-index-number : goal.search-preserved-then-index-number
+search-preserved-then-index-number c =
+    let lower = lower_before c.args.gone c.args.number _ c.args.kept.now.items
+    c.requires.rising c.index.result.now (omega arith) c.index.ensures c.if-index-number.true in
+    record {
+      order = omega arith;
+      within = c.search.invariant.within;
+      below = λ k d from to. lower k d to;
+      above = c.search.invariant.above;
+    }
+
+pub search-preserved : goal.search-preserved
+search-preserved c =
+    let behind = none_lower_behind c.args.gone c.args.number _ c.args.kept.now.items
+    c.requires.rising c.index.result.now (omega arith) c.index.ensures c.if-index-number.false in
+    record {
+      order = omega arith;
+      within = omega arith;
+      below = c.search.invariant.below;
+      above = λ k d from to. behind k d from to;
+    }

@@ -1,13 +1,17 @@
-use Rattle.std.proofs.Common.{◌≡◌, ◌<◌, length, arith}
+use Rattle.std.proofs.Common.{◌∙◌, sym, drop, arith}
+use Rattle.std.proofs.lemmas.List.{get_or-drop, length-drop}
 use Rattle.ethcm_window.proofs.Keeping.{kept_here, kept_past}
 use Rattle.ethcm_window.proofs.rx.has.Goals as goal
 
 pub returns-in-Some : goal.returns-in-Some
 returns-in-Some c =
-    let within : c.args.place < length c.args.kept.now.items = grind arith in
-    kept_here _ _ _ _ c.args.place c.in-Some.other.now c.requires.rising c.requires.between within c.in-Some.ensures.lookup
+    let kept = c.args.kept.now.items in
+    let n = length-drop c.args.gone c.args.kept.now.items in
+    let read = get_or-drop c.args.gone kept c.args.below c.in-Some.other.now in
+    kept_here c.args.number (drop c.args.gone kept) c.args.below c.requires.rising c.requires.place
+    c.in-Some.other.now (grind arith) (c.in-Some.ensures.lookup ∙ sym read)
 
 pub returns-in-None : goal.returns-in-None
 returns-in-None c =
-    let past : length c.args.kept.now.items ≡ c.args.place = grind arith in
-    kept_past _ _ _ _ c.args.place c.requires.rising c.requires.between past
+    let n = length-drop c.args.gone c.args.kept.now.items in
+    kept_past c.args.number _ c.args.below c.requires.rising c.requires.place (grind arith)

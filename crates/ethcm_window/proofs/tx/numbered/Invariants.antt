@@ -1,7 +1,7 @@
-use Rattle.std.proofs.Common.{◌≡◌, ◌+◌, ◌-◌, take, drop}
-use Rattle.ethcm_window.specs.Sending.{numbered}
+use Rattle.std.proofs.Common.{◌≡◌, take, drop}
+use Rattle.ethcm_window.specs.Sending.{numbered_from}
 use Rattle.ethcm_window.proofs.tx.numbered.Given as goal
 
--- the frames up to this place are copied with their numbers
-abbrev pub invariant-loop-place : goal.invariant-loop-place
-invariant-loop-place l = l.sent.items ≡ numbered (l.base + l.from) (take (l.place - l.from) (drop l.from l.frames.items))
+-- so many frames are copied with their numbers
+abbrev pub invariant-loop-k : goal.invariant-loop-k
+invariant-loop-k l = l.sent.items ≡ numbered_from l.number (take l.k (drop l.place l.frames.items))

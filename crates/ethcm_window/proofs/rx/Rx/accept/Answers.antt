@@ -3,19 +3,25 @@ use Rattle.ethcm_window.proofs.Keeping.{rises_from_expected, rises_taken, counts
 use Rattle.ethcm_window.proofs.rx.Rx.accept.Goals as goal
 use Rattle.ethcm_window.proofs.rx.Rx.accept.Goals.{in-Ok, in-Err}
 
-pub take_first-requires : goal.take_first-requires
-take_first-requires c =
+pub gone_past-self-inside-requires-clause-rising : goal.gone_past-self-inside-requires-clause-rising
+gone_past-self-inside-requires-clause-rising c =
     let e : c.args.seq ≡ c.self.inside.expected = c.if-seq-self-2.true in
-    rw e (rises_from_expected _ _ c.self.invariant)
+    rw e (rises_from_expected _ _ c.self.invariant.order)
 
 pub invariant_of-self : goal.invariant_of-self
 invariant_of-self c =
     let e : c.args.seq ≡ c.self.inside.expected = c.if-seq-self-2.true in
-    rw (c.take_first.ensures.others, e) (rises_taken _ _ c.self.invariant)
+    let taken = rises_taken _ _ c.self.invariant.order in
+    record {
+      gone_within = c.gone_past-self-inside.ensures.within;
+      order = rw (c.gone_past-self-inside.ensures.rest, e) taken;
+      old_order = c.self.invariant.old_order;
+    }
 
 pub returns-clause-counted : goal.returns-clause-counted
 returns-clause-counted c =
+    let counts = counts_missing _ _ c.accept_early.ensures.in_order in
     elim c.match-accept_early.branch [
-      | in-Ok w ↦ rw (w.result-is, w.in-Ok.ensures.count) (counts_missing _ _ c.accept_early.ensures.in_order)
+      | in-Ok w ↦ rw (w.result-is, w.in-Ok.ensures.count) counts
       | in-Err w ↦ rw w.result-is tt
     ]

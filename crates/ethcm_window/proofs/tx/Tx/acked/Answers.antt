@@ -1,12 +1,22 @@
-use Rattle.std.proofs.Common.{◌∙◌, refl, sym, arith}
-use Rattle.ethcm_window.proofs.Numbering.{unchanged_coming, acked_answer}
+use Rattle.std.proofs.Common.{◌≡◌, ◌∙◌, ◌-◌, refl, sym, arith, length, drop}
+use Rattle.std.proofs.lemmas.List.{drop-drop}
+use Rattle.ethcm_window.proofs.Numbering.{sender_now, unchanged_coming, acked_answer}
 use Rattle.ethcm_window.proofs.tx.Tx.acked.Goals as goal
 
 pub returns-then-next-self-clause-sent : goal.returns-then-next-self-clause-sent
 returns-then-next-self-clause-sent c =
-    rw (← c.self.view_is) (c.new.ensures ∙ sym (unchanged_coming c.self.inside.window c.self.inside.base _ c.self.inside.frames.items refl))
+    let t = c.self.inside in
+    let tx = sender_now t.window t.base t.gone t.frames.items in
+    rw (← c.self.view_is) (c.new.ensures ∙ unchanged_coming tx _ refl)
 
 pub returns-clause-sent : goal.returns-clause-sent
 returns-clause-sent c =
+    let t = c.self.inside in
+    let tx = sender_now t.window t.base t.gone t.frames.items in
     let sent = rw (← c.self.view_is) at c.sent-sent.ensures in
-    rw (← c.self.view_is) (acked_answer (record { window = c.self.inside.window; base = c.self.inside.base; frames = c.self.inside.frames.items }) c.args.next c.sent-sent.result c.min.result _ _ sent (omega arith) (omega arith) (grind arith) c.drop_first.ensures c.in_ok-coming.ensures)
+    let len : c.len-len.result ≡ length (drop c.self.inside.gone c.self.inside.frames.items) =
+    rw (← c.self.view_is) at c.len-len.ensures.len in
+    let left = sym (drop-drop (c.args.next - t.base) t.gone t.frames.items) in
+    let waiting = drop-drop c.sent-sent.result t.gone t.frames.items in
+    rw (← c.self.view_is) (acked_answer tx c.sent-sent.result sent c.args.next c.min.result _ _
+    (omega arith) (omega arith) (rw (← len) (grind arith)) left (rw waiting c.in_ok-coming.ensures))

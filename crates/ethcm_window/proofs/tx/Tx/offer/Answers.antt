@@ -1,8 +1,16 @@
-use Rattle.std.proofs.Common.{◌+◌, arith}
-use Rattle.ethcm_window.proofs.Numbering.{offered_answer}
+use Rattle.std.proofs.Common.{◌≡◌, ◌+◌, length, drop, arith, refl}
+use Rattle.std.proofs.lemmas.List.{drop-append-le}
+use Rattle.ethcm_window.proofs.Numbering.{sender_now, offered_answer}
 use Rattle.ethcm_window.proofs.tx.Tx.offer.Goals as goal
 
 pub returns-clause-sent : goal.returns-clause-sent
 returns-clause-sent c =
+    let t = c.self.inside in
+    let tx = sender_now t.window t.base t.gone t.frames.items in
     let sent = rw (← c.self.view_is) at c.sent.ensures in
-    rw (← c.self.view_is) (offered_answer (record { window = c.self.inside.window; base = c.self.inside.base; frames = c.self.inside.frames.items }) (c.self.inside.base + c.len.result) c.sent.result c.min.result c.from_vec-offered.result.items _ _ (grind arith) sent (grind arith) c.in-Ok-append.ensures.items c.in-Ok.ensures)
+    let len : c.len-len.result ≡ length (drop c.self.inside.gone c.self.inside.frames.items) =
+    rw (← c.self.view_is) at c.len-len.ensures.len in
+    let frames = drop-append-le _ _ _ c.self.invariant.gone_within in
+    rw (← c.self.view_is) (offered_answer tx c.sent.result sent (t.base + c.len-len.result)
+    c.min.result c.from_vec-offered.result.items _ _ (rw len refl) (grind arith)
+    (rw c.in-Ok-append.ensures.items frames) c.in-Ok.ensures)
