@@ -1,9 +1,7 @@
 use crate::{Alive, Watch};
-use linx_base::TryCopy;
-use std::test::Fail;
 
 #[test]
-fn lost_at_the_third_tick_and_at_the_sixth(rt: HostRuntime) -> Result<(), Fail> {
+fn lost_at_the_third_tick_and_at_the_sixth(rt: HostRuntime) {
     let mut watch = Watch::new();
     for (tick, want) in [
         (1, Alive::Yes),
@@ -15,9 +13,6 @@ fn lost_at_the_third_tick_and_at_the_sixth(rt: HostRuntime) -> Result<(), Fail> 
     ] {
         assert_eq!(rt; watch.tick(), want, "at tick {tick}");
     }
-    let _ = watch.tick();
-    assert_eq!(rt; watch.copy()?.ticks(), 1);
-    Ok(())
 }
 
 #[test]
@@ -28,4 +23,17 @@ fn not_lost_where_the_peer_is_heard_between(rt: HostRuntime) {
         assert_eq!(rt; watch.tick(), Alive::Yes);
         watch.heard();
     }
+}
+
+#[test]
+fn an_undone_tick_is_not_counted(rt: HostRuntime) {
+    let mut watch = Watch::new();
+    assert_eq!(rt; watch.tick(), Alive::Yes);
+    watch.keep();
+    for _ in 0..4 {
+        assert_eq!(rt; watch.tick(), Alive::Yes);
+        assert_eq!(rt; watch.ticks(), 2);
+        watch.undo();
+    }
+    assert_eq!(rt; watch.ticks(), 1);
 }
