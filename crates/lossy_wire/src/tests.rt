@@ -1,24 +1,54 @@
 use crate::Wire;
-use linx_base::{Blob, TryCopy};
+use linx_base::Blob;
+use std::alloc::Global;
 use std::test::Fail;
 
-#[test]
-fn packets_are_put_exchanged_and_lost(rt: HostRuntime) -> Result<(), Fail> {
-    let alloc = rt.alloc();
+/// A wire on which the packets `a`, `b` and `c` were put.
+fn three_put(alloc: Global) -> Result<Wire, Fail> {
     let mut wire = Wire::new(alloc);
-    assert!(rt; wire.is_empty());
     for packet in [b"a", b"b", b"c"] {
-        let put = wire.put(Blob::of(alloc, packet.as_slice())?);
-        assert!(rt; put.is_ok());
+        if wire.put(Blob::of(alloc, packet.as_slice())?).is_err() {
+            return Err(Fail::from("not put"));
+        }
     }
-    assert_eq!(rt; wire.len(), 3);
+    Ok(wire)
+}
+
+/// Whether these packets are in flight, in this order.
+fn is_in_flight(wire: &Wire, packets: &[&[u8]]) -> bool {
+    wire.len() == packets.len() && (0..packets.len()).all(|k| wire.at(k).bytes() == packets[k])
+}
+
+#[test]
+fn packets_are_exchanged_and_lost(rt: HostRuntime) -> Result<(), Fail> {
+    let mut wire = three_put(rt.alloc())?;
+    wire.keep();
+    assert!(rt; wire.len() == 3);
     wire.swap(0, 2);
-    let before = wire.copy()?;
+    assert!(rt; is_in_flight(&wire, &[b"c", b"b", b"a"]));
+    wire.keep();
     wire.lose(1);
-    assert_eq!(rt; wire.len(), 2);
-    assert_eq!(rt; wire.at(0), b"c".as_slice());
-    assert_eq!(rt; wire.at(1), b"a".as_slice());
-    assert_eq!(rt; before.len(), 3);
-    assert_eq!(rt; before.at(1), b"b".as_slice());
+    assert!(rt; is_in_flight(&wire, &[b"c", b"a"]));
+    wire.keep();
+    assert!(rt; is_in_flight(&wire, &[b"c", b"a"]));
+    assert!(rt; !wire.is_empty());
+    Ok(())
+}
+
+#[test]
+fn what_an_event_did_is_undone(rt: HostRuntime) -> Result<(), Fail> {
+    let mut wire = three_put(rt.alloc())?;
+    wire.keep();
+    assert!(rt; wire.len() == 3);
+    wire.lose(0);
+    assert!(rt; wire.put(Blob::of(rt.alloc(), b"d")?).is_ok());
+    assert!(rt; is_in_flight(&wire, &[b"b", b"c", b"d"]));
+    wire.undo();
+    assert!(rt; is_in_flight(&wire, &[b"a", b"b", b"c"]));
+    wire.swap(1, 2);
+    assert!(rt; wire.put(Blob::of(rt.alloc(), b"e")?).is_ok());
+    assert!(rt; is_in_flight(&wire, &[b"a", b"c", b"b", b"e"]));
+    wire.undo();
+    assert!(rt; is_in_flight(&wire, &[b"a", b"b", b"c"]));
     Ok(())
 }

@@ -1,39 +1,115 @@
-ghost use Rattle.std.specs.Prelude.{◌≡◌, ◌==◌, ◌<◌, [], ◌∷◌, ◌++◌, length, slice_get, Some, OnOk, OnErr, IfOk, IfErr};
+ghost use Rattle.std.specs.Prelude.{◌≡◌, ◌==◌, ◌<◌, [], ◌∷◌, ◌++◌, length, slice_get, Some, OnOk, OnErr, IfErr};
 ghost use Rattle.std.specs.List.{remove, swap};
+ghost use Rattle.linx_base.specs.Both.{still};
+ghost use Rattle.lossy_wire.specs.Flight.{HasOnlyGrown, changed, IsWithin};
 
-use linx_base::{Blob, NoMemory, TryCopy};
+use linx_base::{Blob, NoMemory};
 use std::alloc::Global;
 use std::collections::VecDeque;
 use std::marker::Model;
 
-/// The packets in flight in one direction. Contracts see the list of their bytes, place 0 the
-/// oldest.
+/// What an event has done to packets that were in flight. The buffer shows it once it is kept.
+#[derive(Clone, Copy)]
+enum Change {
+    Nothing,
+    /// The packet at this place was lost.
+    Lost(usize),
+    /// The packets at these places were exchanged.
+    Exchanged(usize, usize),
+}
+
+/// The packets in flight in one direction, with a way back: what an event did either stays, or is
+/// undone. Contracts see the lists of their bytes as they were when the event began, and as they
+/// are now, place 0 the oldest.
 #[derive(Drop)]
 pub struct Wire {
+    /// The packets without the change.
     packets: VecDeque<Blob>,
+    /// How many of them were in flight when the event began.
+    kept: usize,
+    change: Change,
 }
 
 impl Model for Wire {
-    ghost use Rattle.std.specs.Prelude.{List, ℕ};
+    ghost use Rattle.std.specs.Prelude.{◌≤◌, List, ℕ, length, take};
+    ghost use Rattle.linx_base.specs.Both.{Both};
+    ghost use Rattle.lossy_wire.specs.Flight.{changed, IsWithin};
 
-    ghost Value = { List (List ℕ) };
+    ghost Value = { Both (List (List ℕ)) };
 
-    ghost view = { λ w. w.packets.items };
+    ghost view = { λ w. record { was = take w.kept w.packets.items; is = changed w.change w.packets.items } };
+
+    ghost invariant = { λ w. (w.kept ≤ length w.packets.items) × IsWithin w.change w.packets.items };
+}
+
+/// Makes the change in the buffer.
+fn make(packets: &mut VecDeque<Blob>, change: Change)
+    requires { IsWithin change packets.old.items }
+    ensures { packets.new.items ≡ changed change packets.old.items }
+{
+    match change {
+        Change::Nothing => {}
+        Change::Lost(k) => {
+            let _ = packets.remove(k);
+        }
+        Change::Exchanged(k, n) => packets.swap(k, n),
+    }
+}
+
+/// How many packets there are after the change.
+fn count(packets: &VecDeque<Blob>, change: Change) -> usize
+    requires { IsWithin change packets.now.items }
+    ensures { result ≡ length (changed change packets.now.items) }
+{
+    match change {
+        Change::Nothing | Change::Exchanged(_, _) => packets.len(),
+        Change::Lost(_) => packets.len() - 1,
+    }
+}
+
+/// The packet at place k after the change.
+fn nth(packets: &VecDeque<Blob>, change: Change, k: usize) -> &Blob
+    requires within { IsWithin change packets.now.items }
+    requires below { k < length (changed change packets.now.items) }
+    ensures { slice_get (changed change packets.now.items) k ≡ Some result.now }
+{
+    match change {
+        Change::Nothing => &packets[k],
+        Change::Lost(lost) => {
+            if k < lost {
+                return &packets[k];
+            }
+            &packets[k + 1]
+        }
+        Change::Exchanged(first, second) => {
+            if k == first {
+                return &packets[second];
+            }
+            if k == second {
+                return &packets[first];
+            }
+            &packets[k]
+        }
+    }
 }
 
 impl Wire {
     /// A wire with nothing in flight. It takes no memory.
     pub fn new(alloc: Global) -> Wire
-        ensures { result ≡ [] }
+        ensures { result ≡ still [] }
     {
         Wire {
             packets: VecDeque::new(alloc),
+            kept: 0,
+            change: Change::Nothing,
         }
     }
 
     /// Puts a packet last. A refusal gives it back and changes nothing.
+    #[tactic(auto, using(crate::proofs::Changes::changed_behind))]
     pub fn put(&mut self, bytes: Blob) -> Result<(), (NoMemory, Blob)>
-        ensures ok { OnOk result (self.new ≡ self.old ++ bytes ∷ []) }
+        ensures ok { OnOk result (self.new.is ≡ self.old.is ++ bytes ∷ []) }
+        ensures was { self.new.was ≡ self.old.was }
         ensures err { OnErr result (self.new ≡ self.old) }
         ensures given_back { IfErr result (λ refusal. refusal.1 ≡ bytes) }
     {
@@ -45,58 +121,64 @@ impl Wire {
 
     /// How many packets are in flight.
     pub fn len(&self) -> usize
-        ensures { result ≡ length self.now }
+        ensures { result ≡ length self.now.is }
     {
-        self.packets.len()
+        count(&self.packets, self.change)
     }
 
     pub fn is_empty(&self) -> bool
-        ensures { result ≡ (length self.now == 0) }
+        ensures { result ≡ (length self.now.is == 0) }
     {
-        self.packets.is_empty()
+        count(&self.packets, self.change) == 0
     }
 
-    /// The bytes of the packet at place k.
-    pub fn at(&self, k: usize) -> &[u8]
-        requires { k < length self.now }
-        ensures { slice_get self.now k ≡ Some result.now }
+    /// The packet at place k.
+    pub fn at(&self, k: usize) -> &Blob
+        requires { k < length self.now.is }
+        ensures { slice_get self.now.is k ≡ Some result.now }
     {
-        self.packets[k].bytes()
+        nth(&self.packets, self.change, k)
     }
 
-    /// Takes the packet at place k out of flight. It takes no memory.
+    /// Takes the packet at place k out of flight, in an event that has lost or exchanged none yet.
+    /// It takes no memory.
     pub fn lose(&mut self, k: usize)
-        requires { k < length self.old }
-        ensures { self.new ≡ remove self.old k }
+        requires within { k < length self.old.is }
+        requires grown { HasOnlyGrown self.old }
+        ensures is { self.new.is ≡ remove self.old.is k }
+        ensures was { self.new.was ≡ self.old.was }
     {
-        let _ = self.packets.remove(k);
+        make(&mut self.packets, self.change);
+        self.change = Change::Lost(k);
     }
 
-    /// Exchanges the packets at places k and n. It takes no memory.
+    /// Exchanges the packets at places k and n, in an event that has lost or exchanged none yet. It
+    /// takes no memory.
     pub fn swap(&mut self, k: usize, n: usize)
-        requires first { k < length self.old }
-        requires second { n < length self.old }
-        ensures { self.new ≡ swap self.old k n }
+        requires first { k < length self.old.is }
+        requires second { n < length self.old.is }
+        requires grown { HasOnlyGrown self.old }
+        ensures is { self.new.is ≡ swap self.old.is k n }
+        ensures was { self.new.was ≡ self.old.was }
     {
-        self.packets.swap(k, n);
+        make(&mut self.packets, self.change);
+        self.change = Change::Exchanged(k, n);
     }
-}
 
-/// Copies of some packets, in their order.
-fn copies(alloc: Global, packets: &VecDeque<Blob>) -> Result<VecDeque<Blob>, NoMemory>
-    ensures { IfOk result (λ made. made.items ≡ packets.now.items) }
-{
-    let mut made = VecDeque::with_capacity(alloc, packets.len())?;
-    for packet in packets {
-        made.push_back(packet.copy()?)?;
+    /// What is now stays. It takes no memory.
+    pub fn keep(&mut self)
+        ensures { self.new ≡ still self.old.is }
+    {
+        make(&mut self.packets, self.change);
+        self.kept = self.packets.len();
+        self.change = Change::Nothing;
     }
-    Ok(made)
-}
 
-impl TryCopy for Wire {
-    fn copy(&self) -> Result<Wire, NoMemory> {
-        Ok(Wire {
-            packets: copies(*self.packets.allocator(), &self.packets)?,
-        })
+    /// What was is again. It takes no memory.
+    pub fn undo(&mut self)
+        ensures { self.new ≡ still self.old.was }
+    {
+        self.packets.truncate(self.kept);
+        self.change = Change::Nothing;
     }
 }
