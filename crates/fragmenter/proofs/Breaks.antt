@@ -5,11 +5,10 @@ use Rattle.linx_base.specs.declared.memory.NoMemory.{NoMemory}
 use Rattle.linx_base.specs.declared.frame.Message.{Message}
 use Rattle.linx_base.specs.declared.frame.Frame.{Frame}
 use Rattle.linx_base.specs.declared.frame.Frame.TheVariants.{First, Next}
-use Rattle.fragmenter.specs.declared.joiner.Begun.{Begun}
 use Rattle.fragmenter.specs.declared.joiner.Joined.{Joined}
 use Rattle.fragmenter.specs.declared.joiner.Joined.TheVariants.{More, Whole, Broken}
-use Rattle.fragmenter.specs.Pieces.{has_more}
-use Rattle.fragmenter.specs.Joining.{answer_of, IsBroken, Misfits, message_of, judged}
+use Rattle.linx_base.specs.Frames.{has_more}
+use Rattle.fragmenter.specs.Joining.{Begun, answer_of, IsBroken, Misfits, message_of, judged}
 
 -- Broken exactly where the frame breaks the message so far, and More exactly where it doesn't and
 -- more is to come

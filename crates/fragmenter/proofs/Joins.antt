@@ -6,10 +6,9 @@ use Rattle.std.proofs.lemmas.List.{append-nil, length-take}
 use Rattle.linx_base.specs.declared.frame.Message.{Message}
 use Rattle.linx_base.specs.declared.frame.Frame.{Frame}
 use Rattle.linx_base.specs.declared.frame.Frame.TheVariants.{First, Next}
-use Rattle.fragmenter.specs.declared.joiner.Begun.{Begun}
 use Rattle.fragmenter.specs.declared.joiner.Joined.TheVariants.{More, Whole}
 use Rattle.fragmenter.specs.Pieces.{is_more, cut, followers, framed, pieces_of}
-use Rattle.fragmenter.specs.Joining.{answer_of, held_after, answers_to, held_after_all, whole_at_the_last}
+use Rattle.fragmenter.specs.Joining.{Begun, answer_of, held_after, answers_to, held_after_all, whole_at_the_last}
 use Rattle.fragmenter.proofs.Cuts.{cut_first, joined-cut}
 
 -- the bytes that payloads carry together

@@ -1,3 +1,4 @@
 pub mod Cuts
 pub mod Joins
 pub mod Breaks
+pub mod Streams

@@ -1,12 +1,19 @@
+-- What a joiner answers to a frame, and what it holds then.
 use Rattle.std.specs.Prelude.{◌≢◌, ℕ, ◌+◌, ◌<◌, ◌≤◌, ◌==◌, nat_lt, if◌then◌else◌, Bool, true, false, Option, None, Some, List, [], ◌∷◌, ◌++◌, length}
 use Rattle.std.specs.Option.{ForSome}
 use Rattle.linx_base.specs.declared.frame.Message.{Message}
 use Rattle.linx_base.specs.declared.frame.Frame.{Frame}
 use Rattle.linx_base.specs.declared.frame.Frame.TheVariants.{First, Next}
-use Rattle.fragmenter.specs.Pieces.{has_more}
-use Rattle.fragmenter.specs.declared.joiner.Begun.{Begun}
+use Rattle.linx_base.specs.Frames.{has_more}
 use Rattle.fragmenter.specs.declared.joiner.Joined.{Joined}
 use Rattle.fragmenter.specs.declared.joiner.Joined.TheVariants.{More, Whole, Broken}
+
+-- a message of which the first pieces have come: its addresses, the size of its whole body, and the bytes so far
+pub record Begun : Type 0 where
+  pub from : ℕ
+  pub to : ℕ
+  pub size : ℕ
+  pub bytes : List ℕ
 
 -- the message so far with the payload of a frame; none where a first frame comes inside a message
 -- or a next one outside

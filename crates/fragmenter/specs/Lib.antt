@@ -1,2 +1,4 @@
 pub mod Pieces
 pub mod Joining
+pub mod Holding
+pub mod Streams

@@ -1,18 +1,11 @@
+-- A message cut into frames.
 use Rattle.std.specs.Prelude.{◌≡◌, ℕ, suc, zero, ◌≤◌, Bool, true, false, List, [], ◌∷◌, length, take, drop, All}
+use Rattle.std.specs.Int.{div_ceil}
 use Rattle.std.specs.List.{flat_map}
 use Rattle.linx_base.specs.declared.frame.Message.{Message}
 use Rattle.linx_base.specs.declared.frame.Frame.{Frame}
 use Rattle.linx_base.specs.declared.frame.Frame.TheVariants.{First, Next}
-
--- the bytes that a frame carries
-abbrev pub payload_of : Frame → List ℕ
-payload_of (First more from to size payload) = payload
-payload_of (Next more payload) = payload
-
--- whether further frames of its message follow a frame
-abbrev pub has_more : Frame → Bool
-has_more (First more from to size payload) = more
-has_more (Next more payload) = more
+use Rattle.linx_base.specs.Frames.{payload_of, has_more}
 
 -- something stands in the list
 abbrev pub is_more : {X : Type 0} → List X → Bool
@@ -77,3 +70,5 @@ pub record IsCutInto (m : Message) (p : ℕ) (frames : List Frame) : Type 0 wher
   pub sized : All (λ f. (1 ≤ length (payload_of f)) × (length (payload_of f) ≤ p)) frames
   -- `more` is false on the last alone
   pub marked : IsMarked frames
+  -- they are as many as the body's length divided by p, rounded up
+  pub counted : length frames ≡ div_ceil (length m.body) p

@@ -1,76 +1,12 @@
-ghost use Rattle.std.specs.Prelude.{◌≡◌, ◌↔◌, ◌++◌, None, true, length, IfOk, OnOk, OnErr, is_some};
-ghost use Rattle.fragmenter.specs.Joining.{answer_of, held_after, LacksBytes};
+ghost use Rattle.std.specs.Prelude.{◌≡◌, ◌↔◌, ◌+◌, ◌<◌, ◌≤◌, ◌++◌, List, ℕ, [], ◌∷◌, None, true, length, drop, IfOk, OnOk, OnErr, is_some};
+ghost use Rattle.linx_base.specs.Both.{still};
+ghost use Rattle.linx_base.specs.Frames.{has_more, payload_of};
+ghost use Rattle.fragmenter.specs.Joining.{answer_of, held_after};
+ghost use Rattle.fragmenter.specs.Holding.{joined, begun_in, Counts, judged_by, IsFate};
 
-use linx_base::{Blob, Frame, Message, NoMemory, TryCopy};
+use linx_base::{Blob, Bytes, Frame, Message, NoMemory, TryCopy};
 use std::alloc::Global;
 use std::marker::Model;
-
-/// Bytes that grow at their end, which contracts see as a list.
-#[derive(Drop)]
-pub struct Bytes {
-    joined: Vec<u8>,
-}
-
-impl Model for Bytes {
-    ghost use Rattle.std.specs.Prelude.{List, ℕ};
-
-    ghost Value = { List ℕ };
-
-    ghost view = { λ b. b.joined.items };
-}
-
-impl Bytes {
-    /// A copy of these bytes, with room for `room` in all.
-    fn of(alloc: Global, bytes: &[u8], room: usize) -> Result<Bytes, NoMemory>
-        ensures { IfOk result (λ made. made ≡ bytes.now) }
-    {
-        let mut joined = Vec::with_capacity(alloc, room)?;
-        joined.extend_from_slice(bytes)?;
-        Ok(Bytes { joined })
-    }
-
-    fn len(&self) -> usize
-        ensures { result ≡ length self.now }
-    {
-        self.joined.len()
-    }
-
-    /// Adds bytes at the end. A refusal changes nothing.
-    fn extend(&mut self, bytes: &[u8]) -> Result<(), NoMemory>
-        ensures ok { OnOk result (self.new ≡ self.old ++ bytes.now) }
-        ensures err { OnErr result (self.new ≡ self.old) }
-    {
-        self.joined.extend_from_slice(bytes)?;
-        Ok(())
-    }
-
-    fn copy(&self) -> Result<Bytes, NoMemory>
-        ensures { IfOk result (λ made. made ≡ self.now) }
-    {
-        Ok(Bytes {
-            joined: Vec::from_slice(*self.joined.allocator(), self.joined.as_slice())?,
-        })
-    }
-
-    /// A blob of these bytes and then others.
-    fn followed_by(&self, bytes: &[u8]) -> Result<Blob, NoMemory>
-        ensures { IfOk result (λ blob. blob ≡ self.now ++ bytes.now) }
-    {
-        let mut all = Vec::from_slice(*self.joined.allocator(), self.joined.as_slice())?;
-        all.extend_from_slice(bytes)?;
-        Blob::shared(all)
-    }
-}
-
-/// A message of which the first pieces have come: its addresses, the size of its whole body, and
-/// the bytes so far.
-#[derive(Drop)]
-pub struct Begun {
-    pub from: u32,
-    pub to: u32,
-    pub size: u32,
-    pub bytes: Bytes,
-}
 
 /// What a frame makes of the pieces before it.
 #[derive(Drop)]
@@ -83,161 +19,232 @@ pub enum Joined {
     Broken,
 }
 
-/// Joins frames to messages. Contracts see the message that has begun, `None` outside a message.
-#[derive(Drop)]
-pub struct Joiner {
-    alloc: Global,
-    begun: Option<Begun>,
-}
-
-impl Model for Joiner {
-    ghost use Rattle.std.specs.Prelude.{Option};
-    ghost use Rattle.fragmenter.specs.declared.joiner.Begun.{Begun};
-    ghost use Rattle.fragmenter.specs.Joining.{LacksBytes};
-
-    ghost Value = { Option Begun };
-
-    ghost view = { λ j. j.begun };
-
-    ghost invariant = { λ j. LacksBytes j.begun };
-}
-
-/// Leaves the message, with this answer.
-fn left(begun: &mut Option<Begun>, answer: Joined) -> Joined
-    ensures answer { result ≡ answer }
-    ensures outside { begun.new ≡ None }
-{
-    *begun = None;
-    answer
-}
-
-/// Begins a message by a first frame.
-fn begin(
-    alloc: Global,
-    begun: &mut Option<Begun>,
-    more: bool,
+/// How far a message has come: its addresses, the size of its whole body, and how many bytes of it
+/// have come.
+#[derive(Clone, Copy)]
+struct Progress {
     from: u32,
     to: u32,
     size: u32,
-    payload: &Blob,
-) -> Result<Joined, NoMemory>
-    ensures answer { IfOk result (λ answer. answer ≡ answer_of begun.old (Frame.First more from to size payload.now)) }
-    ensures held { OnOk result (begun.new ≡ held_after begun.old (Frame.First more from to size payload.now)) }
-    ensures err { OnErr result (begun.new ≡ begun.old) }
-{
-    if let Some(_) = begun {
-        return Ok(left(begun, Joined::Broken));
-    }
-    let count = payload.bytes().len();
-    if more {
-        if count >= size as usize {
-            return Ok(Joined::Broken);
-        }
-        let bytes = Bytes::of(alloc, payload.bytes(), size as usize)?;
-        *begun = Some(Begun {
-            from,
-            to,
-            size,
-            bytes,
-        });
-        return Ok(Joined::More);
-    }
-    if count != size as usize {
-        return Ok(Joined::Broken);
-    }
-    let body = payload.copy()?;
-    Ok(Joined::Whole(Message { from, to, body }))
+    came: usize,
 }
 
-/// Goes on with a message by a next frame.
-fn go_on(begun: &mut Option<Begun>, more: bool, payload: &[u8]) -> Result<Joined, NoMemory>
-    requires { LacksBytes begun.old }
-    ensures answer { IfOk result (λ answer. answer ≡ answer_of begun.old (Frame.Next more payload.now)) }
-    ensures held { OnOk result (begun.new ≡ held_after begun.old (Frame.Next more payload.now)) }
-    ensures err { OnErr result (begun.new ≡ begun.old) }
-{
-    let Some(message) = begun else {
-        return Ok(Joined::Broken);
-    };
-    let lacking = message.size as usize - message.bytes.len();
-    if more {
-        if payload.len() >= lacking {
-            return Ok(left(begun, Joined::Broken));
-        }
-        message.bytes.extend(payload)?;
-        return Ok(Joined::More);
-    }
-    if payload.len() != lacking {
-        return Ok(left(begun, Joined::Broken));
-    }
-    let (from, to) = (message.from, message.to);
-    let body = message.bytes.followed_by(payload)?;
-    Ok(left(begun, Joined::Whole(Message { from, to, body })))
+/// What becomes of a message by a frame.
+#[derive(Clone, Copy)]
+enum Fate {
+    /// It has come so far, and lacks further pieces.
+    GoesOn(Progress),
+    /// The frame has its last piece.
+    IsWhole(Progress),
+    IsBroken,
 }
 
-impl Joiner {
-    ghost use Rattle.fragmenter.specs.Joining.{IsBroken};
-    ghost use Rattle.fragmenter.specs.Pieces.{has_more};
-
-    /// A joiner outside a message. It takes no memory.
-    pub fn new(alloc: Global) -> Joiner
-        ensures { result ≡ None }
-    {
-        Joiner { alloc, begun: None }
+/// What a payload makes of a message.
+fn judge_payload(progress: Progress, more: bool, count: usize) -> Fate
+    requires { progress.came ≤ progress.size }
+    ensures { result ≡ judged_by progress more count }
+{
+    let lacking = progress.size as usize - progress.came;
+    if more {
+        if count < lacking {
+            return Fate::GoesOn(Progress {
+                came: progress.came + count,
+                ..progress
+            });
+        }
+        return Fate::IsBroken;
     }
-
-    /// Whether a message has begun.
-    pub fn is_inside(&self) -> bool
-        ensures { result ≡ is_some self.now }
-    {
-        self.begun.is_some()
+    if count == lacking {
+        return Fate::IsWhole(progress);
     }
+    Fate::IsBroken
+}
 
-    /// Adds a frame to the pieces before it. After `Broken` and after `Whole` the joiner is outside
-    /// a message. A refusal changes nothing.
-    #[tactic(auto, using(crate::proofs::Breaks::broken_exactly, crate::proofs::Breaks::more_exactly))]
-    pub fn add(&mut self, frame: &Frame) -> Result<Joined, NoMemory>
-        ensures answer { IfOk result (λ answer. answer ≡ answer_of self.old frame.now) }
-        ensures held { OnOk result (self.new ≡ held_after self.old frame.now) }
-        ensures broken { IfOk result (λ answer. (answer ≡ Joined.Broken) ↔ IsBroken self.old frame.now) }
-        ensures more { IfOk result (λ answer. (answer ≡ Joined.More) ↔ ((¬ IsBroken self.old frame.now) × (has_more frame.now ≡ true))) }
-        ensures err { OnErr result (self.new ≡ self.old) }
-    {
-        match frame {
+/// What a frame makes of the message so far.
+fn judge(begun: Option<Progress>, frame: &Frame) -> Fate
+    requires { (parts : List (List ℕ)) × Counts begun parts }
+    ensures { (parts : List (List ℕ)) → Counts begun parts → IsFate result parts (begun_in begun parts) frame.now }
+{
+    match (begun, frame) {
+        (
+            None,
             Frame::First {
                 more,
                 from,
                 to,
                 size,
                 payload,
-            } => begin(
-                self.alloc,
-                &mut self.begun,
-                *more,
-                *from,
-                *to,
-                *size,
-                payload,
-            ),
-            Frame::Next { more, payload } => go_on(&mut self.begun, *more, payload.bytes()),
+            },
+        ) => {
+            let progress = Progress {
+                from: *from,
+                to: *to,
+                size: *size,
+                came: 0,
+            };
+            judge_payload(progress, *more, payload.len())
         }
+        (Some(progress), Frame::Next { more, payload }) => {
+            judge_payload(progress, *more, payload.len())
+        }
+        _ => Fate::IsBroken,
     }
 }
 
-impl TryCopy for Joiner {
-    fn copy(&self) -> Result<Joiner, NoMemory> {
-        let begun = match &self.begun {
-            None => None,
-            Some(begun) => Some(Begun {
-                from: begun.from,
-                to: begun.to,
-                size: begun.size,
-                bytes: begun.bytes.copy()?,
-            }),
-        };
-        Ok(Joiner {
-            alloc: self.alloc,
-            begun,
-        })
+/// The bytes of the parts, and then those of the last one. A last one alone is shared.
+fn join(alloc: Global, parts: &[Blob], last: &Blob, size: usize) -> Result<Blob, NoMemory>
+    ensures { IfOk result (λ body. body ≡ joined (parts.now ++ last.now ∷ [])) }
+{
+    if parts.is_empty() {
+        return last.copy();
+    }
+    let mut bytes = Bytes::with_room(alloc, size)?;
+    for part in parts {
+        bytes.extend(part.bytes())?;
+    }
+    bytes.extend(last.bytes())?;
+    bytes.into_blob()
+}
+
+/// The bytes that a frame carries.
+fn payload_of(frame: &Frame) -> &Blob
+    ensures { result.now ≡ payload_of frame.now }
+{
+    match frame {
+        Frame::First { payload, .. } | Frame::Next { payload, .. } => payload,
+    }
+}
+
+/// Adds a part at the end. A refusal changes nothing.
+fn hold(parts: &mut Vec<Blob>, part: &Blob) -> Result<(), NoMemory>
+    ensures ok { OnOk result (parts.new.items ≡ parts.old.items ++ part.now ∷ []) }
+    ensures err { OnErr result (parts.new.items ≡ parts.old.items) }
+{
+    let part = part.copy()?;
+    parts.push(part)?;
+    Ok(())
+}
+
+/// Drops the first parts.
+fn drop_front(parts: &mut Vec<Blob>, count: usize)
+    requires { count ≤ length parts.old.items }
+    ensures { parts.new.items ≡ drop count parts.old.items }
+{
+    let rest = parts.len() - count;
+    parts.rotate_left(count);
+    parts.truncate(rest);
+}
+
+/// Joins frames to messages, with a way back: what an event did either stays, or is undone.
+/// Contracts see the message that had begun when the event began, and the one that has begun now,
+/// `None` outside a message.
+#[derive(Drop)]
+pub struct Joiner {
+    alloc: Global,
+    /// The pieces of both messages, those that came in this event behind the others.
+    parts: Vec<Blob>,
+    /// How many pieces were held when the event began.
+    kept: usize,
+    was: Option<Progress>,
+    /// The place of the first piece of the message that has begun now.
+    start: usize,
+    is: Option<Progress>,
+}
+
+impl Model for Joiner {
+    ghost use Rattle.std.specs.Prelude.{◌≤◌, Option, length, take, drop};
+    ghost use Rattle.linx_base.specs.Both.{Both};
+    ghost use Rattle.fragmenter.specs.Joining.{Begun};
+    ghost use Rattle.fragmenter.specs.Holding.{begun_in, Counts};
+
+    ghost Value = { Both (Option Begun) };
+
+    ghost view = { λ j. record { was = begun_in j.was (take j.kept j.parts.items); is = begun_in j.is (drop j.start j.parts.items) } };
+
+    ghost invariant = { λ j. (j.kept ≤ length j.parts.items) × (j.start ≤ length j.parts.items) × Counts j.was (take j.kept j.parts.items) × Counts j.is (drop j.start j.parts.items) };
+}
+
+impl Joiner {
+    ghost use Rattle.fragmenter.specs.Joining.{IsBroken};
+
+    /// A joiner outside a message. It takes no memory.
+    pub fn new(alloc: Global) -> Joiner
+        ensures { result ≡ still None }
+    {
+        Joiner {
+            alloc,
+            parts: Vec::new(alloc),
+            kept: 0,
+            was: None,
+            start: 0,
+            is: None,
+        }
+    }
+
+    /// Whether a message has begun.
+    pub fn is_inside(&self) -> bool
+        ensures { result ≡ is_some self.now.is }
+    {
+        self.is.is_some()
+    }
+
+    /// Adds a frame to the pieces before it. After `Broken` and after `Whole` the joiner is outside
+    /// a message. A refusal changes nothing.
+    #[tactic(auto, using(crate::proofs::Breaks::broken_exactly, crate::proofs::Breaks::more_exactly))]
+    pub fn add(&mut self, frame: &Frame) -> Result<Joined, NoMemory>
+        ensures answer { IfOk result (λ answer. answer ≡ answer_of self.old.is frame.now) }
+        ensures held { OnOk result (self.new.is ≡ held_after self.old.is frame.now) }
+        ensures broken { IfOk result (λ answer. (answer ≡ Joined.Broken) ↔ IsBroken self.old.is frame.now) }
+        ensures more { IfOk result (λ answer. (answer ≡ Joined.More) ↔ ((¬ IsBroken self.old.is frame.now) × (has_more frame.now ≡ true))) }
+        ensures was { self.new.was ≡ self.old.was }
+        ensures err { OnErr result (self.new ≡ self.old) }
+    {
+        match judge(self.is, frame) {
+            Fate::GoesOn(progress) => {
+                hold(&mut self.parts, payload_of(frame))?;
+                self.is = Some(progress);
+                Ok(Joined::More)
+            }
+            Fate::IsWhole(Progress { from, to, size, .. }) => {
+                let parts = &self.parts[self.start..];
+                let body = join(self.alloc, parts, payload_of(frame), size as usize)?;
+                self.start = self.parts.len();
+                self.is = None;
+                Ok(Joined::Whole(Message { from, to, body }))
+            }
+            Fate::IsBroken => {
+                self.start = self.parts.len();
+                self.is = None;
+                Ok(Joined::Broken)
+            }
+        }
+    }
+
+    /// Leaves the message that has begun. It takes no memory.
+    pub fn clear(&mut self)
+        ensures is { self.new.is ≡ None }
+        ensures was { self.new.was ≡ self.old.was }
+    {
+        self.start = self.parts.len();
+        self.is = None;
+    }
+
+    /// What is now stays. It takes no memory.
+    pub fn keep(&mut self)
+        ensures { self.new ≡ still self.old.is }
+    {
+        drop_front(&mut self.parts, self.start);
+        self.kept = self.parts.len();
+        self.was = self.is;
+        self.start = 0;
+    }
+
+    /// What was is again. It takes no memory.
+    pub fn undo(&mut self)
+        ensures { self.new ≡ still self.old.was }
+    {
+        self.parts.truncate(self.kept);
+        self.start = 0;
+        self.is = self.was;
     }
 }

@@ -25,7 +25,7 @@ fn payload(frame: &Frame) -> &[u8] {
 #[test]
 fn a_body_of_130_bytes_has_three_pieces(rt: HostRuntime) -> Result<(), Fail> {
     let message = message(&rt, 130)?;
-    assert!(rt; message.body.bytes().len() == 130);
+    assert!(rt; message.body.len() == 130);
     let frames = pieces(rt.alloc(), &message, 64)?.into_vec();
     assert_eq!(rt; frames.len(), 3);
     let mut joiner = Joiner::new(rt.alloc());
@@ -47,6 +47,37 @@ fn a_body_of_130_bytes_has_three_pieces(rt: HostRuntime) -> Result<(), Fail> {
 }
 
 #[test]
+fn an_undone_event_leaves_the_pieces_of_before(rt: HostRuntime) -> Result<(), Fail> {
+    let message = message(&rt, 200)?;
+    assert!(rt; message.body.len() == 200);
+    let frames = pieces(rt.alloc(), &message, 64)?.into_vec();
+    assert_eq!(rt; frames.len(), 4);
+    let mut joiner = Joiner::new(rt.alloc());
+    assert!(rt; matches!(joiner.add(&frames[0])?, Joined::More));
+    joiner.keep();
+    for frame in &frames[1..] {
+        let _ = joiner.add(frame)?;
+    }
+    assert!(rt; !joiner.is_inside());
+    assert!(rt; matches!(joiner.add(&frames[0])?, Joined::More));
+    assert!(rt; matches!(joiner.add(&frames[0])?, Joined::Broken));
+    joiner.undo();
+    assert!(rt; joiner.is_inside());
+    let mut wholes = 0_u32;
+    for frame in &frames[1..] {
+        if let Joined::Whole(whole) = joiner.add(frame)? {
+            assert!(rt; whole.body.same(&message.body));
+            wholes = 1;
+        }
+    }
+    assert_eq!(rt; wholes, 1);
+    joiner.clear();
+    joiner.keep();
+    assert!(rt; !joiner.is_inside());
+    Ok(())
+}
+
+#[test]
 fn a_next_frame_outside_a_message_is_broken(rt: HostRuntime) -> Result<(), Fail> {
     let mut joiner = Joiner::new(rt.alloc());
     let frame = Frame::Next {
@@ -61,7 +92,7 @@ fn a_next_frame_outside_a_message_is_broken(rt: HostRuntime) -> Result<(), Fail>
 #[test]
 fn the_largest_body_has_1024_pieces_and_joins_to_itself(rt: HostRuntime) -> Result<(), Fail> {
     let message = message(&rt, 65_536)?;
-    assert!(rt; message.body.bytes().len() == 65_536);
+    assert!(rt; message.body.len() == 65_536);
     let frames = pieces(rt.alloc(), &message, 64)?.into_vec();
     assert_eq!(rt; frames.len(), 1_024);
     let mut joiner = Joiner::new(rt.alloc());

@@ -1,21 +1,26 @@
-use Rattle.std.proofs.Common.{◌≡◌, ◌∙◌, arith}
+use Rattle.std.proofs.Common.{◌≡◌, ◌∙◌, refl, arith}
 use Rattle.fragmenter.specs.Pieces.{pieces_of}
-use Rattle.fragmenter.proofs.Cuts.{begun_pieces, more_pieces, all_pieces, is_cut}
+use Rattle.fragmenter.proofs.Cuts.{begun_pieces, more_pieces, all_pieces, is_cut, pieces_fit, few_pieces}
 use Rattle.fragmenter.proofs.cutting.pieces.Goals as goal
 
 pub cutting-init : goal.cutting-init
-cutting-init c =
-    rw c.in_ok-push.ensures.items (begun_pieces c.args.message.now c.args.piece c.bytes-body.result.now _ c.is_empty.result _ c.split.result.1.now c.bytes-body.ensures c.in_ok-frames.ensures.items c.is_empty.ensures (c.in_ok-of.ensures ∙ c.split.ensures.first) c.split.ensures.rest (omega arith) (omega arith))
+cutting-init c = record {
+  within = omega (arith, c.min-from.ensures, c.len-size.ensures);
+  frames = rw c.in_ok-push.ensures.items (begun_pieces c.args.message.now c.args.piece c.len-size.result c.min-from.result _ _ _ c.len-size.ensures c.min-from.ensures c.in_ok-frames.ensures.items refl c.in_ok-part.ensures (omega arith) (omega arith));
+}
 
 pub cutting-preserved : goal.cutting-preserved
-cutting-preserved c =
-    rw c.in_ok-push-2.ensures.items (more_pieces c.args.piece c.cutting.rest.now c.cutting.frames.items c.is_empty-in-cutting-2.result _ c.split-in-cutting.result.1.now _ c.cutting.invariant c.is_empty-in-cutting-2.ensures (c.in_ok-of-2.ensures ∙ c.split-in-cutting.ensures.first) c.split-in-cutting.ensures.rest (omega arith) (grind arith))
+cutting-preserved c = record {
+  within = omega (arith, c.min-to.ensures, c.len-size.ensures);
+  frames = rw c.in_ok-push-2.ensures.items (more_pieces c.args.piece c.cutting.from c.min-to.result c.args.message.now.body _ _ _ _ c.cutting.invariant.frames (omega (arith, c.len-size.ensures)) (rw (← c.len-size.ensures) c.min-to.ensures) (rw (← c.len-size.ensures) refl) c.in_ok-part-2.ensures (omega arith));
+}
 
-pub returns-clause-pieces : goal.returns-clause-pieces
-returns-clause-pieces c =
-    c.of-2.ensures ∙ all_pieces c.args.piece c.cutting.rest.now _ _ c.cutting.invariant (grind arith)
-
-pub returns-clause-cut : goal.returns-clause-cut
-returns-clause-cut c =
-    let e : c.of-2.result ≡ pieces_of c.args.message.now c.args.piece = c.of-2.ensures ∙ all_pieces c.args.piece c.cutting.rest.now _ _ c.cutting.invariant (grind arith) in
-    rw e (is_cut c.args.message.now c.args.piece (omega arith) (omega arith))
+pub returns : goal.returns
+returns c =
+    let made : c.of.result ≡ pieces_of c.args.message.now c.args.piece = c.of.ensures ∙ all_pieces c.args.piece c.cutting.from c.args.message.now.body _ _ c.cutting.invariant.frames (grind (arith, c.len-size.ensures)) in
+    record {
+      pieces = made;
+      cut = rw made (is_cut c.args.message.now c.args.piece (omega arith) (omega arith));
+      fit = rw made (pieces_fit c.args.message.now c.args.piece (omega arith) (omega arith) c.requires.message);
+      few = rw made (few_pieces c.args.message.now c.args.piece (omega arith) c.requires.message);
+    }
