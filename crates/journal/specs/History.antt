@@ -1,12 +1,12 @@
-use Rattle.std.specs.Prelude.{ℕ, ◌+◌, ◌*◌, Bool, true, false, not, ◌&&◌, ◌==◌, List, [], ◌∷◌, ◌++◌, filter, count_by, Option, Some, None, if◌then◌else◌}
+use Rattle.std.specs.Prelude.{ℕ, ◌+◌, Bool, true, false, not, ◌&&◌, ◌==◌, List, [], ◌∷◌, ◌++◌, filter, count_by, Option, Some, None, if◌then◌else◌}
 use Rattle.std.specs.List.{list_any, filter_map}
-use Rattle.linx_base.specs.Numbers.{is_on}
+use Rattle.linx_base.specs.Numbers.{inc_of, is_on}
 use Rattle.linx_base.specs.Peers.{same_inc}
 use Rattle.linx_base.specs.declared.identity.Inc.{Inc}
 use Rattle.journal.specs.declared.by.By.{By}
 use Rattle.journal.specs.declared.by.By.TheVariants.{Actor, Pump}
 use Rattle.journal.specs.declared.head.Head.{Head}
-use Rattle.journal.specs.declared.head.Head.TheVariants.{Ended}
+use Rattle.journal.specs.declared.head.Head.TheVariants.{Open, Ended}
 use Rattle.journal.specs.declared.effect.Effect.{Effect}
 use Rattle.journal.specs.declared.effect.Effect.TheVariants.{Opened, Closed}
 use Rattle.journal.specs.declared.effect.Step.{Step}
@@ -69,9 +69,28 @@ openings P = filter_map opened_in (effects_of P)
 abbrev pub open_endpoints : List Step → ℕ → List Inc
 open_endpoints P node = filter (λ i. is_on node i && not (is_closed P i)) (openings P)
 
--- the next incarnation of a node: its number times 2^32, plus 1, plus the openings on it so far
-abbrev pub next_inc : List Step → ℕ → Inc
-next_inc P node = record { 0 = node * 4294967296 + 1 + count_by (is_on node) (openings P) }
+-- how many endpoints were opened on a node
+abbrev pub opened_on : List Step → ℕ → ℕ
+opened_on P node = count_by (is_on node) (openings P)
+
+-- the incarnation of the next opening on a node, after so many
+abbrev pub next_inc : ℕ → ℕ → Inc
+next_inc node opened = inc_of node (opened + 1)
+
+-- the effect opens this incarnation
+abbrev pub opens : Inc → Effect → Bool
+opens i (Opened j) = same_inc i j
+opens i _ = false
+
+-- the name in the head of an opening
+abbrev pub name_in : Head → Option (List ℕ)
+name_in (Open name) = Some name
+name_in _ = None
+
+-- the name that an incarnation was opened with
+abbrev pub opening_name : List Step → Inc → Option (List ℕ)
+opening_name [] i = None
+opening_name (s ∷ P) i = if list_any (opens i) s.effects then name_in s.head else opening_name P i
 
 -- the head ends an actor
 abbrev pub is_end : Head → Bool

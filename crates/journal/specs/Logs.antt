@@ -6,7 +6,6 @@ use Rattle.journal.specs.declared.head.Head.TheVariants.{Send, Hunt, Attach}
 use Rattle.journal.specs.declared.effect.Effect.{Effect}
 use Rattle.journal.specs.declared.effect.Effect.TheVariants.{Arrived, Found, Notified}
 use Rattle.journal.specs.declared.effect.Step.{Step}
-use Rattle.journal.specs.declared.journal.TheConstants.{STEPS_MOST, SIGNAL_BYTES_MOST}
 
 -- what a journal says: the names of nodes and links, and the steps, the newest first
 pub record Log : Type 0 where
@@ -46,6 +45,14 @@ abbrev pub signal_bytes_of : List Step → ℕ
 signal_bytes_of [] = 0
 signal_bytes_of (s ∷ P) = signal_bytes_of P + step_bytes s
 
+-- the steps that fill a journal
+abbrev pub step_limit : ℕ
+step_limit = 200000
+
+-- the bytes of noted signals that fill a journal
+abbrev pub byte_limit : ℕ
+byte_limit = 67108864
+
 -- the journal takes no further step
 abbrev pub is_full : List Step → Bool
-is_full P = nat_le STEPS_MOST (length P) || nat_le SIGNAL_BYTES_MOST (signal_bytes_of P)
+is_full P = nat_le step_limit (length P) || nat_le byte_limit (signal_bytes_of P)

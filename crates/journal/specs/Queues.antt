@@ -1,11 +1,10 @@
-use Rattle.std.specs.Prelude.{ℕ, suc, ◌+◌, Bool, true, false, not, ◌&&◌, ◌==◌, List, [], ◌∷◌, ◌++◌, length, filter, Option, if◌then◌else◌}
-use Rattle.std.specs.List.{list_any}
+use Rattle.std.specs.Prelude.{ℕ, suc, ◌+◌, Bool, true, false, not, ◌&&◌, List, [], ◌∷◌, ◌++◌, length, filter, if◌then◌else◌}
 use Rattle.linx_base.specs.Peers.{same_inc, same_position}
-use Rattle.linx_base.specs.FirstMatch.{first_match}
 use Rattle.linx_base.specs.declared.identity.Inc.{Inc}
 use Rattle.linx_base.specs.declared.identity.ItemAt.{ItemAt}
-use Rattle.sigsel.specs.declared.sigsel.Sigsel.{Sigsel}
-use Rattle.sigsel.specs.Selects.{selects}
+use Rattle.linx_base.specs.declared.item.Item.{Item}
+use Rattle.linx_base.specs.declared.item.Kind.TheVariants.{Plain, Found as FoundBy, Notice}
+use Rattle.sigsel.specs.Selection.{is_notice_of}
 use Rattle.journal.specs.declared.head.Head.{Head}
 use Rattle.journal.specs.declared.head.Head.TheVariants.{Take, Detach}
 use Rattle.journal.specs.declared.head.Detached.{Detached}
@@ -13,43 +12,32 @@ use Rattle.journal.specs.declared.head.Detached.TheVariants.{Pending, Queued, No
 use Rattle.journal.specs.declared.effect.Effect.{Effect}
 use Rattle.journal.specs.declared.effect.Effect.TheVariants.{Arrived, Found, Notified}
 use Rattle.journal.specs.declared.effect.Step.{Step}
-
--- an item of a queue: its position, and the effect that stands there
-pub record Entry : Type 0 where
-  pub at : ItemAt
-  pub effect : Effect
+use Rattle.journal.specs.History.{endpoint_by}
+use Rattle.journal.specs.Traffic.{is_endpoint}
 
 -- the effect puts an item into this endpoint's queue
 abbrev pub is_item_of : Inc → Effect → Bool
 is_item_of j (Arrived i from note) = same_inc i j
-is_item_of j (Found i from note number) = same_inc i j
+is_item_of j (Found i from note hunt) = same_inc i j
 is_item_of j (Notified i from note reference reason) = same_inc i j
 is_item_of j _ = false
 
--- the number of the signal that an effect brings
-abbrev pub number_in : Effect → ℕ
-number_in (Arrived i from note) = note.number
-number_in (Found i from note number) = note.number
-number_in (Notified i from note reference reason) = note.number
-number_in _ = 0
+-- the item that an effect at this position puts into its endpoint's queue
+abbrev pub items_from : ItemAt → Effect → List Item
+items_from at (Arrived i from note) =
+    record { signal = note; from = from; kind = Plain; pos = at } ∷ []
+items_from at (Found i from note hunt) =
+    record { signal = note; from = from; kind = FoundBy hunt; pos = at } ∷ []
+items_from at (Notified i from note reference reason) =
+    record { signal = note; from = from; kind = Notice reference; pos = at } ∷ []
+items_from at _ = []
 
--- the items that a step's effects bring to an endpoint, from this place on
-abbrev pub entries_in : Inc → ℕ → ℕ → List Effect → List Entry
-entries_in j step place [] = []
-entries_in j step place (e ∷ es) =
-    if is_item_of j e
-    then record { at = record { step = step; place = place }; effect = e } ∷ entries_in j step (place + 1) es
-    else entries_in j step (place + 1) es
-
--- all items that came to an endpoint, in order
-abbrev pub delivered : List Step → Inc → List Entry
-delivered [] j = []
-delivered (s ∷ P) j = delivered P j ++ entries_in j (suc (length P)) 1 s.effects
-
--- the effect is the notification of this reference
-abbrev pub is_notice_of : ℕ → Effect → Bool
-is_notice_of r (Notified i from note reference reason) = reference.0 == r
-is_notice_of r _ = false
+-- the items that a step's effects put into the queue of an endpoint, from this place on
+abbrev pub items_in : Inc → ℕ → ℕ → List Effect → List Item
+items_in j step place [] = []
+items_in j step place (e ∷ es) =
+    (if is_item_of j e then items_from (record { step = step; place = place }) e else [])
+    ++ items_in j step (place + 1) es
 
 -- a detach was answered so that the queued notification is gone
 abbrev pub took_queued : Detached → Bool
@@ -57,21 +45,21 @@ took_queued Pending = false
 took_queued Queued = true
 took_queued Neither = false
 
--- the head takes the item out of its queue: a Take that names it, or a Detach of its reference
--- that was answered queued
-abbrev pub removes : Entry → Head → Bool
-removes e (Take filter position) = same_position position e.at
-removes e (Detach r answer) = took_queued answer && is_notice_of r.0 e.effect
-removes e _ = false
+-- the head takes the item out of the queue of its maker's endpoint: a Take that names the item's
+-- position, or a Detach of the item's reference that was answered queued
+abbrev pub removes : Head → Item → Bool
+removes (Take filter position) item = same_position position item.pos
+removes (Detach r answer) item = took_queued answer && is_notice_of r item
+removes _ item = false
 
--- the queue of an endpoint: what came to it, in order, without what was taken out
-abbrev pub queued : List Step → Inc → List Entry
-queued P j = filter (λ e. not (list_any (λ s. removes e s.head) P)) (delivered P j)
+-- what a head leaves of a queue, which is that of its maker's endpoint or not
+abbrev pub left_by : Bool → Head → List Item → List Item
+left_by true head items = filter (λ item. not (removes head item)) items
+left_by false head items = items
 
--- the filter selects the item
-abbrev pub is_selected : Sigsel → Entry → Bool
-is_selected filter e = selects filter (number_in e.effect)
-
--- the earliest selected item
-abbrev pub first_selected : Sigsel → List Entry → Option Entry
-first_selected filter items = first_match (is_selected filter) items
+-- the queue of an endpoint: what came to it, in order, without what its own steps took out
+abbrev pub queued : List Step → Inc → List Item
+queued [] j = []
+queued (s ∷ P) j =
+    left_by (is_endpoint j (endpoint_by P s.by)) s.head (queued P j)
+    ++ items_in j (suc (length P)) 1 s.effects

@@ -18,7 +18,8 @@ session_after node link before _ = before
 -- the same after effects, in order
 abbrev pub session_past : ℕ → ℕ → Option Session → List Effect → Option Session
 session_past node link before [] = before
-session_past node link before (e ∷ es) = session_past node link (session_after node link before e) es
+session_past node link before (e ∷ es) =
+    session_past node link (session_after node link before e) es
 
 -- the session of a node on a link that is up: of the last Up there, unless a Down followed
 abbrev pub up_session : List Step → ℕ → ℕ → Option Session

@@ -32,7 +32,8 @@ sent_by q _ = []
 -- the signals that an endpoint sent to a peer, in order, without those that were dead
 abbrev pub sent_to : List Step → Inc → Peer → List SigNote
 sent_to [] i q = []
-sent_to (s ∷ P) i q = sent_to P i q ++ (if is_endpoint i (endpoint_by P s.by) then sent_by q s.head else [])
+sent_to (s ∷ P) i q =
+    sent_to P i q ++ (if is_endpoint i (endpoint_by P s.by) then sent_by q s.head else [])
 
 -- the signal that an effect brings to an endpoint from a peer
 abbrev pub arrival_in : Inc → Peer → Effect → Option SigNote

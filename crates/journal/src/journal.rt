@@ -10,13 +10,13 @@ use std::alloc::Global;
 use std::marker::Model;
 
 /// The steps that fill a journal.
-pub const STEPS_MOST: u64 = 200_000;
+const STEPS_MOST: u64 = 200_000;
 
 /// The bytes of noted signals that fill a journal.
-pub const SIGNAL_BYTES_MOST: u64 = 67_108_864;
+const SIGNAL_BYTES_MOST: u64 = 67_108_864;
 
-/// The names of the nodes and links, and the steps so far. Contracts see its log, and the steps that
-/// it has room for.
+/// The names of the nodes and links, and the steps so far. Contracts see its log, and how many more
+/// steps it has room for.
 #[derive(Drop)]
 pub struct Journal {
     names: Names,
@@ -35,7 +35,8 @@ impl Model for Journal {
       spare = vec_capacity j.steps - vec_len j.steps;
     } };
 
-    ghost invariant = { λ j. j.signal_bytes ≡ min (signal_bytes_of (reverse j.steps.items)) (2 ^ 64 - 1) };
+    ghost invariant = { λ j. j.signal_bytes
+        ≡ min (signal_bytes_of (reverse j.steps.items)) (2 ^ 64 - 1) };
 }
 
 /// The size of a noted signal.

@@ -1,5 +1,5 @@
 use Rattle.std.proofs.Common.{◌≡◌, ℕ, zero, suc, ◌<◌, Bool, true, false, cond, List, [], ◌∷◌, ◌++◌, length, get_or, refl, ap, sym, arith, nat_lt}
-use Rattle.std.specs.Prelude.{Some, None, is_some}
+use Rattle.std.specs.Prelude.{Option, Some, None, is_some}
 use Rattle.std.specs.List.{find, remove, list_any, All, position, position_or_len}
 use Rattle.std.specs.Option.{option_or}
 use Rattle.std.proofs.lemmas.List.Quantifiers.{position-Some}
@@ -147,3 +147,19 @@ module _ {X : Type 0} (p : X → Bool) where
   without_match-append (x ∷ xs) ys =
       let rest : without_match p (xs ++ ys) ≡ cond (list_any p xs) (without_match p xs ++ ys) (xs ++ without_match p ys) = without_match-append xs ys in
       grind (arith, rest)
+
+  -- what has no place doesn't match
+  pub first_match-no_place : (xs : List X) → position p xs ≡ None → first_match p xs ≡ None
+  first_match-no_place xs is = first_match_none xs (none_from_position xs is)
+
+  pub without_match-no_place : (xs : List X) → position p xs ≡ None → without_match p xs ≡ xs
+  without_match-no_place xs is = without_match_none xs (none_from_position xs is)
+
+  -- there is a place exactly where there is a match
+  pub is_some-position : (xs : List X) → is_some (position p xs) ≡ is_some (first_match p xs)
+  is_some-position xs = by_place xs (position p xs) refl
+    where
+      by_place : (xs : List X) (r : Option ℕ) → position p xs ≡ r → is_some r ≡ is_some (first_match p xs)
+      by_place xs None is = ap is_some (sym (first_match-no_place xs is))
+      by_place [] (Some k) is = cc
+      by_place (x ∷ xs) (Some k) is = ap is_some (sym (first_match-position (x ∷ xs) k x is))
