@@ -1,4 +1,4 @@
--- What a source and a sink in memory are.
+-- What the sources and sinks of this crate are.
 use Rattle.std.specs.Prelude.{◌≡◌, ℕ, ◌<◌, List, length}
 use Rattle.linx_outside.specs.Counts.{raised}
 
@@ -18,7 +18,7 @@ pub record Supply : Type 0 where
   pub plan : Plan
   pub faults : ℕ
 
--- the bytes taken, the most that a write takes, the most that are held, its calls, its faults so far
+-- the bytes taken, the most that a write takes, the most that are held, its calls, its faults
 pub record Store : Type 0 where
   pub held : List ℕ
   pub most : ℕ
@@ -29,3 +29,8 @@ pub record Store : Type 0 where
 -- a piece that isn't empty comes to a sink that is full
 abbrev pub IsFullFor : Store → List ℕ → Type 0
 IsFullFor store piece = (0 < length piece) × (length store.held ≡ store.room)
+
+-- a reader or writer of std, with its faults so far
+pub record WithFaults (T : Type 0) : Type 0 where
+  pub inner : T
+  pub faults : ℕ

@@ -1,99 +1,89 @@
-//! std's readers and writers as sources and sinks. Nothing proves what stands behind a reader or a
-//! writer, so they tell no content; these few lines are where the outside is trusted.
-ghost use Rattle.std.specs.Prelude.{◌≡◌, None, Some};
-ghost use Rattle.linx_outside.specs.Counts.{last_u64};
+//! std's readers and writers as sources and sinks. A source tells what its reader has left and a
+//! sink what its writer holds, where std knows it. Of a slice and a vector it does; of a file and
+//! the standard streams it doesn't, and nothing here says what stands behind those.
+ghost use Rattle.std.specs.Prelude.{◌≡◌, Some};
+ghost use Rattle.linx_outside.specs.Counts.{HasFaulted, NeverFalls, raised, last_u64};
 
 use crate::sink::{Sink, WriteAnswer};
 use crate::source::{ReadAnswer, Source};
 use std::io::{Read, Write};
 use std::marker::Model;
 
-/// A reader of std as a source. Each error that the reader gives is a fault, an interrupted read
-/// too.
+/// A reader or a writer of std, and how many faults it had.
 #[derive(Drop)]
-pub struct ReadFrom<R> {
-    reader: R,
+pub struct Adapted<T> {
+    inner: T,
     faults: u64,
 }
 
-// It is seen as its count of faults.
-impl<R> Model for ReadFrom<R> {
-    ghost use Rattle.std.specs.Prelude.{ℕ};
+// It is seen as the reader or writer, and its faults so far.
+impl<T> Model for Adapted<T> {
+    ghost use Rattle.linx_outside.specs.Contents.{WithFaults};
 
-    ghost Value = { ℕ };
+    ghost Value = { WithFaults T };
 
-    ghost view = { λ adapter. adapter.faults };
+    ghost view = { λ adapted. record { inner = adapted.inner; faults = adapted.faults } };
 }
 
-impl<R: Read> ReadFrom<R> {
+/// A reader of std as a source. Each error that the reader gives is a fault, an interrupted read
+/// too.
+pub type ReadFrom<R> = Adapted<R>;
+
+/// A writer of std as a sink. Each error that the writer gives is a fault, and so is a write that
+/// takes nothing of a piece that isn't empty. It never flushes.
+pub type WriteTo<W> = Adapted<W>;
+
+impl<T> Adapted<T> {
     /// With no fault so far.
-    pub fn new(reader: R) -> ReadFrom<R>
-        ensures { result ≡ 0 }
+    pub fn new(inner: T) -> Adapted<T>
+        ensures inner { result.inner ≡ inner }
+        ensures faults { result.faults ≡ 0 }
     {
-        ReadFrom { reader, faults: 0 }
+        Adapted { inner, faults: 0 }
+    }
+
+    // Counts a fault. The count stands still at its last value.
+    fn count_fault(&mut self)
+        ensures raised_once { self.new ≡ record self.old { faults = raised self.old.faults } }
+        ensures has_faulted { HasFaulted (Some last_u64) self.old.faults self.new.faults }
+        ensures never_falls { NeverFalls (Some last_u64) self.old.faults self.new.faults }
+    {
+        self.faults = self.faults.saturating_add(1);
     }
 }
 
-impl<R: Read> Source for ReadFrom<R> {
-    ghost left = { λ _. None };
+impl<R: Read> Source for Adapted<R> {
+    ghost left = { λ adapted. R.remaining adapted.inner };
 
-    ghost faults = { λ count. count };
+    ghost faults = { λ adapted. adapted.faults };
 
     ghost last_count = { Some last_u64 };
 
     ghost is_faultless = { λ _. ⊥ };
 
     fn read(&mut self, buffer: &mut [u8]) -> ReadAnswer {
-        match self.reader.read(buffer) {
-            Ok(count) => ReadAnswer::Got(count),
-            Err(_) => {
-                self.faults = self.faults.saturating_add(1);
-                ReadAnswer::Failed
-            }
+        if let Ok(count) = self.inner.read(buffer) {
+            return ReadAnswer::Got(count);
         }
+        self.count_fault();
+        ReadAnswer::Failed
     }
 }
 
-/// A writer of std as a sink. Each error that the writer gives is a fault, and so is a write that
-/// takes nothing of a piece that isn't empty. It never flushes.
-#[derive(Drop)]
-pub struct WriteTo<W> {
-    writer: W,
-    faults: u64,
-}
+impl<W: Write> Sink for Adapted<W> {
+    ghost held = { λ adapted. W.contents adapted.inner };
 
-// It is seen as its count of faults.
-impl<W> Model for WriteTo<W> {
-    ghost use Rattle.std.specs.Prelude.{ℕ};
-
-    ghost Value = { ℕ };
-
-    ghost view = { λ adapter. adapter.faults };
-}
-
-impl<W: Write> WriteTo<W> {
-    /// With no fault so far.
-    pub fn new(writer: W) -> WriteTo<W>
-        ensures { result ≡ 0 }
-    {
-        WriteTo { writer, faults: 0 }
-    }
-}
-
-impl<W: Write> Sink for WriteTo<W> {
-    ghost held = { λ _. None };
-
-    ghost faults = { λ count. count };
+    ghost faults = { λ adapted. adapted.faults };
 
     ghost last_count = { Some last_u64 };
 
     ghost can_take = { λ _ _. ⊥ };
 
     fn write(&mut self, piece: &[u8]) -> WriteAnswer {
-        match self.writer.write(piece) {
+        match self.inner.write(piece) {
             Ok(count) if count > 0 || piece.is_empty() => WriteAnswer::Took(count),
             _ => {
-                self.faults = self.faults.saturating_add(1);
+                self.count_fault();
                 WriteAnswer::Failed
             }
         }

@@ -20,7 +20,7 @@ pub use mem_sink::MemSink;
 pub use mem_source::{MemSource, PlainSource};
 pub use sink::{Sink, WriteAnswer};
 pub use source::{ReadAnswer, Source};
-pub use whole_reads::{Reached, ReadError, read_up_to};
+pub use whole_reads::{Reached, ReadStop, read_up_to};
 pub use whole_writes::{WriteFault, write_all};
 
 #[cfg(test)]

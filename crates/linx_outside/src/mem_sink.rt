@@ -1,8 +1,9 @@
-ghost use Rattle.std.specs.Prelude.{◌≡◌, ℕ, ◌+◌, ◌-◌, ◌<◌, ◌≤◌, ◌↔◌, ◌⊎◌, ◌++◌, [], Some, IfOk, length, min, take, vec_len, vec_capacity};
+ghost use Rattle.std.specs.Prelude.{◌≡◌, ℕ, ◌+◌, ◌-◌, ◌<◌, ◌≤◌, ◌↔◌, ◌⊎◌, ◌++◌, []};
+ghost use Rattle.std.specs.Prelude.{Some, IfOk, length, min, take, vec_len, vec_capacity};
 ghost use Rattle.std.specs.List.{Contains};
 ghost use Rattle.linx_outside.specs.Counts.{HasFaulted, NeverFalls, raised, last_u64};
 ghost use Rattle.linx_outside.specs.Contents.{counted, IsFullFor};
-ghost use Rattle.linx_outside.specs.Told.{appended};
+ghost use Rattle.std.specs.Io.KnownBytes.{Appends, Keeps};
 ghost use Rattle.linx_outside.specs.Writing.{IfTook, IsTookAnd, IsWriteFailed, IfWriteFailed};
 
 use crate::faults::FaultPlan;
@@ -43,9 +44,9 @@ impl Model for MemSink {
 }
 
 impl MemSink {
-    /// Holds nothing yet, and `room` bytes at most. It takes the memory for them here. A write takes
-    /// at most `most` bytes. The writes whose numbers, from 1, stand in `fails` fail, and so do
-    /// those of a piece that isn't empty where it holds `room` bytes; no others.
+    /// Holds nothing yet, and `room` bytes at most. It takes the memory for them here. A write
+    /// takes at most `most` bytes. The writes whose numbers, from 1, stand in `fails` fail, and so
+    /// do those of a piece that isn't empty where it holds `room` bytes; no others.
     pub fn new(
         alloc: Global,
         most: usize,
@@ -90,7 +91,8 @@ impl Sink for MemSink {
 
     fn write(&mut self, piece: &[u8]) -> WriteAnswer
         ensures planned { IsWriteFailed result
-            ↔ (Contains self.old.plan.fails (self.old.plan.calls + 1) ⊎ IsFullFor self.old piece.now) }
+            ↔ (Contains self.old.plan.fails (self.old.plan.calls + 1)
+            ⊎ IsFullFor self.old piece.now) }
         ensures count { IfTook result (λ n. n ≡ min self.old.most
             (min (length piece.now) (self.old.room - length self.old.held))) }
         ensures took { IfTook result (λ n. self.new ≡ record self.old {
@@ -105,12 +107,12 @@ impl Sink for MemSink {
         ensures within { IfTook result (λ n. n ≤ length piece.now) }
         ensures some { IfTook result (λ n. 0 < length piece.now → 0 < n) }
         ensures taken { IfTook result
-            (λ n. Some self.new.held ≡ appended (Some self.old.held) (take n piece.now)) }
+            (λ n. Appends (Some self.old.held) (Some self.new.held) (take n piece.now)) }
         ensures took_counts_nothing { IfTook result (λ _. self.new.faults ≡ self.old.faults) }
         ensures failed_counts { IfWriteFailed result
             (HasFaulted (Some last_u64) self.old.faults self.new.faults) }
         ensures failed_takes_nothing { IfWriteFailed result
-            (Some self.new.held ≡ Some self.old.held) }
+            (Keeps (Some self.old.held) (Some self.new.held)) }
         ensures never_falls { NeverFalls (Some last_u64) self.old.faults self.new.faults }
         ensures takes { (room : ℕ) → (self.old.plan.fails ≡ [])
             × (length self.old.held + room ≤ self.old.room) → length piece.now ≤ room

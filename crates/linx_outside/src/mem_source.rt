@@ -1,8 +1,9 @@
-ghost use Rattle.std.specs.Prelude.{◌≡◌, ◌+◌, ◌-◌, ◌<◌, ◌≤◌, ◌↔◌, ◌++◌, [], None, Some, length, min, take, drop};
+ghost use Rattle.std.specs.Prelude.{◌≡◌, ◌+◌, ◌-◌, ◌<◌, ◌≤◌, ◌↔◌, ◌++◌, []};
+ghost use Rattle.std.specs.Prelude.{None, Some, length, min, take, drop};
 ghost use Rattle.std.specs.List.{Contains};
 ghost use Rattle.linx_outside.specs.Counts.{HasFaulted, NeverFalls};
 ghost use Rattle.linx_outside.specs.Contents.{counted};
-ghost use Rattle.linx_outside.specs.Told.{prepended, HasNothingLeft};
+ghost use Rattle.std.specs.Io.KnownBytes.{Consumes, IsAtEnd, Keeps};
 ghost use Rattle.linx_outside.specs.Reading.{IfGot, IsGot, IsReadFailed, IfReadFailed};
 
 use crate::faults::FaultPlan;
@@ -144,9 +145,9 @@ impl Source for MemSource {
 
         ensures within { IfGot result (λ n. n ≤ length buffer.new) }
         ensures given { IfGot result
-            (λ n. Some self.old.left ≡ prepended (take n buffer.new) (Some self.new.left)) }
+            (λ n. Consumes (Some self.old.left) (Some self.new.left) (take n buffer.new)) }
         ensures end { IfGot result
-            (λ n. n ≡ 0 → 0 < length buffer.new → HasNothingLeft (Some self.new.left)) }
+            (λ n. n ≡ 0 → 0 < length buffer.new → IsAtEnd (Some self.new.left)) }
         ensures got_counts_nothing { IfGot result (λ _. self.new.faults ≡ self.old.faults) }
         ensures failed_counts { IfReadFailed result
             (HasFaulted None self.old.faults self.new.faults) }

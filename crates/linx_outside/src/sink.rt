@@ -1,6 +1,6 @@
 ghost use Rattle.std.specs.Prelude.{◌≡◌, ℕ, ◌-◌, ◌<◌, ◌≤◌, List, Option, length, take};
 ghost use Rattle.linx_outside.specs.Counts.{HasFaulted, NeverFalls};
-ghost use Rattle.linx_outside.specs.Told.{appended};
+ghost use Rattle.std.specs.Io.KnownBytes.{Appends, Keeps};
 ghost use Rattle.linx_outside.specs.Writing.{IfTook, IsTookAnd, IfWriteFailed};
 
 /// What a write answers.
@@ -15,7 +15,7 @@ pub enum WriteAnswer {
 
 /// A place that takes bytes in order, piece by piece.
 pub trait Sink {
-    // The bytes that it holds, where the sink tells them.
+    // The bytes that it holds, where the sink tells them; it goes on telling them then.
     ghost held: { Self → Option (List ℕ) };
 
     // How many faults there were.
@@ -32,12 +32,13 @@ pub trait Sink {
         ensures within { IfTook result (λ n. n ≤ length piece.now) }
         ensures some { IfTook result (λ n. 0 < length piece.now → 0 < n) }
         ensures taken { IfTook result
-            (λ n. held self.new ≡ appended (held self.old) (take n piece.now)) }
+            (λ n. Appends (held self.old) (held self.new) (take n piece.now)) }
         ensures took_counts_nothing { IfTook result (λ _. faults self.new ≡ faults self.old) }
 
         ensures failed_counts { IfWriteFailed result
             (HasFaulted last_count (faults self.old) (faults self.new)) }
-        ensures failed_takes_nothing { IfWriteFailed result (held self.new ≡ held self.old) }
+        ensures failed_takes_nothing { IfWriteFailed result
+            (Keeps (held self.old) (held self.new)) }
 
         ensures never_falls { NeverFalls last_count (faults self.old) (faults self.new) }
         ensures takes { (room : ℕ) → can_take self.old room → length piece.now ≤ room

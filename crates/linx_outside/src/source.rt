@@ -1,6 +1,6 @@
 ghost use Rattle.std.specs.Prelude.{◌≡◌, ℕ, ◌<◌, ◌≤◌, List, Option, length, take};
 ghost use Rattle.linx_outside.specs.Counts.{HasFaulted, NeverFalls};
-ghost use Rattle.linx_outside.specs.Told.{prepended, HasNothingLeft};
+ghost use Rattle.std.specs.Io.KnownBytes.{Consumes, IsAtEnd, Keeps};
 ghost use Rattle.linx_outside.specs.Reading.{IfGot, IsGot, IfReadFailed};
 
 /// What a read answers.
@@ -15,7 +15,7 @@ pub enum ReadAnswer {
 
 /// Bytes that are given in order, piece by piece.
 pub trait Source {
-    // The bytes not yet given, where the source tells them.
+    // The bytes not yet given, where the source tells them; it goes on telling them then.
     ghost left: { Self → Option (List ℕ) };
 
     // How many faults there were.
@@ -32,14 +32,14 @@ pub trait Source {
     fn read(&mut self, buffer: &mut [u8]) -> ReadAnswer
         ensures within { IfGot result (λ n. n ≤ length buffer.new) }
         ensures given { IfGot result
-            (λ n. left self.old ≡ prepended (take n buffer.new) (left self.new)) }
+            (λ n. Consumes (left self.old) (left self.new) (take n buffer.new)) }
         ensures end { IfGot result
-            (λ n. n ≡ 0 → 0 < length buffer.new → HasNothingLeft (left self.new)) }
+            (λ n. n ≡ 0 → 0 < length buffer.new → IsAtEnd (left self.new)) }
         ensures got_counts_nothing { IfGot result (λ _. faults self.new ≡ faults self.old) }
 
         ensures failed_counts { IfReadFailed result
             (HasFaulted last_count (faults self.old) (faults self.new)) }
-        ensures failed_gives_nothing { IfReadFailed result (left self.new ≡ left self.old) }
+        ensures failed_gives_nothing { IfReadFailed result (Keeps (left self.old) (left self.new)) }
 
         ensures never_falls { NeverFalls last_count (faults self.old) (faults self.new) }
         ensures faultless { is_faultless self.old → IsGot result × is_faultless self.new };

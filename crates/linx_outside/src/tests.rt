@@ -1,6 +1,6 @@
 use crate::{
-    Gate, MemSink, MemSource, OpenGate, PlainSource, Reached, ReadAnswer, ReadError, ReadFrom,
-    Sink, Source, WriteAnswer, WriteFault, WriteTo, read_up_to, write_all,
+    Gate, MemSink, MemSource, OpenGate, PlainSource, Reached, ReadAnswer, ReadFrom, ReadStop, Sink,
+    Source, WriteAnswer, WriteFault, WriteTo, read_up_to, write_all,
 };
 use std::alloc::Global;
 use std::io;
@@ -163,7 +163,7 @@ fn expect_read_up_to(
     alloc: Global,
     fails: &[u64],
     most: usize,
-    want: (Result<Reached, ReadError>, &[u8]),
+    want: (Result<Reached, ReadStop>, &[u8]),
 ) -> Result<(), Fail> {
     let mut source = MemSource::new(b"abcdefg".to_vec(alloc)?, 3, fails.to_vec(alloc)?);
     let mut buffer = b"-".to_vec(alloc)?;
@@ -175,8 +175,8 @@ fn expect_read_up_to(
 #[test]
 fn bytes_are_read_up_to_a_limit(rt: HostRuntime) -> Result<(), Fail> {
     let alloc = rt.alloc();
-    let fault = Err(ReadError::ReadFault);
-    let reads: [(&[u64], usize, Result<Reached, ReadError>, &[u8]); 6] = [
+    let fault = Err(ReadStop::ReadFault);
+    let reads: [(&[u64], usize, Result<Reached, ReadStop>, &[u8]); 6] = [
         (&[], 8, Ok(Reached::End), b"-abcdefg"),
         (&[], 7, Ok(Reached::Limit), b"-abcdefg"),
         (&[], 4, Ok(Reached::Limit), b"-abcd"),

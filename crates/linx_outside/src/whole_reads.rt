@@ -1,11 +1,13 @@
-ghost use Rattle.std.specs.Prelude.{◌≡◌, ℕ, ◌+◌, ◌-◌, ◌<◌, ◌≤◌, ◌↔◌, ◌++◌, IsOk, IfOk, IfErr, OnOk, OnErr, IfSome, Some, length, take, drop, vec_len, vec_capacity};
+ghost use Rattle.std.specs.Prelude.{◌≡◌, ℕ, ◌+◌, ◌-◌, ◌<◌, ◌≤◌, ◌↔◌, ◌++◌, IsOk, IfOk, IfErr};
+ghost use Rattle.std.specs.Prelude.{OnOk, OnErr, IfSome, Some, length, take, drop};
+ghost use Rattle.std.specs.Prelude.{vec_len, vec_capacity};
 ghost use Rattle.linx_outside.specs.Counts.{HasFaulted, NeverFalls};
-ghost use Rattle.linx_outside.specs.Told.{prepended, HasNothingLeft, Moves};
+ghost use Rattle.std.specs.Io.KnownBytes.{IsAtEnd};
+ghost use Rattle.linx_outside.specs.Told.{Moves};
 ghost use Rattle.linx_outside.specs.Reading.{IfGot, IsGot, IfReadFailed};
 
 use crate::mem_sink::append_within;
 use crate::source::{ReadAnswer, Source};
-use linx_base::NoMemory;
 use std::alloc::AllocError;
 use std::error::Error;
 use std::fmt;
@@ -21,74 +23,63 @@ pub enum Reached {
 
 /// Why a read up to a limit stopped short.
 #[derive(Clone, Copy, Debug, PartialEq, Eq)]
-pub enum ReadError {
+pub enum ReadStop {
     /// A read failed, and the source counted it.
     ReadFault,
     /// Memory was refused.
     NoMemory,
 }
 
-impl fmt::Display for ReadError {
+impl fmt::Display for ReadStop {
     ghost use Rattle.std.specs.Prelude.{Some};
-    ghost use Rattle.linx_outside.specs.Failures.{read_error_text};
+    ghost use Rattle.linx_outside.specs.Failures.{read_stop_text};
 
-    ghost output = { λ error. Some (read_error_text error) };
+    ghost output = { λ error. Some (read_stop_text error) };
 
     fn fmt<W: fmt::Write>(&self, f: &mut fmt::Formatter<W>) -> fmt::Result {
         f.write_str(match self {
-            ReadError::ReadFault => "read fault",
-            ReadError::NoMemory => "out of memory",
+            ReadStop::ReadFault => "read fault",
+            ReadStop::NoMemory => "out of memory",
         })
     }
 }
 
-impl Error for ReadError {}
+impl Error for ReadStop {}
 
-impl From<NoMemory> for ReadError {
-    ghost use Rattle.linx_outside.specs.declared.whole_reads.ReadError.TheVariants.{NoMemory};
+impl From<AllocError> for ReadStop {
+    ghost use Rattle.linx_outside.specs.declared.whole_reads.ReadStop.TheVariants.{NoMemory};
     ghost use Rattle.std.specs.Prelude.{◌≡◌};
 
     ghost from_gives = { λ _ error. error ≡ NoMemory };
 
-    fn from(_refusal: NoMemory) -> ReadError {
-        ReadError::NoMemory
-    }
-}
-
-impl From<AllocError> for ReadError {
-    ghost use Rattle.linx_outside.specs.declared.whole_reads.ReadError.TheVariants.{NoMemory};
-    ghost use Rattle.std.specs.Prelude.{◌≡◌};
-
-    ghost from_gives = { λ _ error. error ≡ NoMemory };
-
-    fn from(_refusal: AllocError) -> ReadError {
-        ReadError::NoMemory
+    fn from(_refusal: AllocError) -> ReadStop {
+        ReadStop::NoMemory
     }
 }
 
 // What one read asks for at most.
 const CHUNK: usize = 4096;
 
-/// Reads until the source ends or `most` bytes are read, and puts them at the buffer's end. The room
-/// for `most` bytes is made before the first read, so a refusal of memory reads nothing. After a
-/// fault the buffer keeps what was read before it.
+/// Reads until the source ends or `most` bytes are read, and puts them at the buffer's end. The
+/// room for `most` bytes is made before the first read, so a refusal of memory reads nothing.
+/// After a fault the buffer keeps what was read before it.
 pub fn read_up_to<S: Source>(
     source: &mut S,
     buffer: &mut Vec<u8>,
     most: usize,
-) -> Result<Reached, ReadError>
+) -> Result<Reached, ReadStop>
     // Whatever the answer.
     ensures moved { Moves buffer.old.items buffer.new.items
         (S.left source.old) (S.left source.new) }
     ensures within { vec_len buffer.new ≤ vec_len buffer.old + most }
     ensures never_falls { NeverFalls S.last_count (S.faults source.old) (S.faults source.new) }
     ensures faultless { S.is_faultless source.old → S.is_faultless source.new
-        × IfErr result (λ error. error ≡ ReadError.NoMemory) }
+        × IfErr result (λ error. error ≡ ReadStop.NoMemory) }
 
     // Where the source ended, or the limit was reached.
     ensures counts_nothing { OnOk result (S.faults source.new ≡ S.faults source.old) }
     ensures end { IfOk result (λ reached. reached ≡ Reached.End
-        → (vec_len buffer.new < vec_len buffer.old + most) × HasNothingLeft (S.left source.new)) }
+        → (vec_len buffer.new < vec_len buffer.old + most) × IsAtEnd (S.left source.new)) }
     ensures limit { IfOk result (λ reached. reached ≡ Reached.Limit
         → vec_len buffer.new ≡ vec_len buffer.old + most) }
 
@@ -101,10 +92,10 @@ pub fn read_up_to<S: Source>(
         (λ told. (reached ≡ Reached.End) ↔ (length told < most))) }
 
     // Where it stopped short.
-    ensures fault { IfErr result (λ error. error ≡ ReadError.ReadFault
+    ensures fault { IfErr result (λ error. error ≡ ReadStop.ReadFault
         → (vec_len buffer.new < vec_len buffer.old + most)
         × HasFaulted S.last_count (S.faults source.old) (S.faults source.new)) }
-    ensures refused { IfErr result (λ error. error ≡ ReadError.NoMemory
+    ensures refused { IfErr result (λ error. error ≡ ReadStop.NoMemory
         → (source.new ≡ source.old) × (buffer.new.items ≡ buffer.old.items)) }
 {
     buffer.reserve(most)?;
@@ -114,7 +105,7 @@ pub fn read_up_to<S: Source>(
         match read_chunk(source, buffer, &mut chunk, missing) {
             ReadAnswer::Got(0) => return Ok(Reached::End),
             ReadAnswer::Got(count) => missing -= count,
-            ReadAnswer::Failed => return Err(ReadError::ReadFault),
+            ReadAnswer::Failed => return Err(ReadStop::ReadFault),
         }
     }
     Ok(Reached::Limit)
@@ -134,7 +125,7 @@ fn read_chunk<S: Source>(
         (S.left source.old) (S.left source.new) }
     ensures got { IfGot result (λ n. (n ≤ most) × (vec_len buffer.new ≡ vec_len buffer.old + n)
         × (S.faults source.new ≡ S.faults source.old)) }
-    ensures end { IfGot result (λ n. n ≡ 0 → HasNothingLeft (S.left source.new)) }
+    ensures end { IfGot result (λ n. n ≡ 0 → IsAtEnd (S.left source.new)) }
     ensures failed { IfReadFailed result ((vec_len buffer.new ≡ vec_len buffer.old)
         × HasFaulted S.last_count (S.faults source.old) (S.faults source.new)) }
     ensures never_falls { NeverFalls S.last_count (S.faults source.old) (S.faults source.new) }

@@ -1,6 +1,7 @@
-ghost use Rattle.std.specs.Prelude.{◌≡◌, ℕ, ◌-◌, ◌≤◌, IsOk, OnOk, OnErr, length};
+ghost use Rattle.std.specs.Prelude.{◌≡◌, ℕ, ◌-◌, ◌≤◌, [], IsOk, OnOk, OnErr, length};
 ghost use Rattle.linx_outside.specs.Counts.{HasFaulted, NeverFalls};
-ghost use Rattle.linx_outside.specs.Told.{appended, AppendsFront};
+ghost use Rattle.std.specs.Io.KnownBytes.{Appends};
+ghost use Rattle.linx_outside.specs.Told.{AppendsFront};
 
 use crate::sink::{Sink, WriteAnswer};
 use std::error::Error;
@@ -22,16 +23,17 @@ impl fmt::Display for WriteFault {
 
 impl Error for WriteFault {}
 
-/// Writes all the bytes, in as many pieces as the sink makes of them. After a fault some first bytes
-/// of them have been taken, and not all.
+/// Writes all the bytes, in as many pieces as the sink makes of them; no bytes are no write. After
+/// a fault some first bytes of them have been taken, and not all.
 pub fn write_all<K: Sink>(out: &mut K, bytes: &[u8]) -> Result<(), WriteFault>
-    ensures taken { OnOk result (K.held out.new ≡ appended (K.held out.old) bytes.now) }
+    ensures taken { OnOk result (Appends (K.held out.old) (K.held out.new) bytes.now) }
     ensures counts_nothing { OnOk result (K.faults out.new ≡ K.faults out.old) }
 
     ensures front_taken { OnErr result (AppendsFront (K.held out.old) (K.held out.new) bytes.now) }
     ensures faulted { OnErr result
         (HasFaulted K.last_count (K.faults out.old) (K.faults out.new)) }
 
+    ensures nothing { bytes.now ≡ [] → out.new ≡ out.old }
     ensures never_falls { NeverFalls K.last_count (K.faults out.old) (K.faults out.new) }
     ensures takes { (room : ℕ) → K.can_take out.old room → length bytes.now ≤ room
         → IsOk result × K.can_take out.new (room - length bytes.now) }
