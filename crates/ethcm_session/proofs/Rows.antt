@@ -1,79 +1,155 @@
+-- What holds of every row of the table of sessions.
 use Rattle.std.proofs.Common.{◌≡◌, ◌≢◌, ℕ, ◌<◌, ◌≤◌, ◌↔◌, Bool, true, false, Option, None, Some, eqb, ltb, refl, sym, ap, subst, ◌⊎◌, inl, inr, arith}
+use Rattle.std.proofs.lemmas.Bool.{ltb-true, ltb-false}
+use Rattle.std.proofs.lemmas.Bool.Decides.{eqb_tells}
 use Rattle.linx_base.specs.declared.identity.Session.{Session}
 use Rattle.linx_base.specs.declared.frame.ConnKind.{ConnKind}
 use Rattle.linx_base.specs.declared.frame.ConnKind.TheVariants.{Connect, ConnectAck, Ack, Reset}
+use Rattle.linx_base.specs.Numbers.{next_session, IsNumbered}
 use Rattle.ethcm_session.specs.declared.standing.Standing.{Standing}
 use Rattle.ethcm_session.specs.declared.standing.Standing.TheVariants.{Connecting, Up}
 use Rattle.ethcm_session.specs.declared.standing.TalkState.{TalkState}
 use Rattle.ethcm_session.specs.declared.standing.Change.{Change}
 use Rattle.ethcm_session.specs.declared.standing.Change.TheVariants.{WentDown}
-use Rattle.ethcm_session.specs.Numbers.{next_session, count_of, IsNumbered}
-use Rattle.ethcm_session.specs.Table.{Outcome, gives, while_connecting, from_peer, while_up, outcome_in, outcome_of}
+use Rattle.ethcm_session.specs.Table.{Outcome, Rows, HasNext, gives, while_connecting, from_peer, while_up, outcome_in, outcome_of}
+
+-- ---- what holds of each row holds of what a packet gives
+
+-- whether a packet to dst is to this session
+record TellsMine (old : TalkState) (dst : ℕ) (to_me : Bool) : Type 0 where
+  pub is : to_me ≡ true → dst ≡ old.mine.0
+  pub isnt : to_me ≡ false → dst ≢ old.mine.0
+
+tells_mine : (old : TalkState) (dst : ℕ) → TellsMine old dst (eqb dst old.mine.0)
+tells_mine old dst =
+    elim (eqb_tells dst old.mine.0) [
+      | inl w ↦ record { is = λ e. w.1; isnt = λ e. absurd cc }
+      | inr w ↦ record { is = λ e. absurd cc; isnt = λ e. w.1 }
+    ]
+
+module _ (P : Outcome → Type 0) (old : TalkState) (src : Session) (dst : ℕ) where
+  of_connecting : (kind : Option ConnKind) (to_me : Bool) → TellsMine old dst to_me
+      → old.standing ≡ Connecting → Rows P old src dst kind
+      → P (while_connecting old src kind to_me)
+  of_connecting (Some Connect) to_me tells e rows = rows.connecting_connect e refl
+  of_connecting (Some ConnectAck) true tells e rows =
+      rows.connecting_connect_ack e refl (tells.is refl)
+  of_connecting (Some ConnectAck) false tells e rows =
+      rows.connecting_other e (λ q. cc) (λ q. tells.isnt refl) (λ q. absurd cc)
+  of_connecting (Some Ack) true tells e rows = rows.connecting_ack e refl (tells.is refl)
+  of_connecting (Some Ack) false tells e rows =
+      rows.connecting_other e (λ q. cc) (λ q. absurd cc) (λ q. tells.isnt refl)
+  of_connecting (Some Reset) to_me tells e rows =
+      rows.connecting_other e (λ q. cc) (λ q. absurd cc) (λ q. absurd cc)
+  of_connecting None to_me tells e rows =
+      rows.connecting_other e (λ q. cc) (λ q. absurd cc) (λ q. absurd cc)
+
+  of_peer : (kind : Option ConnKind) (to_me confirmed : Bool) → TellsMine old dst to_me
+      → old.standing ≡ Up src confirmed → Rows P old src dst kind
+      → P (from_peer old src kind to_me)
+  of_peer (Some Connect) to_me confirmed tells e rows = rows.up_connect confirmed e refl
+  of_peer (Some ConnectAck) true confirmed tells e rows =
+      rows.up_connect_ack confirmed e (tells.is refl) refl
+  of_peer (Some ConnectAck) false confirmed tells e rows =
+      rows.up_not_mine confirmed e (λ q. cc) (tells.isnt refl)
+  of_peer (Some Ack) true confirmed tells e rows = rows.up_ack confirmed e (tells.is refl) refl
+  of_peer (Some Ack) false confirmed tells e rows =
+      rows.up_not_mine confirmed e (λ q. cc) (tells.isnt refl)
+  of_peer (Some Reset) true confirmed tells e rows = rows.up_reset confirmed e (tells.is refl) refl
+  of_peer (Some Reset) false confirmed tells e rows =
+      rows.up_not_mine confirmed e (λ q. cc) (tells.isnt refl)
+  of_peer None true confirmed tells e rows = rows.up_data confirmed e (tells.is refl) refl
+  of_peer None false confirmed tells e rows =
+      rows.up_not_mine confirmed e (λ q. cc) (tells.isnt refl)
+
+  of_up : (kind : Option ConnKind) (peer : Session) (confirmed lower greater : Bool)
+      → ltb src.0 peer.0 ≡ lower → ltb peer.0 src.0 ≡ greater
+      → old.standing ≡ Up peer confirmed → Rows P old src dst kind
+      → P (while_up old peer src kind (eqb dst old.mine.0))
+  of_up kind peer confirmed true greater l g e rows =
+      rw l (rows.up_lower peer confirmed e (ltb-true _ _ l))
+  of_up kind peer confirmed false true l g e rows =
+      rw (l, g) (rows.up_greater peer confirmed e (ltb-true _ _ g))
+  of_up kind peer confirmed false false l g e rows =
+      let from : peer.0 ≤ src.0 = ltb-false _ _ l in
+      let to : src.0 ≤ peer.0 = ltb-false _ _ g in
+      let number : peer.0 ≡ src.0 = omega arith in
+      let same : peer ≡ src = ap (λ (n : ℕ). record { 0 = n }) number in
+      rw (l, g, same) (of_peer kind (eqb dst old.mine.0) confirmed (tells_mine old dst)
+      (subst (λ (s : Session). old.standing ≡ Up s confirmed) same e) rows)
+
+  of_standing : (kind : Option ConnKind) (standing : Standing) → old.standing ≡ standing
+      → Rows P old src dst kind → P (outcome_in standing old src dst kind)
+  of_standing kind Connecting e rows =
+      of_connecting kind (eqb dst old.mine.0) (tells_mine old dst) e rows
+  of_standing kind (Up peer confirmed) e rows =
+      of_up kind peer confirmed (ltb src.0 peer.0) (ltb peer.0 src.0) refl refl e rows
+
+  pub by_rows : (kind : Option ConnKind) → Rows P old src dst kind
+      → P (outcome_of old src dst kind)
+  by_rows kind rows = of_standing kind old.standing refl rows
+
+-- ---- the session number
 
 -- the end goes down to its next session, or keeps its session
 abbrev pub NumbersSession : TalkState → Outcome → Type 0
-NumbersSession old outcome = ((outcome.change ≡ WentDown) × (outcome.state.mine ≡ next_session old.mine)) ⊎ ((outcome.change ≢ WentDown) × (outcome.state.mine ≡ old.mine))
+NumbersSession old outcome =
+    ((outcome.change ≡ WentDown) × (outcome.state.mine ≡ next_session old.mine))
+    ⊎ ((outcome.change ≢ WentDown) × (outcome.state.mine ≡ old.mine))
 
-numbers_while_connecting : (s : TalkState) (src : Session) (kind : Option ConnKind) (b : Bool) → NumbersSession s (while_connecting s src kind b)
-numbers_while_connecting s src None b = inr (λ e. cc, refl)
-numbers_while_connecting s src (Some Connect) b = inr (λ e. cc, refl)
-numbers_while_connecting s src (Some ConnectAck) true = inr (λ e. cc, refl)
-numbers_while_connecting s src (Some ConnectAck) false = inr (λ e. cc, refl)
-numbers_while_connecting s src (Some Ack) true = inr (λ e. cc, refl)
-numbers_while_connecting s src (Some Ack) false = inr (λ e. cc, refl)
-numbers_while_connecting s src (Some Reset) b = inr (λ e. cc, refl)
-
-numbers_from_peer : (s : TalkState) (peer : Session) (kind : Option ConnKind) (b : Bool) → NumbersSession s (from_peer s peer kind b)
-numbers_from_peer s peer (Some Connect) b = inr (λ e. cc, refl)
-numbers_from_peer s peer None true = inr (λ e. cc, refl)
-numbers_from_peer s peer None false = inr (λ e. cc, refl)
-numbers_from_peer s peer (Some ConnectAck) true = inr (λ e. cc, refl)
-numbers_from_peer s peer (Some ConnectAck) false = inr (λ e. cc, refl)
-numbers_from_peer s peer (Some Ack) true = inr (λ e. cc, refl)
-numbers_from_peer s peer (Some Ack) false = inr (λ e. cc, refl)
-numbers_from_peer s peer (Some Reset) true = inl (refl, refl)
-numbers_from_peer s peer (Some Reset) false = inr (λ e. cc, refl)
-
-numbers_while_up : (s : TalkState) (peer src : Session) (kind : Option ConnKind) (b lower greater : Bool) → ltb src.0 peer.0 ≡ lower → ltb peer.0 src.0 ≡ greater → NumbersSession s (while_up s peer src kind b)
-numbers_while_up s peer src kind b true greater l g = rw l (inr (λ e. cc, refl))
-numbers_while_up s peer src kind b false true l g = rw (l, g) (inl (refl, refl))
-numbers_while_up s peer src kind b false false l g = rw (l, g) (numbers_from_peer s peer kind b)
-
-numbers_in : (standing : Standing) (s : TalkState) (src : Session) (dst : ℕ) (kind : Option ConnKind) → NumbersSession s (outcome_in standing s src dst kind)
-numbers_in Connecting s src dst kind = numbers_while_connecting s src kind (eqb dst s.mine.0)
-numbers_in (Up peer confirmed) s src dst kind = numbers_while_up s peer src kind (eqb dst s.mine.0) (ltb src.0 peer.0) (ltb peer.0 src.0) refl refl
-
--- the end keeps its session, or goes down to the next one
-pub numbers_of : (old : TalkState) (src : Session) (dst : ℕ) (kind : Option ConnKind) → NumbersSession old (outcome_of old src dst kind)
-numbers_of old src dst kind = numbers_in old.standing old src dst kind
-
--- what the outcome of a packet says of the session number
-numbers : (old : TalkState) (change : Change) (new : TalkState) (src : Session) (dst : ℕ) (kind : Option ConnKind) → gives change new ≡ outcome_of old src dst kind → NumbersSession old (gives change new)
-numbers old change new src dst kind e = subst (NumbersSession old) (sym e) (numbers_of old src dst kind)
-
--- the session number rises exactly where the end goes down
-pub session_rises : (old : TalkState) (change : Change) (new : TalkState) (src : Session) (dst : ℕ) (kind : Option ConnKind) → gives change new ≡ outcome_of old src dst kind → (change ≡ WentDown) ↔ (old.mine.0 < new.mine.0)
-session_rises old change new src dst kind e =
-    elim (numbers old change new src dst kind e) [
-      | inl w ↦ (let n = ap (λ (s : Session). s.0) w.1 in (λ q. omega arith, λ h. w.0))
-      | inr w ↦ (let n = ap (λ (s : Session). s.0) w.1 in (λ q. absurd (w.0 q), λ h. absurd (omega arith)))
-    ]
-
--- the session number never falls
-pub session_never_falls : (old : TalkState) (change : Change) (new : TalkState) (src : Session) (dst : ℕ) (kind : Option ConnKind) → gives change new ≡ outcome_of old src dst kind → old.mine.0 ≤ new.mine.0
-session_never_falls old change new src dst kind e =
-    elim (numbers old change new src dst kind e) [
-      | inl w ↦ (let n = ap (λ (s : Session). s.0) w.1 in omega arith)
-      | inr w ↦ (let n = ap (λ (s : Session). s.0) w.1 in omega arith)
-    ]
+pub numbers_of : (old : TalkState) (src : Session) (dst : ℕ) (kind : Option ConnKind)
+    → NumbersSession old (outcome_of old src dst kind)
+numbers_of old src dst kind =
+    by_rows (NumbersSession old) old src dst kind (record {
+      connecting_connect = λ e k. inr (λ q. cc, refl);
+      connecting_connect_ack = λ e k d. inr (λ q. cc, refl);
+      connecting_ack = λ e k d. inr (λ q. cc, refl);
+      connecting_other = λ e k a b. inr (λ q. cc, refl);
+      up_lower = λ p c e l. inr (λ q. cc, refl);
+      up_greater = λ p c e l. inl (refl, refl);
+      up_connect = λ c e k. inr (λ q. cc, refl);
+      up_not_mine = λ c e k d. inr (λ q. cc, refl);
+      up_reset = λ c e d k. inl (refl, refl);
+      up_connect_ack = λ c e d k. inr (λ q. cc, refl);
+      up_ack = λ c e d k. inr (λ q. cc, refl);
+      up_data = λ c e d k. inr (λ q. cc, refl);
+    })
 
 -- the next session has a boot number and a count from 1 again
-next_numbered : (session : Session) → IsNumbered session → count_of session < 4294967295 → IsNumbered (next_session session)
+pub next_numbered : (session : Session) → IsNumbered session → HasNext session
+    → IsNumbered (next_session session)
 next_numbered session h k = let high = h.0 in let low = h.1 in (omega arith, omega arith)
 
-pub session_numbered : (old : TalkState) (change : Change) (new : TalkState) (src : Session) (dst : ℕ) (kind : Option ConnKind) → gives change new ≡ outcome_of old src dst kind → IsNumbered old.mine → count_of old.mine < 4294967295 → IsNumbered new.mine
-session_numbered old change new src dst kind e h k =
-    elim (numbers old change new src dst kind e) [
-      | inl w ↦ subst IsNumbered (sym w.1) (next_numbered old.mine h k)
-      | inr w ↦ subst IsNumbered (sym w.1) h
-    ]
+-- what the outcome of a packet says of the session number
+module _ (old : TalkState) (src : Session) (dst : ℕ) (kind : Option ConnKind)
+    (change : Change) (new : TalkState)
+    (outcome : gives change new ≡ outcome_of old src dst kind) where
+  numbers : NumbersSession old (gives change new)
+  numbers = subst (NumbersSession old) (sym outcome) (numbers_of old src dst kind)
+
+  -- it rises exactly where the end goes down
+  pub session_rises : (change ≡ WentDown) ↔ (old.mine.0 < new.mine.0)
+  session_rises =
+      elim numbers [
+        | inl w ↦
+            let n = ap (λ (s : Session). s.0) w.1 in
+            (λ q. omega arith, λ h. w.0)
+        | inr w ↦
+            let n = ap (λ (s : Session). s.0) w.1 in
+            (λ q. absurd (w.0 q), λ h. absurd (omega arith))
+      ]
+
+  -- it never falls
+  pub session_never_falls : old.mine.0 ≤ new.mine.0
+  session_never_falls =
+      elim numbers [
+        | inl w ↦ let n = ap (λ (s : Session). s.0) w.1 in omega arith
+        | inr w ↦ let n = ap (λ (s : Session). s.0) w.1 in omega arith
+      ]
+
+  pub session_numbered : IsNumbered old.mine → HasNext old.mine → IsNumbered new.mine
+  session_numbered h k =
+      elim numbers [
+        | inl w ↦ subst IsNumbered (sym w.1) (next_numbered old.mine h k)
+        | inr w ↦ subst IsNumbered (sym w.1) h
+      ]

@@ -1,32 +1,36 @@
 ghost use Rattle.std.specs.Prelude.{◌≡◌, ◌<◌, ◌≤◌, ◌↔◌, IsSome};
-ghost use Rattle.ethcm_session.specs.Numbers.{count_of, first_session, next_session};
-ghost use Rattle.ethcm_session.specs.Table.{asking_in, down, from_peer, gives, is_confirmed_in, outcome_of, peer_in, up_with, while_connecting, FollowsTable};
+ghost use Rattle.linx_base.specs.Both.{still};
+ghost use Rattle.linx_base.specs.Numbers.{boot_of, next_session, IsNumbered};
+ghost use Rattle.ethcm_session.specs.Table.{asking_in, after_down, boot_state, from_peer, gives, is_confirmed_in, outcome_of, peer_in, up_with, while_connecting, FollowsTable, HasNext};
 
 use crate::standing::{Change, Standing, TalkState};
-use linx_base::{ConnKind, NoMemory, Session, TryCopy};
+use linx_base::{ConnKind, Session};
 use std::marker::Model;
 
-/// The session of one link end. Contracts see its own session number, and whether it is connecting
-/// or up with a session of its peer.
+/// The session of one link end, with a way back. Contracts see, as it was when an event began and
+/// as it is now, the end's own session number, and whether it is connecting or up with a session of
+/// its peer.
 #[derive(Drop)]
 pub struct Talk {
     state: TalkState,
+    old_state: TalkState,
 }
 
 impl Model for Talk {
+    ghost use Rattle.linx_base.specs.Both.{Both};
+    ghost use Rattle.linx_base.specs.Numbers.{IsNumbered};
     ghost use Rattle.ethcm_session.specs.declared.standing.TalkState.{TalkState};
-    ghost use Rattle.ethcm_session.specs.Numbers.{IsNumbered};
 
-    ghost Value = { TalkState };
+    ghost Value = { Both TalkState };
 
-    ghost view = { λ t. t.state };
+    ghost view = { λ t. record { was = t.old_state; is = t.state } };
 
-    ghost invariant = { λ t. IsNumbered t.state.mine };
+    ghost invariant = { λ t. IsNumbered t.state.mine × IsNumbered t.old_state.mine };
 }
 
 /// The next session of the same boot.
 fn next(session: Session) -> Session
-    requires { count_of session < 4294967295 }
+    requires { HasNext session }
     ensures { result ≡ next_session session }
 {
     Session(session.0 + 1)
@@ -34,8 +38,8 @@ fn next(session: Session) -> Session
 
 /// The state of an end that has gone down.
 fn gone_down(state: TalkState) -> TalkState
-    requires { count_of state.mine < 4294967295 }
-    ensures { result ≡ down state }
+    requires { HasNext state.mine }
+    ensures { result ≡ after_down state }
 {
     TalkState {
         mine: next(state.mine),
@@ -81,7 +85,7 @@ fn from_peer(
     kind: Option<ConnKind>,
     to_me: bool,
 ) -> (Change, TalkState)
-    requires { count_of state.mine < 4294967295 }
+    requires { HasNext state.mine }
     ensures { gives result.0 result.1 ≡ from_peer state peer kind to_me }
 {
     match kind {
@@ -95,7 +99,7 @@ fn from_peer(
 
 /// What a packet means to an end, and its state afterwards.
 fn outcome(state: TalkState, src: Session, dst: u64, kind: Option<ConnKind>) -> (Change, TalkState)
-    requires { count_of state.mine < 4294967295 }
+    requires { HasNext state.mine }
     ensures { gives result.0 result.1 ≡ outcome_of state src dst kind }
 {
     let to_me = dst == state.mine.0;
@@ -113,23 +117,44 @@ fn outcome(state: TalkState, src: Session, dst: u64, kind: Option<ConnKind>) -> 
     }
 }
 
+/// The state of an end in the first session of a boot.
+fn booted(boot: u32) -> TalkState
+    requires { 1 ≤ boot }
+    ensures state { result ≡ boot_state boot }
+    ensures numbered { IsNumbered result.mine }
+{
+    TalkState {
+        mine: Session::of(boot, 1),
+        standing: Standing::Connecting,
+    }
+}
+
 impl Talk {
     /// The first session of a boot, connecting. Boot numbers begin at 1.
     pub fn new(boot: u32) -> Talk
         requires { 1 ≤ boot }
-        ensures { result ≡ record { mine = first_session boot; standing = Standing.Connecting } }
+        ensures { result ≡ still (boot_state boot) }
     {
+        let state = booted(boot);
         Talk {
-            state: TalkState {
-                mine: Session(boot as u64 * 4_294_967_296 + 1),
-                standing: Standing::Connecting,
-            },
+            state,
+            old_state: state,
         }
+    }
+
+    /// The node of this end boots again: the first session of that boot is connecting.
+    pub fn restart(&mut self, boot: u32)
+        requires { 1 ≤ boot }
+        ensures is { self.new.is ≡ boot_state boot }
+        ensures rises { boot_of self.old.is.mine < boot → self.old.is.mine.0 < self.new.is.mine.0 }
+        ensures was { self.new.was ≡ self.old.was }
+    {
+        self.state = booted(boot);
     }
 
     /// The packet that a tick sends: a CONNECT while connecting, `None` while up.
     pub fn tick(&self) -> Option<ConnKind>
-        ensures { result ≡ asking_in self.now.standing }
+        ensures { result ≡ asking_in self.now.is.standing }
     {
         match self.state.standing {
             Standing::Connecting => Some(ConnKind::Connect),
@@ -140,11 +165,12 @@ impl Talk {
     /// A packet from session `src` to session `dst`, 0 being an unknown one; its kind is `None` for
     /// data, ACK and NACK of frames.
     pub fn input(&mut self, src: Session, dst: u64, kind: Option<ConnKind>) -> Change
-        requires { count_of self.old.mine < 4294967295 }
-        ensures outcome { gives result self.new ≡ outcome_of self.old src dst kind }
-        ensures table { FollowsTable self.old src dst kind (gives result self.new) }
-        ensures down { (result ≡ Change.WentDown) ↔ (self.old.mine.0 < self.new.mine.0) }
-        ensures never_falls { self.old.mine.0 ≤ self.new.mine.0 }
+        requires { HasNext self.old.is.mine }
+        ensures outcome { gives result self.new.is ≡ outcome_of self.old.is src dst kind }
+        ensures table { FollowsTable self.old.is src dst kind (gives result self.new.is) }
+        ensures down { (result ≡ Change.WentDown) ↔ (self.old.is.mine.0 < self.new.is.mine.0) }
+        ensures never_falls { self.old.is.mine.0 ≤ self.new.is.mine.0 }
+        ensures was { self.new.was ≡ self.old.was }
     {
         let (change, state) = outcome(self.state, src, dst, kind);
         self.state = state;
@@ -153,24 +179,26 @@ impl Talk {
 
     /// The end goes down: its next session is connecting.
     pub fn lost(&mut self)
-        requires up { IsSome (peer_in self.old.standing) }
-        requires counted { count_of self.old.mine < 4294967295 }
-        ensures { self.new ≡ down self.old }
+        requires up { IsSome (peer_in self.old.is.standing) }
+        requires counted { HasNext self.old.is.mine }
+        ensures is { self.new.is ≡ after_down self.old.is }
+        ensures was { self.new.was ≡ self.old.was }
     {
         self.state = gone_down(self.state);
     }
 
     /// The session of this end, which is never 0.
     pub fn mine(&self) -> Session
-        ensures mine { result ≡ self.now.mine }
-        ensures known { 0 < self.now.mine.0 }
+        ensures mine { result ≡ self.now.is.mine }
+        ensures numbered { IsNumbered self.now.is.mine }
+        ensures known { 0 < self.now.is.mine.0 }
     {
         self.state.mine
     }
 
     /// The session of the peer, `None` exactly while connecting.
     pub fn peer(&self) -> Option<Session>
-        ensures { result ≡ peer_in self.now.standing }
+        ensures { result ≡ peer_in self.now.is.standing }
     {
         match self.state.standing {
             Standing::Connecting => None,
@@ -180,7 +208,7 @@ impl Talk {
 
     /// Whether the end is up, and its peer has confirmed the session.
     pub fn confirmed(&self) -> bool
-        ensures { result ≡ is_confirmed_in self.now.standing }
+        ensures { result ≡ is_confirmed_in self.now.is.standing }
     {
         match self.state.standing {
             Standing::Connecting => false,
@@ -190,14 +218,22 @@ impl Talk {
 
     /// The session and where it stands.
     pub fn state(&self) -> TalkState
-        ensures { result ≡ self.now }
+        ensures { result ≡ self.now.is }
     {
         self.state
     }
-}
 
-impl TryCopy for Talk {
-    fn copy(&self) -> Result<Talk, NoMemory> {
-        Ok(Talk { state: self.state })
+    /// What is now stays.
+    pub fn keep(&mut self)
+        ensures { self.new ≡ still self.old.is }
+    {
+        self.old_state = self.state;
+    }
+
+    /// What was is again.
+    pub fn undo(&mut self)
+        ensures { self.new ≡ still self.old.was }
+    {
+        self.state = self.old_state;
     }
 }

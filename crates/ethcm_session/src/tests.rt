@@ -1,7 +1,6 @@
 use crate::{Change, Standing, Talk};
-use linx_base::{ConnKind, Session, TryCopy};
+use linx_base::{ConnKind, Session};
 use std::process::Abort;
-use std::test::Fail;
 
 /// The first session of the end.
 const MINE: u64 = 5 * 4_294_967_296 + 1;
@@ -21,7 +20,7 @@ fn talk(rt: &impl Abort, up: bool) -> Talk {
 
 /// What a packet means: its sender's session, its receiver's and its kind.
 fn input(rt: &impl Abort, talk: &mut Talk, packet: (u64, u64, Option<ConnKind>)) -> Change {
-    assert!(rt; talk.mine().0 % 4_294_967_296 < 4_294_967_295);
+    assert!(rt; talk.mine().count() < u32::MAX);
     talk.input(Session(packet.0), packet.1, packet.2)
 }
 
@@ -97,17 +96,32 @@ fn every_row_of_the_table_of_sessions(rt: HostRuntime) {
 }
 
 #[test]
-fn an_end_asks_while_connecting_and_forgets_its_peer_when_lost(
-    rt: HostRuntime,
-) -> Result<(), Fail> {
+fn an_end_asks_while_connecting_and_forgets_its_peer_when_lost(rt: HostRuntime) {
     let mut talk = talk(&rt, true);
     assert_eq!(rt; talk.tick(), None);
-    assert_eq!(rt; talk.copy()?.peer(), Some(Session(PEER)));
+    assert_eq!(rt; talk.peer(), Some(Session(PEER)));
     assert!(rt; !talk.confirmed());
     assert!(rt; talk.peer().is_some());
-    assert!(rt; talk.mine().0 % 4_294_967_296 < 4_294_967_295);
+    assert!(rt; talk.mine().count() < u32::MAX);
     talk.lost();
     assert_eq!(rt; talk.tick(), CONNECT);
     assert_eq!(rt; talk.peer(), None);
-    Ok(())
+}
+
+#[test]
+fn an_undone_event_leaves_the_session_as_the_kept_ones_did(rt: HostRuntime) {
+    let mut talk = talk(&rt, true);
+    talk.keep();
+    for _ in 0..2 {
+        assert_eq!(rt;
+            input(&rt, &mut talk, (PEER, MINE, RESET)),
+            Change::WentDown
+        );
+        assert_eq!(rt; talk.mine().0, MINE + 1);
+        talk.restart(6);
+        assert_eq!(rt; talk.mine(), Session::of(6, 1));
+        talk.undo();
+        assert_eq!(rt; talk.mine().0, MINE);
+        assert_eq!(rt; talk.peer(), Some(Session(PEER)));
+    }
 }
