@@ -9,8 +9,29 @@ use Rattle.ethcm_headers.specs.declared.packets.Part.{Part}
 use Rattle.ethcm_headers.specs.declared.packets.Part.TheVariants as parts
 use Rattle.ethcm_headers.specs.declared.chains.Chain.{Chain}
 use Rattle.ethcm_headers.specs.declared.chains.Chain.TheVariants.{Conn, Ack, Nack, First, Next}
+use Rattle.ethcm_headers.specs.declared.chains.Layout.{Layout}
+use Rattle.ethcm_headers.specs.declared.chains.Layout.TheVariants as layouts
 use Rattle.ethcm_headers.specs.declared.chains.Headers.{Headers}
 use Rattle.ethcm_headers.specs.Headers.{main_header, conn_header, ack_header, nack_header, udata_header, frag_header}
+
+-- the number of bytes of a chain's headers, with MAIN
+abbrev pub layout_length : Layout → ℕ
+layout_length layouts.Conn = 24
+layout_length layouts.Ack = 28
+layout_length layouts.Nack = 28
+layout_length layouts.First = 48
+layout_length layouts.Next = 36
+
+-- which headers a chain has
+abbrev pub layout_of : Chain → Layout
+layout_of (Conn kind) = layouts.Conn
+layout_of (Ack next) = layouts.Ack
+layout_of (Nack next count) = layouts.Nack
+layout_of (First next seq more from to size) = layouts.First
+layout_of (Next next seq more) = layouts.Next
+
+abbrev pub length_of : Chain → ℕ
+length_of chain = layout_length (layout_of chain)
 
 -- what a chain and the payload behind it bring
 abbrev pub part_with : Chain → List ℕ → Part
@@ -56,37 +77,34 @@ abbrev pub conn_of : Option ConnKind → Option Chain
 conn_of (Some kind) = Some (Conn kind)
 conn_of None = None
 
--- What the fields at the places of each chain make of the bytes. Nothing is tested but the length and the types.
-unfoldable pub conn_at : List ℕ → Option Chain
-conn_at bytes = (if nat_lt (length bytes) 24 then None else conn_of (kind_of (slice_index bytes 21)))
+-- the chain of these headers that the fields at their places make, nothing else being tested
+unfoldable pub fields_at : Layout → List ℕ → Option Chain
+fields_at layouts.Conn bytes = conn_of (kind_of (slice_index bytes 21))
+fields_at layouts.Ack bytes = Some (Ack (number_at 4 24 bytes))
+fields_at layouts.Nack bytes = Some (Nack (number_at 4 24 bytes) (number_at 2 22 bytes))
+fields_at layouts.First bytes =
+    Some (First (number_at 4 24 bytes) (number_at 4 32 bytes) (slice_index bytes 29 == 1) (number_at 4 36 bytes) (number_at 4 40 bytes) (number_at 4 44 bytes))
+fields_at layouts.Next bytes = Some (Next (number_at 4 24 bytes) (number_at 4 32 bytes) (slice_index bytes 29 == 1))
 
-unfoldable pub ack_at : List ℕ → Option Chain
-ack_at bytes = (if nat_lt (length bytes) 28 then None else Some (Ack (number_at 4 24 bytes)))
-
-unfoldable pub nack_at : List ℕ → Option Chain
-nack_at bytes = (if nat_lt (length bytes) 28 then None else Some (Nack (number_at 4 24 bytes) (number_at 2 22 bytes)))
-
-unfoldable pub first_at : List ℕ → Option Chain
-first_at bytes =
-    (if nat_lt (length bytes) 48 then None
-    else Some (First (number_at 4 24 bytes) (number_at 4 32 bytes) (slice_index bytes 29 == 1)
-    (number_at 4 36 bytes) (number_at 4 40 bytes) (number_at 4 44 bytes)))
-
-unfoldable pub next_at : List ℕ → Option Chain
-next_at bytes =
-    (if nat_lt (length bytes) 36 then None
-    else Some (Next (number_at 4 24 bytes) (number_at 4 32 bytes) (slice_index bytes 29 == 1)))
-
-unfoldable pub chain_at : List ℕ → Option Chain
-chain_at bytes =
-    (if slice_index bytes 1 == 2 then conn_at bytes
-    else if slice_index bytes 1 == 6 then nack_at bytes
+-- the headers that the types name
+unfoldable pub layout_at : List ℕ → Option Layout
+layout_at bytes =
+    (if slice_index bytes 1 == 2 then Some layouts.Conn
+    else if slice_index bytes 1 == 6 then Some layouts.Nack
     else if slice_index bytes 1 == 5 then
-    (if slice_index bytes 20 == 0 then ack_at bytes
-    else if slice_index bytes 20 == 3 then first_at bytes
-    else if slice_index bytes 20 == 4 then next_at bytes
+    (if slice_index bytes 20 == 0 then Some layouts.Ack
+    else if slice_index bytes 20 == 3 then Some layouts.First
+    else if slice_index bytes 20 == 4 then Some layouts.Next
     else None)
     else None)
+
+-- the chain, where there are bytes enough
+abbrev pub chain_of : Option Layout → List ℕ → Option Chain
+chain_of None bytes = None
+chain_of (Some layout) bytes = (if nat_lt (length bytes) (layout_length layout) then None else fields_at layout bytes)
+
+abbrev pub chain_at : List ℕ → Option Chain
+chain_at bytes = chain_of (layout_at bytes) bytes
 
 -- the headers with the sessions that stand in MAIN
 abbrev pub headers_of : List ℕ → Option Chain → Option Headers
@@ -134,11 +152,3 @@ payload_in (parts.Piece next seq (frames.Next more payload)) = payload
 
 abbrev pub headers_in : Packet → Headers
 headers_in packet = record { src = packet.src.0; dst = packet.dst; chain = chain_in packet.part }
-
--- the number of bytes of a chain's headers, with MAIN
-abbrev pub length_of : Chain → ℕ
-length_of (Conn kind) = 24
-length_of (Ack next) = 28
-length_of (Nack next count) = 28
-length_of (First next seq more from to size) = 48
-length_of (Next next seq more) = 36

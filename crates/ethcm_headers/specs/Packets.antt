@@ -1,8 +1,8 @@
 -- Which packets there are, and the bytes that spell each.
-use Rattle.std.specs.Prelude.{◌≡◌, ℕ, ◌+◌, ◌^◌, ◌<◌, ◌≤◌, ◌↔◌, List, ◌++◌, length, MatchBool}
+use Rattle.std.specs.Prelude.{◌≡◌, ℕ, ◌+◌, ◌^◌, ◌<◌, ◌≤◌, ◌↔◌, List, ◌++◌, length}
 use Rattle.linx_base.specs.declared.frame.ConnKind.TheVariants.{Connect}
-use Rattle.linx_base.specs.declared.frame.Frame.{Frame}
 use Rattle.linx_base.specs.declared.frame.Frame.TheVariants.{First, Next}
+use Rattle.linx_base.specs.Frames.{IsFrame, FitsFrame}
 use Rattle.ethcm_headers.specs.declared.packets.Packet.{Packet}
 use Rattle.ethcm_headers.specs.declared.packets.Part.{Part}
 use Rattle.ethcm_headers.specs.declared.packets.Part.TheVariants.{Conn, Ack, Nack, Piece}
@@ -22,16 +22,6 @@ spelling_between src dst (Piece next seq (Next more payload)) =
 abbrev pub spelling_of : Packet → List ℕ
 spelling_of packet = spelling_between packet.src.0 packet.dst packet.part
 
--- a piece has 1 to 8,192 bytes
-abbrev pub IsPayload : List ℕ → Type 0
-IsPayload payload = (1 ≤ length payload) × (length payload ≤ 8192)
-
--- a first piece is shorter than the whole body, of 1 to 65,536 bytes, where more follow, and else is the whole body
-abbrev pub IsFrame : Frame → Type 0
-IsFrame (First more from to size payload) =
-    IsPayload payload × (1 ≤ size) × (size ≤ 65536) × MatchBool more (length payload < size) (length payload ≡ size)
-IsFrame (Next more payload) = IsPayload payload
-
 -- the bounds of what a packet brings
 abbrev pub IsPart : Part → Type 0
 IsPart (Conn kind) = Unit {0}
@@ -44,11 +34,6 @@ pub record IsWithinBounds (packet : Packet) : Type 0 where
   pub sender_known : 0 < packet.src.0
   pub receiver_unknown_in_connect : (packet.dst ≡ 0) ↔ (packet.part ≡ Conn Connect)
   pub part : IsPart packet.part
-
--- the numbers of a frame fit their fields
-abbrev pub FitsFrame : Frame → Type 0
-FitsFrame (First more from to size payload) = (from < 2 ^ 32) × (to < 2 ^ 32)
-FitsFrame (Next more payload) = Unit {0}
 
 -- the numbers of what a packet brings fit their fields
 abbrev pub FitsPart : Part → Type 0

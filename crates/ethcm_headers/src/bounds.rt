@@ -3,7 +3,8 @@
 ghost use Rattle.std.specs.Prelude.{◌≡◌, ◌<◌, ◌≤◌, ◌↔◌, [], length, IsTrue, MatchBool};
 ghost use Rattle.linx_base.specs.declared.frame.ConnKind.TheVariants.{Connect};
 ghost use Rattle.ethcm_headers.specs.declared.packets.Part.TheVariants.{Conn};
-ghost use Rattle.ethcm_headers.specs.Packets.{IsPayload, IsPart, IsWithinBounds};
+ghost use Rattle.linx_base.specs.Frames.{IsPayload, body_limit};
+ghost use Rattle.ethcm_headers.specs.Packets.{IsPart, IsWithinBounds};
 ghost use Rattle.ethcm_headers.specs.Chains.{StandsBehind, part_with, packet_with};
 
 use crate::chains::{Chain, Headers};
@@ -28,7 +29,7 @@ fn is_payload(payload: &[u8]) -> bool
 }
 
 fn is_of_size(payload: &[u8], size: u32, more: bool) -> bool
-    ensures { IsTrue result ↔ ((1 ≤ size) × (size ≤ 65536) × MatchBool more (length payload.now < size) (length payload.now ≡ size)) }
+    ensures { IsTrue result ↔ ((1 ≤ size) × (size ≤ body_limit) × MatchBool more (length payload.now < size) (length payload.now ≡ size)) }
 {
     if size < 1 || BODY_MOST < size {
         return false;

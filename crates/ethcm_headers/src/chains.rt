@@ -7,6 +7,32 @@ use crate::headers::{
 };
 use linx_base::ConnKind;
 
+/// Which headers stand behind MAIN.
+#[derive(Clone, Copy)]
+pub enum Layout {
+    Conn,
+    Ack,
+    Nack,
+    First,
+    Next,
+}
+
+impl Layout {
+    ghost use Rattle.ethcm_headers.specs.Chains.{layout_length};
+
+    /// The number of bytes of the headers, with MAIN.
+    pub fn len(self) -> usize
+        ensures { result ≡ layout_length self }
+    {
+        match self {
+            Layout::Conn => 24,
+            Layout::Ack | Layout::Nack => 28,
+            Layout::First => 48,
+            Layout::Next => 36,
+        }
+    }
+}
+
 /// The headers behind MAIN, without the payload.
 #[derive(Clone, Copy)]
 pub enum Chain {
@@ -31,6 +57,22 @@ pub enum Chain {
         seq: u32,
         more: bool,
     },
+}
+
+impl Chain {
+    ghost use Rattle.ethcm_headers.specs.Chains.{layout_of};
+
+    pub fn layout(&self) -> Layout
+        ensures { result ≡ layout_of self.now }
+    {
+        match self {
+            Chain::Conn(_) => Layout::Conn,
+            Chain::Ack { .. } => Layout::Ack,
+            Chain::Nack { .. } => Layout::Nack,
+            Chain::First { .. } => Layout::First,
+            Chain::Next { .. } => Layout::Next,
+        }
+    }
 }
 
 /// The headers of a packet.

@@ -2,9 +2,9 @@
 //! else may stand there is found by spelling the headers again.
 
 ghost use Rattle.std.specs.Prelude.{◌≡◌, ◌+◌, ◌≤◌, length, IfSome};
-ghost use Rattle.ethcm_headers.specs.Chains.{number_at, kind_of, conn_at, ack_at, nack_at, first_at, next_at, chain_at, headers_at, FitsChain, FitsHeaders};
+ghost use Rattle.ethcm_headers.specs.Chains.{number_at, kind_of, layout_at, layout_length, fields_at, chain_at, headers_at, FitsChain, FitsHeaders};
 
-use crate::chains::{Chain, Headers};
+use crate::chains::{Chain, Headers, Layout};
 use crate::headers::{ACK, CONN, FRAG, NACK, NONE, UDATA};
 use byteorder::{BigEndian, ByteOrder};
 use linx_base::ConnKind;
@@ -45,95 +45,70 @@ fn kind_of(number: u8) -> Option<ConnKind>
     }
 }
 
-#[tactic(auto, unfolding(crate::specs::Chains::conn_at))]
-fn conn_at(bytes: &[u8]) -> Option<Chain>
-    ensures value { result ≡ conn_at bytes.now }
-    ensures fits { IfSome result FitsChain }
+/// The headers that the types name.
+#[tactic(auto, unfolding(crate::specs::Chains::layout_at))]
+fn layout_at(bytes: &[u8]) -> Option<Layout>
+    requires { 24 ≤ length bytes.now }
+    ensures { result ≡ layout_at bytes.now }
 {
-    if bytes.len() < 24 {
-        return None;
+    match bytes[1] {
+        CONN => Some(Layout::Conn),
+        NACK => Some(Layout::Nack),
+        ACK => match bytes[20] {
+            NONE => Some(Layout::Ack),
+            UDATA => Some(Layout::First),
+            FRAG => Some(Layout::Next),
+            _ => None,
+        },
+        _ => None,
     }
-    let kind = kind_of(bytes[21])?;
-    Some(Chain::Conn(kind))
 }
 
-#[tactic(auto, unfolding(crate::specs::Chains::ack_at))]
-fn ack_at(bytes: &[u8]) -> Option<Chain>
-    ensures value { result ≡ ack_at bytes.now }
+/// The chain that the fields at their places make.
+#[tactic(auto, unfolding(crate::specs::Chains::fields_at))]
+fn fields_at(layout: Layout, bytes: &[u8]) -> Option<Chain>
+    requires { layout_length layout ≤ length bytes.now }
+    ensures value { result ≡ fields_at layout bytes.now }
     ensures fits { IfSome result FitsChain }
 {
-    if bytes.len() < 28 {
-        return None;
+    match layout {
+        Layout::Conn => {
+            let kind = kind_of(bytes[21])?;
+            Some(Chain::Conn(kind))
+        }
+        Layout::Ack => Some(Chain::Ack {
+            next: u32_at(bytes, 24),
+        }),
+        Layout::Nack => Some(Chain::Nack {
+            next: u32_at(bytes, 24),
+            count: u16_at(bytes, 22),
+        }),
+        Layout::First => Some(Chain::First {
+            next: u32_at(bytes, 24),
+            seq: u32_at(bytes, 32),
+            more: bytes[29] == 1,
+            from: u32_at(bytes, 36),
+            to: u32_at(bytes, 40),
+            size: u32_at(bytes, 44),
+        }),
+        Layout::Next => Some(Chain::Next {
+            next: u32_at(bytes, 24),
+            seq: u32_at(bytes, 32),
+            more: bytes[29] == 1,
+        }),
     }
-    Some(Chain::Ack {
-        next: u32_at(bytes, 24),
-    })
 }
 
-#[tactic(auto, unfolding(crate::specs::Chains::nack_at))]
-fn nack_at(bytes: &[u8]) -> Option<Chain>
-    ensures value { result ≡ nack_at bytes.now }
-    ensures fits { IfSome result FitsChain }
-{
-    if bytes.len() < 28 {
-        return None;
-    }
-    Some(Chain::Nack {
-        next: u32_at(bytes, 24),
-        count: u16_at(bytes, 22),
-    })
-}
-
-#[tactic(auto, unfolding(crate::specs::Chains::first_at))]
-fn first_at(bytes: &[u8]) -> Option<Chain>
-    ensures value { result ≡ first_at bytes.now }
-    ensures fits { IfSome result FitsChain }
-{
-    if bytes.len() < 48 {
-        return None;
-    }
-    Some(Chain::First {
-        next: u32_at(bytes, 24),
-        seq: u32_at(bytes, 32),
-        more: bytes[29] == 1,
-        from: u32_at(bytes, 36),
-        to: u32_at(bytes, 40),
-        size: u32_at(bytes, 44),
-    })
-}
-
-#[tactic(auto, unfolding(crate::specs::Chains::next_at))]
-fn next_at(bytes: &[u8]) -> Option<Chain>
-    ensures value { result ≡ next_at bytes.now }
-    ensures fits { IfSome result FitsChain }
-{
-    if bytes.len() < 36 {
-        return None;
-    }
-    Some(Chain::Next {
-        next: u32_at(bytes, 24),
-        seq: u32_at(bytes, 32),
-        more: bytes[29] == 1,
-    })
-}
-
-#[tactic(auto, unfolding(crate::specs::Chains::chain_at))]
 fn chain_at(bytes: &[u8]) -> Option<Chain>
     requires { 24 ≤ length bytes.now }
     ensures value { result ≡ chain_at bytes.now }
     ensures fits { IfSome result FitsChain }
 {
-    match bytes[1] {
-        CONN => conn_at(bytes),
-        NACK => nack_at(bytes),
-        ACK => match bytes[20] {
-            NONE => ack_at(bytes),
-            UDATA => first_at(bytes),
-            FRAG => next_at(bytes),
-            _ => None,
-        },
-        _ => None,
+    let layout = layout_at(bytes)?;
+    if bytes.len() < layout.len() {
+        return None;
     }
+    fields_at(layout, bytes)
 }
 
 /// The headers that the fields make.

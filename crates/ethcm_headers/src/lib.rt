@@ -1,6 +1,6 @@
 //! Packets of the connection manager, and their bytes. A packet is a chain of headers, behind which
 //! a piece of a message may stand. Each packet has one spelling, and bytes that are no packet's
-//! spelling are refused.
+//! spelling are refused. A piece that is read shares the bytes of its packet.
 #![tactic(auto)]
 
 mod bounds;

@@ -1,4 +1,4 @@
-use linx_base::{ConnKind, Frame, NoMemory, Session, TryCopy};
+use linx_base::{ConnKind, Frame, Session};
 
 /// What one end of a link sends to the other, and in which of its sessions.
 #[derive(Drop)]
@@ -19,32 +19,4 @@ pub enum Part {
     Nack { next: u32, count: u32 },
     /// A frame and its number, which is below 4,294,967,295.
     Piece { next: u32, seq: u32, frame: Frame },
-}
-
-impl TryCopy for Part {
-    fn copy(&self) -> Result<Part, NoMemory> {
-        match self {
-            Part::Conn(kind) => Ok(Part::Conn(*kind)),
-            Part::Ack { next } => Ok(Part::Ack { next: *next }),
-            Part::Nack { next, count } => Ok(Part::Nack {
-                next: *next,
-                count: *count,
-            }),
-            Part::Piece { next, seq, frame } => Ok(Part::Piece {
-                next: *next,
-                seq: *seq,
-                frame: frame.copy()?,
-            }),
-        }
-    }
-}
-
-impl TryCopy for Packet {
-    fn copy(&self) -> Result<Packet, NoMemory> {
-        Ok(Packet {
-            src: self.src,
-            dst: self.dst,
-            part: self.part.copy()?,
-        })
-    }
 }

@@ -1,4 +1,4 @@
-ghost use Rattle.std.specs.Prelude.{◌≡◌, ◌++◌, List, ℕ, IfSome, IfNone, IfOk, IfErr};
+ghost use Rattle.std.specs.Prelude.{◌≡◌, ◌≤◌, ◌++◌, List, ℕ, length, drop, IfSome, IfNone, IfOk, IfErr};
 ghost use Rattle.ethcm_headers.specs.declared.packets.Packet.{Packet as AnyPacket};
 ghost use Rattle.ethcm_headers.specs.declared.reading.ReadError.TheVariants.{NoMemory as OutOfMemory};
 ghost use Rattle.ethcm_headers.specs.Packets.{Spells};
@@ -9,7 +9,6 @@ use crate::chains::{Chain, Headers};
 use crate::decoding::headers_at;
 use crate::packets::{Packet, Part};
 use linx_base::{Blob, Frame, NoMemory, Session};
-use std::alloc::Global;
 use std::error::Error;
 use std::fmt;
 
@@ -55,9 +54,10 @@ fn behind<'a>(bytes: &'a [u8], front: &[u8]) -> Option<&'a [u8]>
     bytes.strip_prefix(front)
 }
 
-/// The headers and the payload of the packet that the bytes spell.
-fn split(bytes: &[u8]) -> Option<(Headers, &[u8])>
-    ensures found { IfSome result (λ parts. Spells (packet_with parts.0 parts.1.now) bytes.now) }
+/// The headers of the packet that the bytes spell, and the place at which its payload begins.
+fn split(bytes: &[u8]) -> Option<(Headers, usize)>
+    ensures found { IfSome result (λ parts. Spells (packet_with parts.0 (drop parts.1 bytes.now)) bytes.now) }
+    ensures within { IfSome result (λ parts. parts.1 ≤ length bytes.now) }
     ensures none { IfNone result ((packet : AnyPacket) → ¬ (Spells packet bytes.now)) }
 {
     if bytes.len() > PACKET_MOST {
@@ -73,12 +73,14 @@ fn split(bytes: &[u8]) -> Option<(Headers, &[u8])>
     if !is_packet(&headers, payload) {
         return None;
     }
-    Some((headers, payload))
+    Some((headers, bytes.len() - payload.len()))
 }
 
-/// What the chain and the payload behind it bring.
-fn part_with(alloc: Global, chain: Chain, payload: &[u8]) -> Result<Part, NoMemory>
-    ensures { IfOk result (λ part. part ≡ part_with chain payload.now) }
+/// What the chain and the payload behind it bring. The payload is the bytes from a place on, which
+/// are shared.
+fn part_with(chain: Chain, bytes: &Blob, from: usize) -> Result<Part, NoMemory>
+    requires { from ≤ length bytes.now }
+    ensures { IfOk result (λ part. part ≡ part_with chain (drop from bytes.now)) }
 {
     match chain {
         Chain::Conn(kind) => Ok(Part::Conn(kind)),
@@ -91,7 +93,7 @@ fn part_with(alloc: Global, chain: Chain, payload: &[u8]) -> Result<Part, NoMemo
             next,
             seq,
             more,
-            from,
+            from: sender,
             to,
             size,
         } => Ok(Part::Piece {
@@ -99,10 +101,10 @@ fn part_with(alloc: Global, chain: Chain, payload: &[u8]) -> Result<Part, NoMemo
             seq,
             frame: Frame::First {
                 more,
-                from,
+                from: sender,
                 to,
                 size,
-                payload: Blob::of(alloc, payload)?,
+                payload: bytes.part(from, bytes.len())?,
             },
         }),
         Chain::Next { next, seq, more } => Ok(Part::Piece {
@@ -110,25 +112,27 @@ fn part_with(alloc: Global, chain: Chain, payload: &[u8]) -> Result<Part, NoMemo
             seq,
             frame: Frame::Next {
                 more,
-                payload: Blob::of(alloc, payload)?,
+                payload: bytes.part(from, bytes.len())?,
             },
         }),
     }
 }
 
-/// The packet that has these headers and this payload.
-fn packet_with(alloc: Global, headers: &Headers, payload: &[u8]) -> Result<Packet, NoMemory>
-    ensures { IfOk result (λ packet. packet ≡ packet_with headers.now payload.now) }
+/// The packet that has these headers, and the bytes from a place on as its payload.
+fn packet_with(headers: &Headers, bytes: &Blob, from: usize) -> Result<Packet, NoMemory>
+    requires { from ≤ length bytes.now }
+    ensures { IfOk result (λ packet. packet ≡ packet_with headers.now (drop from bytes.now)) }
 {
     Ok(Packet {
         src: Session(headers.src),
         dst: headers.dst,
-        part: part_with(alloc, headers.chain, payload)?,
+        part: part_with(headers.chain, bytes, from)?,
     })
 }
 
-/// The packet that the bytes spell. Bytes that are no packet's spelling are `Bad`.
-pub fn read(alloc: Global, bytes: &[u8]) -> Result<Packet, ReadError>
+/// The packet that the bytes spell, whose payload shares them. Bytes that are no packet's spelling
+/// are `Bad`.
+pub fn read(bytes: &Blob) -> Result<Packet, ReadError>
     // What is read is so spelled, and the packet that is so spelled is read.
     ensures found { IfOk result (λ packet. Spells packet bytes.now) }
     ensures only { IfOk result (λ packet. (other : AnyPacket) → Spells other bytes.now → packet ≡ other) }
@@ -137,9 +141,9 @@ pub fn read(alloc: Global, bytes: &[u8]) -> Result<Packet, ReadError>
     ensures bad { ((packet : AnyPacket) → ¬ (Spells packet bytes.now)) → result ≡ Err ReadError.Bad }
     ensures bad_only { IfErr result (λ e. e ≡ ReadError.Bad → (packet : AnyPacket) → ¬ (Spells packet bytes.now)) }
 {
-    let Some((headers, payload)) = split(bytes) else {
+    let Some((headers, from)) = split(bytes.bytes()) else {
         return Err(ReadError::Bad);
     };
-    let packet = packet_with(alloc, &headers, payload)?;
+    let packet = packet_with(&headers, bytes, from)?;
     Ok(packet)
 }

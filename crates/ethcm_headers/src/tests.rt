@@ -1,5 +1,5 @@
 use super::*;
-use linx_base::{Blob, ConnKind, Frame, Session, TryCopy};
+use linx_base::{Blob, ConnKind, Frame, Session};
 use std::alloc::Global;
 use std::test::*;
 
@@ -25,8 +25,9 @@ const NACK: [u8; 28] = [
     0x00, 0x00, 0x00, 0x01, 0x00, 0x00, 0x01, 0x00, 0x00, 0x00, 0x00, 0x07,
 ];
 
-fn is_bad(alloc: Global, bytes: &[u8]) -> bool {
-    matches!(read(alloc, bytes), Err(ReadError::Bad))
+fn is_bad(alloc: Global, bytes: &[u8]) -> Result<bool, Fail> {
+    let bytes = Blob::of(alloc, bytes)?;
+    Ok(matches!(read(&bytes), Err(ReadError::Bad)))
 }
 
 /// These bytes with others from a place on.
@@ -47,10 +48,9 @@ fn connect_bytes(rt: HostRuntime) -> Result<(), Fail> {
         dst: 0,
         part: Part::Conn(ConnKind::Connect),
     };
-    let mut out = Vec::new(rt.alloc());
-    write(&packet, &mut out)?;
-    assert_eq!(rt; out.as_slice(), CONNECT.as_slice());
-    let found = read(rt.alloc(), &CONNECT)?.copy()?;
+    let bytes = write(rt.alloc(), &packet)?;
+    assert_eq!(rt; bytes.bytes(), CONNECT.as_slice());
+    let found = read(&bytes)?;
     assert_eq!(rt; found.src, Session(SESSION_1_1));
     assert_eq!(rt; found.dst, 0);
     assert!(rt; matches!(found.part, Part::Conn(ConnKind::Connect)));
@@ -74,11 +74,9 @@ fn init_frame_bytes(rt: HostRuntime) -> Result<(), Fail> {
             },
         },
     };
-    let mut out = Vec::from_slice(rt.alloc(), b"before")?;
-    write(&packet, &mut out)?;
-    assert_eq!(rt; &out[..6], b"before".as_slice());
-    assert_eq!(rt; &out[6..], INIT.as_slice());
-    let found = read(rt.alloc(), &INIT)?.copy()?;
+    let bytes = write(rt.alloc(), &packet)?;
+    assert_eq!(rt; bytes.bytes(), INIT.as_slice());
+    let found = read(&bytes)?;
     let Part::Piece { next, seq, frame } = found.part else {
         return Err(Fail::from("not a piece"));
     };
@@ -100,7 +98,7 @@ fn init_frame_bytes(rt: HostRuntime) -> Result<(), Fail> {
 
 #[test]
 fn nack_bytes(rt: HostRuntime) -> Result<(), Fail> {
-    let found = read(rt.alloc(), &NACK)?;
+    let found = read(&Blob::of(rt.alloc(), &NACK)?)?;
     assert!(rt;
         matches!(
             found.part,
@@ -110,8 +108,8 @@ fn nack_bytes(rt: HostRuntime) -> Result<(), Fail> {
             }
         )
     );
-    assert!(rt; is_bad(rt.alloc(), &changed(rt.alloc(), &NACK, 22, &[0, 0])?));
-    assert!(rt; is_bad(rt.alloc(), &changed(rt.alloc(), &NACK, 22, &[1, 1])?));
+    assert!(rt; is_bad(rt.alloc(), &changed(rt.alloc(), &NACK, 22, &[0, 0])?)?);
+    assert!(rt; is_bad(rt.alloc(), &changed(rt.alloc(), &NACK, 22, &[1, 1])?)?);
     Ok(())
 }
 
@@ -134,13 +132,13 @@ fn changed_connect_is_bad(rt: HostRuntime) -> Result<(), Fail> {
     ];
     for (place, others) in changes {
         let bytes = changed(rt.alloc(), &CONNECT, place, others)?;
-        assert!(rt; is_bad(rt.alloc(), &bytes), "at {place}");
+        assert!(rt; is_bad(rt.alloc(), &bytes)?, "at {place}");
     }
-    assert!(rt; is_bad(rt.alloc(), &CONNECT[..23]));
+    assert!(rt; is_bad(rt.alloc(), &CONNECT[..23])?);
     let mut longer = Vec::from_slice(rt.alloc(), &CONNECT)?;
     longer.push(0)?;
-    assert!(rt; is_bad(rt.alloc(), &longer));
-    assert!(rt; is_bad(rt.alloc(), &[]));
+    assert!(rt; is_bad(rt.alloc(), &longer)?);
+    assert!(rt; is_bad(rt.alloc(), &[])?);
     Ok(())
 }
 
@@ -158,7 +156,7 @@ fn changed_init_frame_is_bad(rt: HostRuntime) -> Result<(), Fail> {
     ];
     for (place, others) in changes {
         let bytes = changed(rt.alloc(), &INIT, place, others)?;
-        assert!(rt; is_bad(rt.alloc(), &bytes), "at {place}");
+        assert!(rt; is_bad(rt.alloc(), &bytes)?, "at {place}");
     }
     Ok(())
 }

@@ -1,10 +1,11 @@
-ghost use Rattle.std.specs.Prelude.{◌≡◌, ◌≤◌, ◌++◌, length, OnOk, OnErr};
+ghost use Rattle.std.specs.Prelude.{◌≡◌, IfOk};
 ghost use Rattle.ethcm_headers.specs.Packets.{IsPart, IsPacket, IsWithinBounds, FitsPart, spelling_of};
-ghost use Rattle.ethcm_headers.specs.Chains.{chain_in, headers_in, payload_in, length_of};
+ghost use Rattle.ethcm_headers.specs.Chains.{chain_in, headers_in, payload_in};
 
 use crate::chains::{Chain, Headers};
 use crate::packets::{Packet, Part};
-use linx_base::{Frame, NoMemory, Session};
+use linx_base::{Blob, Bytes, Frame, NoMemory, Session};
+use std::alloc::Global;
 
 fn chain_in(part: &Part) -> Chain
     requires { IsPart part.now }
@@ -70,44 +71,20 @@ fn headers_in(packet: &Packet) -> Headers
     }
 }
 
-/// The number of bytes of the headers.
-fn length_of(chain: Chain) -> usize
-    ensures { result ≡ length_of chain }
-{
-    match chain {
-        Chain::Conn(_) => 24,
-        Chain::Ack { .. } | Chain::Nack { .. } => 28,
-        Chain::First { .. } => 48,
-        Chain::Next { .. } => 36,
-    }
-}
-
-/// Adds both at the end, or changes nothing.
-fn push_both(out: &mut Vec<u8>, front: &[u8], back: &[u8]) -> Result<(), NoMemory>
-    ensures ok { OnOk result (out.new.items ≡ out.old.items ++ (front.now ++ back.now)) }
-    ensures err { OnErr result (out.new.items ≡ out.old.items) }
-{
-    let before = out.len();
-    out.extend_from_slice(front)?;
-    if out.extend_from_slice(back).is_err() {
-        out.truncate(before);
-        return Err(NoMemory);
-    }
-    Ok(())
-}
-
-/// Adds the bytes of a packet at the end. A refusal changes nothing.
-pub fn write(packet: &Packet, out: &mut Vec<u8>) -> Result<(), NoMemory>
+/// The bytes of a packet, whose length is reserved once.
+pub fn write(alloc: Global, packet: &Packet) -> Result<Blob, NoMemory>
     requires { IsWithinBounds packet.now }
-    ensures ok { OnOk result (out.new.items ≡ out.old.items ++ spelling_of packet.now) }
-    ensures err { OnErr result (out.new.items ≡ out.old.items) }
+    ensures ok { IfOk result (λ bytes. bytes ≡ spelling_of packet.now) }
     // So what is written is read again.
     ensures is_packet { IsPacket packet.now }
 {
     let headers = headers_in(packet);
     let payload = payload_in(&packet.part);
-    let length = length_of(headers.chain) + payload.len();
+    let length = headers.chain.layout().len() + payload.len();
     let spelled = headers.bytes(length as u16);
-    push_both(out, spelled.as_slice(), payload)?;
-    Ok(())
+    let mut bytes = Bytes::with_room(alloc, length)?;
+    bytes.extend(spelled.as_slice())?;
+    bytes.extend(payload)?;
+    let bytes = bytes.into_blob()?;
+    Ok(bytes)
 }

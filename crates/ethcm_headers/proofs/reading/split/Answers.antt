@@ -1,5 +1,6 @@
-use Rattle.std.proofs.Common.{◌≡◌, sym, ◌∙◌, Bool, false, true, length}
+use Rattle.std.proofs.Common.{◌≡◌, ◌-◌, sym, ◌∙◌, Bool, false, true, length, drop}
 use Rattle.std.specs.Prelude.{IsTrue, ◌↔◌}
+use Rattle.std.proofs.lemmas.List.Prefix.{end_rest}
 use Rattle.ethcm_headers.specs.Chains.{header_bytes}
 use Rattle.ethcm_headers.proofs.Found.{too_long, headers_missing, payload_missing, out_of_bounds, is_spelled}
 use Rattle.ethcm_headers.proofs.reading.split.Goals as goal
@@ -35,5 +36,9 @@ returns-then-not-is_packet-clause-none c = λ packet spells.
 pub returns-clause-found : goal.returns-clause-found
 returns-clause-found c =
     let front : c.as_slice.result.now ≡ header_bytes (length c.args.bytes.now) c.in-Some.headers = c.as_slice.ensures ∙ c.bytes-spelled.ensures in
-    is_spelled c.args.bytes.now c.in-Some.headers c.in-Some-behind.payload.now c.in-Some.ensures.fits
-    (rw (← front) c.in-Some-behind.ensures.found) (shown _ c.is_packet.ensures c.if-not-is_packet.false)
+    let behind : drop (length c.args.bytes.now - length c.in-Some-behind.payload.now) c.args.bytes.now ≡ c.in-Some-behind.payload.now =
+    end_rest c.args.bytes.now c.in-Some-behind.payload.now c.as_slice.result.now c.in-Some-behind.ensures.found
+    in
+    rw behind
+    (is_spelled c.args.bytes.now c.in-Some.headers c.in-Some-behind.payload.now c.in-Some.ensures.fits
+    (rw (← front) c.in-Some-behind.ensures.found) (shown _ c.is_packet.ensures c.if-not-is_packet.false))
