@@ -4,12 +4,11 @@ use Rattle.linx_base.specs.declared.identity.Peer.TheVariants.{Here}
 use Rattle.linx_base.specs.declared.signal.SigNote.{SigNote}
 use Rattle.journal.specs.declared.event.Event.{Event}
 use Rattle.journal.specs.declared.event.Event.TheVariants as asks
-use Rattle.script_lang.specs.declared.command.Command.{Command}
-use Rattle.script_lang.specs.declared.command.Command.TheVariants.{Open, Close, Send, Recv}
-use Rattle.script_lang.specs.declared.command.Target.{Target}
-use Rattle.script_lang.specs.declared.command.Target.TheVariants.{Me, Last, Kept}
-use Rattle.script_lang.specs.Fits.{fits_data}
-use Rattle.script_lang.specs.Parts.{data_of}
+use Rattle.script_words.specs.declared.command.Command.{Command}
+use Rattle.script_words.specs.declared.command.Command.TheVariants.{Open, Close, Send, Recv}
+use Rattle.script_words.specs.declared.target.Target.{Target}
+use Rattle.script_words.specs.declared.target.Target.TheVariants.{Me, Last, Kept}
+use Rattle.script_words.specs.Filling.{data_of, fits_data}
 
 -- the actor itself is meant
 abbrev pub is_itself : Target → Bool

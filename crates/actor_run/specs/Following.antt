@@ -5,9 +5,9 @@ use Rattle.journal.specs.declared.head.Head.{Head}
 use Rattle.journal.specs.declared.head.Head.TheVariants as heads
 use Rattle.journal.specs.declared.effect.Step.{Step}
 use Rattle.journal.specs.History.{is_by, last_endpoint}
-use Rattle.script_lang.specs.declared.command.Command.{Command}
-use Rattle.script_lang.specs.declared.command.Command.TheVariants.{Open, Close, Send, Recv}
-use Rattle.script_lang.specs.Parts.{data_of}
+use Rattle.script_words.specs.declared.command.Command.{Command}
+use Rattle.script_words.specs.declared.command.Command.TheVariants.{Open, Close, Send, Recv}
+use Rattle.script_words.specs.Filling.{data_of}
 use Rattle.actor_run.specs.Asks.{signal_of}
 
 -- The head of the step of a command, for an actor whose last endpoint this is: an open with its name,

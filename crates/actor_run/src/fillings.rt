@@ -1,6 +1,5 @@
 ghost use Rattle.std.specs.Prelude.{◌≡◌, IfOk, length, ◌≤◌, replicate, IsTrue};
-ghost use Rattle.script_lang.specs.Parts.{data_of};
-ghost use Rattle.script_lang.specs.Fits.{fits_data};
+ghost use Rattle.script_words.specs.Filling.{data_of, fits_data};
 ghost use Rattle.actor_run.specs.Asks.{signal_of};
 
 use linx_base::{BufferError, NoMemory, Signal};

@@ -3,7 +3,7 @@ use Rattle.std.proofs.Common.{◌≡◌, ℕ, ◌≤◌, inl, Bool, true, false,
 use Rattle.std.specs.Prelude.{Option, Some, Result, Ok, Err}
 use Rattle.std.proofs.lemmas.List.{take_all}
 use Rattle.journal.specs.Logs.{Log, is_full}
-use Rattle.script_lang.specs.declared.script_error.BadKind.{BadKind}
+use Rattle.script_words.specs.declared.bad_kind.BadKind.{BadKind}
 use Rattle.script_lang.specs.Parts.{ScriptParts}
 use Rattle.script_lang.specs.Reading.{script_of}
 use Rattle.script_lang.proofs.Sizes.{script_within}

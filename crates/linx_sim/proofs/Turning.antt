@@ -30,15 +30,15 @@ use Rattle.node_kernel.specs.declared.answers.StepAnswer.TheVariants as answers
 use Rattle.fabric.specs.Remains.{IsOneActor}
 use Rattle.fabric.specs.Events.{CanAsk, IsHeadOf, IsAnswerOf, IsMade, Makes}
 use Rattle.fabric.proofs.Keeps.{node_of_first}
-use Rattle.script_lang.specs.declared.command.Command.{Command}
-use Rattle.script_lang.specs.declared.command.Command.TheVariants.{Open, Close, Send, Recv}
-use Rattle.script_lang.specs.declared.command.Target.TheVariants.{Me, Last, Kept}
-use Rattle.script_lang.specs.declared.command.Target.{Target}
-use Rattle.script_lang.specs.declared.command.Filling.{Filling}
+use Rattle.script_words.specs.declared.command.Command.{Command}
+use Rattle.script_words.specs.declared.command.Command.TheVariants.{Open, Close, Send, Recv}
+use Rattle.script_words.specs.declared.target.Target.TheVariants.{Me, Last, Kept}
+use Rattle.script_words.specs.declared.target.Target.{Target}
+use Rattle.script_words.specs.declared.filling.Filling.{Filling}
 use Rattle.journal.specs.declared.head.SentTo.{SentTo}
 use Rattle.sigsel.specs.declared.sigsel.Sigsel.{Sigsel}
 use Rattle.linx_base.specs.declared.identity.ItemAt.{ItemAt}
-use Rattle.script_lang.specs.Parts.{data_of}
+use Rattle.script_words.specs.Filling.{data_of}
 use Rattle.actor_run.specs.Asks.{is_plain, is_plain_at, NeedsItself, IsAskOf, signal_of}
 use Rattle.actor_run.specs.Following.{IsStepOf, FollowsWhole, steps_by}
 use Rattle.linx_sim.specs.Runs.{is_body, is_first_path}

@@ -7,10 +7,10 @@ use Rattle.journal.specs.declared.effect.Step.{Step}
 use Rattle.journal.specs.Logs.{Log, is_full}
 use Rattle.linx_outside.specs.Told.{prepended}
 use Rattle.journal.specs.Laws.{Shape, IsLegal}
-use Rattle.script_lang.specs.declared.command.Command.{Command}
-use Rattle.script_lang.specs.declared.command.Command.TheVariants.{Open, Close, Send, Recv}
-use Rattle.script_lang.specs.declared.command.ActorScript.{ActorScript}
-use Rattle.script_lang.specs.declared.script_error.BadKind.{BadKind}
+use Rattle.script_words.specs.declared.command.Command.{Command}
+use Rattle.script_words.specs.declared.command.Command.TheVariants.{Open, Close, Send, Recv}
+use Rattle.script_lang.specs.declared.actor_script.ActorScript.{ActorScript}
+use Rattle.script_words.specs.declared.bad_kind.BadKind.{BadKind}
 use Rattle.script_lang.specs.Parts.{ScriptParts}
 use Rattle.journal.specs.History.{has_ended}
 use Rattle.actor_run.specs.Asks.{is_itself}

@@ -8,14 +8,14 @@ use Rattle.journal.specs.History.{last_endpoint, endpoint_of, has_ended}
 use Rattle.journal.specs.Laws.{Shape, IsLegal}
 use Rattle.node_kernel.specs.declared.answers.StepAnswer.{StepAnswer}
 use Rattle.node_kernel.specs.declared.answers.StepAnswer.TheVariants as answers
-use Rattle.script_lang.specs.declared.command.Command.{Command}
-use Rattle.script_lang.specs.declared.command.Command.TheVariants.{Send}
-use Rattle.script_lang.specs.Fits.{fits_data}
+use Rattle.script_words.specs.declared.command.Command.{Command}
+use Rattle.script_words.specs.declared.command.Command.TheVariants.{Send}
+use Rattle.script_words.specs.Filling.{fits_data}
 use Rattle.actor_run.specs.Following.{Follows, FollowsWhole, steps_by}
 use Rattle.linx_sim.specs.Runs.{is_open, is_body, is_first_path, read_of, IsBadAt}
 use Rattle.script_lang.specs.Reading.{script_of}
 use Rattle.script_lang.specs.Parts.{ScriptParts}
-use Rattle.script_lang.specs.declared.command.ActorScript.{ActorScript}
+use Rattle.script_lang.specs.declared.actor_script.ActorScript.{ActorScript}
 use Rattle.fabric.specs.Remains.{only_node}
 use Rattle.linx_sim.specs.declared.outcome.Status.{Status}
 use Rattle.linx_sim.specs.declared.outcome.Status.TheVariants.{Done, Script, ReadFault, WriteFault, JournalFull, NoMemory}

@@ -3,4 +3,6 @@
 #![tactic(auto)]
 
 #[cfg(test)]
-mod tests;
+mod bad_lines;
+#[cfg(test)]
+mod statements;

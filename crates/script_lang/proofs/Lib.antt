@@ -1,7 +1,7 @@
 pub mod Lists
+pub mod Verdicts
 pub mod Keeps
-pub mod Cuts
-pub mod Words
-pub mod Blocks
+pub mod Commands
+pub mod Room
 pub mod Folds
 pub mod Sizes

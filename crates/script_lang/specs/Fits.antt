@@ -7,15 +7,17 @@ use Rattle.linx_base.specs.declared.identity.LinkNo.{LinkNo}
 use Rattle.linx_base.specs.declared.identity.NodeNo.{NodeNo}
 use Rattle.linx_base.specs.declared.frame.LinkDecl.{LinkDecl}
 use Rattle.linx_base.specs.declared.frame.Verdict.{Verdict}
-use Rattle.linx_base.specs.declared.frame.Verdict.TheVariants.{Deliver, Lose, Repeat, Swap}
-use Rattle.sigsel.specs.declared.sigsel.Sigsel.{Sigsel}
-use Rattle.sigsel.specs.declared.sigsel.Sigsel.TheVariants.{Any, Only, Not}
-use Rattle.script_lang.specs.declared.command.Filling.{Filling}
-use Rattle.script_lang.specs.declared.command.Command.{Command}
-use Rattle.script_lang.specs.declared.command.Command.TheVariants.{Open, Close, Send, Forward, Recv, Hunt, Attach, Detach, Keep, Cut, Mend, Restart, Settle}
-use Rattle.script_lang.specs.declared.command.ActorScript.{ActorScript}
-use Rattle.script_lang.specs.declared.script.Plans.{Plans}
-use Rattle.script_lang.specs.Parts.{ScriptParts, data_of}
+use Rattle.linx_base.specs.Content.{data_limit}
+use Rattle.script_words.specs.declared.command.Command.{Command}
+use Rattle.script_words.specs.declared.command.Command.TheVariants.{Open, Close, Send, Forward, Recv, Hunt, Attach, Detach, Keep, Cut, Mend, Restart, Settle}
+use Rattle.script_words.specs.Limits.{node_limit, link_limit, actor_limit, command_limit, all_commands_limit, verdict_limit, attach_data_limit}
+use Rattle.script_words.specs.Filling.{fits_data}
+use Rattle.script_words.specs.Filter.{fits_filter}
+use Rattle.script_words.specs.Verdicts.{fits_verdict}
+use Rattle.script_words.specs.Declaration.{has_link_size}
+use Rattle.script_lang.specs.declared.actor_script.ActorScript.{ActorScript}
+use Rattle.script_lang.specs.declared.plans.Plans.{Plans}
+use Rattle.script_lang.specs.Parts.{ScriptParts}
 
 -- a number from 1 to the count
 abbrev pub is_numbered : ℕ → ℕ → Bool
@@ -38,55 +40,37 @@ joins None node = false
 abbrev pub has_end : ScriptParts → LinkNo → NodeNo → Bool
 has_end s link node = is_link s link && joins (slice_get s.links (link.0 - 1)) node
 
--- a window of 1 to 256 and a piece of 64 to 8,192
-abbrev pub has_link_size : ℕ → ℕ → Bool
-has_link_size window piece = nat_le 1 window && nat_le window 256 && nat_le 64 piece && nat_le piece 8192
-
 -- two nodes, with a window and a piece in range
 abbrev pub is_link_shape : LinkDecl → Bool
-is_link_shape decl = not (decl.first.0 == decl.second.0) && has_link_size decl.window decl.piece
+is_link_shape decl =
+    not (decl.first.0 == decl.second.0) && has_link_size decl.window decl.piece
 
 -- the same, with both nodes declared
 abbrev pub fits_link : ℕ → LinkDecl → Bool
-fits_link nodes decl = is_numbered nodes decl.first.0 && (is_numbered nodes decl.second.0 && is_link_shape decl)
+fits_link nodes decl =
+    is_numbered nodes decl.first.0 && (is_numbered nodes decl.second.0 && is_link_shape decl)
 
--- an exchange is with a place from 1 to 9
-abbrev pub fits_verdict : Verdict → Bool
-fits_verdict Deliver = true
-fits_verdict Lose = true
-fits_verdict Repeat = true
-fits_verdict (Swap place) = nat_le 1 place && nat_le place 9
+-- the verdicts of a direction are in range, and not too many
+abbrev pub fits_plan : List Verdict → Bool
+fits_plan verdicts = nat_le (length verdicts) verdict_limit && list_all fits_verdict verdicts
 
--- at most 10,000 verdicts in each direction
 abbrev pub fits_plans : Plans → Bool
-fits_plans plans =
-    nat_le (length plans.from_first) 10000 && nat_le (length plans.from_second) 10000
-    && list_all fits_verdict plans.from_first && list_all fits_verdict plans.from_second
-
--- a filter that lists numbers lists 1 to 64
-abbrev pub fits_filter : Sigsel → Bool
-fits_filter Any = true
-fits_filter (Only numbers) = nat_le 1 (length numbers) && nat_le (length numbers) 64
-fits_filter (Not numbers) = nat_le 1 (length numbers) && nat_le (length numbers) 64
+fits_plans plans = fits_plan plans.from_first && fits_plan plans.from_second
 
 -- a path over a link goes over one with an end on the node
 abbrev pub fits_path : ScriptParts → NodeNo → Path → Bool
 fits_path s node (Local name) = true
 fits_path s node (Over link name) = has_end s link node
 
--- at most so many data bytes
-abbrev pub fits_data : ℕ → Filling → Bool
-fits_data most bytes = nat_le (length (data_of bytes)) most
-
 -- a command of an actor on the node: what it names is declared, and its sizes are in range
 abbrev pub fits_command : ScriptParts → NodeNo → Command → Bool
 fits_command s node (Open name) = true
 fits_command s node Close = true
-fits_command s node (Send to number bytes) = fits_data 65532 bytes
+fits_command s node (Send to number bytes) = fits_data data_limit bytes
 fits_command s node (Forward to) = true
 fits_command s node (Recv filter) = fits_filter filter
-fits_command s node (Hunt path number bytes) = fits_path s node path && fits_data 65532 bytes
-fits_command s node (Attach to r number bytes) = fits_data 65531 bytes
+fits_command s node (Hunt path number bytes) = fits_path s node path && fits_data data_limit bytes
+fits_command s node (Attach to r number bytes) = fits_data attach_data_limit bytes
 fits_command s node (Detach r) = true
 fits_command s node (Keep name) = true
 fits_command s node (Cut link) = is_link s link
@@ -94,9 +78,11 @@ fits_command s node (Mend link) = is_link s link
 fits_command s node (Restart other) = is_node s other
 fits_command s node (Settle link) = is_link s link
 
--- an actor on a declared node with at most 20,000 commands
+-- an actor on a declared node with commands that fit, and not too many
 abbrev pub fits_actor : ScriptParts → ActorScript → Bool
-fits_actor s actor = is_node s actor.node && nat_le (length actor.commands) 20000 && list_all (fits_command s actor.node) actor.commands
+fits_actor s actor =
+    is_node s actor.node && nat_le (length actor.commands) command_limit
+    && list_all (fits_command s actor.node) actor.commands
 
 -- the commands of all actors
 abbrev pub commands_of : List ActorScript → ℕ
@@ -113,14 +99,14 @@ are_distinct (name ∷ names) = not (list_any (bytes_eq name) names) && are_dist
 
 -- what holds of every script
 pub record IsScript (s : ScriptParts) : Type 0 where
-  pub nodes : length s.names.nodes ≤ 16
+  pub nodes : length s.names.nodes ≤ node_limit
   pub node_names : are_distinct s.names.nodes ≡ true
-  pub links : length s.names.links ≤ 32
+  pub links : length s.names.links ≤ link_limit
   pub link_names : are_distinct s.names.links ≡ true
   pub each_name : length s.links ≡ length s.names.links
   pub each_link : list_all (fits_link (length s.names.nodes)) s.links ≡ true
   pub each_plan : length s.plans ≡ length s.links
   pub plans : list_all fits_plans s.plans ≡ true
-  pub actors : length s.actors ≤ 64
+  pub actors : length s.actors ≤ actor_limit
   pub each_actor : list_all (fits_actor s) s.actors ≡ true
-  pub commands : commands_of s.actors ≤ 400000
+  pub commands : commands_of s.actors ≤ all_commands_limit

@@ -1,8 +1,8 @@
 pub mod Parts
 pub mod Fits
-pub mod Gives
-pub mod Lines
-pub mod Values
-pub mod Statements
-pub mod Keeping
+pub mod Failures
+pub mod Naming
+pub mod Declaring
+pub mod Resolving
+pub mod Block
 pub mod Reading

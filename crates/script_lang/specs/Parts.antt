@@ -1,4 +1,4 @@
-use Rattle.std.specs.Prelude.{ℕ, suc, zero, ◌-◌, Option, Some, None, List, [], ◌∷◌, ◌++◌, replicate, slice_get}
+use Rattle.std.specs.Prelude.{ℕ, suc, zero, ◌-◌, Option, Some, None, List, [], ◌∷◌, ◌++◌, slice_get}
 use Rattle.linx_base.specs.declared.name.Names.{Names}
 use Rattle.linx_base.specs.declared.identity.LinkNo.{LinkNo}
 use Rattle.linx_base.specs.declared.identity.NodeNo.{NodeNo}
@@ -6,18 +6,12 @@ use Rattle.linx_base.specs.declared.identity.Side.{Side}
 use Rattle.linx_base.specs.declared.identity.Side.TheVariants.{First, Second}
 use Rattle.linx_base.specs.declared.frame.LinkDecl.{LinkDecl}
 use Rattle.linx_base.specs.declared.frame.Verdict.{Verdict}
-use Rattle.script_lang.specs.declared.command.Filling.{Filling}
-use Rattle.script_lang.specs.declared.command.Filling.TheVariants.{Bytes, Repeat}
-use Rattle.script_lang.specs.declared.command.Command.{Command}
-use Rattle.script_lang.specs.declared.command.ActorScript.{ActorScript}
-use Rattle.script_lang.specs.declared.script.Plans.{Plans}
+use Rattle.script_words.specs.declared.command.Command.{Command}
+use Rattle.script_lang.specs.declared.actor_script.ActorScript.{ActorScript}
+use Rattle.script_lang.specs.declared.plans.Plans.{Plans}
 
--- the data bytes that a filling stands for
-abbrev pub data_of : Filling → List ℕ
-data_of (Bytes bytes) = bytes
-data_of (Repeat count byte) = replicate count byte
-
--- a script as its readers see it: the names of nodes and links, the links with their plans, and the actors, each in order of declaration
+-- a script as its readers see it: the names of nodes and links, the links with their plans, and the
+-- actors, each in order of declaration
 pub record ScriptParts : Type 0 where
   pub names : Names
   pub links : List LinkDecl
@@ -26,7 +20,12 @@ pub record ScriptParts : Type 0 where
 
 -- nothing is declared
 abbrev pub empty_script : ScriptParts
-empty_script = record { names = record { nodes = []; links = [] }; links = []; plans = []; actors = [] }
+empty_script = record {
+  names = record { nodes = []; links = [] };
+  links = [];
+  plans = [];
+  actors = [];
+}
 
 -- the verdicts of one direction of a link
 abbrev pub side_of : Plans → Side → List Verdict
@@ -68,8 +67,10 @@ with_link s name decl = record {
 
 -- one more verdict of a direction of a link
 abbrev pub with_verdict : ScriptParts → LinkNo → Side → Verdict → ScriptParts
-with_verdict s link from verdict = record s { plans = planned_at s.plans (link.0 - 1) from verdict }
+with_verdict s link from verdict =
+    record s { plans = planned_at s.plans (link.0 - 1) from verdict }
 
 -- one more actor
 abbrev pub with_actor : ScriptParts → NodeNo → List Command → ScriptParts
-with_actor s node commands = record s { actors = s.actors ++ record { node = node; commands = commands } ∷ [] }
+with_actor s node commands =
+    record s { actors = s.actors ++ record { node = node; commands = commands } ∷ [] }

@@ -3,17 +3,20 @@
 //! limits: whoever holds one knows that all its names are declared and its numbers are in range.
 #![tactic(auto)]
 
-mod command;
-mod lines;
+mod actor_script;
+mod block;
+mod declaring;
+mod naming;
 mod parsing;
+mod plans;
 mod reading;
-mod sameness;
+mod resolving;
 mod script;
 mod script_error;
-mod statement;
-mod values;
 
-pub use command::{ActorScript, Command, Commands, Filling, Target};
+pub use actor_script::{ActorScript, Commands};
 pub use parsing::parse;
-pub use script::{Plans, Script, Verdicts};
-pub use script_error::{BadKind, ScriptError};
+pub use plans::Plans;
+pub use script::Script;
+pub use script_error::ScriptError;
+pub use script_words::{BadKind, Command, Filling, Target, Verdicts};

@@ -1,25 +1,16 @@
-ghost use Rattle.std.specs.Prelude.{◌≡◌, ◌↔◌, ◌+◌, ◌<◌, ◌≤◌, length, OnOk, OnErr, IsTrue, slice_get, false};
+ghost use Rattle.std.specs.Prelude.{◌≡◌, ◌+◌, ◌<◌, ◌≤◌, length, OnOk, OnErr, IsTrue, false};
 ghost use Rattle.std.specs.List.{list_all};
-ghost use Rattle.script_lang.specs.Parts.{empty_script, plan_of, with_node, with_link, with_verdict, with_actor, planned_at, plan_in};
-ghost use Rattle.script_lang.specs.Fits.{is_node, is_link, is_among, fits_link, fits_verdict, fits_command, commands_of, IsScript};
+ghost use Rattle.script_words.specs.Limits.{actor_limit, all_commands_limit, command_limit, link_limit, node_limit, verdict_limit};
+ghost use Rattle.script_words.specs.Verdicts.{fits_verdict};
+ghost use Rattle.script_lang.specs.Parts.{empty_script, plan_of, with_node, with_link, with_verdict, with_actor};
+ghost use Rattle.script_lang.specs.Fits.{is_node, is_link, is_among, fits_link, fits_command, commands_of, IsScript};
 
-use crate::command::{ActorScript, Commands};
-use crate::sameness::all_same;
-use linx_base::{
-    LinkDecl, LinkNo, Name, NameList, Names, NoMemory, NodeNo, Sequence, Side, Verdict,
-};
+use crate::actor_script::{ActorScript, Commands};
+use crate::plans::{Plans, plan_at, plan_more};
+use linx_base::{LinkDecl, LinkNo, Name, NameList, Names, NoMemory, NodeNo, Side, Verdict};
+use script_words::Verdicts;
 use std::alloc::Global;
 use std::marker::Model;
-
-/// Verdicts in order.
-pub type Verdicts = Sequence<Verdict>;
-
-/// The plans of a link, one for each direction, named by the side that sends.
-#[derive(Drop)]
-pub struct Plans {
-    pub from_first: Verdicts,
-    pub from_second: Verdicts,
-}
 
 /// A script within its limits: the names of nodes and links, the links with their plans, and the
 /// actors. Nodes, links and actors are numbered from 1 in order of declaration.
@@ -37,40 +28,19 @@ impl Model for Script {
 
     ghost Value = { ScriptParts };
 
-    ghost view = { λ s. record { names = s.names; links = s.links.items; plans = s.plans.items; actors = s.actors.items } };
+    ghost view = { λ s. record {
+      names = s.names;
+      links = s.links.items;
+      plans = s.plans.items;
+      actors = s.actors.items;
+    } };
 
-    ghost invariant = { λ s. IsScript (record { names = s.names; links = s.links.items; plans = s.plans.items; actors = s.actors.items }) };
-}
-
-/// The verdicts of one direction, of the link in this place.
-fn plan_at(plans: &[Plans], place: usize, from: Side) -> &[Verdict]
-    requires { place < length plans.now }
-    ensures { result.now ≡ plan_in (slice_get plans.now place) from }
-{
-    let plans = &plans[place];
-    match from {
-        Side::First => plans.from_first.as_slice(),
-        Side::Second => plans.from_second.as_slice(),
-    }
-}
-
-/// Adds a verdict to the plan of one direction, of the link in this place.
-fn plan_more(
-    plans: &mut Vec<Plans>,
-    place: usize,
-    from: Side,
-    verdict: Verdict,
-) -> Result<(), NoMemory>
-    requires { place < length plans.old.items }
-    ensures ok { OnOk result (plans.new.items ≡ planned_at plans.old.items place from verdict) }
-    ensures err { OnErr result (plans.new.items ≡ plans.old.items) }
-{
-    let plans = &mut plans[place];
-    match from {
-        Side::First => plans.from_first.push(verdict)?,
-        Side::Second => plans.from_second.push(verdict)?,
-    }
-    Ok(())
+    ghost invariant = { λ s. IsScript (record {
+      names = s.names;
+      links = s.links.items;
+      plans = s.plans.items;
+      actors = s.actors.items;
+    }) };
 }
 
 impl Script {
@@ -113,17 +83,6 @@ impl Script {
         self.actors.as_slice()
     }
 
-    /// Whether both are one script.
-    pub fn same(&self, other: &Script) -> bool
-        ensures { IsTrue result ↔ (self.now ≡ other.now) }
-    {
-        all_same(self.names.nodes.as_slice(), other.names.nodes.as_slice())
-            && all_same(self.names.links.as_slice(), other.names.links.as_slice())
-            && all_same(self.links.as_slice(), other.links.as_slice())
-            && all_same(self.plans.as_slice(), other.plans.as_slice())
-            && all_same(self.actors.as_slice(), other.actors.as_slice())
-    }
-
     /// The verdicts of one direction of a declared link, in order.
     pub fn plan(&self, link: LinkNo, from: Side) -> &[Verdict]
         requires { IsTrue (is_link self.now link) }
@@ -135,7 +94,7 @@ impl Script {
 
     /// Declares one more node. A refusal changes nothing.
     pub fn add_node(&mut self, name: Name) -> Result<(), NoMemory>
-        requires room { length self.old.names.nodes < 16 }
+        requires room { length self.old.names.nodes < node_limit }
         requires fresh { is_among self.old.names.nodes name ≡ false }
         ensures ok { OnOk result (self.new ≡ with_node self.old name) }
         ensures err { OnErr result (self.new ≡ self.old) }
@@ -146,7 +105,7 @@ impl Script {
 
     /// Declares one more link, with empty plans. A refusal changes nothing.
     pub fn add_link(&mut self, name: Name, decl: LinkDecl) -> Result<(), NoMemory>
-        requires room { length self.old.names.links < 32 }
+        requires room { length self.old.names.links < link_limit }
         requires fresh { is_among self.old.names.links name ≡ false }
         requires fits { IsTrue (fits_link (length self.old.names.nodes) decl) }
         ensures ok { OnOk result (self.new ≡ with_link self.old name decl) }
@@ -172,7 +131,7 @@ impl Script {
         verdict: Verdict,
     ) -> Result<(), NoMemory>
         requires link { IsTrue (is_link self.old link) }
-        requires room { length (plan_of self.old link from) < 10000 }
+        requires room { length (plan_of self.old link from) < verdict_limit }
         requires fits { IsTrue (fits_verdict verdict) }
         ensures ok { OnOk result (self.new ≡ with_verdict self.old link from verdict) }
         ensures err { OnErr result (self.new ≡ self.old) }
@@ -183,10 +142,10 @@ impl Script {
 
     /// Adds an actor. A refusal changes nothing.
     pub fn add_actor(&mut self, node: NodeNo, commands: Commands) -> Result<(), NoMemory>
-        requires room { length self.old.actors < 64 }
+        requires room { length self.old.actors < actor_limit }
         requires node { IsTrue (is_node self.old node) }
-        requires few { length commands ≤ 20000 }
-        requires all_few { commands_of self.old.actors + length commands ≤ 400000 }
+        requires few { length commands ≤ command_limit }
+        requires all_few { commands_of self.old.actors + length commands ≤ all_commands_limit }
         requires fits { IsTrue (list_all (fits_command self.old node) commands) }
         ensures ok { OnOk result (self.new ≡ with_actor self.old node commands) }
         ensures err { OnErr result (self.new ≡ self.old) }

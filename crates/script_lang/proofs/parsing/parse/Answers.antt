@@ -5,24 +5,34 @@ use Rattle.script_lang.proofs.parsing.parse.Goals as goal
 
 pub returns-in-Err-clause-bad : goal.returns-in-Err-clause-bad
 returns-in-Err-clause-bad c =
-    rw c.error_at.ensures
-    (bad_line c.loop-rest.reading c.args.bytes.now c.loop-rest.rest.now c.first_line.result.0.now c.first_line.result.1.now c.loop-rest.line c.in-Err.fault (script_of c.args.bytes.now)
-    c.first_line.ensures.lines c.in-Err.ensures.gives c.loop-rest.invariant.reads)
+    let loop = c.loop-rest in
+    let first = c.first_line in
+    rw c.at.ensures
+    (bad_line loop.reading loop.line (script_of c.args.bytes.now) c.args.bytes.now loop.rest.now
+    first.result.0.now first.result.1.now first.ensures.lines loop.invariant.reads c.in-Err.error c.in-Err.ensures.gives)
 
 pub loop-rest-preserved : goal.loop-rest-preserved
-loop-rest-preserved c = record {
-  reads = next_line c.loop-rest.reading c.in-Ok.reading c.args.bytes.now c.loop-rest.rest.now c.first_line.result.0.now c.first_line.result.1.now c.loop-rest.line (script_of c.args.bytes.now)
-      c.first_line.ensures.lines c.first_line.ensures.whole c.loop-rest.invariant.shorter c.in-Ok.ensures.gives c.loop-rest.invariant.reads;
-  fits = c.in-Ok.ensures.fits;
-  shorter = omega (arith, c.first_line.ensures.whole, c.loop-rest.invariant.shorter);
-  lines = omega (arith, c.first_line.ensures.whole, c.first_line.ensures.advances, c.loop-rest.invariant.lines);
-  small = omega (arith, c.first_line.ensures.whole, c.in-Ok.ensures.short refl, c.loop-rest.invariant.shorter);
-}
+loop-rest-preserved c =
+    let loop = c.loop-rest in
+    let first = c.first_line in
+    record {
+      reads = next_line loop.reading loop.line (script_of c.args.bytes.now) c.args.bytes.now loop.rest.now
+          first.result.0.now first.result.1.now first.ensures.lines loop.invariant.reads c.in-Ok.reading
+          first.ensures.whole loop.invariant.shorter c.in-Ok.ensures.gives;
+      fits = c.in-Ok.ensures.fits;
+      shorter = omega (arith, first.ensures.whole, loop.invariant.shorter);
+      lines = omega (arith, first.ensures.whole, first.ensures.advances, loop.invariant.lines);
+      small = omega (arith, first.ensures.whole, c.in-Ok.ensures.short refl, loop.invariant.shorter);
+    }
 
 pub returns-clause-read : goal.returns-clause-read
 returns-clause-read c =
-    rw (last_line c.loop-rest.reading _ c.loop-rest.line c.loop-rest.rest.now (script_of c.args.bytes.now) (search rules) c.loop-rest.invariant.reads) c.finish.ensures.read
+    rw (last_line c.loop-rest.reading c.loop-rest.line (script_of c.args.bytes.now) _ c.loop-rest.rest.now
+    (search rules) c.loop-rest.invariant.reads)
+    c.finish.ensures.read
 
 pub returns-clause-bad : goal.returns-clause-bad
 returns-clause-bad c =
-    rw (last_line c.loop-rest.reading _ c.loop-rest.line c.loop-rest.rest.now (script_of c.args.bytes.now) (search rules) c.loop-rest.invariant.reads) c.finish.ensures.bad
+    rw (last_line c.loop-rest.reading c.loop-rest.line (script_of c.args.bytes.now) _ c.loop-rest.rest.now
+    (search rules) c.loop-rest.invariant.reads)
+    c.finish.ensures.bad

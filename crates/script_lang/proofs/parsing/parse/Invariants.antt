@@ -1,6 +1,7 @@
 use Rattle.std.proofs.Common.{◌≡◌, ◌+◌, ◌-◌, ◌≤◌, length}
-use Rattle.script_lang.specs.Keeping.{IsReading}
-use Rattle.script_lang.specs.Lines.{lines_of}
+use Rattle.script_lang.specs.Block.{IsReading}
+use Rattle.script_words.specs.Limits.{script_limit}
+use Rattle.script_words.specs.Lines.{lines_of}
 use Rattle.script_lang.specs.Reading.{read_from, script_of}
 use Rattle.script_lang.proofs.parsing.parse.Given as goal
 
@@ -11,7 +12,7 @@ invariant-loop-rest l = record {
   fits : IsReading l.reading;
   shorter : length l.rest ≤ length l.bytes;
   lines : l.line + length l.rest ≤ length l.bytes;
-  small : length l.bytes - length l.rest ≤ 1048576;
+  small : length l.bytes - length l.rest ≤ script_limit;
 }
 
 abbrev pub decreases-loop-rest : goal.decreases-loop-rest

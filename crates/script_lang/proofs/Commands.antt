@@ -1,0 +1,35 @@
+-- a command with its names looked up fits the script
+use Rattle.std.proofs.Common.{◌≡◌, ◌-◌, true, ◌||◌, ◌==◌, refl}
+use Rattle.std.specs.Prelude.{Some}
+use Rattle.std.specs.List.{slice_get}
+use Rattle.linx_base.specs.declared.identity.LinkNo.{LinkNo}
+use Rattle.linx_base.specs.declared.identity.NodeNo.{NodeNo}
+use Rattle.linx_base.specs.declared.frame.LinkDecl.{LinkDecl}
+use Rattle.script_words.specs.declared.command.Command.{Command}
+use Rattle.script_words.specs.declared.command.Command.TheVariants.{Open, Close, Send, Forward, Recv, Hunt, Attach, Detach, Keep, Cut, Mend, Restart, Settle}
+use Rattle.script_words.specs.NamedCommand.{is_sized_plain}
+use Rattle.script_lang.specs.Parts.{ScriptParts}
+use Rattle.script_lang.specs.Fits.{is_link, has_end, fits_command}
+
+module _ (s : ScriptParts) (node : NodeNo) where
+  -- a command that names no link and no node fits every script
+  pub sized_fits : (command : Command) → is_sized_plain command ≡ true → fits_command s node command ≡ true
+  sized_fits (Open name) h = refl
+  sized_fits Close h = refl
+  sized_fits (Send to number bytes) h = h
+  sized_fits (Forward to) h = refl
+  sized_fits (Recv filter) h = h
+  sized_fits (Hunt path number bytes) h = cc
+  sized_fits (Attach to r number bytes) h = h
+  sized_fits (Detach r) h = refl
+  sized_fits (Keep name) h = refl
+  sized_fits (Cut link) h = cc
+  sized_fits (Mend link) h = cc
+  sized_fits (Restart other) h = cc
+  sized_fits (Settle link) h = cc
+
+  -- whether a declared link ends at a node, by its declaration
+  pub has_end_at : (link : LinkNo) (decl : LinkDecl) → is_link s link ≡ true
+      → slice_get s.links (link.0 - 1) ≡ Some decl
+      → has_end s link node ≡ ((decl.first.0 == node.0) || (decl.second.0 == node.0))
+  has_end_at link decl declared here = rw (declared, here) refl

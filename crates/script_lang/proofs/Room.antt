@@ -1,0 +1,93 @@
+-- an actor with more commands stays within the script's limits
+use Rattle.std.proofs.Common.{◌≡◌, ℕ, suc, zero, ◌+◌, ◌*◌, ◌<◌, ◌≤◌, Bool, true, false, nat_le, List, [], ◌∷◌, ◌++◌, length, refl, sym, ◌∙◌, ap, arith, length-append, append_assoc}
+use Rattle.std.specs.List.{list_all, repeat}
+use Rattle.std.proofs.lemmas.Bool.{and_parts, and_from, leb-true, lt-leb}
+use Rattle.std.proofs.lemmas.List.{append-nil}
+use Rattle.std.proofs.lemmas.List.Folds.{list_all-append}
+use Rattle.linx_base.specs.declared.identity.NodeNo.{NodeNo}
+use Rattle.script_words.specs.declared.command.Command.{Command}
+use Rattle.script_words.specs.Limits.{command_limit, all_commands_limit}
+use Rattle.script_lang.specs.declared.actor_script.ActorScript.{ActorScript}
+use Rattle.script_lang.specs.Parts.{ScriptParts}
+use Rattle.script_lang.specs.Fits.{commands_of, fits_command}
+use Rattle.script_lang.specs.Block.{CanEnd, has_room}
+
+-- ---- copies of a block
+
+module _ {A : Type 0} where
+  length-repeat : (n : ℕ) (xs : List A) → length (repeat n xs) ≡ n * length xs
+  length-repeat zero xs = omega arith
+  length-repeat (suc n) xs = omega (arith, length-append xs (repeat n xs), length-repeat n xs)
+
+  list_all-repeat : (p : A → Bool) (n : ℕ) (xs : List A)
+      → list_all p xs ≡ true → list_all p (repeat n xs) ≡ true
+  list_all-repeat p zero xs h = refl
+  list_all-repeat p (suc n) xs h =
+      list_all-append p xs (repeat n xs) ∙ and_from _ _ h (list_all-repeat p n xs h)
+
+  repeat_suc : (n : ℕ) (xs : List A) → repeat (suc n) xs ≡ repeat n xs ++ xs
+  repeat_suc zero xs = append-nil xs
+  repeat_suc (suc n) xs = ap (λ rest. xs ++ rest) (repeat_suc n xs) ∙ sym (append_assoc xs (repeat n xs) xs)
+
+  -- a copy more of a block, behind the others
+  repeat_push : (n : ℕ) (xs : List A) → repeat (n + 1) xs ≡ repeat n xs ++ xs
+  repeat_push n xs = let later : n + 1 ≡ suc n = omega arith in rw later (repeat_suc n xs)
+
+  -- one copy more, behind what stood before
+  pub repeat_on : (front so_far new : List A) (n : ℕ) (xs : List A)
+      → so_far ≡ front ++ repeat n xs → new ≡ so_far ++ xs → new ≡ front ++ repeat (n + 1) xs
+  repeat_on front so_far new n xs h one =
+      one ∙ ap (λ all. all ++ xs) h ∙ append_assoc front (repeat n xs) xs
+      ∙ ap (λ copies. front ++ copies) (sym (repeat_push n xs))
+
+-- ---- commands
+
+module _ (s : ScriptParts) (commands : List Command) where
+  room_few : (more : ℕ) → has_room s commands more ≡ true
+      → (length commands + more ≤ command_limit) × (commands_of s.actors + (length commands + more) ≤ all_commands_limit)
+  room_few more h =
+      let few = length commands + more in
+      let both = and_parts (nat_le few command_limit) (nat_le (commands_of s.actors + few) all_commands_limit) h in
+      (leb-true few command_limit both.0, leb-true (commands_of s.actors + few) all_commands_limit both.1)
+
+  -- more commands than an actor can have have no room
+  pub no_room : (more : ℕ) → command_limit < more → has_room s commands more ≡ false
+  no_room more h = rw (lt-leb (length commands + more) command_limit (omega arith)) refl
+
+  module _ (node : NodeNo) where
+    so_far : List Command → ActorScript
+    so_far all = record { node = node; commands = all }
+
+    -- commands that fit, where there is room for so many
+    more_fit : (more : List Command) (n : ℕ) → length more ≡ n → CanEnd s (so_far commands)
+        → list_all (fits_command s node) more ≡ true → has_room s commands n ≡ true
+        → CanEnd s (so_far (commands ++ more))
+    unfolding so_far
+    more_fit more n long h fit room =
+        let few = room_few n room in
+        let longer : length (commands ++ more) ≡ length commands + n = length-append commands more ∙ ap (λ k. length commands + k) long in
+        record {
+          node = h.node;
+          room = h.room;
+          few = omega (arith, few.0, longer);
+          all_few = omega (arith, few.1, longer);
+          fits = list_all-append (fits_command s node) commands more ∙ and_from _ _ h.fits fit;
+        }
+
+    -- one command more
+    pub one_more : (command : Command) → CanEnd s (record { node = node; commands = commands })
+        → fits_command s node command ≡ true → has_room s commands 1 ≡ true
+        → CanEnd s (record { node = node; commands = commands ++ command ∷ [] })
+    unfolding so_far
+    one_more command h fits room =
+        more_fit (command ∷ []) 1 refl h (and_from _ _ fits refl) room
+
+    -- a repeated block written out
+    pub copies_more : (times : ℕ) (repeated : List Command)
+        → CanEnd s (record { node = node; commands = commands })
+        → list_all (fits_command s node) repeated ≡ true → has_room s commands (times * length repeated) ≡ true
+        → CanEnd s (record { node = node; commands = commands ++ repeat times repeated })
+    unfolding so_far
+    copies_more times repeated h fit room =
+        more_fit (repeat times repeated) (times * length repeated) (length-repeat times repeated) h
+        (list_all-repeat (fits_command s node) times repeated fit) room

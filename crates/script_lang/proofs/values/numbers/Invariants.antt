@@ -1,8 +1,0 @@
-use Rattle.std.proofs.Common.{◌≡◌, drop, map}
-use Rattle.script_lang.specs.Values.{numbers_of}
-use Rattle.script_lang.proofs.Words.{with_front}
-use Rattle.script_lang.proofs.values.numbers.Given as goal
-
--- the numbers so far and those of the rest are those of all
-abbrev pub invariant-loop-word : goal.invariant-loop-word
-invariant-loop-word l = with_front l.numbers (numbers_of (map (λ w. w.now) (drop l.word-index l.words))) ≡ numbers_of (map (λ w. w.now) l.words)

@@ -1,0 +1,78 @@
+-- lines of an actor's block
+use Rattle.std.specs.Prelude.{ℕ, ◌+◌, ◌*◌, ◌≡◌, ◌<◌, ◌≤◌, Bool, true, ◌&&◌, nat_le, Result, Ok, Err, List, [], ◌∷◌, ◌++◌, length, if◌then◌else◌}
+use Rattle.std.specs.List.{list_all, repeat}
+use Rattle.script_words.specs.declared.bad_kind.BadKind.{BadKind}
+use Rattle.script_words.specs.declared.bad_kind.BadKind.TheVariants.{OverLimit}
+use Rattle.script_words.specs.declared.command.Command.{Command}
+use Rattle.script_words.specs.declared.block_line.ActorLine.{ActorLine}
+use Rattle.script_words.specs.declared.block_line.ActorLine.TheVariants as actor_lines
+use Rattle.script_words.specs.declared.block_line.RepeatLine.{RepeatLine}
+use Rattle.script_words.specs.declared.block_line.RepeatLine.TheVariants as repeat_lines
+use Rattle.script_words.specs.Gives.{◌>>=◌, made}
+use Rattle.script_words.specs.Limits.{actor_limit, command_limit, all_commands_limit}
+use Rattle.script_lang.specs.declared.actor_script.ActorScript.{ActorScript}
+use Rattle.script_lang.specs.declared.reading.Place.{Place}
+use Rattle.script_lang.specs.declared.reading.Place.TheVariants.{Outside, InActor, InRepeat}
+use Rattle.script_lang.specs.declared.reading.Reading.{Reading}
+use Rattle.script_lang.specs.Parts.{ScriptParts, with_actor}
+use Rattle.script_lang.specs.Fits.{is_node, commands_of, fits_command}
+use Rattle.script_lang.specs.Resolving.{resolved}
+
+-- the actor so far can be added to the script
+pub record CanEnd (s : ScriptParts) (a : ActorScript) : Type 0 where
+  pub node : is_node s a.node ≡ true
+  pub room : length s.actors < actor_limit
+  pub few : length a.commands ≤ command_limit
+  pub all_few : commands_of s.actors + length a.commands ≤ all_commands_limit
+  pub fits : list_all (fits_command s a.node) a.commands ≡ true
+
+-- the actor of an open block can be added, and the commands of a repeated block fit it
+abbrev pub HasFit : ScriptParts → Place → Type 0
+HasFit s Outside = Unit {0}
+HasFit s (InActor a) = CanEnd s a
+HasFit s (InRepeat a times commands) = CanEnd s a × (list_all (fits_command s a.node) commands ≡ true)
+
+abbrev pub IsReading : Reading → Type 0
+IsReading r = HasFit r.script r.place
+
+-- so many commands more stay within the limits of the actor and of all
+abbrev pub has_room : ScriptParts → List Command → ℕ → Bool
+has_room s commands more =
+    nat_le (length commands + more) command_limit
+    && nat_le (commands_of s.actors + (length commands + more)) all_commands_limit
+
+-- the actor with these commands more, so many
+abbrev pub with_commands : ScriptParts → ActorScript → ℕ → List Command → Result ActorScript BadKind
+with_commands s a more commands =
+    if has_room s a.commands more then Ok (record a { commands = a.commands ++ commands })
+    else Err OverLimit
+
+-- one command more
+unfoldable pub command_added : ScriptParts → ActorScript → Command → Result ActorScript BadKind
+command_added s a command = with_commands s a 1 (command ∷ [])
+
+-- a repeated block written out
+unfoldable pub written_out : ScriptParts → ActorScript → ℕ → List Command → Result ActorScript BadKind
+written_out s a times commands = with_commands s a (times * length commands) (repeat times commands)
+
+-- the script with an actor's open block
+abbrev pub at_place : ScriptParts → List (List ℕ) → Place → Reading
+at_place s actors place = record { script = s; actors = actors; place = place }
+
+-- a line of an actor's block, outside a repeated one
+unfoldable pub in_actor : ScriptParts → List (List ℕ) → ActorScript → ActorLine → Result Reading BadKind
+in_actor s actors a (actor_lines.Command named) = do
+  command ← resolved s a.node named
+  b ← command_added s a command
+  Ok (at_place s actors (InActor b))
+in_actor s actors a (actor_lines.Repeat times) = Ok (at_place s actors (InRepeat a times []))
+in_actor s actors a actor_lines.End = Ok (at_place (with_actor s a.node a.commands) actors Outside)
+
+-- a line of a repeated block
+unfoldable pub in_repeat : ScriptParts → List (List ℕ) → ActorScript → ℕ → List Command → RepeatLine → Result Reading BadKind
+in_repeat s actors a times commands (repeat_lines.Command named) = do
+  command ← resolved s a.node named
+  Ok (at_place s actors (InRepeat a times (commands ++ command ∷ [])))
+in_repeat s actors a times commands repeat_lines.End = do
+  b ← written_out s a times commands
+  Ok (at_place s actors (InActor b))

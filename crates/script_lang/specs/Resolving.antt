@@ -1,0 +1,33 @@
+-- commands with their names looked up
+use Rattle.std.specs.Prelude.{ℕ, Result, Ok, Err, if◌then◌else◌}
+use Rattle.linx_base.specs.declared.name.Path.TheVariants as paths
+use Rattle.linx_base.specs.declared.identity.NodeNo.{NodeNo}
+use Rattle.script_words.specs.declared.bad_kind.BadKind.{BadKind}
+use Rattle.script_words.specs.declared.bad_kind.BadKind.TheVariants.{UnknownName}
+use Rattle.script_words.specs.declared.command.Command.{Command}
+use Rattle.script_words.specs.declared.command.Command.TheVariants as commands
+use Rattle.script_words.specs.declared.filling.Filling.{Filling}
+use Rattle.script_words.specs.declared.route.Route.{Route}
+use Rattle.script_words.specs.declared.route.Route.TheVariants.{Local, Over}
+use Rattle.script_words.specs.declared.named_command.NamedCommand.{NamedCommand}
+use Rattle.script_words.specs.declared.named_command.NamedCommand.TheVariants.{Plain, Hunt, Cut, Mend, Settle, Restart}
+use Rattle.script_words.specs.Gives.{◌>>=◌, made}
+use Rattle.script_lang.specs.Parts.{ScriptParts}
+use Rattle.script_lang.specs.Fits.{has_end}
+use Rattle.script_lang.specs.Naming.{node_named, link_named}
+
+-- a hunt over a link that has an end on the actor's node
+unfoldable pub hunt_resolved : ScriptParts → NodeNo → Route → ℕ → Filling → Result Command BadKind
+hunt_resolved s node (Local name) number bytes = Ok (commands.Hunt (paths.Local name) number bytes)
+hunt_resolved s node (Over link name) number bytes = do
+  l ← link_named s link
+  if has_end s l node then Ok (commands.Hunt (paths.Over l name) number bytes) else Err UnknownName
+
+-- a command of an actor on the node, with its names looked up
+unfoldable pub resolved : ScriptParts → NodeNo → NamedCommand → Result Command BadKind
+resolved s node (Plain command) = Ok command
+resolved s node (Hunt route number bytes) = hunt_resolved s node route number bytes
+resolved s node (Cut link) = made commands.Cut (link_named s link)
+resolved s node (Mend link) = made commands.Mend (link_named s link)
+resolved s node (Settle link) = made commands.Settle (link_named s link)
+resolved s node (Restart other) = made commands.Restart (node_named s other)

@@ -1,0 +1,94 @@
+//! Commands with their names looked up.
+
+ghost use Rattle.std.specs.Prelude.{◌≡◌, IfOk, IsTrue, true};
+ghost use Rattle.linx_base.specs.Content.{data_limit};
+ghost use Rattle.script_words.specs.Gives.{Gives};
+ghost use Rattle.script_words.specs.Filling.{fits_data};
+ghost use Rattle.script_words.specs.NamedCommand.{is_sized};
+ghost use Rattle.script_lang.specs.Fits.{is_link, has_end, fits_command};
+ghost use Rattle.script_lang.specs.Resolving.{hunt_resolved, resolved};
+
+use crate::naming::{UNKNOWN_NAME, link_of_name, node_of_name};
+use crate::script::Script;
+use linx_base::{LinkNo, NodeNo, Path};
+use script_words::{Command, Filling, LineError, NamedCommand, Route};
+
+/// Whether a declared link has an end on the node.
+#[tactic(auto, using(crate::proofs::Commands::has_end_at))]
+fn joins_node(script: &Script, link: LinkNo, node: NodeNo) -> bool
+    requires { IsTrue (is_link script.now link) }
+    ensures { result ≡ has_end script.now link node }
+{
+    let links = script.links();
+    let decl = &links[link.0 as usize - 1];
+    decl.first.0 == node.0 || decl.second.0 == node.0
+}
+
+#[tactic(auto, unfolding(crate::specs::Resolving::hunt_resolved))]
+fn resolve_hunt(
+    script: &Script,
+    node: NodeNo,
+    route: Route,
+    number: u32,
+    bytes: Filling,
+) -> Result<Command, LineError>
+    requires { fits_data data_limit bytes ≡ true }
+    ensures fits { IfOk result (λ c. fits_command script.now node c ≡ true) }
+    ensures gives { Gives (λ c. c) result (hunt_resolved script.now node route number bytes) }
+{
+    match route {
+        Route::Local(name) => Ok(Command::Hunt {
+            path: Path::Local(name),
+            number,
+            bytes,
+        }),
+        Route::Over { link, name } => {
+            let link = link_of_name(script, &link)?;
+            if !joins_node(script, link, node) {
+                return Err(UNKNOWN_NAME);
+            }
+            Ok(Command::Hunt {
+                path: Path::Over { link, name },
+                number,
+                bytes,
+            })
+        }
+    }
+}
+
+/// A command of an actor on the node, with its names looked up.
+#[tactic(auto, using(crate::proofs::Commands::sized_fits), unfolding(crate::specs::Resolving::resolved))]
+pub(crate) fn resolve(
+    script: &Script,
+    node: NodeNo,
+    command: NamedCommand,
+) -> Result<Command, LineError>
+    requires { is_sized command ≡ true }
+    ensures fits { IfOk result (λ c. fits_command script.now node c ≡ true) }
+    ensures gives { Gives (λ c. c) result (resolved script.now node command) }
+{
+    match command {
+        NamedCommand::Plain(command) => Ok(command),
+        NamedCommand::Hunt {
+            route,
+            number,
+            bytes,
+        } => resolve_hunt(script, node, route, number, bytes),
+        NamedCommand::Cut(link) => {
+            let link = link_of_name(script, &link)?;
+            Ok(Command::Cut(link))
+        }
+        NamedCommand::Mend(link) => {
+            let link = link_of_name(script, &link)?;
+            Ok(Command::Mend(link))
+        }
+        NamedCommand::Settle(link) => {
+            let link = link_of_name(script, &link)?;
+            Ok(Command::Settle(link))
+        }
+        NamedCommand::Restart(other) => {
+            let other = node_of_name(script, &other)?;
+            Ok(Command::Restart(other))
+        }
+    }
+}

@@ -1,0 +1,71 @@
+-- what a line outside a block declares
+use Rattle.std.specs.Prelude.{ℕ, Bool, true, ◌&&◌, nat_le, Result, Ok, Err, List, [], ◌∷◌, codes, if◌then◌else◌}
+use Rattle.std.specs.List.{list_all}
+use Rattle.std.specs.Str.{bytes_eq}
+use Rattle.script_words.specs.declared.bad_kind.BadKind.{BadKind}
+use Rattle.script_words.specs.declared.bad_kind.BadKind.TheVariants.{BadShape, UnknownWord}
+use Rattle.script_words.specs.declared.declaration.Declaration.{Declaration}
+use Rattle.script_words.specs.declared.declaration.Declaration.TheVariants.{Node, Link, Plan, Actor}
+use Rattle.script_words.specs.Gives.{◌>>=◌, made}
+use Rattle.script_words.specs.Limits.{window_limit, window_unsaid, piece_least, piece_limit, piece_unsaid}
+use Rattle.script_words.specs.Words.{alone}
+use Rattle.script_words.specs.Numbers.{is_within, within}
+use Rattle.script_words.specs.Names.{name_of, one_name_of}
+use Rattle.script_words.specs.Verdicts.{fits_verdict, side_in, verdicts_of}
+
+-- a window of 1 to 256, and a piece of 64 to 8,192
+abbrev pub has_link_size : ℕ → ℕ → Bool
+has_link_size window piece =
+    is_within 1 window_limit window && is_within piece_least piece_limit piece
+
+-- windows, pieces and exchanges are in range
+abbrev pub is_in_range : Declaration → Bool
+is_in_range (Node name) = true
+is_in_range (Link name first second window piece) = has_link_size window piece
+is_in_range (Plan link from verdicts) = list_all fits_verdict verdicts
+is_in_range (Actor name node) = true
+
+-- a number behind its word, if the word stands here, and the words behind it
+unfoldable pub option_of : List ℕ → ℕ → ℕ → ℕ → List (List ℕ) → Result (ℕ × List (List ℕ)) BadKind
+option_of keyword low high unsaid [] = Ok (unsaid, [])
+option_of keyword low high unsaid (word ∷ []) = Ok (unsaid, word ∷ [])
+option_of keyword low high unsaid (word ∷ value ∷ words) =
+    if bytes_eq word keyword then made (λ number. (number, words)) (within low high value)
+    else Ok (unsaid, word ∷ value ∷ words)
+
+-- `link NAME NODE NODE`, then perhaps `window W`, then perhaps `piece P`
+unfoldable pub link_of : List (List ℕ) → Result Declaration BadKind
+link_of (name ∷ first ∷ second ∷ words) = do
+  n ← name_of name
+  a ← name_of first
+  b ← name_of second
+  window ← option_of (codes "window") 1 window_limit window_unsaid words
+  piece ← option_of (codes "piece") piece_least piece_limit piece_unsaid window.1
+  alone piece.1 (Link n a b window.0 piece.0)
+link_of _ = Err BadShape
+
+-- `plan LINK DIR V ..V`
+unfoldable pub plan_of : List (List ℕ) → Result Declaration BadKind
+plan_of (link ∷ direction ∷ verdict ∷ verdicts) = do
+  l ← name_of link
+  from ← side_in direction
+  vs ← verdicts_of (verdict ∷ verdicts)
+  Ok (Plan l from vs)
+plan_of _ = Err BadShape
+
+-- `actor NAME NODE`
+unfoldable pub actor_of : List (List ℕ) → Result Declaration BadKind
+actor_of (name ∷ node ∷ []) = do
+  n ← name_of name
+  m ← name_of node
+  Ok (Actor n m)
+actor_of _ = Err BadShape
+
+-- the declaration of a line's first word and the words behind it
+unfoldable pub declaration_of : List ℕ → List (List ℕ) → Result Declaration BadKind
+declaration_of first words =
+    if bytes_eq first (codes "node") then made Node (one_name_of words)
+    else if bytes_eq first (codes "link") then link_of words
+    else if bytes_eq first (codes "plan") then plan_of words
+    else if bytes_eq first (codes "actor") then actor_of words
+    else Err UnknownWord

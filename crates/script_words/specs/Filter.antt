@@ -1,0 +1,34 @@
+-- words as the filter of a receive
+use Rattle.std.specs.Prelude.{ℕ, Bool, true, ◌&&◌, nat_le, Result, Ok, Err, List, [], ◌∷◌, length, codes, if◌then◌else◌}
+use Rattle.std.specs.Str.{bytes_eq}
+use Rattle.sigsel.specs.declared.sigsel.Sigsel.{Sigsel}
+use Rattle.sigsel.specs.declared.sigsel.Sigsel.TheVariants.{Any, Only, Not}
+use Rattle.script_words.specs.declared.bad_kind.BadKind.{BadKind}
+use Rattle.script_words.specs.declared.bad_kind.BadKind.TheVariants.{BadShape}
+use Rattle.script_words.specs.Gives.{◌>>=◌, made}
+use Rattle.script_words.specs.Limits.{filter_limit}
+use Rattle.script_words.specs.Words.{alone}
+use Rattle.script_words.specs.Numbers.{numbers_of}
+
+-- a filter has room for these numbers, and lists one at least
+abbrev pub lists_few : List ℕ → Bool
+lists_few numbers = nat_le 1 (length numbers) && nat_le (length numbers) filter_limit
+
+abbrev pub fits_filter : Sigsel → Bool
+fits_filter Any = true
+fits_filter (Only numbers) = lists_few numbers
+fits_filter (Not numbers) = lists_few numbers
+
+-- the numbers that a filter lists
+abbrev pub listed_of : List (List ℕ) → Result (List ℕ) BadKind
+listed_of words = do
+  numbers ← numbers_of words
+  if lists_few numbers then Ok numbers else Err BadShape
+
+-- `any`, or numbers, or `not` and numbers
+unfoldable pub filter_of : List (List ℕ) → Result Sigsel BadKind
+filter_of [] = Err BadShape
+filter_of (first ∷ words) =
+    if bytes_eq first (codes "any") then alone words Any
+    else if bytes_eq first (codes "not") then made Not (listed_of words)
+    else made Only (listed_of (first ∷ words))

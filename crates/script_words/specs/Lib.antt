@@ -1,0 +1,15 @@
+pub mod Limits
+pub mod Failures
+pub mod Gives
+pub mod Lines
+pub mod Words
+pub mod Numbers
+pub mod Names
+pub mod Target
+pub mod Route
+pub mod Filling
+pub mod Filter
+pub mod Verdicts
+pub mod Declaration
+pub mod NamedCommand
+pub mod BlockLine

@@ -1,0 +1,102 @@
+-- a command as its line says it
+use Rattle.std.specs.Prelude.{ℕ, Bool, true, false, Result, Ok, Err, List, ◌∷◌, codes, if◌then◌else◌}
+use Rattle.std.specs.Str.{bytes_eq}
+use Rattle.linx_base.specs.Content.{data_limit}
+use Rattle.script_words.specs.declared.bad_kind.BadKind.{BadKind}
+use Rattle.script_words.specs.declared.bad_kind.BadKind.TheVariants.{BadShape, UnknownWord}
+use Rattle.script_words.specs.declared.command.Command.{Command}
+use Rattle.script_words.specs.declared.command.Command.TheVariants.{Open, Close, Send, Forward, Recv, Hunt as Hunting, Attach, Detach, Keep, Cut as Cutting, Mend as Mending, Restart as Restarting, Settle as Settling}
+use Rattle.script_words.specs.declared.named_command.NamedCommand.{NamedCommand}
+use Rattle.script_words.specs.declared.named_command.NamedCommand.TheVariants.{Plain, Hunt, Cut, Mend, Restart, Settle}
+use Rattle.script_words.specs.Gives.{◌>>=◌, made}
+use Rattle.script_words.specs.Limits.{attach_data_limit, hunt_signal, attach_signal}
+use Rattle.script_words.specs.Words.{only, alone}
+use Rattle.script_words.specs.Numbers.{any_number, number_or}
+use Rattle.script_words.specs.Names.{name_of, one_name_of, kept_name_of}
+use Rattle.script_words.specs.Target.{target_of}
+use Rattle.script_words.specs.Route.{route_of}
+use Rattle.script_words.specs.Filling.{fits_data, data_in}
+use Rattle.script_words.specs.Filter.{fits_filter, filter_of}
+
+-- a command that names no link and no node, with its data and its filter in range
+abbrev pub is_sized_plain : Command → Bool
+is_sized_plain (Open name) = true
+is_sized_plain Close = true
+is_sized_plain (Send to number bytes) = fits_data data_limit bytes
+is_sized_plain (Forward to) = true
+is_sized_plain (Recv filter) = fits_filter filter
+is_sized_plain (Hunting path number bytes) = false
+is_sized_plain (Attach to r number bytes) = fits_data attach_data_limit bytes
+is_sized_plain (Detach r) = true
+is_sized_plain (Keep name) = true
+is_sized_plain (Cutting link) = false
+is_sized_plain (Mending link) = false
+is_sized_plain (Restarting node) = false
+is_sized_plain (Settling link) = false
+
+-- data and filters are in range
+abbrev pub is_sized : NamedCommand → Bool
+is_sized (Plain command) = is_sized_plain command
+is_sized (Hunt route number bytes) = fits_data data_limit bytes
+is_sized (Cut link) = true
+is_sized (Mend link) = true
+is_sized (Settle link) = true
+is_sized (Restart node) = true
+
+-- `send TO NUM`, then perhaps DATA
+unfoldable pub send_of : List (List ℕ) → Result NamedCommand BadKind
+send_of (to ∷ number ∷ words) = do
+  target ← target_of to
+  n ← any_number number
+  bytes ← data_in data_limit words
+  Ok (Plain (Send target n bytes))
+send_of _ = Err BadShape
+
+-- `hunt PATH`, then perhaps NUM, then perhaps DATA
+unfoldable pub hunt_of : List (List ℕ) → Result NamedCommand BadKind
+hunt_of (path ∷ words) = do
+  route ← route_of path
+  bytes ← data_in data_limit (number_or hunt_signal words).1
+  Ok (Hunt route (number_or hunt_signal words).0 bytes)
+hunt_of _ = Err BadShape
+
+-- `attach TO REF`, then perhaps NUM, then perhaps DATA
+unfoldable pub attach_of : List (List ℕ) → Result NamedCommand BadKind
+attach_of (to ∷ r ∷ words) = do
+  target ← target_of to
+  reference ← name_of r
+  bytes ← data_in attach_data_limit (number_or attach_signal words).1
+  Ok (Plain (Attach target reference (number_or attach_signal words).0 bytes))
+attach_of _ = Err BadShape
+
+-- `recv any`, `recv NUM ..NUM` or `recv not NUM ..NUM`
+abbrev pub recv_of : List (List ℕ) → Result NamedCommand BadKind
+recv_of words = made (λ filter. Plain (Recv filter)) (filter_of words)
+
+-- a command that concerns a link or a node
+unfoldable pub distant_of : List ℕ → List (List ℕ) → Result NamedCommand BadKind
+distant_of first words =
+    if bytes_eq first (codes "cut") then made Cut (one_name_of words)
+    else if bytes_eq first (codes "mend") then made Mend (one_name_of words)
+    else if bytes_eq first (codes "settle") then made Settle (one_name_of words)
+    else if bytes_eq first (codes "restart") then made Restart (one_name_of words)
+    else Err UnknownWord
+
+-- a command with one word or none behind it
+unfoldable pub short_of : List ℕ → List (List ℕ) → Result NamedCommand BadKind
+short_of first words =
+    if bytes_eq first (codes "open") then made (λ n. Plain (Open n)) (one_name_of words)
+    else if bytes_eq first (codes "close") then alone words (Plain Close)
+    else if bytes_eq first (codes "forward") then made (λ t. Plain (Forward t)) (only words >>= target_of)
+    else if bytes_eq first (codes "detach") then made (λ n. Plain (Detach n)) (one_name_of words)
+    else if bytes_eq first (codes "keep") then made (λ n. Plain (Keep n)) (only words >>= kept_name_of)
+    else distant_of first words
+
+-- the command of a line's first word and the words behind it
+unfoldable pub command_of : List ℕ → List (List ℕ) → Result NamedCommand BadKind
+command_of first words =
+    if bytes_eq first (codes "send") then send_of words
+    else if bytes_eq first (codes "recv") then recv_of words
+    else if bytes_eq first (codes "hunt") then hunt_of words
+    else if bytes_eq first (codes "attach") then attach_of words
+    else short_of first words

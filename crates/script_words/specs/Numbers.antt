@@ -1,0 +1,55 @@
+-- words as numbers
+use Rattle.std.specs.Prelude.{ℕ, ◌+◌, ◌-◌, ◌*◌, Bool, ◌&&◌, nat_le, Option, Some, None, Result, Ok, Err, List, [], ◌∷◌, length, fold, if◌then◌else◌}
+use Rattle.std.specs.Char.{is_ascii_digit}
+use Rattle.std.specs.List.{list_all}
+use Rattle.script_words.specs.declared.bad_kind.BadKind.{BadKind}
+use Rattle.script_words.specs.declared.bad_kind.BadKind.TheVariants.{BadShape}
+use Rattle.script_words.specs.Gives.{◌>>=◌}
+use Rattle.script_words.specs.Limits.{digit_limit, number_limit}
+
+-- the number that decimal digits spell
+abbrev pub decimal_of : List ℕ → ℕ
+decimal_of digits = fold (λ n d. n * 10 + (d - 48)) 0 digits
+
+-- a few decimal digits, whose number is in the range of all numbers
+abbrev pub is_number : List ℕ → Bool
+is_number word =
+    nat_le 1 (length word) && nat_le (length word) digit_limit && list_all is_ascii_digit word
+    && nat_le (decimal_of word) number_limit
+
+-- the number that a word spells
+unfoldable pub number_of : List ℕ → Option ℕ
+number_of word = if is_number word then Some (decimal_of word) else None
+
+-- the number is in the range
+abbrev pub is_within : ℕ → ℕ → ℕ → Bool
+is_within low high n = nat_le low n && nat_le n high
+
+abbrev pub in_range : ℕ → ℕ → Option ℕ → Result ℕ BadKind
+in_range low high None = Err BadShape
+in_range low high (Some n) = if is_within low high n then Ok n else Err BadShape
+
+-- the word as a number in a range
+abbrev pub within : ℕ → ℕ → List ℕ → Result ℕ BadKind
+within low high word = in_range low high (number_of word)
+
+-- the word as a number
+abbrev pub any_number : List ℕ → Result ℕ BadKind
+any_number word = within 0 number_limit word
+
+abbrev pub number_before : ℕ → List (List ℕ) → List (List ℕ) → Option ℕ → ℕ × List (List ℕ)
+number_before unsaid words rest (Some n) = (n, rest)
+number_before unsaid words rest None = (unsaid, words)
+
+-- a number, where the first word is one, and the words behind it
+abbrev pub number_or : ℕ → List (List ℕ) → ℕ × List (List ℕ)
+number_or unsaid [] = (unsaid, [])
+number_or unsaid (word ∷ words) = number_before unsaid (word ∷ words) words (number_of word)
+
+-- the words as numbers
+abbrev pub numbers_of : List (List ℕ) → Result (List ℕ) BadKind
+numbers_of [] = Ok []
+numbers_of (word ∷ words) = do
+  number ← any_number word
+  numbers ← numbers_of words
+  Ok (number ∷ numbers)

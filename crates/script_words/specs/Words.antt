@@ -1,0 +1,20 @@
+-- where a word is cut, and how many stand behind the first one of a line
+use Rattle.std.specs.Prelude.{ℕ, ◌+◌, ◌==◌, Option, option_map, Result, Ok, Err, List, [], ◌∷◌, take, drop, position}
+use Rattle.script_words.specs.declared.bad_kind.BadKind.{BadKind}
+use Rattle.script_words.specs.declared.bad_kind.BadKind.TheVariants.{BadShape}
+
+-- what stands before the first such byte, and what behind it
+abbrev pub cut_at : ℕ → List ℕ → Option (List ℕ × List ℕ)
+cut_at byte word =
+    option_map (λ k. (take k word, drop (k + 1) word)) (position (λ b. b == byte) word)
+
+-- the word, where it is the only one
+abbrev pub only : List (List ℕ) → Result (List ℕ) BadKind
+only [] = Err BadShape
+only (word ∷ []) = Ok word
+only (word ∷ more ∷ words) = Err BadShape
+
+-- the value, where no words follow
+abbrev pub alone : {A : Type 0} → List (List ℕ) → A → Result A BadKind
+alone [] value = Ok value
+alone (word ∷ words) value = Err BadShape

@@ -1,0 +1,110 @@
+//! The lines of a text, and the words of a line.
+
+ghost use Rattle.std.specs.Prelude.{◌≡◌, ◌+◌, ◌∷◌, ◌<◌, ◌==◌, length, map, position, IfOk};
+ghost use Rattle.std.specs.List.{list_all};
+ghost use Rattle.std.specs.Io.BufRead.{strip_last};
+ghost use Rattle.script_words.specs.Gives.{Gives};
+ghost use Rattle.script_words.specs.Lines.{lines_of, is_space, is_plain, is_comment, words_of, words_in};
+
+use crate::bad_kind::BadKind;
+use crate::line_error::LineError;
+use std::alloc::{AllocError, Global};
+
+/// The most bytes of a line, its line feed not counted.
+const LINE_MOST: usize = 4096;
+
+/// The place of the first line feed.
+fn feed_place(bytes: &[u8]) -> Option<usize>
+    ensures { result ≡ position (λ b. b == 10) bytes.now }
+{
+    bytes.iter().position(|byte| *byte == b'\n')
+}
+
+/// The first line, with its line feed where it has one, and the bytes behind it.
+#[tactic(auto, using(crate::proofs::Cuts::lines_at, crate::proofs::Cuts::lines_none))]
+pub fn first_line(bytes: &[u8]) -> (&[u8], &[u8])
+    requires { 0 < length bytes.now }
+    ensures lines { lines_of bytes.now ≡ result.0.now ∷ lines_of result.1.now }
+    ensures advances { 0 < length result.0.now }
+    ensures whole { length result.0.now + length result.1.now ≡ length bytes.now }
+{
+    match feed_place(bytes) {
+        Some(place) => bytes.split_at(place + 1),
+        None => bytes.split_at(bytes.len()),
+    }
+}
+
+/// A line without the line feed at its end.
+fn without_feed(line: &[u8]) -> &[u8]
+    ensures { result.now ≡ strip_last 10 line.now }
+{
+    match line {
+        [text @ .., b'\n'] => text,
+        _ => line,
+    }
+}
+
+/// A line without the carriage return at its end.
+fn without_return(line: &[u8]) -> &[u8]
+    ensures { result.now ≡ strip_last 13 line.now }
+{
+    match line {
+        [text @ .., b'\r'] => text,
+        _ => line,
+    }
+}
+
+fn is_plain_byte(byte: u8) -> bool
+    ensures { result ≡ is_plain byte }
+{
+    (b' ' <= byte && byte <= b'~') || byte == b'\t'
+}
+
+/// Whether all bytes are printable or tabs.
+fn are_plain(text: &[u8]) -> bool
+    ensures { result ≡ list_all is_plain text.now }
+{
+    text.iter().all(|byte| is_plain_byte(*byte))
+}
+
+fn is_blank(byte: u8) -> bool
+    ensures { result ≡ is_space byte }
+{
+    byte == b' ' || byte == b'\t'
+}
+
+fn begins_comment(word: &[u8]) -> bool
+    ensures { result ≡ is_comment word.now }
+{
+    match word {
+        [first, ..] => *first == b'#',
+        [] => false,
+    }
+}
+
+/// The words of a plain text.
+#[tactic(auto, unfolding(crate::specs::Lines::words_of))]
+fn words(alloc: Global, text: &[u8]) -> Result<Vec<&[u8]>, AllocError>
+    ensures { IfOk result (λ words. map (λ w. w.now) words.items ≡ words_of text.now) }
+{
+    text.split(|byte| is_blank(*byte))
+        .filter(|word| !word.is_empty())
+        .take_while(|word| !begins_comment(word))
+        .collect(alloc)
+}
+
+/// The words of a line, which may end with a line feed.
+#[tactic(auto, unfolding(crate::specs::Lines::words_in))]
+pub fn words_of_line(alloc: Global, line: &[u8]) -> Result<Vec<&[u8]>, LineError>
+    ensures { Gives (λ words. map (λ w. w.now) words.items) result (words_in line.now) }
+{
+    let text = without_feed(line);
+    if text.len() > LINE_MOST {
+        return Err(LineError::Bad(BadKind::LineTooLong));
+    }
+    let text = without_return(text);
+    if !are_plain(text) {
+        return Err(LineError::Bad(BadKind::BadByte));
+    }
+    Ok(words(alloc, text)?)
+}
