@@ -1,3 +1,4 @@
 pub mod Selects
 pub mod Spelling
 pub mod Selection
+pub mod Failures

@@ -17,6 +17,11 @@ pub enum SelError {
 }
 
 impl fmt::Display for SelError {
+    ghost use Rattle.std.specs.Prelude.{Some};
+    ghost use Rattle.sigsel.specs.Failures.{sel_error_text};
+
+    ghost output = { λ error. Some (sel_error_text error) };
+
     fn fmt<W: fmt::Write>(&self, f: &mut fmt::Formatter<W>) -> fmt::Result {
         f.write_str(match self {
             SelError::BadCount => "the count isn't that of the numbers",
