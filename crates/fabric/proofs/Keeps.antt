@@ -1,14 +1,12 @@
 -- What a fabric keeps through each kind of step, and that the step is legal.
-use Rattle.std.proofs.Common.{◌≡◌, ℕ, suc, ◌<◌, ◌≤◌, ◌+◌, Bool, true, false, cond, not, ◌||◌, List, [], ◌∷◌, ◌++◌, length, Option, Some, None, map, refl, sym, ◌∙◌, ap, subst, arith}
-use Rattle.std.specs.Prelude.{IsSomeAnd, IsTrue}
-use Rattle.std.specs.List.{list_any, filter, filter_map, count_by}
-use Rattle.std.specs.Option.{option_to_list, option_map}
+use Rattle.std.proofs.Common.{◌≡◌, ℕ, ◌<◌, ◌≤◌, ◌+◌, Bool, true, false, cond, not, ◌||◌, List, [], ◌∷◌, ◌++◌, length, Option, Some, None, refl, sym, ◌∙◌, ap, subst, arith}
+use Rattle.std.specs.List.{filter}
+use Rattle.std.specs.Option.{option_to_list}
 use Rattle.std.proofs.lemmas.List.Sums.{count_by-le-length}
 use Rattle.linx_base.specs.FirstMatch.{first_match}
 use Rattle.linx_base.specs.Numbers.{is_on}
 use Rattle.linx_base.specs.Peers.{same_inc}
 use Rattle.linx_base.specs.declared.identity.Inc.{Inc}
-use Rattle.linx_base.specs.declared.identity.NodeNo.{NodeNo}
 use Rattle.linx_base.specs.declared.identity.Peer.{Peer}
 use Rattle.linx_base.specs.declared.identity.Peer.TheVariants.{Here, There}
 use Rattle.linx_base.specs.declared.signal.SigNote.{SigNote}
@@ -16,24 +14,23 @@ use Rattle.sigsel.specs.declared.sigsel.Sigsel.{Sigsel}
 use Rattle.journal.specs.declared.by.By.{By}
 use Rattle.journal.specs.declared.by.By.TheVariants.{Actor, Pump}
 use Rattle.journal.specs.declared.head.Head.{Head}
-use Rattle.journal.specs.declared.head.Head.TheVariants.{Open, Close, Send, Take, TakeNone, Ended}
-use Rattle.journal.specs.declared.effect.Effect.TheVariants.{Opened, Closed, Arrived, Found, Notified}
+use Rattle.journal.specs.declared.head.Head.TheVariants.{Open, Send, Take, TakeNone}
+use Rattle.journal.specs.declared.effect.Effect.TheVariants.{Opened, Closed}
 use Rattle.journal.specs.declared.head.SentTo.TheVariants.{Dead}
 use Rattle.journal.specs.declared.effect.Step.{Step}
-use Rattle.journal.specs.History.{is_by, opened_in, closes, endpoint_of, endpoint_by, openings, open_endpoints, next_inc, has_ended}
+use Rattle.journal.specs.History.{endpoint_of, openings, open_endpoints}
 use Rattle.journal.specs.Sessions.{is_alive}
-use Rattle.journal.specs.Queues.{Entry, removes, queued, is_selected, first_selected}
-use Rattle.journal.specs.Laws.{Shape, IsMaker, IsLegal, IsLegalStep, IsAtRest, HasEffects, KeepsSends, KeepsReceives, node_by, answer_to, arrivals_of}
-use Rattle.journal.proofs.Openings.{length-openings, same_inc-refl, same_inc-true, next_inc-not_closed, open_endpoints-open, next_inc-is_on, open_endpoints-close, open_endpoints-same, endpoint_of-open, endpoint_of-close, endpoint_of-same}
+use Rattle.journal.specs.Queues.{queued}
+use Rattle.journal.proofs.Queueing.{TakesNone}
+use Rattle.journal.specs.Laws.{Shape, IsMaker, IsLegalStep, IsAtRest, HasEffects, KeepsSends, KeepsReceives, node_by}
+use Rattle.journal.proofs.Openings.{length-openings, same_inc-refl, same_inc-true, next_on, next_on-not_closed, open_endpoints-open, next_on-is_on, open_endpoints-close, open_endpoints-same, OpensNone, endpoint_of-open, endpoint_of-close, endpoint_of-same}
 use Rattle.linx_base.specs.declared.item.Item.{Item}
-use Rattle.sigsel.specs.Selection.{is_selected as selects_item, first_selected as item_first, without_first}
-use Rattle.linx_base.specs.declared.identity.ItemAt.{ItemAt}
-use Rattle.journal.specs.declared.effect.Effect.{Effect}
-use Rattle.node_kernel.specs.Nodes.{OpenEndpoint, NodeState, is_at, items_of, is_open, is_living, items_at, with_items, without_endpoint, following_inc}
-use Rattle.node_kernel.specs.Calls.{after_open, after_send}
-use Rattle.fabric.specs.Remains.{item_of, node_left, only_node, IsOneActor, IsKept}
+use Rattle.sigsel.specs.Selection.{is_selected, first_selected, without_first}
+use Rattle.node_kernel.specs.Nodes.{OpenEndpoint, NodeState, is_at, items_of, is_open, is_living, items_at, with_items, without_endpoint, next_of}
+use Rattle.node_kernel.specs.Calls.{after_open, after_send, plain_item}
+use Rattle.fabric.specs.Remains.{node_left, only_node, IsOneActor, IsKept}
 use Rattle.fabric.specs.Events.{sent_step, take_head, take_answer, IsAnswerOf}
-use Rattle.fabric.proofs.Leavings.{node_left-quiet, node_left-open, node_left-close, node_left-arrival, node_left-take, living_left, first_alike}
+use Rattle.fabric.proofs.Leavings.{node_left-quiet, node_left-open, node_left-close, node_left-arrival, node_left-take, opens_none-from, living_left}
 
 -- a maker in a fabric of one actor is that actor
 pub maker_is_first : (shape : Shape) (P : List Step) (by : By) → IsOneActor shape → IsMaker shape P by → by ≡ Actor 1
@@ -53,13 +50,13 @@ abbrev pub Keeps : Shape → List Step → NodeState → Option Inc → Step →
 Keeps shape P kernel endpoint s = IsLegalStep shape P s × IsKept shape (s ∷ P) kernel endpoint
 
 -- an opening
-pub keeps_open : (shape : Shape) (P : List Step) (kernel : NodeState) (name : List ℕ) → IsKept shape P kernel None → IsMaker shape P (Actor 1) → length P < 4294967295 → Keeps shape P (after_open kernel name) (Some (following_inc kernel)) (record { by = Actor 1; head = Open name; effects = Opened (following_inc kernel) ∷ [] })
+pub keeps_open : (shape : Shape) (P : List Step) (kernel : NodeState) (name : List ℕ) → IsKept shape P kernel None → IsMaker shape P (Actor 1) → length P < 4294967295 → Keeps shape P (after_open kernel name) (Some (next_of kernel)) (record { by = Actor 1; head = Open name; effects = Opened (next_of kernel) ∷ [] })
 keeps_open shape P kernel name kept maker short =
-    let State : NodeState → Type 0 = λ k. Keeps shape P (after_open k name) (Some (following_inc k)) (record { by = Actor 1; head = Open name; effects = Opened (following_inc k) ∷ [] }) in
+    let State : NodeState → Type 0 = λ k. Keeps shape P (after_open k name) (Some (next_of k)) (record { by = Actor 1; head = Open name; effects = Opened (next_of k) ∷ [] }) in
     subst State (sym kept.kernel_left) (step, keeps)
   where
     i : Inc
-    i = next_inc P 1
+    i = next_on P 1
 
     s : Step
     s = record { by = Actor 1; head = Open name; effects = Opened i ∷ [] }
@@ -69,7 +66,7 @@ keeps_open shape P kernel name kept maker short =
 
     step : IsLegalStep shape P s
     step = record {
-      makers = maker;
+      makers = record { maker = maker; may = refl };
       effects = rw (node_of_first shape kept.one_actor, none) refl;
       sends = tt;
       receives = rw none tt;
@@ -79,7 +76,7 @@ keeps_open shape P kernel name kept maker short =
     nothing_open = kept.alone ∙ ap option_to_list none
 
     new : endpoint_of (s ∷ P) 1 ≡ Some i
-    new = endpoint_of-open P s 1 i refl refl (next_inc-not_closed shape P kept.legal short 1)
+    new = endpoint_of-open P s 1 i refl refl (next_on-not_closed shape P kept.legal short 1)
 
     keeps : IsKept shape (s ∷ P) (after_open (node_left P only_node) name) (Some i)
     keeps = record {
@@ -87,7 +84,7 @@ keeps_open shape P kernel name kept maker short =
       legal = (kept.legal, step);
       kernel_left = sym (node_left-open shape P s name kept.legal short nothing_open refl refl);
       endpoint_known = sym new;
-      alone = open_endpoints-open P s 1 i refl (next_inc-is_on shape P kept.legal short 1) (next_inc-not_closed shape P kept.legal short 1) ∙ ap (λ l. l ++ i ∷ []) nothing_open ∙ sym (ap option_to_list new);
+      alone = open_endpoints-open P s 1 i refl (next_on-is_on shape P kept.legal short 1) (next_on-not_closed shape P kept.legal short 1) ∙ ap (λ l. l ++ i ∷ []) nothing_open ∙ sym (ap option_to_list new);
     }
 
 -- the closing of the actor's endpoint, by a head that closes it
@@ -104,7 +101,7 @@ keeps_close shape P kernel j head kept maker has_effects sends receives =
 
     step : IsLegalStep shape P s
     step = record {
-      makers = maker;
+      makers = record { maker = maker; may = refl };
       effects = rw (node_of_first shape kept.one_actor, mine) has_effects;
       sends = rw (node_of_first shape kept.one_actor) sends;
       receives = rw mine receives;
@@ -129,29 +126,29 @@ keeps_close shape P kernel j head kept maker has_effects sends receives =
     }
 
 -- a legal step that neither opens nor closes keeps who is open
-keeps_same : (shape : Shape) (P : List Step) (kernel now : NodeState) (endpoint : Option Inc) (s : Step) → IsKept shape P kernel endpoint → IsLegalStep shape P s → filter_map opened_in s.effects ≡ [] → ((i : Inc) → list_any (closes i) s.effects ≡ false) → now ≡ node_left (s ∷ P) only_node → IsKept shape (s ∷ P) now endpoint
-keeps_same shape P kernel now endpoint s kept step none_opened none_closed is =
-    let same : endpoint_of (s ∷ P) 1 ≡ endpoint_of P 1 = endpoint_of-same P s 1 none_opened none_closed in
+keeps_same : (shape : Shape) (P : List Step) (kernel now : NodeState) (endpoint : Option Inc) (s : Step) → IsKept shape P kernel endpoint → IsLegalStep shape P s → OpensNone s → now ≡ node_left (s ∷ P) only_node → IsKept shape (s ∷ P) now endpoint
+keeps_same shape P kernel now endpoint s kept step quiet is =
+    let same : endpoint_of (s ∷ P) 1 ≡ endpoint_of P 1 = endpoint_of-same P s 1 quiet in
     record {
       one_actor = kept.one_actor;
       legal = (kept.legal, step);
       kernel_left = is;
       endpoint_known = kept.endpoint_known ∙ sym same;
-      alone = open_endpoints-same P s 1 none_opened none_closed ∙ kept.alone ∙ sym (ap option_to_list same);
+      alone = open_endpoints-same P s 1 quiet ∙ kept.alone ∙ sym (ap option_to_list same);
     }
 
 -- a step without effects that takes nothing out
-pub keeps_quiet : (shape : Shape) (P : List Step) (kernel : NodeState) (endpoint : Option Inc) (head : Head) → IsKept shape P kernel endpoint → IsMaker shape P (Actor 1) → ((e : Entry) → removes e head ≡ false) → HasEffects P 1 endpoint head [] → KeepsSends P 1 head → KeepsReceives shape P (Actor 1) endpoint head → Keeps shape P kernel endpoint (record { by = Actor 1; head = head; effects = [] })
+pub keeps_quiet : (shape : Shape) (P : List Step) (kernel : NodeState) (endpoint : Option Inc) (head : Head) → IsKept shape P kernel endpoint → IsMaker shape P (Actor 1) → TakesNone head → HasEffects P 1 endpoint head [] → KeepsSends P 1 head → KeepsReceives shape P (Actor 1) endpoint head → Keeps shape P kernel endpoint (record { by = Actor 1; head = head; effects = [] })
 keeps_quiet shape P kernel endpoint head kept maker keeps has_effects sends receives =
     let s : Step = record { by = Actor 1; head = head; effects = [] } in
     let known : endpoint_of P 1 ≡ endpoint = sym kept.endpoint_known in
     let step : IsLegalStep shape P s = record {
-      makers = maker;
+      makers = record { maker = maker; may = refl };
       effects = rw (node_of_first shape kept.one_actor, known) has_effects;
       sends = rw (node_of_first shape kept.one_actor) sends;
       receives = rw known receives;
     } in
-    (step, keeps_same shape P kernel kernel endpoint s kept step refl (λ i. refl) (kept.kernel_left ∙ sym (node_left-quiet P s only_node refl keeps)))
+    (step, keeps_same shape P kernel kernel endpoint s kept step (opens_none-from s [] refl refl (λ i. refl)) (kept.kernel_left ∙ sym (node_left-quiet P s only_node refl keeps)))
 
 -- the one actor is at rest whatever it did
 pub first_at_rest : (shape : Shape) (P : List Step) → IsOneActor shape → IsAtRest shape P 1
@@ -161,7 +158,7 @@ first_at_rest shape P one = record {
 }
 
 -- a kernel that is what the history leaves holds the items of the actor's queue
-pub items_left : (shape : Shape) (P : List Step) (kernel : NodeState) (j : Inc) → IsKept shape P kernel (Some j) → items_at kernel.endpoints j ≡ map item_of (queued P j)
+pub items_left : (shape : Shape) (P : List Step) (kernel : NodeState) (j : Inc) → IsKept shape P kernel (Some j) → items_at kernel.endpoints j ≡ queued P j
 items_left shape P kernel j kept =
     let alone : open_endpoints P 1 ≡ j ∷ [] = kept.alone ∙ ap option_to_list (sym kept.endpoint_known) in
     rw (kept.kernel_left, alone) (rw (same_inc-refl j) refl)
@@ -192,89 +189,59 @@ put_back (e ∷ es) j =
     ]
 
 -- a filter that selects nothing takes nothing out
-pub without_none : (filter : Sigsel) (items : List Item) → item_first filter items ≡ None → without_first filter items ≡ items
+pub without_none : (filter : Sigsel) (items : List Item) → first_selected filter items ≡ None → without_first filter items ≡ items
 without_none filter [] none = refl
 without_none filter (x ∷ xs) none =
-    let go : (b : Bool) → cond b (Some x) (item_first filter xs) ≡ None → cond b xs (x ∷ without_first filter xs) ≡ x ∷ xs = λ b.
-    elim b as (λ c. cond c (Some x) (item_first filter xs) ≡ None → cond c xs (x ∷ without_first filter xs) ≡ x ∷ xs) [
+    let go : (b : Bool) → cond b (Some x) (first_selected filter xs) ≡ None → cond b xs (x ∷ without_first filter xs) ≡ x ∷ xs = λ b.
+    elim b as (λ c. cond c (Some x) (first_selected filter xs) ≡ None → cond c xs (x ∷ without_first filter xs) ≡ x ∷ xs) [
       | true ↦ λ e. cc
       | false ↦ λ e. ap (λ l. x ∷ l) (without_none filter xs e)
     ]
     in
-    go (selects_item filter x) none
+    go (is_selected filter x) none
 
 -- what is left of a kernel after a receive at an endpoint
 abbrev pub after_take : NodeState → Inc → Sigsel → NodeState
 after_take kernel j filter = record kernel { endpoints = with_items kernel.endpoints j (without_first filter (items_at kernel.endpoints j)) }
 
-after_take-none : (kernel : NodeState) (j : Inc) (filter : Sigsel) → item_first filter (items_at kernel.endpoints j) ≡ None → after_take kernel j filter ≡ kernel
+after_take-none : (kernel : NodeState) (j : Inc) (filter : Sigsel) → first_selected filter (items_at kernel.endpoints j) ≡ None → after_take kernel j filter ≡ kernel
 after_take-none kernel j filter none =
     let same : with_items kernel.endpoints j (without_first filter (items_at kernel.endpoints j)) ≡ kernel.endpoints = ap (with_items kernel.endpoints j) (without_none filter (items_at kernel.endpoints j) none) ∙ put_back kernel.endpoints j in
     ap (λ (es : List OpenEndpoint). let k : NodeState = record kernel { endpoints = es } in k) same
 
 -- a receive that finds none
-keeps_take_none : (shape : Shape) (P : List Step) (kernel : NodeState) (j : Inc) (filter : Sigsel) → IsKept shape P kernel (Some j) → IsMaker shape P (Actor 1) → first_selected filter (queued P j) ≡ None → item_first filter (items_at kernel.endpoints j) ≡ None → Keeps shape P (after_take kernel j filter) (Some j) (record { by = Actor 1; head = TakeNone filter; effects = [] })
-keeps_take_none shape P kernel j filter kept maker none item_none =
+keeps_take_none : (shape : Shape) (P : List Step) (kernel : NodeState) (j : Inc) (filter : Sigsel) → IsKept shape P kernel (Some j) → IsMaker shape P (Actor 1) → first_selected filter (items_at kernel.endpoints j) ≡ None → Keeps shape P (after_take kernel j filter) (Some j) (record { by = Actor 1; head = TakeNone filter; effects = [] })
+keeps_take_none shape P kernel j filter kept maker none =
     let Kernel : NodeState → Type 0 = λ k. Keeps shape P k (Some j) (record { by = Actor 1; head = TakeNone filter; effects = [] }) in
-    subst Kernel (sym (after_take-none kernel j filter item_none)) (keeps_quiet shape P kernel (Some j) (TakeNone filter) kept maker (λ e. refl) refl tt (none, first_at_rest shape P kept.one_actor))
+    let queue : first_selected filter (queued P j) ≡ None = ap (first_selected filter) (sym (items_left shape P kernel j kept)) ∙ none in
+    subst Kernel (sym (after_take-none kernel j filter none)) (keeps_quiet shape P kernel (Some j) (TakeNone filter) kept maker (λ x. refl) refl tt (queue, first_at_rest shape P kept.one_actor))
 
 -- a receive that takes the earliest selected item
-keeps_take_some : (shape : Shape) (P : List Step) (kernel : NodeState) (j : Inc) (filter : Sigsel) (e : Entry) → IsKept shape P kernel (Some j) → IsMaker shape P (Actor 1) → first_selected filter (queued P j) ≡ Some e → Keeps shape P (after_take kernel j filter) (Some j) (record { by = Actor 1; head = Take filter e.at; effects = [] })
+keeps_take_some : (shape : Shape) (P : List Step) (kernel : NodeState) (j : Inc) (filter : Sigsel) (e : Item) → IsKept shape P kernel (Some j) → IsMaker shape P (Actor 1) → first_selected filter (items_at kernel.endpoints j) ≡ Some e → Keeps shape P (after_take kernel j filter) (Some j) (record { by = Actor 1; head = Take filter e.pos; effects = [] })
 keeps_take_some shape P kernel j filter e kept maker some =
-    let s : Step = record { by = Actor 1; head = Take filter e.at; effects = [] } in
+    let s : Step = record { by = Actor 1; head = Take filter e.pos; effects = [] } in
     let mine : endpoint_of P 1 ≡ Some j = sym kept.endpoint_known in
     let alone : open_endpoints P 1 ≡ j ∷ [] = kept.alone ∙ ap option_to_list mine in
+    let queue : first_selected filter (queued P j) ≡ Some e = ap (first_selected filter) (sym (items_left shape P kernel j kept)) ∙ some in
     let step : IsLegalStep shape P s = record {
-      makers = maker;
+      makers = record { maker = maker; may = refl };
       effects = rw mine refl;
       sends = tt;
-      receives = rw mine (rw some refl);
+      receives = rw mine (rw queue refl);
     } in
     let State : NodeState → Type 0 = λ k. Keeps shape P (after_take k j filter) (Some j) s in
     subst State (sym kept.kernel_left)
-    (step, keeps_same shape P kernel (after_take (node_left P only_node) j filter) (Some j) s kept step refl (λ i. refl) (sym (node_left-take P s j filter e alone refl refl some)))
-
--- the position of the item that an entry is
-position_of_item : (e : Entry) → (item_of e).pos ≡ e.at
-position_of_item e = of e.at e.effect
-  where
-    of : (at : ItemAt) (effect : Effect) → (item_of (record { at = at; effect = effect })).pos ≡ at
-    of at (Arrived i from note) = refl
-    of at (Found i from note number) = refl
-    of at (Notified i from note reference reason) = refl
-    of at _ = refl
+    (step, keeps_same shape P kernel (after_take (node_left P only_node) j filter) (Some j) s kept step (opens_none-from s [] refl refl (λ i. refl)) (sym (node_left-take P s j filter e alone mine refl refl queue)))
 
 -- a receive: the first selected item is taken, or there is none
-pub keeps_take : (shape : Shape) (P : List Step) (kernel : NodeState) (j : Inc) (filter : Sigsel) (took : Option Item) → IsKept shape P kernel (Some j) → IsMaker shape P (Actor 1) → took ≡ item_first filter (items_at kernel.endpoints j) → Keeps shape P (after_take kernel j filter) (Some j) (record { by = Actor 1; head = take_head filter took; effects = [] })
-keeps_take shape P kernel j filter took kept maker is =
-    let alike : item_first filter (items_at kernel.endpoints j) ≡ option_map item_of (first_selected filter (queued P j)) = ap (item_first filter) (items_left shape P kernel j kept) ∙ first_alike filter (queued P j) in
-    by_first (first_selected filter (queued P j)) refl alike
-  where
-    Taken : Option Item → Type 0
-    Taken t = Keeps shape P (after_take kernel j filter) (Some j) (record { by = Actor 1; head = take_head filter t; effects = [] })
+pub keeps_take : (shape : Shape) (P : List Step) (kernel : NodeState) (j : Inc) (filter : Sigsel) (took : Option Item) → IsKept shape P kernel (Some j) → IsMaker shape P (Actor 1) → took ≡ first_selected filter (items_at kernel.endpoints j) → Keeps shape P (after_take kernel j filter) (Some j) (record { by = Actor 1; head = take_head filter took; effects = [] })
+keeps_take shape P kernel j filter None kept maker is = keeps_take_none shape P kernel j filter kept maker (sym is)
+keeps_take shape P kernel j filter (Some e) kept maker is = keeps_take_some shape P kernel j filter e kept maker (sym is)
 
-    by_first : (first : Option Entry) → first_selected filter (queued P j) ≡ first → item_first filter (items_at kernel.endpoints j) ≡ option_map item_of (first_selected filter (queued P j)) → Taken took
-    by_first None none alike =
-        let nothing : item_first filter (items_at kernel.endpoints j) ≡ None = alike ∙ ap (option_map item_of) none in
-        subst Taken (sym (is ∙ nothing)) (keeps_take_none shape P kernel j filter kept maker none nothing)
-    by_first (Some e) some alike =
-        let one : took ≡ Some (item_of e) = is ∙ alike ∙ ap (option_map item_of) some in
-        let At : ItemAt → Type 0 = λ p. Keeps shape P (after_take kernel j filter) (Some j) (record { by = Actor 1; head = Take filter p; effects = [] }) in
-        subst Taken (sym one) (subst At (sym (position_of_item e)) (keeps_take_some shape P kernel j filter e kept maker some))
-
--- the answer of a receive is the item that stands at the named position
-pub taken_answer : (shape : Shape) (P : List Step) (kernel : NodeState) (j : Inc) (filter : Sigsel) (took : Option Item) → IsKept shape P kernel (Some j) → took ≡ item_first filter (items_at kernel.endpoints j) → IsAnswerOf P (Some j) (take_head filter took) [] (take_answer took)
-taken_answer shape P kernel j filter took kept is =
-    let alike : took ≡ option_map item_of (first_selected filter (queued P j)) = is ∙ ap (item_first filter) (items_left shape P kernel j kept) ∙ first_alike filter (queued P j) in
-    by_item took alike
-  where
-    found : (item : Item) (first : Option Entry) → Some item ≡ option_map item_of first → IsSomeAnd first (λ e. item ≡ item_of e)
-    found item None is = cc
-    found item (Some e) is = cc
-
-    by_item : (t : Option Item) → t ≡ option_map item_of (first_selected filter (queued P j)) → IsAnswerOf P (Some j) (take_head filter t) [] (take_answer t)
-    by_item None is = tt
-    by_item (Some item) is = found item (first_selected filter (queued P j)) is
+-- the answer of a receive is the item that was first
+pub taken_answer : (shape : Shape) (P : List Step) (kernel : NodeState) (j : Inc) (filter : Sigsel) (took : Option Item) → IsKept shape P kernel (Some j) → took ≡ first_selected filter (items_at kernel.endpoints j) → IsAnswerOf P (Some j) (take_head filter took) [] (take_answer took)
+taken_answer shape P kernel j filter None kept is = tt
+taken_answer shape P kernel j filter (Some item) kept is = ap (first_selected filter) (sym (items_left shape P kernel j kept)) ∙ sym is
 
 -- a send
 pub keeps_send : (shape : Shape) (P : List Step) (kernel : NodeState) (j : Inc) (to : Peer) (signal : SigNote) → IsKept shape P kernel (Some j) → IsMaker shape P (Actor 1) → Keeps shape P (record kernel { endpoints = after_send kernel.endpoints j to signal (length P + 1) }) (Some j) (sent_step (Actor 1) j to signal (is_living kernel.endpoints to))
@@ -299,7 +266,7 @@ keeps_send shape P kernel j to signal kept maker =
 
     step_of : (q : Peer) → IsLegalStep shape P (sent_step (Actor 1) j q signal (is_living left.endpoints q))
     step_of q = record {
-      makers = maker;
+      makers = record { maker = maker; may = refl };
       effects = rw (node_of_first shape kept.one_actor, mine, alive q) refl;
       sends = rw (node_of_first shape kept.one_actor, alive q) refl;
       receives = rw mine tt;
@@ -314,7 +281,7 @@ keeps_send shape P kernel j to signal kept maker =
     dead : (q : Peer) → is_living left.endpoints q ≡ false → after_send left.endpoints j q signal (length P + 1) ≡ left.endpoints → Sends q (is_living left.endpoints q)
     dead q not_living unchanged =
         let not_alive : is_alive P 1 q ≡ false = alive q ∙ not_living in
-        let quiet : Keeps shape P left (Some j) (sent_step (Actor 1) j q signal false) = keeps_quiet shape P left (Some j) (Send q signal Dead) known maker (λ e. refl) (rw not_alive refl) (rw not_alive refl) tt in
+        let quiet : Keeps shape P left (Some j) (sent_step (Actor 1) j q signal false) = keeps_quiet shape P left (Some j) (Send q signal Dead) known maker (λ x. refl) (rw not_alive refl) (rw not_alive refl) tt in
         let Left : List OpenEndpoint → Type 0 = λ es. Keeps shape P (record left { endpoints = es }) (Some j) (sent_step (Actor 1) j q signal false) in
         subst (Sends q) (sym not_living) (subst Left (sym unchanged) quiet)
 
@@ -326,7 +293,8 @@ keeps_send shape P kernel j to signal kept maker =
         let s : Step = sent_step (Actor 1) j (Here j) signal true in
         let living : is_living left.endpoints (Here j) ≡ true = living_is j ∙ same_inc-refl j in
         let step : IsLegalStep shape P s = subst (λ (b : Bool). IsLegalStep shape P (sent_step (Actor 1) j (Here j) signal b)) living (step_of (Here j)) in
-        (step, keeps_same shape P left (After (Here j)) (Some j) s known step refl (λ i. refl) (sym (node_left-arrival shape P s j signal kept.legal alone (λ e. refl) refl)))
+        let arrived : node_left (s ∷ P) only_node ≡ After (Here j) = node_left-arrival P s j signal alone (λ x. refl) refl ∙ ap (λ (b : Bool). let k : NodeState = record left { endpoints = cond b (with_items left.endpoints j (items_at left.endpoints j ++ plain_item signal j (length P + 1) ∷ [])) left.endpoints } in k) (sym living) in
+        (step, keeps_same shape P left (After (Here j)) (Some j) s known step (opens_none-from s _ refl refl (λ i. refl)) (sym arrived))
 
     to_here : (i : Inc) (b : Bool) → same_inc i j ≡ b → Sends (Here i) (is_living left.endpoints (Here i))
     to_here i true same =

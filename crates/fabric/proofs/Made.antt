@@ -1,6 +1,5 @@
 -- Each kind of step as the fabric's methods make it: what is kept, and what was made.
-use Rattle.std.proofs.Common.{◌≡◌, ℕ, ◌<◌, ◌+◌, List, [], ◌∷◌, length, Option, Some, None, refl, sym, ◌∙◌, ap, subst, arith, true}
-use Rattle.std.specs.Prelude.{IsSome}
+use Rattle.std.proofs.Common.{◌≡◌, ℕ, ◌<◌, ◌+◌, List, [], ◌∷◌, length, Option, Some, None, refl, sym, ◌∙◌, ap, subst, arith}
 use Rattle.linx_base.specs.declared.identity.Inc.{Inc}
 use Rattle.linx_base.specs.declared.identity.Peer.{Peer}
 use Rattle.linx_base.specs.declared.signal.SigNote.{SigNote}
@@ -13,15 +12,15 @@ use Rattle.journal.specs.declared.head.Head.TheVariants as heads
 use Rattle.journal.specs.declared.effect.Effect.TheVariants.{Opened, Closed}
 use Rattle.journal.specs.declared.effect.Step.{Step}
 use Rattle.journal.specs.History.{endpoint_of, endpoint_by}
-use Rattle.journal.specs.Laws.{Shape, IsMaker, IsLegalStep, answer_to}
+use Rattle.journal.specs.Laws.{Shape, IsMaker, send_answer}
 use Rattle.linx_base.specs.declared.item.Item.{Item}
-use Rattle.sigsel.specs.Selection.{first_selected as item_first}
-use Rattle.node_kernel.specs.Nodes.{NodeState, is_living, items_at, without_endpoint, following_inc}
+use Rattle.sigsel.specs.Selection.{first_selected}
+use Rattle.node_kernel.specs.Nodes.{NodeState, is_living, items_at, without_endpoint, next_of}
 use Rattle.node_kernel.specs.Calls.{after_open, after_send}
 use Rattle.node_kernel.specs.declared.answers.StepAnswer.{StepAnswer}
 use Rattle.node_kernel.specs.declared.answers.StepAnswer.TheVariants as answers
-use Rattle.fabric.specs.Remains.{IsOneActor, IsKept}
-use Rattle.fabric.specs.Events.{IsHeadOf, IsAnswerOf, IsMade, Makes, sent_step, take_head, take_answer}
+use Rattle.fabric.specs.Remains.{IsKept}
+use Rattle.fabric.specs.Events.{IsHeadOf, IsAnswerOf, Makes, sent_step, take_head, take_answer}
 use Rattle.fabric.proofs.Keeps.{Keeps, maker_is_first, keeps_open, keeps_close, keeps_quiet, keeps_take, keeps_send, taken_answer, after_take}
 
 -- what a method has to show: what is kept afterwards, and that one step was made
@@ -40,13 +39,13 @@ own shape P kernel endpoint by kept maker = kept.endpoint_known ∙ sym (ap (end
 pub endpoint_is : (shape : Shape) (P : List Step) (kernel : NodeState) (endpoint : Option Inc) (by : By) → IsKept shape P kernel endpoint → IsMaker shape P by → endpoint_by P by ≡ endpoint
 endpoint_is shape P kernel endpoint by kept maker = sym (own shape P kernel endpoint by kept maker)
 
-pub made_open : (shape : Shape) (P : List Step) (kernel : NodeState) (endpoint : Option Inc) (by : By) (name : List ℕ) → IsKept shape P kernel endpoint → IsMaker shape P by → endpoint_by P by ≡ None → length P < 200000 → (now : NodeState) (new : List Step) → now ≡ after_open kernel name → new ≡ record { by = by; head = heads.Open name; effects = Opened (following_inc kernel) ∷ [] } ∷ P → Done shape P by (asks.Open name) None (answers.Opened (following_inc kernel)) now (Some (following_inc kernel)) new
+pub made_open : (shape : Shape) (P : List Step) (kernel : NodeState) (endpoint : Option Inc) (by : By) (name : List ℕ) → IsKept shape P kernel endpoint → IsMaker shape P by → endpoint_by P by ≡ None → length P < 200000 → (now : NodeState) (new : List Step) → now ≡ after_open kernel name → new ≡ record { by = by; head = heads.Open name; effects = Opened (next_of kernel) ∷ [] } ∷ P → Done shape P by (asks.Open name) None (answers.Opened (next_of kernel)) now (Some (next_of kernel)) new
 made_open shape P kernel endpoint by name kept maker asked short now new is_now is_new =
     let first : by ≡ Actor 1 = maker_is_first shape P by kept.one_actor maker in
     let nothing : endpoint ≡ None = own shape P kernel endpoint by kept maker ∙ asked in
     let bare : IsKept shape P kernel None = subst (IsKept shape P kernel) nothing kept in
-    let made_it : Done shape P (Actor 1) (asks.Open name) None (answers.Opened (following_inc kernel)) (after_open kernel name) (Some (following_inc kernel)) (record { by = Actor 1; head = heads.Open name; effects = Opened (following_inc kernel) ∷ [] } ∷ P) =
-    made shape P (asks.Open name) None _ _ _ (record { by = Actor 1; head = heads.Open name; effects = Opened (following_inc kernel) ∷ [] }) refl (keeps_open shape P kernel name bare (subst (IsMaker shape P) first maker) (omega arith)) refl refl
+    let made_it : Done shape P (Actor 1) (asks.Open name) None (answers.Opened (next_of kernel)) (after_open kernel name) (Some (next_of kernel)) (record { by = Actor 1; head = heads.Open name; effects = Opened (next_of kernel) ∷ [] } ∷ P) =
+    made shape P (asks.Open name) None _ _ _ (record { by = Actor 1; head = heads.Open name; effects = Opened (next_of kernel) ∷ [] }) refl (keeps_open shape P kernel name bare (subst (IsMaker shape P) first maker) (omega arith)) refl refl
     in
     rw (is_now, is_new, first) made_it
 
@@ -73,11 +72,11 @@ made_end_closed shape P kernel endpoint by kept maker nothing new is_new =
     let first : by ≡ Actor 1 = maker_is_first shape P by kept.one_actor maker in
     let bare : IsKept shape P kernel None = subst (IsKept shape P kernel) nothing kept in
     let made_it : Done shape P (Actor 1) asks.End None answers.Done kernel None (record { by = Actor 1; head = heads.Ended; effects = [] } ∷ P) =
-    made shape P asks.End None _ _ _ (record { by = Actor 1; head = heads.Ended; effects = [] }) refl (keeps_quiet shape P kernel None heads.Ended bare (subst (IsMaker shape P) first maker) (λ e. refl) refl tt tt) tt tt
+    made shape P asks.End None _ _ _ (record { by = Actor 1; head = heads.Ended; effects = [] }) refl (keeps_quiet shape P kernel None heads.Ended bare (subst (IsMaker shape P) first maker) (λ x. refl) refl tt tt) tt tt
     in
     rw (is_new, first, nothing) made_it
 
-pub made_look : (shape : Shape) (P : List Step) (kernel : NodeState) (endpoint : Option Inc) (by : By) (j : Inc) (filter : Sigsel) (took : Option Item) → IsKept shape P kernel endpoint → IsMaker shape P by → endpoint ≡ Some j → took ≡ item_first filter (items_at kernel.endpoints j) → (now : NodeState) (new : List Step) → now ≡ after_take kernel j filter → new ≡ record { by = by; head = take_head filter took; effects = [] } ∷ P → Done shape P by (asks.Look filter) None (take_answer took) now endpoint new
+pub made_look : (shape : Shape) (P : List Step) (kernel : NodeState) (endpoint : Option Inc) (by : By) (j : Inc) (filter : Sigsel) (took : Option Item) → IsKept shape P kernel endpoint → IsMaker shape P by → endpoint ≡ Some j → took ≡ first_selected filter (items_at kernel.endpoints j) → (now : NodeState) (new : List Step) → now ≡ after_take kernel j filter → new ≡ record { by = by; head = take_head filter took; effects = [] } ∷ P → Done shape P by (asks.Look filter) None (take_answer took) now endpoint new
 made_look shape P kernel endpoint by j filter took kept maker mine is now new is_now is_new =
     let first : by ≡ Actor 1 = maker_is_first shape P by kept.one_actor maker in
     let known : IsKept shape P kernel (Some j) = subst (IsKept shape P kernel) mine kept in
@@ -91,11 +90,11 @@ made_look shape P kernel endpoint by j filter took kept maker mine is now new is
     head_of None = refl
     head_of (Some item) = refl
 
-pub made_send : (shape : Shape) (P : List Step) (kernel : NodeState) (endpoint : Option Inc) (by : By) (j : Inc) (to : Peer) (signal : SigNote) → IsKept shape P kernel endpoint → IsMaker shape P by → endpoint ≡ Some j → (now : NodeState) (new : List Step) → now ≡ record kernel { endpoints = after_send kernel.endpoints j to signal (length P + 1) } → new ≡ sent_step by j to signal (is_living kernel.endpoints to) ∷ P → Done shape P by (asks.Send to) (Some signal) (answers.Sent (answer_to (is_living kernel.endpoints to) to)) now endpoint new
+pub made_send : (shape : Shape) (P : List Step) (kernel : NodeState) (endpoint : Option Inc) (by : By) (j : Inc) (to : Peer) (signal : SigNote) → IsKept shape P kernel endpoint → IsMaker shape P by → endpoint ≡ Some j → (now : NodeState) (new : List Step) → now ≡ record kernel { endpoints = after_send kernel.endpoints j to signal (length P + 1) } → new ≡ sent_step by j to signal (is_living kernel.endpoints to) ∷ P → Done shape P by (asks.Send to) (Some signal) (answers.Sent (send_answer (is_living kernel.endpoints to) to)) now endpoint new
 made_send shape P kernel endpoint by j to signal kept maker mine now new is_now is_new =
     let first : by ≡ Actor 1 = maker_is_first shape P by kept.one_actor maker in
     let known : IsKept shape P kernel (Some j) = subst (IsKept shape P kernel) mine kept in
-    let made_it : Done shape P (Actor 1) (asks.Send to) (Some signal) (answers.Sent (answer_to (is_living kernel.endpoints to) to)) (record kernel { endpoints = after_send kernel.endpoints j to signal (length P + 1) }) (Some j) (sent_step (Actor 1) j to signal (is_living kernel.endpoints to) ∷ P) =
+    let made_it : Done shape P (Actor 1) (asks.Send to) (Some signal) (answers.Sent (send_answer (is_living kernel.endpoints to) to)) (record kernel { endpoints = after_send kernel.endpoints j to signal (length P + 1) }) (Some j) (sent_step (Actor 1) j to signal (is_living kernel.endpoints to) ∷ P) =
     made shape P (asks.Send to) (Some signal) _ _ _ (sent_step (Actor 1) j to signal (is_living kernel.endpoints to)) refl (keeps_send shape P kernel j to signal known (subst (IsMaker shape P) first maker)) (refl, refl) refl
     in
     rw (is_now, is_new, first, mine) made_it

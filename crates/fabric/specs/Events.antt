@@ -1,7 +1,8 @@
-use Rattle.std.specs.Prelude.{ℕ, ◌≡◌, Bool, true, false, List, [], ◌∷◌, Option, Some, None, IsSomeAnd}
+use Rattle.std.specs.Prelude.{◌≡◌, Bool, List, [], ◌∷◌, Option, Some, None}
 use Rattle.linx_base.specs.declared.identity.Inc.{Inc}
 use Rattle.linx_base.specs.declared.identity.Peer.{Peer}
 use Rattle.linx_base.specs.declared.signal.SigNote.{SigNote}
+use Rattle.sigsel.specs.Selection.{first_selected}
 use Rattle.sigsel.specs.declared.sigsel.Sigsel.{Sigsel}
 use Rattle.linx_base.specs.declared.item.Item.{Item}
 use Rattle.journal.specs.declared.by.By.{By}
@@ -13,11 +14,10 @@ use Rattle.journal.specs.declared.effect.Effect.{Effect}
 use Rattle.journal.specs.declared.effect.Effect.TheVariants as effects
 use Rattle.journal.specs.declared.effect.Step.{Step}
 use Rattle.journal.specs.History.{endpoint_by}
-use Rattle.journal.specs.Queues.{queued, first_selected}
-use Rattle.journal.specs.Laws.{Shape, IsLegalStep, answer_to, arrivals_of}
+use Rattle.journal.specs.Queues.{queued}
+use Rattle.journal.specs.Laws.{Shape, IsLegalStep, send_answer, arrivals_of}
 use Rattle.node_kernel.specs.declared.answers.StepAnswer.{StepAnswer}
 use Rattle.node_kernel.specs.declared.answers.StepAnswer.TheVariants as answers
-use Rattle.fabric.specs.Remains.{item_of}
 
 -- The event can be asked for by a maker with this endpoint, with this in hand. Of the other events
 -- none makes a step as yet
@@ -45,7 +45,7 @@ IsAnswerOf P me (heads.Open name) es (answers.Opened i) = es ≡ effects.Opened 
 IsAnswerOf P me heads.Close es answers.Closed = Unit {0}
 IsAnswerOf P me (heads.Send q note answer) es (answers.Sent a) = a ≡ answer
 IsAnswerOf P (Some j) (heads.Take f position) es (answers.Took item) =
-    IsSomeAnd (first_selected f (queued P j)) (λ e. item ≡ item_of e)
+    first_selected f (queued P j) ≡ Some item
 IsAnswerOf P me (heads.TakeNone f) es answers.Nothing = Unit {0}
 IsAnswerOf P me heads.Ended es answers.Done = Unit {0}
 IsAnswerOf P me _ es _ = ⊥
@@ -76,6 +76,6 @@ take_answer (Some item) = answers.Took item
 abbrev pub sent_step : By → Inc → Peer → SigNote → Bool → Step
 sent_step by from to signal alive = record {
   by = by;
-  head = heads.Send to signal (answer_to alive to);
+  head = heads.Send to signal (send_answer alive to);
   effects = arrivals_of from signal alive to;
 }

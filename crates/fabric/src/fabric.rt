@@ -6,9 +6,8 @@ ghost use Rattle.fabric.specs.Events.{take_answer};
 
 use crate::makings::{make_close, make_open, make_quiet, make_send, make_take};
 use crate::stop::{StepStop, StopCause};
-use endpoint_queue::Item;
 use journal::{By, Event, Head, Journal};
-use linx_base::{Inc, LinkDecl, Name, Names, NoMemory, NodeNo, Peer, Signal};
+use linx_base::{Inc, Item, LinkDecl, Name, Names, NoMemory, NodeNo, Peer, Signal};
 use node_kernel::{Kernel, StepAnswer};
 use sigsel::Sigsel;
 use std::alloc::Global;

@@ -5,16 +5,15 @@ ghost use Rattle.linx_base.specs.declared.identity.Peer.TheVariants.{Here};
 ghost use Rattle.journal.specs.declared.head.Head.TheVariants as heads;
 ghost use Rattle.journal.specs.declared.head.SentTo.TheVariants as sent_to;
 ghost use Rattle.journal.specs.declared.effect.Effect.TheVariants.{Opened, Closed, Arrived};
-ghost use Rattle.node_kernel.specs.Nodes.{is_open, is_living, items_at, following_inc};
+ghost use Rattle.node_kernel.specs.Nodes.{is_open, is_living, items_at, endpoint_limit, next_of};
 ghost use Rattle.node_kernel.specs.Calls.{after_open, after_send};
 ghost use Rattle.sigsel.specs.Selection.{first_selected, without_first};
 ghost use Rattle.node_kernel.specs.Nodes.{with_items, without_endpoint};
-ghost use Rattle.journal.specs.Laws.{answer_to, arrivals_of};
+ghost use Rattle.journal.specs.Laws.{send_answer, arrivals_of};
 ghost use Rattle.fabric.specs.Events.{take_head, sent_step};
 
-use endpoint_queue::Item;
 use journal::{By, Effect, Effects, Head, Journal, SentTo, Step};
-use linx_base::{Inc, Name, NoMemory, Peer, SigNote, Signal, TryCopy};
+use linx_base::{Inc, Item, Name, NoMemory, Peer, SigNote, Signal, TryCopy};
 use node_kernel::{Kernel, OpenError, Sent};
 use sigsel::Sigsel;
 use std::alloc::Global;
@@ -46,12 +45,12 @@ pub(crate) fn make_open(
     name: Name,
 ) -> Result<Inc, NoMemory>
     requires fits { kernel.old.openings < 4294967295 }
-    requires room { length kernel.old.endpoints < 4096 }
+    requires room { length kernel.old.endpoints < endpoint_limit }
     requires short { length journal.old.log.steps < 200000 }
-    ensures inc { IfOk result (λ inc. inc ≡ following_inc kernel.old) }
+    ensures inc { IfOk result (λ inc. inc ≡ next_of kernel.old) }
     ensures kernel { OnOk result (kernel.new ≡ after_open kernel.old name) }
     ensures log { OnOk result (journal.new.log ≡ record journal.old.log {
-      steps = record { by = by; head = heads.Open name; effects = Opened (following_inc kernel.old) ∷ [] } ∷ journal.old.log.steps;
+      steps = record { by = by; head = heads.Open name; effects = Opened (next_of kernel.old) ∷ [] } ∷ journal.old.log.steps;
     }) }
     ensures err { OnErr result ((journal.new.log ≡ journal.old.log) × (kernel.new ≡ kernel.old)) }
 {
@@ -149,7 +148,7 @@ pub(crate) fn make_send(
 ) -> Result<SentTo, (NoMemory, Signal)>
     requires is_open { IsTrue (is_open kernel.old.endpoints from) }
     requires short { length journal.old.log.steps < 200000 }
-    ensures sent { IfOk result (λ sent. sent ≡ answer_to (is_living kernel.old.endpoints to) to) }
+    ensures sent { IfOk result (λ sent. sent ≡ send_answer (is_living kernel.old.endpoints to) to) }
     ensures kernel { OnOk result (kernel.new ≡ record kernel.old {
       endpoints = after_send kernel.old.endpoints from to signal (length journal.old.log.steps + 1);
     }) }

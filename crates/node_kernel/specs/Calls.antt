@@ -5,18 +5,17 @@ use Rattle.linx_base.specs.declared.identity.Peer.TheVariants.{Here, There}
 use Rattle.linx_base.specs.declared.signal.SigNote.{SigNote}
 use Rattle.linx_base.specs.declared.item.Item.{Item}
 use Rattle.linx_base.specs.declared.item.Kind.TheVariants.{Plain}
-use Rattle.node_kernel.specs.declared.kernel.TheConstants.{ENDPOINTS_MOST}
 use Rattle.node_kernel.specs.declared.answers.OpenError.{OpenError}
 use Rattle.node_kernel.specs.declared.answers.OpenError.TheVariants.{Full, NoMemory}
 use Rattle.node_kernel.specs.declared.answers.Sent.{Sent}
 use Rattle.node_kernel.specs.declared.answers.Sent.TheVariants.{Queued, Link, Dead}
-use Rattle.node_kernel.specs.Nodes.{OpenEndpoint, NodeState, is_open, items_at, with_items, following_inc}
+use Rattle.node_kernel.specs.Nodes.{OpenEndpoint, NodeState, endpoint_limit, is_open, items_at, with_items, next_of}
 
 -- the node after an opening: one more endpoint at the end, with an empty queue
 abbrev pub after_open : NodeState → List ℕ → NodeState
 after_open k name = record k {
   openings = k.openings + 1;
-  endpoints = k.endpoints ++ record { inc = following_inc k; name = name; items = [] } ∷ [];
+  endpoints = k.endpoints ++ record { inc = next_of k; name = name; items = [] } ∷ [];
 }
 
 -- the item that a plain signal makes
@@ -25,7 +24,7 @@ plain_item signal from step = record { signal = signal; from = Here from; kind =
 
 -- why no endpoint was opened, with the name that comes back
 abbrev pub RefusesOpening : List OpenEndpoint → List ℕ → OpenError → Type 0
-RefusesOpening endpoints name (Full back) = (back ≡ name) × (length endpoints ≡ ENDPOINTS_MOST)
+RefusesOpening endpoints name (Full back) = (back ≡ name) × (length endpoints ≡ endpoint_limit)
 RefusesOpening endpoints name (NoMemory back) = back ≡ name
 
 -- The endpoints after a send: a signal to a living endpoint goes last into its queue, one to a peer

@@ -1,4 +1,4 @@
-use Rattle.std.specs.Prelude.{ℕ, ◌+◌, ◌*◌, Bool, false, List, [], ◌∷◌, Option, Some, None, if◌then◌else◌}
+use Rattle.std.specs.Prelude.{ℕ, Bool, false, List, [], ◌∷◌, Option, Some, None, if◌then◌else◌}
 use Rattle.std.specs.List.{list_any}
 use Rattle.linx_base.specs.FirstMatch.{first_match, without_match}
 use Rattle.linx_base.specs.Peers.{same_inc}
@@ -7,6 +7,11 @@ use Rattle.linx_base.specs.declared.identity.NodeNo.{NodeNo}
 use Rattle.linx_base.specs.declared.identity.Peer.{Peer}
 use Rattle.linx_base.specs.declared.identity.Peer.TheVariants.{Here, There}
 use Rattle.linx_base.specs.declared.item.Item.{Item}
+use Rattle.journal.specs.History.{next_inc}
+
+-- the most endpoints that are open at once on a node
+abbrev pub endpoint_limit : ℕ
+endpoint_limit = 4096
 
 -- an open endpoint: its incarnation, its name, and the items of its queue, oldest first
 pub record OpenEndpoint : Type 0 where
@@ -52,5 +57,5 @@ is_living endpoints (Here i) = is_open endpoints i
 is_living endpoints (There link session i) = false
 
 -- the next incarnation of a node
-abbrev pub following_inc : NodeState → Inc
-following_inc k = record { 0 = k.node.0 * 4294967296 + 1 + k.openings }
+abbrev pub next_of : NodeState → Inc
+next_of k = next_inc k.node.0 k.openings

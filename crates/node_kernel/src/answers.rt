@@ -1,6 +1,5 @@
-use endpoint_queue::Item;
 use journal::{Detached, Effects, Refusal, SentTo};
-use linx_base::{AttRef, Inc, Name, Signal};
+use linx_base::{AttRef, Inc, Item, Name, Signal};
 
 /// A new endpoint, and the effects of its opening.
 #[derive(Drop)]

@@ -3,8 +3,8 @@ ghost use Rattle.std.specs.List.{position};
 ghost use Rattle.sigsel.specs.Selection.{is_selected, first_selected, without_first};
 ghost use Rattle.node_kernel.specs.Nodes.{is_at, is_open, items_at, with_items, without_endpoint};
 
-use endpoint_queue::{Item, Queue};
-use linx_base::{Inc, Name};
+use endpoint_queue::Queue;
+use linx_base::{Inc, Item, Name};
 use sigsel::Sigsel;
 use std::alloc::Global;
 use std::marker::Model;

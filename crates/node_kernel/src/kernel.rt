@@ -4,15 +4,14 @@ ghost use Rattle.sigsel.specs.Selection.{first_selected, without_first};
 
 use crate::answers::{OpenError, OpenedAs, Sent};
 use crate::endpoint::{Endpoint, deliver, has_endpoint, holds, remove, take};
-use endpoint_queue::{Item, Kind};
 use journal::{Effect, Effects};
-use linx_base::{Inc, ItemAt, Name, NoMemory, NodeNo, Peer, Signal};
+use linx_base::{Inc, Item, ItemAt, Kind, Name, NoMemory, NodeNo, Peer, Signal};
 use sigsel::Sigsel;
 use std::alloc::Global;
 use std::marker::Model;
 
 /// The most endpoints that are open at once on a node.
-pub const ENDPOINTS_MOST: usize = 4_096;
+const ENDPOINTS_MOST: usize = 4_096;
 
 /// The kernel of one node.
 #[derive(Drop)]
@@ -24,14 +23,13 @@ pub struct Kernel {
 
 impl Model for Kernel {
     ghost use Rattle.std.specs.Prelude.{◌≤◌, vec_len};
-    ghost use Rattle.node_kernel.specs.Nodes.{NodeState};
-    ghost use Rattle.node_kernel.specs.declared.kernel.TheConstants.{ENDPOINTS_MOST};
+    ghost use Rattle.node_kernel.specs.Nodes.{NodeState, endpoint_limit};
 
     ghost Value = { NodeState };
 
     ghost view = { λ k. record { node = k.node; openings = k.openings; endpoints = k.endpoints.items } };
 
-    ghost invariant = { λ k. vec_len k.endpoints ≤ ENDPOINTS_MOST };
+    ghost invariant = { λ k. vec_len k.endpoints ≤ endpoint_limit };
 }
 
 /// One effect, as a list.
@@ -44,7 +42,7 @@ fn one_effect(alloc: Global, effect: Effect) -> Result<Effects, NoMemory>
 }
 
 impl Kernel {
-    ghost use Rattle.node_kernel.specs.Nodes.{is_open, items_at, with_items, without_endpoint, is_living, following_inc};
+    ghost use Rattle.node_kernel.specs.Nodes.{is_open, items_at, with_items, without_endpoint, is_living, endpoint_limit, next_of};
     ghost use Rattle.node_kernel.specs.Calls.{after_open, RefusesOpening, after_send, IsSent};
 
     /// A node that opened no endpoint yet.
@@ -74,9 +72,9 @@ impl Kernel {
     /// Opens an endpoint with the next incarnation. `Full` comes exactly where 4,096 are open.
     pub fn open(&mut self, name: Name, step: u64) -> Result<OpenedAs, OpenError>
         requires { self.old.openings < 4294967295 }
-        ensures opened { IfOk result (λ opened. (opened.inc ≡ following_inc self.old) × (opened.effects ≡ Opened (following_inc self.old) ∷ [])) }
+        ensures opened { IfOk result (λ opened. (opened.inc ≡ next_of self.old) × (opened.effects ≡ Opened (next_of self.old) ∷ [])) }
         ensures ok { OnOk result (self.new ≡ after_open self.old name) }
-        ensures full { length self.old.endpoints ≡ ENDPOINTS_MOST → result ≡ Err (OpenError.Full name) }
+        ensures full { length self.old.endpoints ≡ endpoint_limit → result ≡ Err (OpenError.Full name) }
         ensures refused { IfErr result (RefusesOpening self.old.endpoints name) }
         ensures err { OnErr result (self.new ≡ self.old) }
     {
@@ -85,7 +83,7 @@ impl Kernel {
             return Err(OpenError::Full(name));
         }
         let alloc = *self.endpoints.allocator();
-        let inc = Inc(u64::from(self.node.0) * 4_294_967_296 + 1 + u64::from(self.openings));
+        let inc = Inc::of(self.node, self.openings + 1);
         let Ok(effects) = one_effect(alloc, Effect::Opened(inc)) else {
             return Err(OpenError::NoMemory(name));
         };

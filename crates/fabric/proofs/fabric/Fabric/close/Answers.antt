@@ -1,9 +1,7 @@
-use Rattle.std.proofs.Common.{◌≡◌, ◌∙◌, sym, ap, arith, ◌<◌, length}
+use Rattle.std.proofs.Common.{ap}
 use Rattle.journal.specs.Logs.{Log}
 use Rattle.journal.specs.Laws.{Shape, IsMaker}
-use Rattle.fabric.specs.Remains.{Layout}
-use Rattle.fabric.proofs.Keeps.{openings_left, open_left}
-use Rattle.fabric.proofs.Made.{made_close, endpoint_is}
+use Rattle.fabric.proofs.Made.{made_close}
 use Rattle.fabric.proofs.fabric.Fabric.close.Goals as goal
 
 pub invariant_of-self-2 : goal.invariant_of-self-2

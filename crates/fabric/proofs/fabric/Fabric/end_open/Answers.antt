@@ -1,8 +1,6 @@
-use Rattle.std.proofs.Common.{◌≡◌, ◌∙◌, sym, ap, arith, ◌<◌, length}
+use Rattle.std.proofs.Common.{◌∙◌, sym, ap}
 use Rattle.journal.specs.Logs.{Log}
 use Rattle.journal.specs.Laws.{Shape, IsMaker}
-use Rattle.fabric.specs.Remains.{Layout}
-use Rattle.fabric.proofs.Keeps.{openings_left, open_left}
 use Rattle.fabric.proofs.Made.{made_end_open, endpoint_is}
 use Rattle.fabric.proofs.fabric.Fabric.end_open.Goals as goal
 

@@ -1,9 +1,8 @@
-use Rattle.std.proofs.Common.{◌≡◌, ◌∙◌, sym, ap, arith, ◌<◌, length}
+use Rattle.std.proofs.Common.{ap, arith}
 use Rattle.journal.specs.Logs.{Log}
 use Rattle.journal.specs.Laws.{Shape, IsMaker}
-use Rattle.fabric.specs.Remains.{Layout}
-use Rattle.fabric.proofs.Keeps.{openings_left, open_left}
-use Rattle.fabric.proofs.Made.{made_open, endpoint_is}
+use Rattle.fabric.proofs.Keeps.{openings_left}
+use Rattle.fabric.proofs.Made.{made_open}
 use Rattle.fabric.proofs.fabric.Fabric.open.Goals as goal
 
 pub make_open-requires-clause-fits : goal.make_open-requires-clause-fits

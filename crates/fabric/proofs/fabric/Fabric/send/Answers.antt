@@ -1,9 +1,7 @@
-use Rattle.std.proofs.Common.{◌≡◌, ◌∙◌, sym, ap, arith, ◌<◌, length}
+use Rattle.std.proofs.Common.{ap}
 use Rattle.journal.specs.Logs.{Log}
 use Rattle.journal.specs.Laws.{Shape, IsMaker}
-use Rattle.fabric.specs.Remains.{Layout}
-use Rattle.fabric.proofs.Keeps.{openings_left, open_left}
-use Rattle.fabric.proofs.Made.{made_send, endpoint_is}
+use Rattle.fabric.proofs.Made.{made_send}
 use Rattle.fabric.proofs.fabric.Fabric.send.Goals as goal
 
 pub invariant_of-self-in-Ok : goal.invariant_of-self-in-Ok
