@@ -1,7 +1,9 @@
 -- What follows from the spelling alone.
 use Rattle.std.specs.Prelude.{◌≡◌, List, ℕ}
 use Rattle.rlnh_messages.specs.declared.rlnh.Rlnh.{Rlnh}
+use Rattle.linx_base.specs.declared.signal.SigNote.{SigNote}
 use Rattle.rlnh_messages.specs.Messages.{IsMessage, Spells, spelling_of}
+use Rattle.rlnh_messages.specs.Signals.{IsSignal, IsSignalBody, SpellsSignal, signal_body}
 
 -- every message has a spelling
 abbrev pub EachIsSpelled : Type 0
@@ -14,3 +16,8 @@ HasOneSpelling = (message : Rlnh) (bytes others : List ℕ) → Spells message b
 -- no bytes spell two messages
 abbrev pub SpellsOneMessage : Type 0
 SpellsOneMessage = (message other : Rlnh) (bytes : List ℕ) → Spells message bytes → Spells other bytes → message ≡ other
+
+-- every signal goes by a body, and every such body is some signal's
+pub record EachSignalGoes : Type 0 where
+  pub spelled : (signal : SigNote) → IsSignal signal → SpellsSignal signal (signal_body signal)
+  pub bodied : (signal : SigNote) (body : List ℕ) → SpellsSignal signal body → IsSignalBody body

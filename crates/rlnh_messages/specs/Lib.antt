@@ -1,4 +1,5 @@
 pub mod Messages
+pub mod Signals
 pub mod Readings
 pub mod Laws
 pub mod Failures

@@ -18,8 +18,8 @@ pub fn type_in(bytes: &[u8]) -> Option<(u8, &[u8])>
 }
 
 /// A number of four bytes, and what stands behind it.
-fn u32_in(bytes: &[u8]) -> Option<(u32, &[u8])>
-    ensures found { IfSome result (λ field. bytes.now ≡ big_bytes 4 field.0 ++ field.1.now) }
+pub fn u32_in(bytes: &[u8]) -> Option<(u32, &[u8])>
+    ensures found { IfSome result (λ field. (field.0 < 2 ^ 32) × (bytes.now ≡ big_bytes 4 field.0 ++ field.1.now)) }
     ensures none { IfNone result (length bytes.now < 4) }
 {
     if bytes.len() < 4 {

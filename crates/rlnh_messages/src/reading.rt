@@ -1,4 +1,4 @@
-ghost use Rattle.std.specs.Prelude.{◌≡◌, ◌<◌, ◌^◌, ◌++◌, ◌↔◌, List, ℕ, IsTrue, IfSome, IfNone, IfOk, IfErr};
+ghost use Rattle.std.specs.Prelude.{◌≡◌, ◌<◌, ◌≤◌, ◌^◌, ◌++◌, ◌↔◌, List, ℕ, IsTrue, IfSome, IfNone, IfOk, IfErr};
 ghost use Rattle.byteorder.specs.Endian.{big_bytes};
 ghost use Rattle.rlnh_messages.specs.declared.rlnh.Rlnh.{Rlnh as AnyMessage};
 ghost use Rattle.rlnh_messages.specs.Messages.{typed, IsAddress, Spells};
@@ -80,21 +80,16 @@ fn publish_fields(bytes: &[u8]) -> Option<(u32, u64, &[u8])>
     Some((addr, inc, name))
 }
 
-/// What stands behind the type of INIT.
-fn init_in(rest: &[u8]) -> Result<Rlnh, RlnhError>
-    ensures { IsReading result (typed 1 rest.now) }
+/// What stands behind the type of INIT or of its reply.
+fn init_in(kind: u8, rest: &[u8]) -> Result<Rlnh, RlnhError>
+    requires { (1 ≤ kind) × (kind ≤ 2) }
+    ensures { IsReading result (typed kind rest.now) }
 {
     if !is_version(rest) {
         return Err(RlnhError::Bad);
     }
-    Ok(Rlnh::Init)
-}
-
-fn init_reply_in(rest: &[u8]) -> Result<Rlnh, RlnhError>
-    ensures { IsReading result (typed 2 rest.now) }
-{
-    if !is_version(rest) {
-        return Err(RlnhError::Bad);
+    if kind == INIT {
+        return Ok(Rlnh::Init);
     }
     Ok(Rlnh::InitReply)
 }
@@ -124,21 +119,17 @@ fn publish_in(alloc: Global, rest: &[u8]) -> Result<Rlnh, RlnhError>
     }
 }
 
-fn unpublish_in(rest: &[u8]) -> Result<Rlnh, RlnhError>
-    ensures { IsReading result (typed 5 rest.now) }
+/// What stands behind the type of UNPUBLISH or of its answer.
+fn unpublish_in(kind: u8, rest: &[u8]) -> Result<Rlnh, RlnhError>
+    requires { (5 ≤ kind) × (kind ≤ 6) }
+    ensures { IsReading result (typed kind rest.now) }
 {
     let Some(addr) = whole_address(rest) else {
         return Err(RlnhError::Bad);
     };
-    Ok(Rlnh::Unpublish(addr))
-}
-
-fn unpublish_ack_in(rest: &[u8]) -> Result<Rlnh, RlnhError>
-    ensures { IsReading result (typed 6 rest.now) }
-{
-    let Some(addr) = whole_address(rest) else {
-        return Err(RlnhError::Bad);
-    };
+    if kind == UNPUBLISH {
+        return Ok(Rlnh::Unpublish(addr));
+    }
     Ok(Rlnh::UnpublishAck(addr))
 }
 
@@ -149,12 +140,12 @@ fn message_in(alloc: Global, bytes: &[u8]) -> Result<Rlnh, RlnhError>
         return Err(RlnhError::Bad);
     };
     match kind {
-        INIT => init_in(rest),
-        INIT_REPLY => init_reply_in(rest),
+        INIT => init_in(INIT, rest),
+        INIT_REPLY => init_in(INIT_REPLY, rest),
         QUERY_NAME => query_in(alloc, rest),
         PUBLISH => publish_in(alloc, rest),
-        UNPUBLISH => unpublish_in(rest),
-        UNPUBLISH_ACK => unpublish_ack_in(rest),
+        UNPUBLISH => unpublish_in(UNPUBLISH, rest),
+        UNPUBLISH_ACK => unpublish_in(UNPUBLISH_ACK, rest),
         _ => Err(RlnhError::Bad),
     }
 }

@@ -1,4 +1,4 @@
-use linx_base::{Inc, Name, NoMemory, TryCopy};
+use linx_base::{Inc, Name};
 
 /// The types of messages, each a message's first byte.
 pub const INIT: u8 = 1;
@@ -29,21 +29,4 @@ pub enum Rlnh {
     Unpublish(u32),
     /// Answers UNPUBLISH. The address may be given again.
     UnpublishAck(u32),
-}
-
-impl TryCopy for Rlnh {
-    fn copy(&self) -> Result<Rlnh, NoMemory> {
-        match self {
-            Rlnh::Init => Ok(Rlnh::Init),
-            Rlnh::InitReply => Ok(Rlnh::InitReply),
-            Rlnh::QueryName(name) => Ok(Rlnh::QueryName(name.copy()?)),
-            Rlnh::Publish { addr, inc, name } => Ok(Rlnh::Publish {
-                addr: *addr,
-                inc: *inc,
-                name: name.copy()?,
-            }),
-            Rlnh::Unpublish(addr) => Ok(Rlnh::Unpublish(*addr)),
-            Rlnh::UnpublishAck(addr) => Ok(Rlnh::UnpublishAck(*addr)),
-        }
-    }
 }

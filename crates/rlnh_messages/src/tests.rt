@@ -1,5 +1,5 @@
 use super::*;
-use linx_base::{Inc, Name, TryCopy};
+use linx_base::{Blob, Inc, Name, Signal};
 use std::alloc::Global;
 use std::test::*;
 
@@ -33,12 +33,33 @@ fn publish_bytes(rt: HostRuntime) -> Result<(), Fail> {
         name: Name::of(rt.alloc(), b"server")?,
     };
     assert_eq!(rt; write(rt.alloc(), &message)?.bytes(), PUBLISH);
-    let found = read(rt.alloc(), PUBLISH)?.copy()?;
+    let found = read(rt.alloc(), PUBLISH)?;
     let Rlnh::Publish { addr, inc, name } = found else {
         return Err(Fail::from("not a publication"));
     };
     assert_eq!(rt; (addr, inc), (1, Inc(INC_2_1)));
     assert_eq!(rt; name.bytes(), b"server".as_slice());
+    Ok(())
+}
+
+#[test]
+fn signal_bytes(rt: HostRuntime) -> Result<(), Fail> {
+    let signal = Signal::alloc(rt.alloc(), 5, &[0xaa])?;
+    let body = write_signal(rt.alloc(), &signal)?;
+    assert_eq!(rt; body.bytes(), [0, 0, 0, 5, 0xaa].as_slice());
+    let found = read_signal(&body)?;
+    assert_eq!(rt; found.number(), 5);
+    assert_eq!(rt; found.bytes(), [0xaa].as_slice());
+    for (size, is_signal) in [
+        (0, false),
+        (3, false),
+        (4, true),
+        (65_536, true),
+        (65_537, false),
+    ] {
+        let body = Blob::shared(vec![in rt.alloc(); 0; size]?)?;
+        assert_eq!(rt; read_signal(&body).is_ok(), is_signal, "of {size} bytes");
+    }
     Ok(())
 }
 

@@ -4,8 +4,8 @@ ghost use Rattle.byteorder.specs.Endian.{big_bytes};
 
 use crate::rlnh::{INIT, INIT_REPLY, PUBLISH, QUERY_NAME, Rlnh, UNPUBLISH, UNPUBLISH_ACK};
 use byteorder::{BigEndian, ByteOrder};
-use linx_base::{Blob, Inc, NoMemory};
-use std::alloc::{AllocError, Global};
+use linx_base::{Blob, Bytes, Inc, NoMemory};
+use std::alloc::Global;
 
 /// The version that INIT and its reply name.
 const VERSION: u32 = 1;
@@ -31,14 +31,14 @@ fn publication(addr: u32, inc: u64) -> [u8; 16]
     bytes
 }
 
-/// The one list after the other.
-fn joined(alloc: Global, front: &[u8], back: &[u8]) -> Result<Vec<u8>, AllocError>
-    ensures { IfOk result (λ bytes. bytes.items ≡ front.now ++ back.now) }
+/// The bytes of the one, and then of the other.
+pub fn joined(alloc: Global, front: &[u8], back: &[u8]) -> Result<Blob, NoMemory>
+    ensures { IfOk result (λ bytes. bytes ≡ front.now ++ back.now) }
 {
-    let mut bytes = Vec::with_capacity(alloc, front.len().saturating_add(back.len()))?;
-    bytes.extend_from_slice(front)?;
-    bytes.extend_from_slice(back)?;
-    Ok(bytes)
+    let mut bytes = Bytes::with_room(alloc, front.len().saturating_add(back.len()))?;
+    bytes.extend(front)?;
+    bytes.extend(back)?;
+    bytes.into_blob()
 }
 
 /// The bytes of a message.
@@ -52,18 +52,12 @@ pub fn write(alloc: Global, m: &Rlnh) -> Result<Blob, NoMemory>
     match m {
         Rlnh::Init => Blob::of(alloc, &numbered(INIT, VERSION)),
         Rlnh::InitReply => Blob::of(alloc, &numbered(INIT_REPLY, VERSION)),
-        Rlnh::QueryName(name) => {
-            let bytes = joined(alloc, &[QUERY_NAME, 0, 0, 0], name.bytes())?;
-            Blob::shared(bytes)
-        }
+        Rlnh::QueryName(name) => joined(alloc, &[QUERY_NAME, 0, 0, 0], name.bytes()),
         Rlnh::Publish {
             addr,
             inc: Inc(inc),
             name,
-        } => {
-            let bytes = joined(alloc, &publication(*addr, *inc), name.bytes())?;
-            Blob::shared(bytes)
-        }
+        } => joined(alloc, &publication(*addr, *inc), name.bytes()),
         Rlnh::Unpublish(addr) => Blob::of(alloc, &numbered(UNPUBLISH, *addr)),
         Rlnh::UnpublishAck(addr) => Blob::of(alloc, &numbered(UNPUBLISH_ACK, *addr)),
     }

@@ -1,5 +1,5 @@
 use Rattle.std.proofs.Common.{arith}
-use Rattle.rlnh_messages.proofs.Types.{has_type, only_type}
+use Rattle.rlnh_messages.proofs.Types.{behind, has_type}
 use Rattle.rlnh_messages.proofs.reading.message_in.Goals as goal
 
 pub returns-in_default : goal.returns-in_default
@@ -9,5 +9,5 @@ returns-in_default c = λ message s.
 
 pub returns-in_default-kind : goal.returns-in_default-kind
 returns-in_default-kind c = λ message s.
-    let one = only_type message c.in-Some.kind c.in-Some.rest.now (rw c.in-Some.ensures.found at s) in
+    let one = (behind message c.in-Some.kind c.in-Some.rest.now (rw c.in-Some.ensures.found at s)).is_type in
     omega arith

@@ -1,9 +1,10 @@
-use Rattle.rlnh_messages.proofs.Types.{only_publish, publish_found, publish_refused}
+use Rattle.std.proofs.Common.{refl}
+use Rattle.rlnh_messages.proofs.Types.{behind, publish_found, publish_refused}
 use Rattle.rlnh_messages.proofs.reading.publish_in.Goals as goal
 
 pub returns-in_default : goal.returns-in_default
 returns-in_default c = λ message s.
-    let found = only_publish message c.args.rest.now s in
+    let found = (behind message 4 c.args.rest.now s).fields refl in
     c.in_default.ensures.none found.addr found.inc found.name found.is_address found.spelled
 
 pub returns-in-Ok : goal.returns-in-Ok
