@@ -1,40 +1,24 @@
 -- The log of an incarnation.
-use Rattle.std.specs.Prelude.{ℕ, suc, zero, ◌/◌, ◌++◌, Bool, false, List, [], ◌∷◌, flat_map, codes, slice_get, Option, Some, None, if◌then◌else◌}
-use Rattle.std.specs.List.{list_any}
+use Rattle.std.specs.Prelude.{ℕ, suc, zero, ◌++◌, List, [], ◌∷◌, flat_map, codes, slice_get, Option, Some, None, if◌then◌else◌}
 use Rattle.linx_base.specs.declared.identity.Inc.{Inc}
 use Rattle.linx_base.specs.declared.identity.ItemAt.{ItemAt}
 use Rattle.linx_base.specs.declared.name.Names.{Names}
-use Rattle.linx_base.specs.Peers.{same_inc}
+use Rattle.linx_base.specs.Numbers.{node_of}
 use Rattle.journal.specs.declared.head.Head.{Head}
-use Rattle.journal.specs.declared.head.Head.TheVariants.{Open, Send, Take, TakeNone, Hunt, Attach, Detach}
+use Rattle.journal.specs.declared.head.Head.TheVariants.{Send, Take, TakeNone, Hunt, Attach, Detach}
 use Rattle.journal.specs.declared.effect.Effect.{Effect}
-use Rattle.journal.specs.declared.effect.Effect.TheVariants.{Opened, Closed, Arrived, Found, Notified}
+use Rattle.journal.specs.declared.effect.Effect.TheVariants.{Closed, Arrived, Found, Notified}
 use Rattle.journal.specs.declared.effect.Step.{Step}
 use Rattle.journal.specs.Logs.{Log, step_at}
-use Rattle.journal.specs.History.{endpoint_by, openings}
+use Rattle.journal.specs.History.{endpoint_by, opening_name, openings}
 use Rattle.journal.specs.Traffic.{is_endpoint}
 use Rattle.journal_text.specs.Values.{halves_text, name_or_mark, node_text, peer_signal_text, path_text, signal_text, reason_text, sent_text, detached_text}
-
--- the effect opens this incarnation
-abbrev pub opens : Inc → Effect → Bool
-opens i (Opened j) = same_inc i j
-opens i _ = false
-
--- the name in the head of an opening
-abbrev pub name_in : Head → Option (List ℕ)
-name_in (Open name) = Some name
-name_in _ = None
-
--- the name that an incarnation was opened with
-abbrev pub opening_name : List Step → Inc → Option (List ℕ)
-opening_name [] i = None
-opening_name (s ∷ P) i = if list_any (opens i) s.effects then name_in s.head else opening_name P i
 
 -- the first line of a log: the incarnation, its name and its node
 unfoldable pub title_text : Names → Inc → Option (List ℕ) → List ℕ
 title_text names i name =
     codes "log " ++ halves_text i.0 ++ codes " " ++ name_or_mark name ++ codes " "
-    ++ node_text names (i.0 / 4294967296) ++ codes "\n"
+    ++ node_text names (node_of i) ++ codes "\n"
 
 -- the incarnation whose log has a line of the effect: the one that something came to, or that closed
 abbrev pub concerned : Effect → Option Inc

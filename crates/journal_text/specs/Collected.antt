@@ -8,7 +8,8 @@ use Rattle.journal.specs.declared.effect.Step.{Step}
 use Rattle.journal.specs.Logs.{Log}
 use Rattle.journal_text.specs.declared.collecting.Logs.{Logs}
 use Rattle.journal_text.specs.Texts.{kept}
-use Rattle.journal_text.specs.Blocks.{opening_name, log_lines, log_text}
+use Rattle.journal.specs.History.{opening_name}
+use Rattle.journal_text.specs.Blocks.{log_lines, log_text}
 
 -- the logs are those after the steps P of a journal with these names and steps: of each incarnation
 -- the lines so far, and the name that it was opened with

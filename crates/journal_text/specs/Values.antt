@@ -1,7 +1,8 @@
 -- How each value is spelled.
-use Rattle.std.specs.Prelude.{ℕ, zero, suc, ◌/◌, ◌%◌, ◌==◌, ◌++◌, nat_le, ◌&&◌, List, [], ◌∷◌, length, flat_map, codes, decimal, slice_get, Option, Some, None, if◌then◌else◌}
+use Rattle.std.specs.Prelude.{ℕ, zero, suc, ◌==◌, ◌++◌, nat_le, ◌&&◌, List, [], ◌∷◌, length, flat_map, codes, decimal, slice_get, Option, Some, None, if◌then◌else◌}
 use Rattle.hex.specs.Hex.{encode_lower}
 use Rattle.sha2.specs.Sha256.{sha256}
+use Rattle.linx_base.specs.Numbers.{high_half, low_half}
 use Rattle.linx_base.specs.declared.identity.ItemAt.{ItemAt}
 use Rattle.linx_base.specs.declared.identity.Side.{Side}
 use Rattle.linx_base.specs.declared.identity.Side.TheVariants.{First, Second}
@@ -28,7 +29,7 @@ use Rattle.journal.specs.declared.head.Refusal.TheVariants.{NotOpen, IsOpen, NoP
 
 -- a number of 64 bits as its two halves: an incarnation as `node.k`, a session as `boot.count`
 unfoldable pub halves_text : ℕ → List ℕ
-halves_text n = decimal (n / 4294967296) ++ codes "." ++ decimal (n % 4294967296)
+halves_text n = decimal (high_half n) ++ codes "." ++ decimal (low_half n)
 
 -- a name, or `?` where there is none
 abbrev pub name_or_mark : Option (List ℕ) → List ℕ

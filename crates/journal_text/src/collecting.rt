@@ -7,7 +7,8 @@ ghost use Rattle.linx_base.specs.declared.name.Names.{Names as NamesOf};
 ghost use Rattle.journal.specs.declared.effect.Step.{Step as StepOf};
 ghost use Rattle.journal.specs.History.{endpoint_by};
 ghost use Rattle.journal_text.specs.Texts.{kept};
-ghost use Rattle.journal_text.specs.Blocks.{opens, name_in, if_for, head_log, concerned, effect_log, effect_logs};
+ghost use Rattle.journal.specs.History.{opens, name_in};
+ghost use Rattle.journal_text.specs.Blocks.{if_for, head_log, concerned, effect_log, effect_logs};
 ghost use Rattle.journal_text.specs.Collected.{Collects};
 
 use crate::entries::{concerns, write_effect_log, write_head_log};

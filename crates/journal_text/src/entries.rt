@@ -10,7 +10,7 @@ use crate::peers::{write_halves, write_name_or_mark, write_node, write_peer_sign
 use crate::reading::item_at;
 use crate::words::{write_detached, write_reason};
 use journal::{Effect, Head, Journal};
-use linx_base::{Inc, Name, Names, NoMemory, NodeNo, Peer, Reason, SigNote};
+use linx_base::{Inc, Name, Names, NoMemory, Peer, Reason, SigNote};
 
 /// The first line of a log.
 #[tactic(auto, unfolding(crate::specs::Blocks::title_text))]
@@ -27,7 +27,7 @@ pub(crate) fn write_title(
     write_bytes(out, b" ")?;
     write_name_or_mark(out, name)?;
     write_bytes(out, b" ")?;
-    write_node(out, names, NodeNo((inc.0 / 4_294_967_296) as u32))?;
+    write_node(out, names, inc.node())?;
     write_bytes(out, b"\n")
 }
 

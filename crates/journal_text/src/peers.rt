@@ -11,9 +11,9 @@ use linx_base::{LinkNo, Name, NameList, Names, NoMemory, NodeNo, Peer, SigNote};
 pub(crate) fn write_halves(out: &mut Vec<u8>, number: u64) -> Result<(), NoMemory>
     ensures { OnOk result (out.new.items ≡ out.old.items ++ halves_text number) }
 {
-    write_number(out, number / 4_294_967_296)?;
+    write_number(out, number >> 32)?;
     write_bytes(out, b".")?;
-    write_number(out, number % 4_294_967_296)?;
+    write_number(out, number & 0xffff_ffff)?;
     Ok(())
 }
 

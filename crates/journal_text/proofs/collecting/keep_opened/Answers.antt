@@ -5,7 +5,7 @@ use Rattle.std.specs.HashMap.{get}
 use Rattle.std.proofs.lemmas.Grind.{common_steps}
 use Rattle.std.proofs.lemmas.List.Folds.{list_any-append}
 use Rattle.journal.specs.declared.effect.Effect.{Effect}
-use Rattle.journal_text.specs.Blocks.{opens, name_in}
+use Rattle.journal.specs.History.{opens, name_in}
 use Rattle.journal_text.proofs.Choices.{cond-or}
 use Rattle.journal_text.proofs.collecting.keep_opened.Goals as goal
 

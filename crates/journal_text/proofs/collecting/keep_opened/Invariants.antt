@@ -2,7 +2,7 @@ use Rattle.std.proofs.Common.{◌≡◌, ℕ, take}
 use Rattle.std.specs.Prelude.{nat_eq, if◌then◌else◌}
 use Rattle.std.specs.List.{list_any}
 use Rattle.std.specs.HashMap.{get}
-use Rattle.journal_text.specs.Blocks.{opens, name_in}
+use Rattle.journal.specs.History.{opens, name_in}
 use Rattle.journal_text.proofs.collecting.keep_opened.Given as goal
 
 -- the openings so far are kept

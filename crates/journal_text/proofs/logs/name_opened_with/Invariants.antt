@@ -1,6 +1,6 @@
 use Rattle.std.proofs.Common.{◌≡◌}
 use Rattle.std.specs.Option.{option_copied}
-use Rattle.journal_text.specs.Blocks.{opening_name}
+use Rattle.journal.specs.History.{opening_name}
 use Rattle.journal_text.specs.Histories.{first_steps}
 use Rattle.journal_text.proofs.logs.name_opened_with.Given as goal
 
