@@ -1,5 +1,6 @@
 ghost use Rattle.std.specs.Prelude.{◌≡◌, IfOk, length, ◌≤◌, replicate, IsTrue};
-ghost use Rattle.script_words.specs.Filling.{data_of, fits_data};
+ghost use Rattle.script_words.specs.Filling.{data_of};
+ghost use Rattle.script_words.specs.Filling.{fits_data};
 ghost use Rattle.actor_run.specs.Asks.{signal_of};
 
 use linx_base::{BufferError, NoMemory, Signal};

@@ -1,11 +1,12 @@
-ghost use Rattle.std.specs.Prelude.{◌≡◌, ◌+◌, ◌≤◌, ◌<◌, ◌^◌, true, length, slice_get, IfOk, OnErr, Some, None, IsTrue};
+ghost use Rattle.std.specs.Prelude.{◌≡◌, ◌+◌, ◌≤◌, ◌<◌, ◌^◌, true, length, slice_get};
+ghost use Rattle.std.specs.Prelude.{IfOk, OnErr, Some, None, IsTrue};
 ghost use Rattle.std.specs.Option.{option_copied};
 ghost use Rattle.actor_run.specs.Asks.{is_plain, is_plain_at, NeedsItself, IsAskOf};
 
 use crate::fillings::signal_filled;
 use journal::Event;
 use linx_base::{Inc, NoMemory, Peer, Signal, TryCopy};
-use script_lang::{ActorScript, Command};
+use script_lang::{ActorScript, Command, Target};
 use std::alloc::Global;
 use std::marker::Model;
 
@@ -40,7 +41,8 @@ fn empty_handed(event: Event) -> Ask
 fn ask_of(alloc: Global, command: Option<&Command>, me: Option<Inc>) -> Result<Ask, NoMemory>
     requires plain { is_plain_at (option_copied command) ≡ true }
     requires itself { NeedsItself (option_copied command) me }
-    ensures { IfOk result (λ asked. IsAskOf (option_copied command.entry) me asked.event asked.hand) }
+    ensures { IfOk result (λ asked.
+        IsAskOf (option_copied command.entry) me asked.event asked.hand) }
 {
     let Some(command) = command else {
         return Ok(empty_handed(Event::End));
@@ -48,7 +50,11 @@ fn ask_of(alloc: Global, command: Option<&Command>, me: Option<Inc>) -> Result<A
     match command {
         Command::Open(name) => Ok(empty_handed(Event::Open(name.copy()?))),
         Command::Close => Ok(empty_handed(Event::Close)),
-        Command::Send { number, bytes, .. } => match me {
+        Command::Send {
+            to: Target::Me,
+            number,
+            bytes,
+        } => match me {
             Some(inc) => Ok(Ask {
                 event: Event::Send(Peer::Here(inc)),
                 hand: Some(signal_filled(alloc, *number, bytes)?),
@@ -78,7 +84,8 @@ impl Mind {
     ) -> Result<Ask, NoMemory>
         requires plain { is_plain_at (slice_get script.now.commands self.now) ≡ true }
         requires itself { NeedsItself (slice_get script.now.commands self.now) me }
-        ensures { IfOk result (λ asked. IsAskOf (slice_get script.now.commands self.now) me asked.event asked.hand) }
+        ensures { IfOk result (λ asked.
+            IsAskOf (slice_get script.now.commands self.now) me asked.event asked.hand) }
     {
         ask_of(alloc, script.commands.get(self.place), me)
     }

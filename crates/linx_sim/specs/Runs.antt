@@ -1,33 +1,28 @@
-use Rattle.std.specs.Prelude.{ℕ, ◌≡◌, ◌+◌, ◌<◌, ◌≤◌, Bool, true, false, ◌&&◌, ◌==◌, List, [], ◌∷◌, length, if◌then◌else◌, take, Option, Result, Ok, Err, IfSome, ◌⊎◌}
-use Rattle.script_lang.specs.Reading.{script_of}
+-- What a run of a script is, and what each status says of it.
+use Rattle.std.specs.Prelude.{ℕ, ◌≡◌, ◌≢◌, ◌+◌, ◌<◌, ◌≤◌, ◌⊎◌, Bool, true, false, ◌&&◌, ◌==◌}
+use Rattle.std.specs.Prelude.{List, [], ◌∷◌, length, if◌then◌else◌, take, Option, Result, Ok, Err}
+use Rattle.std.specs.Prelude.{IfSome}
 use Rattle.linx_base.specs.declared.identity.NodeNo.{NodeNo}
 use Rattle.sigsel.specs.declared.sigsel.Sigsel.{Sigsel}
 use Rattle.sigsel.specs.declared.sigsel.Sigsel.TheVariants.{Any, Only, Not}
 use Rattle.journal.specs.declared.effect.Step.{Step}
 use Rattle.journal.specs.Logs.{Log, is_full}
-use Rattle.linx_outside.specs.Told.{prepended}
 use Rattle.journal.specs.Laws.{Shape, IsLegal}
+use Rattle.journal.specs.History.{has_ended}
+use Rattle.script_lang.specs.Reading.{script_of}
 use Rattle.script_words.specs.declared.command.Command.{Command}
 use Rattle.script_words.specs.declared.command.Command.TheVariants.{Open, Close, Send, Recv}
 use Rattle.script_lang.specs.declared.actor_script.ActorScript.{ActorScript}
 use Rattle.script_words.specs.declared.bad_kind.BadKind.{BadKind}
 use Rattle.script_lang.specs.Parts.{ScriptParts}
-use Rattle.journal.specs.History.{has_ended}
 use Rattle.actor_run.specs.Asks.{is_itself}
 use Rattle.actor_run.specs.Following.{Follows, FollowsWhole}
+use Rattle.linx_sim.specs.Statuses.{IsDoneOrRefused}
+use Rattle.linx_sim.specs.Streams.{read_most}
 use Rattle.linx_sim.specs.declared.outcome.Status.{Status}
-use Rattle.linx_sim.specs.declared.outcome.Status.TheVariants.{Done, Usage, Script, ReadFault, WriteFault, JournalFull, NoMemory, NotBuilt}
-
--- the exit status of the program
-abbrev pub exit_of : Status → ℕ
-exit_of Done = 0
-exit_of Usage = 1
-exit_of (Script line) = 2
-exit_of ReadFault = 3
-exit_of WriteFault = 4
-exit_of JournalFull = 5
-exit_of NoMemory = 6
-exit_of NotBuilt = 10
+use Rattle.linx_sim.specs.declared.outcome.Status.TheVariants.{Done, Usage, Script, ReadFault}
+use Rattle.linx_sim.specs.declared.outcome.Status.TheVariants.{WriteFault, JournalFull, NoMemory}
+use Rattle.linx_sim.specs.declared.outcome.Status.TheVariants.{NotBuilt}
 
 -- the filter selects every signal
 abbrev pub is_any : Sigsel → Bool
@@ -54,7 +49,8 @@ is_turn _ = false
 -- such turns, and then a close
 abbrev pub is_body : List Command → Bool
 is_body [] = false
-is_body (command ∷ rest) = if is_close command then length rest == 0 else (is_turn command && is_body rest)
+is_body (command ∷ rest) =
+    if is_close command then length rest == 0 else (is_turn command && is_body rest)
 
 -- an open, and then such a body
 abbrev pub is_first_path : List Command → Bool
@@ -68,7 +64,8 @@ is_one_actor _ = false
 
 -- a script that can be run as yet: one node, no link, one actor with such commands
 abbrev pub is_built : ScriptParts → Bool
-is_built script = (length script.names.nodes == 1) && (length script.links == 0) && is_one_actor script.actors
+is_built script =
+    (length script.names.nodes == 1) && (length script.links == 0) && is_one_actor script.actors
 
 -- what a script is run on
 abbrev pub shape_of : ScriptParts → Shape
@@ -95,9 +92,10 @@ abbrev pub ForEachActor : (List Command → ℕ → Type 0) → List ActorScript
 ForEachActor Holds [] k = Unit {0}
 ForEachActor Holds (actor ∷ actors) k = Holds actor.commands k × ForEachActor Holds actors (k + 1)
 
--- a journal of a script so far: it has the script's names, is legal, and each actor's steps are the
--- first of its commands
+-- a journal so far of a script that can be run: it has the script's names, is legal, and each
+-- actor's steps are the first of its commands
 pub record IsSoFar (script : ScriptParts) (log : Log) : Type 0 where
+  pub built : is_built script ≡ true
   pub names : log.names ≡ script.names
   pub legal : IsLegal (shape_of script) log.steps
   pub follows : ForEachActor (λ commands k. Follows commands k log.steps) script.actors 1
@@ -110,9 +108,9 @@ pub record IsRunOf (script : ScriptParts) (log : Log) : Type 0 where
   pub follows : ForEachActor (λ commands k. FollowsWhole commands k log.steps) script.actors 1
   pub over : IsOver (shape_of script) log.steps
 
--- a run of a script stopped where an actor has a turn to take, and the journal takes no further step
+-- a run of a script stopped where an actor has a turn to take, and the journal takes no further
+-- step
 pub record IsStopped (script : ScriptParts) (log : Log) : Type 0 where
-  pub built : is_built script ≡ true
   pub so_far : IsSoFar script log
   pub full : is_full log.steps ≡ true
   pub turn : HasTurn (shape_of script) log.steps
@@ -132,9 +130,9 @@ pub record IsAnswered (status : Status) (told : Option (List ℕ)) (log : Log) :
   pub spelled : IfSome told (λ bytes. script_of bytes ≡ Ok script)
   pub answer : IsAnswerTo status script log
 
--- the bytes that a run reads: all, or one more than a script can have
+-- the bytes that a run reads of these
 abbrev pub read_of : List ℕ → List ℕ
-read_of bytes = take 1048577 bytes
+read_of bytes = take read_most bytes
 
 -- no script, and the first bad line
 abbrev pub IsBadAt : ℕ → Result ScriptParts (ℕ × BadKind) → Type 0
@@ -146,7 +144,8 @@ IsBadAt line (Err bad) = bad.0 ≡ line
 abbrev pub IsCaused : Status → Option (List ℕ) → Log → Type 0
 IsCaused Usage told log = log.steps ≡ []
 IsCaused ReadFault told log = log.steps ≡ []
-IsCaused (Script line) told log = IfSome told (λ bytes. IsBadAt line (script_of (read_of bytes))) × (log.steps ≡ [])
+IsCaused (Script line) told log =
+    IfSome told (λ bytes. IsBadAt line (script_of (read_of bytes))) × (log.steps ≡ [])
 IsCaused NoMemory told log = (log.steps ≡ []) ⊎ IsAnswered NoMemory told log
 IsCaused status told log = IsAnswered status told log
 
@@ -155,41 +154,9 @@ abbrev pub IsBuilt : Result ScriptParts (ℕ × BadKind) → Type 0
 IsBuilt (Ok script) = is_built script ≡ true
 IsBuilt (Err bad) = ⊥
 
--- the whole text was written, or memory was refused
-abbrev pub IsDoneOrRefused : Status → Type 0
-IsDoneOrRefused Done = Unit {0}
-IsDoneOrRefused NoMemory = Unit {0}
-IsDoneOrRefused _ = ⊥
-
--- the words weren't those of a command, or memory was refused
-abbrev pub IsUsageOrRefused : Status → Type 0
-IsUsageOrRefused Usage = Unit {0}
-IsUsageOrRefused NoMemory = Unit {0}
-IsUsageOrRefused _ = ⊥
-
--- the status comes only where the source was read to its end
-abbrev pub is_of_whole : Status → Bool
-is_of_whole Done = true
-is_of_whole WriteFault = true
-is_of_whole JournalFull = true
-is_of_whole NotBuilt = true
-is_of_whole _ = false
-
--- nothing is written at this status
-abbrev pub is_silent : Status → Bool
-is_silent Done = false
-is_silent WriteFault = false
-is_silent _ = true
-
--- the status comes only where no fault was counted
-abbrev pub is_unfaulted : Status → Bool
-is_unfaulted ReadFault = false
-is_unfaulted WriteFault = false
-is_unfaulted NoMemory = false
-is_unfaulted _ = true
-
--- at most so many first bytes were taken of those told
-pub record TakesAtMost (most : ℕ) (left rest : Option (List ℕ)) : Type 0 where
-  pub bytes : List ℕ
-  pub within : length bytes ≤ most
-  pub lost : left ≡ prepended bytes rest
+-- the run of a script that can be run is done, or memory was refused, where neither a read nor a
+-- write failed and the journal has room
+abbrev pub Completes : List ℕ → Status → Log → Type 0
+Completes bytes status log =
+    IsBuilt (script_of bytes) → is_full log.steps ≡ false → status ≢ ReadFault → status ≢ WriteFault
+    → IsDoneOrRefused status

@@ -1,8 +1,12 @@
 -- What holds between the turns of one actor.
-use Rattle.std.specs.Prelude.{ℕ, ◌≡◌, Bool, true, false, ◌&&◌, List, [], ◌∷◌, drop, Option, Some, None, IfSome}
+use Rattle.std.specs.Prelude.{ℕ, ◌≡◌, Bool, true, false, ◌&&◌, List, [], ◌∷◌, drop, slice_get}
+use Rattle.std.specs.Prelude.{Option, Some, None, IfSome}
 use Rattle.std.specs.List.{list_all}
 use Rattle.linx_base.specs.declared.identity.Inc.{Inc}
+use Rattle.linx_base.specs.declared.signal.SigNote.{SigNote}
+use Rattle.journal.specs.declared.by.By.TheVariants.{Actor}
 use Rattle.journal.specs.declared.effect.Step.{Step}
+use Rattle.journal.specs.declared.event.Event.{Event}
 use Rattle.journal.specs.Logs.{is_full}
 use Rattle.journal.specs.History.{last_endpoint, endpoint_of, has_ended}
 use Rattle.journal.specs.Laws.{Shape, IsLegal}
@@ -11,25 +15,28 @@ use Rattle.node_kernel.specs.declared.answers.StepAnswer.TheVariants as answers
 use Rattle.script_words.specs.declared.command.Command.{Command}
 use Rattle.script_words.specs.declared.command.Command.TheVariants.{Send}
 use Rattle.script_words.specs.Filling.{fits_data}
+use Rattle.actor_run.specs.Asks.{IsAskOf}
 use Rattle.actor_run.specs.Following.{Follows, FollowsWhole, steps_by}
 use Rattle.linx_sim.specs.Runs.{is_open, is_body, is_first_path, read_of, IsBadAt}
 use Rattle.script_lang.specs.Reading.{script_of}
 use Rattle.script_lang.specs.Parts.{ScriptParts}
 use Rattle.script_lang.specs.declared.actor_script.ActorScript.{ActorScript}
-use Rattle.fabric.specs.Remains.{only_node}
+use Rattle.fabric.specs.Events.{Makes}
+use Rattle.fabric.specs.Remains.{Layout, only_node}
 use Rattle.linx_sim.specs.declared.outcome.Status.{Status}
-use Rattle.linx_sim.specs.declared.outcome.Status.TheVariants.{Done, Script, ReadFault, WriteFault, JournalFull, NoMemory}
-use Rattle.linx_outside.specs.declared.whole_reads.ReadError.{ReadError}
-use Rattle.linx_outside.specs.declared.whole_reads.ReadError.TheVariants as reads
+use Rattle.linx_sim.specs.declared.outcome.Status.TheVariants.{Done, Script, ReadFault}
+use Rattle.linx_sim.specs.declared.outcome.Status.TheVariants.{WriteFault, JournalFull, NoMemory}
+use Rattle.linx_outside.specs.declared.whole_reads.ReadStop.{ReadStop}
+use Rattle.linx_outside.specs.declared.whole_reads.ReadStop.TheVariants as reads
 use Rattle.script_lang.specs.declared.script_error.ScriptError.{ScriptError}
 use Rattle.script_lang.specs.declared.script_error.ScriptError.TheVariants as scripts
 use Rattle.fabric.specs.declared.stop.StopCause.{StopCause}
 use Rattle.fabric.specs.declared.stop.StopCause.TheVariants as stops
 
 -- a send has at most as many data bytes as a signal holds
-abbrev pub is_sized : Command → Bool
-is_sized (Send to number bytes) = fits_data 65532 bytes
-is_sized _ = true
+abbrev pub fits_signal : Command → Bool
+fits_signal (Send to number bytes) = fits_data 65532 bytes
+fits_signal _ = true
 
 -- the commands can be run by an actor with this endpoint
 abbrev pub is_ready : Option Inc → List Command → Bool
@@ -44,21 +51,36 @@ endpoint_after me _ = me
 
 -- the actor has followed its commands up to this place, me is the endpoint that it opened last, and
 -- the others can be run
-pub record Playing (shape : Shape) (commands : List Command) (P : List Step) (place : ℕ) (me : Option Inc) : Type 0 where
+pub record Playing (shape : Shape) (commands : List Command) (P : List Step) (place : ℕ)
+    (me : Option Inc) : Type 0 where
   pub legal : IsLegal shape P
   pub follows : Follows commands 1 P
   pub counted : steps_by P 1 ≡ place
   pub mine : me ≡ last_endpoint P 1
   pub running : has_ended P 1 ≡ false
   pub ready : is_ready (endpoint_of P 1) (drop place commands) ≡ true
-  pub sized : list_all is_sized (drop place commands) ≡ true
+  pub sized : list_all fits_signal (drop place commands) ≡ true
+
+-- one step of the actor: that of the command at its place, or of its end behind the last one
+pub record MakesStep (shape : Shape) (commands : List Command) (P : List Step) (place : ℕ)
+    (me : Option Inc)
+    (answer : StepAnswer) (new : List Step) : Type 0 where
+  pub event : Event
+  pub hand : Option SigNote
+  pub asked : IsAskOf (slice_get commands place) me event hand
+  pub made : Makes shape P (Actor 1) event hand answer new
+  pub room : is_full P ≡ false
+
+-- a fabric keeps all but its steps
+abbrev pub ChangesSteps : Layout → Layout → Type 0
+ChangesSteps old new = new ≡ record old { log = record old.log { steps = new.log.steps } }
 
 -- what is known of the actor of a script that can be run
 pub record IsAlone (s : ScriptParts) (actor : ActorScript) : Type 0 where
   pub no_links : s.links ≡ []
   pub node : actor.node ≡ only_node
   pub path : is_first_path actor.commands ≡ true
-  pub sized : list_all is_sized actor.commands ≡ true
+  pub sized : list_all fits_signal actor.commands ≡ true
 
 -- what such a script is run on
 abbrev pub lone_shape : Shape
@@ -68,7 +90,8 @@ lone_shape = record { links = []; actors = only_node ∷ [] }
 abbrev pub IsPlayed : Status → List Command → List Step → Type 0
 IsPlayed Done commands P = FollowsWhole commands 1 P × (has_ended P 1 ≡ true)
 IsPlayed WriteFault commands P = FollowsWhole commands 1 P × (has_ended P 1 ≡ true)
-IsPlayed JournalFull commands P = Follows commands 1 P × (is_full P ≡ true) × (has_ended P 1 ≡ false)
+IsPlayed JournalFull commands P =
+    Follows commands 1 P × (is_full P ≡ true) × (has_ended P 1 ≡ false)
 IsPlayed NoMemory commands P = Follows commands 1 P
 IsPlayed _ commands P = ⊥
 
@@ -87,7 +110,7 @@ is_of_writing NoMemory = true
 is_of_writing _ = false
 
 -- the status of a read that stopped short
-abbrev pub read_status : ReadError → Status
+abbrev pub read_status : ReadStop → Status
 read_status reads.ReadFault = ReadFault
 read_status reads.NoMemory = NoMemory
 

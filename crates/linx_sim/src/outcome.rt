@@ -1,5 +1,9 @@
+//! How a run ends, and what the program says and answers then.
+
 ghost use Rattle.std.specs.Prelude.{◌≡◌};
 
+use arrayvec::ArrayString;
+use itoa::Buffer;
 use journal::Journal;
 
 /// How a run ended.
@@ -23,7 +27,7 @@ pub enum Status {
 }
 
 impl Status {
-    ghost use Rattle.linx_sim.specs.Runs.{exit_of};
+    ghost use Rattle.linx_sim.specs.Statuses.{exit_of, words_of, line_of};
 
     /// The exit status of the program.
     pub fn exit_code(self) -> u8
@@ -39,6 +43,39 @@ impl Status {
             Status::NoMemory => 6,
             Status::NotBuilt => 10,
         }
+    }
+
+    // What is said of it, but for the number of a bad line.
+    fn words(self) -> &'static str
+        ensures { result.now ≡ words_of self }
+    {
+        match self {
+            Status::Done => "",
+            Status::Usage => "usage: linx_sim run",
+            Status::Script { .. } => "script line ",
+            Status::ReadFault => "read fault",
+            Status::WriteFault => "write fault",
+            Status::JournalFull => "journal full",
+            Status::NoMemory => "out of memory",
+            Status::NotBuilt => "not built",
+        }
+    }
+
+    /// The program's line on standard error, with the newline at its end; empty at `Done`.
+    pub fn line(self) -> ArrayString<64>
+        ensures { result.bytes ≡ line_of self }
+    {
+        let mut line = ArrayString::new();
+        if self == Status::Done {
+            return line;
+        }
+        line.push_str("linx_sim: ");
+        line.push_str(self.words());
+        if let Status::Script { line: number } = self {
+            line.push_str(Buffer::new().format(number));
+        }
+        line.push_str("\n");
+        line
     }
 }
 

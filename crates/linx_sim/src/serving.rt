@@ -1,16 +1,19 @@
 //! The top call: words, script, run, text.
 
-ghost use Rattle.std.specs.Prelude.{◌≡◌, ◌⊎◌, ℕ, List, Some, true, false, [], IfOk, IfErr, OnOk, IfSome, Ok};
+ghost use Rattle.std.specs.Prelude.{◌≡◌, ◌≢◌, ◌⊎◌, Some, true, [], Ok};
+ghost use Rattle.std.specs.Prelude.{IfOk, IfErr, OnOk, IfSome};
 ghost use Rattle.std.specs.List.{list_all};
+ghost use Rattle.std.specs.Io.KnownBytes.{IsAtEnd};
 ghost use Rattle.linx_outside.specs.Counts.{HasFaulted, NeverFalls};
-ghost use Rattle.linx_outside.specs.Told.{appended, AppendsFront, HasNothingLeft};
 ghost use Rattle.journal.specs.Laws.{IsLegal};
-ghost use Rattle.journal.specs.Logs.{is_full};
 ghost use Rattle.journal_text.specs.Text.{text_of};
 ghost use Rattle.script_lang.specs.Reading.{script_of};
 ghost use Rattle.linx_sim.specs.CommandLine.{IsRun};
-ghost use Rattle.linx_sim.specs.Runs.{is_first_path, IsAnswerTo, IsCaused, IsBuilt, IsDoneOrRefused, IsUsageOrRefused, TakesAtMost, is_of_whole, is_silent, is_unfaulted};
-ghost use Rattle.linx_sim.specs.Turns.{IsAlone, IsPlayed, IsUnread, lone_shape, is_of_writing, is_sized, read_status, script_status, stop_status};
+ghost use Rattle.linx_sim.specs.Statuses.{IsUsageOrRefused};
+ghost use Rattle.linx_sim.specs.Streams.{Reads, Writes, TakesAtMost, read_most};
+ghost use Rattle.linx_sim.specs.Runs.{is_first_path, IsAnswerTo, IsCaused, Completes};
+ghost use Rattle.linx_sim.specs.Turns.{IsAlone, IsPlayed, IsUnread, lone_shape, fits_signal};
+ghost use Rattle.linx_sim.specs.Turns.{is_of_writing, read_status, script_status, stop_status};
 
 use crate::building::is_built;
 use crate::outcome::{Outcome, Status};
@@ -19,7 +22,7 @@ use crate::words::asks_for_run;
 use fabric::{Fabric, StopCause};
 use journal::Journal;
 use linx_base::{NameList, Names, NoMemory, TryCopy};
-use linx_outside::{Gate, ReadError, Sink, Source, read_up_to};
+use linx_outside::{Gate, ReadStop, Sink, Source, read_up_to};
 use report::{ReportError, write_report};
 use script_lang::{ActorScript, Script, ScriptError, parse};
 use std::alloc::Global;
@@ -43,12 +46,12 @@ fn unstarted(alloc: Global, status: Status) -> Outcome
     }
 }
 
-fn status_of_read(error: ReadError) -> Status
-    ensures { result ≡ read_status error }
+fn status_of_read(stop: ReadStop) -> Status
+    ensures { result ≡ read_status stop }
 {
-    match error {
-        ReadError::ReadFault => Status::ReadFault,
-        ReadError::NoMemory => Status::NoMemory,
+    match stop {
+        ReadStop::ReadFault => Status::ReadFault,
+        ReadStop::NoMemory => Status::NoMemory,
     }
 }
 
@@ -74,12 +77,8 @@ fn status_of_stop(cause: StopCause) -> Status
 fn write_run<K: Sink>(alloc: Global, journal: Journal, out: &mut K) -> Outcome
     ensures journal { result.journal ≡ journal }
     ensures kinds { is_of_writing result.status ≡ true }
-    ensures written { result.status ≡ Status.Done → K.held out.new ≡ appended (K.held out.old) (text_of journal.log) }
-    ensures front { result.status ≡ Status.WriteFault → AppendsFront (K.held out.old) (K.held out.new) (text_of journal.log) }
-    ensures silent { is_silent result.status ≡ true → out.new ≡ out.old }
-    ensures faulted { result.status ≡ Status.WriteFault → HasFaulted K.last_count (K.faults out.old) (K.faults out.new) }
-    ensures unfaulted { is_unfaulted result.status ≡ true → K.faults out.new ≡ K.faults out.old }
-    ensures never_falls { NeverFalls K.last_count (K.faults out.old) (K.faults out.new) }
+    ensures sink { Writes K.held K.faults K.last_count K.can_take out.old out.new
+        result.status (text_of journal.log) }
 {
     let status = match write_report(alloc, &journal, out) {
         Ok(()) => Status::Done,
@@ -94,16 +93,12 @@ fn run_actor<K: Sink>(alloc: Global, fabric: Fabric, actor: &ActorScript, out: &
     requires one_actor { fabric.shape ≡ lone_shape }
     requires unstarted { fabric.log.steps ≡ [] }
     requires path { is_first_path actor.now.commands ≡ true }
-    requires sized { list_all is_sized actor.now.commands ≡ true }
+    requires sized { list_all fits_signal actor.now.commands ≡ true }
     ensures legal { IsLegal lone_shape result.journal.log.steps }
     ensures names { result.journal.log.names ≡ fabric.log.names }
     ensures played { IsPlayed result.status actor.now.commands result.journal.log.steps }
-    ensures written { result.status ≡ Status.Done → K.held out.new ≡ appended (K.held out.old) (text_of result.journal.log) }
-    ensures front { result.status ≡ Status.WriteFault → AppendsFront (K.held out.old) (K.held out.new) (text_of result.journal.log) }
-    ensures silent { is_silent result.status ≡ true → out.new ≡ out.old }
-    ensures faulted { result.status ≡ Status.WriteFault → HasFaulted K.last_count (K.faults out.old) (K.faults out.new) }
-    ensures unfaulted { is_unfaulted result.status ≡ true → K.faults out.new ≡ K.faults out.old }
-    ensures never_falls { NeverFalls K.last_count (K.faults out.old) (K.faults out.new) }
+    ensures sink { Writes K.held K.faults K.last_count K.can_take out.old out.new
+        result.status (text_of result.journal.log) }
 {
     let mut fabric = fabric;
     match play(alloc, &mut fabric, actor) {
@@ -118,21 +113,21 @@ fn run_actor<K: Sink>(alloc: Global, fabric: Fabric, actor: &ActorScript, out: &
 /// The fabric that a script of one actor is run on.
 fn fabric_of(alloc: Global, script: &Script, actor: &ActorScript) -> Result<Fabric, NoMemory>
     requires { IsAlone script.now actor.now }
-    ensures { IfOk result (λ fabric. fabric ≡ record { shape = lone_shape; log = record { names = script.now.names; steps = [] } }) }
+    ensures { IfOk result (λ fabric. fabric ≡ record {
+      shape = lone_shape;
+      log = record { names = script.now.names; steps = [] };
+    }) }
 {
     Fabric::new(alloc, script.names().copy()?, script.links(), &[actor.node])
 }
 
 /// Runs a script, where it is one that can be run as yet.
 fn run_script<K: Sink>(alloc: Global, script: &Script, out: &mut K) -> Outcome
-    ensures answer { ((result.status ≡ Status.NoMemory) × (result.journal.log.steps ≡ [])) ⊎ IsAnswerTo result.status script.now result.journal.log }
+    ensures answer { ((result.status ≡ Status.NoMemory) × (result.journal.log.steps ≡ []))
+        ⊎ IsAnswerTo result.status script.now result.journal.log }
     ensures legal { IsLegal lone_shape result.journal.log.steps }
-    ensures written { result.status ≡ Status.Done → K.held out.new ≡ appended (K.held out.old) (text_of result.journal.log) }
-    ensures front { result.status ≡ Status.WriteFault → AppendsFront (K.held out.old) (K.held out.new) (text_of result.journal.log) }
-    ensures silent { is_silent result.status ≡ true → out.new ≡ out.old }
-    ensures faulted { result.status ≡ Status.WriteFault → HasFaulted K.last_count (K.faults out.old) (K.faults out.new) }
-    ensures unfaulted { is_unfaulted result.status ≡ true → K.faults out.new ≡ K.faults out.old }
-    ensures never_falls { NeverFalls K.last_count (K.faults out.old) (K.faults out.new) }
+    ensures sink { Writes K.held K.faults K.last_count K.can_take out.old out.new
+        result.status (text_of result.journal.log) }
 {
     if !is_built(script) {
         return unstarted(alloc, Status::NotBuilt);
@@ -146,21 +141,23 @@ fn run_script<K: Sink>(alloc: Global, script: &Script, out: &mut K) -> Outcome
     }
 }
 
-/// Reads a source to its end, and gives the script that its bytes spell, or the status that says why
-/// there is none.
+/// Reads a source to its end, and gives the script that its bytes spell, or the status that says
+/// why there is none.
 fn read_script<S: Source>(alloc: Global, source: &mut S) -> Result<Script, Status>
-    ensures spelled { IfOk result (λ script. IfSome (S.left source.old) (λ told. script_of told ≡ Ok script)) }
-    ensures whole { OnOk result (HasNothingLeft (S.left source.new)) }
-    ensures unread { IfErr result (λ status. IsUnread status (S.left source.old)) }
-    ensures faulted { IfErr result (λ status. status ≡ Status.ReadFault → HasFaulted S.last_count (S.faults source.old) (S.faults source.new)) }
+    ensures spelled { IfOk result (λ script.
+        IfSome (S.left source.old) (λ told. script_of told ≡ Ok script)) }
+    ensures whole { OnOk result (IsAtEnd (S.left source.new)) }
+    ensures taken { TakesAtMost read_most (S.left source.old) (S.left source.new) }
     ensures counts_nothing { OnOk result (S.faults source.new ≡ S.faults source.old) }
-    ensures unfaulted { IfErr result (λ status. is_unfaulted status ≡ true → S.faults source.new ≡ S.faults source.old) }
-    ensures taken { TakesAtMost 1048577 (S.left source.old) (S.left source.new) }
-    ensures never_falls { NeverFalls S.last_count (S.faults source.old) (S.faults source.new) }
+    ensures faultless { S.is_faultless source.old → S.is_faultless source.new }
+
+    ensures unread { IfErr result (λ status. IsUnread status (S.left source.old)) }
+    ensures source { IfErr result (λ status.
+        Reads S.left S.faults S.last_count S.is_faultless source.old source.new status) }
 {
     let mut bytes = Vec::new(alloc);
-    if let Err(error) = read_up_to(source, &mut bytes, READ_MOST) {
-        return Err(status_of_read(error));
+    if let Err(stop) = read_up_to(source, &mut bytes, READ_MOST) {
+        return Err(status_of_read(stop));
     }
     match parse(alloc, bytes.as_slice()) {
         Ok(script) => Ok(script),
@@ -170,29 +167,15 @@ fn read_script<S: Source>(alloc: Global, source: &mut S) -> Result<Script, Statu
 
 /// Reads a script, runs it step by step, and writes the text of the whole run.
 pub fn serial<S: Source, K: Sink>(alloc: Global, script: &mut S, out: &mut K) -> Outcome
-    // Of the bytes, the run and the journal.
     ensures cause { IsCaused result.status (S.left script.old) result.journal.log }
     ensures legal { IsLegal lone_shape result.journal.log.steps }
-    ensures never_usage { result.status ≡ Status.Usage → ⊥ }
-    ensures complete { (told : List ℕ) → S.left script.old ≡ Some told → IsBuilt (script_of told)
-        → (HasFaulted S.last_count (S.faults script.old) (S.faults script.new) → ⊥)
-        → (HasFaulted K.last_count (K.faults out.old) (K.faults out.new) → ⊥)
-        → is_full result.journal.log.steps ≡ false → IsDoneOrRefused result.status }
-
-    // Of the source.
-    ensures whole { is_of_whole result.status ≡ true → HasNothingLeft (S.left script.new) }
-    ensures taken { TakesAtMost 1048577 (S.left script.old) (S.left script.new) }
-    ensures read_fault { result.status ≡ Status.ReadFault → HasFaulted S.last_count (S.faults script.old) (S.faults script.new) }
-    ensures read_unfaulted { is_unfaulted result.status ≡ true → S.faults script.new ≡ S.faults script.old }
-    ensures read_count { NeverFalls S.last_count (S.faults script.old) (S.faults script.new) }
-
-    // Of the sink.
-    ensures written { result.status ≡ Status.Done → K.held out.new ≡ appended (K.held out.old) (text_of result.journal.log) }
-    ensures front { result.status ≡ Status.WriteFault → AppendsFront (K.held out.old) (K.held out.new) (text_of result.journal.log) }
-    ensures silent { is_silent result.status ≡ true → out.new ≡ out.old }
-    ensures write_fault { result.status ≡ Status.WriteFault → HasFaulted K.last_count (K.faults out.old) (K.faults out.new) }
-    ensures write_unfaulted { is_unfaulted result.status ≡ true → K.faults out.new ≡ K.faults out.old }
-    ensures write_count { NeverFalls K.last_count (K.faults out.old) (K.faults out.new) }
+    ensures never_usage { result.status ≢ Status.Usage }
+    ensures complete { IfSome (S.left script.old) (λ told.
+        Completes told result.status result.journal.log) }
+    ensures source { Reads S.left S.faults S.last_count S.is_faultless script.old script.new
+        result.status }
+    ensures sink { Writes K.held K.faults K.last_count K.can_take out.old out.new
+        result.status (text_of result.journal.log) }
 {
     match read_script(alloc, script) {
         Ok(script) => run_script(alloc, &script, out),
@@ -210,32 +193,22 @@ pub fn run<S: Source, K: Sink, G: Gate + Sync, R: Wait>(
     _gate: &G,
 ) -> Outcome
     // Of the words.
-    ensures usage { result.status ≡ Status.Usage → IsRun words.now → ⊥ }
-    ensures other_words { (IsRun words.now → ⊥) → IsUsageOrRefused result.status }
-    ensures untouched { (IsRun words.now → ⊥) → (script.new ≡ script.old) × (out.new ≡ out.old) }
+    ensures usage { result.status ≡ Status.Usage → ¬ (IsRun words.now) }
+    ensures other_words { ¬ (IsRun words.now) → IsUsageOrRefused result.status }
+    ensures untouched { ¬ (IsRun words.now)
+        → (script.new ≡ script.old) × (out.new ≡ out.old) }
 
     // Of the bytes, the run and the journal.
     ensures cause { IsCaused result.status (S.left script.old) result.journal.log }
     ensures legal { IsLegal lone_shape result.journal.log.steps }
-    ensures complete { IsRun words.now → (told : List ℕ) → S.left script.old ≡ Some told → IsBuilt (script_of told)
-        → (HasFaulted S.last_count (S.faults script.old) (S.faults script.new) → ⊥)
-        → (HasFaulted K.last_count (K.faults out.old) (K.faults out.new) → ⊥)
-        → is_full result.journal.log.steps ≡ false → IsDoneOrRefused result.status }
+    ensures complete { IsRun words.now → IfSome (S.left script.old) (λ told.
+        Completes told result.status result.journal.log) }
 
-    // Of the source.
-    ensures whole { is_of_whole result.status ≡ true → HasNothingLeft (S.left script.new) }
-    ensures taken { TakesAtMost 1048577 (S.left script.old) (S.left script.new) }
-    ensures read_fault { result.status ≡ Status.ReadFault → HasFaulted S.last_count (S.faults script.old) (S.faults script.new) }
-    ensures read_unfaulted { is_unfaulted result.status ≡ true → S.faults script.new ≡ S.faults script.old }
-    ensures read_count { NeverFalls S.last_count (S.faults script.old) (S.faults script.new) }
-
-    // Of the sink.
-    ensures written { result.status ≡ Status.Done → K.held out.new ≡ appended (K.held out.old) (text_of result.journal.log) }
-    ensures front { result.status ≡ Status.WriteFault → AppendsFront (K.held out.old) (K.held out.new) (text_of result.journal.log) }
-    ensures silent { is_silent result.status ≡ true → out.new ≡ out.old }
-    ensures write_fault { result.status ≡ Status.WriteFault → HasFaulted K.last_count (K.faults out.old) (K.faults out.new) }
-    ensures write_unfaulted { is_unfaulted result.status ≡ true → K.faults out.new ≡ K.faults out.old }
-    ensures write_count { NeverFalls K.last_count (K.faults out.old) (K.faults out.new) }
+    // Of the source and the sink.
+    ensures source { Reads S.left S.faults S.last_count S.is_faultless script.old script.new
+        result.status }
+    ensures sink { Writes K.held K.faults K.last_count K.can_take out.old out.new
+        result.status (text_of result.journal.log) }
 {
     match asks_for_run(alloc, words) {
         Ok(true) => serial(alloc, script, out),

@@ -1,7 +1,18 @@
+ghost use Rattle.std.specs.Prelude.{◌≡◌, ◌+◌, ◌≤◌, [], false, length};
+ghost use Rattle.journal.specs.Logs.{is_full};
+ghost use Rattle.journal_text.specs.Text.{text_of};
+ghost use Rattle.script_lang.specs.Reading.{script_of};
+ghost use Rattle.linx_sim.specs.Statuses.{IsDoneOrRefused};
+ghost use Rattle.linx_sim.specs.Runs.{IsBuilt};
+
 use crate::outcome::{Outcome, Status};
 use crate::serving;
+use crate::telling::tell;
+use crate::words::words_behind_name;
 use linx_outside::{MemSink, MemSource, OpenGate, PlainSource};
 use std::alloc::Global;
+use std::env::{Env, FillError};
+use std::process::ExitCode;
 use std::sync::Wait;
 use std::test::Fail;
 
@@ -23,9 +34,19 @@ const TEXT: &str = "log 1.1 a n\nsent 1.1 5 - queued\narrived 1.1 5 -\ntook 1.1 
     journal 5\n1 A1 open a\n+ opened 1.1\n2 A1 send 1.1 5 - queued\n+ arrived 1.1 1.1 5 -\n\
     3 A1 take any 2.1\n4 A1 close\n+ closed 1.1\n5 A1 ended\n";
 
+// A run over memory ends as it should, whatever the script that can be run.
+fn run_in_memory(alloc: Global, source: &mut PlainSource, sink: &mut MemSink) -> Outcome
+    ensures { IsBuilt (script_of source.old) → is_full result.journal.log.steps ≡ false
+        → sink.old.plan.fails ≡ []
+        → length sink.old.held + length (text_of result.journal.log) ≤ sink.old.room
+        → IsDoneOrRefused result.status }
+{
+    serving::serial(alloc, source, sink)
+}
+
 fn outcome_of(alloc: Global, script: &[u8], sink: &mut MemSink) -> Result<Outcome, Fail> {
     let mut source = PlainSource::new(Vec::from_slice(alloc, script)?);
-    Ok(serving::serial(alloc, &mut source, sink))
+    Ok(run_in_memory(alloc, &mut source, sink))
 }
 
 #[test]
@@ -140,4 +161,93 @@ fn words_that_are_no_command(rt: HostRuntime) -> Result<(), Fail> {
     assert_eq!(rt; status_for(&rt, alloc, &["gen"])?, Status::Usage);
     assert_eq!(rt; status_for(&rt, alloc, &[])?, Status::Usage);
     Ok(())
+}
+
+// The rows of the statuses: the exit status, and the line on standard error.
+const ROWS: [(Status, u8, &str); 8] = [
+    (Status::Done, 0, ""),
+    (Status::Usage, 1, "linx_sim: usage: linx_sim run\n"),
+    (
+        Status::Script {
+            line: 4_294_967_295,
+        },
+        2,
+        "linx_sim: script line 4294967295\n",
+    ),
+    (Status::ReadFault, 3, "linx_sim: read fault\n"),
+    (Status::WriteFault, 4, "linx_sim: write fault\n"),
+    (Status::JournalFull, 5, "linx_sim: journal full\n"),
+    (Status::NoMemory, 6, "linx_sim: out of memory\n"),
+    (Status::NotBuilt, 10, "linx_sim: not built\n"),
+];
+
+#[test]
+fn each_status_has_its_line_and_its_exit_status(rt: HostRuntime) -> Result<(), Fail> {
+    let alloc = rt.alloc();
+    for (status, number, line) in ROWS {
+        let mut errors = MemSink::new(alloc, 7, 64, Vec::new(alloc))?;
+        assert!(rt; tell(status, &mut errors) == ExitCode::from(number));
+        assert_eq!(rt; errors.held(), line.as_bytes());
+    }
+    Ok(())
+}
+
+#[test]
+fn a_line_that_cannot_be_written_changes_no_exit_status(rt: HostRuntime) -> Result<(), Fail> {
+    let alloc = rt.alloc();
+    for (status, number, _) in ROWS {
+        let mut full = MemSink::new(alloc, 7, 0, Vec::new(alloc))?;
+        assert!(rt; tell(status, &mut full) == ExitCode::from(number));
+        assert!(rt; full.held().is_empty());
+    }
+    Ok(())
+}
+
+// The words that a program is given, its name first.
+#[derive(Drop)]
+struct Given<'a> {
+    words: &'a [&'a [u8]],
+}
+
+impl Env for Given<'_> {
+    fn arg(&self, i: usize, buf: &mut [u8]) -> Result<usize, FillError> {
+        match self.words.get(i) {
+            None => Err(FillError::NotPresent),
+            Some(word) if word.len() > buf.len() => Err(FillError::TooLong),
+            Some(word) => {
+                buf[..word.len()].copy_from_slice(word);
+                Ok(word.len())
+            }
+        }
+    }
+
+    fn var(&self, _name: &str, _buf: &mut [u8]) -> Result<usize, FillError> {
+        Err(FillError::NotPresent)
+    }
+
+    fn var_at(&self, _i: usize, _buf: &mut [u8]) -> Result<usize, FillError> {
+        Err(FillError::NotPresent)
+    }
+}
+
+fn words_of(alloc: Global, words: &[&[u8]]) -> Result<Vec<String>, Status> {
+    words_behind_name(&Given { words }, alloc)
+}
+
+#[test]
+fn the_name_of_the_program_is_not_looked_at(rt: HostRuntime) {
+    let alloc = rt.alloc();
+    let given: [&[u8]; 3] = [b"\xff\xfe", b"run", b"fast"];
+    assert!(rt; matches!(&words_of(alloc, &given), Ok(words)
+        if words.len() == 2 && words[0].as_str() == "run" && words[1].as_str() == "fast"));
+    assert!(rt; matches!(&words_of(alloc, &[]), Ok(words) if words.is_empty()));
+}
+
+#[test]
+fn words_that_no_command_has(rt: HostRuntime) {
+    let alloc = rt.alloc();
+    let not_utf8: [&[u8]; 2] = [b"linx_sim", b"\xff"];
+    assert!(rt; matches!(&words_of(alloc, &not_utf8), Err(Status::Usage)));
+    let long: [&[u8]; 2] = [b"linx_sim", &[b'x'; 65]];
+    assert!(rt; matches!(&words_of(alloc, &long), Err(Status::Usage)));
 }

@@ -1,6 +1,6 @@
 //! What a run writes: the printed text of its journal, to a sink. The text is made whole before the
-//! first byte goes out, so want of memory writes nothing; a write that fails leaves some first bytes
-//! of it.
+//! first byte goes out, so want of memory writes nothing; a write that fails leaves some first
+//! bytes of it.
 #![tactic(auto)]
 
 mod reports;

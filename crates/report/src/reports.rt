@@ -1,8 +1,9 @@
 ghost use Rattle.std.specs.Prelude.{◌≡◌, ◌≤◌, ℕ, length, OnOk, OnErr, IfErr};
+ghost use Rattle.std.specs.Io.KnownBytes.{Appends};
 ghost use Rattle.linx_outside.specs.Counts.{HasFaulted, NeverFalls};
-ghost use Rattle.linx_outside.specs.Told.{appended, AppendsFront};
+ghost use Rattle.linx_outside.specs.Told.{AppendsFront};
 ghost use Rattle.journal_text.specs.Text.{text_of};
-ghost use Rattle.report.specs.declared.reports.ReportError.TheVariants.{WriteFault as Faulted, NoMemory as OutOfMemory};
+ghost use Rattle.report.specs.declared.reports.ReportError.TheVariants as errors;
 
 use journal::Journal;
 use linx_base::NoMemory;
@@ -36,7 +37,7 @@ impl fmt::Display for ReportError {
 impl Error for ReportError {}
 
 impl From<NoMemory> for ReportError {
-    ghost from_gives = { λ _ e. e ≡ OutOfMemory };
+    ghost from_gives = { λ _ e. e ≡ errors.NoMemory };
 
     fn from(_refusal: NoMemory) -> ReportError {
         ReportError::NoMemory
@@ -44,7 +45,7 @@ impl From<NoMemory> for ReportError {
 }
 
 impl From<WriteFault> for ReportError {
-    ghost from_gives = { λ _ e. e ≡ Faulted };
+    ghost from_gives = { λ _ e. e ≡ errors.WriteFault };
 
     fn from(_fault: WriteFault) -> ReportError {
         ReportError::WriteFault
@@ -59,7 +60,8 @@ pub fn write_report<K: Sink>(
     journal: &Journal,
     out: &mut K,
 ) -> Result<(), ReportError>
-    ensures written { OnOk result (K.held out.new ≡ appended (K.held out.old) (text_of journal.now.log)) }
+    ensures written { OnOk result
+        (Appends (K.held out.old) (K.held out.new) (text_of journal.now.log)) }
     ensures counts_nothing { OnOk result (K.faults out.new ≡ K.faults out.old) }
 
     ensures front { IfErr result (λ e. e ≡ ReportError.WriteFault

@@ -1,0 +1,64 @@
+-- How a run ends: the program's exit status, and what it says.
+use Rattle.std.specs.Prelude.{ℕ, Bool, true, false, List, [], ◌++◌, codes, decimal}
+use Rattle.linx_sim.specs.declared.outcome.Status.{Status}
+use Rattle.linx_sim.specs.declared.outcome.Status.TheVariants.{Done, Usage, Script, ReadFault}
+use Rattle.linx_sim.specs.declared.outcome.Status.TheVariants.{WriteFault, JournalFull, NoMemory}
+use Rattle.linx_sim.specs.declared.outcome.Status.TheVariants.{NotBuilt}
+
+-- the exit status of the program
+abbrev pub exit_of : Status → ℕ
+exit_of Done = 0
+exit_of Usage = 1
+exit_of (Script line) = 2
+exit_of ReadFault = 3
+exit_of WriteFault = 4
+exit_of JournalFull = 5
+exit_of NoMemory = 6
+exit_of NotBuilt = 10
+
+-- what is said of a status, but for the number of a bad line
+abbrev pub words_of : Status → List ℕ
+words_of Done = []
+words_of Usage = codes "usage: linx_sim run"
+words_of (Script line) = codes "script line "
+words_of ReadFault = codes "read fault"
+words_of WriteFault = codes "write fault"
+words_of JournalFull = codes "journal full"
+words_of NoMemory = codes "out of memory"
+words_of NotBuilt = codes "not built"
+
+-- that number
+abbrev pub number_of : Status → List ℕ
+number_of (Script line) = decimal line
+number_of _ = []
+
+-- the program's line on standard error; there is none at Done
+abbrev pub line_of : Status → List ℕ
+line_of Done = []
+line_of status = codes "linx_sim: " ++ words_of status ++ number_of status ++ codes "\n"
+
+-- the whole text was written, or memory was refused
+abbrev pub IsDoneOrRefused : Status → Type 0
+IsDoneOrRefused Done = Unit {0}
+IsDoneOrRefused NoMemory = Unit {0}
+IsDoneOrRefused _ = ⊥
+
+-- the words weren't those of a command, or memory was refused
+abbrev pub IsUsageOrRefused : Status → Type 0
+IsUsageOrRefused Usage = Unit {0}
+IsUsageOrRefused NoMemory = Unit {0}
+IsUsageOrRefused _ = ⊥
+
+-- the status comes only where the source was read to its end
+abbrev pub is_of_whole : Status → Bool
+is_of_whole Done = true
+is_of_whole WriteFault = true
+is_of_whole JournalFull = true
+is_of_whole NotBuilt = true
+is_of_whole _ = false
+
+-- nothing is written at this status
+abbrev pub is_silent : Status → Bool
+is_silent Done = false
+is_silent WriteFault = false
+is_silent _ = true

@@ -1,0 +1,30 @@
+//! The end of the program: its line on standard error, and its exit status.
+
+ghost use Rattle.std.specs.Prelude.{◌≡◌, ◌⊎◌, length};
+ghost use Rattle.std.specs.Io.KnownBytes.{Appends};
+ghost use Rattle.std.specs.Process.{exit_status};
+ghost use Rattle.linx_outside.specs.Counts.{HasFaulted, NeverFalls};
+ghost use Rattle.linx_outside.specs.Told.{AppendsFront};
+ghost use Rattle.linx_sim.specs.Statuses.{exit_of, line_of};
+
+use crate::outcome::Status;
+use linx_outside::{Sink, write_all};
+use std::process::ExitCode;
+
+/// Writes the line of a status, and answers its exit status, which is the same where the line can't
+/// be written.
+pub fn tell<K: Sink>(status: Status, errors: &mut K) -> ExitCode
+    ensures number { exit_status result ≡ exit_of status }
+    ensures line { ¬ (HasFaulted K.last_count (K.faults errors.old) (K.faults errors.new))
+        → Appends (K.held errors.old) (K.held errors.new) (line_of status) }
+    ensures takes { K.can_take errors.old (length (line_of status))
+        → Appends (K.held errors.old) (K.held errors.new) (line_of status) }
+    ensures front { Appends (K.held errors.old) (K.held errors.new) (line_of status)
+        ⊎ AppendsFront (K.held errors.old) (K.held errors.new) (line_of status) }
+    ensures silent { status ≡ Status.Done → errors.new ≡ errors.old }
+    ensures never_falls { NeverFalls K.last_count (K.faults errors.old) (K.faults errors.new) }
+{
+    let line = status.line();
+    let _ = write_all(errors, line.as_str().as_bytes());
+    ExitCode::from(status.exit_code())
+}
