@@ -27,23 +27,7 @@ pub enum Status {
 }
 
 impl Status {
-    ghost use Rattle.linx_sim.specs.Statuses.{exit_of, words_of, line_of};
-
-    /// The exit status of the program.
-    pub fn exit_code(self) -> u8
-        ensures { result ≡ exit_of self }
-    {
-        match self {
-            Status::Done => 0,
-            Status::Usage => 1,
-            Status::Script { .. } => 2,
-            Status::ReadFault => 3,
-            Status::WriteFault => 4,
-            Status::JournalFull => 5,
-            Status::NoMemory => 6,
-            Status::NotBuilt => 10,
-        }
-    }
+    ghost use Rattle.linx_sim.specs.Statuses.{words_of, line_of};
 
     // What is said of it, but for the number of a bad line.
     fn words(self) -> &'static str

@@ -11,6 +11,22 @@ use crate::outcome::Status;
 use linx_outside::{Sink, write_all};
 use std::process::ExitCode;
 
+// The exit status of the program. Who wants it has to tell the status.
+fn exit_code(status: Status) -> u8
+    ensures { result ≡ exit_of status }
+{
+    match status {
+        Status::Done => 0,
+        Status::Usage => 1,
+        Status::Script { .. } => 2,
+        Status::ReadFault => 3,
+        Status::WriteFault => 4,
+        Status::JournalFull => 5,
+        Status::NoMemory => 6,
+        Status::NotBuilt => 10,
+    }
+}
+
 /// Writes the line of a status, and answers its exit status, which is the same where the line can't
 /// be written.
 pub fn tell<K: Sink>(status: Status, errors: &mut K) -> ExitCode
@@ -26,5 +42,5 @@ pub fn tell<K: Sink>(status: Status, errors: &mut K) -> ExitCode
 {
     let line = status.line();
     let _ = write_all(errors, line.as_str().as_bytes());
-    ExitCode::from(status.exit_code())
+    ExitCode::from(exit_code(status))
 }
