@@ -33,7 +33,7 @@ abbrev pub Follows : List Command → ℕ → List Step → Type 0
 Follows commands k [] = Unit {0}
 Follows commands k (s ∷ P) =
     Follows commands k P × (is_by s.by k ≡ true
-        → IsStepOf (slice_get commands (steps_by P k)) (last_endpoint P k) s.head)
+    → IsStepOf (slice_get commands (steps_by P k)) (last_endpoint P k) s.head)
 
 -- they are all of these
 abbrev pub FollowsWhole : List Command → ℕ → List Step → Type 0

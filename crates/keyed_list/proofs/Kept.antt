@@ -31,8 +31,8 @@ module _ {T K : Type 0} (cmp : K → K → Ordering) (total : IsTotalOrder cmp) 
             rising = subst AreRising (sym last) (rising-more next entry entries indexed.rising below);
             ordered = ordered;
             placed = λ q.
-            adds q ∙ ap (λ l. l ++ cond (is_under cmp keys q entry) (next ∷ []) []) (indexed.placed q)
-            ∙ sym (tickets-more (is_under cmp keys q) next entry entries) ∙ ap (tickets_under cmp keys q) (sym last);
+                adds q ∙ ap (λ l. l ++ cond (is_under cmp keys q entry) (next ∷ []) []) (indexed.placed q)
+                ∙ sym (tickets-more (is_under cmp keys q) next entry entries) ∙ ap (tickets_under cmp keys q) (sym last);
           },
           subst (AreBelowTicket (next + 1)) (sym last) (below-more next entry entries below),
         )

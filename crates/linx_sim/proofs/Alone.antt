@@ -45,7 +45,7 @@ all_sized s node [] fit = refl
 all_sized s node (command ∷ rest) fit =
     let parts = and_parts (fits_command s node command) (list_all (fits_command s node) rest) fit in
     and_from (fits_signal command) (list_all fits_signal rest) (sized s node command parts.0)
-        (all_sized s node rest parts.1)
+    (all_sized s node rest parts.1)
 
 no_links_left : (links : List LinkDecl) → (length links == 0) ≡ true → links ≡ []
 no_links_left [] none = refl
@@ -57,15 +57,15 @@ pub alone : (s : ScriptParts) (actor : ActorScript) → IsScript s → is_built 
     → s.actors ≡ actor ∷ [] → IsAlone s actor
 alone s actor script built one =
     let parts = three (length s.names.nodes == 1) (length s.links == 0) (is_one_actor s.actors)
-        built in
+    built in
     let lone : ((actor.node.0 == 1) && is_first_path actor.commands) ≡ true = ap is_one_actor
-        (sym one) ∙ parts.1.1 in
+    (sym one) ∙ parts.1.1 in
     let both = and_parts (actor.node.0 == 1) (is_first_path actor.commands) lone in
     let fits : (fits_actor s actor && true) ≡ true = ap (list_all (fits_actor s)) (sym one)
-        ∙ script.each_actor in
+    ∙ script.each_actor in
     let fit = three (is_node s actor.node) (nat_le (length actor.commands) 20000)
-        (list_all (fits_command s actor.node) actor.commands)
-        (and_parts (fits_actor s actor) true fits).0 in
+    (list_all (fits_command s actor.node) actor.commands)
+    (and_parts (fits_actor s actor) true fits).0 in
     record {
       no_links = no_links_left s.links parts.1.0;
       node = ap (λ (n : ℕ). record { 0 = n }) (eqb-true actor.node.0 1 both.0);
@@ -94,7 +94,7 @@ is_run : (s : ScriptParts) (actor : ActorScript) (log : Log) → IsAlone s actor
 is_run s actor log facts one built names legal follows ended =
     let shape : shape_of s ≡ lone_shape = shape_is s actor facts one in
     let over : IsOver lone_shape log.steps = record
-        { actors = λ k some most. all_ended log.steps k ended some most; links = refl } in
+    { actors = λ k some most. all_ended log.steps k ended some most; links = refl } in
     record {
       built = built;
       names = names;
@@ -119,8 +119,12 @@ is_so_far s actor log facts one built names legal follows = record {
 has_turn : (s : ScriptParts) (actor : ActorScript) (P : List Step) → IsAlone s actor
     → s.actors ≡ actor ∷ [] → has_ended P 1 ≡ false → HasTurn (shape_of s) P
 has_turn s actor P facts one running =
-    let turn : HasTurn lone_shape P = record { actor = 1; some = omega arith; within = omega arith;
-        running = running } in
+    let turn : HasTurn lone_shape P = record {
+      actor = 1;
+      some = omega arith;
+      within = omega arith;
+      running = running;
+    } in
     subst (λ (x : Shape). HasTurn x P) (sym (shape_is s actor facts one)) turn
 
 -- what the status of the actor's run says of the script

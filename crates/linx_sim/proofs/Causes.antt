@@ -44,7 +44,7 @@ not_unbuilt : (s : ScriptParts) (spells : Result ScriptParts (ℕ × BadKind)) �
     → IsBuilt spells → is_built s ≡ false → ⊥
 not_unbuilt s (Ok other) is built unbuilt =
     let same : is_built other ≡ is_built s = ap
-        (λ (x : Result ScriptParts (ℕ × BadKind)). built_of x) is in
+    (λ (x : Result ScriptParts (ℕ × BadKind)). built_of x) is in
     absurd (let no : true ≡ false = sym built ∙ same ∙ unbuilt in cc)
   where
     built_of : Result ScriptParts (ℕ × BadKind) → Bool

@@ -68,14 +68,14 @@ is_value : (position : ℕ) (word : Text) (h : Held) → is_dashed word ≡ fals
     → word_met top.rules [] false idle position word h ≡ (h, value)
 is_value position word h plain =
     ap (λ b. cond b (h, trailing position) (long_or_other top.rules idle word (long_of word) h))
-        (not_dashes word plain)
+    (not_dashes word plain)
     ∙ ap (λ o. long_or_other top.rules idle word o h) (not_long word plain)
     ∙ ap (λ o. short_or_plain top.rules idle word o h) (not_short word plain)
 
 no_flag : (word : Text) (h : Held) → is_dashed word ≡ false → other_fault top None word h ≡ []
 no_flag word h plain =
     ap (λ b. cond b [] (flag_word_fault top.rules top.args_override_self (long_of word) word h))
-        (not_dashes word plain)
+    (not_dashes word plain)
     ∙ ap (λ o. flag_word_fault top.rules top.args_override_self o word h) (not_long word plain)
     ∙ ap (λ o. option_map_or (λ flags. bundle_fault top.rules top.args_override_self flags h) o [])
     (not_short word plain)
@@ -90,7 +90,7 @@ walked_one word plain =
 first_turn : (word : Text) → is_dashed word ≡ false → turn_fault top [] start word ≡ []
 first_turn word plain =
     ap₂ (λ (k : Kinds) (m : Held × Step). or_else k (step_fault top 1 m.0 m.1))
-        (no_flag word nothing_held plain) (is_value 1 word nothing_held plain)
+    (no_flag word nothing_held plain) (is_value 1 word nothing_held plain)
 
 -- a second word finds no argument
 second_turn : (first word : Text) → is_dashed word ≡ false
@@ -116,7 +116,7 @@ none_at_one : (word : Text) → is_dashed word ≡ false → fault_of one_word (
 unfolding walk_fault
 none_at_one word plain =
     ap₂ (λ (k : Kinds) (w : Walk). or_else (or_else k []) (later w)) (first_turn word plain)
-        (walked_one word plain) ∙ none_after_one word
+    (walked_one word plain) ∙ none_after_one word
 
 walk_two : (first second : Text) (rest : List Text) → is_dashed first ≡ false
     → is_dashed second ≡ false
@@ -124,7 +124,7 @@ walk_two : (first second : Text) (rest : List Text) → is_dashed first ≡ fals
 unfolding walk_fault
 walk_two first second rest plain plain2 =
     ap₂ (λ (k : Kinds) (w : Walk). or_else k (or_else (turn_fault top [] w second)
-        (walk_fault top [] (walked top.rules [] w second) rest)))
+    (walk_fault top [] (walked top.rules [] w second) rest)))
     (first_turn first plain) (walked_one first plain)
     ∙ ap (λ (k : Kinds). or_else k (walk_fault top [] (walked top.rules [] (after_one first) second)
     rest)) (second_turn first second plain2)
@@ -134,7 +134,7 @@ fault_at_two : (first second : Text) (rest : List Text) → is_dashed first ≡ 
     → fault_of one_word (first ∷ second ∷ rest) ≡ UnknownArgument ∷ []
 fault_at_two first second rest plain plain2 =
     ap (λ (k : Kinds). or_else k (later (walk top.rules [] nothing_held (first ∷ second ∷ rest))))
-        (walk_two first second rest plain plain2)
+    (walk_two first second rest plain plain2)
 
 fault_at_none : fault_of one_word [] ≡ MissingRequiredArgument ∷ []
 unfolding clap_on_literals
@@ -164,7 +164,7 @@ one_is_read (word ∷ []) plain none = (word, refl, value_at_one word (neither _
 one_is_read (first ∷ second ∷ rest) plain none =
     let parts = neither _ _ plain in
     let bad : UnknownArgument ∷ [] ≡ [] = sym
-        (fault_at_two first second rest parts.0 (neither _ _ parts.1).0) ∙ none in
+    (fault_at_two first second rest parts.0 (neither _ _ parts.1).0) ∙ none in
     cc
 
 -- ---- the answers
@@ -190,7 +190,7 @@ only_memory line words e same fails is =
     let simple : is_simple_and_free line ≡ true = ap is_simple_and_free same ∙ is_simple_line in
     let none : fault_of line words ≡ [] = ap₂ fault_of same is ∙ none_at_one (codes "run") refl in
     ⊎_elim (λ memory. memory) (λ among. absurd among)
-        (subst (λ kinds. HasKind kinds e) none (fails simple))
+    (subst (λ kinds. HasKind kinds e) none (fails simple))
 
 -- the value that was found is `run` where the words are
 value_is_run : (words : List Text) (word : Text) (o : Option (Bor Text)) (t : Bor Text)
@@ -216,11 +216,11 @@ pub asked_is_run : {Z : Type 0} (line : App) (words : List (String Z)) (found : 
 asked_is_run line words found asked o t same plain passes rows read run is =
     let texts = map string_bytes words in
     let none : fault_of one_word texts ≡ [] = ap (λ a. fault_of a texts) (sym same)
-        ∙ passes (ap is_simple_and_free same ∙ is_simple_line) in
+    ∙ passes (ap is_simple_and_free same ∙ is_simple_line) in
     let found_rows : rows_of found ≡ matches_of one_word texts = rows (ap is_simple same
-        ∙ is_simple_word) ∙ ap (λ a. matches_of a texts) same in
+    ∙ is_simple_word) ∙ ap (λ a. matches_of a texts) same in
     let one = one_is_read texts (sym (list_any-map is_dashed string_bytes words) ∙ plain) none in
     let value : option_map (λ s. s.now) o ≡ Some one.0 = read
-        ∙ first_value-rows found (codes "command") ∙ ap (first_of (codes "command")) found_rows
-        ∙ one.2 in
+    ∙ first_value-rows found (codes "command") ∙ ap (first_of (codes "command")) found_rows
+    ∙ one.2 in
     subst (λ b. IsTrue b ↔ IsRun words) (sym is) (value_is_run texts one.0 o t one.1 value run)

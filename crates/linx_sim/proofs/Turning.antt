@@ -207,12 +207,12 @@ opened : (P : List Step) (h : Head) (es : List Effect) (name : List ℕ) (me : O
     → is_body rest ≡ true → Turned P h es me answer rest
 opened P (heads.Open m) es name me (answers.Opened i) rest fresh step effects answered ready =
     record {
-  mine = sym (ap (last_opened (last_endpoint P 1)) answered);
-  running = refl;
-  ready = ap (λ (e : Option Inc). is_ready e rest)
-      (endpoint_of-open P (first_step (heads.Open m) es) 1 (next_on P 1) refl effects fresh)
-      ∙ ready;
-}
+      mine = sym (ap (last_opened (last_endpoint P 1)) answered);
+      running = refl;
+      ready = ap (λ (e : Option Inc). is_ready e rest)
+          (endpoint_of-open P (first_step (heads.Open m) es) 1 (next_on P 1) refl effects fresh)
+          ∙ ready;
+    }
 opened P (heads.Open m) es name me _ rest fresh step effects answered ready = absurd answered
 opened P _ es name me answer rest fresh step effects answered ready = absurd step
 
@@ -267,11 +267,11 @@ received : (P : List Step) (h : Head) (es : List Effect) (f : Sigsel) (me : Opti
     → IsAnswerOf P (Some j) h es answer → is_body rest ≡ true → Turned P h es me answer rest
 received P (heads.Take g position) es f me j answer rest at mine step effects answered ready =
     quiet P (heads.Take g position) es me j answer rest at mine (ap (filter_map opened_in) effects)
-        (λ k. ap (list_any (closes k)) effects)
+    (λ k. ap (list_any (closes k)) effects)
     (took_answer P (Some j) me g position es answer answered) refl ready
 received P (heads.TakeNone g) es f me j answer rest at mine step effects answered ready =
     quiet P (heads.TakeNone g) es me j answer rest at mine (ap (filter_map opened_in) effects)
-        (λ k. ap (list_any (closes k)) effects)
+    (λ k. ap (list_any (closes k)) effects)
     (none_answer P (Some j) me g es answer answered) refl ready
 received P _ es f me j answer rest at mine step effects answered ready = absurd step
 
@@ -312,10 +312,10 @@ at_command : (shape : Shape) (commands : List Command) (P : List Step) (place : 
     → AtCommand commands P place me command (drop (suc place) commands)
 at_command shape commands P place me command playing at =
     let here : Stands (Some command) (drop place commands) (drop (suc place) commands) = subst
-        (λ (o : Option Command). Stands o (drop place commands) (drop (suc place) commands)) at
-        (stands commands place) in
+    (λ (o : Option Command). Stands o (drop place commands) (drop (suc place) commands)) at
+    (stands commands place) in
     let sizes : (fits_signal command && list_all fits_signal (drop (suc place) commands)) ≡ true =
-        ap (list_all fits_signal) (sym here) ∙ playing.sized in
+    ap (list_all fits_signal) (sym here) ∙ playing.sized in
     record {
       ready = ap (is_ready (endpoint_of P 1)) (sym here) ∙ playing.ready;
       sized = (and_parts (fits_signal command) (list_all fits_signal (drop (suc place) commands))
@@ -376,14 +376,14 @@ played_first shape commands P place me command event hand answer h es one short 
     let facts = at_command shape commands P place me command playing at in
     let step : IsStepOf (Some command) me h = step_of command me event hand h ask head in
     let effects : HasEffects P 1 (endpoint_of P 1) h es = subst
-        (λ (n : ℕ). HasEffects P n (endpoint_of P 1) h es) (node_of_first shape one) legal.effects
-        in
+    (λ (n : ℕ). HasEffects P n (endpoint_of P 1) h es) (node_of_first shape one) legal.effects
+    in
     let after : Turned P h es me answer (drop (suc place) commands) = turned P h es command me
-        (endpoint_of P 1) answer (drop (suc place) commands)
-        (next_on-not_closed shape P playing.legal short 1) refl playing.mine step effects answered
-        facts.ready in
+    (endpoint_of P 1) answer (drop (suc place) commands)
+    (next_on-not_closed shape P playing.legal short 1) refl playing.mine step effects answered
+    facts.ready in
     let here : IsStepOf (slice_get commands (steps_by P 1)) (last_endpoint P 1) h = rw
-        (playing.counted, at, ← playing.mine) step in
+    (playing.counted, at, ← playing.mine) step in
     record {
       legal = (playing.legal, legal);
       follows = (playing.follows, λ by. here);
@@ -407,13 +407,13 @@ played shape commands P place me command event hand answer next (s ∷ rest) one
     is_next makes =
     let made : IsMade shape P (Actor 1) event hand answer s = makes.1 in
     let first : Playing shape commands (first_step s.head s.effects ∷ P) (suc place)
-        (endpoint_after me answer) =
+    (endpoint_after me answer) =
     played_first shape commands P place me command event hand answer s.head s.effects one short at
-        ask playing (legal_first shape P s made.maker made.legal) made.head made.answered
+    ask playing (legal_first shape P s made.maker made.legal) made.head made.answered
     in
     rw (is_next, makes.0) (subst (λ (b : By). Playing shape commands
-        (record { by = b; head = s.head; effects = s.effects } ∷ P) (suc place)
-        (endpoint_after me answer)) (sym made.maker) first)
+    (record { by = b; head = s.head; effects = s.effects } ∷ P) (suc place)
+    (endpoint_after me answer)) (sym made.maker) first)
 
 -- what the last turn leaves
 abbrev Over : List Command → List Step → Type 0
@@ -427,9 +427,14 @@ over_first : (shape : Shape) (commands : List Command) (P : List Step) (place : 
 over_first shape commands P place me event hand h es all at ask playing head =
     let step = end_step me event hand h ask head in
     let here : IsStepOf (slice_get commands (steps_by P 1)) (last_endpoint P 1) h = rw
-        (playing.counted, at, ← playing.mine) step.0 in
-    (((playing.follows, λ by. here), counted_more P h es
-        ∙ ap (λ (n : ℕ). n + 1) (playing.counted ∙ all)), or_left (is_end h) (has_ended P 1) step.1)
+    (playing.counted, at, ← playing.mine) step.0 in (
+      (
+        (playing.follows, λ by. here),
+        counted_more P h es
+            ∙ ap (λ (n : ℕ). n + 1) (playing.counted ∙ all),
+      ),
+      or_left (is_end h) (has_ended P 1) step.1,
+    )
 
 pub over : (shape : Shape) (commands : List Command) (P : List Step) (place : ℕ) (me : Option Inc)
     (event : Event) (hand : Option SigNote) (answer : StepAnswer) (new : List Step)
@@ -440,7 +445,7 @@ over shape commands P place me event hand answer [] all at ask playing makes = a
 over shape commands P place me event hand answer (s ∷ rest) all at ask playing makes =
     let made : IsMade shape P (Actor 1) event hand answer s = makes.1 in
     rw (makes.0) (subst (λ (b : By). Over commands
-        (record { by = b; head = s.head; effects = s.effects } ∷ P)) (sym made.maker)
+    (record { by = b; head = s.head; effects = s.effects } ∷ P)) (sym made.maker)
     (over_first shape commands P place me event hand s.head s.effects all at ask playing made.head))
 
 -- where a step was made, the journal wasn't full
@@ -452,7 +457,7 @@ not_full false r answer stop fails is = refl
 short_of : (P : List Step) → is_full P ≡ false → length P < 4294967295
 short_of P room =
     let few = (or_parts (nat_le step_limit (length P))
-        (nat_le byte_limit (signal_bytes_of P)) room).0 in
+    (nat_le byte_limit (signal_bytes_of P)) room).0 in
     let below : length P < 200000 = leb-false step_limit (length P) few in
     omega (arith, below)
 
@@ -476,7 +481,7 @@ played_at shape commands P place me event hand answer next new None at one short
 played_at shape commands P place me event hand answer next new (Some command) at one short within
     ask playing is_next makes =
     played shape commands P place me command event hand answer next new one short at ask playing
-        is_next makes
+    is_next makes
 
 -- before the first turn
 pub starts : (shape : Shape) (commands : List Command) (P : List Step) → P ≡ []

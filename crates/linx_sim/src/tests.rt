@@ -238,8 +238,10 @@ fn words_of(alloc: Global, words: &[&[u8]]) -> Result<Vec<String>, Status> {
 fn the_name_of_the_program_is_not_looked_at(rt: HostRuntime) {
     let alloc = rt.alloc();
     let given: [&[u8]; 3] = [b"\xff\xfe", b"run", b"fast"];
-    assert!(rt; matches!(&words_of(alloc, &given), Ok(words)
-        if words.len() == 2 && words[0].as_str() == "run" && words[1].as_str() == "fast"));
+    assert!(rt;
+        matches!(&words_of(alloc, &given), Ok(words)
+        if words.len() == 2 && words[0].as_str() == "run" && words[1].as_str() == "fast")
+    );
     assert!(rt; matches!(&words_of(alloc, &[]), Ok(words) if words.is_empty()));
 }
 

@@ -246,9 +246,9 @@ module _ {X : Type 0} (cmp : X → X → Ordering) where
         let within : at < length (set chunks at new) = omega (arith, length-set chunks at new, place.within) in
         let there : get_or (set chunks at new) at new ≡ new = get_or-set_same chunks at new new place.within in
         let elements : joined left ≡ remove_key (is_at (cmp x)) (joined chunks) =
-            ap joined left_is
-            ∙ joined_remove (set chunks at new) at new within (ap length there ∙ none)
-            ∙ removed cmp x chunks at place old new (is ∙ ap (remove_key (is_at (cmp x))) was)
+        ap joined left_is
+        ∙ joined_remove (set chunks at new) at new within (ap length there ∙ none)
+        ∙ removed cmp x chunks at place old new (is ∙ ap (remove_key (is_at (cmp x))) was)
         in (
           elements,
           record {

@@ -50,10 +50,7 @@ fn split_full<T: Ord + Drop>(chunks: &mut Vec<Chunk<T>>, at: usize) -> Result<()
 }
 
 /// Adds an element at its place, unless an equal one is there. A refusal frees it.
-pub(crate) fn insert<T: Ord + Drop>(
-    chunks: &mut Vec<Chunk<T>>,
-    element: T,
-) -> Result<(), NoMemory>
+pub(crate) fn insert<T: Ord + Drop>(chunks: &mut Vec<Chunk<T>>, element: T) -> Result<(), NoMemory>
     requires { AreChunks T.cmp chunks.old.items }
     ensures ok { OnOk result (joined chunks.new.items ≡ insert_key T.cmp (joined chunks.old.items) element) }
     ensures err { OnErr result (joined chunks.new.items ≡ joined chunks.old.items) }
