@@ -10,49 +10,42 @@ use Rattle.ethcm_headers.specs.Chains.{header_bytes, headers_at, part_with, pack
 use Rattle.ethcm_headers.proofs.Again.{length-chain_bytes}
 use Rattle.ethcm_headers.proofs.Apart.{spelled_apart, headers_found, short_packet, spelling-part_with, packet_with-apart, stands_behind}
 
--- no packet is longer than the longest
-pub too_long : (packet : Packet) (bytes : List ℕ) → Spells packet bytes → 8240 < length bytes → ⊥
-too_long packet bytes spells long = omega (arith, short_packet packet spells.is_packet, ap length spells.spelled)
+module _ (packet : Packet) (bytes : List ℕ) (spells : Spells packet bytes) where
+  -- no packet is longer than the longest
+  pub too_long : 8240 < length bytes → ⊥
+  too_long long = omega (arith, short_packet packet spells.is_packet, ap length spells.spelled)
 
--- the fields of a packet make headers
-pub headers_missing : (packet : Packet) (bytes : List ℕ) → Spells packet bytes → headers_at bytes ≡ None → ⊥
-headers_missing packet bytes spells none =
-    let found = headers_found packet bytes spells in
-    cc
+  -- the fields of a packet make headers
+  pub headers_missing : headers_at bytes ≡ None → ⊥
+  headers_missing none =
+      let found = headers_found packet bytes spells in
+      cc
 
-the_headers : (packet : Packet) (bytes : List ℕ) (headers : Headers) → Spells packet bytes → headers_at bytes ≡ Some headers → headers ≡ headers_in packet
-the_headers packet bytes headers spells read =
-    let found = headers_found packet bytes spells in
-    cc
+module _ (packet : Packet) (bytes : List ℕ) (spells : Spells packet bytes) (headers : Headers) (read : headers_at bytes ≡ Some headers) where
+  the_headers : headers ≡ headers_in packet
+  the_headers =
+      let found = headers_found packet bytes spells in
+      cc
 
--- a packet begins with its headers, spelled again
-pub payload_missing : (packet : Packet) (bytes : List ℕ) (headers : Headers) → Spells packet bytes → headers_at bytes ≡ Some headers
-    → ((rest : List ℕ) → ¬ (bytes ≡ header_bytes (length bytes) headers ++ rest)) → ⊥
-payload_missing packet bytes headers spells read none =
-    none (payload_in packet.part) (rw (the_headers packet bytes headers spells read) (spelled_apart packet bytes spells))
+  -- a packet begins with its headers, spelled again
+  pub payload_missing : ((rest : List ℕ) → ¬ (bytes ≡ header_bytes (length bytes) headers ++ rest)) → ⊥
+  payload_missing none = none (payload_in packet.part) (rw the_headers (spelled_apart packet bytes spells))
 
-the_payload : (packet : Packet) (bytes : List ℕ) (headers : Headers) (payload : List ℕ) → Spells packet bytes → headers_at bytes ≡ Some headers
-    → bytes ≡ header_bytes (length bytes) headers ++ payload → payload ≡ payload_in packet.part
-the_payload packet bytes headers payload spells read behind =
-    let same = the_headers packet bytes headers spells read in
-    let again : header_bytes (length bytes) headers ++ payload ≡ header_bytes (length bytes) headers ++ payload_in packet.part =
-    sym behind ∙ (rw same (spelled_apart packet bytes spells)) in
-    append_cancel_left (header_bytes (length bytes) headers) payload (payload_in packet.part) again
+  the_payload : (payload : List ℕ) → bytes ≡ header_bytes (length bytes) headers ++ payload → payload ≡ payload_in packet.part
+  the_payload payload behind =
+      let again : header_bytes (length bytes) headers ++ payload ≡ header_bytes (length bytes) headers ++ payload_in packet.part =
+      sym behind ∙ (rw the_headers (spelled_apart packet bytes spells))
+      in
+      append_cancel_left (header_bytes (length bytes) headers) payload (payload_in packet.part) again
 
--- the packet is what was read
-pub the_packet : (packet : Packet) (bytes : List ℕ) (headers : Headers) (payload : List ℕ) → Spells packet bytes → headers_at bytes ≡ Some headers
-    → bytes ≡ header_bytes (length bytes) headers ++ payload → packet_with headers payload ≡ packet
-the_packet packet bytes headers payload spells read behind =
-    rw (the_headers packet bytes headers spells read, the_payload packet bytes headers payload spells read behind) (packet_with-apart packet)
+  -- the packet is what was read
+  pub the_packet : (payload : List ℕ) → bytes ≡ header_bytes (length bytes) headers ++ payload → packet_with headers payload ≡ packet
+  the_packet payload behind = rw (the_headers, the_payload payload behind) (packet_with-apart packet)
 
--- a packet keeps the bounds
-pub out_of_bounds : (packet : Packet) (bytes : List ℕ) (headers : Headers) (payload : List ℕ) → Spells packet bytes → headers_at bytes ≡ Some headers
-    → bytes ≡ header_bytes (length bytes) headers ++ payload → (IsWithinBounds (packet_with headers payload) × StandsBehind payload headers.chain → ⊥) → ⊥
-out_of_bounds packet bytes headers payload spells read behind out =
-    out (
-      rw (the_packet packet bytes headers payload spells read behind) spells.is_packet.bounds,
-      rw (the_headers packet bytes headers spells read, the_payload packet bytes headers payload spells read behind) (stands_behind packet.part),
-    )
+  -- a packet keeps the bounds
+  pub out_of_bounds : (payload : List ℕ) → bytes ≡ header_bytes (length bytes) headers ++ payload → (IsWithinBounds (packet_with headers payload) × StandsBehind payload headers.chain → ⊥) → ⊥
+  out_of_bounds payload behind out =
+      out (rw (the_packet payload behind) spells.is_packet.bounds, rw (the_headers, the_payload payload behind) (stands_behind packet.part))
 
 fits_part : (chain : Chain) (payload : List ℕ) → FitsChain chain → FitsPart (part_with chain payload)
 fits_part (Conn kind) payload fits = tt
@@ -83,4 +76,4 @@ is_spelled bytes headers payload fits behind within =
 pub unique : (a b : Packet) (bytes : List ℕ) → Spells a bytes → Spells b bytes → a ≡ b
 unique a b bytes first second =
     sym (packet_with-apart a)
-    ∙ the_packet b bytes (headers_in a) (payload_in a.part) second (headers_found a bytes first) (spelled_apart a bytes first)
+    ∙ the_packet b bytes second (headers_in a) (headers_found a bytes first) (payload_in a.part) (spelled_apart a bytes first)

@@ -13,6 +13,7 @@ use Rattle.linx_base.specs.declared.frame.Message.{Message}
 use Rattle.linx_base.specs.declared.frame.Frame.{Frame}
 use Rattle.linx_base.specs.declared.frame.Frame.TheVariants.{First, Next}
 use Rattle.linx_base.specs.Frames.{IsMessage, IsFrame, IsPayload, payload_of, has_more}
+use Rattle.fragmenter.specs.Holding.{joined}
 use Rattle.fragmenter.specs.Pieces.{is_more, cut, followers, framed, pieces_of, GoesOn, AllButLast, IsMarked, IsCutInto}
 
 -- what is left of bytes that aren't none is shorter
@@ -72,48 +73,58 @@ unfolding followers cut
 followers_none p [] e = refl
 followers_none p (x ∷ xs) e = absurd (omega arith)
 
--- the place up to which a piece reaches: a front of p bytes, or of all where there are fewer
-record Reaches (p : ℕ) (xs : List ℕ) (k : ℕ) : Type 0 where
-  payload : take k xs ≡ take p xs
-  rest : drop k xs ≡ drop p xs
-  more : ltb k (length xs) ≡ ltb p (length xs)
+-- a front of p bytes, or of all where there are fewer
+pub record IsFront (p : ℕ) (xs payload rest : List ℕ) (more : Bool) : Type 0 where
+  pub payload_is : payload ≡ take p xs
+  pub rest_is : rest ≡ drop p xs
+  pub more_is : more ≡ ltb p (length xs)
 
-reaches : (p : ℕ) (xs : List ℕ) (k : ℕ) → k ≡ min p (length xs) → Reaches p xs k
-reaches p xs k e =
+front : (p : ℕ) (xs : List ℕ) (k : ℕ) → k ≡ min p (length xs) → IsFront p xs (take k xs) (drop k xs) (ltb k (length xs))
+front p xs k e =
     elim (cases_lt p (length xs)) [
-      | inl short ↦ let same : k ≡ p = omega arith in rw same (record { payload = refl; rest = refl; more = refl })
+      | inl short ↦ let same : k ≡ p = omega arith in rw same (record { payload_is = refl; rest_is = refl; more_is = refl })
       | inr long ↦ record {
-        payload = ap (λ n. take n xs) e ∙ take_min p xs;
-        rest = ap (λ n. drop n xs) e ∙ drop_min p xs;
-        more = le-ltb k (length xs) (omega arith) ∙ sym (le-ltb p (length xs) long);
+        payload_is = ap (λ n. take n xs) e ∙ take_min p xs;
+        rest_is = ap (λ n. drop n xs) e ∙ drop_min p xs;
+        more_is = le-ltb k (length xs) (omega arith) ∙ sym (le-ltb p (length xs) long);
       }
     ]
 
+-- the piece that is cut out from one place to another
+pub record IsPiece (p : ℕ) (body : List ℕ) (from to : ℕ) (more : Bool) (payload : List ℕ) : Type 0 where
+  pub to_is : to ≡ min (from + p) (length body)
+  pub more_is : more ≡ ltb to (length body)
+  pub payload_is : payload ≡ slice_range body from to
+
+-- is the front of what is left
+front_left : (p : ℕ) (body : List ℕ) (from to : ℕ) (more : Bool) (payload : List ℕ) → from ≤ length body → IsPiece p body from to more payload → IsFront p (drop from body) payload (drop to body) more
+front_left p body from to more payload within s =
+    let left : length (drop from body) ≡ length body - from = length-drop from body in
+    let t = s.to_is in
+    let whole : from + (to - from) ≡ to = omega arith in
+    let f = front p (drop from body) (to - from) (omega (arith, left)) in
+    record {
+      payload_is = s.payload_is ∙ f.payload_is;
+      rest_is = ap (λ j. drop j body) (sym whole) ∙ sym (drop-drop (to - from) from body) ∙ f.rest_is;
+      more_is = s.more_is ∙ elim (cases_lt to (length body)) [
+        | inl some ↦ lt-ltb to (length body) some ∙ sym (lt-ltb (to - from) (length (drop from body)) (omega (arith, left))) ∙ f.more_is
+        | inr none ↦ le-ltb to (length body) none ∙ sym (le-ltb (to - from) (length (drop from body)) (omega (arith, left))) ∙ f.more_is
+      ];
+    }
+
 -- the first frame, and then the frames of the rest
-pub begun_pieces : (m : Message) (p size to : ℕ) (made : List Frame) (more : Bool) (payload : List ℕ) → size ≡ length m.body → to ≡ min p size → made ≡ [] → more ≡ ltb to size → payload ≡ slice_range m.body 0 to → 1 ≤ p → 0 < length m.body
-    → (made ++ First more m.from m.to size payload ∷ []) ++ followers (cut (length (drop to m.body)) p (drop to m.body)) ≡ pieces_of m p
-begun_pieces m p size to made more payload s t e n q h k =
-    let r : Reaches p m.body to = reaches p m.body to (rw (← s) t) in
-    let all : to - 0 ≡ to = omega arith in
-    let front : payload ≡ take p m.body = q ∙ ap (λ n. take n m.body) all ∙ r.payload in
-    rw (e, n, front, s, r.rest, r.more) (sym (pieces_of_first m p h k))
+pub begun_pieces : (m : Message) (p to : ℕ) (made : List Frame) (more : Bool) (payload : List ℕ) → IsPiece p m.body 0 to more payload → made ≡ [] → 1 ≤ p → 0 < length m.body
+    → (made ++ First more m.from m.to (length m.body) payload ∷ []) ++ followers (cut (length (drop to m.body)) p (drop to m.body)) ≡ pieces_of m p
+begun_pieces m p to made more payload s none h k =
+    let f = front_left p m.body 0 to more payload (omega arith) s in
+    rw (none, f.payload_is, f.rest_is, f.more_is) (sym (pieces_of_first m p h k))
 
 -- one more frame, and then the frames of the rest
-pub more_pieces : (p from to : ℕ) (body : List ℕ) (made : List Frame) (more : Bool) (payload : List ℕ) (all : List Frame) → made ++ followers (cut (length (drop from body)) p (drop from body)) ≡ all → from < length body → to ≡ min (from + p) (length body) → more ≡ ltb to (length body) → payload ≡ slice_range body from to → 1 ≤ p
+pub more_pieces : (p from to : ℕ) (body : List ℕ) (made all : List Frame) (more : Bool) (payload : List ℕ) → IsPiece p body from to more payload → made ++ followers (cut (length (drop from body)) p (drop from body)) ≡ all → from < length body → 1 ≤ p
     → (made ++ Next more payload ∷ []) ++ followers (cut (length (drop to body)) p (drop to body)) ≡ all
-more_pieces p from to body made more payload all e f t n q h =
-    let left : length (drop from body) ≡ length body - from = length-drop from body in
-    let k : ℕ = to - from in
-    let r : Reaches p (drop from body) (to - from) = reaches p (drop from body) (to - from) (omega (arith, left)) in
-    let whole : from + (to - from) ≡ to = omega arith in
-    let rest : drop to body ≡ drop p (drop from body) = ap (λ j. drop j body) (sym whole) ∙ sym (drop-drop (to - from) from body) ∙ r.rest in
-    let last : ltb to (length body) ≡ ltb p (length (drop from body)) =
-    elim (cases_lt to (length body)) [
-      | inl some ↦ lt-ltb to (length body) some ∙ sym (lt-ltb (to - from) (length (drop from body)) (omega (arith, left))) ∙ r.more
-      | inr none ↦ le-ltb to (length body) none ∙ sym (le-ltb (to - from) (length (drop from body)) (omega (arith, left))) ∙ r.more
-    ]
-    in
-    rw (append_assoc, n, q, rest, last, r.payload) (ap (λ frames. made ++ frames) (sym (followers_first p (drop from body) h (omega (arith, left)))) ∙ e)
+more_pieces p from to body made all more payload s e within h =
+    let f = front_left p body from to more payload (omega arith) s in
+    rw (append_assoc, f.payload_is, f.rest_is, f.more_is) (ap (λ frames. made ++ frames) (sym (followers_first p (drop from body) h (omega (arith, length-drop from body)))) ∙ e)
 
 -- where nothing is left all frames are made
 pub all_pieces : (p from : ℕ) (body : List ℕ) (made all : List Frame) → made ++ followers (cut (length (drop from body)) p (drop from body)) ≡ all → length body ≤ from → made ≡ all
@@ -121,12 +132,12 @@ all_pieces p from body made all e n =
     sym (append-nil made) ∙ ap (λ frames. made ++ frames) (sym (followers_none p (drop from body) (omega (arith, length-drop from body)))) ∙ e
 
 -- the payloads of the frames behind the first one
-joined-followers : (ps : List (List ℕ)) → flat_map payload_of (followers ps) ≡ flat_map (λ payload. payload) ps
+joined-followers : (ps : List (List ℕ)) → flat_map payload_of (followers ps) ≡ joined ps
 unfolding followers
 joined-followers [] = refl
 joined-followers (payload ∷ ps) = ap (λ rest. payload ++ rest) (joined-followers ps)
 
-pub joined-cut : (n p : ℕ) (xs : List ℕ) → 1 ≤ p → length xs ≤ n → flat_map (λ payload. payload) (cut n p xs) ≡ xs
+pub joined-cut : (n p : ℕ) (xs : List ℕ) → 1 ≤ p → length xs ≤ n → joined (cut n p xs) ≡ xs
 unfolding cut
 joined-cut zero p [] h k = refl
 joined-cut (suc n) p [] h k = refl

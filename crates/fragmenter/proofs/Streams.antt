@@ -74,18 +74,6 @@ answers_before m begun (x ∷ y ∷ before) f after e =
     let rest : answers_to (held_after begun x) (y ∷ before) ≡ mores (y ∷ before) = answers_before m (held_after begun x) (y ∷ before) f after cc in
     rw (head, rest) refl
 
--- what they leave begun
-held_before : (m : Message) (ms : List Message) (p : ℕ) → 1 ≤ p → 0 < length m.body → (before : List Frame) (f : Frame) (after : List Frame) → pieces_of m p ≡ before ++ f ∷ after → answers_to None before ≡ mores before → held_after_all None before ≡ begun_by (m ∷ ms) before
-unfolding answers_to held_after_all
-held_before m ms p h k [] f after e a = refl
-held_before m ms p h k (x ∷ before) f after e a =
-    let first : Frame = First (ltb p (length m.body)) m.from m.to (length m.body) (take p m.body) in
-    let same : x ≡ first = (let q = sym (pieces_of_first m p h k) ∙ e in cc) in
-    let b : Begun = record { from = m.from; to = m.to; size = length m.body; bytes = take p m.body } in
-    let one : held_after None first ≡ Some b = held_where_more None first (subst (λ g. answer_of None g ≡ More) same cc) in
-    let rest : answers_to (Some b) before ≡ mores before = subst (λ begun. answers_to begun before ≡ mores before) (ap (held_after None) same ∙ one) cc in
-    rw same (ap (λ begun. held_after_all begun before) one ∙ held_more b before rest)
-
 -- no message is whole, and nothing broken, where each answer is More
 wholes-mores : (frames : List Frame) → wholes (mores frames) ≡ []
 wholes-mores [] = refl
@@ -113,42 +101,55 @@ unbroken_at_the_last m [] = All-nil (λ answer. answer ≢ Broken)
 unbroken_at_the_last m (f ∷ []) = All-cons (λ answer. answer ≢ Broken) (Whole m) [] (λ e. absurd cc) (All-nil (λ answer. answer ≢ Broken))
 unbroken_at_the_last m (f ∷ g ∷ frames) = All-cons (λ answer. answer ≢ Broken) More (whole_at_the_last m (g ∷ frames)) (λ e. absurd cc) (unbroken_at_the_last m (g ∷ frames))
 
--- some pieces of the first message, not all
-joins_part : (p : ℕ) (m : Message) (ms : List Message) (taken : List Frame) (f : Frame) (after : List Frame) → 1 ≤ p → 0 < length m.body → pieces_of m p ≡ taken ++ f ∷ after → JoinsInOrder p (m ∷ ms) taken
-joins_part p m ms taken f after h k e =
-    let answers : answers_to None taken ≡ mores taken = answers_before m None taken f after (rw (← e) (pieces-join m p h k).0) in
-    record {
-      whole = [];
-      later = m ∷ ms;
-      part = taken;
-      in_order = refl;
-      frames = refl;
-      begins_next = (f, after, e);
-      answered = ap wholes answers ∙ wholes-mores taken;
-      unbroken = rw answers (unbroken-mores taken);
-      holds = held_before m ms p h k taken f after e answers;
-    }
+module _ (p : ℕ) (m : Message) (ms : List Message) (h : 1 ≤ p) (k : 0 < length m.body) where
+  -- what they leave begun
+  held_before : (before : List Frame) (f : Frame) (after : List Frame) → pieces_of m p ≡ before ++ f ∷ after → answers_to None before ≡ mores before → held_after_all None before ≡ begun_by (m ∷ ms) before
+  unfolding answers_to held_after_all
+  held_before [] f after e a = refl
+  held_before (x ∷ before) f after e a =
+      let first : Frame = First (ltb p (length m.body)) m.from m.to (length m.body) (take p m.body) in
+      let same : x ≡ first = (let q = sym (pieces_of_first m p h k) ∙ e in cc) in
+      let b : Begun = record { from = m.from; to = m.to; size = length m.body; bytes = take p m.body } in
+      let one : held_after None first ≡ Some b = held_where_more None first (subst (λ g. answer_of None g ≡ More) same cc) in
+      let rest : answers_to (Some b) before ≡ mores before = subst (λ begun. answers_to begun before ≡ mores before) (ap (held_after None) same ∙ one) cc in
+      rw same (ap (λ begun. held_after_all begun before) one ∙ held_more b before rest)
 
--- all pieces of the first message, and then some of the others'
-joins_whole : (p : ℕ) (m : Message) (ms : List Message) (taken rest : List Frame) → 1 ≤ p → 0 < length m.body → taken ≡ pieces_of m p ++ rest → JoinsInOrder p ms rest → JoinsInOrder p (m ∷ ms) taken
-joins_whole p m ms taken rest h k e r =
-    let joins = pieces-join m p h k in
-    let outside : held_after_all None (pieces_of m p) ≡ None = joins.1 in
-    let answers : answers_to None taken ≡ whole_at_the_last m (pieces_of m p) ++ answers_to None rest =
-    ap (answers_to None) e ∙ answers_to-append None (pieces_of m p) rest ∙ rw (joins.0, outside) refl
-    in
-    let one : wholes (whole_at_the_last m (pieces_of m p)) ≡ m ∷ [] = rw (pieces_of_first m p h k) (wholes_at_the_last m _ _) in
-    record {
-      whole = m ∷ r.whole;
-      later = r.later;
-      part = r.part;
-      in_order = ap (λ l. m ∷ l) r.in_order;
-      frames = e ∙ ap (λ l. pieces_of m p ++ l) r.frames ∙ sym (append_assoc (pieces_of m p) (frames_of p r.whole) r.part);
-      begins_next = r.begins_next;
-      answered = ap wholes answers ∙ wholes-append (whole_at_the_last m (pieces_of m p)) (answers_to None rest) ∙ rw (one, r.answered) refl;
-      unbroken = rw answers (All-append (λ answer. answer ≢ Broken) (whole_at_the_last m (pieces_of m p)) (answers_to None rest) (unbroken_at_the_last m (pieces_of m p)) r.unbroken);
-      holds = ap (held_after_all None) e ∙ held_after_all-append None (pieces_of m p) rest ∙ ap (λ begun. held_after_all begun rest) outside ∙ r.holds;
-    }
+  -- some pieces of the first message, not all
+  joins_part : (taken : List Frame) (f : Frame) (after : List Frame) → pieces_of m p ≡ taken ++ f ∷ after → JoinsInOrder p (m ∷ ms) taken
+  joins_part taken f after e =
+      let answers : answers_to None taken ≡ mores taken = answers_before m None taken f after (rw (← e) (pieces-join m p h k).0) in
+      record {
+        whole = [];
+        later = m ∷ ms;
+        part = taken;
+        in_order = refl;
+        frames = refl;
+        begins_next = (f, after, e);
+        answered = ap wholes answers ∙ wholes-mores taken;
+        unbroken = rw answers (unbroken-mores taken);
+        holds = held_before taken f after e answers;
+      }
+
+  -- all pieces of the first message, and then some of the others'
+  joins_whole : (taken rest : List Frame) → taken ≡ pieces_of m p ++ rest → JoinsInOrder p ms rest → JoinsInOrder p (m ∷ ms) taken
+  joins_whole taken rest e r =
+      let joins = pieces-join m p h k in
+      let outside : held_after_all None (pieces_of m p) ≡ None = joins.1 in
+      let answers : answers_to None taken ≡ whole_at_the_last m (pieces_of m p) ++ answers_to None rest =
+      ap (answers_to None) e ∙ answers_to-append None (pieces_of m p) rest ∙ rw (joins.0, outside) refl
+      in
+      let one : wholes (whole_at_the_last m (pieces_of m p)) ≡ m ∷ [] = rw (pieces_of_first m p h k) (wholes_at_the_last m _ _) in
+      record {
+        whole = m ∷ r.whole;
+        later = r.later;
+        part = r.part;
+        in_order = ap (λ l. m ∷ l) r.in_order;
+        frames = e ∙ ap (λ l. pieces_of m p ++ l) r.frames ∙ sym (append_assoc (pieces_of m p) (frames_of p r.whole) r.part);
+        begins_next = r.begins_next;
+        answered = ap wholes answers ∙ wholes-append (whole_at_the_last m (pieces_of m p)) (answers_to None rest) ∙ rw (one, r.answered) refl;
+        unbroken = rw answers (All-append (λ answer. answer ≢ Broken) (whole_at_the_last m (pieces_of m p)) (answers_to None rest) (unbroken_at_the_last m (pieces_of m p)) r.unbroken);
+        holds = ap (held_after_all None) e ∙ held_after_all-append None (pieces_of m p) rest ∙ ap (λ begun. held_after_all begun rest) outside ∙ r.holds;
+      }
 
 joins_none : (p : ℕ) (taken rest : List Frame) → [] ≡ taken ++ rest → JoinsInOrder p [] taken
 unfolding answers_to held_after_all
@@ -172,6 +173,6 @@ join_in_order p [] h all = λ taken rest e. joins_none p taken rest e
 join_in_order p (m ∷ ms) h all = λ taken rest e.
     let is : IsMessage m = All-head IsMessage m ms all in
     elim (fronts (pieces_of m p) (frames_of p ms) taken rest e) [
-      | inl w ↦ joins_whole p m ms taken w.0 h is.0 w.1 (join_in_order p ms h (All-tail IsMessage m ms all) w.0 rest w.2)
-      | inr w ↦ joins_part p m ms taken w.0 w.1 h is.0 w.2
+      | inl w ↦ joins_whole p m ms h is.0 taken w.0 w.1 (join_in_order p ms h (All-tail IsMessage m ms all) w.0 rest w.2)
+      | inr w ↦ joins_part p m ms h is.0 taken w.0 w.1 w.2
     ]

@@ -1,6 +1,6 @@
 -- The messages of each type.
-use Rattle.std.proofs.Common.{◌≡◌, ℕ, ◌<◌, ◌≤◌, ◌^◌, Bool, true, false, List, [], ◌++◌, drop, refl, sym, ap, subst, ◌∙◌, arith}
-use Rattle.std.specs.Prelude.{◌==◌, if◌then◌else◌, slice_index, IsTrue, ◌↔◌, Option, None, Some, Result, Ok, Err, IfOk}
+use Rattle.std.proofs.Common.{◌≡◌, ℕ, ◌<◌, ◌≤◌, ◌^◌, List, [], ◌++◌, drop, refl, sym, ap, ◌∙◌, arith}
+use Rattle.std.specs.Prelude.{◌==◌, if◌then◌else◌, slice_index, IsTrue, Option, None, Some, Result, Ok, Err, IfOk}
 use Rattle.std.proofs.lemmas.Option.{same_Some}
 use Rattle.byteorder.specs.Endian.{big_bytes, big_number}
 use Rattle.byteorder.specs.Numbers.{big_number-reads_back}
@@ -177,13 +177,3 @@ publish_refused NoMemory addr inc name rest address fits parts h = (Publish addr
 pub read_only : (r : Result Rlnh RlnhError) (bytes : List ℕ) → IsReading r bytes → IfOk r (λ message. (other : Rlnh) → Spells other bytes → message ≡ other)
 read_only (Ok message) bytes s = λ other t. unique message other bytes s t
 read_only (Err e) bytes s = tt
-
--- ---- tests
-
-pub refuted : {P : Type 0} (b : Bool) → IsTrue b ↔ P → b ≡ false → P → ⊥
-refuted b iff e p =
-    let t = iff.1 p in
-    absurd cc
-
-pub shown : {P : Type 0} (b : Bool) → IsTrue b ↔ P → b ≡ true → P
-shown b iff e = iff.0 e

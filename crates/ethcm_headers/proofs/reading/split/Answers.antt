@@ -1,19 +1,9 @@
-use Rattle.std.proofs.Common.{◌≡◌, ◌-◌, sym, ◌∙◌, Bool, false, true, length, drop}
-use Rattle.std.specs.Prelude.{IsTrue, ◌↔◌}
+use Rattle.std.proofs.Common.{◌≡◌, ◌-◌, sym, ◌∙◌, length, drop}
+use Rattle.std.proofs.lemmas.Bool.{iff_false}
 use Rattle.std.proofs.lemmas.List.Prefix.{end_rest}
 use Rattle.ethcm_headers.specs.Chains.{header_bytes}
 use Rattle.ethcm_headers.proofs.Found.{too_long, headers_missing, payload_missing, out_of_bounds, is_spelled}
 use Rattle.ethcm_headers.proofs.reading.split.Goals as goal
-
--- a test that failed
-refuted : {P : Type 0} (b : Bool) → IsTrue b ↔ P → b ≡ false → P → ⊥
-refuted b iff e p =
-    let t = iff.1 p in
-    absurd cc
-
--- a test that passed
-shown : {P : Type 0} (b : Bool) → IsTrue b ↔ P → b ≡ true → P
-shown b iff e = iff.0 e
 
 pub returns-then-bytes-gt-PACKET_MOST-clause-none : goal.returns-then-bytes-gt-PACKET_MOST-clause-none
 returns-then-bytes-gt-PACKET_MOST-clause-none c = λ packet spells. too_long packet c.args.bytes.now spells c.if-bytes-gt-PACKET_MOST.true
@@ -24,14 +14,14 @@ returns-in_default-clause-none c = λ packet spells. headers_missing packet c.ar
 pub returns-in_default-behind-clause-none : goal.returns-in_default-behind-clause-none
 returns-in_default-behind-clause-none c = λ packet spells.
     let front : c.as_slice.result.now ≡ header_bytes (length c.args.bytes.now) c.in-Some.headers = c.as_slice.ensures ∙ c.bytes-spelled.ensures in
-    payload_missing packet c.args.bytes.now c.in-Some.headers spells (sym c.in-Some.ensures.value)
+    payload_missing packet c.args.bytes.now spells c.in-Some.headers (sym c.in-Some.ensures.value)
     (λ rest e. c.in_default-behind.ensures.none rest (rw front e))
 
 pub returns-then-not-is_packet-clause-none : goal.returns-then-not-is_packet-clause-none
 returns-then-not-is_packet-clause-none c = λ packet spells.
     let front : c.as_slice.result.now ≡ header_bytes (length c.args.bytes.now) c.in-Some.headers = c.as_slice.ensures ∙ c.bytes-spelled.ensures in
-    out_of_bounds packet c.args.bytes.now c.in-Some.headers c.in-Some-behind.payload.now spells (sym c.in-Some.ensures.value)
-    (rw (← front) c.in-Some-behind.ensures.found) (refuted _ c.is_packet.ensures c.if-not-is_packet.true)
+    out_of_bounds packet c.args.bytes.now spells c.in-Some.headers (sym c.in-Some.ensures.value) c.in-Some-behind.payload.now
+    (rw (← front) c.in-Some-behind.ensures.found) (iff_false c.is_packet.ensures c.if-not-is_packet.true)
 
 pub returns-clause-found : goal.returns-clause-found
 returns-clause-found c =
@@ -41,4 +31,4 @@ returns-clause-found c =
     in
     rw behind
     (is_spelled c.args.bytes.now c.in-Some.headers c.in-Some-behind.payload.now c.in-Some.ensures.fits
-    (rw (← front) c.in-Some-behind.ensures.found) (shown _ c.is_packet.ensures c.if-not-is_packet.false))
+    (rw (← front) c.in-Some-behind.ensures.found) (c.is_packet.ensures.0 c.if-not-is_packet.false))
