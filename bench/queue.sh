@@ -1,6 +1,7 @@
 #!/usr/bin/env bash
-# How a receive of one number grows with the number of waiting items. The program that measures it
-# is built in a copy of the crates, so that the gate knows nothing of it.
+# How a receive of one number grows with the number of waiting items, and what a detach costs behind
+# them, where the queue has its notice and where it has none. The program that measures it is built in
+# a copy of the crates, so that the gate knows nothing of it.
 set -euo pipefail
 top="$(cd "$(dirname "$0")/.." && pwd)"
 work="$(mktemp -d)"
@@ -22,16 +23,16 @@ ghost use Rattle.std.specs.Prelude.{◌<◌, ◌≤◌};
 
 use anyhow::Context;
 use endpoint_queue::{Item, Kind, Queue};
-use linx_base::{Inc, ItemAt, Peer, Signal};
+use linx_base::{AttRef, Inc, ItemAt, Peer, Signal};
 use sigsel::{Numbers, Sigsel};
 use std::alloc::Global;
 use std::time::Instant;
 
-fn item(alloc: Global, number: u32, step: u64) -> anyhow::Result<Item> {
+fn item(alloc: Global, number: u32, kind: Kind, step: u64) -> anyhow::Result<Item> {
     Ok(Item {
         signal: Signal::alloc(alloc, number, b"8 bytes.").context("signal")?,
         from: Peer::Here(Inc(1)),
-        kind: Kind::Plain,
+        kind,
         pos: ItemAt { step, place: 1 },
     })
 }
@@ -52,7 +53,7 @@ fn measured(rt: &HostRuntime, waiting: u64, numbers: u32, any: bool) -> anyhow::
     let mut queue = Queue::new(alloc);
     for step in 0..waiting {
         queue.reserve(1).context("reserve")?;
-        queue.put(item(alloc, (step % numbers as u64) as u32, step)?);
+        queue.put(item(alloc, (step % numbers as u64) as u32, Kind::Plain, step)?);
     }
     let start = Instant::now(rt).context("clock")?;
     let mut taken: usize = 0;
@@ -74,12 +75,43 @@ fn measured(rt: &HostRuntime, waiting: u64, numbers: u32, any: bool) -> anyhow::
     Ok(())
 }
 
+/// 16,000 detaches, each of a notice that stands behind the waiting items, or of none. The answer is
+/// in nanoseconds a detach.
+fn detached(rt: &HostRuntime, waiting: u64, queued: bool) -> anyhow::Result<()> {
+    let alloc = rt.alloc();
+    let mut queue = Queue::new(alloc);
+    for step in 0..waiting {
+        queue.reserve(1).context("reserve")?;
+        queue.put(item(alloc, 1, Kind::Plain, step)?);
+    }
+    for reference in 0..16_000u64 {
+        let kind = if queued { Kind::Notice(AttRef(reference)) } else { Kind::Plain };
+        queue.reserve(1).context("reserve")?;
+        queue.put(item(alloc, 2, kind, reference)?);
+    }
+    let start = Instant::now(rt).context("clock")?;
+    let mut removed: usize = 0;
+    for reference in 0..16_000u64 {
+        if queue.remove_ref(AttRef(reference)).is_some() {
+            removed = removed.saturating_add(1);
+        }
+    }
+    let spent = start.elapsed(rt).context("clock")?.as_nanos();
+    println!(rt; "{waiting} waiting, notices queued {queued}: {} ns a detach, {removed} removed", spent / 16_000)?;
+    Ok(())
+}
+
 fn main(rt: HostRuntime) -> anyhow::Result<()> {
     for any in [false, true] {
         for numbers in [1, 16, 1_000] {
             for waiting in [1_000, 3_000, 10_000, 30_000] {
                 measured(&rt, waiting, numbers, any)?;
             }
+        }
+    }
+    for queued in [false, true] {
+        for waiting in [2_000, 8_000, 32_000] {
+            detached(&rt, waiting, queued)?;
         }
     }
     Ok(())

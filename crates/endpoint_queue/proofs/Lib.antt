@@ -1,3 +1,6 @@
 pub mod PlaceLemmas
-pub mod KeptLemmas
+pub mod IndexLemmas
+pub mod KeyLemmas
+pub mod QueueLemmas
+pub mod TakenLemmas
 pub mod DropLemmas

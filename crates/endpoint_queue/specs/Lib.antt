@@ -1,3 +1,4 @@
 pub mod Places
 pub mod QueueContent
 pub mod IndexContent
+pub mod IndexChanges

@@ -1,32 +1,42 @@
-ghost use Rattle.std.specs.Prelude.{◌≡◌, ◌+◌, ◌≤◌, ◌<◌, [], length, OnOk};
-ghost use Rattle.std.specs.List.{insert, remove};
+ghost use Rattle.std.specs.Prelude.{◌≡◌, ◌+◌, ◌≤◌, ◌<◌, [], insert, length, vec_len, vec_capacity, OnOk};
+ghost use Rattle.std.specs.List.{remove};
 
-use crate::place::{Place, insert_place};
 use std::alloc::{AllocError, Global};
 use std::marker::Model;
 
 /// Places in order, with room for more. What is removed from the front stays before the others
 /// until room is made, so that it moves nothing.
 #[derive(Drop)]
-pub(crate) struct Index {
-    slots: Vec<Place>,
+pub(crate) struct Index<P> {
+    slots: Vec<P>,
     gone: usize,
 }
 
-impl Model for Index {
+impl<P> Model for Index<P> {
     ghost use Rattle.std.specs.Prelude.{◌-◌, ◌≤◌, drop, vec_capacity, vec_len};
     ghost use Rattle.endpoint_queue.specs.IndexContent.{IndexContent};
 
-    ghost Value = { IndexContent };
+    ghost Value = { IndexContent P };
 
     ghost view = { λ i. record { places = drop i.gone i.slots.items; room = vec_capacity i.slots - vec_len i.slots } };
 
     ghost invariant = { λ i. i.gone ≤ vec_len i.slots };
 }
 
-impl Index {
+/// Adds a place, for which there is room.
+fn insert_place<P: Drop>(places: &mut Vec<P>, at: usize, place: P)
+    requires within { at ≤ vec_len places.old }
+    requires room { vec_len places.old < vec_capacity places.old }
+    ensures items { places.new.items ≡ insert places.old.items at place }
+    ensures len { vec_len places.new ≡ vec_len places.old + 1 }
+    ensures capacity { vec_capacity places.new ≡ vec_capacity places.old }
+{
+    let _ = places.insert(at, place);
+}
+
+impl<P: Drop> Index<P> {
     /// The empty index. It takes no memory.
-    pub(crate) fn new(alloc: Global) -> Index
+    pub(crate) fn new(alloc: Global) -> Index<P>
         ensures { result.places ≡ [] }
     {
         Index {
@@ -35,7 +45,7 @@ impl Index {
         }
     }
 
-    pub(crate) fn as_slice(&self) -> &[Place]
+    pub(crate) fn as_slice(&self) -> &[P]
         ensures { result.now ≡ self.now.places }
     {
         &self.slots[self.gone..]
@@ -74,7 +84,7 @@ impl Index {
     }
 
     /// Adds a place, for which there is room.
-    pub(crate) fn insert(&mut self, at: usize, place: Place)
+    pub(crate) fn insert(&mut self, at: usize, place: P)
         requires within { at ≤ length self.old.places }
         requires room { 0 < self.old.room }
         ensures places { self.new.places ≡ insert self.old.places at place }

@@ -1,7 +1,10 @@
-ghost use Rattle.std.specs.Prelude.{◌≡◌, ◌+◌, ◌≤◌, ◌<◌, true, false, insert, length, vec_len, vec_capacity};
+ghost use Rattle.std.specs.Prelude.{◌≡◌, ◌==◌, ◌≤◌, true, false, length};
 ghost use Rattle.std.specs.List.{AllPairs};
 ghost use Rattle.std.specs.List.Sorted.{IsPartitionPoint};
-ghost use Rattle.endpoint_queue.specs.Places.{IsBefore, IsFirstTicket, IsLeastTicket, is_before, lower_of};
+ghost use Rattle.endpoint_queue.specs.Places.{IsBefore, IsLeastTicket, is_before, is_listed, lower_of};
+ghost use Rattle.endpoint_queue.specs.IndexChanges.{Adds, CanTake, Has, TakesOut};
+
+use crate::index::Index;
 
 /// Where an item stands in the index of a queue: its signal's number, then its ticket.
 #[derive(Clone, Copy, Debug, PartialEq, Eq, Hash)]
@@ -17,7 +20,7 @@ fn is_before(one: &Place, other: &Place) -> bool
 }
 
 /// How many places stand before this one.
-pub(crate) fn count_before(places: &[Place], place: &Place) -> usize
+fn count_before(places: &[Place], place: &Place) -> usize
     requires { AllPairs IsBefore places.now }
     ensures within { result ≤ length places.now }
     ensures between { IsPartitionPoint (λ p. is_before p place.now ≡ true) (λ p. is_before p place.now ≡ false) places.now result }
@@ -25,21 +28,28 @@ pub(crate) fn count_before(places: &[Place], place: &Place) -> usize
     places.partition_point(|other| is_before(other, place))
 }
 
-/// Adds a place, for which there is room.
-pub(crate) fn insert_place(places: &mut Vec<Place>, at: usize, place: Place)
-    requires within { at ≤ vec_len places.old }
-    requires room { vec_len places.old < vec_capacity places.old }
-    ensures items { places.new.items ≡ insert places.old.items at place }
-    ensures len { vec_len places.new ≡ vec_len places.old + 1 }
-    ensures capacity { vec_capacity places.new ≡ vec_capacity places.old }
+/// Adds a place, whose ticket is above all others, and for which there is room.
+pub(crate) fn add_place(index: &mut Index<Place>, place: Place)
+    requires { CanTake index.old place.ticket }
+    ensures { Adds place index.old index.new }
 {
-    let _ = places.insert(at, place);
+    let at = count_before(index.as_slice(), &place);
+    index.insert(at, place);
+}
+
+/// Takes out a place.
+pub(crate) fn take_place(index: &mut Index<Place>, place: &Place)
+    requires { Has place.now index.old }
+    ensures { TakesOut place.now index.old index.new }
+{
+    let at = count_before(index.as_slice(), place);
+    index.remove(at);
 }
 
 /// The ticket of the first item of a number.
 fn first_ticket(places: &[Place], number: u32) -> Option<u64>
     requires { AllPairs IsBefore places.now }
-    ensures { IsFirstTicket places.now number result }
+    ensures { IsLeastTicket (λ n. number == n) places.now result }
 {
     let at = count_before(places, &Place { number, ticket: 0 });
     if at == places.len() || places[at].number != number {
@@ -61,7 +71,7 @@ fn lower_of(one: Option<u64>, other: Option<u64>) -> Option<u64>
 /// The least ticket of the listed numbers. It looks at one place of each listed number.
 pub(crate) fn least_ticket(places: &[Place], listed: &[u32]) -> Option<u64>
     requires { AllPairs IsBefore places.now }
-    ensures { IsLeastTicket places.now listed.now result }
+    ensures { IsLeastTicket (is_listed listed.now) places.now result }
 {
     let mut least = None;
     for number in listed {

@@ -2,14 +2,14 @@ ghost use Rattle.std.specs.Prelude.{◌≡◌, ◌≤◌, ◌<◌, ◌+◌, ◌^
 ghost use Rattle.std.specs.List.{position, range_with_len, remove, All, AllPairs};
 ghost use Rattle.std.specs.List.Sorted.{IsPermutation};
 ghost use Rattle.std.specs.VecDeque.{deque_capacity, deque_len};
-ghost use Rattle.endpoint_queue.specs.Places.{IsKept};
+ghost use Rattle.endpoint_queue.specs.Places.{IsIndexed, count_notices};
 ghost use Rattle.endpoint_queue.specs.QueueContent.{has_tickets};
-ghost use Rattle.sigsel.specs.Selection.{notifies};
 ghost use Rattle.linx_base.specs.FirstMatch.{TakesEarliest, first_match, without_match, without_beside};
 
-use crate::index::Index;
-use crate::place::{Place, count_before, least_ticket};
-use linx_base::{AttRef, Item, Kind, NoMemory};
+use crate::indexes::Indexes;
+use crate::noted::noted_ticket;
+use crate::place::{Place, least_ticket};
+use linx_base::{AttRef, Item, NoMemory};
 use sigsel::Sigsel;
 use std::alloc::Global;
 use std::collections::VecDeque;
@@ -20,7 +20,7 @@ use std::marker::Model;
 pub struct Queue {
     items: VecDeque<Item>,
     tickets: VecDeque<u64>,
-    index: Index,
+    indexes: Indexes,
     next: u64,
     spare: usize,
 }
@@ -29,16 +29,17 @@ impl Model for Queue {
     ghost use Rattle.std.specs.Prelude.{◌+◌, ◌<◌, ◌≤◌, ◌^◌};
     ghost use Rattle.std.specs.VecDeque.{deque_capacity, deque_len};
     ghost use Rattle.endpoint_queue.specs.QueueContent.{QueueContent};
-    ghost use Rattle.endpoint_queue.specs.Places.{IsKept};
+    ghost use Rattle.endpoint_queue.specs.Places.{IsIndexed};
 
     ghost Value = { QueueContent };
 
     ghost view = { λ q. record { items = q.items.items; tickets = q.tickets.items; next = q.next; spare = q.spare } };
 
-    ghost invariant = { λ q. IsKept q.items.items q.tickets.items q.index.places q.next
+    ghost invariant = { λ q. IsIndexed q.items.items q.tickets.items q.indexes.numbers.places q.indexes.notices.places q.next
         × (deque_len q.items + q.spare ≤ deque_capacity q.items)
         × (deque_len q.tickets + q.spare ≤ deque_capacity q.tickets)
-        × (q.spare ≤ q.index.room)
+        × (q.spare ≤ q.indexes.numbers.room)
+        × (q.spare ≤ q.indexes.notices.room)
         × (q.next + q.spare < 2 ^ 64) };
 }
 
@@ -53,34 +54,22 @@ fn take_out<T>(elements: &mut VecDeque<T>, at: usize) -> T
     elements.remove(at).unwrap()
 }
 
-fn notifies(kind: &Kind, attach: AttRef) -> bool
-    ensures { result ≡ notifies attach kind.now }
-{
-    match kind {
-        Kind::Notice(of) => of.0 == attach.0,
-        _ => false,
-    }
-}
-
-/// Gives the items tickets from 0 on, and makes the index anew.
-fn number_anew(items: &VecDeque<Item>, tickets: &mut VecDeque<u64>, index: &mut Index)
+/// Gives the items tickets from 0 on, and makes the indexes anew.
+fn number_anew(items: &VecDeque<Item>, tickets: &mut VecDeque<u64>, indexes: &mut Indexes)
     requires room_for_tickets { deque_len items.now ≤ deque_capacity tickets.old }
-    requires room_for_places { deque_len items.now ≤ length index.old.places + index.old.room }
-    ensures kept { IsKept items.now.items tickets.new.items index.new.places (length items.now.items) }
+    requires room_for_numbers { deque_len items.now ≤ length indexes.old.numbers.places + indexes.old.numbers.room }
+    requires room_for_notices { count_notices items.now.items < length indexes.old.notices.places + indexes.old.notices.room }
+    ensures indexed { IsIndexed items.now.items tickets.new.items indexes.new.numbers.places indexes.new.notices.places (length items.now.items) }
     ensures anew { tickets.new.items ≡ range_with_len 0 (length items.now.items) }
     ensures len { deque_len tickets.new ≡ deque_len items.now }
     ensures capacity { deque_capacity tickets.new ≡ deque_capacity tickets.old }
-    ensures room { length index.old.places + index.old.room ≤ deque_len items.now + index.new.room }
+    ensures numbers_room { length indexes.old.numbers.places + indexes.old.numbers.room ≤ deque_len items.now + indexes.new.numbers.room }
+    ensures notices_room { length indexes.old.notices.places + indexes.old.notices.room ≤ count_notices items.now.items + indexes.new.notices.room }
 {
     tickets.clear();
-    index.clear();
+    indexes.clear();
     for at in 0..items.len() {
-        let place = Place {
-            number: items[at].signal.number(),
-            ticket: at as u64,
-        };
-        let before = count_before(index.as_slice(), &place);
-        index.insert(before, place);
+        indexes.add(&items[at], at as u64);
         tickets.push_back_reserved(at as u64);
     }
 }
@@ -89,24 +78,25 @@ fn number_anew(items: &VecDeque<Item>, tickets: &mut VecDeque<u64>, index: &mut 
 fn ticketed(
     items: &VecDeque<Item>,
     tickets: &mut VecDeque<u64>,
-    index: &mut Index,
+    indexes: &mut Indexes,
     next: u64,
     n: usize,
 ) -> u64
-    requires kept { IsKept items.now.items tickets.old.items index.old.places next }
-    requires lengths { (deque_len tickets.old ≡ deque_len items.now) × (length index.old.places ≡ deque_len items.now) }
-    requires room { (deque_len items.now + n ≤ deque_capacity tickets.old) × (n ≤ index.old.room) }
-    ensures kept { IsKept items.now.items tickets.new.items index.new.places result }
+    requires some { 0 < n }
+    requires indexed { IsIndexed items.now.items tickets.old.items indexes.old.numbers.places indexes.old.notices.places next }
+    requires lengths { (deque_len tickets.old ≡ deque_len items.now) × (length items.now.items ≡ deque_len items.now) }
+    requires room { (deque_len items.now + n ≤ deque_capacity tickets.old) × (n ≤ indexes.old.numbers.room) × (n ≤ indexes.old.notices.room) }
+    ensures indexed { IsIndexed items.now.items tickets.new.items indexes.new.numbers.places indexes.new.notices.places result }
     ensures tickets { tickets.new.items ≡ (if has_tickets next n then tickets.old.items else range_with_len 0 (length items.now.items)) }
     ensures next { result ≡ (if has_tickets next n then next else length items.now.items) }
     ensures enough { result + n < 2 ^ 64 }
     ensures len { deque_len tickets.new ≡ deque_len items.now }
-    ensures room { (deque_capacity tickets.new ≡ deque_capacity tickets.old) × (n ≤ index.new.room) }
+    ensures room { (deque_capacity tickets.new ≡ deque_capacity tickets.old) × (n ≤ indexes.new.numbers.room) × (n ≤ indexes.new.notices.room) }
 {
     if n as u64 <= u64::MAX - next {
         return next;
     }
-    number_anew(items, tickets, index);
+    number_anew(items, tickets, indexes);
     items.len() as u64
 }
 
@@ -122,7 +112,7 @@ impl Queue {
         Queue {
             items: VecDeque::new(alloc),
             tickets: VecDeque::new(alloc),
-            index: Index::new(alloc),
+            indexes: Indexes::new(alloc),
             next: 0,
             spare: 0,
         }
@@ -143,11 +133,11 @@ impl Queue {
         }
         self.items.reserve(n)?;
         self.tickets.reserve(n)?;
-        self.index.reserve(n)?;
+        self.indexes.reserve(n)?;
         self.next = ticketed(
             &self.items,
             &mut self.tickets,
-            &mut self.index,
+            &mut self.indexes,
             self.next,
             n,
         );
@@ -163,12 +153,7 @@ impl Queue {
         ensures next { self.new.next ≡ self.old.next + 1 }
         ensures spare { self.new.spare + 1 ≡ self.old.spare }
     {
-        let place = Place {
-            number: item.signal.number(),
-            ticket: self.next,
-        };
-        let at = count_before(self.index.as_slice(), &place);
-        self.index.insert(at, place);
+        self.indexes.add(&item, self.next);
         self.items.push_back_reserved(item);
         self.tickets.push_back_reserved(self.next);
         self.next += 1;
@@ -179,7 +164,7 @@ impl Queue {
     fn first_listed(&self, listed: &[u32]) -> Option<usize>
         ensures { result ≡ position (λ item. is_listed listed.now item.signal.number) self.now.items }
     {
-        let ticket = least_ticket(self.index.as_slice(), listed)?;
+        let ticket = least_ticket(self.indexes.numbers.as_slice(), listed)?;
         self.tickets.binary_search(&ticket).ok()
     }
 
@@ -202,9 +187,8 @@ impl Queue {
     fn notice_position(&self, attach: AttRef) -> Option<usize>
         ensures { result ≡ position (is_notice_of attach) self.now.items }
     {
-        self.items
-            .iter()
-            .position(|item| notifies(&item.kind, attach))
+        let ticket = noted_ticket(self.indexes.notices.as_slice(), attach)?;
+        self.tickets.binary_search(&ticket).ok()
     }
 
     /// Takes out the item at this position.
@@ -218,12 +202,7 @@ impl Queue {
     {
         let ticket = take_out(&mut self.tickets, at);
         let item = take_out(&mut self.items, at);
-        let place = Place {
-            number: item.signal.number(),
-            ticket,
-        };
-        let found = count_before(self.index.as_slice(), &place);
-        self.index.remove(found);
+        self.indexes.take_out(&item, ticket);
         item
     }
 
@@ -250,7 +229,8 @@ impl Queue {
         self.first_position(sel).is_some()
     }
 
-    /// Takes out the notice of an attach. `None` exactly where there is none. It takes no memory.
+    /// Takes out the notice of an attach. `None` exactly where there is none. It takes no memory, and
+    /// looks at no other item.
     pub fn remove_ref(&mut self, attach: AttRef) -> Option<Item>
         ensures item { result ≡ first_match (is_notice_of attach) self.old.items }
         ensures others { self.new.items ≡ without_match (is_notice_of attach) self.old.items }
@@ -272,6 +252,6 @@ impl Queue {
         ensures ticketed { length self.now.tickets ≡ length self.now.items }
         ensures rising { AreTickets self.now.tickets self.now.next }
     {
-        self.index.as_slice()
+        self.indexes.numbers.as_slice()
     }
 }

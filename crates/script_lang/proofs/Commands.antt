@@ -13,20 +13,21 @@ use Rattle.script_lang.specs.Fits.{is_link, has_end, fits_command}
 
 module _ (s : ScriptParts) (node : NodeNo) where
   -- a command that names no link and no node fits every script
-  pub sized_fits : (command : Command) → is_sized_plain command ≡ true → fits_command s node command ≡ true
-  sized_fits (Open name) h = refl
-  sized_fits Close h = refl
-  sized_fits (Send to number bytes) h = h
-  sized_fits (Forward to) h = refl
-  sized_fits (Recv filter) h = h
-  sized_fits (Hunt path number bytes) h = cc
-  sized_fits (Attach to r number bytes) h = h
-  sized_fits (Detach r) h = refl
-  sized_fits (Keep name) h = refl
-  sized_fits (Cut link) h = cc
-  sized_fits (Mend link) h = cc
-  sized_fits (Restart other) h = cc
-  sized_fits (Settle link) h = cc
+  pub fits : (command : Command) → is_sized_plain command ≡ true
+      → fits_command s node command ≡ true
+  fits (Open name) h = refl
+  fits Close h = refl
+  fits (Send to number bytes) h = h
+  fits (Forward to) h = refl
+  fits (Recv filter) h = h
+  fits (Hunt path number bytes) h = cc
+  fits (Attach to r number bytes) h = h
+  fits (Detach r) h = refl
+  fits (Keep name) h = refl
+  fits (Cut link) h = cc
+  fits (Mend link) h = cc
+  fits (Restart other) h = cc
+  fits (Settle link) h = cc
 
   -- whether a declared link ends at a node, by its declaration
   pub has_end_at : (link : LinkNo) (decl : LinkDecl) → is_link s link ≡ true

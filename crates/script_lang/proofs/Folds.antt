@@ -1,5 +1,5 @@
 -- the lines of a script, one after the other
-use Rattle.std.proofs.Common.{◌≡◌, ℕ, ◌+◌, ◌-◌, ◌≤◌, List, [], ◌∷◌, Result, Ok, Err, length, sym, ◌∙◌, ap, subst, arith}
+use Rattle.std.proofs.Common.{◌≡◌, ℕ, ◌+◌, ◌-◌, ◌≤◌, List, [], ◌∷◌, Result, Ok, Err, length, sym, subst, arith}
 use Rattle.script_words.specs.declared.bad_kind.BadKind.{BadKind}
 use Rattle.script_words.specs.declared.line_error.LineError.{LineError}
 use Rattle.script_words.specs.declared.line_error.LineError.TheVariants as errors
@@ -7,7 +7,7 @@ use Rattle.script_words.specs.Gives.{Fails}
 use Rattle.script_words.specs.Lines.{lines_of}
 use Rattle.script_lang.specs.declared.reading.Reading.{Reading}
 use Rattle.script_lang.specs.Parts.{ScriptParts}
-use Rattle.script_lang.specs.Reading.{lined, finished, behind, read_from, error_in, IsBadOf}
+use Rattle.script_lang.specs.Reading.{lined, finished, read_from, error_in, IsBadOf}
 
 module _ (r : Reading) (line : ℕ) (total : Result ScriptParts (ℕ × BadKind)) where
   module _ (before : ℕ) (next : List ℕ) (rest : List (List ℕ)) where
@@ -16,21 +16,13 @@ module _ (r : Reading) (line : ℕ) (total : Result ScriptParts (ℕ × BadKind)
         → read_from r before line (next ∷ rest) ≡ total
         → read_from s (before + length next) (line + 1) rest ≡ total
     unfolding read_from
-    goes_on s good h =
-        let one : read_from r before line (next ∷ rest) ≡ read_from s (before + length next) (line + 1) rest =
-        ap (λ (x : Result Reading BadKind). behind x (line + 1) (λ t. read_from t (before + length next) (line + 1) rest)) good
-        in
-        sym one ∙ h
+    goes_on s good h = rw good at h
 
     -- a bad line
     stops : (kind : BadKind) → lined r before next ≡ Err kind
         → read_from r before line (next ∷ rest) ≡ total → total ≡ Err (line + 1, kind)
     unfolding read_from
-    stops kind bad h =
-        let one : read_from r before line (next ∷ rest) ≡ Err (line + 1, kind) =
-        ap (λ (x : Result Reading BadKind). behind x (line + 1) (λ t. read_from t (before + length next) (line + 1) rest)) bad
-        in
-        sym h ∙ one
+    stops kind bad h = sym (rw bad at h)
 
   -- no byte is left
   pub last_line : (before : ℕ) (rest : List ℕ) → length rest ≡ 0
@@ -42,17 +34,18 @@ module _ (r : Reading) (line : ℕ) (total : Result ScriptParts (ℕ × BadKind)
   module _ (bytes rest next after : List ℕ) (cut : lines_of rest ≡ next ∷ lines_of after)
       (reads : read_from r (length bytes - length rest) line (lines_of rest) ≡ total) where
     cut_up : read_from r (length bytes - length rest) line (next ∷ lines_of after) ≡ total
-    cut_up =
-        subst (λ (lines : List (List ℕ)). read_from r (length bytes - length rest) line lines ≡ total) cut reads
+    cut_up = rw cut at reads
 
     -- a good line of some bytes, and then the rest
-    pub next_line : (s : Reading) → length next + length after ≡ length rest → length rest ≤ length bytes
+    pub next_line : (s : Reading) → length next + length after ≡ length rest
+        → length rest ≤ length bytes
         → lined r (length bytes - length rest) next ≡ Ok s
         → read_from s (length bytes - length after) (line + 1) (lines_of after) ≡ total
     next_line s whole shorter good =
-        let before : (length bytes - length rest) + length next ≡ length bytes - length after = omega arith in
-        subst (λ (n : ℕ). read_from s n (line + 1) (lines_of after) ≡ total) before
-        (goes_on (length bytes - length rest) next (lines_of after) s good cut_up)
+        let before = length bytes - length rest in
+        let passed : before + length next ≡ length bytes - length after = omega arith in
+        subst (λ (n : ℕ). read_from s n (line + 1) (lines_of after) ≡ total) passed
+        (goes_on before next (lines_of after) s good cut_up)
 
     -- a line that isn't taken
     pub bad_line : (error : LineError) → Fails error (lined r (length bytes - length rest) next)

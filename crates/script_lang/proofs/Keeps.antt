@@ -13,7 +13,7 @@ use Rattle.linx_base.specs.declared.frame.LinkDecl.{LinkDecl}
 use Rattle.linx_base.specs.declared.frame.Verdict.{Verdict}
 use Rattle.script_words.specs.declared.command.Command.{Command}
 use Rattle.script_words.specs.declared.command.Command.TheVariants.{Open, Close, Send, Forward, Recv, Hunt, Attach, Detach, Keep, Cut, Mend, Restart, Settle}
-use Rattle.script_words.specs.Limits.{node_limit, link_limit, actor_limit, command_limit, all_commands_limit, verdict_limit}
+use Rattle.script_lang.specs.Limits.{node_limit, link_limit, actor_limit, command_limit, all_commands_limit, verdict_limit}
 use Rattle.script_words.specs.Verdicts.{fits_verdict}
 use Rattle.script_words.proofs.Lists.{list_all_push}
 use Rattle.script_lang.specs.declared.actor_script.ActorScript.{ActorScript}
@@ -24,7 +24,8 @@ use Rattle.script_lang.proofs.Verdicts.{length-planned_at, planned_at_fits}
 
 -- a new name beside distinct ones
 distinct_push : (names : List (List ℕ)) (name : List ℕ)
-    → are_distinct names ≡ true → is_among names name ≡ false → are_distinct (names ++ name ∷ []) ≡ true
+    → are_distinct names ≡ true → is_among names name ≡ false
+    → are_distinct (names ++ name ∷ []) ≡ true
 distinct_push [] name h fresh = refl
 distinct_push (first ∷ names) name h fresh =
     let parts = and_parts (not (list_any (bytes_eq first) names)) (are_distinct names) h in
@@ -40,7 +41,8 @@ numbered_grows m n k below h =
     let within : k ≤ m = leb-true k m parts.1 in
     and_from _ _ parts.0 (le-leb k n (omega arith))
 
-link_grows : (m n : ℕ) → m ≤ n → (decl : LinkDecl) → fits_link m decl ≡ true → fits_link n decl ≡ true
+link_grows : (m n : ℕ) → m ≤ n → (decl : LinkDecl)
+    → fits_link m decl ≡ true → fits_link n decl ≡ true
 link_grows m n below decl h =
     let first = and_parts _ _ h in
     let second = and_parts _ _ first.1 in
@@ -55,7 +57,8 @@ record Grows (s t : ScriptParts) : Type 0 where
   ends : (link : LinkNo) (node : NodeNo) → has_end s link node ≡ true → has_end t link node ≡ true
 
 module _ (s t : ScriptParts) (g : Grows s t) where
-  path_grows : (node : NodeNo) (path : Path) → fits_path s node path ≡ true → fits_path t node path ≡ true
+  path_grows : (node : NodeNo) (path : Path)
+      → fits_path s node path ≡ true → fits_path t node path ≡ true
   path_grows node (Local name) h = refl
   path_grows node (Over link name) h = g.ends link node h
 
@@ -183,7 +186,8 @@ module _ (s : ScriptParts) (link : LinkNo) (from : Side) (verdict : Verdict) whe
     each_plan = length-planned_at from verdict s.plans (link.0 - 1) ∙ h.each_plan;
     plans = planned_at_fits s.plans (link.0 - 1) from verdict h.plans room fits;
     actors = h.actors;
-    each_actor = actors_grow s (with_verdict s link from verdict) verdict_grows s.actors h.each_actor;
+    each_actor =
+        actors_grow s (with_verdict s link from verdict) verdict_grows s.actors h.each_actor;
     commands = h.commands;
   }
 
@@ -198,7 +202,8 @@ module _ (s : ScriptParts) (node : NodeNo) (commands : List Command) where
 
   pub actor_kept : IsScript s → length s.actors < actor_limit → is_node s node ≡ true
       → length commands ≤ command_limit → list_all (fits_command s node) commands ≡ true
-      → commands_of s.actors + length commands ≤ all_commands_limit → IsScript (with_actor s node commands)
+      → commands_of s.actors + length commands ≤ all_commands_limit
+      → IsScript (with_actor s node commands)
   unfolding added
   actor_kept h room declared few fits all = record {
     nodes = h.nodes;
@@ -214,7 +219,7 @@ module _ (s : ScriptParts) (node : NodeNo) (commands : List Command) where
         (actors_grow s (with_actor s node commands) script_grows s.actors h.each_actor)
         (and_from _ _
         (and_from _ _ declared (le-leb (length commands) command_limit few))
-        (list_all_weaken (fits_command s node) (fits_command (with_actor s node commands) node) commands
-        (command_grows s (with_actor s node commands) script_grows node) fits));
+        (list_all_weaken (fits_command s node) (fits_command (with_actor s node commands) node)
+        commands (command_grows s (with_actor s node commands) script_grows node) fits));
     commands = omega (arith, sum_by_push (λ (a : ActorScript). length a.commands) s.actors added);
   }

@@ -15,4 +15,5 @@ module _ {X : Type 0} where
   -- one more element that fails
   pub list_any_push : (p : X → Bool) (xs : List X) (x : X)
       → list_any p xs ≡ false → p x ≡ false → list_any p (xs ++ x ∷ []) ≡ false
-  list_any_push p xs x none one = list_any-append p xs (x ∷ []) ∙ or_from _ _ none (or_from _ _ one refl)
+  list_any_push p xs x none one =
+      list_any-append p xs (x ∷ []) ∙ or_from _ _ none (or_from _ _ one refl)

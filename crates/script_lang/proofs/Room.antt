@@ -4,9 +4,11 @@ use Rattle.std.specs.List.{list_all, repeat}
 use Rattle.std.proofs.lemmas.Bool.{and_parts, and_from, leb-true, lt-leb}
 use Rattle.std.proofs.lemmas.List.{append-nil}
 use Rattle.std.proofs.lemmas.List.Folds.{list_all-append}
+use Rattle.std.proofs.lemmas.List.Sums.{sum_by_more, sum_by_more_le}
 use Rattle.linx_base.specs.declared.identity.NodeNo.{NodeNo}
 use Rattle.script_words.specs.declared.command.Command.{Command}
-use Rattle.script_words.specs.Limits.{command_limit, all_commands_limit}
+use Rattle.script_words.proofs.Lists.{list_all_push}
+use Rattle.script_lang.specs.Limits.{command_limit, all_commands_limit}
 use Rattle.script_lang.specs.declared.actor_script.ActorScript.{ActorScript}
 use Rattle.script_lang.specs.Parts.{ScriptParts}
 use Rattle.script_lang.specs.Fits.{commands_of, fits_command}
@@ -27,7 +29,8 @@ module _ {A : Type 0} where
 
   repeat_suc : (n : ℕ) (xs : List A) → repeat (suc n) xs ≡ repeat n xs ++ xs
   repeat_suc zero xs = append-nil xs
-  repeat_suc (suc n) xs = ap (λ rest. xs ++ rest) (repeat_suc n xs) ∙ sym (append_assoc xs (repeat n xs) xs)
+  repeat_suc (suc n) xs =
+      ap (λ rest. xs ++ rest) (repeat_suc n xs) ∙ sym (append_assoc xs (repeat n xs) xs)
 
   -- a copy more of a block, behind the others
   repeat_push : (n : ℕ) (xs : List A) → repeat (n + 1) xs ≡ repeat n xs ++ xs
@@ -44,11 +47,13 @@ module _ {A : Type 0} where
 
 module _ (s : ScriptParts) (commands : List Command) where
   room_few : (more : ℕ) → has_room s commands more ≡ true
-      → (length commands + more ≤ command_limit) × (commands_of s.actors + (length commands + more) ≤ all_commands_limit)
+      → (length commands + more ≤ command_limit)
+      × (commands_of s.actors + (length commands + more) ≤ all_commands_limit)
   room_few more h =
       let few = length commands + more in
-      let both = and_parts (nat_le few command_limit) (nat_le (commands_of s.actors + few) all_commands_limit) h in
-      (leb-true few command_limit both.0, leb-true (commands_of s.actors + few) all_commands_limit both.1)
+      let all = commands_of s.actors + few in
+      let both = and_parts (nat_le few command_limit) (nat_le all all_commands_limit) h in
+      (leb-true few command_limit both.0, leb-true all all_commands_limit both.1)
 
   -- more commands than an actor can have have no room
   pub no_room : (more : ℕ) → command_limit < more → has_room s commands more ≡ false
@@ -65,7 +70,9 @@ module _ (s : ScriptParts) (commands : List Command) where
     unfolding so_far
     more_fit more n long h fit room =
         let few = room_few n room in
-        let longer : length (commands ++ more) ≡ length commands + n = length-append commands more ∙ ap (λ k. length commands + k) long in
+        let longer : length (commands ++ more) ≡ length commands + n =
+        length-append commands more ∙ ap (λ k. length commands + k) long
+        in
         record {
           node = h.node;
           room = h.room;
@@ -85,9 +92,22 @@ module _ (s : ScriptParts) (commands : List Command) where
     -- a repeated block written out
     pub copies_more : (times : ℕ) (repeated : List Command)
         → CanEnd s (record { node = node; commands = commands })
-        → list_all (fits_command s node) repeated ≡ true → has_room s commands (times * length repeated) ≡ true
+        → list_all (fits_command s node) repeated ≡ true
+        → has_room s commands (times * length repeated) ≡ true
         → CanEnd s (record { node = node; commands = commands ++ repeat times repeated })
     unfolding so_far
     copies_more times repeated h fit room =
         more_fit (repeat times repeated) (times * length repeated) (length-repeat times repeated) h
         (list_all-repeat (fits_command s node) times repeated fit) room
+
+    -- one command more in a repeated block
+    pub repeats : (command : Command) → list_all (fits_command s node) commands ≡ true
+        → fits_command s node command ≡ true
+        → list_all (fits_command s node) (commands ++ command ∷ []) ≡ true
+    repeats command h fits = list_all_push (fits_command s node) commands command h fits
+
+-- the commands of all actors are counted
+pub ruleset counted = (sum_by_more, sum_by_more_le)
+
+-- a repeated block is written out, or has no room
+pub ruleset copied = (copies_more, no_room)

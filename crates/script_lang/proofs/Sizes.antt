@@ -1,36 +1,21 @@
 -- how many bytes a script has at most
-use Rattle.std.proofs.Common.{◌≡◌, ℕ, ◌+◌, ◌==◌, ◌≤◌, Bool, true, false, cond, List, [], ◌∷◌, Result, Ok, Err, length, refl, ◌∙◌, arith}
+use Rattle.std.proofs.Common.{◌≡◌, ℕ, ◌+◌, ◌≤◌, Bool, true, false, cond, List, [], ◌∷◌, Result, Ok, Err, length, refl, arith}
 use Rattle.std.specs.Prelude.{sum_by, nat_lt}
-use Rattle.std.specs.List.{onto_first}
-use Rattle.std.specs.Io.BufRead.{strip_last}
 use Rattle.std.proofs.lemmas.Bool.{ltb-false}
 use Rattle.std.proofs.lemmas.List.Sums.{sum_by-cons}
 use Rattle.script_words.specs.declared.bad_kind.BadKind.{BadKind}
 use Rattle.script_words.specs.declared.bad_kind.BadKind.TheVariants.{ScriptTooLong}
 use Rattle.script_words.specs.Gives.{◌>>=◌}
-use Rattle.script_words.specs.Limits.{script_limit}
 use Rattle.script_words.specs.Lines.{lines_of, words_in}
+use Rattle.script_words.proofs.Cuts.{sum_by-lines_of}
 use Rattle.script_lang.specs.declared.reading.Reading.{Reading}
+use Rattle.script_lang.specs.Limits.{script_limit}
 use Rattle.script_lang.specs.Parts.{ScriptParts}
 use Rattle.script_lang.specs.Reading.{nothing_read, lined, worded, behind, read_from, script_of}
 
-onto_one : (b : ℕ) (lines : List (List ℕ)) → sum_by length (onto_first b lines) ≡ 1 + sum_by length lines
-onto_one b [] = refl
-onto_one b (line ∷ lines) =
-    omega (arith, sum_by-cons length (b ∷ line) lines, sum_by-cons length line lines)
-
-feed_or_not : (t : Bool) (b : ℕ) (bs : List ℕ) → sum_by length (lines_of bs) ≡ length bs
-    → sum_by length (cond t ((b ∷ []) ∷ lines_of bs) (onto_first b (lines_of bs))) ≡ length (b ∷ bs)
-feed_or_not true b bs rest = let grown = sum_by-cons length (b ∷ []) (lines_of bs) in omega (arith, grown, rest)
-feed_or_not false b bs rest = onto_one b (lines_of bs) ∙ omega (arith, rest)
-
--- all bytes are in the lines
-all_lines : (bs : List ℕ) → sum_by length (lines_of bs) ≡ length bs
-all_lines [] = refl
-all_lines (b ∷ bs) = feed_or_not (b == 10) b bs (all_lines bs)
-
 within_limit : (long : Bool) (total : ℕ) (text : Result Reading BadKind) (s : Reading)
-    → nat_lt script_limit total ≡ long → cond long (Err ScriptTooLong) text ≡ Ok s → total ≤ script_limit
+    → nat_lt script_limit total ≡ long → cond long (Err ScriptTooLong) text ≡ Ok s
+    → total ≤ script_limit
 within_limit true total text s is good = absurd cc
 within_limit false total text s is good = ltb-false script_limit total is
 
@@ -39,21 +24,21 @@ taken : (r s : Reading) (before : ℕ) (line : List ℕ)
     → lined r before line ≡ Ok s → before + length line ≤ script_limit
 unfolding lined
 taken r s before line good =
-    within_limit (nat_lt script_limit (before + length line)) (before + length line) (words_in line >>= worded r) s refl good
+    let total = before + length line in
+    within_limit (nat_lt script_limit total) total (words_in line >>= worded r) s refl good
 
 -- the rest of the lines, behind one
-on : (r : Reading) (one : Result Reading BadKind) (before line : ℕ) (next : List ℕ) (rest : List (List ℕ))
-    (s : ScriptParts) → lined r before next ≡ one
-    → behind one (line + 1) (λ t. read_from t (before + length next) (line + 1) rest) ≡ Ok s
-    → ((t : Reading) → read_from t (before + length next) (line + 1) rest ≡ Ok s
-    → before + length next ≤ script_limit → before + length next + sum_by length rest ≤ script_limit)
-    → before + sum_by length (next ∷ rest) ≤ script_limit
-on r (Err kind) before line next rest s is good more = absurd cc
-on r (Ok t) before line next rest s is good more =
-    let here : before + length next ≤ script_limit = taken r t before next is in
-    let all : before + length next + sum_by length rest ≤ script_limit = more t good here in
-    let whole = sum_by-cons length next rest in
-    omega (arith, all, whole)
+module _ (before line : ℕ) (next : List ℕ) (rest : List (List ℕ)) (s : ScriptParts) where
+  on : (r : Reading) (one : Result Reading BadKind) → lined r before next ≡ one
+      → behind one (line + 1) (λ t. read_from t (before + length next) (line + 1) rest) ≡ Ok s
+      → ((t : Reading) → read_from t (before + length next) (line + 1) rest ≡ Ok s
+      → before + length next ≤ script_limit
+      → before + length next + sum_by length rest ≤ script_limit)
+      → before + sum_by length (next ∷ rest) ≤ script_limit
+  on r (Err kind) is good more = absurd cc
+  on r (Ok t) is good more =
+      let here : before + length next ≤ script_limit = taken r t before next is in
+      omega (arith, more t good here, sum_by-cons length next rest)
 
 read_within : (r : Reading) (before line : ℕ) (lines : List (List ℕ)) (s : ScriptParts)
     → read_from r before line lines ≡ Ok s → before ≤ script_limit
@@ -61,14 +46,13 @@ read_within : (r : Reading) (before line : ℕ) (lines : List (List ℕ)) (s : S
 unfolding read_from
 read_within r before line [] s good small = omega (arith, small)
 read_within r before line (next ∷ rest) s good small =
-    on r (lined r before next) before line next rest s refl good
+    on before line next rest s r (lined r before next) refl good
     (λ t more here. read_within t (before + length next) (line + 1) rest s more here)
 
 -- what is a script has at most 1,048,576 bytes
-pub script_within : (bytes : List ℕ) (s : ScriptParts) → script_of bytes ≡ Ok s → length bytes ≤ script_limit
+pub script_within : (bytes : List ℕ) (s : ScriptParts)
+    → script_of bytes ≡ Ok s → length bytes ≤ script_limit
 unfolding script_of
 script_within bytes s is =
-    let all : 0 + sum_by length (lines_of bytes) ≤ script_limit =
-    read_within nothing_read 0 0 (lines_of bytes) s is (omega arith)
-    in
-    omega (arith, all, all_lines bytes)
+    let all = read_within nothing_read 0 0 (lines_of bytes) s is (omega arith) in
+    omega (arith, all, sum_by-lines_of bytes)

@@ -7,7 +7,7 @@ use Rattle.linx_base.specs.declared.identity.LinkNo.{LinkNo}
 use Rattle.linx_base.specs.declared.identity.Side.{Side}
 use Rattle.linx_base.specs.declared.identity.Side.TheVariants.{First, Second}
 use Rattle.linx_base.specs.declared.frame.Verdict.{Verdict}
-use Rattle.script_words.specs.Limits.{verdict_limit}
+use Rattle.script_lang.specs.Limits.{verdict_limit}
 use Rattle.script_words.specs.Verdicts.{fits_verdict}
 use Rattle.script_words.proofs.Lists.{list_all_push}
 use Rattle.script_lang.specs.declared.plans.Plans.{Plans}
@@ -23,10 +23,12 @@ module _ (from : Side) (verdict : Verdict) where
   length-planned_at (p ∷ plans) zero = refl
   length-planned_at (p ∷ plans) (suc place) = ap suc (length-planned_at plans place)
 
-plan_fits : (verdict : Verdict) (verdicts : List Verdict) → fits_plan verdicts ≡ true → length verdicts < verdict_limit
-    → fits_verdict verdict ≡ true → fits_plan (verdicts ++ verdict ∷ []) ≡ true
+plan_fits : (verdict : Verdict) (verdicts : List Verdict) → fits_plan verdicts ≡ true
+    → length verdicts < verdict_limit → fits_verdict verdict ≡ true
+    → fits_plan (verdicts ++ verdict ∷ []) ≡ true
 plan_fits verdict verdicts h room fits =
-    let parts = and_parts (nat_le (length verdicts) verdict_limit) (list_all fits_verdict verdicts) h in
+    let few = nat_le (length verdicts) verdict_limit in
+    let parts = and_parts few (list_all fits_verdict verdicts) h in
     let longer = length-append verdicts (verdict ∷ []) in
     and_from _ _
     (le-leb (length (verdicts ++ verdict ∷ [])) verdict_limit (omega (arith, longer)))
@@ -43,7 +45,8 @@ planned_fits plans Second verdict h room fits =
     and_from _ _ parts.0 (plan_fits verdict plans.from_second parts.1 room fits)
 
 pub planned_at_fits : (plans : List Plans) (place : ℕ) (from : Side) (verdict : Verdict)
-    → list_all fits_plans plans ≡ true → length (plan_in (slice_get plans place) from) < verdict_limit
+    → list_all fits_plans plans ≡ true
+    → length (plan_in (slice_get plans place) from) < verdict_limit
     → fits_verdict verdict ≡ true → list_all fits_plans (planned_at plans place from verdict) ≡ true
 planned_at_fits [] place from verdict h room fits = refl
 planned_at_fits (p ∷ plans) zero from verdict h room fits =
@@ -64,25 +67,28 @@ planned_at_is (p ∷ plans) (suc place) from verdict other h =
     ap (λ rest. p ∷ rest) (planned_at_is plans place from verdict other (omega arith))
 
 -- the same, where the plans in this place are known
-pub planned_at_of : (plans : List Plans) (place : ℕ) (from : Side) (verdict : Verdict) (here : Plans)
-    → place < length plans → slice_index_or plans place here ≡ here
+pub planned_at_of : (plans : List Plans) (place : ℕ) (from : Side) (verdict : Verdict)
+    (here : Plans) → place < length plans → slice_index_or plans place here ≡ here
     → slice_set plans place (planned here from verdict) ≡ planned_at plans place from verdict
 planned_at_of plans place from verdict here h e =
-    subst (λ (p : Plans). slice_set plans place (planned p from verdict) ≡ planned_at plans place from verdict)
-    e (planned_at_is plans place from verdict here h)
+    subst (λ (p : Plans). slice_set plans place (planned p from verdict)
+    ≡ planned_at plans place from verdict) e (planned_at_is plans place from verdict here h)
 
-planned_longer : (plans : List Plans) (place : ℕ) (from : Side) (verdict : Verdict) → place < length plans
+planned_longer : (plans : List Plans) (place : ℕ) (from : Side) (verdict : Verdict)
+    → place < length plans
     → length (plan_in (slice_get (planned_at plans place from verdict) place) from)
     ≡ length (plan_in (slice_get plans place) from) + 1
 planned_longer [] place from verdict h = absurd (omega arith)
 planned_longer (p ∷ plans) zero First verdict h = length-append p.from_first (verdict ∷ [])
 planned_longer (p ∷ plans) zero Second verdict h = length-append p.from_second (verdict ∷ [])
-planned_longer (p ∷ plans) (suc place) from verdict h = planned_longer plans place from verdict (omega arith)
+planned_longer (p ∷ plans) (suc place) from verdict h =
+    planned_longer plans place from verdict (omega arith)
 
 module _ (s : ScriptParts) (link : LinkNo) (from : Side) (verdict : Verdict) where
   -- a plan with one verdict more
   pub plan_longer : link.0 - 1 < length s.plans
-      → length (plan_of (with_verdict s link from verdict) link from) ≡ length (plan_of s link from) + 1
+      → length (plan_of (with_verdict s link from verdict) link from)
+      ≡ length (plan_of s link from) + 1
   plan_longer h = planned_longer s.plans (link.0 - 1) from verdict h
 
   -- a link keeps its place
@@ -105,4 +111,5 @@ pub verdicts_more : (s t u : ScriptParts) (link : LinkNo) (from : Side) (verdict
     → u ≡ with_verdicts s link from (take (i + 1) verdicts)
 verdicts_more s t u link from verdicts i verdict within so_far one =
     one ∙ ap (λ (v : ScriptParts). with_verdict v link from (get_or verdicts i verdict)) so_far
-    ∙ sym (fold_more (λ (v : ScriptParts) (d : Verdict). with_verdict v link from d) s verdicts i verdict within)
+    ∙ sym (fold_more (λ (v : ScriptParts) (d : Verdict). with_verdict v link from d)
+    s verdicts i verdict within)

@@ -8,8 +8,8 @@ use Rattle.script_words.specs.declared.block_line.ActorLine.{ActorLine}
 use Rattle.script_words.specs.declared.block_line.ActorLine.TheVariants as actor_lines
 use Rattle.script_words.specs.declared.block_line.RepeatLine.{RepeatLine}
 use Rattle.script_words.specs.declared.block_line.RepeatLine.TheVariants as repeat_lines
-use Rattle.script_words.specs.Gives.{◌>>=◌, made}
-use Rattle.script_words.specs.Limits.{actor_limit, command_limit, all_commands_limit}
+use Rattle.script_words.specs.Gives.{◌>>=◌}
+use Rattle.script_lang.specs.Limits.{actor_limit, command_limit, all_commands_limit}
 use Rattle.script_lang.specs.declared.actor_script.ActorScript.{ActorScript}
 use Rattle.script_lang.specs.declared.reading.Place.{Place}
 use Rattle.script_lang.specs.declared.reading.Place.TheVariants.{Outside, InActor, InRepeat}
@@ -30,7 +30,8 @@ pub record CanEnd (s : ScriptParts) (a : ActorScript) : Type 0 where
 abbrev pub HasFit : ScriptParts → Place → Type 0
 HasFit s Outside = Unit {0}
 HasFit s (InActor a) = CanEnd s a
-HasFit s (InRepeat a times commands) = CanEnd s a × (list_all (fits_command s a.node) commands ≡ true)
+HasFit s (InRepeat a times commands) =
+    CanEnd s a × (list_all (fits_command s a.node) commands ≡ true)
 
 abbrev pub IsReading : Reading → Type 0
 IsReading r = HasFit r.script r.place
@@ -52,7 +53,8 @@ unfoldable pub command_added : ScriptParts → ActorScript → Command → Resul
 command_added s a command = with_commands s a 1 (command ∷ [])
 
 -- a repeated block written out
-unfoldable pub written_out : ScriptParts → ActorScript → ℕ → List Command → Result ActorScript BadKind
+unfoldable pub written_out : ScriptParts → ActorScript → ℕ → List Command
+    → Result ActorScript BadKind
 written_out s a times commands = with_commands s a (times * length commands) (repeat times commands)
 
 -- the script with an actor's open block
@@ -60,7 +62,8 @@ abbrev pub at_place : ScriptParts → List (List ℕ) → Place → Reading
 at_place s actors place = record { script = s; actors = actors; place = place }
 
 -- a line of an actor's block, outside a repeated one
-unfoldable pub in_actor : ScriptParts → List (List ℕ) → ActorScript → ActorLine → Result Reading BadKind
+unfoldable pub in_actor : ScriptParts → List (List ℕ) → ActorScript → ActorLine
+    → Result Reading BadKind
 in_actor s actors a (actor_lines.Command named) = do
   command ← resolved s a.node named
   b ← command_added s a command
@@ -69,7 +72,8 @@ in_actor s actors a (actor_lines.Repeat times) = Ok (at_place s actors (InRepeat
 in_actor s actors a actor_lines.End = Ok (at_place (with_actor s a.node a.commands) actors Outside)
 
 -- a line of a repeated block
-unfoldable pub in_repeat : ScriptParts → List (List ℕ) → ActorScript → ℕ → List Command → RepeatLine → Result Reading BadKind
+unfoldable pub in_repeat : ScriptParts → List (List ℕ) → ActorScript → ℕ → List Command
+    → RepeatLine → Result Reading BadKind
 in_repeat s actors a times commands (repeat_lines.Command named) = do
   command ← resolved s a.node named
   Ok (at_place s actors (InRepeat a times (commands ++ command ∷ [])))

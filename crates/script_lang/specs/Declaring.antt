@@ -1,5 +1,5 @@
 -- lines outside a block
-use Rattle.std.specs.Prelude.{ℕ, ◌+◌, nat_le, nat_lt, ◌==◌, ◌||◌, Result, Ok, Err, List, [], ◌∷◌, ◌++◌, length, fold, if◌then◌else◌}
+use Rattle.std.specs.Prelude.{ℕ, ◌+◌, nat_le, nat_lt, ◌==◌, Result, Ok, Err, List, [], ◌∷◌, ◌++◌, length, fold, if◌then◌else◌}
 use Rattle.linx_base.specs.declared.identity.LinkNo.{LinkNo}
 use Rattle.linx_base.specs.declared.identity.Side.{Side}
 use Rattle.linx_base.specs.declared.frame.LinkDecl.{LinkDecl}
@@ -9,7 +9,7 @@ use Rattle.script_words.specs.declared.bad_kind.BadKind.TheVariants.{TwiceNamed,
 use Rattle.script_words.specs.declared.declaration.Declaration.{Declaration}
 use Rattle.script_words.specs.declared.declaration.Declaration.TheVariants.{Node, Link, Plan, Actor}
 use Rattle.script_words.specs.Gives.{◌>>=◌, made}
-use Rattle.script_words.specs.Limits.{node_limit, link_limit, actor_limit, verdict_limit}
+use Rattle.script_lang.specs.Limits.{node_limit, link_limit, actor_limit, verdict_limit}
 use Rattle.script_lang.specs.declared.reading.Reading.{Reading}
 use Rattle.script_lang.specs.declared.reading.Place.TheVariants.{Outside, InActor}
 use Rattle.script_lang.specs.Parts.{ScriptParts, plan_of, with_node, with_link, with_verdict}
@@ -22,7 +22,8 @@ node_added s name =
     else if nat_lt (length s.names.nodes) node_limit then Ok (with_node s name)
     else Err OverLimit
 
-unfoldable pub link_added : ScriptParts → List ℕ → List ℕ → List ℕ → ℕ → ℕ → Result ScriptParts BadKind
+unfoldable pub link_added : ScriptParts → List ℕ → List ℕ → List ℕ → ℕ → ℕ
+    → Result ScriptParts BadKind
 link_added s name first second window piece = do
   a ← node_named s first
   b ← node_named s second
@@ -61,5 +62,6 @@ unfoldable pub declared : ScriptParts → List (List ℕ) → Declaration → Re
 declared s actors (Node name) = made (outside actors) (node_added s name)
 declared s actors (Link name first second window piece) =
     made (outside actors) (link_added s name first second window piece)
-declared s actors (Plan link from verdicts) = made (outside actors) (plan_added s link from verdicts)
+declared s actors (Plan link from verdicts) =
+    made (outside actors) (plan_added s link from verdicts)
 declared s actors (Actor name node) = actor_begun s actors name node

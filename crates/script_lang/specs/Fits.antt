@@ -10,18 +10,20 @@ use Rattle.linx_base.specs.declared.frame.Verdict.{Verdict}
 use Rattle.linx_base.specs.Content.{data_limit}
 use Rattle.script_words.specs.declared.command.Command.{Command}
 use Rattle.script_words.specs.declared.command.Command.TheVariants.{Open, Close, Send, Forward, Recv, Hunt, Attach, Detach, Keep, Cut, Mend, Restart, Settle}
-use Rattle.script_words.specs.Limits.{node_limit, link_limit, actor_limit, command_limit, all_commands_limit, verdict_limit, attach_data_limit}
+use Rattle.script_words.specs.Limits.{attach_data_limit}
+use Rattle.script_words.specs.Numbers.{is_within}
 use Rattle.script_words.specs.Filling.{fits_data}
 use Rattle.script_words.specs.Filter.{fits_filter}
 use Rattle.script_words.specs.Verdicts.{fits_verdict}
 use Rattle.script_words.specs.Declaration.{has_link_size}
 use Rattle.script_lang.specs.declared.actor_script.ActorScript.{ActorScript}
 use Rattle.script_lang.specs.declared.plans.Plans.{Plans}
+use Rattle.script_lang.specs.Limits.{node_limit, link_limit, actor_limit, command_limit, all_commands_limit, verdict_limit}
 use Rattle.script_lang.specs.Parts.{ScriptParts}
 
 -- a number from 1 to the count
 abbrev pub is_numbered : ℕ → ℕ → Bool
-is_numbered count number = nat_le 1 number && nat_le number count
+is_numbered count number = is_within 1 count number
 
 -- the node is declared
 abbrev pub is_node : ScriptParts → NodeNo → Bool

@@ -18,14 +18,14 @@ pub record ScriptParts : Type 0 where
   pub plans : List Plans
   pub actors : List ActorScript
 
+-- the parts as one script
+abbrev pub parts_of : Names → List LinkDecl → List Plans → List ActorScript → ScriptParts
+parts_of names links plans actors =
+    record { names = names; links = links; plans = plans; actors = actors }
+
 -- nothing is declared
 abbrev pub empty_script : ScriptParts
-empty_script = record {
-  names = record { nodes = []; links = [] };
-  links = [];
-  plans = [];
-  actors = [];
-}
+empty_script = parts_of (record { nodes = []; links = [] }) [] [] []
 
 -- the verdicts of one direction of a link
 abbrev pub side_of : Plans → Side → List Verdict

@@ -1,14 +1,14 @@
--- A script, line by line. The kinds of a bad line are tried in the order of their table: ScriptTooLong
--- by `lined`, LineTooLong and BadByte by `words_in`, UnknownWord and BadShape by the readings of words,
--- UnknownName, TwiceNamed and OverLimit, in this order, by what a statement does to the script, and
--- Unfinished by `finished`.
+-- A script, line by line. The kinds of a bad line are tried in the order of their table:
+-- ScriptTooLong by `lined`, LineTooLong and BadByte by `words_in`, UnknownWord and BadShape by the
+-- readings of words, then UnknownName, TwiceNamed and OverLimit by what a statement does to the
+-- script, and Unfinished by `finished`.
 use Rattle.std.specs.Prelude.{ℕ, ◌+◌, ◌≡◌, nat_lt, Result, Ok, Err, List, [], ◌∷◌, length, if◌then◌else◌}
 use Rattle.script_words.specs.declared.bad_kind.BadKind.{BadKind}
 use Rattle.script_words.specs.declared.bad_kind.BadKind.TheVariants.{ScriptTooLong, Unfinished}
 use Rattle.script_words.specs.declared.line_error.LineError.{LineError}
 use Rattle.script_words.specs.declared.line_error.LineError.TheVariants as lines
 use Rattle.script_words.specs.Gives.{◌>>=◌}
-use Rattle.script_words.specs.Limits.{script_limit}
+use Rattle.script_lang.specs.Limits.{script_limit}
 use Rattle.script_words.specs.Lines.{lines_of, words_in}
 use Rattle.script_words.specs.Declaration.{declaration_of}
 use Rattle.script_words.specs.BlockLine.{actor_line_of, repeat_line_of}
@@ -24,7 +24,8 @@ use Rattle.script_lang.specs.Block.{in_actor, in_repeat}
 -- ---- each line
 
 -- a line's first word and the words behind it, at its place
-abbrev pub stated : ScriptParts → List (List ℕ) → Place → List ℕ → List (List ℕ) → Result Reading BadKind
+abbrev pub stated : ScriptParts → List (List ℕ) → Place → List ℕ → List (List ℕ)
+    → Result Reading BadKind
 stated s actors Outside first words = declaration_of first words >>= declared s actors
 stated s actors (InActor a) first words = actor_line_of first words >>= in_actor s actors a
 stated s actors (InRepeat a times commands) first words =
@@ -50,7 +51,8 @@ finished s (InActor a) line = Err (line, Unfinished)
 finished s (InRepeat a times commands) line = Err (line, Unfinished)
 
 -- goes on behind a good line, or stays at the bad one
-abbrev pub behind : Result Reading BadKind → ℕ → (Reading → Result ScriptParts (ℕ × BadKind)) → Result ScriptParts (ℕ × BadKind)
+abbrev pub behind : Result Reading BadKind → ℕ
+    → (Reading → Result ScriptParts (ℕ × BadKind)) → Result ScriptParts (ℕ × BadKind)
 behind (Ok r) line next = next r
 behind (Err kind) line next = Err (line, kind)
 
@@ -58,7 +60,8 @@ behind (Err kind) line next = Err (line, kind)
 unfoldable pub read_from : Reading → ℕ → ℕ → List (List ℕ) → Result ScriptParts (ℕ × BadKind)
 read_from r before line [] = finished r.script r.place line
 read_from r before line (next ∷ rest) =
-    behind (lined r before next) (line + 1) (λ s. read_from s (before + length next) (line + 1) rest)
+    behind (lined r before next) (line + 1)
+    (λ s. read_from s (before + length next) (line + 1) rest)
 
 -- nothing is read
 abbrev pub nothing_read : Reading

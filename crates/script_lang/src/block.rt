@@ -2,7 +2,7 @@
 
 ghost use Rattle.std.specs.Prelude.{◌≡◌, ◌*◌, ◌++◌, ◌≤◌, length, IfOk, OnOk, true};
 ghost use Rattle.std.specs.List.{list_all, repeat};
-ghost use Rattle.script_words.specs.Limits.{all_commands_limit, command_limit};
+ghost use Rattle.script_lang.specs.Limits.{all_commands_limit, command_limit};
 ghost use Rattle.script_words.specs.Gives.{Gives};
 ghost use Rattle.script_words.specs.BlockLine.{is_sized_in_actor, is_sized_in_repeat};
 ghost use Rattle.script_lang.specs.Fits.{commands_of, fits_command};
@@ -24,7 +24,7 @@ const COMMANDS_MOST: usize = 20_000;
 const ALL_COMMANDS_MOST: usize = 400_000;
 
 /// The commands of all actors.
-#[tactic(auto, using(std::proofs::lemmas::List::Sums::sum_by_more, std::proofs::lemmas::List::Sums::sum_by_more_le))]
+#[tactic(auto, using(crate::proofs::Room::counted))]
 fn commands_in_all(actors: &[ActorScript]) -> usize
     requires { commands_of actors.now ≤ all_commands_limit }
     ensures { result ≡ commands_of actors.now }
@@ -91,7 +91,7 @@ fn with_copies(commands: Commands, times: u32, repeated: &[Command]) -> Result<C
 }
 
 /// The actor with the repeated block written out.
-#[tactic(auto, using(crate::proofs::Room::copies_more, crate::proofs::Room::no_room), unfolding(crate::specs::Block::written_out))]
+#[tactic(auto, using(crate::proofs::Room::copied), unfolding(crate::specs::Block::written_out))]
 fn write_out(
     script: &Script,
     actor: ActorScript,
@@ -160,7 +160,7 @@ pub(crate) fn take_actor_line(
 }
 
 /// A line of a repeated block.
-#[tactic(auto, using(script_words::proofs::Lists::list_all_push), unfolding(crate::specs::Block::in_repeat))]
+#[tactic(auto, using(crate::proofs::Room::repeats), unfolding(crate::specs::Block::in_repeat))]
 pub(crate) fn take_repeat_line(
     script: Script,
     actors: NameList,

@@ -1,5 +1,5 @@
-//! The script language: the lines that declare nodes, links, the fate of packets and actors, read
-//! from bytes to a `Script`, or to the first bad line with what is wrong there. A `Script` keeps its
+//! The script language: lines that declare nodes, links, the fate of packets and actors, read from
+//! bytes to a `Script`, or to the first bad line with what is wrong there. A `Script` keeps its
 //! limits: whoever holds one knows that all its names are declared and its numbers are in range.
 #![tactic(auto)]
 

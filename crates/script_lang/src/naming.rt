@@ -2,7 +2,7 @@
 
 ghost use Rattle.std.specs.Prelude.{◌≡◌, ◌<◌, ◌≤◌, length, position, IfOk, IfSome, IsTrue};
 ghost use Rattle.std.specs.Str.{bytes_eq};
-ghost use Rattle.script_words.specs.Limits.{link_limit};
+ghost use Rattle.script_lang.specs.Limits.{link_limit};
 ghost use Rattle.script_words.specs.Gives.{Gives};
 ghost use Rattle.script_lang.specs.Fits.{is_among, is_numbered, is_node, is_link};
 ghost use Rattle.script_lang.specs.Naming.{number_among, node_named, link_named};

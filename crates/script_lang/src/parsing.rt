@@ -1,7 +1,7 @@
 //! From bytes to a script.
 
 ghost use Rattle.std.specs.Prelude.{◌≡◌, ◌≤◌, length, IfOk, IfErr, OnOk};
-ghost use Rattle.script_words.specs.Limits.{script_limit};
+ghost use Rattle.script_lang.specs.Limits.{script_limit};
 ghost use Rattle.script_lang.specs.Reading.{script_of, IsBadOf};
 
 use crate::reading::Reading;
@@ -10,8 +10,8 @@ use crate::script_error::ScriptError;
 use script_words::first_line;
 use std::alloc::Global;
 
-/// The script that the bytes spell. Where they spell none, `Bad` has the first bad line, from 1, and
-/// the first kind that holds for it. A script has at most 1,048,576 bytes.
+/// The script that the bytes spell, at most 1,048,576. Where they spell none, `Bad` has the first
+/// bad line, from 1, and the first kind that holds for it.
 #[tactic(auto, unfolding(crate::specs::Reading::script_of))]
 pub fn parse(alloc: Global, bytes: &[u8]) -> Result<Script, ScriptError>
     ensures read { IfOk result (λ script. script_of bytes.now ≡ Ok script) }

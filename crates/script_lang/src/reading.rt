@@ -1,7 +1,7 @@
 //! A script, line by line.
 
 ghost use Rattle.std.specs.Prelude.{◌≡◌, ◌+◌, ◌≤◌, length, map, IfOk, IfErr, IsOk};
-ghost use Rattle.script_words.specs.Limits.{script_limit};
+ghost use Rattle.script_lang.specs.Limits.{script_limit};
 ghost use Rattle.script_words.specs.Gives.{Gives};
 ghost use Rattle.script_lang.specs.Block.{IsReading};
 ghost use Rattle.script_lang.specs.Reading.{nothing_read, worded, lined, finished, IsBadOf};
@@ -108,7 +108,7 @@ impl Reading {
         self.take_words(alloc, words.as_slice())
     }
 
-    /// The script behind the last line, which has this number. A block that isn't ended is its fault.
+    /// The script behind the last line, which has this number; it is bad where a block isn't ended.
     pub(crate) fn finish(self, line: u32) -> Result<Script, ScriptError>
         ensures read { IfOk result (λ script. finished self.script self.place line ≡ Ok script) }
         ensures bad { IfErr result (λ e. IsBadOf (finished self.script self.place line) e) }

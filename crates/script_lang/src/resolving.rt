@@ -57,7 +57,7 @@ fn resolve_hunt(
 }
 
 /// A command of an actor on the node, with its names looked up.
-#[tactic(auto, using(crate::proofs::Commands::sized_fits), unfolding(crate::specs::Resolving::resolved))]
+#[tactic(auto, using(crate::proofs::Commands::fits), unfolding(crate::specs::Resolving::resolved))]
 pub(crate) fn resolve(
     script: &Script,
     node: NodeNo,

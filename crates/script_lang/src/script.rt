@@ -1,6 +1,6 @@
 ghost use Rattle.std.specs.Prelude.{◌≡◌, ◌+◌, ◌<◌, ◌≤◌, length, OnOk, OnErr, IsTrue, false};
 ghost use Rattle.std.specs.List.{list_all};
-ghost use Rattle.script_words.specs.Limits.{actor_limit, all_commands_limit, command_limit, link_limit, node_limit, verdict_limit};
+ghost use Rattle.script_lang.specs.Limits.{actor_limit, all_commands_limit, command_limit, link_limit, node_limit, verdict_limit};
 ghost use Rattle.script_words.specs.Verdicts.{fits_verdict};
 ghost use Rattle.script_lang.specs.Parts.{empty_script, plan_of, with_node, with_link, with_verdict, with_actor};
 ghost use Rattle.script_lang.specs.Fits.{is_node, is_link, is_among, fits_link, fits_command, commands_of, IsScript};
@@ -23,24 +23,15 @@ pub struct Script {
 }
 
 impl Model for Script {
-    ghost use Rattle.script_lang.specs.Parts.{ScriptParts};
+    ghost use Rattle.script_lang.specs.Parts.{ScriptParts, parts_of};
     ghost use Rattle.script_lang.specs.Fits.{IsScript};
 
     ghost Value = { ScriptParts };
 
-    ghost view = { λ s. record {
-      names = s.names;
-      links = s.links.items;
-      plans = s.plans.items;
-      actors = s.actors.items;
-    } };
+    ghost view = { λ s. parts_of s.names s.links.items s.plans.items s.actors.items };
 
-    ghost invariant = { λ s. IsScript (record {
-      names = s.names;
-      links = s.links.items;
-      plans = s.plans.items;
-      actors = s.actors.items;
-    }) };
+    ghost invariant = { λ s.
+        IsScript (parts_of s.names s.links.items s.plans.items s.actors.items) };
 }
 
 impl Script {

@@ -1,64 +1,95 @@
--- how a script is cut into lines
-use Rattle.std.proofs.Common.{◌≡◌, ℕ, suc, ◌+◌, ◌==◌, ◌<◌, ◌≤◌, Bool, true, false, not, cond, List, [], ◌∷◌, length, take, drop, refl, ap, arith}
-use Rattle.std.specs.Prelude.{Some, None, position, nat_lt}
+-- how a text is cut into lines
+use Rattle.std.proofs.Common.{◌≡◌, ℕ, suc, ◌+◌, ◌==◌, ◌<◌, ◌≤◌, Bool, true, false, not, cond, List, [], ◌∷◌, length, take, drop, refl, ◌∙◌, ap, arith}
+use Rattle.std.specs.Prelude.{Some, None, position, sum_by, nat_lt}
 use Rattle.std.specs.List.{position_or_len, onto_first}
 use Rattle.std.proofs.lemmas.Bool.{ltb-true, ltb-false}
+use Rattle.std.proofs.lemmas.List.{take_all, drop_all}
+use Rattle.std.proofs.lemmas.List.Sums.{sum_by-cons}
 use Rattle.script_words.specs.Lines.{lines_of}
 
 abbrev is_feed : ℕ → Bool
 is_feed b = b == 10
 
--- a byte before a cut list, by whether it is a line feed
-cut_step : (t : Bool) (k b : ℕ) (bs : List ℕ) → (lines_of bs ≡ take (suc k) bs ∷ lines_of (drop (suc k) bs)) → cond t ((b ∷ []) ∷ lines_of bs) (onto_first b (lines_of bs)) ≡ take (suc (cond (not t) (1 + k) 0)) (b ∷ bs) ∷ lines_of (drop (suc (cond (not t) (1 + k) 0)) (b ∷ bs))
-cut_step true k b bs h = refl
-cut_step false k b bs h =
-    let e : 1 + k ≡ suc k = omega arith in
-    rw e (ap (onto_first b) h)
+-- the place of the first line feed, or the length
+abbrev feed_in : List ℕ → ℕ
+feed_in bs = position_or_len is_feed bs
 
--- a byte before a list whose first line ends later, or right at this byte
-first_cut : (t : Bool) (k b : ℕ) (bs : List ℕ) → (k < length bs → lines_of bs ≡ take (suc k) bs ∷ lines_of (drop (suc k) bs)) → cond (not t) (1 + k) 0 < suc (length bs) → cond t ((b ∷ []) ∷ lines_of bs) (onto_first b (lines_of bs)) ≡ take (suc (cond (not t) (1 + k) 0)) (b ∷ bs) ∷ lines_of (drop (suc (cond (not t) (1 + k) 0)) (b ∷ bs))
+-- the text cut behind this place: the first line, and the lines of the rest
+abbrev cut_behind : ℕ → List ℕ → List (List ℕ)
+cut_behind k bs = take (suc k) bs ∷ lines_of (drop (suc k) bs)
+
+-- the lines with a byte before them, by whether it is a line feed
+abbrev lines_with : Bool → ℕ → List ℕ → List (List ℕ)
+lines_with feed b bs = cond feed ((b ∷ []) ∷ lines_of bs) (onto_first b (lines_of bs))
+
+-- the place of the first line feed, with a byte before, by whether that is one
+abbrev place_with : Bool → ℕ → ℕ
+place_with feed k = cond (not feed) (1 + k) 0
+
+first_cut : (feed : Bool) (k b : ℕ) (bs : List ℕ) → (k < length bs → lines_of bs ≡ cut_behind k bs)
+    → place_with feed k < suc (length bs)
+    → lines_with feed b bs ≡ cut_behind (place_with feed k) (b ∷ bs)
 first_cut true k b bs h small = refl
-first_cut false k b bs h small = cut_step false k b bs (h (omega arith))
+first_cut false k b bs h small =
+    let e : 1 + k ≡ suc k = omega arith in rw e (ap (onto_first b) (h (omega arith)))
 
 -- the first line ends with the first line feed
-pub lines_cut : (bs : List ℕ) → position_or_len is_feed bs < length bs → lines_of bs ≡ take (suc (position_or_len is_feed bs)) bs ∷ lines_of (drop (suc (position_or_len is_feed bs)) bs)
+lines_cut : (bs : List ℕ) → feed_in bs < length bs → lines_of bs ≡ cut_behind (feed_in bs) bs
 lines_cut [] h = absurd (omega arith)
-lines_cut (b ∷ bs) h = first_cut (b == 10) (position_or_len is_feed bs) b bs (lines_cut bs) h
+lines_cut (b ∷ bs) h = first_cut (b == 10) (feed_in bs) b bs (lines_cut bs) h
 
--- a byte before a list that is one line
-last_cut : (t : Bool) (k b : ℕ) (bs : List ℕ) → (length bs ≤ k → 0 < length bs → lines_of bs ≡ bs ∷ []) → suc (length bs) ≤ cond (not t) (1 + k) 0 → cond t ((b ∷ []) ∷ lines_of bs) (onto_first b (lines_of bs)) ≡ (b ∷ bs) ∷ []
+last_cut : (feed : Bool) (k b : ℕ) (bs : List ℕ)
+    → (length bs ≤ k → 0 < length bs → lines_of bs ≡ bs ∷ [])
+    → suc (length bs) ≤ place_with feed k → lines_with feed b bs ≡ (b ∷ bs) ∷ []
 last_cut true k b bs h large = absurd (omega arith)
 last_cut false k b [] h large = refl
 last_cut false k b (c ∷ bs) h large = ap (onto_first b) (h (omega arith) (omega arith))
 
 -- without a line feed all bytes are one line
-pub lines_whole : (bs : List ℕ) → length bs ≤ position_or_len is_feed bs → 0 < length bs → lines_of bs ≡ bs ∷ []
+lines_whole : (bs : List ℕ) → length bs ≤ feed_in bs → 0 < length bs → lines_of bs ≡ bs ∷ []
 lines_whole [] h some = absurd (omega arith)
-lines_whole (b ∷ bs) h some = last_cut (b == 10) (position_or_len is_feed bs) b bs (lines_whole bs) h
+lines_whole (b ∷ bs) h some = last_cut (b == 10) (feed_in bs) b bs (lines_whole bs) h
 
-position_some : (bs : List ℕ) (t : Bool) (k place : ℕ) → cond t (Some k) None ≡ Some place → (t ≡ true) × (place ≡ k)
-position_some bs true k place h = (refl, cc)
-position_some bs false k place h = cc
+position_some : (found : Bool) (k place : ℕ)
+    → cond found (Some k) None ≡ Some place → (found ≡ true) × (place ≡ k)
+position_some true k place h = (refl, cc)
+position_some false k place h = cc
 
-position_none : (t : Bool) (k : ℕ) → cond t (Some k) None ≡ None → t ≡ false
+position_none : (found : Bool) (k : ℕ) → cond found (Some k) None ≡ None → found ≡ false
 position_none true k h = cc
 position_none false k h = refl
 
-take_all : (bs : List ℕ) → take (length bs) bs ≡ bs
-take_all [] = refl
-take_all (b ∷ bs) = ap (λ rest. b ∷ rest) (take_all bs)
-
-drop_all : (bs : List ℕ) → drop (length bs) bs ≡ []
-drop_all [] = refl
-drop_all (b ∷ bs) = drop_all bs
-
--- the same, by the place of the line feed
-pub lines_at : (bs : List ℕ) (place : ℕ) → position is_feed bs ≡ Some place → (lines_of bs ≡ take (place + 1) bs ∷ lines_of (drop (place + 1) bs)) × (place < length bs)
+-- the first line, where there is a line feed
+pub lines_at : (bs : List ℕ) (place : ℕ) → position is_feed bs ≡ Some place
+    → (lines_of bs ≡ take (place + 1) bs ∷ lines_of (drop (place + 1) bs)) × (place < length bs)
 lines_at bs place h =
-    let found = position_some bs (nat_lt (position_or_len is_feed bs) (length bs)) (position_or_len is_feed bs) place h in
-    let within : position_or_len is_feed bs < length bs = ltb-true (position_or_len is_feed bs) (length bs) found.0 in
-    let e : place + 1 ≡ suc (position_or_len is_feed bs) = omega (arith, found.1) in
+    let k = feed_in bs in
+    let found = position_some (nat_lt k (length bs)) k place h in
+    let within : k < length bs = ltb-true k (length bs) found.0 in
+    let e : place + 1 ≡ suc k = omega (arith, found.1) in
     (rw e (lines_cut bs within), omega (arith, found.1, within))
 
-pub lines_none : (bs : List ℕ) → position is_feed bs ≡ None → 0 < length bs → lines_of bs ≡ take (length bs) bs ∷ lines_of (drop (length bs) bs)
-lines_none bs h some = rw (take_all bs, drop_all bs) (lines_whole bs (ltb-false (position_or_len is_feed bs) (length bs) (position_none (nat_lt (position_or_len is_feed bs) (length bs)) (position_or_len is_feed bs) h)) some)
+-- the first line, where there is none
+pub lines_none : (bs : List ℕ) → position is_feed bs ≡ None → 0 < length bs
+    → lines_of bs ≡ take (length bs) bs ∷ lines_of (drop (length bs) bs)
+lines_none bs h some =
+    let k = feed_in bs in
+    let none : length bs ≤ k = ltb-false k (length bs) (position_none (nat_lt k (length bs)) k h) in
+    rw (take_all (length bs) bs (omega arith), drop_all (length bs) bs (omega arith))
+    (lines_whole bs none some)
+
+onto_one : (b : ℕ) (lines : List (List ℕ))
+    → sum_by length (onto_first b lines) ≡ 1 + sum_by length lines
+onto_one b [] = refl
+onto_one b (line ∷ lines) =
+    omega (arith, sum_by-cons length (b ∷ line) lines, sum_by-cons length line lines)
+
+feed_or_not : (feed : Bool) (b : ℕ) (bs : List ℕ) → sum_by length (lines_of bs) ≡ length bs
+    → sum_by length (lines_with feed b bs) ≡ length (b ∷ bs)
+feed_or_not true b bs rest = omega (arith, sum_by-cons length (b ∷ []) (lines_of bs), rest)
+feed_or_not false b bs rest = onto_one b (lines_of bs) ∙ omega (arith, rest)
+
+-- all bytes are in the lines
+pub sum_by-lines_of : (bs : List ℕ) → sum_by length (lines_of bs) ≡ length bs
+sum_by-lines_of [] = refl
+sum_by-lines_of (b ∷ bs) = feed_or_not (b == 10) b bs (sum_by-lines_of bs)

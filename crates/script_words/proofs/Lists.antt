@@ -4,5 +4,7 @@ use Rattle.std.proofs.lemmas.Bool.{and_from}
 use Rattle.std.proofs.lemmas.List.Folds.{list_all-append}
 
 -- one more element that passes
-pub list_all_push : {X : Type 0} (p : X → Bool) (xs : List X) (x : X) → list_all p xs ≡ true → p x ≡ true → list_all p (xs ++ x ∷ []) ≡ true
-list_all_push p xs x all one = list_all-append p xs (x ∷ []) ∙ and_from _ _ all (and_from _ _ one refl)
+pub list_all_push : {X : Type 0} (p : X → Bool) (xs : List X) (x : X)
+    → list_all p xs ≡ true → p x ≡ true → list_all p (xs ++ x ∷ []) ≡ true
+list_all_push p xs x all one =
+    list_all-append p xs (x ∷ []) ∙ and_from _ _ all (and_from _ _ one refl)

@@ -1,5 +1,5 @@
 -- a line of an actor's block
-use Rattle.std.specs.Prelude.{ℕ, Bool, true, Result, Ok, Err, List, codes, if◌then◌else◌}
+use Rattle.std.specs.Prelude.{ℕ, Bool, true, Result, List, codes, if◌then◌else◌}
 use Rattle.std.specs.Str.{bytes_eq}
 use Rattle.script_words.specs.declared.bad_kind.BadKind.{BadKind}
 use Rattle.script_words.specs.declared.block_line.ActorLine.{ActorLine}

@@ -1,5 +1,5 @@
 -- what a line outside a block declares
-use Rattle.std.specs.Prelude.{ℕ, Bool, true, ◌&&◌, nat_le, Result, Ok, Err, List, [], ◌∷◌, codes, if◌then◌else◌}
+use Rattle.std.specs.Prelude.{ℕ, Bool, true, ◌&&◌, Result, Ok, Err, List, [], ◌∷◌, codes, if◌then◌else◌}
 use Rattle.std.specs.List.{list_all}
 use Rattle.std.specs.Str.{bytes_eq}
 use Rattle.script_words.specs.declared.bad_kind.BadKind.{BadKind}

@@ -1,5 +1,6 @@
 -- The texts of what is wrong with a line.
 use Rattle.std.specs.Prelude.{List, ℕ, codes}
+use Rattle.linx_base.specs.Failures.{no_memory_text}
 use Rattle.script_words.specs.declared.bad_kind.BadKind.{BadKind}
 use Rattle.script_words.specs.declared.bad_kind.BadKind.TheVariants.{ScriptTooLong, LineTooLong, BadByte, UnknownWord, BadShape, UnknownName, TwiceNamed, OverLimit, Unfinished}
 use Rattle.script_words.specs.declared.line_error.LineError.{LineError}
@@ -9,15 +10,15 @@ use Rattle.script_words.specs.declared.line_error.LineError.TheVariants.{Bad, No
 abbrev pub kind_text : BadKind → List ℕ
 kind_text ScriptTooLong = codes "the script is too long"
 kind_text LineTooLong = codes "the line is too long"
-kind_text BadByte = codes "a byte that is no text"
-kind_text UnknownWord = codes "no statement of this place"
-kind_text BadShape = codes "words that the statement doesn't have"
-kind_text UnknownName = codes "a name that isn't declared"
-kind_text TwiceNamed = codes "a name that is taken"
+kind_text BadByte = codes "a byte that isn't printable"
+kind_text UnknownWord = codes "no statement begins so here"
+kind_text BadShape = codes "not the words of the statement"
+kind_text UnknownName = codes "a name that isn't declared here"
+kind_text TwiceNamed = codes "a name that stands twice"
 kind_text OverLimit = codes "over a limit"
 kind_text Unfinished = codes "a block isn't ended"
 
 -- why a line wasn't taken
 abbrev pub line_error_text : LineError → List ℕ
 line_error_text (Bad kind) = kind_text kind
-line_error_text NoMemory = codes "out of memory"
+line_error_text NoMemory = no_memory_text

@@ -1,5 +1,5 @@
 -- words as the filter of a receive
-use Rattle.std.specs.Prelude.{ℕ, Bool, true, ◌&&◌, nat_le, Result, Ok, Err, List, [], ◌∷◌, length, codes, if◌then◌else◌}
+use Rattle.std.specs.Prelude.{ℕ, Bool, true, Result, Ok, Err, List, [], ◌∷◌, length, codes, if◌then◌else◌}
 use Rattle.std.specs.Str.{bytes_eq}
 use Rattle.sigsel.specs.declared.sigsel.Sigsel.{Sigsel}
 use Rattle.sigsel.specs.declared.sigsel.Sigsel.TheVariants.{Any, Only, Not}
@@ -8,11 +8,11 @@ use Rattle.script_words.specs.declared.bad_kind.BadKind.TheVariants.{BadShape}
 use Rattle.script_words.specs.Gives.{◌>>=◌, made}
 use Rattle.script_words.specs.Limits.{filter_limit}
 use Rattle.script_words.specs.Words.{alone}
-use Rattle.script_words.specs.Numbers.{numbers_of}
+use Rattle.script_words.specs.Numbers.{is_within, numbers_of}
 
 -- a filter has room for these numbers, and lists one at least
 abbrev pub lists_few : List ℕ → Bool
-lists_few numbers = nat_le 1 (length numbers) && nat_le (length numbers) filter_limit
+lists_few numbers = is_within 1 filter_limit (length numbers)
 
 abbrev pub fits_filter : Sigsel → Bool
 fits_filter Any = true

@@ -87,9 +87,11 @@ unfoldable pub short_of : List ℕ → List (List ℕ) → Result NamedCommand B
 short_of first words =
     if bytes_eq first (codes "open") then made (λ n. Plain (Open n)) (one_name_of words)
     else if bytes_eq first (codes "close") then alone words (Plain Close)
-    else if bytes_eq first (codes "forward") then made (λ t. Plain (Forward t)) (only words >>= target_of)
+    else if bytes_eq first (codes "forward")
+    then made (λ t. Plain (Forward t)) (only words >>= target_of)
     else if bytes_eq first (codes "detach") then made (λ n. Plain (Detach n)) (one_name_of words)
-    else if bytes_eq first (codes "keep") then made (λ n. Plain (Keep n)) (only words >>= kept_name_of)
+    else if bytes_eq first (codes "keep")
+    then made (λ n. Plain (Keep n)) (only words >>= kept_name_of)
     else distant_of first words
 
 -- the command of a line's first word and the words behind it

@@ -4,8 +4,8 @@ use Rattle.std.specs.Char.{is_ascii_digit}
 use Rattle.std.specs.List.{list_all}
 use Rattle.script_words.specs.declared.bad_kind.BadKind.{BadKind}
 use Rattle.script_words.specs.declared.bad_kind.BadKind.TheVariants.{BadShape}
-use Rattle.script_words.specs.Gives.{◌>>=◌}
 use Rattle.script_words.specs.Limits.{digit_limit, number_limit}
+use Rattle.script_words.specs.Words.{each_of}
 
 -- the number that decimal digits spell
 abbrev pub decimal_of : List ℕ → ℕ
@@ -48,8 +48,4 @@ number_or unsaid (word ∷ words) = number_before unsaid (word ∷ words) words 
 
 -- the words as numbers
 abbrev pub numbers_of : List (List ℕ) → Result (List ℕ) BadKind
-numbers_of [] = Ok []
-numbers_of (word ∷ words) = do
-  number ← any_number word
-  numbers ← numbers_of words
-  Ok (number ∷ numbers)
+numbers_of words = each_of any_number words

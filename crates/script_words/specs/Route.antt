@@ -1,4 +1,4 @@
-use Rattle.std.specs.Prelude.{ℕ, Option, Some, None, Result, Ok, Err, List}
+use Rattle.std.specs.Prelude.{ℕ, Option, Some, None, Result, Ok, List}
 use Rattle.script_words.specs.declared.bad_kind.BadKind.{BadKind}
 use Rattle.script_words.specs.declared.route.Route.{Route}
 use Rattle.script_words.specs.declared.route.Route.TheVariants.{Local, Over}

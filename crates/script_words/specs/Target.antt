@@ -1,4 +1,4 @@
-use Rattle.std.specs.Prelude.{ℕ, Result, Ok, Err, List, codes, if◌then◌else◌}
+use Rattle.std.specs.Prelude.{ℕ, Result, Ok, List, codes, if◌then◌else◌}
 use Rattle.std.specs.Str.{bytes_eq}
 use Rattle.script_words.specs.declared.bad_kind.BadKind.{BadKind}
 use Rattle.script_words.specs.declared.target.Target.{Target}

@@ -1,5 +1,5 @@
 -- words as the verdicts of a direction
-use Rattle.std.specs.Prelude.{ℕ, ◌-◌, Bool, true, ◌&&◌, ◌==◌, nat_le, Result, Ok, Err, List, [], ◌∷◌, codes, if◌then◌else◌}
+use Rattle.std.specs.Prelude.{ℕ, ◌-◌, Bool, true, ◌&&◌, ◌==◌, Result, Ok, Err, List, [], ◌∷◌, codes, if◌then◌else◌}
 use Rattle.std.specs.Str.{bytes_eq}
 use Rattle.linx_base.specs.declared.identity.Side.{Side}
 use Rattle.linx_base.specs.declared.identity.Side.TheVariants.{First, Second}
@@ -7,14 +7,15 @@ use Rattle.linx_base.specs.declared.frame.Verdict.{Verdict}
 use Rattle.linx_base.specs.declared.frame.Verdict.TheVariants.{Deliver, Lose, Repeat, Swap}
 use Rattle.script_words.specs.declared.bad_kind.BadKind.{BadKind}
 use Rattle.script_words.specs.declared.bad_kind.BadKind.TheVariants.{BadShape}
-use Rattle.script_words.specs.Gives.{◌>>=◌}
+use Rattle.script_words.specs.Words.{each_of}
+use Rattle.script_words.specs.Numbers.{is_within}
 
 -- an exchange is with a place from 1 to 9
 abbrev pub fits_verdict : Verdict → Bool
 fits_verdict Deliver = true
 fits_verdict Lose = true
 fits_verdict Repeat = true
-fits_verdict (Swap place) = nat_le 1 place && nat_le place 9
+fits_verdict (Swap place) = is_within 1 9 place
 
 -- the direction of a plan, by the side that sends
 unfoldable pub side_in : List ℕ → Result Side BadKind
@@ -28,8 +29,7 @@ abbrev pub swap_of : List ℕ → Result Verdict BadKind
 swap_of [] = Err BadShape
 swap_of (letter ∷ []) = Err BadShape
 swap_of (letter ∷ digit ∷ []) =
-    if (letter == 83) && nat_le 49 digit && nat_le digit 57 then Ok (Swap (digit - 48))
-    else Err BadShape
+    if (letter == 83) && is_within 49 57 digit then Ok (Swap (digit - 48)) else Err BadShape
 swap_of (letter ∷ digit ∷ b ∷ bs) = Err BadShape
 
 unfoldable pub verdict_of : List ℕ → Result Verdict BadKind
@@ -39,9 +39,6 @@ verdict_of word =
     else if bytes_eq word (codes "R") then Ok Repeat
     else swap_of word
 
+-- the words as verdicts
 abbrev pub verdicts_of : List (List ℕ) → Result (List Verdict) BadKind
-verdicts_of [] = Ok []
-verdicts_of (word ∷ words) = do
-  verdict ← verdict_of word
-  verdicts ← verdicts_of words
-  Ok (verdict ∷ verdicts)
+verdicts_of words = each_of verdict_of words

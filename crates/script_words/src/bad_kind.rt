@@ -33,11 +33,11 @@ impl fmt::Display for BadKind {
         f.write_str(match self {
             BadKind::ScriptTooLong => "the script is too long",
             BadKind::LineTooLong => "the line is too long",
-            BadKind::BadByte => "a byte that is no text",
-            BadKind::UnknownWord => "no statement of this place",
-            BadKind::BadShape => "words that the statement doesn't have",
-            BadKind::UnknownName => "a name that isn't declared",
-            BadKind::TwiceNamed => "a name that is taken",
+            BadKind::BadByte => "a byte that isn't printable",
+            BadKind::UnknownWord => "no statement begins so here",
+            BadKind::BadShape => "not the words of the statement",
+            BadKind::UnknownName => "a name that isn't declared here",
+            BadKind::TwiceNamed => "a name that stands twice",
             BadKind::OverLimit => "over a limit",
             BadKind::Unfinished => "a block isn't ended",
         })

@@ -31,7 +31,8 @@ impl ActorLine {
     /// What a line of an actor's block says, by its first word and the words behind it.
     #[tactic(auto, unfolding(crate::specs::BlockLine::actor_line_of))]
     pub fn of(alloc: Global, first: &[u8], words: &[&[u8]]) -> Result<ActorLine, LineError>
-        ensures gives { Gives (λ l. l) result (actor_line_of first.now (map (λ w. w.now) words.now)) }
+        ensures gives { Gives (λ l. l) result
+            (actor_line_of first.now (map (λ w. w.now) words.now)) }
         ensures sized { IfOk result (λ l. is_sized_in_actor l ≡ true) }
     {
         if is_text(first, b"repeat") {
@@ -50,7 +51,8 @@ impl RepeatLine {
     /// What a line of a repeated block says, by its first word and the words behind it.
     #[tactic(auto, unfolding(crate::specs::BlockLine::repeat_line_of))]
     pub fn of(alloc: Global, first: &[u8], words: &[&[u8]]) -> Result<RepeatLine, LineError>
-        ensures gives { Gives (λ l. l) result (repeat_line_of first.now (map (λ w. w.now) words.now)) }
+        ensures gives { Gives (λ l. l) result
+            (repeat_line_of first.now (map (λ w. w.now) words.now)) }
         ensures sized { IfOk result (λ l. is_sized_in_repeat l ≡ true) }
     {
         if is_text(first, b"end") {

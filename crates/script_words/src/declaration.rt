@@ -139,7 +139,8 @@ impl Declaration {
     /// What a line outside a block declares, by its first word and the words behind it.
     #[tactic(auto, unfolding(crate::specs::Declaration::declaration_of))]
     pub fn of(alloc: Global, first: &[u8], words: &[&[u8]]) -> Result<Declaration, LineError>
-        ensures gives { Gives (λ d. d) result (declaration_of first.now (map (λ w. w.now) words.now)) }
+        ensures gives { Gives (λ d. d) result
+            (declaration_of first.now (map (λ w. w.now) words.now)) }
         ensures range { IfOk result (λ d. is_in_range d ≡ true) }
     {
         if is_text(first, b"node") {

@@ -3,6 +3,7 @@
 ghost use Rattle.std.specs.Prelude.{◌≡◌, ◌≤◌, true, length, map, IfOk, IsTrue};
 ghost use Rattle.std.specs.Char.{is_ascii_digit};
 ghost use Rattle.std.specs.List.{list_all};
+ghost use Rattle.script_words.specs.Limits.{digit_limit};
 ghost use Rattle.script_words.specs.Gives.{Gives};
 ghost use Rattle.script_words.specs.Numbers.{decimal_of, number_of, is_within, within, any_number, numbers_of, number_or};
 
@@ -21,7 +22,7 @@ fn are_digits(word: &[u8]) -> bool
 
 /// The number that decimal digits spell.
 fn decimal(digits: &[u8]) -> u64
-    requires few { length digits.now ≤ 10 }
+    requires few { length digits.now ≤ digit_limit }
     requires digits { IsTrue (list_all is_ascii_digit digits.now) }
     ensures { result ≡ decimal_of digits.now }
 {
@@ -70,7 +71,8 @@ pub(crate) fn any_number(word: &[u8]) -> Result<u32, LineError>
 
 /// A number, where the first word is one, and the words behind it.
 pub(crate) fn number_or<'a, 'b>(unsaid: u32, words: &'a [&'b [u8]]) -> (u32, &'a [&'b [u8]])
-    ensures { (result.0, map (λ w. w.now) result.1.now) ≡ number_or unsaid (map (λ w. w.now) words.now) }
+    ensures { (result.0, map (λ w. w.now) result.1.now)
+        ≡ number_or unsaid (map (λ w. w.now) words.now) }
 {
     match words {
         [word, rest @ ..] => match number(word) {

@@ -10,5 +10,7 @@ invariant-loop-verdict l = record {
   is : l.script ≡ with_verdicts l.initial.script l.link l.from (take l.verdict-index l.verdicts);
   link : is_link l.script l.link ≡ true;
   place : l.link.0 - 1 < length l.script.plans;
-  room : length (plan_of l.script l.link l.from) ≡ length (plan_of l.initial.script l.link l.from) + l.verdict-index;
+  room :
+      length (plan_of l.script l.link l.from)
+      ≡ length (plan_of l.initial.script l.link l.from) + l.verdict-index;
 }

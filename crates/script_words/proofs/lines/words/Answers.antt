@@ -12,7 +12,8 @@ returns c =
     map_from_collect _ c.collect.ensures.ran
     (YieldsList-from_take_while _ (λ word. not (is_comment word))
     (YieldsList-from_filter _ (λ word. not (length word == 0))
-    (YieldsList-from_slice_split _ is_space c.args.text.now (cc) (cc) (cc) (λ x b q k. search (rules, tests)))
+    (YieldsList-from_slice_split _ is_space c.args.text.now (cc) (cc) (cc)
+    (λ x b q k. search (rules, tests)))
     (cc)
     (λ x b q k. search (rules, tests)))
     c.take_while.ensures.closure c.take_while.ensures.done

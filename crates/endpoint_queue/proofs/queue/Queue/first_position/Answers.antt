@@ -1,6 +1,6 @@
 use Rattle.std.proofs.Common.{arith, sym, ◌<◌, length}
 use Rattle.std.proofs.lemmas.Grind.{common_steps}
-use Rattle.endpoint_queue.proofs.KeptLemmas.{position_any}
+use Rattle.endpoint_queue.proofs.TakenLemmas.{position_any}
 use Rattle.endpoint_queue.proofs.queue.Queue.first_position.Goals as goal
 
 pub returns-in-Any-2 : goal.returns-in-Any-2

@@ -1,7 +1,7 @@
 use Rattle.std.proofs.Common.{◌∙◌, ap}
 use Rattle.std.specs.Prelude.{is_some}
 use Rattle.sigsel.specs.Selection.{is_selected}
-use Rattle.endpoint_queue.proofs.KeptLemmas.{is_some-position}
+use Rattle.linx_base.proofs.FirstMatches.{is_some-position}
 use Rattle.endpoint_queue.proofs.queue.Queue.holds.Goals as goal
 
 pub returns : goal.returns

@@ -1,5 +1,5 @@
 use Rattle.sigsel.specs.Selection.{is_selected}
-use Rattle.endpoint_queue.proofs.KeptLemmas.{taken_earliest, missing_all, taken_item, taken_others, taken_tickets, missing_item, missing_others, missing_tickets}
+use Rattle.endpoint_queue.proofs.TakenLemmas.{taken_earliest, missing_all, taken_item, taken_others, taken_tickets, missing_item, missing_others, missing_tickets}
 use Rattle.endpoint_queue.proofs.queue.Queue.take.Goals as goal
 
 pub returns-in-Some-clause-item : goal.returns-in-Some-clause-item

@@ -1,5 +1,6 @@
 use Rattle.std.proofs.Common.{◌<◌, length, subst, sym}
-use Rattle.script_lang.specs.Parts.{ScriptParts, plan_of}
+use Rattle.script_lang.specs.Limits.{verdict_limit}
+use Rattle.script_lang.specs.Parts.{ScriptParts, parts_of, plan_of}
 use Rattle.script_lang.proofs.Keeps.{verdict_kept}
 use Rattle.script_lang.proofs.script.Script.add_verdict.Goals as goal
 
@@ -8,9 +9,12 @@ invariant_of-self c = rw c.in_err-plan_more.ensures.err c.self.invariant
 
 pub invariant_of-self-2 : goal.invariant_of-self-2
 invariant_of-self-2 c =
+    let s = c.self.inside in
+    let link = c.args.link in
+    let from = c.args.from in
     rw c.in_ok-plan_more.ensures.ok
-    (verdict_kept
-    (record { names = c.self.inside.names; links = c.self.inside.links.items; plans = c.self.inside.plans.items; actors = c.self.inside.actors.items })
-    c.args.link c.args.from c.args.verdict c.self.invariant
-    (subst (λ (s : ScriptParts). length (plan_of s c.args.link c.args.from) < 10000) (sym c.self.view_is) c.requires.room)
+    (verdict_kept (parts_of s.names s.links.items s.plans.items s.actors.items) link from
+    c.args.verdict c.self.invariant
+    (subst (λ (t : ScriptParts). length (plan_of t link from) < verdict_limit) (sym c.self.view_is)
+    c.requires.room)
     c.requires.fits)
