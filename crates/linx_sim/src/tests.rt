@@ -6,6 +6,7 @@ ghost use Rattle.linx_sim.specs.Statuses.{IsDoneOrRefused};
 ghost use Rattle.linx_sim.specs.Runs.{IsBuilt};
 
 use crate::outcome::{Outcome, Status};
+use crate::program::program;
 use crate::serving;
 use crate::telling::tell;
 use crate::words::words_behind_name;
@@ -228,6 +229,42 @@ impl Env for Given<'_> {
     fn var_at(&self, _i: usize, _buf: &mut [u8]) -> Result<usize, FillError> {
         Err(FillError::NotPresent)
     }
+}
+
+// What the whole program does with these words and this script: its exit status, and what it wrote
+// to standard output and standard error.
+fn is_all<R: Wait>(
+    rt: &R,
+    alloc: Global,
+    words: &[&[u8]],
+    script: &[u8],
+    all: (u8, &str, &str),
+) -> Result<bool, Fail> {
+    let mut source = PlainSource::new(Vec::from_slice(alloc, script)?);
+    let mut text = MemSink::new(alloc, 100, 4096, Vec::new(alloc))?;
+    let mut errors = MemSink::new(alloc, 100, 4096, Vec::new(alloc))?;
+    let given = Given { words };
+    let exit = program(rt, &given, alloc, &mut source, &mut text, &mut errors);
+    Ok(
+        exit == ExitCode::from(all.0)
+            && text.held() == all.1.as_bytes()
+            && errors.held() == all.2.as_bytes(),
+    )
+}
+
+#[test]
+fn the_whole_program(rt: HostRuntime) -> Result<(), Fail> {
+    let alloc = rt.alloc();
+    let run: [&[u8]; 2] = [b"linx_sim", b"run"];
+    let usage = "linx_sim: usage: linx_sim run\n";
+    assert!(rt; is_all(&rt, alloc, &run, SCRIPT, (0, TEXT, ""))?);
+    assert!(rt; is_all(&rt, alloc, &[b"linx_sim"], SCRIPT, (1, "", usage))?);
+    assert!(rt; is_all(&rt, alloc, &[b"linx_sim", b"\xff"], SCRIPT, (1, "", usage))?);
+    let bad_line = "linx_sim: script line 2\n";
+    assert!(rt; is_all(&rt, alloc, &run, b"node n\nnode n\n", (2, "", bad_line))?);
+    let not_built = "linx_sim: not built\n";
+    assert!(rt; is_all(&rt, alloc, &run, TWO_ACTORS, (10, "", not_built))?);
+    Ok(())
 }
 
 fn words_of(alloc: Global, words: &[&[u8]]) -> Result<Vec<String>, Status> {
