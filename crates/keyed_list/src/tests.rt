@@ -8,7 +8,7 @@ struct Number(u64);
 impl Keyed<u64> for Number {
     ghost use Rattle.std.specs.Prelude.{◌∷◌, [], ◌+◌, ◌%◌};
 
-    ghost keys = { λ n. n.0 % 10 ∷ 100 + n.0 % 100 ∷ [] };
+    ghost keys = { λ n. (n.0 % 10) ∷ (100 + n.0 % 100) ∷ [] };
 
     fn key(&self, at: u8) -> Option<u64> {
         match at {
