@@ -20,14 +20,12 @@ module _ {E : Type 0} where
   abbrev pub AllMadeUpTo : ℕ → List (Made E) → Type 0
   AllMadeUpTo n steps = All (λ m. (0 < m.maker) × (m.maker ≤ n)) steps
 
-  -- the story goes on from the front: it is what came since, and then the front
-  abbrev pub BeginsWith : List (Made E) → List (Made E) → Type 0
-  BeginsWith story front = (since : List (Made E)) × (story ≡ since ++ front)
-
   -- the story goes on from the front, and n made nothing of what came since
   abbrev pub RestsFor : ℕ → List (Made E) → List (Made E) → Type 0
-  RestsFor n story front = (since : List (Made E)) × (story ≡ since ++ front) × (made_by n since ≡ [])
+  RestsFor n story front =
+      (since : List (Made E)) × (story ≡ since ++ front) × (made_by n since ≡ [])
 
   -- the story goes on from the front, and n alone made what came since
   abbrev pub IsAddedBy : ℕ → List (Made E) → List (Made E) → Type 0
-  IsAddedBy n story front = (added : List (Made E)) × (story ≡ added ++ front) × AllMadeBy n added
+  IsAddedBy n story front =
+      (added : List (Made E)) × (story ≡ added ++ front) × AllMadeBy n added

@@ -1,5 +1,5 @@
-//! The smallest story: a title, and who made each step. It shows what a state behind the lock owes, and
-//! the lock is tried on it.
+//! The smallest story: a title, and who made each step. It shows what a state behind the lock owes,
+//! and the lock is tried on it.
 ghost use Rattle.std.specs.Prelude.{◌≡◌, [], ◌∷◌, OnOk, OnErr};
 ghost use Rattle.turn_lock.specs.Passes.{IsPassOf, own_steps};
 ghost use Rattle.turn_lock.specs.Stories.{made};
@@ -67,8 +67,8 @@ impl Log {
     }
 }
 
-/// Takes the turn, adds a step of the pass's, and gives the state back. Where memory is refused no step
-/// is added.
+/// Takes the turn, adds a step of the pass's, and gives the state back. Where memory is refused no
+/// step is added.
 pub fn add_step<R: Wait>(
     rt: &R,
     lock: &TurnLock<Log>,

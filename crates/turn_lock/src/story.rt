@@ -35,5 +35,6 @@ pub trait Story {
     fn maker(&self, k: u64) -> u32
         requires from_one { 0 < k }
         requires made { k ≤ length (story self.now) }
-        ensures { slice_get (map (λ m. m.maker) (story self.now)) (length (story self.now) - k) ≡ Some result };
+        ensures { slice_get (map (λ m. m.maker) (story self.now)) (length (story self.now) - k)
+            ≡ Some result };
 }

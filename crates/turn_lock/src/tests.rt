@@ -1,11 +1,13 @@
-ghost use Rattle.std.specs.Prelude.{◌≡◌, ◌++◌, ◌∷◌, [], IfOk};
-ghost use Rattle.turn_lock.specs.Passes.{IsPassOf};
+ghost use Rattle.std.specs.Prelude.{◌≡◌, ◌∷◌, ◌++◌, [], All, IfOk};
+ghost use Rattle.turn_lock.specs.Passes.{IsPassOf, IsSamePass, AreBack};
 
 use crate::{CloseRefused, Log, Pass, Story, TurnLock, add_step};
 use std::alloc::{AllocError, Global};
 use std::sync::Wait;
 use std::test::Fail;
 use std::thread;
+use std::thread::Threads;
+use std::time::{Clock, Duration};
 
 // How many steps of the log are of this maker.
 fn count(log: &Log, maker: u32) -> u64 {
@@ -18,22 +20,50 @@ fn count(log: &Log, maker: u32) -> u64 {
     count
 }
 
-// Adds so many steps, one a turn.
-fn work<R: Wait>(
+// Adds so many steps, one a turn, as far as memory goes.
+fn work<R: Wait>(rt: &R, lock: &TurnLock<Log>, mut pass: Pass<Log>, times: u32) -> Pass<Log>
+    requires { IsPassOf lock.now pass }
+    ensures { IsSamePass pass result }
+{
+    for _ in 0..times {
+        let (back, _) = add_step(rt, lock, pass);
+        pass = back;
+    }
+    pass
+}
+
+// So many turns of a millisecond that add nothing.
+fn linger<R: Wait + Clock>(
     rt: &R,
     lock: &TurnLock<Log>,
     mut pass: Pass<Log>,
     times: u32,
-) -> Result<Pass<Log>, AllocError>
+) -> Pass<Log>
     requires { IsPassOf lock.now pass }
-    ensures { IfOk result (λ p. IsPassOf lock.now p) }
+    ensures { IsSamePass pass result }
 {
     for _ in 0..times {
-        let (back, added) = add_step(rt, lock, pass);
-        pass = back;
-        added?;
+        let held = lock.take(rt, pass);
+        thread::sleep(rt, Duration::from_millis(1));
+        pass = lock.give(held);
     }
-    Ok(pass)
+    pass
+}
+
+// Both, with each pass in a thread of its own.
+fn work_with_all<R: Threads + Wait + Clock + Sync>(
+    rt: &R,
+    lock: &TurnLock<Log>,
+    passes: Vec<Pass<Log>>,
+) -> Result<Vec<Pass<Log>>, AllocError>
+    requires { All (IsPassOf lock.now) passes.items }
+    ensures { IfOk result (λ v. AreBack passes.items v.items) }
+{
+    let each = |pass: Pass<Log>| -> Pass<Log>
+        requires { IsPassOf lock.now pass }
+        ensures { IsSamePass pass result }
+    { linger(rt, lock, work(rt, lock, pass, 1000), 20) };
+    thread::map_vec(rt, passes, &each)
 }
 
 fn with(mut passes: Vec<Pass<Log>>, pass: Pass<Log>) -> Result<Vec<Pass<Log>>, AllocError>
@@ -66,23 +96,15 @@ fn a_lock_closes_with_all_its_passes_alone(rt: HostRuntime) -> Result<(), Fail> 
 }
 
 #[test]
-fn two_threads_make_a_thousand_steps_each(rt: HostRuntime) -> Result<(), Fail> {
-    let (lock, mut passes) = TurnLock::new(rt.alloc(), Log::new(rt.alloc(), 0), 2)?;
-    let (Some(two), Some(one)) = (passes.pop(), passes.pop()) else {
-        return Err(Fail::new("no passes"));
-    };
-    let shared = &lock;
-    let (one, two) = thread::join(
-        &rt,
-        || work(&rt, shared, one, 1000),
-        || work(&rt, shared, two, 1000),
-    );
-    let Ok(log) = lock.close(with(with(passes, one?)?, two?)?) else {
-        return Err(Fail::new("refused all passes"));
+fn threads_that_look_and_that_sleep_all_get_their_turns(rt: HostRuntime) -> Result<(), Fail> {
+    let (lock, passes) = TurnLock::new(rt.alloc(), Log::new(rt.alloc(), 0), 3)?;
+    let passes = work_with_all(&rt, &lock, passes)?;
+    let Ok(log) = lock.close(passes) else {
+        unreachable!()
     };
     assert_eq!(rt;
-        (log.steps(), count(&log, 1), count(&log, 2)),
-        (2000, 1000, 1000)
+        (log.steps(), count(&log, 1), count(&log, 2), count(&log, 3)),
+        (3000, 1000, 1000, 1000)
     );
     Ok(())
 }
