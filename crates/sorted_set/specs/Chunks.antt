@@ -24,7 +24,8 @@ begins_by cmp x [] = true
 begins_by cmp x (y ∷ ys) = is_ge (cmp x y)
 
 -- x can stand in the chunk at this place alone
-pub record IsPlaceFor {X : Type 0} (cmp : X → X → Ordering) (x : X) (chunks : List (List X)) (at : ℕ) : Type 0 where
+pub record IsPlaceFor {X : Type 0} (cmp : X → X → Ordering) (x : X) (chunks : List (List X))
+    (at : ℕ) : Type 0 where
   pub within : at < length chunks
   pub before : AreBelow cmp x (joined (take at chunks))
   pub after : AreAbove cmp x (joined (drop (suc at) chunks))

@@ -1,5 +1,6 @@
 //! The chunks of a sorted set: each has neighbours, none is empty.
-ghost use Rattle.std.specs.Prelude.{◌≡◌, ◌+◌, ◌<◌, ◌≤◌, insert, length, OnOk, OnErr, slice_get, vec_len, vec_capacity};
+ghost use Rattle.std.specs.Prelude.{◌≡◌, ◌+◌, ◌<◌, ◌≤◌, insert, length, OnOk, OnErr, slice_get};
+ghost use Rattle.std.specs.Prelude.{vec_len, vec_capacity};
 ghost use Rattle.std.specs.Option.{option_copied};
 ghost use Rattle.std.specs.BTreeMap.{is_at};
 ghost use Rattle.std.specs.BTreeSet.{insert_key};
@@ -52,7 +53,8 @@ fn split_full<T: Ord + Drop>(chunks: &mut Vec<Chunk<T>>, at: usize) -> Result<()
 /// Adds an element at its place, unless an equal one is there. A refusal frees it.
 pub(crate) fn insert<T: Ord + Drop>(chunks: &mut Vec<Chunk<T>>, element: T) -> Result<(), NoMemory>
     requires { AreChunks T.cmp chunks.old.items }
-    ensures ok { OnOk result (joined chunks.new.items ≡ insert_key T.cmp (joined chunks.old.items) element) }
+    ensures ok { OnOk result (joined chunks.new.items
+        ≡ insert_key T.cmp (joined chunks.old.items) element) }
     ensures err { OnErr result (joined chunks.new.items ≡ joined chunks.old.items) }
     ensures chunks { AreChunks T.cmp chunks.new.items }
 {
@@ -71,7 +73,8 @@ pub(crate) fn insert<T: Ord + Drop>(chunks: &mut Vec<Chunk<T>>, element: T) -> R
 /// Removes the element that equals this one, if there is one.
 pub(crate) fn remove<T: Ord + Drop>(chunks: &mut Vec<Chunk<T>>, element: &T)
     requires { AreChunks T.cmp chunks.old.items }
-    ensures elements { joined chunks.new.items ≡ remove_key (is_at (T.cmp element.now)) (joined chunks.old.items) }
+    ensures elements { joined chunks.new.items
+        ≡ remove_key (is_at (T.cmp element.now)) (joined chunks.old.items) }
     ensures chunks { AreChunks T.cmp chunks.new.items }
 {
     if chunks.is_empty() {
@@ -105,7 +108,8 @@ pub(crate) fn nth_from<'a, T: Ord + Drop>(
     k: usize,
 ) -> Option<&'a T>
     requires { AreChunks T.cmp chunks.now }
-    ensures { option_copied result ≡ slice_get (elements_from T.cmp from.now (joined chunks.now)) k }
+    ensures { option_copied result
+        ≡ slice_get (elements_from T.cmp from.now (joined chunks.now)) k }
 {
     if chunks.is_empty() {
         return None;

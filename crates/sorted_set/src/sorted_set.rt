@@ -55,8 +55,8 @@ impl<T: Ord + Drop> SortedSet<T> {
         chunks::remove(&mut self.chunks, element);
     }
 
-    /// The k-th element, from 0, of those that aren't below this one. `None` exactly where there are
-    /// at most k.
+    /// The k-th element, from 0, of those that aren't below this one. `None` exactly where there
+    /// are at most k.
     pub fn nth_from(&self, from: &T, k: usize) -> Option<&T>
         ensures nth { option_copied result ≡ slice_get (elements_from T.cmp from.now self.now) k }
         ensures ascending { Ascends T.cmp self.now }

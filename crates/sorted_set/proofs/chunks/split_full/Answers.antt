@@ -9,7 +9,11 @@ returns-clause-elements g c =
     let back = c.in_ok-back.ensures in
     let was = rw c.in_ok-reserve.ensures.items at c.index_mut.ensures.value in
     let within : c.args.at < length c.args.chunks.now.items = grind (arith, common_steps) in
-    let both = split_in g.T.Ord.cmp chunks c.args.at c.index_mut.result.now c.split.new.self c.in_ok-back.back c.insert_chunk.new.chunks.items c.requires.chunks within was back.ok back.halves.0 back.halves.1 (rw c.in_ok-reserve.ensures.items at c.insert_chunk.ensures.items) in
+    let both =
+    split_in g.T.Ord.cmp chunks c.args.at c.index_mut.result.now c.split.new.self
+    c.in_ok-back.back c.insert_chunk.new.chunks.items c.requires.chunks within was back.ok
+    back.halves.0 back.halves.1
+    (rw c.in_ok-reserve.ensures.items at c.insert_chunk.ensures.items) in
     both.0
 
 pub returns-clause-chunks : goal.returns-clause-chunks
@@ -18,5 +22,9 @@ returns-clause-chunks g c =
     let back = c.in_ok-back.ensures in
     let was = rw c.in_ok-reserve.ensures.items at c.index_mut.ensures.value in
     let within : c.args.at < length c.args.chunks.now.items = grind (arith, common_steps) in
-    let both = split_in g.T.Ord.cmp chunks c.args.at c.index_mut.result.now c.split.new.self c.in_ok-back.back c.insert_chunk.new.chunks.items c.requires.chunks within was back.ok back.halves.0 back.halves.1 (rw c.in_ok-reserve.ensures.items at c.insert_chunk.ensures.items) in
+    let both =
+    split_in g.T.Ord.cmp chunks c.args.at c.index_mut.result.now c.split.new.self
+    c.in_ok-back.back c.insert_chunk.new.chunks.items c.requires.chunks within was back.ok
+    back.halves.0 back.halves.1
+    (rw c.in_ok-reserve.ensures.items at c.insert_chunk.ensures.items) in
     both.1
