@@ -1,4 +1,5 @@
-ghost use Rattle.std.specs.Prelude.{◌≡◌, [], ◌∷◌, ◌++◌, not, filter, ℕ, OnOk, OnErr, IfErr, slice_get};
+ghost use Rattle.std.specs.Prelude.{◌≡◌, [], ◌∷◌, ◌++◌, not, filter, ℕ, OnOk, OnErr, IfErr};
+ghost use Rattle.std.specs.Prelude.{slice_get};
 ghost use Rattle.std.specs.Option.{option_copied};
 ghost use Rattle.std.specs.BTreeMap.{values};
 ghost use Rattle.linx_base.specs.FirstMatch.{first_match, without_match};
@@ -31,7 +32,8 @@ impl<T: Keyed<K>, K: Ord> Model for KeyedList<T, K> {
 
     ghost view = { λ l. values l.entries };
 
-    ghost invariant = { λ l. IsIndexed K.cmp T.keys l.entries.entries l.places × AreBelowTicket l.next l.entries.entries };
+    ghost invariant = { λ l. IsIndexed K.cmp T.keys l.entries.entries l.places
+        × AreBelowTicket l.next l.entries.entries };
 }
 
 /// Takes out the first entry under the key of this place, which has the least ticket.
@@ -43,9 +45,11 @@ fn take<T: Keyed<K>, K: Ord + Drop>(
     requires least { from.now.ticket ≡ 0 }
     requires indexed { IsIndexed K.cmp T.keys entries.old.entries places.old }
     ensures first { result ≡ first_match (is_under K.cmp T.keys from.now.key) (values entries.old) }
-    ensures others { values entries.new ≡ without_match (is_under K.cmp T.keys from.now.key) (values entries.old) }
+    ensures others { values entries.new
+        ≡ without_match (is_under K.cmp T.keys from.now.key) (values entries.old) }
     ensures indexed { IsIndexed K.cmp T.keys entries.new.entries places.new }
-    ensures below { (next : ℕ) → AreBelowTicket next entries.old.entries → AreBelowTicket next entries.new.entries }
+    ensures below { (next : ℕ) → AreBelowTicket next entries.old.entries
+        → AreBelowTicket next entries.new.entries }
 {
     let ticket = nth_ticket(places, from, 0)?;
     let entry = entries.remove(&ticket)?;
@@ -65,8 +69,8 @@ impl<T: Keyed<K>, K: Ord + Drop> KeyedList<T, K> {
         }
     }
 
-    /// Adds an entry at the end. A refusal gives it back and changes nothing. After 2^64 - 1 entries,
-    /// whether they are still there or not, every one is refused.
+    /// Adds an entry at the end. A refusal gives it back and changes nothing. After 2^64 - 1
+    /// entries, whether they are still there or not, every one is refused.
     pub fn push(&mut self, entry: T) -> Result<(), (NoMemory, T)>
         ensures ok { OnOk result (self.new ≡ self.old ++ entry ∷ []) }
         ensures err { OnErr result (self.new ≡ self.old) }
@@ -100,7 +104,8 @@ impl<T: Keyed<K>, K: Ord + Drop> KeyedList<T, K> {
         self.entries.get(&ticket)
     }
 
-    /// Takes out the first entry under a key. `None` exactly where there is none. It takes no memory.
+    /// Takes out the first entry under a key. `None` exactly where there is none. It takes no
+    /// memory.
     pub fn take_first(&mut self, key: K) -> Option<T>
         ensures first { result ≡ first_match (is_under K.cmp T.keys key) self.old }
         ensures others { self.new ≡ without_match (is_under K.cmp T.keys key) self.old }

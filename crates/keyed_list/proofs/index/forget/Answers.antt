@@ -11,5 +11,8 @@ loop-key-preserved g c =
     record {
       within = omega arith;
       ordered = c.remove.ensures.ascending;
-      forgot = λ q. rw c.remove.ensures.elements (forgot_step g.K.Ord.cmp g.met.K.Ord.total c.loop-key.places c.loop-key.invariant.ordered keys at (at + 1) refl c.in-Some.key c.in-Some.ensures.key c.args.ticket q (tickets_at g.K.Ord.cmp q c.args.places.now) (c.loop-key.invariant.forgot q));
+      forgot = λ q. rw c.remove.ensures.elements
+          (forgot_step g.K.Ord.cmp g.met.K.Ord.total c.loop-key.places c.loop-key.invariant.ordered
+          keys at (at + 1) refl c.in-Some.key c.in-Some.ensures.key c.args.ticket q
+          (tickets_at g.K.Ord.cmp q c.args.places.now) (c.loop-key.invariant.forgot q));
     }

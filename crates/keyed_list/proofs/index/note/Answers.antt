@@ -9,18 +9,23 @@ pub returns-in-Err-clause-err : goal.returns-in-Err-clause-err
 returns-in-Err-clause-err g c q =
     let keys = g.T.Keyed.keys c.args.entry.now in
     let was = c.loop-key.invariant.noted q in
-    unnoted g.K.Ord.cmp g.met.K.Ord.total c.args.ticket (tickets_at g.K.Ord.cmp q c.args.places.now) (tickets_at g.K.Ord.cmp q c.loop-key.places) (tickets_at g.K.Ord.cmp q c.forget.new.places) _ _ (c.requires.newest q) (any-front (λ k. is_eq (g.K.Ord.cmp q k)) keys c.loop-key.at) was (rw c.in-Err.ensures.err at c.forget.ensures.forgot q)
+    unnoted g.K.Ord.cmp g.met.K.Ord.total c.args.ticket (tickets_at g.K.Ord.cmp q c.args.places.now)
+    (tickets_at g.K.Ord.cmp q c.loop-key.places) (tickets_at g.K.Ord.cmp q c.forget.new.places)
+    _ _ (c.requires.newest q) (any-front (λ k. is_eq (g.K.Ord.cmp q k)) keys c.loop-key.at) was
+    (rw c.in-Err.ensures.err at c.forget.ensures.forgot q)
 
 pub overflow_add-at : goal.overflow_add-at
 overflow_add-at g c =
     let keys = g.T.Keyed.keys c.args.entry.now in
-    let left : c.loop-key.at < length keys = more_left keys c.loop-key.at c.in-Some.key c.in-Some.ensures.key in
+    let left : c.loop-key.at < length keys =
+    more_left keys c.loop-key.at c.in-Some.key c.in-Some.ensures.key in
     omega (arith, left, c.key.ensures.few)
 
 pub loop-key-smaller : goal.loop-key-smaller
 loop-key-smaller g c =
     let keys = g.T.Keyed.keys c.args.entry.now in
-    let left : c.loop-key.at < length keys = more_left keys c.loop-key.at c.in-Some.key c.in-Some.ensures.key in
+    let left : c.loop-key.at < length keys =
+    more_left keys c.loop-key.at c.in-Some.key c.in-Some.ensures.key in
     omega arith
 
 pub loop-key-preserved : goal.loop-key-preserved
@@ -31,11 +36,16 @@ loop-key-preserved g c =
     record {
       within = omega arith;
       ordered = c.insert.ensures.ascending;
-      noted = λ q. rw c.in_default-insert.ensures.ok (noted_step g.K.Ord.cmp g.met.K.Ord.total c.loop-key.places c.loop-key.invariant.ordered keys at (at + 1) refl c.in-Some.key c.in-Some.ensures.key c.args.ticket q (tickets_at g.K.Ord.cmp q c.args.places.now) (c.requires.newest q) (c.loop-key.invariant.noted q));
+      noted = λ q. rw c.in_default-insert.ensures.ok
+          (noted_step g.K.Ord.cmp g.met.K.Ord.total c.loop-key.places c.loop-key.invariant.ordered
+          keys at (at + 1) refl c.in-Some.key c.in-Some.ensures.key c.args.ticket q
+          (tickets_at g.K.Ord.cmp q c.args.places.now) (c.requires.newest q)
+          (c.loop-key.invariant.noted q));
     }
 
 pub returns-clause-ok : goal.returns-clause-ok
 returns-clause-ok g c q =
     let keys = g.T.Keyed.keys c.args.entry.now in
     c.loop-key.invariant.noted q
-    ∙ ap (λ b. tickets_at g.K.Ord.cmp q c.args.places.now ++ cond b (c.args.ticket ∷ []) []) (any-all (λ k. is_eq (g.K.Ord.cmp q k)) keys c.loop-key.at (sym c.in_default.ensures.key))
+    ∙ ap (λ b. tickets_at g.K.Ord.cmp q c.args.places.now ++ cond b (c.args.ticket ∷ []) [])
+    (any-all (λ k. is_eq (g.K.Ord.cmp q k)) keys c.loop-key.at (sym c.in_default.ensures.key))
