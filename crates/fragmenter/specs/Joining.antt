@@ -1,5 +1,6 @@
 -- What a joiner answers to a frame, and what it holds then.
-use Rattle.std.specs.Prelude.{◌≢◌, ℕ, ◌+◌, ◌<◌, ◌≤◌, ◌==◌, nat_lt, if◌then◌else◌, Bool, true, false, Option, None, Some, List, [], ◌∷◌, ◌++◌, length}
+use Rattle.std.specs.Prelude.{◌≢◌, ℕ, ◌+◌, ◌<◌, ◌≤◌, ◌==◌, nat_lt, if◌then◌else◌, Bool, true, false}
+use Rattle.std.specs.Prelude.{Option, None, Some, List, [], ◌∷◌, ◌++◌, length}
 use Rattle.std.specs.Option.{ForSome}
 use Rattle.linx_base.specs.declared.frame.Message.{Message}
 use Rattle.linx_base.specs.declared.frame.Frame.{Frame}
@@ -8,7 +9,8 @@ use Rattle.linx_base.specs.Frames.{has_more}
 use Rattle.fragmenter.specs.declared.joiner.Joined.{Joined}
 use Rattle.fragmenter.specs.declared.joiner.Joined.TheVariants.{More, Whole, Broken}
 
--- a message of which the first pieces have come: its addresses, the size of its whole body, and the bytes so far
+-- a message of which the first pieces have come: its addresses, the size of its whole body, and the
+-- bytes so far
 pub record Begun : Type 0 where
   pub from : ℕ
   pub to : ℕ
@@ -18,7 +20,8 @@ pub record Begun : Type 0 where
 -- the message so far with the payload of a frame; none where a first frame comes inside a message
 -- or a next one outside
 abbrev pub extended : Option Begun → Frame → Option Begun
-extended None (First more from to size payload) = Some (record { from = from; to = to; size = size; bytes = payload })
+extended None (First more from to size payload) =
+    Some (record { from = from; to = to; size = size; bytes = payload })
 extended None (Next more payload) = None
 extended (Some b) (First more from to size payload) = None
 extended (Some b) (Next more payload) = Some (record b { bytes = b.bytes ++ payload })
@@ -31,7 +34,8 @@ LacksBytes begun = ForSome begun (λ b. length b.bytes < b.size)
 abbrev pub message_of : Begun → Message
 message_of b = record { from = b.from; to = b.to; body = b.bytes }
 
--- the answer to the message so far: with more to come it must be short of its size, and else complete
+-- the answer to the message so far: with more to come it must be short of its size, and else
+-- complete
 abbrev pub judged : Option Begun → Bool → Joined
 judged None more = Broken
 judged (Some b) true = if nat_lt (length b.bytes) b.size then More else Broken

@@ -1,5 +1,6 @@
 -- A message cut into frames.
-use Rattle.std.specs.Prelude.{◌≡◌, ℕ, suc, zero, ◌≤◌, Bool, true, false, List, [], ◌∷◌, length, take, drop, All}
+use Rattle.std.specs.Prelude.{◌≡◌, ℕ, suc, zero, ◌≤◌, Bool, true, false, List, [], ◌∷◌, length}
+use Rattle.std.specs.Prelude.{take, drop, All}
 use Rattle.std.specs.Int.{div_ceil}
 use Rattle.std.specs.List.{flat_map}
 use Rattle.linx_base.specs.declared.frame.Message.{Message}
@@ -26,7 +27,8 @@ followers (payload ∷ rest) = Next (is_more rest) payload ∷ followers rest
 -- the frames that carry these payloads of a message
 unfoldable pub framed : Message → List (List ℕ) → List Frame
 framed m [] = []
-framed m (payload ∷ rest) = First (is_more rest) m.from m.to (length m.body) payload ∷ followers rest
+framed m (payload ∷ rest) =
+    First (is_more rest) m.from m.to (length m.body) payload ∷ followers rest
 
 -- the frames of a message, with p bytes each
 unfoldable pub pieces_of : Message → ℕ → List Frame

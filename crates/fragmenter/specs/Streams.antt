@@ -23,13 +23,20 @@ wholes (Broken ∷ answers) = wholes answers
 -- some of the next message's pieces, not all; and none where there is no next message
 abbrev pub BeginsNext : ℕ → List Message → List Frame → Type 0
 BeginsNext p [] part = part ≡ []
-BeginsNext p (m ∷ ms) part = (frame : Frame) × (rest : List Frame) × (pieces_of m p ≡ part ++ frame ∷ rest)
+BeginsNext p (m ∷ ms) part =
+    (frame : Frame) × (rest : List Frame) × (pieces_of m p ≡ part ++ frame ∷ rest)
 
 -- the message that has begun by some pieces of the next one
 abbrev pub begun_by : List Message → List Frame → Option Begun
 begun_by [] part = None
 begun_by (m ∷ ms) [] = None
-begun_by (m ∷ ms) (f ∷ fs) = Some (record { from = m.from; to = m.to; size = length m.body; bytes = flat_map payload_of (f ∷ fs) })
+begun_by (m ∷ ms) (f ∷ fs) =
+    Some (record {
+      from = m.from;
+      to = m.to;
+      size = length m.body;
+      bytes = flat_map payload_of (f ∷ fs);
+    })
 
 -- what a joiner made of the first frames of some messages
 pub record JoinsInOrder (p : ℕ) (messages : List Message) (taken : List Frame) : Type 0 where
@@ -49,4 +56,5 @@ pub record JoinsInOrder (p : ℕ) (messages : List Message) (taken : List Frame)
 
 -- whichever front of their frames was taken
 abbrev pub AllJoinInOrder : ℕ → List Message → Type 0
-AllJoinInOrder p messages = (taken rest : List Frame) → frames_of p messages ≡ taken ++ rest → JoinsInOrder p messages taken
+AllJoinInOrder p messages =
+    (taken rest : List Frame) → frames_of p messages ≡ taken ++ rest → JoinsInOrder p messages taken

@@ -1,4 +1,5 @@
-ghost use Rattle.std.specs.Prelude.{◌≡◌, ◌↔◌, ◌+◌, ◌<◌, ◌≤◌, ◌++◌, List, ℕ, [], ◌∷◌, None, true, length, drop, IfOk, OnOk, OnErr, is_some};
+ghost use Rattle.std.specs.Prelude.{◌≡◌, ◌↔◌, ◌+◌, ◌<◌, ◌≤◌, ◌++◌, List, ℕ, [], ◌∷◌, None, true};
+ghost use Rattle.std.specs.Prelude.{length, drop, IfOk, OnOk, OnErr, is_some};
 ghost use Rattle.linx_base.specs.Both.{still};
 ghost use Rattle.linx_base.specs.Frames.{has_more, payload_of};
 ghost use Rattle.fragmenter.specs.Joining.{answer_of, held_after};
@@ -63,7 +64,8 @@ fn judge_payload(progress: Progress, more: bool, count: usize) -> Fate
 /// What a frame makes of the message so far.
 fn judge(begun: Option<Progress>, frame: &Frame) -> Fate
     requires { (parts : List (List ℕ)) × Counts begun parts }
-    ensures { (parts : List (List ℕ)) → Counts begun parts → IsFate result parts (begun_in begun parts) frame.now }
+    ensures { (parts : List (List ℕ)) → Counts begun parts
+        → IsFate result parts (begun_in begun parts) frame.now }
 {
     match (begun, frame) {
         (
@@ -159,9 +161,13 @@ impl Model for Joiner {
 
     ghost Value = { Both (Option Begun) };
 
-    ghost view = { λ j. record { was = begun_in j.was (take j.kept j.parts.items); is = begun_in j.is (drop j.start j.parts.items) } };
+    ghost view = { λ j. record {
+      was = begun_in j.was (take j.kept j.parts.items);
+      is = begun_in j.is (drop j.start j.parts.items);
+    } };
 
-    ghost invariant = { λ j. (j.kept ≤ length j.parts.items) × (j.start ≤ length j.parts.items) × Counts j.was (take j.kept j.parts.items) × Counts j.is (drop j.start j.parts.items) };
+    ghost invariant = { λ j. (j.kept ≤ length j.parts.items) × (j.start ≤ length j.parts.items)
+        × Counts j.was (take j.kept j.parts.items) × Counts j.is (drop j.start j.parts.items) };
 }
 
 impl Joiner {
@@ -194,8 +200,11 @@ impl Joiner {
     pub fn add(&mut self, frame: &Frame) -> Result<Joined, NoMemory>
         ensures answer { IfOk result (λ answer. answer ≡ answer_of self.old.is frame.now) }
         ensures held { OnOk result (self.new.is ≡ held_after self.old.is frame.now) }
-        ensures broken { IfOk result (λ answer. (answer ≡ Joined.Broken) ↔ IsBroken self.old.is frame.now) }
-        ensures more { IfOk result (λ answer. (answer ≡ Joined.More) ↔ ((¬ IsBroken self.old.is frame.now) × (has_more frame.now ≡ true))) }
+        ensures broken { IfOk result
+            (λ answer. (answer ≡ Joined.Broken) ↔ IsBroken self.old.is frame.now) }
+        ensures more { IfOk result
+            (λ answer. (answer ≡ Joined.More)
+            ↔ ((¬ IsBroken self.old.is frame.now) × (has_more frame.now ≡ true))) }
         ensures was { self.new.was ≡ self.old.was }
         ensures err { OnErr result (self.new ≡ self.old) }
     {

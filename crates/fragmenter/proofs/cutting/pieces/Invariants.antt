@@ -7,7 +7,9 @@ abbrev pub invariant-cutting : goal.invariant-cutting
 invariant-cutting l =
     record {
       within : l.from ≤ length l.message.body;
-      frames : l.frames.items ++ followers (cut (length (drop l.from l.message.body)) l.each (drop l.from l.message.body)) ≡ pieces_of l.message l.each;
+      frames : l.frames.items ++ followers
+          (cut (length (drop l.from l.message.body)) l.each (drop l.from l.message.body))
+          ≡ pieces_of l.message l.each;
     }
 
 abbrev pub decreases-cutting : goal.decreases-cutting

@@ -11,6 +11,7 @@ returns c =
       outside = joins.1;
       at_each = pieces-answer c.args.message.now c.args.piece (omega arith) (omega arith);
       cut = is_cut c.args.message.now c.args.piece (omega arith) (omega arith);
-      fit = pieces_fit c.args.message.now c.args.piece (omega arith) (omega arith) c.requires.message;
+      fit = pieces_fit c.args.message.now c.args.piece (omega arith) (omega arith)
+          c.requires.message;
       few = few_pieces c.args.message.now c.args.piece (omega arith) c.requires.message;
     }
