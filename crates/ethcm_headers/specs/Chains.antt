@@ -1,5 +1,6 @@
 -- Packets taken apart into their headers and the payload behind them.
-use Rattle.std.specs.Prelude.{◌≡◌, ℕ, ◌^◌, ◌<◌, ◌==◌, nat_lt, List, [], ◌++◌, length, drop, slice_index, if◌then◌else◌, Option, Some, None}
+use Rattle.std.specs.Prelude.{◌≡◌, ℕ, ◌^◌, ◌<◌, ◌==◌, nat_lt, List, [], ◌++◌, length, drop}
+use Rattle.std.specs.Prelude.{slice_index, if◌then◌else◌, Option, Some, None}
 use Rattle.byteorder.specs.Endian.{big_number}
 use Rattle.linx_base.specs.declared.frame.ConnKind.{ConnKind}
 use Rattle.linx_base.specs.declared.frame.ConnKind.TheVariants as kinds
@@ -12,7 +13,8 @@ use Rattle.ethcm_headers.specs.declared.chains.Chain.TheVariants.{Conn, Ack, Nac
 use Rattle.ethcm_headers.specs.declared.chains.Layout.{Layout}
 use Rattle.ethcm_headers.specs.declared.chains.Layout.TheVariants as layouts
 use Rattle.ethcm_headers.specs.declared.chains.Headers.{Headers}
-use Rattle.ethcm_headers.specs.Headers.{main_header, conn_header, ack_header, nack_header, udata_header, frag_header}
+use Rattle.ethcm_headers.specs.Headers.{main_header, conn_header, ack_header, nack_header}
+use Rattle.ethcm_headers.specs.Headers.{udata_header, frag_header}
 
 -- the number of bytes of a chain's headers, with MAIN
 abbrev pub layout_length : Layout → ℕ
@@ -38,19 +40,25 @@ abbrev pub part_with : Chain → List ℕ → Part
 part_with (Conn kind) payload = parts.Conn kind
 part_with (Ack next) payload = parts.Ack next
 part_with (Nack next count) payload = parts.Nack next count
-part_with (First next seq more from to size) payload = parts.Piece next seq (frames.First more from to size payload)
+part_with (First next seq more from to size) payload =
+    parts.Piece next seq (frames.First more from to size payload)
 part_with (Next next seq more) payload = parts.Piece next seq (frames.Next more payload)
 
 -- the packet that has these headers and this payload
 abbrev pub packet_with : Headers → List ℕ → Packet
 packet_with headers payload =
-    record { src = record { 0 = headers.src }; dst = headers.dst; part = part_with headers.chain payload }
+    record {
+      src = record { 0 = headers.src };
+      dst = headers.dst;
+      part = part_with headers.chain payload;
+    }
 
 -- the bytes of the headers in a packet of this length
 unfoldable pub chain_bytes : ℕ → ℕ → ℕ → Chain → List ℕ
 chain_bytes length src dst (Conn kind) = main_header 2 length src dst ++ conn_header kind
 chain_bytes length src dst (Ack next) = main_header 5 length src dst ++ ack_header 0 next
-chain_bytes length src dst (Nack next count) = main_header 6 length src dst ++ nack_header next count
+chain_bytes length src dst (Nack next count) =
+    main_header 6 length src dst ++ nack_header next count
 chain_bytes length src dst (First next seq more from to size) =
     (main_header 5 length src dst ++ ack_header 3 next) ++ udata_header more seq from to size
 chain_bytes length src dst (Next next seq more) =
@@ -83,8 +91,10 @@ fields_at layouts.Conn bytes = conn_of (kind_of (slice_index bytes 21))
 fields_at layouts.Ack bytes = Some (Ack (number_at 4 24 bytes))
 fields_at layouts.Nack bytes = Some (Nack (number_at 4 24 bytes) (number_at 2 22 bytes))
 fields_at layouts.First bytes =
-    Some (First (number_at 4 24 bytes) (number_at 4 32 bytes) (slice_index bytes 29 == 1) (number_at 4 36 bytes) (number_at 4 40 bytes) (number_at 4 44 bytes))
-fields_at layouts.Next bytes = Some (Next (number_at 4 24 bytes) (number_at 4 32 bytes) (slice_index bytes 29 == 1))
+    Some (First (number_at 4 24 bytes) (number_at 4 32 bytes) (slice_index bytes 29 == 1)
+    (number_at 4 36 bytes) (number_at 4 40 bytes) (number_at 4 44 bytes))
+fields_at layouts.Next bytes =
+    Some (Next (number_at 4 24 bytes) (number_at 4 32 bytes) (slice_index bytes 29 == 1))
 
 -- the headers that the types name
 unfoldable pub layout_at : List ℕ → Option Layout
@@ -101,14 +111,16 @@ layout_at bytes =
 -- the chain, where there are bytes enough
 abbrev pub chain_of : Option Layout → List ℕ → Option Chain
 chain_of None bytes = None
-chain_of (Some layout) bytes = (if nat_lt (length bytes) (layout_length layout) then None else fields_at layout bytes)
+chain_of (Some layout) bytes =
+    (if nat_lt (length bytes) (layout_length layout) then None else fields_at layout bytes)
 
 abbrev pub chain_at : List ℕ → Option Chain
 chain_at bytes = chain_of (layout_at bytes) bytes
 
 -- the headers with the sessions that stand in MAIN
 abbrev pub headers_of : List ℕ → Option Chain → Option Headers
-headers_of bytes (Some chain) = Some (record { src = number_at 8 4 bytes; dst = number_at 8 12 bytes; chain = chain })
+headers_of bytes (Some chain) =
+    Some (record { src = number_at 8 4 bytes; dst = number_at 8 12 bytes; chain = chain })
 headers_of bytes None = None
 
 unfoldable pub headers_at : List ℕ → Option Headers
@@ -140,7 +152,8 @@ abbrev pub chain_in : Part → Chain
 chain_in (parts.Conn kind) = Conn kind
 chain_in (parts.Ack next) = Ack next
 chain_in (parts.Nack next count) = Nack next count
-chain_in (parts.Piece next seq (frames.First more from to size payload)) = First next seq more from to size
+chain_in (parts.Piece next seq (frames.First more from to size payload)) =
+    First next seq more from to size
 chain_in (parts.Piece next seq (frames.Next more payload)) = Next next seq more
 
 abbrev pub payload_in : Part → List ℕ

@@ -4,9 +4,11 @@ use Rattle.byteorder.specs.Endian.{big_bytes}
 use Rattle.linx_base.specs.declared.frame.ConnKind.{ConnKind}
 use Rattle.linx_base.specs.declared.frame.ConnKind.TheVariants.{Connect, ConnectAck, Ack, Reset}
 
--- MAIN: the version, the next header's type, the packet's length, and the sessions of sender and receiver
+-- MAIN: the version, the next header's type, the packet's length, and the sessions of sender and
+-- receiver
 unfoldable pub main_header : ℕ → ℕ → ℕ → ℕ → List ℕ
-main_header next length src dst = 2 ∷ next ∷ (big_bytes 2 length ++ (big_bytes 8 src ++ big_bytes 8 dst))
+main_header next length src dst =
+    2 ∷ next ∷ (big_bytes 2 length ++ (big_bytes 8 src ++ big_bytes 8 dst))
 
 -- the number of a kind in CONN
 abbrev pub kind_number : ConnKind → ℕ
@@ -34,7 +36,8 @@ more_byte more = (if more then 1 else 0)
 -- UDATA: a message's first piece has the link addresses and the size of the whole body
 unfoldable pub udata_header : Bool → ℕ → ℕ → ℕ → ℕ → List ℕ
 udata_header more seq from to size =
-    0 ∷ more_byte more ∷ 0 ∷ 0 ∷ (big_bytes 4 seq ++ (big_bytes 4 from ++ (big_bytes 4 to ++ big_bytes 4 size)))
+    0 ∷ more_byte more ∷ 0 ∷ 0
+    ∷ (big_bytes 4 seq ++ (big_bytes 4 from ++ (big_bytes 4 to ++ big_bytes 4 size)))
 
 -- FRAG: a further piece
 unfoldable pub frag_header : Bool → ℕ → List ℕ

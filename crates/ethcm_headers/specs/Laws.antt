@@ -9,8 +9,12 @@ EachIsSpelled = (packet : Packet) → IsPacket packet → Spells packet (spellin
 
 -- no packet has two spellings
 abbrev pub HasOneSpelling : Type 0
-HasOneSpelling = (packet : Packet) (bytes others : List ℕ) → Spells packet bytes → Spells packet others → bytes ≡ others
+HasOneSpelling =
+    (packet : Packet) (bytes others : List ℕ) → Spells packet bytes → Spells packet others
+    → bytes ≡ others
 
 -- no bytes spell two packets
 abbrev pub SpellsOnePacket : Type 0
-SpellsOnePacket = (packet other : Packet) (bytes : List ℕ) → Spells packet bytes → Spells other bytes → packet ≡ other
+SpellsOnePacket =
+    (packet other : Packet) (bytes : List ℕ) → Spells packet bytes → Spells other bytes
+    → packet ≡ other

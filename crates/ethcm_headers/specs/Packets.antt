@@ -6,17 +6,21 @@ use Rattle.linx_base.specs.Frames.{IsFrame, FitsFrame}
 use Rattle.ethcm_headers.specs.declared.packets.Packet.{Packet}
 use Rattle.ethcm_headers.specs.declared.packets.Part.{Part}
 use Rattle.ethcm_headers.specs.declared.packets.Part.TheVariants.{Conn, Ack, Nack, Piece}
-use Rattle.ethcm_headers.specs.Headers.{main_header, conn_header, ack_header, nack_header, udata_header, frag_header}
+use Rattle.ethcm_headers.specs.Headers.{main_header, conn_header, ack_header, nack_header}
+use Rattle.ethcm_headers.specs.Headers.{udata_header, frag_header}
 
--- The five chains of headers. A header's type is 2 for CONN, 3 for UDATA, 4 for FRAG, 5 for ACK, 6 for NACK and 0 for none.
+-- The five chains of headers. A header's type is 2 for CONN, 3 for UDATA, 4 for FRAG, 5 for ACK, 6
+-- for NACK and 0 for none.
 unfoldable pub spelling_between : ℕ → ℕ → Part → List ℕ
 spelling_between src dst (Conn kind) = main_header 2 24 src dst ++ conn_header kind
 spelling_between src dst (Ack next) = main_header 5 28 src dst ++ ack_header 0 next
 spelling_between src dst (Nack next count) = main_header 6 28 src dst ++ nack_header next count
 spelling_between src dst (Piece next seq (First more from to size payload)) =
-    main_header 5 (48 + length payload) src dst ++ (ack_header 3 next ++ (udata_header more seq from to size ++ payload))
+    main_header 5 (48 + length payload) src dst
+    ++ (ack_header 3 next ++ (udata_header more seq from to size ++ payload))
 spelling_between src dst (Piece next seq (Next more payload)) =
-    main_header 5 (36 + length payload) src dst ++ (ack_header 4 next ++ (frag_header more seq ++ payload))
+    main_header 5 (36 + length payload) src dst
+    ++ (ack_header 4 next ++ (frag_header more seq ++ payload))
 
 -- the bytes that spell a packet
 abbrev pub spelling_of : Packet → List ℕ

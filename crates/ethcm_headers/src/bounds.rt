@@ -29,7 +29,8 @@ fn is_payload(payload: &[u8]) -> bool
 }
 
 fn is_of_size(payload: &[u8], size: u32, more: bool) -> bool
-    ensures { IsTrue result ↔ ((1 ≤ size) × (size ≤ body_limit) × MatchBool more (length payload.now < size) (length payload.now ≡ size)) }
+    ensures { IsTrue result ↔ ((1 ≤ size) × (size ≤ body_limit)
+        × MatchBool more (length payload.now < size) (length payload.now ≡ size)) }
 {
     if size < 1 || BODY_MOST < size {
         return false;
@@ -44,7 +45,8 @@ fn is_of_size(payload: &[u8], size: u32, more: bool) -> bool
 
 /// Whether the chain and the payload behind it keep the bounds of what a packet brings.
 fn is_part(chain: &Chain, payload: &[u8]) -> bool
-    ensures { IsTrue result ↔ (IsPart (part_with chain.now payload.now) × StandsBehind payload.now chain.now) }
+    ensures { IsTrue result ↔ (IsPart (part_with chain.now payload.now)
+        × StandsBehind payload.now chain.now) }
 {
     match *chain {
         Chain::Conn(_) => payload.is_empty(),
@@ -67,7 +69,8 @@ fn is_connect(chain: &Chain) -> bool
 }
 
 fn are_sessions(headers: &Headers) -> bool
-    ensures { IsTrue result ↔ ((0 < headers.now.src) × ((headers.now.dst ≡ 0) ↔ (part_with headers.now.chain [] ≡ Conn Connect))) }
+    ensures { IsTrue result ↔ ((0 < headers.now.src)
+        × ((headers.now.dst ≡ 0) ↔ (part_with headers.now.chain [] ≡ Conn Connect))) }
 {
     headers.src != 0 && (headers.dst == 0) == is_connect(&headers.chain)
 }
@@ -75,7 +78,8 @@ fn are_sessions(headers: &Headers) -> bool
 /// Whether these headers and this payload keep the bounds of a packet, with no payload behind a
 /// packet that is no piece.
 pub fn is_packet(headers: &Headers, payload: &[u8]) -> bool
-    ensures { IsTrue result ↔ (IsWithinBounds (packet_with headers.now payload.now) × StandsBehind payload.now headers.now.chain) }
+    ensures { IsTrue result ↔ (IsWithinBounds (packet_with headers.now payload.now)
+        × StandsBehind payload.now headers.now.chain) }
 {
     are_sessions(headers) && is_part(&headers.chain, payload)
 }

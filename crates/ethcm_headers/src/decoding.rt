@@ -1,8 +1,10 @@
-//! The fields of headers, read at their places. Nothing is tested but the length and the types: what
-//! else may stand there is found by spelling the headers again.
+//! The fields of headers, read at their places. Nothing is tested but the length and the types:
+//! what else may stand there is found by spelling the headers again.
 
 ghost use Rattle.std.specs.Prelude.{◌≡◌, ◌+◌, ◌≤◌, length, IfSome};
-ghost use Rattle.ethcm_headers.specs.Chains.{number_at, kind_of, layout_at, layout_length, fields_at, chain_at, headers_at, FitsChain, FitsHeaders};
+ghost use Rattle.ethcm_headers.specs.Chains.{number_at, kind_of, layout_at, layout_length};
+ghost use Rattle.ethcm_headers.specs.Chains.{fields_at, chain_at, headers_at, FitsChain};
+ghost use Rattle.ethcm_headers.specs.Chains.{FitsHeaders};
 
 use crate::chains::{Chain, Headers, Layout};
 use crate::headers::{ACK, CONN, FRAG, NACK, NONE, UDATA};

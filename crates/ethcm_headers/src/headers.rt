@@ -1,5 +1,6 @@
 ghost use Rattle.std.specs.Prelude.{◌≡◌};
-ghost use Rattle.ethcm_headers.specs.Headers.{main_header, conn_header, ack_header, nack_header, udata_header, frag_header, kind_number};
+ghost use Rattle.ethcm_headers.specs.Headers.{main_header, conn_header, ack_header, nack_header};
+ghost use Rattle.ethcm_headers.specs.Headers.{udata_header, frag_header, kind_number};
 
 use byteorder::{BigEndian, ByteOrder};
 use linx_base::ConnKind;

@@ -1,4 +1,5 @@
-ghost use Rattle.std.specs.Prelude.{◌≡◌, ◌≤◌, ◌++◌, List, ℕ, length, drop, IfSome, IfNone, IfOk, IfErr};
+ghost use Rattle.std.specs.Prelude.{◌≡◌, ◌≤◌, ◌++◌, List, ℕ, length, drop, IfSome, IfNone, IfOk};
+ghost use Rattle.std.specs.Prelude.{IfErr};
 ghost use Rattle.ethcm_headers.specs.declared.packets.Packet.{Packet as AnyPacket};
 ghost use Rattle.ethcm_headers.specs.declared.reading.ReadError.TheVariants.{NoMemory as OutOfMemory};
 ghost use Rattle.ethcm_headers.specs.Packets.{Spells};
@@ -56,7 +57,8 @@ fn behind<'a>(bytes: &'a [u8], front: &[u8]) -> Option<&'a [u8]>
 
 /// The headers of the packet that the bytes spell, and the place at which its payload begins.
 fn split(bytes: &[u8]) -> Option<(Headers, usize)>
-    ensures found { IfSome result (λ parts. Spells (packet_with parts.0 (drop parts.1 bytes.now)) bytes.now) }
+    ensures found { IfSome result
+        (λ parts. Spells (packet_with parts.0 (drop parts.1 bytes.now)) bytes.now) }
     ensures within { IfSome result (λ parts. parts.1 ≤ length bytes.now) }
     ensures none { IfNone result ((packet : AnyPacket) → ¬ (Spells packet bytes.now)) }
 {
@@ -135,11 +137,14 @@ fn packet_with(headers: &Headers, bytes: &Blob, from: usize) -> Result<Packet, N
 pub fn read(bytes: &Blob) -> Result<Packet, ReadError>
     // What is read is so spelled, and the packet that is so spelled is read.
     ensures found { IfOk result (λ packet. Spells packet bytes.now) }
-    ensures only { IfOk result (λ packet. (other : AnyPacket) → Spells other bytes.now → packet ≡ other) }
+    ensures only { IfOk result
+        (λ packet. (other : AnyPacket) → Spells other bytes.now → packet ≡ other) }
 
     // Bad comes exactly where there is no such packet.
-    ensures bad { ((packet : AnyPacket) → ¬ (Spells packet bytes.now)) → result ≡ Err ReadError.Bad }
-    ensures bad_only { IfErr result (λ e. e ≡ ReadError.Bad → (packet : AnyPacket) → ¬ (Spells packet bytes.now)) }
+    ensures bad { ((packet : AnyPacket) → ¬ (Spells packet bytes.now))
+        → result ≡ Err ReadError.Bad }
+    ensures bad_only { IfErr result
+        (λ e. e ≡ ReadError.Bad → (packet : AnyPacket) → ¬ (Spells packet bytes.now)) }
 {
     let Some((headers, from)) = split(bytes.bytes()) else {
         return Err(ReadError::Bad);

@@ -1,5 +1,6 @@
 ghost use Rattle.std.specs.Prelude.{◌≡◌, IfOk};
-ghost use Rattle.ethcm_headers.specs.Packets.{IsPart, IsPacket, IsWithinBounds, FitsPart, spelling_of};
+ghost use Rattle.ethcm_headers.specs.Packets.{IsPart, IsPacket, IsWithinBounds, FitsPart};
+ghost use Rattle.ethcm_headers.specs.Packets.{spelling_of};
 ghost use Rattle.ethcm_headers.specs.Chains.{chain_in, headers_in, payload_in};
 
 use crate::chains::{Chain, Headers};

@@ -6,9 +6,11 @@ use Rattle.ethcm_headers.proofs.reading.read.Goals as goal
 
 pub returns-in_err-packet-clause-bad : goal.returns-in_err-packet-clause-bad
 returns-in_err-packet-clause-bad c = λ none.
-    absurd (none (packet_with c.in-Some.headers (drop c.in-Some.from c.bytes.result.now)) (rw (← c.bytes.ensures) c.in-Some.ensures.found))
+    absurd (none (packet_with c.in-Some.headers (drop c.in-Some.from c.bytes.result.now))
+    (rw (← c.bytes.ensures) c.in-Some.ensures.found))
 
 pub returns-clause-only : goal.returns-clause-only
 returns-clause-only c = λ other spells.
-    let is : Spells c.in_ok-packet.packet c.args.bytes.now = rw (c.in_ok-packet.ensures, ← c.bytes.ensures) c.in-Some.ensures.found in
+    let is : Spells c.in_ok-packet.packet c.args.bytes.now =
+    rw (c.in_ok-packet.ensures, ← c.bytes.ensures) c.in-Some.ensures.found in
     unique c.in_ok-packet.packet other c.args.bytes.now is spells
