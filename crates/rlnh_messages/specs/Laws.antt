@@ -11,11 +11,15 @@ EachIsSpelled = (message : Rlnh) → IsMessage message → Spells message (spell
 
 -- no message has two spellings
 abbrev pub HasOneSpelling : Type 0
-HasOneSpelling = (message : Rlnh) (bytes others : List ℕ) → Spells message bytes → Spells message others → bytes ≡ others
+HasOneSpelling =
+    (message : Rlnh) (bytes others : List ℕ) → Spells message bytes → Spells message others
+    → bytes ≡ others
 
 -- no bytes spell two messages
 abbrev pub SpellsOneMessage : Type 0
-SpellsOneMessage = (message other : Rlnh) (bytes : List ℕ) → Spells message bytes → Spells other bytes → message ≡ other
+SpellsOneMessage =
+    (message other : Rlnh) (bytes : List ℕ) → Spells message bytes → Spells other bytes
+    → message ≡ other
 
 -- every signal goes by a body, and every such body is some signal's
 pub record EachSignalGoes : Type 0 where

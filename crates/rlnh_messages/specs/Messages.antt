@@ -1,9 +1,11 @@
--- Which messages there are, and the bytes that spell each. Numbers stand with their highest byte first.
+-- Which messages there are, and the bytes that spell each. Numbers stand with their highest byte
+-- first.
 use Rattle.std.specs.Prelude.{◌≡◌, ℕ, ◌^◌, ◌<◌, List, ◌∷◌, ◌++◌, IsTrue}
 use Rattle.byteorder.specs.Endian.{big_bytes}
 use Rattle.linx_base.specs.NameText.{is_name}
 use Rattle.rlnh_messages.specs.declared.rlnh.Rlnh.{Rlnh}
-use Rattle.rlnh_messages.specs.declared.rlnh.Rlnh.TheVariants.{Init, InitReply, QueryName, Publish, Unpublish, UnpublishAck}
+use Rattle.rlnh_messages.specs.declared.rlnh.Rlnh.TheVariants.{Init, InitReply, QueryName, Publish}
+use Rattle.rlnh_messages.specs.declared.rlnh.Rlnh.TheVariants.{Unpublish, UnpublishAck}
 
 -- a message begins with its type and three zeros
 abbrev pub typed : ℕ → List ℕ → List ℕ

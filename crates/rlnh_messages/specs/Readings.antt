@@ -12,7 +12,8 @@ IsNameReading (Ok name) bytes = (name ≡ bytes) × IsTrue (is_name bytes)
 IsNameReading (Err Bad) bytes = is_name bytes ≡ false
 IsNameReading (Err NoMemory) bytes = IsTrue (is_name bytes)
 
--- the message that the bytes spell, or Bad where they spell none: where memory is refused, they spell one
+-- the message that the bytes spell, or Bad where they spell none: where memory is refused, they
+-- spell one
 abbrev pub IsReading : Result Rlnh RlnhError → List ℕ → Type 0
 IsReading (Ok message) bytes = Spells message bytes
 IsReading (Err Bad) bytes = (message : Rlnh) → ¬ (Spells message bytes)

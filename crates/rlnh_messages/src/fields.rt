@@ -19,7 +19,8 @@ pub fn type_in(bytes: &[u8]) -> Option<(u8, &[u8])>
 
 /// A number of four bytes, and what stands behind it.
 pub fn u32_in(bytes: &[u8]) -> Option<(u32, &[u8])>
-    ensures found { IfSome result (λ field. (field.0 < 2 ^ 32) × (bytes.now ≡ big_bytes 4 field.0 ++ field.1.now)) }
+    ensures found { IfSome result
+        (λ field. (field.0 < 2 ^ 32) × (bytes.now ≡ big_bytes 4 field.0 ++ field.1.now)) }
     ensures none { IfNone result (length bytes.now < 4) }
 {
     if bytes.len() < 4 {
@@ -30,7 +31,8 @@ pub fn u32_in(bytes: &[u8]) -> Option<(u32, &[u8])>
 
 /// A number of eight bytes, and what stands behind it.
 pub fn u64_in(bytes: &[u8]) -> Option<(u64, &[u8])>
-    ensures found { IfSome result (λ field. (field.0 < 2 ^ 64) × (bytes.now ≡ big_bytes 8 field.0 ++ field.1.now)) }
+    ensures found { IfSome result
+        (λ field. (field.0 < 2 ^ 64) × (bytes.now ≡ big_bytes 8 field.0 ++ field.1.now)) }
     ensures none { IfNone result (length bytes.now < 8) }
 {
     if bytes.len() < 8 {
@@ -41,8 +43,10 @@ pub fn u64_in(bytes: &[u8]) -> Option<(u64, &[u8])>
 
 /// An address, which isn't 0, and what stands behind it.
 pub fn address_in(bytes: &[u8]) -> Option<(u32, &[u8])>
-    ensures found { IfSome result (λ field. IsAddress field.0 × (bytes.now ≡ big_bytes 4 field.0 ++ field.1.now)) }
-    ensures none { IfNone result ((addr : ℕ) (rest : List ℕ) → IsAddress addr → ¬ (bytes.now ≡ big_bytes 4 addr ++ rest)) }
+    ensures found { IfSome result
+        (λ field. IsAddress field.0 × (bytes.now ≡ big_bytes 4 field.0 ++ field.1.now)) }
+    ensures none { IfNone result
+        ((addr : ℕ) (rest : List ℕ) → IsAddress addr → ¬ (bytes.now ≡ big_bytes 4 addr ++ rest)) }
 {
     let Some((addr, rest)) = u32_in(bytes) else {
         return None;

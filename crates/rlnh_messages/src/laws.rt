@@ -1,6 +1,7 @@
 //! What follows from the spelling alone, so for what `write` writes and `read` reads.
 
-ghost use Rattle.rlnh_messages.specs.Laws.{EachIsSpelled, EachSignalGoes, HasOneSpelling, SpellsOneMessage};
+ghost use Rattle.rlnh_messages.specs.Laws.{EachIsSpelled, EachSignalGoes, HasOneSpelling};
+ghost use Rattle.rlnh_messages.specs.Laws.{SpellsOneMessage};
 
 /// Every message has a spelling, the one that `write` writes: so what is written is read again.
 pub fn each_is_spelled()

@@ -1,6 +1,6 @@
-//! The messages of RLNH, by which two nodes of a link tell each other which endpoints they have, and
-//! their bytes; and the bodies by which signals go. Each message and each signal has one spelling,
-//! and bytes that are no spelling are refused.
+//! The messages of RLNH, by which two nodes of a link tell each other which endpoints they have,
+//! and their bytes; and the bodies by which signals go. Each message and each signal has one
+//! spelling, and bytes that are no spelling are refused.
 #![tactic(auto)]
 
 mod fields;

@@ -1,4 +1,5 @@
-ghost use Rattle.std.specs.Prelude.{◌≡◌, ◌<◌, ◌≤◌, ◌^◌, ◌++◌, ◌↔◌, List, ℕ, IsTrue, IfSome, IfNone, IfOk, IfErr};
+ghost use Rattle.std.specs.Prelude.{◌≡◌, ◌<◌, ◌≤◌, ◌^◌, ◌++◌, ◌↔◌, List, ℕ, IsTrue, IfSome, IfNone};
+ghost use Rattle.std.specs.Prelude.{IfOk, IfErr};
 ghost use Rattle.byteorder.specs.Endian.{big_bytes};
 ghost use Rattle.rlnh_messages.specs.declared.rlnh.Rlnh.{Rlnh as AnyMessage};
 ghost use Rattle.rlnh_messages.specs.Messages.{typed, IsAddress, Spells};
@@ -68,8 +69,12 @@ fn whole_address(bytes: &[u8]) -> Option<u32>
 
 /// The fields of PUBLISH.
 fn publish_fields(bytes: &[u8]) -> Option<(u32, u64, &[u8])>
-    ensures found { IfSome result (λ f. IsAddress f.0 × (f.1 < 2 ^ 64) × (bytes.now ≡ big_bytes 4 f.0 ++ (big_bytes 8 f.1 ++ f.2.now))) }
-    ensures none { IfNone result ((addr inc : ℕ) (name : List ℕ) → IsAddress addr → ¬ (bytes.now ≡ big_bytes 4 addr ++ (big_bytes 8 inc ++ name))) }
+    ensures found { IfSome result
+        (λ f. IsAddress f.0 × (f.1 < 2 ^ 64)
+        × (bytes.now ≡ big_bytes 4 f.0 ++ (big_bytes 8 f.1 ++ f.2.now))) }
+    ensures none { IfNone result
+        ((addr inc : ℕ) (name : List ℕ) → IsAddress addr
+        → ¬ (bytes.now ≡ big_bytes 4 addr ++ (big_bytes 8 inc ++ name))) }
 {
     let Some((addr, rest)) = address_in(bytes) else {
         return None;
@@ -154,11 +159,14 @@ fn message_in(alloc: Global, bytes: &[u8]) -> Result<Rlnh, RlnhError>
 pub fn read(alloc: Global, bytes: &[u8]) -> Result<Rlnh, RlnhError>
     // What is read is so spelled, and the message that is so spelled is read.
     ensures found { IfOk result (λ message. Spells message bytes.now) }
-    ensures only { IfOk result (λ message. (other : AnyMessage) → Spells other bytes.now → message ≡ other) }
+    ensures only { IfOk result
+        (λ message. (other : AnyMessage) → Spells other bytes.now → message ≡ other) }
 
     // Bad comes exactly where there is no such message.
-    ensures bad { ((message : AnyMessage) → ¬ (Spells message bytes.now)) → result ≡ Err RlnhError.Bad }
-    ensures bad_only { IfErr result (λ e. e ≡ RlnhError.Bad → (message : AnyMessage) → ¬ (Spells message bytes.now)) }
+    ensures bad { ((message : AnyMessage) → ¬ (Spells message bytes.now))
+        → result ≡ Err RlnhError.Bad }
+    ensures bad_only { IfErr result
+        (λ e. e ≡ RlnhError.Bad → (message : AnyMessage) → ¬ (Spells message bytes.now)) }
 {
     message_in(alloc, bytes)
 }

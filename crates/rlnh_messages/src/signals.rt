@@ -33,7 +33,8 @@ pub fn write_signal(alloc: Global, signal: &Signal) -> Result<Blob, NoMemory>
 pub fn read_signal(body: &Blob) -> Result<Signal, RlnhError>
     // What is read is so spelled, and the signal that is so spelled is read.
     ensures found { IfOk result (λ signal. SpellsSignal signal body.now) }
-    ensures only { IfOk result (λ signal. (other : AnySignal) → SpellsSignal other body.now → signal ≡ other) }
+    ensures only { IfOk result
+        (λ signal. (other : AnySignal) → SpellsSignal other body.now → signal ≡ other) }
     ensures bad { ¬ IsSignalBody body.now → result ≡ Err RlnhError.Bad }
     ensures bad_only { IfErr result (λ e. e ≡ RlnhError.Bad → ¬ IsSignalBody body.now) }
 {

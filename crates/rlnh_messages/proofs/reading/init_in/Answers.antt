@@ -4,7 +4,9 @@ use Rattle.rlnh_messages.proofs.Types.{behind, init_found, init_reply_found}
 use Rattle.rlnh_messages.proofs.reading.init_in.Goals as goal
 
 pub returns-then-not-is_version : goal.returns-then-not-is_version
-returns-then-not-is_version c = λ message s. iff_false c.is_version.ensures c.if-not-is_version.true ((behind message c.args.kind c.args.rest.now s).version (omega arith))
+returns-then-not-is_version c =
+    λ message s. iff_false c.is_version.ensures c.if-not-is_version.true
+    ((behind message c.args.kind c.args.rest.now s).version (omega arith))
 
 pub returns-then-kind-eq-INIT : goal.returns-then-kind-eq-INIT
 returns-then-kind-eq-INIT c =

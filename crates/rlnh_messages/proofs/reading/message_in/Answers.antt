@@ -9,5 +9,7 @@ returns-in_default c = λ message s.
 
 pub returns-in_default-kind : goal.returns-in_default-kind
 returns-in_default-kind c = λ message s.
-    let one = (behind message c.in-Some.kind c.in-Some.rest.now (rw c.in-Some.ensures.found at s)).is_type in
+    let one =
+    (behind message c.in-Some.kind c.in-Some.rest.now
+    (rw c.in-Some.ensures.found at s)).is_type in
     omega arith

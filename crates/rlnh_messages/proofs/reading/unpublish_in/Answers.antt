@@ -10,9 +10,11 @@ returns-in_default c = λ message s.
 pub returns-then-kind-eq-UNPUBLISH : goal.returns-then-kind-eq-UNPUBLISH
 returns-then-kind-eq-UNPUBLISH c =
     let is : c.args.kind ≡ 5 = c.if-kind-eq-UNPUBLISH.true in
-    rw is (unpublish_found c.in-Some.addr c.args.rest.now c.in-Some.ensures.found.0 c.in-Some.ensures.found.1)
+    rw is (unpublish_found c.in-Some.addr c.args.rest.now c.in-Some.ensures.found.0
+    c.in-Some.ensures.found.1)
 
 pub returns : goal.returns
 returns c =
     let is : c.args.kind ≡ 6 = omega arith in
-    rw is (unpublish_ack_found c.in-Some.addr c.args.rest.now c.in-Some.ensures.found.0 c.in-Some.ensures.found.1)
+    rw is (unpublish_ack_found c.in-Some.addr c.args.rest.now c.in-Some.ensures.found.0
+    c.in-Some.ensures.found.1)

@@ -7,8 +7,10 @@ pub returns-in-Ok : goal.returns-in-Ok
 returns-in-Ok c =
     let is : SpellsSignal c.of.result c.args.body.now =
     rw c.of.ensures
-    (signal_found c.in-Some.number c.in-Some._data.now c.args.body.now c.in-Ok.data (rw (← c.bytes.ensures) c.in-Some.ensures.found.1)
-    (rw (← c.len-2.ensures) c.in-Ok.ensures) (omega (arith, c.len.ensures)) c.in-Some.ensures.found.0)
+    (signal_found c.in-Some.number c.in-Some._data.now c.args.body.now c.in-Ok.data
+    (rw (← c.bytes.ensures) c.in-Some.ensures.found.1)
+    (rw (← c.len-2.ensures) c.in-Ok.ensures) (omega (arith, c.len.ensures))
+    c.in-Some.ensures.found.0)
     in
     record {
       found = is;
