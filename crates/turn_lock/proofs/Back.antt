@@ -1,8 +1,10 @@
 -- Passes that were dealt and came back, each at its place: all are there, and of the lock.
-use Rattle.std.proofs.Common.{◌≡◌, ℕ, ◌+◌, ◌-◌, ◌<◌, List, length, get_or, All, ap, ◌∙◌, subst, arith}
+use Rattle.std.proofs.Common.{◌≡◌, ℕ, ◌+◌, ◌-◌, ◌<◌, List, length, get_or, All, ap, ◌∙◌, subst}
+use Rattle.std.proofs.Common.{arith}
 use Rattle.std.proofs.lemmas.List.{length-map, get_or-map}
 use Rattle.std.proofs.lemmas.Option.{get_or_from_slice_get}
-use Rattle.turn_lock.specs.Passes.{PassView, LockView, IsPassOf, IsSamePass, AreDealt, AreBack, HasEach, IsLeastMissing, new_pass, numbers}
+use Rattle.turn_lock.specs.Passes.{PassView, LockView, IsPassOf, IsSamePass, AreDealt, AreBack}
+use Rattle.turn_lock.specs.Passes.{HasEach, IsLeastMissing, new_pass, numbers}
 
 module _ {E F : Type 0} (lock : LockView) (fixed : F) (before now : List (PassView E F))
     (dealt : AreDealt lock fixed before) where

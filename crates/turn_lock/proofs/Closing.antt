@@ -1,6 +1,8 @@
 -- Joining two seats that rest keeps the rule, and all seats joined to one find the state at home.
-use Rattle.std.proofs.Common.{◌≡◌, ◌≢◌, ℕ, ◌<◌, ◌≤◌, eqb, cond, List, set, Option, Some, true, false, sym, ap, ◌∙◌, subst, arith, map, All, Contains, eq-eqb, ne_eqb}
-use Rattle.std.proofs.lemmas.List.Elements.{All-nil, All-append, All-weaker, All-same, All-map, All-contains}
+use Rattle.std.proofs.Common.{◌≡◌, ◌≢◌, ℕ, ◌<◌, ◌≤◌, eqb, cond, List, set, Option, Some, true}
+use Rattle.std.proofs.Common.{false, sym, ap, ◌∙◌, subst, arith, map, All, Contains, eq-eqb, ne_eqb}
+use Rattle.std.proofs.lemmas.List.Elements.{All-nil, All-append, All-weaker, All-same, All-map}
+use Rattle.std.proofs.lemmas.List.Elements.{All-contains}
 use mathlib.Core.Logic.{dite}
 use mathlib.Core.Option.{some, some-injective}
 use native.Mathlib.Decide.{ℕ_discrete}
@@ -14,7 +16,8 @@ use Rattle.std.specs.Prelude.{IsSomeAnd}
 use Rattle.turn_lock.specs.Stories.{AllMadeUpTo, RestsFor}
 use Rattle.turn_lock.specs.Turns.{front, joined, spent, front_of, FitsFront, FitsView, HasFronts}
 use Rattle.turn_lock.proofs.Lists.{All-unmap}
-use Rattle.turn_lock.proofs.Rule.{Setting, Rule, base, held_by, views_set, fits_resting, Fits, only_front}
+use Rattle.turn_lock.proofs.Rule.{Setting, Rule, base, held_by, views_set, fits_resting, Fits}
+use Rattle.turn_lock.proofs.Rule.{only_front}
 use Rattle.turn_lock.proofs.Stories.{more_makers}
 
 -- the seats of two that are one

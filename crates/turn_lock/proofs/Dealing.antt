@@ -1,5 +1,7 @@
 -- A new lock meets the rule, and a deal keeps it.
-use Rattle.std.proofs.Common.{◌≡◌, ◌≢◌, ℕ, zero, suc, ◌+◌, ◌<◌, eqb, cond, List, [], ◌∷◌, ◌++◌, length, set, Option, Some, true, false, sym, refl, ap, ◌∙◌, subst, ⊎_elim, arith, length-set, eq-eqb, ne_eqb}
+use Rattle.std.proofs.Common.{◌≡◌, ◌≢◌, ℕ, zero, suc, ◌+◌, ◌<◌, eqb, cond, List, [], ◌∷◌, ◌++◌}
+use Rattle.std.proofs.Common.{length, set, Option, Some, true, false, sym, refl, ap, ◌∙◌, subst}
+use Rattle.std.proofs.Common.{⊎_elim, arith, length-set, eq-eqb, ne_eqb}
 use Rattle.std.proofs.lemmas.List.{append-nil}
 use Rattle.std.proofs.lemmas.List.Elements.{All-nil, All-cons, All-weaker}
 use mathlib.Core.Option.{some, some-injective, some-ne-none}
@@ -8,9 +10,11 @@ use Rattle.atomic_table.specs.Table.{State, Splits, opening}
 use Rattle.atomic_table.proofs.Lists.{set_else, at_longer}
 use Rattle.turn_lock.specs.declared.turns.Front.{Front}
 use Rattle.turn_lock.specs.declared.turns.Known.{Known}
-use Rattle.turn_lock.specs.Turns.{front, resting, dealing, next_front, dealt, dealt_next, FitsFront, FitsView}
+use Rattle.turn_lock.specs.Turns.{front, resting, dealing, next_front, dealt, dealt_next, FitsFront}
+use Rattle.turn_lock.specs.Turns.{FitsView}
 use Rattle.turn_lock.proofs.Lists.{at_end, head_same}
-use Rattle.turn_lock.proofs.Rule.{Setting, Rule, base, held_by, views_set, fits_resting, Fits, FitsAs, only_front}
+use Rattle.turn_lock.proofs.Rule.{Setting, Rule, base, held_by, views_set, fits_resting, Fits}
+use Rattle.turn_lock.proofs.Rule.{FitsAs, only_front}
 use Rattle.turn_lock.proofs.Stories.{rests_itself, more_makers, made_by-above}
 
 -- the seat of the number n is `at`, and that of any other is as it was

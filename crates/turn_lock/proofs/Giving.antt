@@ -1,5 +1,6 @@
 -- A give keeps the rule.
-use Rattle.std.proofs.Common.{◌≡◌, ◌≢◌, ℕ, ◌<◌, List, [], length, get_or, set, Option, Some, sym, refl, ap, ◌∙◌, subst, arith}
+use Rattle.std.proofs.Common.{◌≡◌, ◌≢◌, ℕ, ◌<◌, List, [], length, get_or, set, Option, Some, sym}
+use Rattle.std.proofs.Common.{refl, ap, ◌∙◌, subst, arith}
 use Rattle.std.proofs.lemmas.List.Elements.{All-nil, All-cons, All-weaker}
 use mathlib.Core.Option.{none, some}
 use lib.ListN.{get_elem?}
@@ -9,10 +10,12 @@ use Rattle.turn_lock.specs.declared.turns.Front.{Front}
 use Rattle.turn_lock.specs.declared.turns.Known.{Known}
 use Rattle.turn_lock.specs.Passes.{PassView}
 use Rattle.turn_lock.specs.Stories.{IsAddedBy}
-use Rattle.turn_lock.specs.Turns.{holder, front, front_of, resting, with_seen, FitsFront, FitsView, gave}
+use Rattle.turn_lock.specs.Turns.{holder, front, front_of, resting, with_seen, FitsFront, FitsView}
+use Rattle.turn_lock.specs.Turns.{gave}
 use Rattle.turn_lock.proofs.Lists.{head_same}
 use Rattle.turn_lock.proofs.Places.{IsPut}
-use Rattle.turn_lock.proofs.Rule.{Setting, Rule, base, held_by, views_set, fits_resting, Fits, only_front, one_still, written}
+use Rattle.turn_lock.proofs.Rule.{Setting, Rule, base, held_by, views_set, fits_resting, Fits}
+use Rattle.turn_lock.proofs.Rule.{only_front, one_still, written}
 use Rattle.turn_lock.proofs.Stories.{rests_itself, rests_added, added_makers}
 
 module _ {S E F : Type 0} (t : Setting S E F)

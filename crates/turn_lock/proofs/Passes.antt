@@ -1,5 +1,7 @@
 -- Passes that are dealt one by one, gathered one by one, and found by their numbers.
-use Rattle.std.proofs.Common.{◌≡◌, ◌≢◌, ℕ, zero, suc, ◌+◌, ◌<◌, ◌≤◌, false, get_or, List, [], ◌∷◌, ◌++◌, length, Option, Some, append_assoc, sym, ap, ◌∙◌, subst, arith, length-append}
+use Rattle.std.proofs.Common.{◌≡◌, ◌≢◌, ℕ, zero, suc, ◌+◌, ◌<◌, ◌≤◌, false, get_or, List, [], ◌∷◌}
+use Rattle.std.proofs.Common.{◌++◌, length, Option, Some, append_assoc, sym, ap, ◌∙◌, subst, arith}
+use Rattle.std.proofs.Common.{length-append}
 use Rattle.std.proofs.lemmas.List.Elements.{All-weaker}
 use Rattle.std.specs.Prelude.{slice_get, All, Contains, IsTrue, ◌↔◌}
 use Rattle.std.proofs.lemmas.List.{length-map}
@@ -9,7 +11,8 @@ use Rattle.atomic_table.specs.Seated.{TableId}
 use Rattle.atomic_table.specs.Table.{Me}
 use Rattle.turn_lock.specs.declared.story.Made.{Made}
 use Rattle.turn_lock.specs.declared.turns.Known.{Known}
-use Rattle.turn_lock.specs.Turns.{front, joined, fixed_first, seen_first, pass_view, HasFronts, Gathers}
+use Rattle.turn_lock.specs.Turns.{front, joined, fixed_first, seen_first, pass_view, HasFronts}
+use Rattle.turn_lock.specs.Turns.{Gathers}
 use Rattle.turn_lock.specs.Passes.{PassView, new_pass, AreFirst, numbers, Tells, IsTold}
 use Rattle.turn_lock.specs.Stories.{RestsFor}
 use Rattle.turn_lock.proofs.Lists.{get_before, get_last}

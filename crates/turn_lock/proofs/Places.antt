@@ -1,12 +1,14 @@
 -- A seat as a place: what its model shows, and what a give leaves.
-use Rattle.std.proofs.Common.{◌≡◌, ℕ, ◌<◌, List, [], ◌∷◌, Option, Some, true, refl, sym, ap, ◌∙◌, subst}
+use Rattle.std.proofs.Common.{◌≡◌, ℕ, ◌<◌, List, [], ◌∷◌, Option, Some, true, refl, sym, ap, ◌∙◌}
+use Rattle.std.proofs.Common.{subst}
 use Rattle.atomic_table.specs.Seated.{TableId}
 use Rattle.atomic_table.specs.Table.{Me, rest}
 use Rattle.turn_lock.specs.declared.story.Made.{Made}
 use Rattle.turn_lock.specs.declared.turns.Front.{Front}
 use Rattle.turn_lock.specs.declared.turns.Known.{Known}
 use Rattle.turn_lock.specs.Passes.{PassView}
-use Rattle.turn_lock.specs.Turns.{PlaceView, HasFront, front, front_of, fixed_first, seen_first, with_seen, resting, place_view, at_rest, with_nothing}
+use Rattle.turn_lock.specs.Turns.{PlaceView, HasFront, front, front_of, fixed_first, seen_first}
+use Rattle.turn_lock.specs.Turns.{with_seen, resting, place_view, at_rest, with_nothing}
 
 -- the seat of this pass holds the slot with the state x in it
 pub record IsPut {S E F : Type 0} (p : PassView E F) (x : S) (m : Me (Option S) (Known E F)) :

@@ -1,5 +1,7 @@
 -- The rule of the lock: what it tells of one seat, and what stays of it at a step.
-use Rattle.std.proofs.Common.{◌≡◌, ◌≢◌, ℕ, ◌<◌, List, [], ◌∷◌, length, get_or, set, Option, All, false, sym, ap, ◌∙◌, subst, ⊎_elim, arith, length-set, get_or-set_same}
+use Rattle.std.proofs.Common.{◌≡◌, ◌≢◌, ℕ, ◌<◌, List, [], ◌∷◌, length, get_or, set, Option, All}
+use Rattle.std.proofs.Common.{false, sym, ap, ◌∙◌, subst, ⊎_elim, arith, length-set}
+use Rattle.std.proofs.Common.{get_or-set_same}
 use Rattle.std.proofs.lemmas.List.Elements.{All-head, All-same}
 use mathlib.Core.Option.{some}
 use lib.ListN.{get_elem?}

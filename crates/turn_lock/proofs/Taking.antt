@@ -1,5 +1,6 @@
 -- A try and a mark keep the rule.
-use Rattle.std.proofs.Common.{◌≡◌, ℕ, ◌<◌, eqb, [], ◌∷◌, set, Option, Some, sym, refl, ap, ◌∙◌, subst, arith}
+use Rattle.std.proofs.Common.{◌≡◌, ℕ, ◌<◌, eqb, [], ◌∷◌, set, Option, Some, sym, refl, ap, ◌∙◌}
+use Rattle.std.proofs.Common.{subst, arith}
 use Rattle.std.proofs.lemmas.List.Elements.{All-nil, All-cons}
 use mathlib.Core.Logic.{dite}
 use mathlib.Core.Option.{none, some}
@@ -13,7 +14,8 @@ use Rattle.turn_lock.specs.declared.turns.Known.{Known}
 use Rattle.turn_lock.specs.Stories.{RestsFor}
 use Rattle.turn_lock.specs.Turns.{holder, holding, with_seen, tried, marked}
 use Rattle.turn_lock.proofs.Lists.{inside, head_same}
-use Rattle.turn_lock.proofs.Rule.{Setting, Rule, word_of, held_by, views_set, Fits, FitsAs, only_front, one_still, written, unmoved}
+use Rattle.turn_lock.proofs.Rule.{Setting, Rule, word_of, held_by, views_set, Fits, FitsAs}
+use Rattle.turn_lock.proofs.Rule.{only_front, one_still, written, unmoved}
 
 module _ {S E F : Type 0} (t : Setting S E F) where
   module _ (id n : ℕ) (me : Me (Option S) (Known E F)) (f : Front E F) (some_pass : 0 < holder n)

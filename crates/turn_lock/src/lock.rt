@@ -1,11 +1,15 @@
 //! The lock. Its table has one word and one slot. The word is 0 where no pass holds the state,
-//! which stands in the slot then. Else it is twice the number of the pass that does, and 1 more where
-//! a thread may sleep until the state is given back. That 1 is the mark: a give that doesn't find it
-//! wakes nobody.
-ghost use Rattle.std.specs.Prelude.{◌≡◌, ◌+◌, ◌<◌, ◌≤◌, List, [], ◌∷◌, ◌++◌, ◌↔◌, All, Contains, IfOk, IfErr, OnOk, IsSomeAnd, IsTrue, MatchBool, MatchOption, vec_capacity, vec_len};
-ghost use Rattle.turn_lock.specs.Passes.{IsPassOf, AreDealt, HasEach, IsLeastMissing, IsTold, numbers, own_steps};
+//! which stands in the slot then. Else it is twice the number of the pass that does, and 1 more
+//! where a thread may sleep until the state is given back. That 1 is the mark: a give that doesn't
+//! find it wakes nobody.
+ghost use Rattle.std.specs.Prelude.{◌≡◌, ◌+◌, ◌<◌, ◌≤◌, List, [], ◌∷◌, ◌++◌, ◌↔◌, All, Contains};
+ghost use Rattle.std.specs.Prelude.{IfOk, IfErr, OnOk, IsSomeAnd, IsTrue, MatchBool, MatchOption};
+ghost use Rattle.std.specs.Prelude.{vec_capacity, vec_len};
+ghost use Rattle.turn_lock.specs.Passes.{IsPassOf, AreDealt, HasEach, IsLeastMissing, IsTold};
+ghost use Rattle.turn_lock.specs.Passes.{numbers, own_steps};
 ghost use Rattle.turn_lock.specs.Stories.{RestsFor, IsAddedBy, AllMadeUpTo, made_by};
-ghost use Rattle.turn_lock.specs.Turns.{front, dealing, at_rest, with_state, with_nothing, Wins, HasFronts, IsReady};
+ghost use Rattle.turn_lock.specs.Turns.{front, dealing, at_rest, with_state, with_nothing, Wins};
+ghost use Rattle.turn_lock.specs.Turns.{HasFronts, IsReady};
 ghost use Rattle.turn_lock.specs.declared.story.Made.{Made};
 
 use crate::pass::{Held, Pass, Place, Turn};
