@@ -1,7 +1,7 @@
 -- What a call on one chunk does to the elements of all.
 use Rattle.std.proofs.Common.{◌≡◌, ℕ, zero, suc, ◌+◌, ◌-◌, ◌<◌, ◌≤◌, Bool, true, false, cond, List}
 use Rattle.std.proofs.Common.{[], ◌∷◌, ◌++◌, length, get_or, set, take, drop, refl, ap, sym, subst}
-use Rattle.std.proofs.Common.{◌∙◌, arith, add-one, ◌⊎◌, inl, inr, append_assoc}
+use Rattle.std.proofs.Common.{◌∙◌, ◌==◌, arith, add-one, ◌⊎◌, inl, inr, append_assoc}
 use mathlib.Core.Bool.{true≢false}
 use Rattle.std.specs.Prelude.{Option, Some, None, slice_get}
 use Rattle.std.specs.List.{AllByRecursion, insert, remove, All}
@@ -393,3 +393,10 @@ module _ {X : Type 0} (cmp : X → X → Ordering) (x : X) (chunks : List (List 
       ∙ sym (slice_get-back (drop first c) (after chunks at) k j
       (omega (arith, length-drop first c)))
       ∙ ap (λ l. slice_get l k) (sym from_parts)
+
+-- whether a changed chunk is empty is what is read of it afterwards
+pub emptied : {X : Type 0} (chunks : List (List X)) (at : ℕ) (new found : List X) (empty : Bool)
+    → at < length chunks → found ≡ get_or (set chunks at new) at found
+    → empty ≡ (length found == 0) → (length new == 0) ≡ empty
+emptied chunks at new found empty within is test =
+    ap (λ l. length l == 0) (sym (is ∙ get_or-set_same chunks at new found within)) ∙ sym test

@@ -1,7 +1,6 @@
-use Rattle.std.proofs.Common.{◌≡◌, ◌<◌, ◌==◌, true, false, length, sym, ap, ◌∙◌, arith}
-use Rattle.std.proofs.Common.{get_or-set_same}
+use Rattle.std.proofs.Common.{◌≡◌, ◌==◌, true, false, length, arith}
 use Rattle.std.proofs.lemmas.Bool.Decides.{nat_tests}
-use Rattle.sorted_set.proofs.Chunking.{ascends_at, remove_in, remove_whole}
+use Rattle.sorted_set.proofs.Chunking.{ascends_at, emptied, remove_in, remove_whole}
 use Rattle.sorted_set.proofs.chunks.remove.Goals as goal
 
 pub remove-requires : goal.remove-requires
@@ -14,15 +13,11 @@ pub returns-then-is_empty-2 : goal.returns-then-is_empty-2
 returns-then-is_empty-2 g c =
     let place = rw c.deref.ensures.value at c.chunk_for-at.ensures in
     let chunks = c.args.chunks.now.items in
-    let new = c.remove.new.self in
-    let there : c.index.result.now ≡ new =
-    c.index.ensures ∙ get_or-set_same chunks c.chunk_for-at.result new c.index.result.now
-    place.within in
-    let empty : (length new == 0) ≡ true =
-    ap (λ l. length l == 0) (sym there) ∙ sym c.if-is_empty-2.ensures in
+    let empty : (length c.remove.new.self == 0) ≡ true =
+    emptied chunks _ _ _ true place.within c.index.ensures c.if-is_empty-2.ensures in
     let whole =
     remove_whole g.T.Ord.cmp g.met.T.Ord.total c.args.element.now chunks c.chunk_for-at.result
-    c.requires place c.index_mut.result.now new c.index_mut.ensures.value
+    c.requires place c.index_mut.result.now c.remove.new.self c.index_mut.ensures.value
     c.remove-then-is_empty-2.new.self.items c.remove.ensures (grind (arith, nat_tests))
     c.remove-then-is_empty-2.ensures.items in
     record { elements = whole.0; chunks = whole.1 }
@@ -31,14 +26,10 @@ pub returns-else-is_empty-2 : goal.returns-else-is_empty-2
 returns-else-is_empty-2 g c =
     let place = rw c.deref.ensures.value at c.chunk_for-at.ensures in
     let chunks = c.args.chunks.now.items in
-    let new = c.remove.new.self in
-    let there : c.index.result.now ≡ new =
-    c.index.ensures ∙ get_or-set_same chunks c.chunk_for-at.result new c.index.result.now
-    place.within in
-    let filled : (length new == 0) ≡ false =
-    ap (λ l. length l == 0) (sym there) ∙ sym c.if-is_empty-2.ensures in
-    let whole =
+    let filled : (length c.remove.new.self == 0) ≡ false =
+    emptied chunks _ _ _ false place.within c.index.ensures c.if-is_empty-2.ensures in
+    let rest =
     remove_in g.T.Ord.cmp g.met.T.Ord.total c.args.element.now chunks c.chunk_for-at.result
-    c.requires place c.index_mut.result.now new c.index_mut.ensures.value
+    c.requires place c.index_mut.result.now c.remove.new.self c.index_mut.ensures.value
     c.remove.ensures (grind (arith, nat_tests)) in
-    record { elements = whole.0; chunks = whole.1 }
+    record { elements = rest.0; chunks = rest.1 }

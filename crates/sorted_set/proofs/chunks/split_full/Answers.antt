@@ -3,8 +3,8 @@ use Rattle.std.proofs.lemmas.Grind.{common_steps}
 use Rattle.sorted_set.proofs.Chunking.{split_in}
 use Rattle.sorted_set.proofs.chunks.split_full.Goals as goal
 
-pub returns-clause-elements : goal.returns-clause-elements
-returns-clause-elements g c =
+pub returns : goal.returns
+returns g c =
     let chunks = c.args.chunks.now.items in
     let back = c.in_ok-back.ensures in
     let was = rw c.in_ok-reserve.ensures.items at c.index_mut.ensures.value in
@@ -14,17 +14,4 @@ returns-clause-elements g c =
     c.in_ok-back.back c.insert_chunk.new.chunks.items c.requires.chunks within was back.ok
     back.halves.0 back.halves.1
     (rw c.in_ok-reserve.ensures.items at c.insert_chunk.ensures.items) in
-    both.0
-
-pub returns-clause-chunks : goal.returns-clause-chunks
-returns-clause-chunks g c =
-    let chunks = c.args.chunks.now.items in
-    let back = c.in_ok-back.ensures in
-    let was = rw c.in_ok-reserve.ensures.items at c.index_mut.ensures.value in
-    let within : c.args.at < length c.args.chunks.now.items = grind (arith, common_steps) in
-    let both =
-    split_in g.T.Ord.cmp chunks c.args.at c.index_mut.result.now c.split.new.self
-    c.in_ok-back.back c.insert_chunk.new.chunks.items c.requires.chunks within was back.ok
-    back.halves.0 back.halves.1
-    (rw c.in_ok-reserve.ensures.items at c.insert_chunk.ensures.items) in
-    both.1
+    record { elements = both.0; chunks = both.1; len = grind (arith, common_steps) }
