@@ -112,19 +112,21 @@ module _ {T K : Type 0} (cmp : K → K → Ordering) (total : IsTotalOrder cmp) 
           taken = found ∙ nth_some q 0 t some
               ∙ first_passing (is_under cmp keys q) (values_of entries)
 
-          pub taken_others : values_of after ≡ without_match (is_under cmp keys q) (values_of entries)
+          pub taken_others : values_of after
+              ≡ without_match (is_under cmp keys q) (values_of entries)
           taken_others =
               ap values_of is ∙ without_first (is_under cmp keys q) entries t indexed.rising among
 
           pub taken_indexed : (left : List (Place K)) → Ascends (place_cmp cmp) left
               → Forgot cmp keys entry t places left → IsIndexed cmp keys after left
-          taken_indexed left ordered takes = subst (λ l. IsIndexed cmp keys l left) (sym is) (record {
-            rising = rising-remove (is_at (nat_cmp t)) entries indexed.rising;
-            ordered = ordered;
-            placed = λ r. takes r ∙ gone r (is_under cmp keys r entry) refl
-                ∙ ap (without_ticket t) (indexed.placed r)
-                ∙ sym (tickets-remove (is_under cmp keys r) t entries indexed.rising);
-          })
+          taken_indexed left ordered takes =
+              subst (λ l. IsIndexed cmp keys l left) (sym is) (record {
+                rising = rising-remove (is_at (nat_cmp t)) entries indexed.rising;
+                ordered = ordered;
+                placed = λ r. takes r ∙ gone r (is_under cmp keys r entry) refl
+                    ∙ ap (without_ticket t) (indexed.placed r)
+                    ∙ sym (tickets-remove (is_under cmp keys r) t entries indexed.rising);
+              })
             where
               gone : (r : K) (b : Bool) → is_under cmp keys r entry ≡ b
                   → cond b (without_ticket t (tickets_at cmp r places)) (tickets_at cmp r places)

@@ -16,32 +16,33 @@ returns-in-Err-clause-err g c q =
 
 pub overflow_add-at : goal.overflow_add-at
 overflow_add-at g c =
-    let keys = g.T.Keyed.keys c.args.entry.now in
-    let left : c.loop-key.at < length keys =
-    more_left keys c.loop-key.at c.in-Some.key c.in-Some.ensures.key in
-    omega (arith, left, c.key.ensures.few)
+    omega (
+      arith,
+      c.key.ensures.few,
+      more_left (g.T.Keyed.keys c.args.entry.now) c.loop-key.at c.in-Some.key c.in-Some.ensures.key,
+    )
 
 pub loop-key-smaller : goal.loop-key-smaller
 loop-key-smaller g c =
-    let keys = g.T.Keyed.keys c.args.entry.now in
-    let left : c.loop-key.at < length keys =
-    more_left keys c.loop-key.at c.in-Some.key c.in-Some.ensures.key in
-    omega arith
+    omega (
+      arith,
+      more_left (g.T.Keyed.keys c.args.entry.now) c.loop-key.at c.in-Some.key c.in-Some.ensures.key,
+    )
 
 pub loop-key-preserved : goal.loop-key-preserved
-loop-key-preserved g c =
-    let keys = g.T.Keyed.keys c.args.entry.now in
-    let at = c.loop-key.at in
-    let left : at < length keys = more_left keys at c.in-Some.key c.in-Some.ensures.key in
-    record {
-      within = omega arith;
-      ordered = c.insert.ensures.ascending;
-      noted = λ q. rw c.in_default-insert.ensures.ok
-          (noted_step g.K.Ord.cmp g.met.K.Ord.total c.loop-key.places c.loop-key.invariant.ordered
-          keys at (at + 1) refl c.in-Some.key c.in-Some.ensures.key c.args.ticket q
-          (tickets_at g.K.Ord.cmp q c.args.places.now) (c.requires.newest q)
-          (c.loop-key.invariant.noted q));
-    }
+loop-key-preserved g c = record {
+  within = omega (
+    arith,
+    more_left (g.T.Keyed.keys c.args.entry.now) c.loop-key.at c.in-Some.key c.in-Some.ensures.key,
+  );
+  ordered = c.insert.ensures.ascending;
+  noted = λ q. rw c.in_default-insert.ensures.ok
+      (noted_step g.K.Ord.cmp g.met.K.Ord.total c.loop-key.places c.loop-key.invariant.ordered
+      (g.T.Keyed.keys c.args.entry.now) c.loop-key.at (c.loop-key.at + 1) refl c.in-Some.key
+      c.in-Some.ensures.key c.args.ticket q (tickets_at g.K.Ord.cmp q c.args.places.now)
+      (c.requires.newest q)
+      (c.loop-key.invariant.noted q));
+}
 
 pub returns-clause-ok : goal.returns-clause-ok
 returns-clause-ok g c q =
