@@ -1,11 +1,11 @@
 #!/usr/bin/env bash
 # Runs the built program for each status: with a standard error that is read, one that is closed and
 # one that is full. The exit status must be the same each time, and what is read exactly the line of
-# the status. `rt run` in crates/linx_sim builds the program, and leaves it in out/.
+# the status. `rt run` in crates/linx_program builds the program, and leaves it in out/.
 #   bench/statuses.sh [PROGRAM]
 set -uo pipefail
 top="$(cd "$(dirname "$0")/.." && pwd)"
-program="$(realpath "${1:-$top/crates/linx_sim/out/linx_sim}")"
+program="$(realpath "${1:-$top/crates/linx_program/out/linx_program}")"
 work="$(mktemp -d)"
 trap 'rm -rf "$work"' EXIT
 wrong=0
@@ -41,7 +41,7 @@ named() {
     (exec -a "$1" "$program" "${@:2}")
 }
 
-script="$top/crates/linx_sim/stdin"
+script="$top/crates/linx_self_send/stdin"
 printf 'node n\nnod m\n' > "$work/bad"
 printf '%s\n' 'node n' 'actor p n' 'open a' 'repeat 600' 'send self 1 fill:65532:00' 'end' \
     'close' 'end' > "$work/large"
@@ -50,9 +50,9 @@ printf '%s\n' 'node n' 'actor p n' 'open a' 'close' 'end' 'actor q n' 'open b' '
 usage=$'linx_sim: usage: linx_sim run\n'
 
 row 'done' 0 '' "$script" "$work/text" "$program" run
-cmp -s "$work/text" "$top/crates/linx_sim/stdout" || complain 'done: another text'
+cmp -s "$work/text" "$top/crates/linx_self_send/stdout" || complain 'done: another text'
 row 'another name' 0 '' "$script" "$work/text" named $'\xff' run
-cmp -s "$work/text" "$top/crates/linx_sim/stdout" || complain 'another name: another text'
+cmp -s "$work/text" "$top/crates/linx_self_send/stdout" || complain 'another name: another text'
 row 'no words' 1 "$usage" "$script" "$work/text" "$program"
 row 'two words' 1 "$usage" "$script" "$work/text" "$program" run run
 row 'a dashed word' 1 "$usage" "$script" "$work/text" "$program" -x

@@ -1,10 +1,10 @@
 #!/usr/bin/env bash
 # Runs the built program on each example, and compares what it writes with the text that stands
-# beside it. `rt run` in crates/linx_sim builds the program, and leaves it in out/.
+# beside it. `rt run` in crates/linx_program builds the program, and leaves it in out/.
 #   examples/run.sh [PROGRAM]
 set -euo pipefail
 here="$(cd "$(dirname "$0")" && pwd)"
-program="${1:-$here/../crates/linx_sim/out/linx_sim}"
+program="${1:-$here/../crates/linx_program/out/linx_program}"
 for script in "$here"/*.linx; do
     "$program" run < "$script" | cmp - "${script%.linx}.txt"
     echo "$(basename "$script"): as it should be"

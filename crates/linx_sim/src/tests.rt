@@ -8,12 +8,12 @@ ghost use Rattle.linx_sim.specs.Runs.{IsBuilt};
 use crate::outcome::{Outcome, Status};
 use crate::program::program;
 use crate::serving;
-use crate::telling::tell;
+use crate::told::tell;
 use crate::words::words_behind_name;
 use linx_outside::{MemSink, MemSource, OpenGate, PlainSource};
 use std::alloc::Global;
 use std::env::{Env, FillError};
-use std::process::ExitCode;
+use std::process::{ExitCode, Termination};
 use std::sync::Wait;
 use std::test::Fail;
 
@@ -187,7 +187,7 @@ fn each_status_has_its_line_and_its_exit_status(rt: HostRuntime) -> Result<(), F
     let alloc = rt.alloc();
     for (status, number, line) in ROWS {
         let mut errors = MemSink::new(alloc, 7, 64, Vec::new(alloc))?;
-        assert!(rt; tell(status, &mut errors) == ExitCode::from(number));
+        assert!(rt; tell(status, &mut errors).report(&rt) == ExitCode::from(number));
         assert_eq!(rt; errors.held(), line.as_bytes());
     }
     Ok(())
@@ -198,7 +198,7 @@ fn a_line_that_cannot_be_written_changes_no_exit_status(rt: HostRuntime) -> Resu
     let alloc = rt.alloc();
     for (status, number, _) in ROWS {
         let mut full = MemSink::new(alloc, 7, 0, Vec::new(alloc))?;
-        assert!(rt; tell(status, &mut full) == ExitCode::from(number));
+        assert!(rt; tell(status, &mut full).report(&rt) == ExitCode::from(number));
         assert!(rt; full.held().is_empty());
     }
     Ok(())
@@ -233,7 +233,7 @@ impl Env for Given<'_> {
 
 // What the whole program does with these words and this script: its exit status, and what it wrote
 // to standard output and standard error.
-fn is_all<R: Wait>(
+fn is_all<R: Wait + Eprint>(
     rt: &R,
     alloc: Global,
     words: &[&[u8]],
@@ -244,9 +244,9 @@ fn is_all<R: Wait>(
     let mut text = MemSink::new(alloc, 100, 4096, Vec::new(alloc))?;
     let mut errors = MemSink::new(alloc, 100, 4096, Vec::new(alloc))?;
     let given = Given { words };
-    let exit = program(rt, &given, alloc, &mut source, &mut text, &mut errors);
+    let told = program(rt, &given, alloc, &mut source, &mut text, &mut errors);
     Ok(
-        exit == ExitCode::from(all.0)
+        told.report(rt) == ExitCode::from(all.0)
             && text.held() == all.1.as_bytes()
             && errors.held() == all.2.as_bytes(),
     )

@@ -1,31 +1,22 @@
 //! linx_sim reads a script of nodes, links, planned losses and actors, runs it, and writes each
 //! endpoint's log and the journal of all steps. As yet it runs scripts of one node and one actor
 //! that opens an endpoint, sends itself signals, receives them and closes; every other script is
-//! answered `NotBuilt`. `main` gives `program` the words and the standard streams.
+//! answered `NotBuilt`. `process` is the whole program, over the words and the streams of a
+//! process. It alone gives a `Told`, so a `main` with this result can't end in any other way.
 #![tactic(auto)]
-
-use linx_outside::{ReadFrom, WriteTo};
-use program::program;
-use std::process::ExitCode;
 
 mod building;
 mod outcome;
 mod playing;
 mod program;
 mod serving;
-mod telling;
+mod told;
 mod words;
 
-fn main(rt: HostRuntime) -> ExitCode {
-    program(
-        &rt,
-        &rt,
-        rt.alloc(),
-        &mut ReadFrom::new(rt.stdin()),
-        &mut WriteTo::new(rt.stdout()),
-        &mut WriteTo::new(rt.stderr()),
-    )
-}
+pub use outcome::{Outcome, Status};
+pub use program::process;
+pub use serving::{run, serial};
+pub use told::Told;
 
 #[cfg(test)]
 mod tests;

@@ -2,14 +2,29 @@
 
 ghost use Rattle.std.specs.Prelude.{◌≡◌, ◌⊎◌, length};
 ghost use Rattle.std.specs.Io.KnownBytes.{Appends};
-ghost use Rattle.std.specs.Process.{exit_status};
 ghost use Rattle.linx_outside.specs.Counts.{HasFaulted, NeverFalls};
 ghost use Rattle.linx_outside.specs.Told.{AppendsFront};
 ghost use Rattle.linx_sim.specs.Statuses.{exit_of, line_of};
 
 use crate::outcome::Status;
 use linx_outside::{Sink, write_all};
-use std::process::ExitCode;
+use std::process::{ExitCode, Termination};
+
+/// The status that the program told, by which it ends. Only `process` gives one out.
+#[derive(Drop)]
+pub struct Told {
+    pub(crate) status: Status,
+}
+
+impl Termination for Told {
+    ghost use Rattle.std.specs.Process.{exit_status};
+
+    fn report<R: Eprint>(self, _rt: &R) -> ExitCode
+        ensures { exit_status result ≡ exit_of self.status }
+    {
+        ExitCode::from(exit_code(self.status))
+    }
+}
 
 // The exit status of the program. Who wants it has to tell the status.
 fn exit_code(status: Status) -> u8
@@ -27,10 +42,9 @@ fn exit_code(status: Status) -> u8
     }
 }
 
-/// Writes the line of a status, and answers its exit status, which is the same where the line can't
-/// be written.
-pub fn tell<K: Sink>(status: Status, errors: &mut K) -> ExitCode
-    ensures number { exit_status result ≡ exit_of status }
+/// Writes the line of a status; what it answers is the same where the line can't be written.
+pub(crate) fn tell<K: Sink>(status: Status, errors: &mut K) -> Told
+    ensures status { result.status ≡ status }
     ensures line { ¬ (HasFaulted K.last_count (K.faults errors.old) (K.faults errors.new))
         → Appends (K.held errors.old) (K.held errors.new) (line_of status) }
     ensures takes { K.can_take errors.old (length (line_of status))
@@ -42,5 +56,5 @@ pub fn tell<K: Sink>(status: Status, errors: &mut K) -> ExitCode
 {
     let line = status.line();
     let _ = write_all(errors, line.as_str().as_bytes());
-    ExitCode::from(exit_code(status))
+    Told { status }
 }
