@@ -1,4 +1,5 @@
-use Rattle.std.specs.Prelude.{Bool, true, false, ◌==◌, ◌≢◌, nat_lt, ℤ, pos, negsuc, neg_ℤ, unsigned_abs, List, [], ◌∷◌, length, map}
+use Rattle.std.specs.Prelude.{Bool, true, false, ◌==◌, ◌≢◌, nat_lt, ℤ, pos, negsuc, neg_ℤ}
+use Rattle.std.specs.Prelude.{unsigned_abs, List, [], ◌∷◌, length, map}
 use Rattle.std.specs.List.{list_all}
 use Rattle.sigsel.specs.declared.sigsel.Sigsel.{Sigsel}
 use Rattle.sigsel.specs.declared.sigsel.Sigsel.TheVariants.{Any, Only, Not}

@@ -1,6 +1,8 @@
-ghost use Rattle.std.specs.Prelude.{◌≡◌, ◌↔◌, ◌≢◌, false, true, IsTrue, IfOk, IfErr, OnErr, map, pos, [], length};
+ghost use Rattle.std.specs.Prelude.{◌≡◌, ◌↔◌, ◌≢◌, false, true, IsTrue, IfOk, IfErr, OnErr, map};
+ghost use Rattle.std.specs.Prelude.{pos, [], length};
 ghost use Rattle.std.specs.List.{list_all};
-ghost use Rattle.sigsel.specs.Spelling.{spelling_of, IsCounted, has_count, is_number, lists_numbers};
+ghost use Rattle.sigsel.specs.Spelling.{spelling_of, IsCounted, has_count, is_number};
+ghost use Rattle.sigsel.specs.Spelling.{lists_numbers};
 ghost use Rattle.sigsel.specs.declared.spelling.SelError.TheVariants.{NoMemory as OutOfMemory};
 
 use crate::sigsel::{Numbers, Sigsel};
@@ -70,9 +72,13 @@ impl Sigsel {
     pub fn of_list(alloc: Global, list: &[i64]) -> Result<Sigsel, SelError>
         ensures ok { IfOk result (λ filter. (list.now ≡ spelling_of filter) × IsCounted filter) }
         ensures bad_count { has_count list.now ≡ false → result ≡ Err SelError.BadCount }
-        ensures bad_count_only { IfErr result (λ e. e ≡ SelError.BadCount → has_count list.now ≡ false) }
-        ensures bad_number { has_count list.now ≡ true → lists_numbers list.now ≡ false → result ≡ Err SelError.BadNumber }
-        ensures bad_number_only { IfErr result (λ e. e ≡ SelError.BadNumber → (has_count list.now ≡ true) × (lists_numbers list.now ≡ false)) }
+        ensures bad_count_only { IfErr result
+            (λ e. e ≡ SelError.BadCount → has_count list.now ≡ false) }
+        ensures bad_number { has_count list.now ≡ true → lists_numbers list.now ≡ false
+            → result ≡ Err SelError.BadNumber }
+        ensures bad_number_only { IfErr result
+            (λ e. e ≡ SelError.BadNumber
+            → (has_count list.now ≡ true) × (lists_numbers list.now ≡ false)) }
     {
         let Some((count, rest)) = list.split_first() else {
             return Err(SelError::BadCount);
