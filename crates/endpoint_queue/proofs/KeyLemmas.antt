@@ -1,10 +1,13 @@
 -- The places of the items that have a key.
-use Rattle.std.proofs.Common.{◌≡◌, ℕ, zero, suc, ◌+◌, ◌<◌, cond, List, [], ◌∷◌, ◌++◌, length, get_or, refl, ap, subst, ◌∙◌, arith, ◌⊎◌, inl, inr}
+use Rattle.std.proofs.Common.{◌≡◌, ℕ, zero, suc, ◌+◌, ◌<◌, cond, List, [], ◌∷◌, ◌++◌, length}
+use Rattle.std.proofs.Common.{get_or, refl, ap, subst, ◌∙◌, arith, ◌⊎◌, inl, inr}
 use Rattle.std.specs.Prelude.{Option, Some, None, is_some}
 use Rattle.std.specs.List.{All, Contains, remove, count_by}
 use Rattle.std.specs.List.Sorted.{IsPermutation}
 use Rattle.std.proofs.lemmas.List.Elements.{All-cons, All-nil, All-tail}
-use Rattle.std.proofs.lemmas.List.Sorted.{IsPermutation-refl, IsPermutation-sym, IsPermutation-trans, IsPermutation-cons, IsPermutation-insert, Contains-permutation}
+use Rattle.std.proofs.lemmas.List.Sorted.{IsPermutation-refl, IsPermutation-sym}
+use Rattle.std.proofs.lemmas.List.Sorted.{IsPermutation-trans, IsPermutation-cons}
+use Rattle.std.proofs.lemmas.List.Sorted.{IsPermutation-insert, Contains-permutation}
 use Rattle.std.proofs.lemmas.List.Sums.{sum_by-cons}
 use Rattle.linx_base.specs.declared.item.Item.{Item}
 use Rattle.endpoint_queue.specs.declared.place.Place.{Place}
@@ -14,7 +17,8 @@ use Rattle.endpoint_queue.specs.Places.{placed, places_by}
 abbrev pub at_ticket : ℕ → ℕ → Place
 at_ticket number ticket = record { number = number; ticket = ticket }
 
-placed-append : (o : Option ℕ) (t : ℕ) (xs ys : List Place) → placed o t (xs ++ ys) ≡ placed o t xs ++ ys
+placed-append : (o : Option ℕ) (t : ℕ) (xs ys : List Place)
+    → placed o t (xs ++ ys) ≡ placed o t xs ++ ys
 placed-append None t xs ys = refl
 placed-append (Some n) t xs ys = refl
 
@@ -29,7 +33,8 @@ placed_swap None p s t xs = IsPermutation-refl (placed p t xs)
 placed_swap (Some n) None s t xs = IsPermutation-refl (at_ticket n s ∷ xs)
 placed_swap (Some n) (Some m) s t xs = IsPermutation-insert (at_ticket m t ∷ xs) 1 (at_ticket n s)
 
-length-placed : (o : Option ℕ) (t : ℕ) (xs : List Place) → length (placed o t xs) ≡ cond (is_some o) 1 0 + length xs
+length-placed : (o : Option ℕ) (t : ℕ) (xs : List Place)
+    → length (placed o t xs) ≡ cond (is_some o) 1 0 + length xs
 length-placed None t xs = omega arith
 length-placed (Some n) t xs = omega arith
 
@@ -47,7 +52,8 @@ placed_or (Some n) t xs p (zero, within, is) =
 placed_or (Some n) t xs p (suc k, within, is) = inr (k, omega arith, is)
 
 -- the item, at its place, that a place comes from
-pub record ComesFrom (key : Item → Option ℕ) (items : List Item) (tickets : List ℕ) (p : Place) : Type 0 where
+pub record ComesFrom (key : Item → Option ℕ) (items : List Item) (tickets : List ℕ)
+    (p : Place) : Type 0 where
   pub at : ℕ
   pub item : Item
   pub within : at < length items
@@ -62,10 +68,16 @@ module _ (key : Item → Option ℕ) where
   length-places_by (item ∷ items) (ticket ∷ tickets) same =
       let rest : length (places_by key items tickets) ≡ count_by (λ i. is_some (key i)) items =
       length-places_by items tickets (omega arith) in
-      omega (arith, length-placed (key item) ticket (places_by key items tickets), sum_by-cons (λ i. cond (is_some (key i)) 1 0) item items)
+      omega (
+        arith,
+        length-placed (key item) ticket (places_by key items tickets),
+        sum_by-cons (λ i. cond (is_some (key i)) 1 0) item items,
+      )
 
-  pub places_by-append : (items : List Item) (tickets : List ℕ) (item : Item) (ticket : ℕ) → length tickets ≡ length items
-      → places_by key (items ++ item ∷ []) (tickets ++ ticket ∷ []) ≡ places_by key items tickets ++ placed (key item) ticket []
+  pub places_by-append : (items : List Item) (tickets : List ℕ) (item : Item) (ticket : ℕ)
+      → length tickets ≡ length items
+      → places_by key (items ++ item ∷ []) (tickets ++ ticket ∷ [])
+      ≡ places_by key items tickets ++ placed (key item) ticket []
   places_by-append [] [] item ticket same = refl
   places_by-append [] (t ∷ tickets) item ticket same = absurd (omega arith)
   places_by-append (i ∷ items) [] item ticket same = absurd (omega arith)
@@ -77,14 +89,16 @@ module _ (key : Item → Option ℕ) where
   pub places_by-remove : (items : List Item) (tickets : List ℕ) (k : ℕ) (i : Item) (t : ℕ)
       → length tickets ≡ length items → k < length items
       → IsPermutation (places_by key items tickets)
-      (placed (key (get_or items k i)) (get_or tickets k t) (places_by key (remove items k) (remove tickets k)))
+      (placed (key (get_or items k i)) (get_or tickets k t)
+      (places_by key (remove items k) (remove tickets k)))
   places_by-remove [] tickets k i t same within = absurd (omega arith)
   places_by-remove (item ∷ items) [] k i t same within = absurd (omega arith)
   places_by-remove (item ∷ items) (ticket ∷ tickets) zero i t same within = IsPermutation-refl _
   places_by-remove (item ∷ items) (ticket ∷ tickets) (suc k) i t same within =
       let others : List Place = places_by key (remove items k) (remove tickets k) in
       IsPermutation-trans _ _ _
-      (placed_cons (key item) ticket _ _ (places_by-remove items tickets k i t (omega arith) (omega arith)))
+      (placed_cons (key item) ticket _ _
+      (places_by-remove items tickets k i t (omega arith) (omega arith)))
       (placed_swap (key item) (key (get_or items k i)) ticket (get_or tickets k t) others)
 
   -- what holds of each ticket holds of the ticket of each place
@@ -93,7 +107,8 @@ module _ (key : Item → Option ℕ) where
   all-places_by P [] tickets all = All-nil (λ p. P p.ticket)
   all-places_by P (item ∷ items) [] all = All-nil (λ p. P p.ticket)
   all-places_by P (item ∷ items) (ticket ∷ tickets) all =
-      all-placed (λ p. P p.ticket) (key item) ticket (places_by key items tickets) (λ n. all 0 ticket (omega arith))
+      all-placed (λ p. P p.ticket) (key item) ticket (places_by key items tickets)
+      (λ n. all 0 ticket (omega arith))
       (all-places_by P items tickets (All-tail P ticket tickets all))
 
   -- an item that has a key has a place
@@ -102,19 +117,23 @@ module _ (key : Item → Option ℕ) where
       → Contains (places_by key items tickets) (at_ticket n (get_or tickets k t))
   stands_in items tickets k i t n same within keyed =
       let others : List Place = places_by key (remove items k) (remove tickets k) in
-      let moved : IsPermutation (places_by key items tickets) (at_ticket n (get_or tickets k t) ∷ others) =
-      subst (λ o. IsPermutation (places_by key items tickets) (placed o (get_or tickets k t) others)) keyed
+      let moved : IsPermutation (places_by key items tickets)
+      (at_ticket n (get_or tickets k t) ∷ others) =
+      subst (λ o. IsPermutation (places_by key items tickets)
+      (placed o (get_or tickets k t) others)) keyed
       (places_by-remove items tickets k i t same within) in
       Contains-permutation _ _ _ (IsPermutation-sym _ _ moved) (0, omega arith, refl)
 
   -- and each place is that of an item
-  pub comes_from : (items : List Item) (tickets : List ℕ) (p : Place) → Contains (places_by key items tickets) p
+  pub comes_from : (items : List Item) (tickets : List ℕ) (p : Place)
+      → Contains (places_by key items tickets) p
       → ComesFrom key items tickets p
   comes_from [] tickets p has = absurd (omega (arith, has.1))
   comes_from (item ∷ items) [] p has = absurd (omega (arith, has.1))
   comes_from (item ∷ items) (ticket ∷ tickets) p has =
       elim (placed_or (key item) ticket (places_by key items tickets) p has) [
-        | inl here ↦ record { at = 0; item = item; within = omega arith; keyed = here.0; ticketed = here.1 }
+        | inl here ↦
+            record { at = 0; item = item; within = omega arith; keyed = here.0; ticketed = here.1 }
         | inr later ↦
             let from : ComesFrom key items tickets p = comes_from items tickets p later in
             record {

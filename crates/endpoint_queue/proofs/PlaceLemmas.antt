@@ -1,5 +1,7 @@
 -- Places in their order, and the least ticket of some of them.
-use Rattle.std.proofs.Common.{◌≡◌, ◌≢◌, ℕ, ◌<◌, ◌≤◌, min, Bool, true, false, ◌||◌, List, [], ◌∷◌, ◌++◌, length, get_or, refl, ap, sym, subst, ◌∙◌, arith, ◌⊎◌, inl, inr, eqb}
+use Rattle.std.proofs.Common.{◌≡◌, ◌≢◌, ℕ, ◌<◌, ◌≤◌, min, Bool, true, false, ◌||◌, List, [], ◌∷◌}
+use Rattle.std.proofs.Common.{◌++◌, length, get_or, refl, ap, sym, subst, ◌∙◌, arith, ◌⊎◌, inl, inr}
+use Rattle.std.proofs.Common.{eqb}
 use Rattle.std.specs.Prelude.{Option, Some, None}
 use Rattle.std.specs.List.{All, AllPairs}
 use Rattle.std.specs.List.Sorted.{IsPartitionPoint, IsPartitionedBy}
@@ -58,10 +60,12 @@ pub record IsTestOf (number : ℕ) (p : ℕ → Bool) : Type 0 where
   pub only : (n : ℕ) → p n ≡ true → n ≡ number
 
 pub test_of : (number : ℕ) → IsTestOf number (λ n. eqb number n)
-test_of number = record { passes = grind (arith, nat_tests); only = λ n h. grind (arith, nat_tests) }
+test_of number =
+    record { passes = grind (arith, nat_tests); only = λ n h. grind (arith, nat_tests) }
 
 pub test_by : (number : ℕ) → IsTestOf number (λ n. eqb n number)
-test_by number = record { passes = grind (arith, nat_tests); only = λ n h. grind (arith, nat_tests) }
+test_by number =
+    record { passes = grind (arith, nat_tests); only = λ n h. grind (arith, nat_tests) }
 
 -- what a place says of each place, where it stands first of its number in an order
 module _ (number : ℕ) (p : ℕ → Bool) (test : IsTestOf number p) (places : List Place)
@@ -79,11 +83,18 @@ module _ (number : ℕ) (p : ℕ → Bool) (test : IsTestOf number p) (places : 
       after_from_test _ _ (between.1 k d le within) in
       elim after [
         | inl b ↦ grind arith
-        | inr same ↦ let n : (get_or places k d).number ≡ number = ap (λ (q : Place). q.number) same in omega arith
+        | inr same ↦
+            let n : (get_or places k d).number ≡ number = ap (λ (q : Place). q.number) same in
+            omega arith
       ]
 
   fails : (n : ℕ) → n ≢ number → p n ≡ false
-  fails n other = elim (true_or_false (p n)) [ inl passes ↦ absurd (other (test.only n passes)) | inr failing ↦ failing ]
+  fails n other =
+      elim (true_or_false (p n)) [
+        | inl passes ↦ absurd (other (test.only n passes))
+        | inr failing ↦
+            failing
+      ]
 
   pub first_ticket_found : (e : Place) → at < length places → (get_or places at e).number ≡ number
       → IsLeastTicket p places (Some (get_or places at e).ticket)
@@ -99,14 +110,16 @@ module _ (number : ℕ) (p : ℕ → Bool) (test : IsTestOf number p) (places : 
               | inr above ↦ elim (up_to at k above) [
                 | inl under ↦
                     let here : get_or places at d ≡ place = get_or_default places at d e within in
-                    let before : IsBefore (get_or places at d) (get_or places k d) = ordered at k d under inside in
+                    let before : IsBefore (get_or places at d) (get_or places k d) =
+                    ordered at k d under inside in
                     let place_before : IsBefore place (get_or places k d) = rw here at before in
                     let number_same : place.number ≡ number = same in
                     grind arith
                 | inr at_k ↦
                     let here : get_or places k d ≡ place =
                     ap (λ n. get_or places n d) (sym at_k) ∙ get_or_default places at d e within in
-                    let t : (get_or places k d).ticket ≡ place.ticket = ap (λ (q : Place). q.ticket) here in
+                    let t : (get_or places k d).ticket ≡ place.ticket =
+                    ap (λ (q : Place). q.ticket) here in
                     omega arith
               ]
             ],
@@ -123,7 +136,8 @@ module _ (number : ℕ) (p : ℕ → Bool) (test : IsTestOf number p) (places : 
         | inr above ↦ elim (up_to at k above) [
           | inl under ↦
               let here : get_or places at d ≡ place = get_or_default places at d e within in
-              let before : IsBefore (get_or places at d) (get_or places k d) = ordered at k d under inside in
+              let before : IsBefore (get_or places at d) (get_or places k d) =
+              ordered at k d under inside in
               let place_before : IsBefore place (get_or places k d) = rw here at before in
               grind arith
           | inr at_k ↦
@@ -142,7 +156,8 @@ listed_more : (listed : List ℕ) (n m : ℕ)
     → is_listed (listed ++ n ∷ []) m ≡ (is_listed listed m || eqb n m)
 listed_more [] n m = grind (arith, nat_tests)
 listed_more (x ∷ listed) n m =
-    let rest : is_listed (listed ++ n ∷ []) m ≡ (is_listed listed m || eqb n m) = listed_more listed n m in
+    let rest : is_listed (listed ++ n ∷ []) m ≡ (is_listed listed m || eqb n m) =
+    listed_more listed n m in
     grind (arith, nat_tests, rest)
 
 lower_cases : (s t : ℕ) → ((min s t ≡ s) × (s ≤ t)) ⊎ ((min s t ≡ t) × (t ≤ s))
@@ -180,14 +195,27 @@ module _ (places : List Place) (p q r : ℕ → Bool) (either : (m : ℕ) → r 
     ],
   )
   least_of_both (Some s) (Some t) was first =
-      let least : All (λ e. r e.number ≡ true → min s t ≤ e.ticket) places = λ k d inside h. elim (passed _ h) [
+      let least : All (λ e. r e.number ≡ true → min s t ≤ e.ticket) places =
+      λ k d inside h. elim (passed _ h) [
         | inl earlier ↦ let le = was.1 k d inside earlier in grind arith
         | inr same ↦ let le = first.1 k d inside same in grind arith
       ]
       in
       elim (lower_cases s t) [
-        | inl low ↦ ((was.0.0, was.0.1, was.0.2, was.0.3, (was.0.4.0 ∙ sym low.0, by_first _ was.0.4.1)), least)
-        | inr low ↦ ((first.0.0, first.0.1, first.0.2, first.0.3, (first.0.4.0 ∙ sym low.0, by_second _ first.0.4.1)), least)
+        | inl low ↦ (
+          (was.0.0, was.0.1, was.0.2, was.0.3, (was.0.4.0 ∙ sym low.0, by_first _ was.0.4.1)),
+          least,
+        )
+        | inr low ↦ (
+          (
+            first.0.0,
+            first.0.1,
+            first.0.2,
+            first.0.3,
+            (first.0.4.0 ∙ sym low.0, by_second _ first.0.4.1),
+          ),
+          least,
+        )
       ]
 
 module _ (places : List Place) where
@@ -195,7 +223,8 @@ module _ (places : List Place) where
       → IsLeastTicket (is_listed listed) places one → IsLeastTicket (λ m. eqb n m) places other
       → IsLeastTicket (is_listed (listed ++ n ∷ [])) places (lower_of one other)
   least_ticket_more listed n one other was first =
-      least_of_both places (is_listed listed) (λ m. eqb n m) (is_listed (listed ++ n ∷ [])) (listed_more listed n) one other was first
+      least_of_both places (is_listed listed) (λ m. eqb n m) (is_listed (listed ++ n ∷ []))
+      (listed_more listed n) one other was first
 
   pub least_ticket_none : IsLeastTicket (is_listed []) places None
   least_ticket_none k d inside = refl

@@ -1,5 +1,7 @@
 -- What a queue keeps when an item is put, and when one is taken; and where an item is found.
-use Rattle.std.proofs.Common.{◌≡◌, ℕ, zero, suc, ◌+◌, ◌<◌, ◌≤◌, Bool, true, false, cond, List, [], ◌∷◌, ◌++◌, length, get_or, take, refl, ap, sym, subst, ◌∙◌, arith, inl, inr, length-append, append-nil, add-one}
+use Rattle.std.proofs.Common.{◌≡◌, ℕ, zero, suc, ◌+◌, ◌<◌, ◌≤◌, Bool, true, false, cond, List, []}
+use Rattle.std.proofs.Common.{◌∷◌, ◌++◌, length, get_or, take, refl, ap, sym, subst, ◌∙◌, arith}
+use Rattle.std.proofs.Common.{inl, inr, length-append, append-nil, add-one}
 use Rattle.std.specs.Prelude.{Option, Some, None, Result, Ok, Err, is_some, ◌==◌}
 use Rattle.std.specs.List.{All, AllPairs, Contains, remove, count_by, position, range_with_len}
 use Rattle.std.specs.List.Sorted.{IsPermutation, IsBinarySearchResult}
@@ -8,7 +10,10 @@ use Rattle.std.specs.Result.{result_ok}
 use Rattle.std.proofs.lemmas.List.Edits.{length-remove, get_or-remove_below, get_or-remove_above}
 use Rattle.std.proofs.lemmas.List.Quantifiers.{all_pairs_push, all_pairs_remove}
 use Rattle.std.proofs.lemmas.List.Elements.{All-push, All-contains}
-use Rattle.std.proofs.lemmas.List.Sorted.{IsPermutation-sym, IsPermutation-trans, IsPermutation-cons, IsPermutation-to_front, All-permutation, Contains-permutation, length_permutation, searched}
+use Rattle.std.proofs.lemmas.List.Sorted.{IsPermutation-sym, IsPermutation-trans}
+use Rattle.std.proofs.lemmas.List.Sorted.{IsPermutation-cons, IsPermutation-to_front}
+use Rattle.std.proofs.lemmas.List.Sorted.{All-permutation, Contains-permutation, length_permutation}
+use Rattle.std.proofs.lemmas.List.Sorted.{searched}
 use Rattle.std.proofs.lemmas.List.Sums.{sum_by-cons, sum_by-take-le}
 use Rattle.linx_base.specs.declared.item.Item.{Item}
 use Rattle.linx_base.specs.declared.item.Kind.{Kind}
@@ -17,15 +22,19 @@ use Rattle.linx_base.specs.declared.identity.AttRef.{AttRef}
 use Rattle.linx_base.proofs.FirstMatches.{position_at, position_none}
 use Rattle.endpoint_queue.specs.declared.place.Place.{Place}
 use Rattle.sigsel.specs.Selection.{notifies, is_notice_of}
-use Rattle.endpoint_queue.specs.Places.{number_key, attach_of, notice_key, count_notices, placed, places_by, IsBefore, IsIndex, IsIndexed, IsLeastTicket}
+use Rattle.endpoint_queue.specs.Places.{number_key, attach_of, notice_key, count_notices, placed}
+use Rattle.endpoint_queue.specs.Places.{places_by, IsBefore, IsIndex, IsIndexed, IsLeastTicket}
 use Rattle.endpoint_queue.specs.IndexContent.{IndexContent}
 use Rattle.endpoint_queue.specs.IndexChanges.{CanTake, AddsKey, TakesOutKey, HasKey}
 use Rattle.endpoint_queue.proofs.PlaceLemmas.{up_to, below_or, true_or_false}
 use Rattle.endpoint_queue.proofs.IndexLemmas.{permutation_without}
-use Rattle.endpoint_queue.proofs.KeyLemmas.{ComesFrom, at_ticket, length-places_by, places_by-append, places_by-remove, all-places_by, stands_in, comes_from}
+use Rattle.endpoint_queue.proofs.KeyLemmas.{ComesFrom, at_ticket, length-places_by}
+use Rattle.endpoint_queue.proofs.KeyLemmas.{places_by-append, places_by-remove, all-places_by}
+use Rattle.endpoint_queue.proofs.KeyLemmas.{stands_in, comes_from}
 
 -- a fact of each element is one of those that a remove leaves
-All-remove : {X : Type 0} (P : X → Type 0) (xs : List X) (n : ℕ) → n < length xs → All P xs → All P (remove xs n)
+All-remove : {X : Type 0} (P : X → Type 0) (xs : List X) (n : ℕ) → n < length xs → All P xs
+    → All P (remove xs n)
 All-remove P xs n within all k d inside =
     let len : length (remove xs n) + 1 ≡ length xs = length-remove xs n within in
     elim (below_or k n) [
@@ -34,22 +43,28 @@ All-remove P xs n within all k d inside =
     ]
 
 -- an index of the items that have a key
-module _ (key : Item → Option ℕ) (items : List Item) (tickets : List ℕ) (paired : length tickets ≡ length items)
+module _ (key : Item → Option ℕ) (items : List Item) (tickets : List ℕ)
+    (paired : length tickets ≡ length items)
     (old new : IndexContent Place) (index : IsIndex key items tickets old.places) where
   pub length-index : length old.places ≡ count_by (λ item. is_some (key item)) items
-  length-index = length_permutation (places_by key items tickets) old.places index.whole ∙ length-places_by key items tickets paired
+  length-index =
+      length_permutation (places_by key items tickets) old.places index.whole
+      ∙ length-places_by key items tickets paired
 
   pub index_can_take : (next : ℕ) → All (λ t. t < next) tickets → 0 < old.room → CanTake old next
   index_can_take next below room = record {
     ordered = index.ordered;
-    below = All-permutation (λ p. p.ticket < next) _ _ index.whole (all-places_by key (λ t. t < next) items tickets below);
+    below = All-permutation (λ p. p.ticket < next) _ _ index.whole
+        (all-places_by key (λ t. t < next) items tickets below);
     room = room;
   }
 
-  added : (o : Option ℕ) (next : ℕ) (before : List Place) → IsPermutation before old.places → AddsKey o next old new
+  added : (o : Option ℕ) (next : ℕ) (before : List Place) → IsPermutation before old.places
+      → AddsKey o next old new
       → IsPermutation (before ++ placed o next []) new.places × AllPairs IsBefore new.places
   added None next before whole same =
-      let P : IndexContent Place → Type 0 = λ i. IsPermutation (before ++ []) i.places × AllPairs IsBefore i.places in
+      let P : IndexContent Place → Type 0 =
+      λ i. IsPermutation (before ++ []) i.places × AllPairs IsBefore i.places in
       subst P (sym same) (rw (append-nil before) whole, index.ordered)
   added (Some n) next before whole adds =
       let place : Place = at_ticket n next in (
@@ -62,17 +77,26 @@ module _ (key : Item → Option ℕ) (items : List Item) (tickets : List ℕ) (p
       → IsIndex key (items ++ item ∷ []) (tickets ++ next ∷ []) new.places
   index_put item next adds =
       let both = added (key item) next (places_by key items tickets) index.whole adds in
-      record { whole = rw (places_by-append key items tickets item next paired) both.0; ordered = both.1 }
+      record {
+        whole = rw (places_by-append key items tickets item next paired) both.0;
+        ordered = both.1;
+      }
 
-  taken_out : (o : Option ℕ) (ticket : ℕ) (before after : List Place) → IsPermutation before old.places
+  taken_out : (o : Option ℕ) (ticket : ℕ) (before after : List Place)
+      → IsPermutation before old.places
       → IsPermutation before (placed o ticket after) → TakesOutKey o ticket old new
       → IsPermutation after new.places × AllPairs IsBefore new.places
   taken_out None ticket before after whole moved same =
-      let P : IndexContent Place → Type 0 = λ i. IsPermutation after i.places × AllPairs IsBefore i.places in
-      subst P (sym same) (IsPermutation-trans _ _ _ (IsPermutation-sym _ _ moved) whole, index.ordered)
+      let P : IndexContent Place → Type 0 =
+      λ i. IsPermutation after i.places × AllPairs IsBefore i.places in
+      subst P (sym same) (
+        IsPermutation-trans _ _ _ (IsPermutation-sym _ _ moved) whole,
+        index.ordered,
+      )
   taken_out (Some n) ticket before after whole moved takes = (
     permutation_without (at_ticket n ticket) after new.places
-        (IsPermutation-trans _ _ _ (IsPermutation-sym _ _ moved) (IsPermutation-trans _ _ _ whole takes.places)),
+        (IsPermutation-trans _ _ _ (IsPermutation-sym _ _ moved)
+        (IsPermutation-trans _ _ _ whole takes.places)),
     takes.ordered,
   )
 
@@ -88,17 +112,23 @@ module _ (key : Item → Option ℕ) (items : List Item) (tickets : List ℕ) (p
           ordered = index.ordered;
           there = Contains-permutation _ _ (at_ticket n ticket) index.whole
               (subst (λ t. Contains (places_by key items tickets) (at_ticket n t)) (sym ticket_is)
-              (stands_in key items tickets k item ticket n paired within (ap key (sym item_is) ∙ keyed)));
+              (stands_in key items tickets k item ticket n paired within
+              (ap key (sym item_is) ∙ keyed)));
         }
 
-    pub index_take : TakesOutKey (key item) ticket old new → IsIndex key (remove items k) (remove tickets k) new.places
+    pub index_take : TakesOutKey (key item) ticket old new
+        → IsIndex key (remove items k) (remove tickets k) new.places
     index_take takes =
         let after : List Place = places_by key (remove items k) (remove tickets k) in
         let moved : IsPermutation (places_by key items tickets) (placed (key item) ticket after) =
-        subst (λ i. IsPermutation (places_by key items tickets) (placed (key i) ticket after)) (sym item_is)
-        (subst (λ t. IsPermutation (places_by key items tickets) (placed (key (get_or items k item)) t after)) (sym ticket_is)
+        subst (λ i. IsPermutation (places_by key items tickets) (placed (key i) ticket after))
+        (sym item_is)
+        (subst (λ t. IsPermutation (places_by key items tickets)
+        (placed (key (get_or items k item)) t after)) (sym ticket_is)
         (places_by-remove key items tickets k item ticket paired within)) in
-        let both = taken_out (key item) ticket (places_by key items tickets) after index.whole moved takes in
+        let both =
+        taken_out (key item) ticket (places_by key items tickets) after index.whole moved
+        takes in
         record { whole = both.0; ordered = both.1 }
 
 -- among the first items are no more notices than among all
@@ -106,20 +136,28 @@ pub few_notices : (items : List Item) (n : ℕ) → count_notices (take n items)
 few_notices items n = sum_by-take-le (λ item. cond (is_some (notice_key item)) 1 0) items n
 
 -- a place takes up room
-pub total_kept : (o : Option ℕ) (ticket : ℕ) (old new : IndexContent Place) → AddsKey o ticket old new
+pub total_kept : (o : Option ℕ) (ticket : ℕ) (old new : IndexContent Place)
+    → AddsKey o ticket old new
     → length new.places + new.room ≡ length old.places + old.room
 total_kept None ticket old new same = ap (λ (i : IndexContent Place). length i.places + i.room) same
 total_kept (Some n) ticket old new adds =
-    omega (arith, adds.room, length_permutation (at_ticket n ticket ∷ old.places) new.places adds.places)
+    omega (
+      arith,
+      adds.room,
+      length_permutation (at_ticket n ticket ∷ old.places) new.places
+          adds.places,
+    )
 
 -- a place that is taken out leaves the room
-pub room_left : (o : Option ℕ) (ticket : ℕ) (old new : IndexContent Place) → TakesOutKey o ticket old new
+pub room_left : (o : Option ℕ) (ticket : ℕ) (old new : IndexContent Place)
+    → TakesOutKey o ticket old new
     → old.room ≤ new.room
 room_left None ticket old new same = rw same (omega arith)
 room_left (Some n) ticket old new takes = takes.room
 
 -- an item that is added takes at most one place
-pub room_taken : (o : Option ℕ) (ticket : ℕ) (old new : IndexContent Place) → AddsKey o ticket old new
+pub room_taken : (o : Option ℕ) (ticket : ℕ) (old new : IndexContent Place)
+    → AddsKey o ticket old new
     → old.room ≤ new.room + 1
 room_taken None ticket old new same = rw same (omega arith)
 room_taken (Some n) ticket old new adds = omega (arith, adds.room)
@@ -128,53 +166,91 @@ room_taken (Some n) ticket old new adds = omega (arith, adds.room)
 module _ {items : List Item} {tickets : List ℕ} (numbers notices : IndexContent Place) {next : ℕ}
     (kept : IsIndexed items tickets numbers.places notices.places next) where
   pub length-numbers : length numbers.places ≡ length items
-  length-numbers = length-index number_key items tickets kept.paired numbers numbers kept.by_number ∙ all_count items
+  length-numbers =
+      length-index number_key items tickets kept.paired numbers numbers kept.by_number
+      ∙ all_count items
     where
       all_count : (xs : List Item) → count_by (λ item. is_some (number_key item)) xs ≡ length xs
       all_count [] = refl
-      all_count (x ∷ xs) = omega (arith, all_count xs, sum_by-cons (λ i. cond (is_some (number_key i)) 1 0) x xs)
+      all_count (x ∷ xs) =
+          omega (arith, all_count xs, sum_by-cons (λ i. cond (is_some (number_key i)) 1 0) x xs)
 
   pub length-notices : length notices.places ≡ count_notices items
   length-notices = length-index notice_key items tickets kept.paired notices notices kept.by_attach
 
   pub numbers_can_take : 0 < numbers.room → CanTake numbers next
-  numbers_can_take room = index_can_take number_key items tickets kept.paired numbers numbers kept.by_number next kept.numbered.1 room
+  numbers_can_take room =
+      index_can_take number_key items tickets kept.paired numbers numbers kept.by_number next
+      kept.numbered.1 room
 
   pub notices_can_take : 0 < notices.room → CanTake notices next
-  notices_can_take room = index_can_take notice_key items tickets kept.paired notices notices kept.by_attach next kept.numbered.1 room
+  notices_can_take room =
+      index_can_take notice_key items tickets kept.paired notices notices kept.by_attach next
+      kept.numbered.1 room
 
-  pub put_kept : (item : Item) (numbers' notices' : IndexContent Place) {items' : List Item} {tickets' : List ℕ}
-      → AddsKey (number_key item) next numbers numbers' → AddsKey (notice_key item) next notices notices'
+  pub put_kept : (item : Item) (numbers' notices' : IndexContent Place) {items' : List Item}
+      {tickets' : List ℕ}
+      → AddsKey (number_key item) next numbers numbers'
+      → AddsKey (notice_key item) next notices notices'
       → items' ≡ items ++ item ∷ [] → tickets' ≡ tickets ++ next ∷ []
       → IsIndexed items' tickets' numbers'.places notices'.places (next + 1)
-  put_kept item numbers' notices' number notice items_is tickets_is = rw (items_is, tickets_is) (record {
-    paired = omega (arith, kept.paired, length-append items (item ∷ []), length-append tickets (next ∷ []));
-    numbered = (
-      all_pairs_push (λ s t. s < t) tickets next kept.numbered.0 (λ k d inside. kept.numbered.1 k d inside),
-      All-push (λ t. t < next + 1) tickets next (λ k d inside. let below = kept.numbered.1 k d inside in omega arith) (omega arith),
-    );
-    by_number = index_put number_key items tickets kept.paired numbers numbers' kept.by_number item next number;
-    by_attach = index_put notice_key items tickets kept.paired notices notices' kept.by_attach item next notice;
-  })
+  put_kept item numbers' notices' number notice items_is tickets_is =
+      rw (items_is, tickets_is) (record {
+        paired = omega (
+          arith,
+          kept.paired,
+          length-append items (item ∷ []),
+          length-append tickets (next ∷ []),
+        );
+        numbered = (
+          all_pairs_push (λ s t. s < t) tickets next kept.numbered.0
+              (λ k d inside. kept.numbered.1 k d inside),
+          All-push (λ t. t < next + 1) tickets next
+              (λ k d inside. let below = kept.numbered.1 k d inside in omega arith) (omega arith),
+        );
+        by_number =
+            index_put number_key items tickets kept.paired numbers numbers' kept.by_number item next
+            number;
+        by_attach =
+            index_put notice_key items tickets kept.paired notices notices' kept.by_attach item next
+            notice;
+      })
 
   module _ (k : ℕ) (item : Item) (ticket : ℕ) (within : k < length items)
       (item_is : item ≡ get_or items k item) (ticket_is : ticket ≡ get_or tickets k ticket) where
     pub numbers_have : HasKey (number_key item) ticket numbers
-    numbers_have = index_has number_key items tickets kept.paired numbers numbers kept.by_number k item ticket within item_is ticket_is
+    numbers_have =
+        index_has number_key items tickets kept.paired numbers numbers kept.by_number k item ticket
+        within item_is ticket_is
 
     pub notices_have : HasKey (notice_key item) ticket notices
-    notices_have = index_has notice_key items tickets kept.paired notices notices kept.by_attach k item ticket within item_is ticket_is
+    notices_have =
+        index_has notice_key items tickets kept.paired notices notices kept.by_attach k item ticket
+        within item_is ticket_is
 
     pub take_kept : (numbers' notices' : IndexContent Place)
-        → TakesOutKey (number_key item) ticket numbers numbers' → TakesOutKey (notice_key item) ticket notices notices'
+        → TakesOutKey (number_key item) ticket numbers numbers'
+        → TakesOutKey (notice_key item) ticket notices notices'
         → IsIndexed (remove items k) (remove tickets k) numbers'.places notices'.places next
     take_kept numbers' notices' number notice =
         let ticketed : k < length tickets = omega (arith, kept.paired) in
         record {
-          paired = omega (arith, kept.paired, length-remove items k within, length-remove tickets k ticketed);
-          numbered = (all_pairs_remove (λ s t. s < t) tickets k ticketed kept.numbered.0, All-remove (λ t. t < next) tickets k ticketed kept.numbered.1);
-          by_number = index_take number_key items tickets kept.paired numbers numbers' kept.by_number k item ticket within item_is ticket_is number;
-          by_attach = index_take notice_key items tickets kept.paired notices notices' kept.by_attach k item ticket within item_is ticket_is notice;
+          paired = omega (
+            arith,
+            kept.paired,
+            length-remove items k within,
+            length-remove tickets k ticketed,
+          );
+          numbered = (
+            all_pairs_remove (λ s t. s < t) tickets k ticketed kept.numbered.0,
+            All-remove (λ t. t < next) tickets k ticketed kept.numbered.1,
+          );
+          by_number =
+              index_take number_key items tickets kept.paired numbers numbers' kept.by_number k item
+              ticket within item_is ticket_is number;
+          by_attach =
+              index_take notice_key items tickets kept.paired notices notices' kept.by_attach k item
+              ticket within item_is ticket_is notice;
         }
 
 -- a test of an item by its key, if it has one
@@ -183,50 +259,65 @@ key_passes p None = false
 key_passes p (Some n) = p n
 
 -- a number that passes is the number of a key
-key_of_passing : (p : ℕ → Bool) (o : Option ℕ) → key_passes p o ≡ true → (n : ℕ) × (o ≡ Some n) × (p n ≡ true)
+key_of_passing : (p : ℕ → Bool) (o : Option ℕ) → key_passes p o ≡ true
+    → (n : ℕ) × (o ≡ Some n) × (p n ≡ true)
 key_of_passing p None passes = let wrong : false ≡ true = passes in cc
 key_of_passing p (Some n) passes = (n, refl, passes)
 
 -- the position of the first item whose key passes is where the least ticket of those keys stands
-module _ (key : Item → Option ℕ) (p : ℕ → Bool) (test : Item → Bool) (alike : (item : Item) → test item ≡ key_passes p (key item))
-    (items : List Item) (tickets : List ℕ) (paired : length tickets ≡ length items) (rises : AllPairs (λ s t. s < t) tickets)
+module _ (key : Item → Option ℕ) (p : ℕ → Bool) (test : Item → Bool)
+    (alike : (item : Item) → test item ≡ key_passes p (key item))
+    (items : List Item) (tickets : List ℕ) (paired : length tickets ≡ length items)
+    (rises : AllPairs (λ s t. s < t) tickets)
     (index : List Place) (kept : IsIndex key items tickets index) where
   rising : (i j : ℕ) → i ≤ j → j < length tickets → get_or tickets i 0 ≤ get_or tickets j 0
   rising i j le within = elim (up_to i j le) [
     | inl under ↦ let less = rises i j 0 under within in omega arith
-    | inr same ↦ let equal : get_or tickets i 0 ≡ get_or tickets j 0 = ap (λ n. get_or tickets n 0) same in omega arith
+    | inr same ↦
+        let equal : get_or tickets i 0 ≡ get_or tickets j 0 = ap (λ n. get_or tickets n 0) same in
+        omega arith
   ]
 
   -- the place of an item that passes
   place_of_passing : (k : ℕ) (d : Item) → k < length items → test (get_or items k d) ≡ true
       → (n : ℕ) × (p n ≡ true) × Contains index (at_ticket n (get_or tickets k 0))
   place_of_passing k d within passes =
-      let keyed = key_of_passing p (key (get_or items k d)) (sym (alike (get_or items k d)) ∙ passes) in
-      (keyed.0, keyed.2, Contains-permutation _ _ _ kept.whole (stands_in key items tickets k d 0 keyed.0 paired within keyed.1))
+      let keyed =
+      key_of_passing p (key (get_or items k d)) (sym (alike (get_or items k d)) ∙ passes) in (
+        keyed.0,
+        keyed.2,
+        Contains-permutation _ _ _ kept.whole
+            (stands_in key items tickets k d 0 keyed.0 paired within keyed.1),
+      )
 
   pub position_missing : IsLeastTicket p index None → position test items ≡ None
-  position_missing none = position_none test items (λ k d within. elim (true_or_false (test (get_or items k d))) [
-    | inl passes ↦
-        let place = place_of_passing k d within passes in
-        let fails : p place.0 ≡ false = All-contains (λ q. p q.number ≡ false) index _ none place.2 in
-        let passing : p place.0 ≡ true = place.1 in
-        cc
-    | inr failing ↦ failing
-  ])
+  position_missing none =
+      position_none test items (λ k d within. elim (true_or_false (test (get_or items k d))) [
+        | inl passes ↦
+            let place = place_of_passing k d within passes in
+            let fails : p place.0 ≡ false =
+            All-contains (λ q. p q.number ≡ false) index _ none place.2 in
+            let passing : p place.0 ≡ true = place.1 in
+            cc
+        | inr failing ↦ failing
+      ])
 
   -- the item that has the least ticket
   least_stands : (ticket : ℕ) → IsLeastTicket p index (Some ticket)
-      → (k : ℕ) × (item : Item) × (k < length items) × (get_or tickets k 0 ≡ ticket) × (test (get_or items k item) ≡ true)
+      → (k : ℕ) × (item : Item) × (k < length items) × (get_or tickets k 0 ≡ ticket)
+      × (test (get_or items k item) ≡ true)
   least_stands ticket least =
       let x : Place = least.0.1 in
       let has : Contains (places_by key items tickets) x =
-      Contains-permutation index _ x (IsPermutation-sym _ _ kept.whole) (least.0.0, least.0.2, least.0.3) in
+      Contains-permutation index _ x (IsPermutation-sym _ _ kept.whole)
+      (least.0.0, least.0.2, least.0.3) in
       let from : ComesFrom key items tickets x = comes_from key items tickets x has in
       let passes : key_passes p (Some x.number) ≡ true = least.0.4.1 in
       (from.at, from.item, from.within, from.ticketed ∙ least.0.4.0, alike _ ∙ rw from.keyed passes)
 
   -- and no item that passes has a lower one
-  none_lower : (ticket : ℕ) → IsLeastTicket p index (Some ticket) → (k : ℕ) (item : Item) → k < length items
+  none_lower : (ticket : ℕ) → IsLeastTicket p index (Some ticket) → (k : ℕ) (item : Item)
+      → k < length items
       → test (get_or items k item) ≡ true → ticket ≤ get_or tickets k 0
   none_lower ticket least k item within passes =
       let place = place_of_passing k item within passes in
@@ -240,7 +331,9 @@ module _ (key : Item → Option ℕ) (p : ℕ → Bool) (test : Item → Bool) (
       let same : stands.0 ≡ at = elim (below_or stands.0 at) [
         | inl low ↦ let less = rises stands.0 at 0 low within in absurd (omega (arith, stands.3))
         | inr high ↦ elim (up_to at stands.0 high) [
-          | inl over ↦ let less = rises at stands.0 0 over (omega (arith, stands.2)) in absurd (omega (arith, stands.3))
+          | inl over ↦
+              let less = rises at stands.0 0 over (omega (arith, stands.2)) in
+              absurd (omega (arith, stands.3))
           | inr equal ↦ sym equal
         ]
       ]
@@ -249,14 +342,16 @@ module _ (key : Item → Option ℕ) (p : ℕ → Bool) (test : Item → Bool) (
       position_at test items at item (omega arith) (subst P same stands.4) (λ j low.
       elim (true_or_false (test (get_or items j item))) [
         | inl passes ↦
-            let le : ticket ≤ get_or tickets j 0 = none_lower ticket least j item (omega arith) passes in
+            let le : ticket ≤ get_or tickets j 0 =
+            none_lower ticket least j item (omega arith) passes in
             let less : get_or tickets j 0 < get_or tickets at 0 = rises j at 0 low within in
             absurd (omega arith)
         | inr failing ↦ failing
       ])
 
   pub position_found : (ticket : ℕ) (found : Result ℕ ℕ) → IsLeastTicket p index (Some ticket)
-      → IsBinarySearchResult (λ t. nat_cmp t ticket) tickets found → position test items ≡ result_ok found
+      → IsBinarySearchResult (λ t. nat_cmp t ticket) tickets found
+      → position test items ≡ result_ok found
   position_found ticket (Ok at) least says =
       let at_is = searched tickets ticket (Ok at) says rising in
       position_of_least ticket at least at_is.0 at_is.1
@@ -265,11 +360,14 @@ module _ (key : Item → Option ℕ) (p : ℕ → Bool) (test : Item → Bool) (
       let stands = least_stands ticket least in
       elim (below_or stands.0 at) [
         | inl low ↦ let less = between.1 stands.0 low in absurd (omega (arith, stands.3))
-        | inr high ↦ let less = between.2 stands.0 high (omega (arith, stands.2)) in absurd (omega (arith, stands.3))
+        | inr high ↦
+            let less = between.2 stands.0 high (omega (arith, stands.2)) in
+            absurd (omega (arith, stands.3))
       ]
 
 -- a notice is found by its attach
-pub notice_alike : (r : AttRef) (item : Item) → is_notice_of r item ≡ key_passes (λ n. n == r.0) (notice_key item)
+pub notice_alike : (r : AttRef) (item : Item)
+    → is_notice_of r item ≡ key_passes (λ n. n == r.0) (notice_key item)
 notice_alike r item = by_kind item.kind
   where
     by_kind : (kind : Kind) → notifies r kind ≡ key_passes (λ n. n == r.0) (attach_of kind)

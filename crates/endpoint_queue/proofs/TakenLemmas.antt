@@ -1,10 +1,14 @@
 -- What is taken at the position of the first item that passes a test.
-use Rattle.std.proofs.Common.{◌≡◌, ℕ, ◌<◌, Bool, false, List, [], ◌∷◌, length, get_or, ap, sym, subst, ◌∙◌, arith, refl}
+use Rattle.std.proofs.Common.{◌≡◌, ℕ, ◌<◌, Bool, false, List, [], ◌∷◌, length, get_or, ap, sym}
+use Rattle.std.proofs.Common.{subst, ◌∙◌, arith, refl}
 use Rattle.std.specs.Prelude.{Some, None}
 use Rattle.std.specs.List.{All, remove, position}
 use Rattle.linx_base.specs.FirstMatch.{TakesEarliest, first_match, without_match, without_beside}
 use Rattle.linx_base.specs.declared.item.Item.{Item}
-use Rattle.linx_base.proofs.FirstMatches.{earliest_first_match, position_at, none_from_position, first_match-position, without_match-position, without_beside-position, first_match-no_place, without_match-no_place, without_beside_none}
+use Rattle.linx_base.proofs.FirstMatches.{earliest_first_match, position_at, none_from_position}
+use Rattle.linx_base.proofs.FirstMatches.{first_match-position, without_match-position}
+use Rattle.linx_base.proofs.FirstMatches.{without_beside-position, first_match-no_place}
+use Rattle.linx_base.proofs.FirstMatches.{without_match-no_place, without_beside_none}
 use Rattle.sigsel.specs.Selection.{is_selected}
 use Rattle.sigsel.specs.declared.sigsel.Sigsel.{Sigsel}
 use Rattle.sigsel.specs.declared.sigsel.Sigsel.TheVariants.{Any}
@@ -12,10 +16,12 @@ use Rattle.sigsel.specs.declared.sigsel.Sigsel.TheVariants.{Any}
 module _ (p : Item → Bool) (items : List Item) (at : ℕ) (found : Some at ≡ position p items) where
   pub taken_item : (item : Item) → item ≡ get_or items at item → Some item ≡ first_match p items
   taken_item item is =
-      let first : first_match p items ≡ Some (get_or items at item) = first_match-position p items at item (sym found) in
+      let first : first_match p items ≡ Some (get_or items at item) =
+      first_match-position p items at item (sym found) in
       ap (λ i. Some i) is ∙ sym first
 
-  pub taken_others : (item : Item) (left : List Item) → left ≡ remove items at → left ≡ without_match p items
+  pub taken_others : (item : Item) (left : List Item) → left ≡ remove items at
+      → left ≡ without_match p items
   taken_others item left is = is ∙ sym (without_match-position p items at item (sym found))
 
   pub taken_tickets : (item : Item) (tickets left : List ℕ) → length tickets ≡ length items
@@ -48,4 +54,5 @@ pub position_any : (sel : Sigsel) (items : List Item) → sel ≡ Any → 0 < le
 position_any sel [] is more = absurd (omega arith)
 position_any sel (item ∷ items) is more =
     let P : Sigsel → Type 0 = λ s. position (is_selected s) (item ∷ items) ≡ Some 0 in
-    subst P (sym is) (position_at (is_selected Any) (item ∷ items) 0 item more refl (λ j low. absurd (omega arith)))
+    subst P (sym is) (position_at (is_selected Any) (item ∷ items) 0 item more refl
+    (λ j low. absurd (omega arith)))

@@ -31,7 +31,8 @@ AddsKey (Some number) ticket old new = Adds (record { number = number; ticket = 
 
 abbrev pub TakesOutKey : Option ℕ → ℕ → IndexContent Place → IndexContent Place → Type 0
 TakesOutKey None ticket old new = new ≡ old
-TakesOutKey (Some number) ticket old new = TakesOut (record { number = number; ticket = ticket }) old new
+TakesOutKey (Some number) ticket old new =
+    TakesOut (record { number = number; ticket = ticket }) old new
 
 -- an index is in order, and has the place of a key, if there is one
 pub record Has (place : Place) (index : IndexContent Place) : Type 0 where

@@ -1,4 +1,5 @@
-use Rattle.std.specs.Prelude.{◌≡◌, ℕ, ◌<◌, ◌≤◌, ◌⊎◌, Bool, true, false, ◌&&◌, ◌||◌, ◌==◌, nat_lt, min, List, [], ◌∷◌, length, Option, Some, None, is_some, count_by}
+use Rattle.std.specs.Prelude.{◌≡◌, ℕ, ◌<◌, ◌≤◌, ◌⊎◌, Bool, true, false, ◌&&◌, ◌||◌, ◌==◌, nat_lt}
+use Rattle.std.specs.Prelude.{min, List, [], ◌∷◌, length, Option, Some, None, is_some, count_by}
 use Rattle.std.specs.List.{All, AllPairs, Any, list_any}
 use Rattle.std.specs.List.Sorted.{IsPermutation}
 use Rattle.linx_base.specs.declared.item.Item.{Item}
@@ -32,7 +33,8 @@ placed (Some number) ticket places = record { number = number; ticket = ticket }
 abbrev pub places_by : (Item → Option ℕ) → List Item → List ℕ → List Place
 places_by key [] tickets = []
 places_by key (item ∷ items) [] = []
-places_by key (item ∷ items) (ticket ∷ tickets) = placed (key item) ticket (places_by key items tickets)
+places_by key (item ∷ items) (ticket ∷ tickets) =
+    placed (key item) ticket (places_by key items tickets)
 
 -- the place of each item: its signal's number, and the ticket beside it
 abbrev pub places_of : List Item → List ℕ → List Place
@@ -51,13 +53,15 @@ abbrev pub AreTickets : List ℕ → ℕ → Type 0
 AreTickets tickets next = AllPairs (λ s t. s < t) tickets × All (λ t. t < next) tickets
 
 -- an index has the places of the items that have a key, in order
-pub record IsIndex (key : Item → Option ℕ) (items : List Item) (tickets : List ℕ) (index : List Place) : Type 0 where
+pub record IsIndex (key : Item → Option ℕ) (items : List Item) (tickets : List ℕ)
+    (index : List Place) : Type 0 where
   pub whole : IsPermutation (places_by key items tickets) index
   pub ordered : AllPairs IsBefore index
 
 -- what a queue keeps: a ticket for each item, an index of all items by number, and one of the
 -- notices by attach
-pub record IsIndexed (items : List Item) (tickets : List ℕ) (numbers notices : List Place) (next : ℕ) : Type 0 where
+pub record IsIndexed (items : List Item) (tickets : List ℕ) (numbers notices : List Place)
+    (next : ℕ) : Type 0 where
   pub paired : length tickets ≡ length items
   pub numbered : AreTickets tickets next
   pub by_number : IsIndex number_key items tickets numbers

@@ -1,4 +1,5 @@
-ghost use Rattle.std.specs.Prelude.{◌≡◌, ◌+◌, ◌≤◌, ◌<◌, [], insert, length, vec_len, vec_capacity, OnOk};
+ghost use Rattle.std.specs.Prelude.{◌≡◌, ◌+◌, ◌≤◌, ◌<◌, [], insert, length, vec_len, vec_capacity};
+ghost use Rattle.std.specs.Prelude.{OnOk};
 ghost use Rattle.std.specs.List.{remove};
 
 use std::alloc::{AllocError, Global};
@@ -18,7 +19,10 @@ impl<P> Model for Index<P> {
 
     ghost Value = { IndexContent P };
 
-    ghost view = { λ i. record { places = drop i.gone i.slots.items; room = vec_capacity i.slots - vec_len i.slots } };
+    ghost view = { λ i. record {
+      places = drop i.gone i.slots.items;
+      room = vec_capacity i.slots - vec_len i.slots;
+    } };
 
     ghost invariant = { λ i. i.gone ≤ vec_len i.slots };
 }

@@ -31,8 +31,10 @@ impl Indexes {
     pub(crate) fn clear(&mut self)
         ensures numbers { self.new.numbers.places ≡ [] }
         ensures notices { self.new.notices.places ≡ [] }
-        ensures numbers_room { length self.old.numbers.places + self.old.numbers.room ≤ self.new.numbers.room }
-        ensures notices_room { length self.old.notices.places + self.old.notices.room ≤ self.new.notices.room }
+        ensures numbers_room { length self.old.numbers.places + self.old.numbers.room
+            ≤ self.new.numbers.room }
+        ensures notices_room { length self.old.notices.places + self.old.notices.room
+            ≤ self.new.notices.room }
     {
         self.numbers.clear();
         self.notices.clear();
@@ -42,7 +44,8 @@ impl Indexes {
     pub(crate) fn reserve(&mut self, n: usize) -> Result<(), AllocError>
         ensures numbers { self.new.numbers.places ≡ self.old.numbers.places }
         ensures notices { self.new.notices.places ≡ self.old.notices.places }
-        ensures kept { (self.old.numbers.room ≤ self.new.numbers.room) × (self.old.notices.room ≤ self.new.notices.room) }
+        ensures kept { (self.old.numbers.room ≤ self.new.numbers.room)
+            × (self.old.notices.room ≤ self.new.notices.room) }
         ensures ok { OnOk result ((n ≤ self.new.numbers.room) × (n ≤ self.new.notices.room)) }
     {
         self.numbers.reserve(n)?;
@@ -65,8 +68,10 @@ impl Indexes {
     pub(crate) fn take_out(&mut self, item: &Item, ticket: u64)
         requires numbers { HasKey (number_key item.now) ticket self.old.numbers }
         requires notices { HasKey (notice_key item.now) ticket self.old.notices }
-        ensures numbers { TakesOutKey (number_key item.now) ticket self.old.numbers self.new.numbers }
-        ensures notices { TakesOutKey (notice_key item.now) ticket self.old.notices self.new.notices }
+        ensures numbers { TakesOutKey (number_key item.now) ticket self.old.numbers
+            self.new.numbers }
+        ensures notices { TakesOutKey (notice_key item.now) ticket self.old.notices
+            self.new.notices }
     {
         let number = item.signal.number();
         take_place(&mut self.numbers, &Place { number, ticket });

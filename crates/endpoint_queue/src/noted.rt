@@ -57,7 +57,8 @@ impl Noted {
 fn noted_before(notices: &[Noted], noted: &Noted) -> usize
     requires { AllPairs IsBefore notices.now }
     ensures within { result ≤ length notices.now }
-    ensures between { IsPartitionPoint (λ p. is_before p noted.now ≡ true) (λ p. is_before p noted.now ≡ false) notices.now result }
+    ensures between { IsPartitionPoint (λ p. is_before p noted.now ≡ true)
+        (λ p. is_before p noted.now ≡ false) notices.now result }
 {
     notices.partition_point(|other| other.is_before(noted))
 }

@@ -1,7 +1,8 @@
 ghost use Rattle.std.specs.Prelude.{◌≡◌, ◌==◌, ◌≤◌, true, false, length};
 ghost use Rattle.std.specs.List.{AllPairs};
 ghost use Rattle.std.specs.List.Sorted.{IsPartitionPoint};
-ghost use Rattle.endpoint_queue.specs.Places.{IsBefore, IsLeastTicket, is_before, is_listed, lower_of};
+ghost use Rattle.endpoint_queue.specs.Places.{IsBefore, IsLeastTicket, is_before, is_listed};
+ghost use Rattle.endpoint_queue.specs.Places.{lower_of};
 ghost use Rattle.endpoint_queue.specs.IndexChanges.{Adds, CanTake, Has, TakesOut};
 
 use crate::index::Index;
@@ -23,7 +24,8 @@ fn is_before(one: &Place, other: &Place) -> bool
 fn count_before(places: &[Place], place: &Place) -> usize
     requires { AllPairs IsBefore places.now }
     ensures within { result ≤ length places.now }
-    ensures between { IsPartitionPoint (λ p. is_before p place.now ≡ true) (λ p. is_before p place.now ≡ false) places.now result }
+    ensures between { IsPartitionPoint (λ p. is_before p place.now ≡ true)
+        (λ p. is_before p place.now ≡ false) places.now result }
 {
     places.partition_point(|other| is_before(other, place))
 }

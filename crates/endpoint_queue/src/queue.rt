@@ -1,10 +1,13 @@
-ghost use Rattle.std.specs.Prelude.{◌≡◌, ◌≤◌, ◌<◌, ◌+◌, ◌^◌, [], ◌∷◌, ◌++◌, if◌then◌else◌, false, is_some, length, max, slice_index_or, IfNone, IfSome, OnOk, OnErr, IsOk};
+ghost use Rattle.std.specs.Prelude.{◌≡◌, ◌≤◌, ◌<◌, ◌+◌, ◌^◌, [], ◌∷◌, ◌++◌, if◌then◌else◌, false};
+ghost use Rattle.std.specs.Prelude.{is_some, length, max, slice_index_or, IfNone, IfSome, OnOk};
+ghost use Rattle.std.specs.Prelude.{OnErr, IsOk};
 ghost use Rattle.std.specs.List.{position, range_with_len, remove, All, AllPairs};
 ghost use Rattle.std.specs.List.Sorted.{IsPermutation};
 ghost use Rattle.std.specs.VecDeque.{deque_capacity, deque_len};
 ghost use Rattle.endpoint_queue.specs.Places.{IsIndexed, count_notices};
 ghost use Rattle.endpoint_queue.specs.QueueContent.{has_tickets};
-ghost use Rattle.linx_base.specs.FirstMatch.{TakesEarliest, first_match, without_match, without_beside};
+ghost use Rattle.linx_base.specs.FirstMatch.{TakesEarliest, first_match, without_match};
+ghost use Rattle.linx_base.specs.FirstMatch.{without_beside};
 
 use crate::indexes::Indexes;
 use crate::noted::noted_ticket;
@@ -33,9 +36,15 @@ impl Model for Queue {
 
     ghost Value = { QueueContent };
 
-    ghost view = { λ q. record { items = q.items.items; tickets = q.tickets.items; next = q.next; spare = q.spare } };
+    ghost view = { λ q. record {
+      items = q.items.items;
+      tickets = q.tickets.items;
+      next = q.next;
+      spare = q.spare;
+    } };
 
-    ghost invariant = { λ q. IsIndexed q.items.items q.tickets.items q.indexes.numbers.places q.indexes.notices.places q.next
+    ghost invariant = { λ q. IsIndexed q.items.items q.tickets.items q.indexes.numbers.places
+        q.indexes.notices.places q.next
         × (deque_len q.items + q.spare ≤ deque_capacity q.items)
         × (deque_len q.tickets + q.spare ≤ deque_capacity q.tickets)
         × (q.spare ≤ q.indexes.numbers.room)
@@ -57,14 +66,19 @@ fn take_out<T>(elements: &mut VecDeque<T>, at: usize) -> T
 /// Gives the items tickets from 0 on, and makes the indexes anew.
 fn number_anew(items: &VecDeque<Item>, tickets: &mut VecDeque<u64>, indexes: &mut Indexes)
     requires room_for_tickets { deque_len items.now ≤ deque_capacity tickets.old }
-    requires room_for_numbers { deque_len items.now ≤ length indexes.old.numbers.places + indexes.old.numbers.room }
-    requires room_for_notices { count_notices items.now.items < length indexes.old.notices.places + indexes.old.notices.room }
-    ensures indexed { IsIndexed items.now.items tickets.new.items indexes.new.numbers.places indexes.new.notices.places (length items.now.items) }
+    requires room_for_numbers { deque_len items.now
+        ≤ length indexes.old.numbers.places + indexes.old.numbers.room }
+    requires room_for_notices { count_notices items.now.items
+        < length indexes.old.notices.places + indexes.old.notices.room }
+    ensures indexed { IsIndexed items.now.items tickets.new.items indexes.new.numbers.places
+        indexes.new.notices.places (length items.now.items) }
     ensures anew { tickets.new.items ≡ range_with_len 0 (length items.now.items) }
     ensures len { deque_len tickets.new ≡ deque_len items.now }
     ensures capacity { deque_capacity tickets.new ≡ deque_capacity tickets.old }
-    ensures numbers_room { length indexes.old.numbers.places + indexes.old.numbers.room ≤ deque_len items.now + indexes.new.numbers.room }
-    ensures notices_room { length indexes.old.notices.places + indexes.old.notices.room ≤ count_notices items.now.items + indexes.new.notices.room }
+    ensures numbers_room { length indexes.old.numbers.places + indexes.old.numbers.room
+        ≤ deque_len items.now + indexes.new.numbers.room }
+    ensures notices_room { length indexes.old.notices.places + indexes.old.notices.room
+        ≤ count_notices items.now.items + indexes.new.notices.room }
 {
     tickets.clear();
     indexes.clear();
@@ -83,15 +97,22 @@ fn ticketed(
     n: usize,
 ) -> u64
     requires some { 0 < n }
-    requires indexed { IsIndexed items.now.items tickets.old.items indexes.old.numbers.places indexes.old.notices.places next }
-    requires lengths { (deque_len tickets.old ≡ deque_len items.now) × (length items.now.items ≡ deque_len items.now) }
-    requires room { (deque_len items.now + n ≤ deque_capacity tickets.old) × (n ≤ indexes.old.numbers.room) × (n ≤ indexes.old.notices.room) }
-    ensures indexed { IsIndexed items.now.items tickets.new.items indexes.new.numbers.places indexes.new.notices.places result }
-    ensures tickets { tickets.new.items ≡ (if has_tickets next n then tickets.old.items else range_with_len 0 (length items.now.items)) }
+    requires indexed { IsIndexed items.now.items tickets.old.items indexes.old.numbers.places
+        indexes.old.notices.places next }
+    requires lengths { (deque_len tickets.old ≡ deque_len items.now)
+        × (length items.now.items ≡ deque_len items.now) }
+    requires room { (deque_len items.now + n ≤ deque_capacity tickets.old)
+        × (n ≤ indexes.old.numbers.room) × (n ≤ indexes.old.notices.room) }
+    ensures indexed { IsIndexed items.now.items tickets.new.items indexes.new.numbers.places
+        indexes.new.notices.places result }
+    ensures tickets { tickets.new.items
+        ≡ (if has_tickets next n then tickets.old.items
+        else range_with_len 0 (length items.now.items)) }
     ensures next { result ≡ (if has_tickets next n then next else length items.now.items) }
     ensures enough { result + n < 2 ^ 64 }
     ensures len { deque_len tickets.new ≡ deque_len items.now }
-    ensures room { (deque_capacity tickets.new ≡ deque_capacity tickets.old) × (n ≤ indexes.new.numbers.room) × (n ≤ indexes.new.notices.room) }
+    ensures room { (deque_capacity tickets.new ≡ deque_capacity tickets.old)
+        × (n ≤ indexes.new.numbers.room) × (n ≤ indexes.new.notices.room) }
 {
     if n as u64 <= u64::MAX - next {
         return next;
@@ -103,7 +124,8 @@ fn ticketed(
 impl Queue {
     ghost use Rattle.endpoint_queue.specs.Places.{AreTickets, IsBefore, is_listed, places_of};
     ghost use Rattle.endpoint_queue.specs.QueueContent.{next_for, tickets_for};
-    ghost use Rattle.sigsel.specs.Selection.{first_selected, is_notice_of, is_selected, without_first};
+    ghost use Rattle.sigsel.specs.Selection.{first_selected, is_notice_of, is_selected};
+    ghost use Rattle.sigsel.specs.Selection.{without_first};
 
     /// The empty queue. It takes no memory.
     pub fn new(alloc: Global) -> Queue
@@ -162,7 +184,8 @@ impl Queue {
 
     /// The position of the first item of a listed number.
     fn first_listed(&self, listed: &[u32]) -> Option<usize>
-        ensures { result ≡ position (λ item. is_listed listed.now item.signal.number) self.now.items }
+        ensures { result ≡ position (λ item. is_listed listed.now item.signal.number)
+            self.now.items }
     {
         let ticket = least_ticket(self.indexes.numbers.as_slice(), listed)?;
         self.tickets.binary_search(&ticket).ok()
@@ -211,9 +234,12 @@ impl Queue {
     pub fn take(&mut self, sel: &Sigsel) -> Option<Item>
         ensures item { result ≡ first_selected sel.now self.old.items }
         ensures others { self.new.items ≡ without_first sel.now self.old.items }
-        ensures earliest { IfSome result (λ item. TakesEarliest (is_selected sel.now) self.old.items item self.new.items) }
-        ensures none { IfNone result (All (λ item. is_selected sel.now item ≡ false) self.old.items) }
-        ensures tickets { self.new.tickets ≡ without_beside (is_selected sel.now) self.old.items self.old.tickets }
+        ensures earliest { IfSome result
+            (λ item. TakesEarliest (is_selected sel.now) self.old.items item self.new.items) }
+        ensures none { IfNone result
+            (All (λ item. is_selected sel.now item ≡ false) self.old.items) }
+        ensures tickets { self.new.tickets
+            ≡ without_beside (is_selected sel.now) self.old.items self.old.tickets }
         ensures counts { (self.new.next ≡ self.old.next) × (self.new.spare ≡ self.old.spare) }
     {
         match self.first_position(sel) {
@@ -229,14 +255,17 @@ impl Queue {
         self.first_position(sel).is_some()
     }
 
-    /// Takes out the notice of an attach. `None` exactly where there is none. It takes no memory, and
-    /// looks at no other item.
+    /// Takes out the notice of an attach. `None` exactly where there is none. It takes no memory,
+    /// and looks at no other item.
     pub fn remove_ref(&mut self, attach: AttRef) -> Option<Item>
         ensures item { result ≡ first_match (is_notice_of attach) self.old.items }
         ensures others { self.new.items ≡ without_match (is_notice_of attach) self.old.items }
-        ensures earliest { IfSome result (λ item. TakesEarliest (is_notice_of attach) self.old.items item self.new.items) }
-        ensures none { IfNone result (All (λ item. is_notice_of attach item ≡ false) self.old.items) }
-        ensures tickets { self.new.tickets ≡ without_beside (is_notice_of attach) self.old.items self.old.tickets }
+        ensures earliest { IfSome result
+            (λ item. TakesEarliest (is_notice_of attach) self.old.items item self.new.items) }
+        ensures none { IfNone result
+            (All (λ item. is_notice_of attach item ≡ false) self.old.items) }
+        ensures tickets { self.new.tickets
+            ≡ without_beside (is_notice_of attach) self.old.items self.old.tickets }
         ensures counts { (self.new.next ≡ self.old.next) × (self.new.spare ≡ self.old.spare) }
     {
         match self.notice_position(attach) {

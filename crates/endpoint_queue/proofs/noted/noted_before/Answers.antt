@@ -6,5 +6,6 @@ use Rattle.endpoint_queue.proofs.noted.noted_before.Goals as goal
 
 pub returns-clause-between : goal.returns-clause-between
 returns-clause-between c =
-    IsPartitionPoint-from_clause (λ p. is_before p c.args.noted.now) _ _ c.partition_point.ensures.partitioned
+    IsPartitionPoint-from_clause (λ p. is_before p c.args.noted.now) _ _
+    c.partition_point.ensures.partitioned
     (places_split _ _ c.requires) (λ a r q k. search rules)

@@ -1,10 +1,13 @@
-use Rattle.std.proofs.Common.{◌≡◌, ℕ, List, ◌∙◌, ◌++◌, ◌∷◌, [], ◌+◌, ◌<◌, ap, sym, take, length, arith}
+use Rattle.std.proofs.Common.{◌≡◌, ℕ, List, ◌∙◌, ◌++◌, ◌∷◌, [], ◌+◌, ◌<◌, ap, sym, take, length}
+use Rattle.std.proofs.Common.{arith}
 use Rattle.std.proofs.lemmas.Grind.{common_steps}
 use Rattle.std.proofs.lemmas.List.{take_more, length-take-le}
 use Rattle.std.proofs.lemmas.List.FromFn.{length-range_with_len}
 use Rattle.linx_base.specs.declared.item.Item.{Item}
 use Rattle.endpoint_queue.specs.Places.{number_key, notice_key}
-use Rattle.endpoint_queue.proofs.QueueLemmas.{numbers_can_take, notices_can_take, length-numbers, length-notices, few_notices, total_kept, put_kept, range_more}
+use Rattle.endpoint_queue.proofs.QueueLemmas.{numbers_can_take, notices_can_take, length-numbers}
+use Rattle.endpoint_queue.proofs.QueueLemmas.{length-notices, few_notices, total_kept, put_kept}
+use Rattle.endpoint_queue.proofs.QueueLemmas.{range_more}
 use Rattle.endpoint_queue.proofs.queue.number_anew.Goals as goal
 
 pub add-requires-clause-numbers : goal.add-requires-clause-numbers
@@ -29,13 +32,17 @@ loop-at-preserved c =
     let was = c.loop-at.invariant in
     let within : at < length items = grind (arith, common_steps) in
     let one_more : take (at + 1) items ≡ take at items ++ c.index.result.now ∷ [] =
-    take_more items at c.index.result.now within ∙ ap (λ item. take at items ++ item ∷ []) (sym c.index.ensures) in
+    take_more items at c.index.result.now within
+    ∙ ap (λ item. take at items ++ item ∷ []) (sym c.index.ensures) in
     let numbers = total_kept (number_key c.index.result.now) at _ _ c.add.ensures.numbers in
     let notices = total_kept (notice_key c.index.result.now) at _ _ c.add.ensures.notices in
     record {
-      indexed = put_kept c.loop-at.indexes.numbers c.loop-at.indexes.notices was.indexed c.index.result.now _ _
+      indexed =
+          put_kept c.loop-at.indexes.numbers c.loop-at.indexes.notices was.indexed
+          c.index.result.now _ _
           c.add.ensures.numbers c.add.ensures.notices one_more c.push_back_reserved.ensures.items;
-      anew = c.push_back_reserved.ensures.items ∙ ap (λ l. l ++ at ∷ []) was.anew ∙ sym (range_more 0 at at (omega arith));
+      anew = c.push_back_reserved.ensures.items ∙ ap (λ l. l ++ at ∷ []) was.anew
+          ∙ sym (range_more 0 at at (omega arith));
       len = omega arith;
       capacity = omega arith;
       numbers_room = omega arith;

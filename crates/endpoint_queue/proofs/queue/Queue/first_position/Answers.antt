@@ -6,4 +6,5 @@ use Rattle.endpoint_queue.proofs.queue.Queue.first_position.Goals as goal
 pub returns-in-Any-2 : goal.returns-in-Any-2
 returns-in-Any-2 c =
     let some : 0 < length c.self.inside.items.items = grind (arith, common_steps) in
-    rw (← c.self.view_is) (sym (position_any c.args.sel.now c.self.inside.items.items c.in-Any-2.is some))
+    rw (← c.self.view_is) (sym
+    (position_any c.args.sel.now c.self.inside.items.items c.in-Any-2.is some))

@@ -6,11 +6,16 @@ use Rattle.endpoint_queue.proofs.queue.Queue.notice_position.Goals as goal
 pub returns-in_err-ticket : goal.returns-in_err-ticket
 returns-in_err-ticket c =
     let kept = c.self.invariant.0 in
-    let none = position_missing notice_key _ _ (notice_alike c.args.attach) _ _ kept.paired kept.numbered.0 _ kept.by_attach (rw c.as_slice.ensures at c.in_err-ticket.ensures) in
+    let none =
+    position_missing notice_key _ _ (notice_alike c.args.attach) _ _ kept.paired kept.numbered.0
+    _ kept.by_attach (rw c.as_slice.ensures at c.in_err-ticket.ensures) in
     rw (← c.self.view_is) (c.from_residual.ensures ∙ sym none)
 
 pub returns : goal.returns
 returns c =
     let kept = c.self.invariant.0 in
-    let found = position_found notice_key _ _ (notice_alike c.args.attach) _ _ kept.paired kept.numbered.0 _ kept.by_attach _ _ (rw c.as_slice.ensures at c.in_ok-ticket.ensures) c.binary_search.ensures.position in
+    let found =
+    position_found notice_key _ _ (notice_alike c.args.attach) _ _ kept.paired kept.numbered.0 _
+    kept.by_attach _ _ (rw c.as_slice.ensures at c.in_ok-ticket.ensures)
+    c.binary_search.ensures.position in
     rw (← c.self.view_is) (c.ok.ensures.value ∙ sym found)
