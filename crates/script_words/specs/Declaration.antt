@@ -1,5 +1,6 @@
 -- what a line outside a block declares
-use Rattle.std.specs.Prelude.{ℕ, Bool, true, ◌&&◌, Result, Ok, Err, List, [], ◌∷◌, codes, if◌then◌else◌}
+use Rattle.std.specs.Prelude.{ℕ, Bool, true, ◌&&◌, Result, Ok, Err, List, [], ◌∷◌, codes}
+use Rattle.std.specs.Prelude.{if◌then◌else◌}
 use Rattle.std.specs.List.{list_all}
 use Rattle.std.specs.Str.{bytes_eq}
 use Rattle.script_words.specs.declared.bad_kind.BadKind.{BadKind}
@@ -7,7 +8,8 @@ use Rattle.script_words.specs.declared.bad_kind.BadKind.TheVariants.{BadShape, U
 use Rattle.script_words.specs.declared.declaration.Declaration.{Declaration}
 use Rattle.script_words.specs.declared.declaration.Declaration.TheVariants.{Node, Link, Plan, Actor}
 use Rattle.script_words.specs.Gives.{◌>>=◌, made}
-use Rattle.script_words.specs.Limits.{window_limit, window_unsaid, piece_least, piece_limit, piece_unsaid}
+use Rattle.script_words.specs.Limits.{window_limit, window_unsaid, piece_least, piece_limit}
+use Rattle.script_words.specs.Limits.{piece_unsaid}
 use Rattle.script_words.specs.Words.{alone}
 use Rattle.script_words.specs.Numbers.{is_within, within}
 use Rattle.script_words.specs.Names.{name_of, one_name_of}

@@ -2,7 +2,10 @@
 use Rattle.std.specs.Prelude.{List, ℕ, codes}
 use Rattle.linx_base.specs.Failures.{no_memory_text}
 use Rattle.script_words.specs.declared.bad_kind.BadKind.{BadKind}
-use Rattle.script_words.specs.declared.bad_kind.BadKind.TheVariants.{ScriptTooLong, LineTooLong, BadByte, UnknownWord, BadShape, UnknownName, TwiceNamed, OverLimit, Unfinished}
+use Rattle.script_words.specs.declared.bad_kind.BadKind.TheVariants.{ScriptTooLong, LineTooLong}
+use Rattle.script_words.specs.declared.bad_kind.BadKind.TheVariants.{BadByte, UnknownWord, BadShape}
+use Rattle.script_words.specs.declared.bad_kind.BadKind.TheVariants.{UnknownName, TwiceNamed}
+use Rattle.script_words.specs.declared.bad_kind.BadKind.TheVariants.{OverLimit, Unfinished}
 use Rattle.script_words.specs.declared.line_error.LineError.{LineError}
 use Rattle.script_words.specs.declared.line_error.LineError.TheVariants.{Bad, NoMemory}
 

@@ -1,4 +1,5 @@
-use Rattle.std.specs.Prelude.{ℕ, Bool, nat_le, Option, Some, None, Result, Ok, Err, List, [], ◌∷◌, length, take, drop, replicate, codes, if◌then◌else◌}
+use Rattle.std.specs.Prelude.{ℕ, Bool, nat_le, Option, Some, None, Result, Ok, Err, List, [], ◌∷◌}
+use Rattle.std.specs.Prelude.{length, take, drop, replicate, codes, if◌then◌else◌}
 use Rattle.std.specs.Str.{bytes_eq}
 use Rattle.hex.specs.declared.error.FromHexError.{FromHexError}
 use Rattle.hex.specs.Hex.{decode_of}

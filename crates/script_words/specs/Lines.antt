@@ -1,4 +1,5 @@
-use Rattle.std.specs.Prelude.{ℕ, Bool, false, not, ◌&&◌, ◌||◌, ◌==◌, nat_le, nat_lt, Result, Ok, Err, List, [], ◌∷◌, length, filter, take_while, if◌then◌else◌}
+use Rattle.std.specs.Prelude.{ℕ, Bool, false, not, ◌&&◌, ◌||◌, ◌==◌, nat_le, nat_lt, Result, Ok}
+use Rattle.std.specs.Prelude.{Err, List, [], ◌∷◌, length, filter, take_while, if◌then◌else◌}
 use Rattle.std.specs.List.{list_all, onto_first, slice_split}
 use Rattle.std.specs.Io.BufRead.{strip_last}
 use Rattle.script_words.specs.declared.bad_kind.BadKind.{BadKind}

@@ -1,13 +1,21 @@
 -- a command as its line says it
-use Rattle.std.specs.Prelude.{ℕ, Bool, true, false, Result, Ok, Err, List, ◌∷◌, codes, if◌then◌else◌}
+use Rattle.std.specs.Prelude.{ℕ, Bool, true, false, Result, Ok, Err, List, ◌∷◌, codes}
+use Rattle.std.specs.Prelude.{if◌then◌else◌}
 use Rattle.std.specs.Str.{bytes_eq}
 use Rattle.linx_base.specs.Content.{data_limit}
 use Rattle.script_words.specs.declared.bad_kind.BadKind.{BadKind}
 use Rattle.script_words.specs.declared.bad_kind.BadKind.TheVariants.{BadShape, UnknownWord}
 use Rattle.script_words.specs.declared.command.Command.{Command}
-use Rattle.script_words.specs.declared.command.Command.TheVariants.{Open, Close, Send, Forward, Recv, Hunt as Hunting, Attach, Detach, Keep, Cut as Cutting, Mend as Mending, Restart as Restarting, Settle as Settling}
+use Rattle.script_words.specs.declared.command.Command.TheVariants.{Open, Close, Send, Forward}
+use Rattle.script_words.specs.declared.command.Command.TheVariants.{Recv, Hunt as Hunting, Attach}
+use Rattle.script_words.specs.declared.command.Command.TheVariants.{Detach, Keep, Cut as Cutting}
+use Rattle.script_words.specs.declared.command.Command.TheVariants.{Mend as Mending}
+use Rattle.script_words.specs.declared.command.Command.TheVariants.{Restart as Restarting}
+use Rattle.script_words.specs.declared.command.Command.TheVariants.{Settle as Settling}
 use Rattle.script_words.specs.declared.named_command.NamedCommand.{NamedCommand}
-use Rattle.script_words.specs.declared.named_command.NamedCommand.TheVariants.{Plain, Hunt, Cut, Mend, Restart, Settle}
+use Rattle.script_words.specs.declared.named_command.NamedCommand.TheVariants.{Plain, Hunt, Cut}
+use Rattle.script_words.specs.declared.named_command.NamedCommand.TheVariants.{Mend, Restart}
+use Rattle.script_words.specs.declared.named_command.NamedCommand.TheVariants.{Settle}
 use Rattle.script_words.specs.Gives.{◌>>=◌, made}
 use Rattle.script_words.specs.Limits.{attach_data_limit, hunt_signal, attach_signal}
 use Rattle.script_words.specs.Words.{only, alone}

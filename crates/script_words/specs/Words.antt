@@ -1,5 +1,6 @@
 -- where a word is cut, and how many stand behind the first one of a line
-use Rattle.std.specs.Prelude.{ℕ, ◌+◌, ◌==◌, Option, option_map, Result, Ok, Err, List, [], ◌∷◌, take, drop, position}
+use Rattle.std.specs.Prelude.{ℕ, ◌+◌, ◌==◌, Option, option_map, Result, Ok, Err, List, [], ◌∷◌}
+use Rattle.std.specs.Prelude.{take, drop, position}
 use Rattle.script_words.specs.declared.bad_kind.BadKind.{BadKind}
 use Rattle.script_words.specs.declared.bad_kind.BadKind.TheVariants.{BadShape}
 use Rattle.script_words.specs.Gives.{◌>>=◌}

@@ -1,6 +1,7 @@
 ghost use Rattle.std.specs.Prelude.{◌≡◌, true, map, IfOk};
 ghost use Rattle.script_words.specs.Gives.{Gives};
-ghost use Rattle.script_words.specs.BlockLine.{actor_line_of, repeat_line_of, is_sized_in_actor, is_sized_in_repeat};
+ghost use Rattle.script_words.specs.BlockLine.{actor_line_of, repeat_line_of, is_sized_in_actor};
+ghost use Rattle.script_words.specs.BlockLine.{is_sized_in_repeat};
 
 use crate::line_error::LineError;
 use crate::named_command::NamedCommand;

@@ -1,7 +1,8 @@
 ghost use Rattle.std.specs.Prelude.{◌≡◌, true, map, IfOk};
 ghost use Rattle.script_words.specs.Gives.{Gives};
 ghost use Rattle.script_words.specs.Numbers.{is_within};
-ghost use Rattle.script_words.specs.Declaration.{option_of, link_of, plan_of, actor_of, declaration_of, is_in_range};
+ghost use Rattle.script_words.specs.Declaration.{option_of, link_of, plan_of, actor_of};
+ghost use Rattle.script_words.specs.Declaration.{declaration_of, is_in_range};
 
 use crate::line_error::{BAD_SHAPE, LineError, UNKNOWN_WORD};
 use crate::names::{name, one_name};

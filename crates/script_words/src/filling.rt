@@ -2,7 +2,8 @@ ghost use Rattle.std.specs.Prelude.{◌≡◌, ◌==◌, true, length, map, opti
 ghost use Rattle.hex.specs.Hex.{decode_of};
 ghost use Rattle.script_words.specs.Gives.{Gives};
 ghost use Rattle.script_words.specs.Words.{cut_at};
-ghost use Rattle.script_words.specs.Filling.{data_of, fits_data, after, some_bytes, one_byte, repeated_of, filling_of, data_in};
+ghost use Rattle.script_words.specs.Filling.{data_of, fits_data, after, some_bytes, one_byte};
+ghost use Rattle.script_words.specs.Filling.{repeated_of, filling_of, data_in};
 
 use crate::line_error::{BAD_SHAPE, LineError};
 use crate::numbers::any_number;

@@ -4,7 +4,8 @@ ghost use Rattle.std.specs.Prelude.{◌≡◌, ◌+◌, ◌∷◌, ◌<◌, ◌=
 ghost use Rattle.std.specs.List.{list_all};
 ghost use Rattle.std.specs.Io.BufRead.{strip_last};
 ghost use Rattle.script_words.specs.Gives.{Gives};
-ghost use Rattle.script_words.specs.Lines.{lines_of, is_space, is_plain, is_comment, words_of, words_in};
+ghost use Rattle.script_words.specs.Lines.{lines_of, is_space, is_plain, is_comment, words_of};
+ghost use Rattle.script_words.specs.Lines.{words_in};
 
 use crate::bad_kind::BadKind;
 use crate::line_error::LineError;

@@ -1,6 +1,7 @@
 ghost use Rattle.std.specs.Prelude.{◌≡◌, true, map, IfOk};
 ghost use Rattle.script_words.specs.Gives.{Gives};
-ghost use Rattle.script_words.specs.NamedCommand.{send_of, hunt_of, attach_of, distant_of, short_of, command_of, is_sized};
+ghost use Rattle.script_words.specs.NamedCommand.{send_of, hunt_of, attach_of, distant_of};
+ghost use Rattle.script_words.specs.NamedCommand.{short_of, command_of, is_sized};
 
 use crate::command::Command;
 use crate::filling::Filling;

@@ -5,7 +5,8 @@ ghost use Rattle.std.specs.Char.{is_ascii_digit};
 ghost use Rattle.std.specs.List.{list_all};
 ghost use Rattle.script_words.specs.Limits.{digit_limit};
 ghost use Rattle.script_words.specs.Gives.{Gives};
-ghost use Rattle.script_words.specs.Numbers.{decimal_of, number_of, is_within, within, any_number, numbers_of, number_or};
+ghost use Rattle.script_words.specs.Numbers.{decimal_of, number_of, is_within, within, any_number};
+ghost use Rattle.script_words.specs.Numbers.{numbers_of, number_or};
 
 use crate::line_error::{BAD_SHAPE, LineError};
 use sigsel::Numbers;

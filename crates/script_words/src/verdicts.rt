@@ -3,7 +3,8 @@
 ghost use Rattle.std.specs.Prelude.{◌≡◌, map, IfOk, IsTrue, true};
 ghost use Rattle.std.specs.List.{list_all};
 ghost use Rattle.script_words.specs.Gives.{Gives};
-ghost use Rattle.script_words.specs.Verdicts.{fits_verdict, side_in, swap_of, verdict_of, verdicts_of};
+ghost use Rattle.script_words.specs.Verdicts.{fits_verdict, side_in, swap_of, verdict_of};
+ghost use Rattle.script_words.specs.Verdicts.{verdicts_of};
 
 use crate::line_error::{BAD_SHAPE, LineError};
 use crate::words::is_text;
