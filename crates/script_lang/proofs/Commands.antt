@@ -6,7 +6,10 @@ use Rattle.linx_base.specs.declared.identity.LinkNo.{LinkNo}
 use Rattle.linx_base.specs.declared.identity.NodeNo.{NodeNo}
 use Rattle.linx_base.specs.declared.frame.LinkDecl.{LinkDecl}
 use Rattle.script_words.specs.declared.command.Command.{Command}
-use Rattle.script_words.specs.declared.command.Command.TheVariants.{Open, Close, Send, Forward, Recv, Hunt, Attach, Detach, Keep, Cut, Mend, Restart, Settle}
+use Rattle.script_words.specs.declared.command.Command.TheVariants.{Open, Close, Send, Forward}
+use Rattle.script_words.specs.declared.command.Command.TheVariants.{Recv, Hunt, Attach, Detach}
+use Rattle.script_words.specs.declared.command.Command.TheVariants.{Keep, Cut, Mend, Restart}
+use Rattle.script_words.specs.declared.command.Command.TheVariants.{Settle}
 use Rattle.script_words.specs.NamedCommand.{is_sized_plain}
 use Rattle.script_lang.specs.Parts.{ScriptParts}
 use Rattle.script_lang.specs.Fits.{is_link, has_end, fits_command}

@@ -1,5 +1,6 @@
 -- the lines of a script, one after the other
-use Rattle.std.proofs.Common.{◌≡◌, ℕ, ◌+◌, ◌-◌, ◌≤◌, List, [], ◌∷◌, Result, Ok, Err, length, sym, subst, arith}
+use Rattle.std.proofs.Common.{◌≡◌, ℕ, ◌+◌, ◌-◌, ◌≤◌, List, [], ◌∷◌, Result, Ok, Err, length, sym}
+use Rattle.std.proofs.Common.{subst, arith}
 use Rattle.script_words.specs.declared.bad_kind.BadKind.{BadKind}
 use Rattle.script_words.specs.declared.line_error.LineError.{LineError}
 use Rattle.script_words.specs.declared.line_error.LineError.TheVariants as errors

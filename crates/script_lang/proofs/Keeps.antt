@@ -1,8 +1,10 @@
 -- each new entry keeps a script within its limits
-use Rattle.std.proofs.Common.{◌≡◌, ℕ, suc, ◌+◌, ◌-◌, ◌<◌, ◌≤◌, true, false, not, ◌&&◌, zero, List, [], ◌∷◌, ◌++◌, length, refl, ◌∙◌, arith, length-append}
+use Rattle.std.proofs.Common.{◌≡◌, ℕ, suc, ◌+◌, ◌-◌, ◌<◌, ◌≤◌, true, false, not, ◌&&◌, zero, List}
+use Rattle.std.proofs.Common.{[], ◌∷◌, ◌++◌, length, refl, ◌∙◌, arith, length-append}
 use Rattle.std.specs.List.{list_all, list_any, slice_get}
 use Rattle.std.specs.Str.{bytes_eq}
-use Rattle.std.proofs.lemmas.Bool.{and_parts, and_from, or_parts, not_from_false, not-true, leb-true, le-leb}
+use Rattle.std.proofs.lemmas.Bool.{and_parts, and_from, or_parts, not_from_false, not-true}
+use Rattle.std.proofs.lemmas.Bool.{leb-true, le-leb}
 use Rattle.std.proofs.lemmas.List.Sums.{sum_by_push}
 use Rattle.linx_base.specs.declared.name.Path.{Path}
 use Rattle.linx_base.specs.declared.name.Path.TheVariants.{Local, Over}
@@ -12,13 +14,20 @@ use Rattle.linx_base.specs.declared.identity.Side.{Side}
 use Rattle.linx_base.specs.declared.frame.LinkDecl.{LinkDecl}
 use Rattle.linx_base.specs.declared.frame.Verdict.{Verdict}
 use Rattle.script_words.specs.declared.command.Command.{Command}
-use Rattle.script_words.specs.declared.command.Command.TheVariants.{Open, Close, Send, Forward, Recv, Hunt, Attach, Detach, Keep, Cut, Mend, Restart, Settle}
-use Rattle.script_lang.specs.Limits.{node_limit, link_limit, actor_limit, command_limit, all_commands_limit, verdict_limit}
+use Rattle.script_words.specs.declared.command.Command.TheVariants.{Open, Close, Send, Forward}
+use Rattle.script_words.specs.declared.command.Command.TheVariants.{Recv, Hunt, Attach, Detach}
+use Rattle.script_words.specs.declared.command.Command.TheVariants.{Keep, Cut, Mend, Restart}
+use Rattle.script_words.specs.declared.command.Command.TheVariants.{Settle}
+use Rattle.script_lang.specs.Limits.{node_limit, link_limit, actor_limit, command_limit}
+use Rattle.script_lang.specs.Limits.{all_commands_limit, verdict_limit}
 use Rattle.script_words.specs.Verdicts.{fits_verdict}
 use Rattle.script_words.proofs.Lists.{list_all_push}
 use Rattle.script_lang.specs.declared.actor_script.ActorScript.{ActorScript}
-use Rattle.script_lang.specs.Parts.{ScriptParts, plan_of, with_node, with_link, with_verdict, with_actor}
-use Rattle.script_lang.specs.Fits.{is_numbered, is_node, joins, has_end, fits_link, fits_plans, fits_path, fits_command, fits_actor, commands_of, is_among, are_distinct, IsScript}
+use Rattle.script_lang.specs.Parts.{ScriptParts, plan_of, with_node, with_link, with_verdict}
+use Rattle.script_lang.specs.Parts.{with_actor}
+use Rattle.script_lang.specs.Fits.{is_numbered, is_node, joins, has_end, fits_link, fits_plans}
+use Rattle.script_lang.specs.Fits.{fits_path, fits_command, fits_actor, commands_of, is_among}
+use Rattle.script_lang.specs.Fits.{are_distinct, IsScript}
 use Rattle.script_lang.proofs.Lists.{list_all_weaken, list_any_push}
 use Rattle.script_lang.proofs.Verdicts.{length-planned_at, planned_at_fits}
 

@@ -1,5 +1,7 @@
 -- one verdict more in a plan
-use Rattle.std.proofs.Common.{◌≡◌, ℕ, suc, zero, ◌+◌, ◌-◌, ◌<◌, true, nat_le, slice_set, slice_index_or, List, [], ◌∷◌, ◌++◌, length, take, get_or, refl, sym, ◌∙◌, ap, subst, arith, length-append}
+use Rattle.std.proofs.Common.{◌≡◌, ℕ, suc, zero, ◌+◌, ◌-◌, ◌<◌, true, nat_le, slice_set}
+use Rattle.std.proofs.Common.{slice_index_or, List, [], ◌∷◌, ◌++◌, length, take, get_or, refl, sym}
+use Rattle.std.proofs.Common.{◌∙◌, ap, subst, arith, length-append}
 use Rattle.std.specs.List.{list_all, slice_get}
 use Rattle.std.proofs.lemmas.Bool.{and_parts, and_from, le-leb}
 use Rattle.std.proofs.lemmas.List.Sums.{fold_more}
@@ -11,7 +13,8 @@ use Rattle.script_lang.specs.Limits.{verdict_limit}
 use Rattle.script_words.specs.Verdicts.{fits_verdict}
 use Rattle.script_words.proofs.Lists.{list_all_push}
 use Rattle.script_lang.specs.declared.plans.Plans.{Plans}
-use Rattle.script_lang.specs.Parts.{ScriptParts, side_of, plan_in, plan_of, planned, planned_at, with_verdict}
+use Rattle.script_lang.specs.Parts.{ScriptParts, side_of, plan_in, plan_of, planned, planned_at}
+use Rattle.script_lang.specs.Parts.{with_verdict}
 use Rattle.script_lang.specs.Fits.{fits_plan, fits_plans}
 use Rattle.script_lang.specs.Declaring.{with_verdicts}
 

@@ -1,5 +1,6 @@
 -- lines of an actor's block
-use Rattle.std.specs.Prelude.{ℕ, ◌+◌, ◌*◌, ◌≡◌, ◌<◌, ◌≤◌, Bool, true, ◌&&◌, nat_le, Result, Ok, Err, List, [], ◌∷◌, ◌++◌, length, if◌then◌else◌}
+use Rattle.std.specs.Prelude.{ℕ, ◌+◌, ◌*◌, ◌≡◌, ◌<◌, ◌≤◌, Bool, true, ◌&&◌, nat_le, Result, Ok, Err}
+use Rattle.std.specs.Prelude.{List, [], ◌∷◌, ◌++◌, length, if◌then◌else◌}
 use Rattle.std.specs.List.{list_all, repeat}
 use Rattle.script_words.specs.declared.bad_kind.BadKind.{BadKind}
 use Rattle.script_words.specs.declared.bad_kind.BadKind.TheVariants.{OverLimit}

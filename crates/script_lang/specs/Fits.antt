@@ -1,4 +1,5 @@
-use Rattle.std.specs.Prelude.{◌≡◌, ℕ, ◌-◌, ◌≤◌, Bool, true, false, not, ◌&&◌, ◌||◌, ◌==◌, nat_le, Option, Some, None, List, [], ◌∷◌, length, sum_by, slice_get}
+use Rattle.std.specs.Prelude.{◌≡◌, ℕ, ◌-◌, ◌≤◌, Bool, true, false, not, ◌&&◌, ◌||◌, ◌==◌, nat_le}
+use Rattle.std.specs.Prelude.{Option, Some, None, List, [], ◌∷◌, length, sum_by, slice_get}
 use Rattle.std.specs.List.{list_all, list_any}
 use Rattle.std.specs.Str.{bytes_eq}
 use Rattle.linx_base.specs.declared.name.Path.{Path}
@@ -9,7 +10,10 @@ use Rattle.linx_base.specs.declared.frame.LinkDecl.{LinkDecl}
 use Rattle.linx_base.specs.declared.frame.Verdict.{Verdict}
 use Rattle.linx_base.specs.Content.{data_limit}
 use Rattle.script_words.specs.declared.command.Command.{Command}
-use Rattle.script_words.specs.declared.command.Command.TheVariants.{Open, Close, Send, Forward, Recv, Hunt, Attach, Detach, Keep, Cut, Mend, Restart, Settle}
+use Rattle.script_words.specs.declared.command.Command.TheVariants.{Open, Close, Send, Forward}
+use Rattle.script_words.specs.declared.command.Command.TheVariants.{Recv, Hunt, Attach, Detach}
+use Rattle.script_words.specs.declared.command.Command.TheVariants.{Keep, Cut, Mend, Restart}
+use Rattle.script_words.specs.declared.command.Command.TheVariants.{Settle}
 use Rattle.script_words.specs.Limits.{attach_data_limit}
 use Rattle.script_words.specs.Numbers.{is_within}
 use Rattle.script_words.specs.Filling.{fits_data}
@@ -18,7 +22,8 @@ use Rattle.script_words.specs.Verdicts.{fits_verdict}
 use Rattle.script_words.specs.Declaration.{has_link_size}
 use Rattle.script_lang.specs.declared.actor_script.ActorScript.{ActorScript}
 use Rattle.script_lang.specs.declared.plans.Plans.{Plans}
-use Rattle.script_lang.specs.Limits.{node_limit, link_limit, actor_limit, command_limit, all_commands_limit, verdict_limit}
+use Rattle.script_lang.specs.Limits.{node_limit, link_limit, actor_limit, command_limit}
+use Rattle.script_lang.specs.Limits.{all_commands_limit, verdict_limit}
 use Rattle.script_lang.specs.Parts.{ScriptParts}
 
 -- a number from 1 to the count

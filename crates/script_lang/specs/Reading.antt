@@ -2,7 +2,8 @@
 -- ScriptTooLong by `lined`, LineTooLong and BadByte by `words_in`, UnknownWord and BadShape by the
 -- readings of words, then UnknownName, TwiceNamed and OverLimit by what a statement does to the
 -- script, and Unfinished by `finished`.
-use Rattle.std.specs.Prelude.{ℕ, ◌+◌, ◌≡◌, nat_lt, Result, Ok, Err, List, [], ◌∷◌, length, if◌then◌else◌}
+use Rattle.std.specs.Prelude.{ℕ, ◌+◌, ◌≡◌, nat_lt, Result, Ok, Err, List, [], ◌∷◌, length}
+use Rattle.std.specs.Prelude.{if◌then◌else◌}
 use Rattle.script_words.specs.declared.bad_kind.BadKind.{BadKind}
 use Rattle.script_words.specs.declared.bad_kind.BadKind.TheVariants.{ScriptTooLong, Unfinished}
 use Rattle.script_words.specs.declared.line_error.LineError.{LineError}

@@ -10,7 +10,9 @@ use Rattle.script_words.specs.declared.filling.Filling.{Filling}
 use Rattle.script_words.specs.declared.route.Route.{Route}
 use Rattle.script_words.specs.declared.route.Route.TheVariants.{Local, Over}
 use Rattle.script_words.specs.declared.named_command.NamedCommand.{NamedCommand}
-use Rattle.script_words.specs.declared.named_command.NamedCommand.TheVariants.{Plain, Hunt, Cut, Mend, Settle, Restart}
+use Rattle.script_words.specs.declared.named_command.NamedCommand.TheVariants.{Plain, Hunt, Cut}
+use Rattle.script_words.specs.declared.named_command.NamedCommand.TheVariants.{Mend, Settle}
+use Rattle.script_words.specs.declared.named_command.NamedCommand.TheVariants.{Restart}
 use Rattle.script_words.specs.Gives.{◌>>=◌, made}
 use Rattle.script_lang.specs.Parts.{ScriptParts}
 use Rattle.script_lang.specs.Fits.{has_end}

@@ -6,7 +6,8 @@ ghost use Rattle.script_lang.specs.Limits.{all_commands_limit, command_limit};
 ghost use Rattle.script_words.specs.Gives.{Gives};
 ghost use Rattle.script_words.specs.BlockLine.{is_sized_in_actor, is_sized_in_repeat};
 ghost use Rattle.script_lang.specs.Fits.{commands_of, fits_command};
-ghost use Rattle.script_lang.specs.Block.{CanEnd, IsReading, has_room as room_for, command_added, written_out, in_actor, in_repeat};
+ghost use Rattle.script_lang.specs.Block.{CanEnd, IsReading, has_room as room_for, command_added};
+ghost use Rattle.script_lang.specs.Block.{written_out, in_actor, in_repeat};
 
 use crate::actor_script::{ActorScript, Commands};
 use crate::declaring::OVER_LIMIT;

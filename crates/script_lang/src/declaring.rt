@@ -9,7 +9,8 @@ ghost use Rattle.script_words.specs.Declaration.{has_link_size, is_in_range};
 ghost use Rattle.script_lang.specs.Parts.{plan_of};
 ghost use Rattle.script_lang.specs.Fits.{is_link};
 ghost use Rattle.script_lang.specs.Block.{IsReading};
-ghost use Rattle.script_lang.specs.Declaring.{node_added, link_added, with_verdicts, plan_added, actor_begun, declared};
+ghost use Rattle.script_lang.specs.Declaring.{node_added, link_added, with_verdicts, plan_added};
+ghost use Rattle.script_lang.specs.Declaring.{actor_begun, declared};
 
 use crate::actor_script::{ActorScript, Commands};
 use crate::naming::{is_taken, link_of_name, node_of_name};

@@ -13,5 +13,6 @@ loop-verdict-preserved c =
           c.loop-verdict.verdict-index _ c.loop-verdict-test.true so_far.is one;
       link = rw one so_far.link;
       place = rw one (plans_stay s link from _ so_far.place);
-      room = rw one (room_more s link from _ _ c.loop-verdict.verdict-index so_far.place so_far.room);
+      room = rw one (room_more s link from _ _ c.loop-verdict.verdict-index so_far.place
+          so_far.room);
     }
