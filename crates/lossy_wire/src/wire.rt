@@ -1,4 +1,5 @@
-ghost use Rattle.std.specs.Prelude.{◌≡◌, ◌==◌, ◌<◌, [], ◌∷◌, ◌++◌, length, slice_get, Some, OnOk, OnErr, IfErr};
+ghost use Rattle.std.specs.Prelude.{◌≡◌, ◌==◌, ◌<◌, [], ◌∷◌, ◌++◌, length, slice_get, Some, OnOk};
+ghost use Rattle.std.specs.Prelude.{OnErr, IfErr};
 ghost use Rattle.std.specs.List.{remove, swap};
 ghost use Rattle.linx_base.specs.Both.{still};
 ghost use Rattle.lossy_wire.specs.Flight.{HasOnlyGrown, changed, IsWithin};
@@ -37,9 +38,13 @@ impl Model for Wire {
 
     ghost Value = { Both (List (List ℕ)) };
 
-    ghost view = { λ w. record { was = take w.kept w.packets.items; is = changed w.change w.packets.items } };
+    ghost view = { λ w. record {
+      was = take w.kept w.packets.items;
+      is = changed w.change w.packets.items;
+    } };
 
-    ghost invariant = { λ w. (w.kept ≤ length w.packets.items) × IsWithin w.change w.packets.items };
+    ghost invariant = { λ w. (w.kept ≤ length w.packets.items)
+        × IsWithin w.change w.packets.items };
 }
 
 /// Makes the change in the buffer.
