@@ -11,18 +11,22 @@ use Rattle.journal_text.specs.Blocks.{log_text, logs_text}
 use Rattle.journal_text.specs.Collected.{opened_log}
 
 -- the last opening of effects in two parts
-pub last_opened_append : (before : Option Inc) (xs ys : List Effect) → last_opened before (xs ++ ys) ≡ last_opened (last_opened before xs) ys
+pub last_opened_append : (before : Option Inc) (xs ys : List Effect)
+    → last_opened before (xs ++ ys) ≡ last_opened (last_opened before xs) ys
 last_opened_append before [] ys = refl
 last_opened_append before (Opened i ∷ es) ys = last_opened_append (Some i) es ys
 last_opened_append before (_ ∷ es) ys = last_opened_append before es ys
 
 -- the logs of opened incarnations, effect by effect
-logs_by_effects : (log : Log) (es : List Effect) → flat_map (opened_log log) es ≡ flat_map (log_text log) (filter_map opened_in es)
+logs_by_effects : (log : Log) (es : List Effect)
+    → flat_map (opened_log log) es ≡ flat_map (log_text log) (filter_map opened_in es)
 logs_by_effects log [] = refl
-logs_by_effects log (Opened i ∷ es) = ap (λ (rest : List ℕ). log_text log i ++ rest) (logs_by_effects log es)
+logs_by_effects log (Opened i ∷ es) =
+    ap (λ (rest : List ℕ). log_text log i ++ rest) (logs_by_effects log es)
 logs_by_effects log (_ ∷ es) = logs_by_effects log es
 
 -- the logs of all incarnations
-pub logs_text-effects : (log : Log) → flat_map (opened_log log) (effects_of log.steps) ≡ logs_text log
+pub logs_text-effects : (log : Log)
+    → flat_map (opened_log log) (effects_of log.steps) ≡ logs_text log
 unfolding logs_text
 logs_text-effects log = logs_by_effects log (effects_of log.steps)

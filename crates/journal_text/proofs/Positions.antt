@@ -1,5 +1,6 @@
 -- The steps of a journal by their positions, in order.
-use Rattle.std.proofs.Common.{◌≡◌, ℕ, suc, ◌+◌, ◌-◌, ◌<◌, ◌≤◌, List, [], ◌∷◌, length, drop, Some, None, refl, ◌∙◌, sym, ap, arith, length-drop}
+use Rattle.std.proofs.Common.{◌≡◌, ℕ, suc, ◌+◌, ◌-◌, ◌<◌, ◌≤◌, List, [], ◌∷◌, length, drop, Some}
+use Rattle.std.proofs.Common.{None, refl, ◌∙◌, sym, ap, arith, length-drop}
 use Rattle.std.proofs.lemmas.Bool.{eq-eqb, ne_eqb, cases_eq}
 use Rattle.std.proofs.Common.{⊎_elim}
 use Rattle.std.proofs.Math.Nat.{sub-zero}
@@ -13,19 +14,23 @@ pub length-first_steps : (P : List Step) (k : ℕ) → k ≤ length P → length
 length-first_steps P k h = omega (arith, length-drop (length P - k) P)
 
 -- the last of them stands in front
-first_steps_all : (s : Step) (P : List Step) (k : ℕ) → k ≡ suc (length P) → first_steps k (s ∷ P) ≡ s ∷ P
+first_steps_all : (s : Step) (P : List Step) (k : ℕ) → k ≡ suc (length P)
+    → first_steps k (s ∷ P) ≡ s ∷ P
 first_steps_all s P k h = let e : suc (length P) - k ≡ 0 = omega arith in rw e refl
 
 -- a later step adds nothing to them
-first_steps_more : (s : Step) (P : List Step) (k : ℕ) → k ≤ length P → first_steps k (s ∷ P) ≡ first_steps k P
-first_steps_more s P k h = let e : suc (length P) - k ≡ suc (length P - k) = omega arith in rw e refl
+first_steps_more : (s : Step) (P : List Step) (k : ℕ) → k ≤ length P
+    → first_steps k (s ∷ P) ≡ first_steps k P
+first_steps_more s P k h =
+    let e : suc (length P) - k ≡ suc (length P - k) = omega arith in rw e refl
 
 -- after all
 pub first_steps_done : (P : List Step) (k : ℕ) → k ≡ length P → first_steps k P ≡ P
 first_steps_done P k h = let e : length P - k ≡ 0 = omega arith in rw e refl
 
 -- one step more, if a step stands at the position
-pub first_steps_next : (P : List Step) (k : ℕ) (s : Step) → step_at P (k + 1) ≡ Some s → k < length P → first_steps (k + 1) P ≡ s ∷ first_steps k P
+pub first_steps_next : (P : List Step) (k : ℕ) (s : Step) → step_at P (k + 1) ≡ Some s
+    → k < length P → first_steps (k + 1) P ≡ s ∷ first_steps k P
 first_steps_next [] k s is h = absurd (omega arith)
 first_steps_next (t ∷ P) k s is h = ⊎_elim
     (λ (last : k + 1 ≡ suc (length P)).

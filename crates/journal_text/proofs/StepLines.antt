@@ -1,5 +1,6 @@
 -- The lines of steps, in order.
-use Rattle.std.proofs.Common.{◌≡◌, ◌≢◌, ℕ, suc, ◌+◌, List, [], ◌∷◌, ◌++◌, length, refl, ◌∙◌, sym, ap, append_assoc, arith}
+use Rattle.std.proofs.Common.{◌≡◌, ◌≢◌, ℕ, suc, ◌+◌, List, [], ◌∷◌, ◌++◌, length, refl, ◌∙◌, sym}
+use Rattle.std.proofs.Common.{ap, append_assoc, arith}
 use Rattle.std.proofs.lemmas.List.{append-nil}
 use Rattle.linx_base.specs.declared.name.Names.{Names}
 use Rattle.journal.specs.declared.effect.Step.{Step}
@@ -11,13 +12,17 @@ use Rattle.journal_text.specs.Text.{steps_text, count_text, text_if_steps, text_
 use Rattle.journal_text.proofs.Positions.{first_steps_none}
 
 -- no step, no line
-pub steps_text_none : (names : Names) (S : List Step) (old : List ℕ) → old ≡ old ++ steps_text names (first_steps 0 S)
+pub steps_text_none : (names : Names) (S : List Step) (old : List ℕ)
+    → old ≡ old ++ steps_text names (first_steps 0 S)
 unfolding steps_text
 steps_text_none names S old =
-    sym (append-nil old) ∙ ap (λ (P : List Step). old ++ steps_text names P) (sym (first_steps_none S))
+    sym (append-nil old) ∙ ap (λ (P : List Step). old ++ steps_text names P)
+    (sym (first_steps_none S))
 
 -- one step more
-pub steps_text_more : (names : Names) (P Q : List Step) (s : Step) (k : ℕ) (old before after : List ℕ) → Q ≡ s ∷ P → length P ≡ k → before ≡ old ++ steps_text names P → after ≡ before ++ step_text names (k + 1) s → after ≡ old ++ steps_text names Q
+pub steps_text_more : (names : Names) (P Q : List Step) (s : Step) (k : ℕ)
+    (old before after : List ℕ) → Q ≡ s ∷ P → length P ≡ k → before ≡ old ++ steps_text names P
+    → after ≡ before ++ step_text names (k + 1) s → after ≡ old ++ steps_text names Q
 unfolding steps_text
 steps_text_more names P Q s k old before after grown count so_far now =
     let position : k + 1 ≡ suc (length P) = omega arith in
@@ -27,9 +32,12 @@ steps_text_more names P Q s k old before after grown count so_far now =
     ∙ ap (λ (R : List Step). old ++ steps_text names R) (sym grown)
 
 -- the text of a journal with steps
-pub text_of-steps : (log : Log) → log.steps ≢ [] → text_of log ≡ logs_text log ++ count_text (length log.steps) ++ steps_text log.names log.steps
+pub text_of-steps : (log : Log) → log.steps ≢ []
+    → text_of log ≡ logs_text log ++ count_text (length log.steps) ++ steps_text log.names log.steps
 text_of-steps log some = by_cases log.steps some
   where
-    by_cases : (P : List Step) → P ≢ [] → text_if_steps log P ≡ logs_text log ++ count_text (length log.steps) ++ steps_text log.names log.steps
+    by_cases : (P : List Step) → P ≢ []
+        → text_if_steps log P ≡ logs_text log ++ count_text (length log.steps)
+        ++ steps_text log.names log.steps
     by_cases [] some = absurd (some refl)
     by_cases (s ∷ P) some = refl

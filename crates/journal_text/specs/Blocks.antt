@@ -1,5 +1,6 @@
 -- The log of an incarnation.
-use Rattle.std.specs.Prelude.{ℕ, suc, zero, ◌++◌, List, [], ◌∷◌, flat_map, codes, slice_get, Option, Some, None, if◌then◌else◌}
+use Rattle.std.specs.Prelude.{ℕ, suc, zero, ◌++◌, List, [], ◌∷◌, flat_map, codes, slice_get, Option}
+use Rattle.std.specs.Prelude.{Some, None, if◌then◌else◌}
 use Rattle.linx_base.specs.declared.identity.Inc.{Inc}
 use Rattle.linx_base.specs.declared.identity.ItemAt.{ItemAt}
 use Rattle.linx_base.specs.declared.name.Names.{Names}
@@ -12,7 +13,8 @@ use Rattle.journal.specs.declared.effect.Step.{Step}
 use Rattle.journal.specs.Logs.{Log, step_at}
 use Rattle.journal.specs.History.{endpoint_by, opening_name, openings}
 use Rattle.journal.specs.Traffic.{is_endpoint}
-use Rattle.journal_text.specs.Values.{halves_text, name_or_mark, node_text, peer_signal_text, path_text, signal_text, reason_text, sent_text, detached_text}
+use Rattle.journal_text.specs.Values.{halves_text, name_or_mark, node_text, peer_signal_text}
+use Rattle.journal_text.specs.Values.{path_text, signal_text, reason_text, sent_text, detached_text}
 
 -- the first line of a log: the incarnation, its name and its node
 unfoldable pub title_text : Names → Inc → Option (List ℕ) → List ℕ
@@ -20,7 +22,8 @@ title_text names i name =
     codes "log " ++ halves_text i.0 ++ codes " " ++ name_or_mark name ++ codes " "
     ++ node_text names (node_of i) ++ codes "\n"
 
--- the incarnation whose log has a line of the effect: the one that something came to, or that closed
+-- the incarnation whose log has a line of the effect: the one that something came to, or that
+-- closed
 abbrev pub concerned : Effect → Option Inc
 concerned (Closed i) = Some i
 concerned (Arrived i peer note) = Some i
@@ -31,10 +34,13 @@ concerned _ = None
 -- that line
 unfoldable pub effect_log : Names → Effect → List ℕ
 effect_log names (Closed i) = codes "closed\n"
-effect_log names (Arrived i peer note) = codes "arrived " ++ peer_signal_text names peer note ++ codes "\n"
-effect_log names (Found i peer note hunt) = codes "found " ++ peer_signal_text names peer note ++ codes "\n"
+effect_log names (Arrived i peer note) =
+    codes "arrived " ++ peer_signal_text names peer note ++ codes "\n"
+effect_log names (Found i peer note hunt) =
+    codes "found " ++ peer_signal_text names peer note ++ codes "\n"
 effect_log names (Notified i peer note reference reason) =
-    codes "notified " ++ peer_signal_text names peer note ++ codes " " ++ reason_text reason ++ codes "\n"
+    codes "notified " ++ peer_signal_text names peer note ++ codes " " ++ reason_text reason
+    ++ codes "\n"
 effect_log names _ = []
 
 -- the effect at a place, from 1
@@ -58,12 +64,15 @@ item_text names _ = codes "?"
 unfoldable pub head_log : Names → List Step → Head → List ℕ
 head_log names steps (Send peer note answer) =
     codes "sent " ++ peer_signal_text names peer note ++ codes " " ++ sent_text answer ++ codes "\n"
-head_log names steps (Take filter at) = codes "took " ++ item_text names (effect_at steps at) ++ codes "\n"
+head_log names steps (Take filter at) =
+    codes "took " ++ item_text names (effect_at steps at) ++ codes "\n"
 head_log names steps (TakeNone filter) = codes "none\n"
 head_log names steps (Hunt path note) =
     codes "hunt " ++ path_text names path ++ codes " " ++ signal_text note ++ codes "\n"
-head_log names steps (Attach peer note) = codes "attach " ++ peer_signal_text names peer note ++ codes "\n"
-head_log names steps (Detach reference answer) = codes "detach " ++ detached_text answer ++ codes "\n"
+head_log names steps (Attach peer note) =
+    codes "attach " ++ peer_signal_text names peer note ++ codes "\n"
+head_log names steps (Detach reference answer) =
+    codes "detach " ++ detached_text answer ++ codes "\n"
 head_log names steps _ = []
 
 -- a line, if it is for the log of this incarnation
@@ -75,7 +84,8 @@ abbrev pub effect_logs : Names → Inc → List Effect → List ℕ
 effect_logs names i effects = flat_map (λ e. if_for i (concerned e) (effect_log names e)) effects
 
 -- the lines in the log of an incarnation that the steps P of a journal with these steps make: from
--- each step that of its head, where the maker's endpoint is the incarnation, and those of its effects
+-- each step that of its head, where the maker's endpoint is the incarnation, and those of its
+-- effects
 unfoldable pub log_lines : Names → List Step → List Step → Inc → List ℕ
 log_lines names steps [] i = []
 log_lines names steps (s ∷ P) i =

@@ -2,12 +2,19 @@
 use Rattle.std.specs.Prelude.{ℕ, ◌++◌, List, [], flat_map, codes, decimal, Option, Some, None}
 use Rattle.linx_base.specs.declared.name.Names.{Names}
 use Rattle.journal.specs.declared.head.Head.{Head}
-use Rattle.journal.specs.declared.head.Head.TheVariants.{Open, Close, Send, Take, TakeNone, Waits, Hunt, Attach, Detach, Cut, Mend, Settle, Restart, Wire, Tick, Refused, Ended}
+use Rattle.journal.specs.declared.head.Head.TheVariants.{Open, Close, Send, Take, TakeNone, Waits}
+use Rattle.journal.specs.declared.head.Head.TheVariants.{Hunt, Attach, Detach, Cut, Mend, Settle}
+use Rattle.journal.specs.declared.head.Head.TheVariants.{Restart, Wire, Tick, Refused, Ended}
 use Rattle.journal.specs.declared.effect.Effect.{Effect}
-use Rattle.journal.specs.declared.effect.Effect.TheVariants.{Opened, Closed, Arrived, Found, Notified, Met, Gone, Up, Down}
+use Rattle.journal.specs.declared.effect.Effect.TheVariants.{Opened, Closed, Arrived, Found}
+use Rattle.journal.specs.declared.effect.Effect.TheVariants.{Notified, Met, Gone, Up, Down}
 use Rattle.journal.specs.declared.effect.Step.{Step}
 use Rattle.journal.specs.Logs.{Log, step_at}
-use Rattle.journal_text.specs.Values.{halves_text, node_text, link_text, peer_text, peer_signal_text, filter_text, path_text, signal_text, maker_text, position_text, reference_text, side_text, verdict_text, reason_text, sent_text, detached_text, refusal_text}
+use Rattle.journal_text.specs.Values.{halves_text, node_text, link_text, peer_text}
+use Rattle.journal_text.specs.Values.{peer_signal_text, filter_text, path_text, signal_text}
+use Rattle.journal_text.specs.Values.{maker_text, position_text, reference_text, side_text}
+use Rattle.journal_text.specs.Values.{verdict_text, reason_text, sent_text, detached_text}
+use Rattle.journal_text.specs.Values.{refusal_text}
 
 -- what a step did
 unfoldable pub head_text : Names → Head → List ℕ
@@ -15,10 +22,12 @@ head_text names (Open name) = codes "open " ++ name
 head_text names Close = codes "close"
 head_text names (Send peer note answer) =
     codes "send " ++ peer_signal_text names peer note ++ codes " " ++ sent_text answer
-head_text names (Take filter at) = codes "take " ++ filter_text filter ++ codes " " ++ position_text at
+head_text names (Take filter at) =
+    codes "take " ++ filter_text filter ++ codes " " ++ position_text at
 head_text names (TakeNone filter) = codes "none " ++ filter_text filter
 head_text names (Waits filter) = codes "waits " ++ filter_text filter
-head_text names (Hunt path note) = codes "hunt " ++ path_text names path ++ codes " " ++ signal_text note
+head_text names (Hunt path note) =
+    codes "hunt " ++ path_text names path ++ codes " " ++ signal_text note
 head_text names (Attach peer note) = codes "attach " ++ peer_signal_text names peer note
 head_text names (Detach reference answer) =
     codes "detach " ++ reference_text reference.0 ++ codes " " ++ detached_text answer
@@ -27,8 +36,10 @@ head_text names (Mend link) = codes "mend " ++ link_text names link.0
 head_text names (Settle link) = codes "settle " ++ link_text names link.0
 head_text names (Restart node) = codes "restart " ++ node_text names node.0
 head_text names (Wire link side verdict) =
-    codes "wire " ++ link_text names link.0 ++ codes " " ++ side_text side ++ codes " " ++ verdict_text verdict
-head_text names (Tick link side) = codes "tick " ++ link_text names link.0 ++ codes " " ++ side_text side
+    codes "wire " ++ link_text names link.0 ++ codes " " ++ side_text side ++ codes " "
+    ++ verdict_text verdict
+head_text names (Tick link side) =
+    codes "tick " ++ link_text names link.0 ++ codes " " ++ side_text side
 head_text names (Refused reason) = codes "refused " ++ refusal_text reason
 head_text names Ended = codes "ended"
 
@@ -39,10 +50,12 @@ effect_text names (Closed inc) = codes "closed " ++ halves_text inc.0
 effect_text names (Arrived inc peer note) =
     codes "arrived " ++ halves_text inc.0 ++ codes " " ++ peer_signal_text names peer note
 effect_text names (Found inc peer note hunt) =
-    codes "found " ++ halves_text inc.0 ++ codes " " ++ peer_signal_text names peer note ++ codes " "
+    codes "found " ++ halves_text inc.0 ++ codes " " ++ peer_signal_text names peer note
+    ++ codes " "
     ++ reference_text hunt
 effect_text names (Notified inc peer note reference reason) =
-    codes "notified " ++ halves_text inc.0 ++ codes " " ++ peer_signal_text names peer note ++ codes " "
+    codes "notified " ++ halves_text inc.0 ++ codes " " ++ peer_signal_text names peer note
+    ++ codes " "
     ++ reference_text reference.0 ++ codes " " ++ reason_text reason
 effect_text names (Met node peer name) =
     codes "met " ++ node_text names node.0 ++ codes " " ++ peer_text names peer ++ codes " " ++ name
@@ -59,10 +72,12 @@ effect_text names (Down node link session) =
 unfoldable pub effect_line : Names → Effect → List ℕ
 effect_line names effect = codes "+ " ++ effect_text names effect ++ codes "\n"
 
--- a step at a position: its position, its maker and its head in one line, and a line for each effect
+-- a step at a position: its position, its maker and its head in one line, and a line for each
+-- effect
 unfoldable pub step_text : Names → ℕ → Step → List ℕ
 step_text names position s =
-    decimal position ++ codes " " ++ maker_text s.by ++ codes " " ++ head_text names s.head ++ codes "\n"
+    decimal position ++ codes " " ++ maker_text s.by ++ codes " " ++ head_text names s.head
+    ++ codes "\n"
     ++ flat_map (effect_line names) s.effects
 
 -- the lines of a step, if there is one

@@ -18,7 +18,8 @@ steps_text names (s ∷ P) = steps_text names P ++ step_text names (suc (length 
 -- the text, if there are steps
 abbrev pub text_if_steps : Log → List Step → List ℕ
 text_if_steps log [] = []
-text_if_steps log (s ∷ P) = logs_text log ++ count_text (length log.steps) ++ steps_text log.names log.steps
+text_if_steps log (s ∷ P) =
+    logs_text log ++ count_text (length log.steps) ++ steps_text log.names log.steps
 
 -- the text of a journal: nothing where it has no steps; else the logs of all opened incarnations in
 -- order of opening, the number of steps, and the steps

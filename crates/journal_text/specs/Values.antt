@@ -1,5 +1,7 @@
 -- How each value is spelled.
-use Rattle.std.specs.Prelude.{ℕ, zero, suc, ◌==◌, ◌++◌, nat_le, ◌&&◌, List, [], ◌∷◌, length, flat_map, codes, decimal, slice_get, Option, Some, None, if◌then◌else◌}
+use Rattle.std.specs.Prelude.{ℕ, zero, suc, ◌==◌, ◌++◌, nat_le, ◌&&◌, List, [], ◌∷◌, length}
+use Rattle.std.specs.Prelude.{flat_map, codes, decimal, slice_get, Option, Some, None}
+use Rattle.std.specs.Prelude.{if◌then◌else◌}
 use Rattle.hex.specs.Hex.{encode_lower}
 use Rattle.sha2.specs.Sha256.{sha256}
 use Rattle.linx_base.specs.Numbers.{high_half, low_half}
@@ -23,9 +25,11 @@ use Rattle.journal.specs.declared.by.By.TheVariants.{Actor, Pump}
 use Rattle.journal.specs.declared.head.SentTo.{SentTo}
 use Rattle.journal.specs.declared.head.SentTo.TheVariants.{Queued, Link, Dead}
 use Rattle.journal.specs.declared.head.Detached.{Detached}
-use Rattle.journal.specs.declared.head.Detached.TheVariants.{Pending, Queued as QueuedNotice, None as Neither}
+use Rattle.journal.specs.declared.head.Detached.TheVariants.{Pending, Queued as QueuedNotice}
+use Rattle.journal.specs.declared.head.Detached.TheVariants.{None as Neither}
 use Rattle.journal.specs.declared.head.Refusal.{Refusal}
-use Rattle.journal.specs.declared.head.Refusal.TheVariants.{NotOpen, IsOpen, NoPeer, NoSignal, NoRef}
+use Rattle.journal.specs.declared.head.Refusal.TheVariants.{NotOpen, IsOpen, NoPeer, NoSignal}
+use Rattle.journal.specs.declared.head.Refusal.TheVariants.{NoRef}
 
 -- a number of 64 bits as its two halves: an incarnation as `node.k`, a session as `boot.count`
 unfoldable pub halves_text : ℕ → List ℕ

@@ -49,7 +49,8 @@ fn keep_if_opened(
     effect: &Effect,
 ) -> Result<(), NoMemory>
     ensures { OnOk result ((q : ℕ) → get nat_eq opened.new q
-        ≡ (if opens (record { 0 = q }) effect.now then name_in head.now else get nat_eq opened.old q)) }
+        ≡ (if opens (record { 0 = q }) effect.now then name_in head.now
+        else get nat_eq opened.old q)) }
 {
     match effect {
         Effect::Opened(inc) => keep_name(opened, *inc, name_of(head)),
@@ -63,7 +64,8 @@ fn keep_opened(
     effects: &[Effect],
 ) -> Result<(), NoMemory>
     ensures { OnOk result ((q : ℕ) → get nat_eq opened.new q
-        ≡ (if list_any (opens (record { 0 = q })) effects.now then name_in head.now else get nat_eq opened.old q)) }
+        ≡ (if list_any (opens (record { 0 = q })) effects.now then name_in head.now
+        else get nat_eq opened.old q)) }
 {
     for effect in effects {
         keep_if_opened(opened, head, effect)?;
@@ -80,7 +82,8 @@ fn add_head(
     head: &Head,
 ) -> Result<(), NoMemory>
     ensures { OnOk result ((q : ℕ) → kept lines.new q ≡ kept lines.old q
-        ++ if_for (record { 0 = q }) owner (head_log journal.now.log.names journal.now.log.steps head.now)) }
+        ++ if_for (record { 0 = q }) owner
+        (head_log journal.now.log.names journal.now.log.steps head.now)) }
 {
     match owner {
         Some(inc) => {
@@ -150,7 +153,8 @@ impl Logs {
     ) -> Result<(), NoMemory>
         ensures { (P : List StepOf) → owner ≡ endpoint_by P step.now.by
             → Collects journal.now.log.names journal.now.log.steps P self.old
-            → OnOk result (Collects journal.now.log.names journal.now.log.steps (step.now ∷ P) self.new) }
+            → OnOk result (Collects journal.now.log.names journal.now.log.steps (step.now ∷ P)
+            self.new) }
     {
         let effects = step.effects.as_slice();
         keep_opened(&mut self.opened, &step.head, effects)?;

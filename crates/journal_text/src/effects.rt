@@ -1,6 +1,7 @@
 //! The lines of effects: what happened in a step.
 ghost use Rattle.std.specs.Prelude.{◌≡◌, ◌++◌, codes, flat_map, OnOk};
-ghost use Rattle.journal_text.specs.Values.{halves_text, node_text, link_text, peer_text, peer_signal_text, reference_text, reason_text};
+ghost use Rattle.journal_text.specs.Values.{halves_text, node_text, link_text, peer_text};
+ghost use Rattle.journal_text.specs.Values.{peer_signal_text, reference_text, reason_text};
 ghost use Rattle.journal_text.specs.Steps.{effect_text, effect_line};
 
 use crate::digits::write_bytes;
@@ -27,7 +28,8 @@ fn write_item(
     note: &SigNote,
 ) -> Result<(), NoMemory>
     ensures { OnOk result (out.new.items ≡ out.old.items
-        ++ (word.now ++ halves_text inc.0 ++ codes " " ++ peer_signal_text names.now peer.now note.now)) }
+        ++ (word.now ++ halves_text inc.0 ++ codes " "
+        ++ peer_signal_text names.now peer.now note.now)) }
 {
     write_word_and_inc(out, word, inc)?;
     write_bytes(out, b" ")?;
@@ -132,7 +134,8 @@ pub(crate) fn write_effects(
     names: &Names,
     effects: &[Effect],
 ) -> Result<(), NoMemory>
-    ensures { OnOk result (out.new.items ≡ out.old.items ++ flat_map (effect_line names.now) effects.now) }
+    ensures { OnOk result (out.new.items
+        ≡ out.old.items ++ flat_map (effect_line names.now) effects.now) }
 {
     for effect in effects {
         write_effect_line(out, names, effect)?;

@@ -2,7 +2,8 @@
 ghost use Rattle.std.specs.Prelude.{◌≡◌, ◌++◌, codes, flat_map, OnOk};
 ghost use Rattle.std.specs.Option.{option_copied};
 ghost use Rattle.journal_text.specs.Values.{peer_signal_text, reason_text};
-ghost use Rattle.journal_text.specs.Blocks.{title_text, concerned, effect_log, effect_at, item_text, head_log};
+ghost use Rattle.journal_text.specs.Blocks.{title_text, concerned, effect_log, effect_at};
+ghost use Rattle.journal_text.specs.Blocks.{item_text, head_log};
 
 use crate::digits::write_bytes;
 use crate::heads::{write_hunt, write_sending, write_word_and_signal};
@@ -20,7 +21,8 @@ pub(crate) fn write_title(
     inc: Inc,
     name: Option<&Name>,
 ) -> Result<(), NoMemory>
-    ensures { OnOk result (out.new.items ≡ out.old.items ++ title_text names.now inc (option_copied name.entry)) }
+    ensures { OnOk result (out.new.items
+        ≡ out.old.items ++ title_text names.now inc (option_copied name.entry)) }
 {
     write_bytes(out, b"log ")?;
     write_halves(out, inc.0)?;
@@ -99,7 +101,8 @@ pub(crate) fn write_effect_log(
 /// The sender and the content of an item, `?` where there is none.
 #[tactic(auto, unfolding(crate::specs::Blocks::item_text))]
 fn write_item(out: &mut Vec<u8>, names: &Names, item: Option<&Effect>) -> Result<(), NoMemory>
-    ensures { OnOk result (out.new.items ≡ out.old.items ++ item_text names.now (option_copied item.entry)) }
+    ensures { OnOk result (out.new.items
+        ≡ out.old.items ++ item_text names.now (option_copied item.entry)) }
 {
     match item {
         Some(Effect::Arrived(_, peer, note)) => write_peer_signal(out, names, peer, note),

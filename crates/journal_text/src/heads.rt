@@ -1,6 +1,8 @@
 //! The line of a head: what a step did.
 ghost use Rattle.std.specs.Prelude.{◌≡◌, ◌++◌, codes, OnOk};
-ghost use Rattle.journal_text.specs.Values.{link_text, peer_signal_text, filter_text, position_text, path_text, signal_text, reference_text, side_text, verdict_text, sent_text, detached_text};
+ghost use Rattle.journal_text.specs.Values.{link_text, peer_signal_text, filter_text};
+ghost use Rattle.journal_text.specs.Values.{position_text, path_text, signal_text, reference_text};
+ghost use Rattle.journal_text.specs.Values.{side_text, verdict_text, sent_text, detached_text};
 ghost use Rattle.journal_text.specs.Steps.{head_text};
 
 use crate::digits::write_bytes;
@@ -23,7 +25,8 @@ pub(crate) fn write_sending(
     answer: SentTo,
 ) -> Result<(), NoMemory>
     ensures { OnOk result (out.new.items ≡ out.old.items
-        ++ (word.now ++ peer_signal_text names.now peer.now note.now ++ codes " " ++ sent_text answer)) }
+        ++ (word.now ++ peer_signal_text names.now peer.now note.now ++ codes " "
+        ++ sent_text answer)) }
 {
     write_bytes(out, word)?;
     write_peer_signal(out, names, peer, note)?;
@@ -97,7 +100,8 @@ fn write_word_and_link(
     word: &[u8],
     link: LinkNo,
 ) -> Result<(), NoMemory>
-    ensures { OnOk result (out.new.items ≡ out.old.items ++ (word.now ++ link_text names.now link.0)) }
+    ensures { OnOk result (out.new.items
+        ≡ out.old.items ++ (word.now ++ link_text names.now link.0)) }
 {
     write_bytes(out, word)?;
     write_link(out, names, link)

@@ -1,7 +1,7 @@
-//! The printed text of a journal: the lines of each step, the log of each incarnation, and the whole
-//! text of both. Each part of a line has one spelling, a definition by cases in `specs/`, and each
-//! call that prints is proved to append just those bytes. What memory refuses isn't printed: a buffer
-//! is left as it was.
+//! The printed text of a journal: the lines of each step, the log of each incarnation, and the
+//! whole text of both. Each part of a line has one spelling, a definition by cases in `specs/`, and
+//! each call that prints is proved to append just those bytes. What memory refuses isn't printed: a
+//! buffer is left as it was.
 #![tactic(auto)]
 
 mod all_logs;

@@ -3,7 +3,8 @@ ghost use Rattle.std.specs.Prelude.{◌≡◌, ◌++◌, Bool, OnOk, OnErr};
 ghost use Rattle.std.specs.List.{list_any};
 ghost use Rattle.std.specs.Option.{option_copied};
 ghost use Rattle.journal.specs.History.{opens, name_in, opening_name};
-ghost use Rattle.journal_text.specs.Blocks.{if_for, effect_logs, head_log, concerned, effect_log, log_lines, log_text};
+ghost use Rattle.journal_text.specs.Blocks.{if_for, effect_logs, head_log, concerned, effect_log};
+ghost use Rattle.journal_text.specs.Blocks.{log_lines, log_text};
 
 use crate::entries::{concerns, write_effect_log, write_head_log, write_title};
 use crate::owners::Owners;

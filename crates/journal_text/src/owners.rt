@@ -21,7 +21,8 @@ pub(crate) struct Owners {
 
 fn note_opening(last: &mut HashMap<u32, Inc>, actor: u32, effect: &Effect) -> Result<(), NoMemory>
     ensures { OnOk result ((q : ℕ) → get nat_eq last.new q
-        ≡ (if actor == q then last_opened (get nat_eq last.old q) (effect.now ∷ []) else get nat_eq last.old q)) }
+        ≡ (if actor == q then last_opened (get nat_eq last.old q) (effect.now ∷ [])
+        else get nat_eq last.old q)) }
 {
     match effect {
         Effect::Opened(inc) => {
@@ -38,7 +39,8 @@ fn note_openings(
     effects: &[Effect],
 ) -> Result<(), NoMemory>
     ensures { OnOk result ((q : ℕ) → get nat_eq last.new q
-        ≡ (if actor == q then last_opened (get nat_eq last.old q) effects.now else get nat_eq last.old q)) }
+        ≡ (if actor == q then last_opened (get nat_eq last.old q) effects.now
+        else get nat_eq last.old q)) }
 {
     for effect in effects {
         note_opening(last, actor, effect)?;
@@ -82,7 +84,8 @@ impl Owners {
 
     /// Takes in the next step.
     pub(crate) fn note(&mut self, step: &Step) -> Result<(), NoMemory>
-        ensures { (P : List Step) → Tracks P self.old → OnOk result (Tracks (step.now ∷ P) self.new) }
+        ensures { (P : List Step) → Tracks P self.old
+            → OnOk result (Tracks (step.now ∷ P) self.new) }
     {
         let effects = step.effects.as_slice();
         if let By::Actor(actor) = step.by {

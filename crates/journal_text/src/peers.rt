@@ -1,7 +1,8 @@
 //! How nodes, links, peers and signals are spelled. A node or link that the names lack is `?`.
 ghost use Rattle.std.specs.Prelude.{◌≡◌, ◌++◌, OnOk};
 ghost use Rattle.std.specs.Option.{option_copied};
-ghost use Rattle.journal_text.specs.Values.{halves_text, nth_name, name_or_mark, node_text, link_text, peer_text, signal_text, peer_signal_text};
+ghost use Rattle.journal_text.specs.Values.{halves_text, nth_name, name_or_mark, node_text};
+ghost use Rattle.journal_text.specs.Values.{link_text, peer_text, signal_text, peer_signal_text};
 
 use crate::digits::{write_bytes, write_data, write_number};
 use linx_base::{LinkNo, Name, NameList, Names, NoMemory, NodeNo, Peer, SigNote};
@@ -28,7 +29,8 @@ fn nth(names: &NameList, number: u32) -> Option<&Name>
 }
 
 pub(crate) fn write_name_or_mark(out: &mut Vec<u8>, name: Option<&Name>) -> Result<(), NoMemory>
-    ensures { OnOk result (out.new.items ≡ out.old.items ++ name_or_mark (option_copied name.entry)) }
+    ensures { OnOk result (out.new.items
+        ≡ out.old.items ++ name_or_mark (option_copied name.entry)) }
 {
     match name {
         Some(name) => write_bytes(out, name.bytes()),
@@ -82,7 +84,8 @@ pub(crate) fn write_peer_signal(
     peer: &Peer,
     note: &SigNote,
 ) -> Result<(), NoMemory>
-    ensures { OnOk result (out.new.items ≡ out.old.items ++ peer_signal_text names.now peer.now note.now) }
+    ensures { OnOk result (out.new.items
+        ≡ out.old.items ++ peer_signal_text names.now peer.now note.now) }
 {
     write_peer(out, names, peer)?;
     write_bytes(out, b" ")?;

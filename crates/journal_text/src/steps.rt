@@ -23,7 +23,8 @@ fn write_first_line(
     head: &Head,
 ) -> Result<(), NoMemory>
     ensures { OnOk result (out.new.items ≡ out.old.items
-        ++ (decimal position ++ codes " " ++ maker_text by ++ codes " " ++ head_text names.now head.now
+        ++ (decimal position ++ codes " " ++ maker_text by ++ codes " "
+        ++ head_text names.now head.now
         ++ codes "\n")) }
 {
     write_number(out, position)?;
@@ -65,7 +66,8 @@ pub fn write_step(out: &mut Vec<u8>, journal: &Journal, k: u64) -> Result<(), No
 /// Appends the line `journal N` with the number of steps. A refusal leaves the buffer as it was.
 #[tactic(auto, unfolding(crate::specs::Text::count_text))]
 pub fn write_count(out: &mut Vec<u8>, journal: &Journal) -> Result<(), NoMemory>
-    ensures ok { OnOk result (out.new.items ≡ out.old.items ++ count_text (length journal.now.log.steps)) }
+    ensures ok { OnOk result (out.new.items
+        ≡ out.old.items ++ count_text (length journal.now.log.steps)) }
     ensures err { OnErr result (out.new.items ≡ out.old.items) }
 {
     let mut line = Vec::new(*out.allocator());

@@ -1,7 +1,10 @@
 //! How the other parts of a step are spelled: filters, paths, makers, positions, and the words for
 //! answers and reasons.
 ghost use Rattle.std.specs.Prelude.{◌≡◌, ◌++◌, flat_map, OnOk};
-ghost use Rattle.journal_text.specs.Values.{further_text, numbers_text, filter_text, path_text, maker_text, position_text, reference_text, side_text, swapped_text, verdict_text, reason_text, sent_text, detached_text, refusal_text};
+ghost use Rattle.journal_text.specs.Values.{further_text, numbers_text, filter_text, path_text};
+ghost use Rattle.journal_text.specs.Values.{maker_text, position_text, reference_text, side_text};
+ghost use Rattle.journal_text.specs.Values.{swapped_text, verdict_text, reason_text, sent_text};
+ghost use Rattle.journal_text.specs.Values.{detached_text, refusal_text};
 
 use crate::digits::{write_bytes, write_number};
 use crate::peers::write_link;

@@ -10,7 +10,8 @@ pub loop-done-init : goal.loop-done-init
 loop-done-init c =
     let names : Names = c.args.journal.now.log.names in
     let S : List Step = c.args.journal.now.log.steps in (
-      subst (λ (P : List Step). Tracks P c.new-owners.result) (sym (first_steps_none S)) c.new-owners.ensures,
+      subst (λ (P : List Step). Tracks P c.new-owners.result) (sym (first_steps_none S))
+          c.new-owners.ensures,
       subst (λ (P : List Step). Collects names S P c.new-logs.result) (sym (first_steps_none S))
           (c.new-logs.ensures names S),
     )
@@ -20,5 +21,6 @@ returns c =
     let names : Names = c.args.journal.now.log.names in
     let S : List Step = c.args.journal.now.log.steps in
     let all : c.loop-done.done ≡ length S = omega arith in
-    subst (λ (P : List Step). Collects names S P c.loop-done.logs) (first_steps_done S c.loop-done.done all)
+    subst (λ (P : List Step). Collects names S P c.loop-done.logs)
+    (first_steps_done S c.loop-done.done all)
     c.loop-done.invariant.1

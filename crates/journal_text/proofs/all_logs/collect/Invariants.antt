@@ -6,4 +6,5 @@ use Rattle.journal_text.proofs.all_logs.collect.Given as goal
 -- the owners and the logs are those after the first steps
 abbrev pub invariant-loop-done : goal.invariant-loop-done
 invariant-loop-done l = Tracks (first_steps l.done l.journal.log.steps) l.owners
-    × Collects l.journal.log.names l.journal.log.steps (first_steps l.done l.journal.log.steps) l.logs
+    × Collects l.journal.log.names l.journal.log.steps (first_steps l.done l.journal.log.steps)
+    l.logs

@@ -11,6 +11,8 @@ returns c =
     let S : List Step = c.args.journal.now.log.steps in
     let all : c.loop-done.done ≡ length S = omega arith in
     c.loop-done.invariant
-    ∙ ap (λ (P : List Step). c.args.out.now.items ++ flat_map (opened_log c.args.journal.now.log) (effects_of P))
+    ∙ ap (λ (P : List Step). c.args.out.now.items
+    ++ flat_map (opened_log c.args.journal.now.log) (effects_of P))
     (first_steps_done S c.loop-done.done all)
-    ∙ ap (λ (text : List ℕ). c.args.out.now.items ++ text) (logs_text-effects c.args.journal.now.log)
+    ∙ ap (λ (text : List ℕ). c.args.out.now.items ++ text)
+    (logs_text-effects c.args.journal.now.log)

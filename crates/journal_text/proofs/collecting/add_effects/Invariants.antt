@@ -6,4 +6,5 @@ use Rattle.journal_text.proofs.collecting.add_effects.Given as goal
 -- the effects so far have their lines
 abbrev pub invariant-loop-effect : goal.invariant-loop-effect
 invariant-loop-effect l = (q : ℕ) → kept l.lines q
-    ≡ kept l.initial.lines q ++ effect_logs l.names (record { 0 = q }) (take l.effect-index l.effects)
+    ≡ kept l.initial.lines q ++ effect_logs l.names (record { 0 = q })
+    (take l.effect-index l.effects)

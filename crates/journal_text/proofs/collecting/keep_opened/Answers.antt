@@ -16,7 +16,8 @@ loop-effect-preserved c = λ q.
     let name : Option (List ℕ) = name_in c.args.head.now in
     let old : Option (List ℕ) = get nat_eq c.args.opened.now q in
     let so_far : List Effect = take c.loop-effect.effect-index c.args.effects.now in
-    let grown : list_any p (take (c.loop-effect.effect-index + 1) c.args.effects.now) ≡ (list_any p so_far || p item) =
+    let grown : list_any p (take (c.loop-effect.effect-index + 1) c.args.effects.now)
+    ≡ (list_any p so_far || p item) =
     grind (arith, common_steps, list_any-append) in
     c.in_ok-keep_if_opened.ensures q
     ∙ ap (λ (m : Option (List ℕ)). cond (p item) name m) (c.loop-effect.invariant q)

@@ -5,4 +5,5 @@ use Rattle.journal_text.proofs.effects.write_effects.Given as goal
 -- the effects so far have their lines
 abbrev pub invariant-loop-effect : goal.invariant-loop-effect
 invariant-loop-effect l =
-    l.out.items ≡ l.initial.out.items ++ flat_map (effect_line l.names) (take l.effect-index l.effects)
+    l.out.items ≡ l.initial.out.items
+    ++ flat_map (effect_line l.names) (take l.effect-index l.effects)

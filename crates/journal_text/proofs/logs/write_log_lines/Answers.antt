@@ -9,7 +9,8 @@ use Rattle.journal_text.proofs.logs.write_log_lines.Goals as goal
 pub loop-done-init : goal.loop-done-init
 loop-done-init c =
     let S : List Step = c.args.journal.now.log.steps in (
-      subst (λ (P : List Step). Tracks P c.new-owners.result) (sym (first_steps_none S)) c.new-owners.ensures,
+      subst (λ (P : List Step). Tracks P c.new-owners.result) (sym (first_steps_none S))
+          c.new-owners.ensures,
       log_lines_none c.args.journal.now.log.names S c.args.inc c.args.out.now.items,
     )
 
@@ -21,7 +22,9 @@ loop-done-preserved c =
     let s : Step = c.step_after-step.result.now in (
       subst (λ (R : List Step). Tracks R c.note.new.self) (sym c.step_after-step.ensures.next)
           (c.in_ok-note.ensures P c.loop-done.invariant.0),
-      log_lines_more c.args.journal.now.log.names S P Q c.args.inc s c.endpoint.result c.args.out.now.items
+      log_lines_more c.args.journal.now.log.names S P Q c.args.inc s c.endpoint.result
+          c.args.out.now.items
           c.loop-done.out.items c.write_step_log.new.out.items c.step_after-step.ensures.next
-          (c.endpoint.ensures P c.loop-done.invariant.0) c.loop-done.invariant.1 c.in_ok-write_step_log.ensures,
+          (c.endpoint.ensures P c.loop-done.invariant.0) c.loop-done.invariant.1
+          c.in_ok-write_step_log.ensures,
     )

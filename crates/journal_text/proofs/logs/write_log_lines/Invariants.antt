@@ -8,4 +8,5 @@ use Rattle.journal_text.proofs.logs.write_log_lines.Given as goal
 abbrev pub invariant-loop-done : goal.invariant-loop-done
 invariant-loop-done l = Tracks (first_steps l.done l.journal.log.steps) l.owners
     × (l.out.items ≡ l.initial.out.items
-    ++ log_lines l.journal.log.names l.journal.log.steps (first_steps l.done l.journal.log.steps) l.inc)
+    ++ log_lines l.journal.log.names l.journal.log.steps (first_steps l.done l.journal.log.steps)
+    l.inc)

@@ -4,4 +4,11 @@ use Rattle.journal_text.proofs.Openings.{last_opened_append}
 use Rattle.journal_text.proofs.owners.note_openings.Goals as goal
 
 pub loop-effect-preserved : goal.loop-effect-preserved
-loop-effect-preserved c = λ q. grind (arith, common_steps, last_opened_append, c.loop-effect.invariant q, c.in_ok-note_opening.ensures q)
+loop-effect-preserved c =
+    λ q. grind (
+      arith,
+      common_steps,
+      last_opened_append,
+      c.loop-effect.invariant q,
+      c.in_ok-note_opening.ensures q,
+    )
