@@ -1,2 +1,5 @@
-pub mod Lists
-pub mod Indexing
+mod Lists
+mod Undoing
+mod Indexing
+mod Grouping
+mod Steps

@@ -1,2 +1,3 @@
 pub mod Meanings
-pub mod Index
+pub mod Finding
+pub mod WayBack
