@@ -1,5 +1,5 @@
 -- A table after each change.
-use Rattle.std.proofs.Common.{◌≡◌, ◌≢◌, ℕ, zero, suc, ◌+◌, ◌-◌, ◌*◌, ◌/◌, ◌<◌, ◌≤◌, Bool, true, false, List, [], ◌∷◌, ◌++◌, length, get_or, Option, Some, None, refl, sym, ap, subst, ◌∙◌, arith}
+use Rattle.std.proofs.Common.{◌≡◌, ◌≢◌, ℕ, suc, ◌+◌, ◌-◌, ◌*◌, ◌/◌, ◌<◌, ◌≤◌, Bool, false, List, [], ◌∷◌, ◌++◌, length, Option, Some, refl, sym, ap, subst, ◌∙◌, arith}
 use Rattle.std.specs.Prelude.{slice_get, slice_set, IsSome}
 use Rattle.std.proofs.lemmas.List.{length-set, length-append}
 use Rattle.linx_base.specs.declared.identity.Inc.{Inc}
@@ -8,11 +8,11 @@ use Rattle.link_addresses.specs.declared.meaning.Meaning.TheVariants.{Free, Live
 use Rattle.link_addresses.specs.declared.change.Change.{Change}
 use Rattle.link_addresses.specs.Meanings.{meaning_of, used_in, IsLive, ChangesMeaning}
 use Rattle.link_addresses.specs.Finding.{group_size, AreGroups, IsIndexOf, AnswersAt, IsFirstFree, IsPut}
-use Rattle.link_addresses.specs.WayBack.{change_of, undone, changes_left, changes_left_in, CanReturn, CanUndo, HasRoom, IsTable}
-use Rattle.link_addresses.proofs.Lists.{in_list, live_taken, closing_taken, closing_not_free, live_isnt_free, changes_at, put_changes, put_sum, put_length, put_within, put_bound, count_of, closing_isnt_live, free_isnt_live, left_used}
+use Rattle.link_addresses.specs.WayBack.{change_of, undone, changes_left, CanReturn, CanUndo, HasRoom, IsTable}
+use Rattle.link_addresses.proofs.Lists.{in_list, closing_not_free, live_isnt_free, put_changes, put_sum, put_length, put_within, put_bound, count_of, closing_isnt_live, free_isnt_live, left_used}
 use Rattle.link_addresses.proofs.Undoing.{put_back, can_more, undone_more, can_undo_more, free_returns, slot_is}
 use Rattle.link_addresses.proofs.Indexing.{index_entered, index_same, index_fewer, entries_stay, closed_not_live}
-use Rattle.link_addresses.proofs.Grouping.{groups_same, groups_changed, groups_released}
+use Rattle.link_addresses.proofs.Grouping.{groups_changed, groups_released}
 
 module _ (f : ℕ → Option ℕ) (ms : List Meaning) (full : List Bool) (cs : List Change) (capacity used old_used : ℕ)
     (table : IsTable f ms full cs capacity used old_used) where
