@@ -1,3 +1,4 @@
 pub mod Indexing
 pub mod Entries
 pub mod Kept
+pub mod Finding
