@@ -24,7 +24,8 @@ use Rattle.script_words.specs.Verdicts.{fits_verdict}
 use Rattle.script_words.proofs.Lists.{list_all_push}
 use Rattle.script_lang.specs.declared.actor_script.ActorScript.{ActorScript}
 use Rattle.script_lang.specs.Parts.{ScriptParts, plan_of, with_node, with_link, with_verdict}
-use Rattle.script_lang.specs.Parts.{with_actor}
+use Rattle.script_lang.specs.Parts.{with_actor, planned_at}
+use Rattle.script_lang.specs.declared.plans.Plans.{Plans}
 use Rattle.script_lang.specs.Fits.{is_numbered, is_node, joins, has_end, fits_link, fits_plans}
 use Rattle.script_lang.specs.Fits.{fits_path, fits_command, fits_actor, commands_of, is_among}
 use Rattle.script_lang.specs.Fits.{are_distinct, IsScript}
@@ -177,6 +178,30 @@ module _ (s : ScriptParts) (name : List ℕ) (decl : LinkDecl) where
         commands = h.commands;
       }
 
+-- ---- other plans and other actors
+
+module _ (s : ScriptParts) (plans : List Plans) (actors : List ActorScript) where
+  with_others : ScriptParts
+  with_others = record s { plans = plans; actors = actors }
+
+  others_kept : IsScript s → length plans ≡ length s.links → list_all fits_plans plans ≡ true
+      → length actors ≤ actor_limit → list_all (fits_actor with_others) actors ≡ true
+      → commands_of actors ≤ all_commands_limit → IsScript with_others
+  unfolding with_others
+  others_kept h each_plan all_plans few each_actor commands = record {
+    nodes = h.nodes;
+    node_names = h.node_names;
+    links = h.links;
+    link_names = h.link_names;
+    each_name = h.each_name;
+    each_link = h.each_link;
+    each_plan = each_plan;
+    plans = all_plans;
+    actors = few;
+    each_actor = each_actor;
+    commands = commands;
+  }
+
 -- ---- a verdict
 
 module _ (s : ScriptParts) (link : LinkNo) (from : Side) (verdict : Verdict) where
@@ -185,20 +210,13 @@ module _ (s : ScriptParts) (link : LinkNo) (from : Side) (verdict : Verdict) whe
 
   pub verdict_kept : IsScript s → length (plan_of s link from) < verdict_limit
       → fits_verdict verdict ≡ true → IsScript (with_verdict s link from verdict)
-  verdict_kept h room fits = record {
-    nodes = h.nodes;
-    node_names = h.node_names;
-    links = h.links;
-    link_names = h.link_names;
-    each_name = h.each_name;
-    each_link = h.each_link;
-    each_plan = length-planned_at from verdict s.plans (link.0 - 1) ∙ h.each_plan;
-    plans = planned_at_fits s.plans (link.0 - 1) from verdict h.plans room fits;
-    actors = h.actors;
-    each_actor =
-        actors_grow s (with_verdict s link from verdict) verdict_grows s.actors h.each_actor;
-    commands = h.commands;
-  }
+  unfolding with_others
+  verdict_kept h room fits =
+      others_kept s (planned_at s.plans (link.0 - 1) from verdict) s.actors h
+      (length-planned_at from verdict s.plans (link.0 - 1) ∙ h.each_plan)
+      (planned_at_fits s.plans (link.0 - 1) from verdict h.plans room fits) h.actors
+      (actors_grow s (with_verdict s link from verdict) verdict_grows s.actors h.each_actor)
+      h.commands
 
 -- ---- an actor
 
@@ -213,22 +231,14 @@ module _ (s : ScriptParts) (node : NodeNo) (commands : List Command) where
       → length commands ≤ command_limit → list_all (fits_command s node) commands ≡ true
       → commands_of s.actors + length commands ≤ all_commands_limit
       → IsScript (with_actor s node commands)
-  unfolding added
-  actor_kept h room declared few fits all = record {
-    nodes = h.nodes;
-    node_names = h.node_names;
-    links = h.links;
-    link_names = h.link_names;
-    each_name = h.each_name;
-    each_link = h.each_link;
-    each_plan = h.each_plan;
-    plans = h.plans;
-    actors = omega (arith, length-append s.actors (added ∷ []));
-    each_actor = list_all_push _ s.actors added
-        (actors_grow s (with_actor s node commands) script_grows s.actors h.each_actor)
-        (and_from _ _
-        (and_from _ _ declared (le-leb (length commands) command_limit few))
-        (list_all_weaken (fits_command s node) (fits_command (with_actor s node commands) node)
-        commands (command_grows s (with_actor s node commands) script_grows node) fits));
-    commands = omega (arith, sum_by_push (λ (a : ActorScript). length a.commands) s.actors added);
-  }
+  unfolding added with_others
+  actor_kept h room declared few fits all =
+      others_kept s s.plans (s.actors ++ added ∷ []) h h.each_plan h.plans
+      (omega (arith, length-append s.actors (added ∷ [])))
+      (list_all_push _ s.actors added
+      (actors_grow s (with_actor s node commands) script_grows s.actors h.each_actor)
+      (and_from _ _
+      (and_from _ _ declared (le-leb (length commands) command_limit few))
+      (list_all_weaken (fits_command s node) (fits_command (with_actor s node commands) node)
+      commands (command_grows s (with_actor s node commands) script_grows node) fits)))
+      (omega (arith, sum_by_push (λ (a : ActorScript). length a.commands) s.actors added))
