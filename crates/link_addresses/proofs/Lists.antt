@@ -105,9 +105,11 @@ left_used (Free ∷ ms) = let rest = left_used ms in omega (arith, sum_by-cons (
 left_used (Live inc ∷ ms) = let rest = left_used ms in omega (arith, sum_by-cons (λ m. cond (is_used m) 1 0) (Live inc) ms, sum_by-cons changes_left (Live inc) ms)
 left_used (Closing inc ∷ ms) = let rest = left_used ms in omega (arith, sum_by-cons (λ m. cond (is_used m) 1 0) (Closing inc) ms, sum_by-cons changes_left (Closing inc) ms)
 
--- as many as the places that aren't free are used
-pub first_used : (ms : List Meaning) (k : ℕ) → IsFirstFree ms k → k ≤ used_in ms
-first_used ms k first = used_to ms k first.none first.within
+-- the first free place is below a number that is above the count of used addresses
+pub first_below : (ms lent now : List Meaning) (k bound : ℕ) → lent ≡ ms → ms ≡ now → IsFirstFree lent k → used_in now < bound → k < bound
+first_below ms lent now k bound lend same first room =
+    let few = used_to lent k first.none first.within in
+    omega (arith, few, ap used_in lend, ap used_in same, room)
 
 -- ---- a meaning put at a place, or one past the end
 

@@ -4,25 +4,19 @@ use Rattle.std.specs.Prelude.{vec_capacity}
 use Rattle.linx_base.specs.Both.{Both}
 use Rattle.link_addresses.specs.declared.meaning.Meaning.{Meaning}
 use Rattle.link_addresses.specs.declared.meaning.Meaning.TheVariants.{Live}
-use Rattle.link_addresses.specs.Meanings.{used_in, lowest_free, with_lowest, IsLive}
+use Rattle.link_addresses.specs.Meanings.{lowest_free, with_lowest, IsLive}
 use Rattle.link_addresses.specs.Finding.{AreGroups, AnswersAt, IsFirstFree, IsPut}
-use Rattle.link_addresses.proofs.Lists.{lowest_is, put_lowest, first_used}
+use Rattle.link_addresses.proofs.Lists.{lowest_is, put_lowest, first_below}
 use Rattle.link_addresses.proofs.Steps.{was_stays, table_refused, table_published}
 use Rattle.link_addresses.proofs.table.Table.publish.Goals as goal
 
 pub cover-requires-clause-small : goal.cover-requires-clause-small
 cover-requires-clause-small c =
-    let ms = c.self.inside.meanings.items in
-    let first = subst (λ (l : List Meaning). IsFirstFree l c.first_free-place.result) c.deref.ensures.value c.first_free-place.ensures.first in
-    let used : used_in ms ≡ used_in c.args.self.now.is = ap (λ (b : Both (List Meaning)). used_in b.is) c.self.view_is in
-    omega (arith, first_used ms c.first_free-place.result first, used, c.requires.room)
+    first_below _ _ _ c.first_free-place.result 4294967295 c.deref.ensures.value (ap (λ (b : Both (List Meaning)). b.is) c.self.view_is) c.first_free-place.ensures.first c.requires.room
 
 pub overflow_add-addr : goal.overflow_add-addr
 overflow_add-addr c =
-    let ms = c.self.inside.meanings.items in
-    let first = subst (λ (l : List Meaning). IsFirstFree l c.first_free-place.result) c.deref.ensures.value c.first_free-place.ensures.first in
-    let used : used_in ms ≡ used_in c.args.self.now.is = ap (λ (b : Both (List Meaning)). used_in b.is) c.self.view_is in
-    omega (arith, first_used ms c.first_free-place.result first, used, c.requires.room)
+    omega (arith, first_below _ _ _ c.first_free-place.result 4294967295 c.deref.ensures.value (ap (λ (b : Both (List Meaning)). b.is) c.self.view_is) c.first_free-place.ensures.first c.requires.room)
 
 pub invariant_of-self-in_err-enter : goal.invariant_of-self-in_err-enter
 invariant_of-self-in_err-enter c =
