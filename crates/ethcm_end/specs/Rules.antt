@@ -1,6 +1,6 @@
 -- What a packet, a tick, an offered message and a restart make of an end: one small function for
 -- each rule, and their composition. What is sent goes behind the packets that are still to go out.
-use Rattle.std.specs.Prelude.{ℕ, ◌+◌, ◌==◌, nat_lt, if◌then◌else◌, Bool, true, false, Option, None, Some, List, [], ◌∷◌, ◌++◌, map}
+use Rattle.std.specs.Prelude.{ℕ, ◌+◌, ◌==◌, nat_lt, if◌then◌else◌, Bool, true, false, Option, None, Some, List, [], ◌∷◌, ◌++◌, map, drop}
 use Rattle.linx_base.specs.declared.identity.Session.{Session}
 use Rattle.linx_base.specs.declared.frame.ConnKind.{ConnKind}
 use Rattle.linx_base.specs.declared.frame.ConnKind.TheVariants as kinds
@@ -253,11 +253,6 @@ abbrev pub first_of : List Packet → Option Packet
 first_of [] = None
 first_of (p ∷ ps) = Some p
 
--- the packets behind it
-abbrev pub without_first : List Packet → List Packet
-without_first [] = []
-without_first (p ∷ ps) = ps
-
 -- the next packet has gone out
 abbrev pub after_out : EndState → EndState
-after_out s = record s { out = without_first s.out }
+after_out s = record s { out = drop 1 s.out }

@@ -5,10 +5,12 @@ use Rattle.linx_base.specs.declared.identity.Session.{Session}
 use Rattle.linx_base.specs.Frames.{FitsFrame, IsFrame, payload_limit}
 use Rattle.linx_base.specs.Numbers.{IsNumbered}
 use Rattle.ethcm_headers.specs.Packets.{IsPacket}
-use Rattle.ethcm_window.specs.Sending.{HasNumbers, number_limit}
-use Rattle.ethcm_window.specs.Receiving.{KeepsInOrder}
+use Rattle.ethcm_session.specs.declared.standing.TalkState.{TalkState}
+use Rattle.ethcm_session.specs.Table.{peer_in}
+use Rattle.ethcm_window.specs.Sending.{HasNumbers, Sender, number_limit}
+use Rattle.ethcm_window.specs.Receiving.{KeepsInOrder, Receiver}
 use Rattle.link_supervisor.specs.Loss.{lost_at}
-use Rattle.ethcm_end.specs.States.{EndState, peer_of}
+use Rattle.ethcm_end.specs.States.{EndState}
 
 -- a session of 64 bits that isn't the unknown one
 abbrev pub IsKnown : Session → Type 0
@@ -18,19 +20,29 @@ IsKnown session = (0 < session.0) × (session.0 < 2 ^ 64)
 abbrev pub IsPiece : ℕ → Type 0
 IsPiece piece = (64 ≤ piece) × (piece ≤ payload_limit)
 
+-- a session that has a boot number and a count from 1, and a known peer where it is up
+pub record IsSoundTalk (talk : TalkState) : Type 0 where
+  pub numbered : IsNumbered talk.mine
+  pub mine : IsKnown talk.mine
+  pub peer : ForSome (peer_in talk.standing) IsKnown
+
+-- the frames that a sender has are pieces of messages, whose numbers fit their fields, and each has
+-- a number
+pub record IsSoundSender (tx : Sender) : Type 0 where
+  pub frames : All IsFrame tx.frames
+  pub fitting : All FitsFrame tx.frames
+  pub given : HasNumbers tx
+
+-- a receiver that keeps frames in order of their numbers, none below the expected one
+pub record IsSoundReceiver (rx : Receiver) : Type 0 where
+  pub expected : rx.expected ≤ number_limit
+  pub in_order : KeepsInOrder rx.expected rx.kept
+
 -- an end whose numbers are within their bounds
 pub record IsSound (s : EndState) : Type 0 where
-  -- its session has a boot number and a count from 1
-  pub numbered : IsNumbered s.talk.mine
-  pub mine : IsKnown s.talk.mine
-  pub peer : ForSome (peer_of s) IsKnown
-  -- the frames that it sends are pieces of messages, and each has a number
-  pub frames : All IsFrame s.tx.frames
-  pub fitting : All FitsFrame s.tx.frames
-  pub given : HasNumbers s.tx
-  -- the frames that it keeps are in order of their numbers, behind the expected one
-  pub expected : s.rx.expected ≤ number_limit
-  pub in_order : KeepsInOrder s.rx.expected s.rx.kept
+  pub talk : IsSoundTalk s.talk
+  pub tx : IsSoundSender s.tx
+  pub rx : IsSoundReceiver s.rx
   pub ticks : s.ticks < lost_at
   pub piece : IsPiece s.piece
   -- all that is still to go out are packets

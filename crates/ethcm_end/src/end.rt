@@ -1,4 +1,5 @@
 ghost use Rattle.std.specs.Prelude.{◌≡◌, ◌<◌, ◌≤◌, Some, IfOk, OnOk, OnErr, IfSome, option_map};
+ghost use Rattle.std.specs.Option.{ForSome};
 ghost use Rattle.linx_base.specs.Both.{still};
 ghost use Rattle.linx_base.specs.Frames.{IsMessage};
 ghost use Rattle.linx_base.specs.Numbers.{boot_of};
@@ -13,7 +14,7 @@ ghost use Rattle.ethcm_end.specs.Rules.{after_out, first_of, input_of, offer_of,
 use crate::answers::{Input, Ticked};
 use crate::events::{take_offer, take_packet, take_tick};
 use crate::parts::Parts;
-use ethcm_headers::{Packet, ReadError, read, write};
+use ethcm_headers::{Packet, ReadError, read};
 use linx_base::{Blob, Message, NoMemory, Session};
 use std::alloc::Global;
 use std::marker::Model;
@@ -178,16 +179,12 @@ impl End {
     pub fn out(&mut self) -> Result<Option<Blob>, NoMemory>
         ensures bytes { IfOk result (λ bytes. bytes ≡ option_map spelling_of (first_of self.old.is.out)) }
         ensures is { OnOk result (self.new.is ≡ after_out self.old.is) }
-        ensures packet { (packet : AnyPacket) → first_of self.old.is.out ≡ Some packet → IsPacket packet }
+        ensures packet { ForSome (first_of self.old.is.out) IsPacket }
         ensures was { self.new.was ≡ self.old.was }
         ensures err { OnErr result (self.new ≡ self.old) }
     {
-        let Some(packet) = self.parts.outgoing.first() else {
-            return Ok(None);
-        };
-        let bytes = write(self.parts.alloc, packet)?;
-        self.parts.outgoing.pass();
-        Ok(Some(bytes))
+        let bytes = self.parts.out()?;
+        Ok(bytes)
     }
 
     /// The session of this end, which is never 0.

@@ -1,7 +1,7 @@
-ghost use Rattle.std.specs.Prelude.{◌≡◌, [], ◌∷◌, ◌++◌, OnOk};
+ghost use Rattle.std.specs.Prelude.{◌≡◌, [], ◌∷◌, ◌++◌, drop, OnOk};
 ghost use Rattle.std.specs.Option.{option_copied};
 ghost use Rattle.linx_base.specs.Both.{still};
-ghost use Rattle.ethcm_end.specs.Rules.{first_of, without_first};
+ghost use Rattle.ethcm_end.specs.Rules.{first_of};
 
 use ethcm_headers::Packet;
 use linx_base::NoMemory;
@@ -61,7 +61,7 @@ impl Outgoing {
 
     /// The first packet has gone out; nothing where there is none. It takes no memory.
     pub fn pass(&mut self)
-        ensures is { self.new.is ≡ without_first self.old.is }
+        ensures is { self.new.is ≡ drop 1 self.old.is }
         ensures was { self.new.was ≡ self.old.was }
     {
         if self.gone < self.packets.len() {

@@ -1,16 +1,17 @@
-ghost use Rattle.std.specs.Prelude.{◌≡◌, ◌≤◌, [], ◌∷◌, ◌++◌, OnOk, IfOk, IsSome};
+ghost use Rattle.std.specs.Prelude.{◌≡◌, ◌≤◌, [], ◌∷◌, ◌++◌, OnOk, OnErr, IfOk, IsSome, All, option_map};
 ghost use Rattle.linx_base.specs.Both.{still};
+ghost use Rattle.ethcm_headers.specs.Packets.{IsPacket, spelling_of};
 ghost use Rattle.ethcm_session.specs.Table.{HasNext};
 ghost use Rattle.ethcm_end.specs.States.{new_end, peer_of};
-ghost use Rattle.ethcm_end.specs.Rules.{anew, gone_down, packet_of, put, put_ack, put_pieces, replied, restart_of};
+ghost use Rattle.ethcm_end.specs.Rules.{after_out, anew, first_of, gone_down, packet_of, put, put_ack, put_pieces, replied, restart_of};
 
 use crate::outgoing::Outgoing;
-use ethcm_headers::{Packet, Part};
+use ethcm_headers::{Packet, Part, write};
 use ethcm_session::Talk;
 use ethcm_window::{Rx, Tx};
 use fragmenter::Joiner;
 use link_supervisor::Watch;
-use linx_base::{ConnKind, NoMemory, SentFrames, Session};
+use linx_base::{Blob, ConnKind, NoMemory, SentFrames, Session};
 use std::alloc::Global;
 use std::marker::Model;
 
@@ -155,6 +156,23 @@ impl Parts {
             self.put(dst, part)?;
         }
         Ok(())
+    }
+
+    /// Takes out the next packet, as its bytes; `None` exactly where there is none. A refusal changes
+    /// nothing.
+    pub fn out(&mut self) -> Result<Option<Blob>, NoMemory>
+        requires { All IsPacket self.old.is.out }
+        ensures bytes { IfOk result (λ bytes. bytes ≡ option_map spelling_of (first_of self.old.is.out)) }
+        ensures is { OnOk result (self.new.is ≡ after_out self.old.is) }
+        ensures was { self.new.was ≡ self.old.was }
+        ensures err { OnErr result (self.new ≡ self.old) }
+    {
+        let Some(packet) = self.outgoing.first() else {
+            return Ok(None);
+        };
+        let bytes = write(self.alloc, packet)?;
+        self.outgoing.pass();
+        Ok(Some(bytes))
     }
 
     /// The watch, the window and the joiner begin anew. It takes no memory.

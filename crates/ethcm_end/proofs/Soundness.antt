@@ -1,0 +1,275 @@
+-- Each event leaves an end sound, and what it sends are packets.
+use Rattle.std.proofs.Common.{◌≡◌, ◌≢◌, ℕ, suc, ◌+◌, ◌-◌, ◌^◌, ◌<◌, ◌≤◌, ◌↔◌, Bool, true, false, ltb, eqb, leb, ◌&&◌, Option, Some, None, List, [], ◌∷◌, ◌++◌, length, take, drop, map, All, IsSome, refl, ap, sym, subst, ◌∙◌, arith, ◌⊎◌, inl, inr}
+use Rattle.std.specs.Option.{ForSome}
+use Rattle.std.proofs.lemmas.Bool.{leb-true, ltb-true, ltb-false}
+use Rattle.std.proofs.lemmas.Bool.Decides.{eqb_tells}
+use Rattle.std.proofs.lemmas.List.{length-append, length-take, length-drop}
+use Rattle.std.proofs.lemmas.List.Elements.{All-nil, All-cons, All-head, All-tail, All-append, All-take, All-drop, All-filter, All-map}
+use Rattle.linx_base.specs.declared.identity.Session.{Session}
+use Rattle.linx_base.specs.declared.frame.ConnKind.{ConnKind}
+use Rattle.linx_base.specs.declared.frame.ConnKind.TheVariants as kinds
+use Rattle.linx_base.specs.declared.frame.Frame.{Frame}
+use Rattle.linx_base.specs.declared.frame.Frame.TheVariants.{First, Next}
+use Rattle.linx_base.specs.declared.frame.Message.{Message}
+use Rattle.linx_base.specs.declared.frame.SentFrame.{SentFrame}
+use Rattle.linx_base.specs.Frames.{FitsFrame, IsFrame, IsMessage}
+use Rattle.linx_base.specs.Numbers.{count_of}
+use Rattle.ethcm_headers.specs.declared.packets.Packet.{Packet}
+use Rattle.ethcm_headers.specs.declared.packets.Part.{Part}
+use Rattle.ethcm_headers.specs.declared.packets.Part.TheVariants.{Conn, Ack, Nack, Piece}
+use Rattle.ethcm_headers.specs.Packets.{FitsPart, IsPacket, IsPart}
+use Rattle.ethcm_session.specs.declared.standing.Standing.{Standing}
+use Rattle.ethcm_session.specs.declared.standing.Standing.TheVariants.{Connecting, Up}
+use Rattle.ethcm_session.specs.declared.standing.TalkState.{TalkState}
+use Rattle.ethcm_session.specs.Table.{HasNext, after_down, boot_state, peer_in, up_with}
+use Rattle.ethcm_session.proofs.Rows.{by_rows, next_numbered}
+use Rattle.ethcm_window.specs.Sending.{Sender, after_ack, coming_in, from_number, left_of, number_limit, numbered_from, sent_again, sent_end, unacknowledged, with_offered}
+use Rattle.ethcm_window.specs.Receiving.{CountsMissing, KeepsInOrder, Receiver, after_taking, early_limit, kept_above, kept_early, kept_with, missing_count}
+use Rattle.ethcm_window.proofs.Keeping.{front_kept, rises_early, rises_from_expected, rises_taken}
+use Rattle.fragmenter.specs.declared.joiner.Joined.{Joined}
+use Rattle.fragmenter.specs.declared.joiner.Joined.TheVariants.{More, Whole, Broken}
+use Rattle.fragmenter.specs.Joining.{Begun, answer_of, held_after}
+use Rattle.fragmenter.specs.Pieces.{cut, followers, framed, pieces_of}
+use Rattle.fragmenter.proofs.Cuts.{few_pieces, pieces_fit}
+use Rattle.link_supervisor.specs.Loss.{lost_at}
+use Rattle.ethcm_end.specs.States.{EndState, new_end, peer_of}
+use Rattle.ethcm_end.specs.Sound.{IsKnown, IsSound, IsSoundReceiver, IsSoundSender, IsSoundTalk}
+use Rattle.ethcm_end.specs.Rules.{acked, after_out, anew, beat, data_in, finished, first_of, framed_in, gone_down, heard, input_of, kind_in, lost, nacked, offer_in, offer_of, offered, packet_of, piece_packet, put, put_ack, put_pieces, reacts, sent_or_ack, take_frames, take_kept, tick_in, tick_of, tick_up, with_early, with_taken, ask}
+
+-- ---- what goes out
+
+-- a frame with a number, within the bounds of a packet
+record IsSent (sent : SentFrame) : Type 0 where
+  pub numbered : sent.number < number_limit
+  pub frame : IsFrame sent.frame
+  pub fits : FitsFrame sent.frame
+
+module _ (s : EndState) (dst : Session) (part : Part) where
+  -- a packet to a peer
+  is_packet : IsSoundTalk s.talk → IsKnown dst → part ≢ Conn kinds.Connect → IsPart part
+      → FitsPart part → IsPacket (packet_of s dst part)
+  is_packet talk known other within fits =
+      let above : 0 < dst.0 = known.0 in
+      record {
+        bounds = record {
+          sender_known = talk.mine.0;
+          receiver_unknown_in_connect = (λ e. absurd (omega arith), λ e. absurd (other e));
+          part = within;
+        };
+        sender_fits = talk.mine.1;
+        receiver_fits = known.1;
+        part_fits = fits;
+      }
+
+  put_sound : IsSound s → IsPacket (packet_of s dst part) → IsSound (put s dst part)
+  put_sound k packet =
+      record {
+        talk = k.talk;
+        tx = k.tx;
+        rx = k.rx;
+        ticks = k.ticks;
+        piece = k.piece;
+        out = All-append IsPacket s.out (packet_of s dst part ∷ []) k.out
+            (All-cons IsPacket (packet_of s dst part) [] packet (All-nil IsPacket));
+      }
+
+  put_known : IsSound s → IsKnown dst → part ≢ Conn kinds.Connect → IsPart part → FitsPart part
+      → IsSound (put s dst part)
+  put_known k known other within fits =
+      put_sound k (is_packet k.talk known other within fits)
+
+put_ack_sound : (s : EndState) (peer : Session) → IsSound s → IsKnown peer
+    → IsSound (put_ack s peer)
+put_ack_sound s peer k known =
+    let expected = k.rx.expected in
+    put_known s peer (Ack s.rx.expected) k known (λ e. cc) tt (omega arith)
+
+packets_of : (s : EndState) (dst : Session) (sent : List SentFrame) → IsSoundTalk s.talk
+    → s.rx.expected ≤ number_limit → IsKnown dst → All IsSent sent
+    → All (λ f. IsPacket (piece_packet s dst f)) sent
+packets_of s dst [] talk expected known all = All-nil (λ f. IsPacket (piece_packet s dst f))
+packets_of s dst (f ∷ fs) talk expected known all =
+    let first = All-head IsSent f fs all in
+    let rest = packets_of s dst fs talk expected known (All-tail IsSent f fs all) in
+    let is = is_packet s dst (Piece s.rx.expected f.number f.frame) talk known (λ e. cc)
+    (first.numbered, first.frame) (omega arith, first.fits) in
+    All-cons (λ f. IsPacket (piece_packet s dst f)) f fs is rest
+
+put_pieces_sound : (s : EndState) (dst : Session) (sent : List SentFrame) → IsSound s
+    → IsKnown dst → All IsSent sent → IsSound (put_pieces s dst sent)
+put_pieces_sound s dst sent k known all =
+    record {
+      talk = k.talk;
+      tx = k.tx;
+      rx = k.rx;
+      ticks = k.ticks;
+      piece = k.piece;
+      out = All-append IsPacket s.out (map (piece_packet s dst) sent) k.out
+          (All-map IsPacket (piece_packet s dst) sent
+          (packets_of s dst sent k.talk k.rx.expected known all));
+    }
+
+-- ---- the sender
+
+numbered_sent : (n : ℕ) (frames : List Frame) → All IsFrame frames → All FitsFrame frames
+    → n + length frames ≤ number_limit → All IsSent (numbered_from n frames)
+unfolding numbered_from
+numbered_sent n [] is fits h = All-nil IsSent
+numbered_sent n (f ∷ fs) is fits h =
+    All-cons IsSent _ _
+    (record {
+      numbered = omega arith;
+      frame = All-head IsFrame f fs is;
+      fits = All-head FitsFrame f fs fits;
+    })
+    (numbered_sent (suc n) fs (All-tail IsFrame f fs is) (All-tail FitsFrame f fs fits)
+    (omega arith))
+
+module _ (tx : Sender) (k : IsSoundSender tx) where
+  sent_unacknowledged : All IsSent (unacknowledged tx)
+  sent_unacknowledged =
+      let given = k.given in
+      numbered_sent tx.base (take tx.window tx.frames) (All-take IsFrame tx.window tx.frames k.frames)
+      (All-take FitsFrame tx.window tx.frames k.fitting)
+      (omega (arith, length-take tx.window tx.frames))
+
+  sent_from : (n : ℕ) → All IsSent (from_number n (unacknowledged tx))
+  sent_from n = All-filter (λ s. leb n s.number) IsSent (unacknowledged tx) sent_unacknowledged
+
+  sent_again_sent : (next count : ℕ) → All IsSent (sent_again tx next count)
+  sent_again_sent next count = All-take IsSent count _ (sent_from next)
+
+both : (a b : Bool) → (a && b) ≡ true → (a ≡ true) × (b ≡ true)
+both true true e = (refl, refl)
+both true false e = absurd cc
+both false b e = absurd cc
+
+after_ack_sound : (tx : Sender) (next : ℕ) → IsSoundSender tx → IsSoundSender (after_ack tx next)
+after_ack_sound tx next k =
+    let freed : ℕ = next - tx.base in
+    let moved : Sender = record tx { base = next; frames = drop freed tx.frames } in
+    let by : (b : Bool) → (leb tx.base next && leb next (sent_end tx)) ≡ b
+    → IsSoundSender (if b then moved else tx) =
+    λ b. elim b as (λ v. (leb tx.base next && leb next (sent_end tx)) ≡ v
+    → IsSoundSender (if v then moved else tx)) [
+      | true ↦ λ e.
+          let tests = both (leb tx.base next) (leb next (sent_end tx)) e in
+          let from = leb-true _ _ tests.0 in
+          let to = leb-true _ _ tests.1 in
+          let given = k.given in
+          record {
+            frames = All-drop IsFrame freed tx.frames k.frames;
+            fitting = All-drop FitsFrame freed tx.frames k.fitting;
+            given = omega (arith, length-drop freed tx.frames);
+          }
+      | false ↦ λ e. k
+    ] in
+    by (leb tx.base next && leb next (sent_end tx)) refl
+
+-- ---- changes of one part
+
+with_talk : (s : EndState) (talk : TalkState) → IsSound s → IsSoundTalk talk
+    → IsSound (record s { talk = talk })
+with_talk s talk k sound =
+    record { talk = sound; tx = k.tx; rx = k.rx; ticks = k.ticks; piece = k.piece; out = k.out }
+
+with_tx : (s : EndState) (tx : Sender) → IsSound s → IsSoundSender tx
+    → IsSound (record s { tx = tx })
+with_tx s tx k sound =
+    record { talk = k.talk; tx = sound; rx = k.rx; ticks = k.ticks; piece = k.piece; out = k.out }
+
+with_rx : (s : EndState) (rx : Receiver) (held : Option Begun) (asked : Bool) → IsSound s
+    → IsSoundReceiver rx → IsSound (record s { rx = rx; held = held; asked = asked })
+with_rx s rx held asked k sound =
+    record { talk = k.talk; tx = k.tx; rx = sound; ticks = k.ticks; piece = k.piece; out = k.out }
+
+heard_sound : (s : EndState) → IsSound s → IsSound (heard s)
+heard_sound s k =
+    record {
+      talk = k.talk;
+      tx = k.tx;
+      rx = k.rx;
+      ticks = omega arith;
+      piece = k.piece;
+      out = k.out;
+    }
+
+anew_sound : (s : EndState) → IsSound s → IsSound (anew s)
+anew_sound s k =
+    record {
+      talk = k.talk;
+      tx = record {
+        frames = All-nil IsFrame;
+        fitting = All-nil FitsFrame;
+        given = omega arith;
+      };
+      rx = record { expected = omega arith; in_order = tt };
+      ticks = omega arith;
+      piece = k.piece;
+      out = k.out;
+    }
+
+next_known : (session : Session) → IsKnown session → HasNext session
+    → IsKnown (record { 0 = session.0 + 1 })
+next_known session h n = let high = h.1 in (omega arith, omega arith)
+
+down_sound : (talk : TalkState) → IsSoundTalk talk → HasNext talk.mine
+    → IsSoundTalk (after_down talk)
+down_sound talk k n =
+    record {
+      numbered = next_numbered talk.mine k.numbered n;
+      mine = next_known talk.mine k.mine n;
+      peer = λ y e. cc;
+    }
+
+up_sound : (talk : TalkState) (peer : Session) (confirmed : Bool) → IsSoundTalk talk
+    → IsKnown peer → IsSoundTalk (up_with talk peer confirmed)
+up_sound talk peer confirmed k known =
+    record {
+      numbered = k.numbered;
+      mine = k.mine;
+      peer = λ y e. let same : peer ≡ y = grind arith in subst IsKnown same known;
+    }
+
+gone_down_sound : (s : EndState) → IsSound s → HasNext s.talk.mine → IsSound (gone_down s)
+gone_down_sound s k n =
+    anew_sound (record s { talk = after_down s.talk })
+    (with_talk s (after_down s.talk) k (down_sound s.talk k.talk n))
+
+-- ---- the receiver
+
+taken_sound : (n : ℕ) (kept : List SentFrame) (held : Option Begun) (made : Joined)
+    → n ≤ number_limit → KeepsInOrder n kept → IsSoundReceiver (take_kept n kept held made).rx
+unfolding take_kept
+taken_sound n [] held More h r = record { expected = h; in_order = r }
+taken_sound n [] held (Whole m) h r = record { expected = h; in_order = r }
+taken_sound n [] held Broken h r = record { expected = h; in_order = r }
+taken_sound n (s ∷ kept) held (Whole m) h r = record { expected = h; in_order = r }
+taken_sound n (s ∷ kept) held Broken h r = record { expected = h; in_order = r }
+taken_sound n (s ∷ kept) held More h r =
+    let rises = rises_from_expected n (s ∷ kept) r in
+    elim (eqb_tells s.number n) [
+      | inl same ↦
+          let found = front_kept 0 n (s ∷ kept) s rises refl (omega arith) same.1 in
+          let below = found.1 in
+          let above : kept ≡ kept_above n (s ∷ kept) = found.0 in
+          let order : KeepsInOrder (n + 1) kept =
+          subst (KeepsInOrder (n + 1)) (sym above) (rises_taken n (s ∷ kept) r) in
+          rw same.0 (taken_sound (n + 1) kept (held_after held s.frame) (answer_of held s.frame)
+          (omega arith) order)
+      | inr other ↦ rw other.0 (record { expected = h; in_order = r })
+    ]
+
+early_sound : (rx : Receiver) (sent : SentFrame) → IsSoundReceiver rx → rx.expected < sent.number
+    → sent.number < number_limit
+    → IsSoundReceiver (record rx { kept = kept_early rx.expected rx.kept sent })
+early_sound rx sent k early numbered =
+    let by : (b : Bool) → ltb sent.number (rx.expected + early_limit) ≡ b
+    → KeepsInOrder rx.expected (if b then kept_with sent rx.kept else rx.kept) =
+    λ b. elim b as (λ v. ltb sent.number (rx.expected + early_limit) ≡ v
+    → KeepsInOrder rx.expected (if v then kept_with sent rx.kept else rx.kept)) [
+      | true ↦ λ e.
+          rises_early rx.expected rx.kept k.in_order sent (ltb-true _ _ e) early numbered
+      | false ↦ λ e. k.in_order
+    ] in
+    record { expected = k.expected; in_order = by (ltb sent.number (rx.expected + early_limit)) refl }
