@@ -1,7 +1,7 @@
 -- Each event leaves an end sound, and what it sends are packets.
-use Rattle.std.proofs.Common.{◌≡◌, ◌≢◌, ℕ, suc, ◌+◌, ◌-◌, ◌^◌, ◌<◌, ◌≤◌, ◌↔◌, Bool, true, false, ltb, eqb, leb, ◌&&◌, Option, Some, None, List, [], ◌∷◌, ◌++◌, length, take, drop, map, All, IsSome, refl, ap, sym, subst, ◌∙◌, arith, ◌⊎◌, inl, inr}
+use Rattle.std.proofs.Common.{◌≡◌, ◌≢◌, if◌then◌else◌, ℕ, suc, ◌+◌, ◌-◌, ◌^◌, ◌<◌, ◌≤◌, ◌↔◌, Bool, true, false, ltb, eqb, leb, ◌&&◌, Option, Some, None, List, [], ◌∷◌, ◌++◌, length, take, drop, map, All, IsSome, refl, ap, sym, subst, ◌∙◌, arith, ◌⊎◌, inl, inr}
 use Rattle.std.specs.Option.{ForSome}
-use Rattle.std.proofs.lemmas.Bool.{leb-true, ltb-true, ltb-false}
+use Rattle.std.proofs.lemmas.Bool.{cases_lt, le-ltb, leb-true, lt-ltb, ltb-true}
 use Rattle.std.proofs.lemmas.Bool.Decides.{eqb_tells}
 use Rattle.std.proofs.lemmas.List.{length-append, length-take, length-drop}
 use Rattle.std.proofs.lemmas.List.Elements.{All-nil, All-cons, All-head, All-tail, All-append, All-take, All-drop, All-filter, All-map}
@@ -24,16 +24,16 @@ use Rattle.ethcm_session.specs.declared.standing.TalkState.{TalkState}
 use Rattle.ethcm_session.specs.Table.{HasNext, after_down, boot_state, peer_in, up_with}
 use Rattle.ethcm_session.proofs.Rows.{by_rows, next_numbered}
 use Rattle.ethcm_window.specs.Sending.{Sender, after_ack, coming_in, from_number, left_of, number_limit, numbered_from, sent_again, sent_end, unacknowledged, with_offered}
-use Rattle.ethcm_window.specs.Receiving.{CountsMissing, KeepsInOrder, Receiver, after_taking, early_limit, kept_above, kept_early, kept_with, missing_count}
-use Rattle.ethcm_window.proofs.Keeping.{front_kept, rises_early, rises_from_expected, rises_taken}
+use Rattle.ethcm_window.specs.Receiving.{KeepsInOrder, Receiver, after_taking, early_limit, kept_above, kept_early, kept_with, missing_count}
+use Rattle.ethcm_window.proofs.Keeping.{counts_missing, front_kept, rises_early, rises_from_expected, rises_taken}
 use Rattle.fragmenter.specs.declared.joiner.Joined.{Joined}
 use Rattle.fragmenter.specs.declared.joiner.Joined.TheVariants.{More, Whole, Broken}
 use Rattle.fragmenter.specs.Joining.{Begun, answer_of, held_after}
 use Rattle.fragmenter.specs.Pieces.{cut, followers, framed, pieces_of}
 use Rattle.fragmenter.proofs.Cuts.{few_pieces, pieces_fit}
 use Rattle.link_supervisor.specs.Loss.{lost_at}
-use Rattle.ethcm_end.specs.States.{EndState, new_end, peer_of}
-use Rattle.ethcm_end.specs.Sound.{IsKnown, IsSound, IsSoundReceiver, IsSoundSender, IsSoundTalk}
+use Rattle.ethcm_end.specs.States.{EndState, Reaction, gives}
+use Rattle.ethcm_end.specs.Sound.{FitsMessage, IsKnown, IsSound, IsSoundReceiver, IsSoundSender, IsSoundTalk}
 use Rattle.ethcm_end.specs.Rules.{acked, after_out, anew, beat, data_in, finished, first_of, framed_in, gone_down, heard, input_of, kind_in, lost, nacked, offer_in, offer_of, offered, packet_of, piece_packet, put, put_ack, put_pieces, reacts, sent_or_ack, take_frames, take_kept, tick_in, tick_of, tick_up, with_early, with_taken, ask}
 
 -- ---- what goes out
@@ -273,3 +273,238 @@ early_sound rx sent k early numbered =
       | false ↦ λ e. k.in_order
     ] in
     record { expected = k.expected; in_order = by (ltb sent.number (rx.expected + early_limit)) refl }
+
+-- ---- the data rules
+
+module _ (s : EndState) (peer : Session) (k : IsSound s) (known : IsKnown peer) where
+  acked_sound : (next : ℕ) → IsSound (acked s peer next)
+  acked_sound next =
+      let tx : Sender = after_ack s.tx next in
+      let sound = after_ack_sound s.tx next k.tx in
+      put_pieces_sound (record s { tx = tx }) peer (coming_in s.tx tx) (with_tx s tx k sound) known
+      (sent_from tx sound (sent_end s.tx))
+
+  ask_sound : IsSound (ask s peer)
+  ask_sound =
+      let counts = counts_missing s.rx.expected s.rx.kept k.rx.in_order in
+      let expected = k.rx.expected in
+      let missing : Part = Nack s.rx.expected (missing_count s.rx.expected s.rx.kept) in
+      let sent = put_known s peer missing k known (λ e. cc) (counts.at_least, counts.at_most)
+      (omega arith) in
+      elim s.asked as (λ b. IsSound (if b then s else record (put s peer missing) { asked = true })) [
+        | true ↦ k
+        | false ↦ with_rx (put s peer missing) s.rx s.held true sent k.rx
+      ]
+
+nacked_sound : (s : EndState) (peer : Session) (next count : ℕ) → IsSound s → IsKnown peer
+    → IsSound (nacked s peer next count)
+nacked_sound s peer next count k known =
+    let sound = acked_sound s peer k known next in
+    put_pieces_sound (acked s peer next) peer (sent_again (acked s peer next).tx next count) sound
+    known (sent_again_sent (acked s peer next).tx sound.tx next count)
+
+finished_sound : (s : EndState) (peer : Session) (made : Joined) → IsSound s → IsKnown peer
+    → HasNext s.talk.mine → IsSound (finished s peer made).state
+finished_sound s peer More k known n = put_ack_sound s peer k known
+finished_sound s peer (Whole m) k known n = put_ack_sound s peer k known
+finished_sound s peer Broken k known n = gone_down_sound s k n
+
+took_sound : (s : EndState) (peer : Session) (frame : Frame) → IsSound s → IsKnown peer
+    → HasNext s.talk.mine → s.rx.expected < number_limit
+    → IsSound (finished (with_taken s (take_frames s frame)) peer (take_frames s frame).made).state
+took_sound s peer frame k known n below =
+    let taken = take_frames s frame in
+    let rx = taken_sound (s.rx.expected + 1) (kept_above s.rx.expected s.rx.kept)
+    (held_after s.held frame) (answer_of s.held frame) (omega arith)
+    (rises_taken s.rx.expected s.rx.kept k.rx.in_order) in
+    finished_sound (with_taken s taken) peer taken.made
+    (with_rx s taken.rx taken.held false k rx) known n
+
+framed_sound : (s : EndState) (peer : Session) (sent : SentFrame) → IsSound s → IsKnown peer
+    → HasNext s.talk.mine → sent.number < number_limit → IsSound (framed_in s peer sent).state
+framed_sound s peer sent k known n numbered =
+    elim (eqb_tells sent.number s.rx.expected) [
+      | inl same ↦
+          let at = same.1 in
+          rw same.0 (took_sound s peer sent.frame k known n (omega arith))
+      | inr other ↦ elim (cases_lt sent.number s.rx.expected) [
+        | inl lower ↦ rw (other.0, lt-ltb _ _ lower) (put_ack_sound s peer k known)
+        | inr from ↦
+            let apart = other.1 in
+            let rx = early_sound s.rx sent k.rx (omega arith) numbered in
+            rw (other.0, le-ltb _ _ from) (ask_sound (with_early s sent) peer
+            (with_rx s (with_early s sent).rx s.held s.asked k rx) known)
+      ]
+    ]
+
+-- a part within its bounds, whose numbers fit their fields
+data_sound : (s : EndState) (peer : Session) (part : Part) → IsSound s → IsKnown peer
+    → HasNext s.talk.mine → IsPart part → IsSound (data_in s peer part).state
+unfolding data_in
+data_sound s peer (Conn kind) k known n within = k
+data_sound s peer (Ack next) k known n within = acked_sound s peer k known next
+data_sound s peer (Nack next count) k known n within = nacked_sound s peer next count k known
+data_sound s peer (Piece next seq frame) k known n within =
+    framed_sound (acked s peer next) peer (record { number = seq; frame = frame })
+    (acked_sound s peer k known next) known n within.0
+
+-- ---- a packet
+
+replied_sound : (s : EndState) (src : Session) (kind : ConnKind) → IsSound s → IsKnown src
+    → kind ≢ kinds.Connect → IsSound (put s src (Conn kind))
+replied_sound s src kind k known other =
+    put_known s src (Conn kind) k known (λ e. other (grind arith)) tt tt
+
+pub input_sound : (s : EndState) (p : Packet) → IsSound s → IsPacket p → HasNext s.talk.mine
+    → IsSound (input_of s p).state
+unfolding input_of
+input_sound s p k is n =
+    let known : IsKnown p.src = (is.bounds.sender_known, is.sender_fits) in
+    let up : (confirmed : Bool) → IsSound (record s { talk = up_with s.talk p.src confirmed }) =
+    λ c. with_talk s (up_with s.talk p.src c) k (up_sound s.talk p.src c k.talk known) in
+    let down = gone_down_sound s k n in
+    let same = heard_sound s k in
+    by_rows (λ outcome. IsSound (reacts s p.src p.part outcome).state) s.talk p.src p.dst
+    (kind_in p.part) (record {
+      connecting_connect = λ e q. replied_sound s p.src kinds.ConnectAck k known (λ x. cc);
+      connecting_connect_ack = λ e q d.
+          replied_sound (anew (record s { talk = up_with s.talk p.src false })) p.src kinds.Ack
+          (anew_sound _ (up false)) known (λ x. cc);
+      connecting_ack = λ e q d. anew_sound _ (up true);
+      connecting_other = λ e a b c. k;
+      up_lower = λ peer c e l. k;
+      up_greater = λ peer c e l. down;
+      up_connect = λ c e q. replied_sound (heard s) p.src kinds.Ack same known (λ x. cc);
+      up_not_mine = λ c e q d. k;
+      up_reset = λ c e d q. down;
+      up_connect_ack = λ c e d q. replied_sound (heard s) p.src kinds.Ack same known (λ x. cc);
+      up_ack = λ c e d q.
+          data_sound (heard (record s { talk = up_with s.talk p.src true })) p.src p.part
+          (heard_sound _ (up true)) known n is.bounds.part;
+      up_data = λ c e d q.
+          data_sound (heard (record s { talk = up_with s.talk p.src true })) p.src p.part
+          (heard_sound _ (up true)) known n is.bounds.part;
+    })
+
+-- ---- a tick
+
+connect_sound : (s : EndState) → IsSound s → IsSound (put s (record { 0 = 0 }) (Conn kinds.Connect))
+connect_sound s k =
+    put_sound s (record { 0 = 0 }) (Conn kinds.Connect) k (record {
+      bounds = record {
+        sender_known = k.talk.mine.0;
+        receiver_unknown_in_connect = (λ e. refl, λ e. refl);
+        part = tt;
+      };
+      sender_fits = k.talk.mine.1;
+      receiver_fits = omega arith;
+      part_fits = tt;
+    })
+
+again_sound : (s : EndState) (peer : Session) (sent : List SentFrame) → IsSound s → IsKnown peer
+    → All IsSent sent → IsSound (sent_or_ack s peer sent)
+again_sound s peer [] k known all = replied_sound s peer kinds.Ack k known (λ e. cc)
+again_sound s peer (f ∷ fs) k known all = put_pieces_sound s peer (f ∷ fs) k known all
+
+ticked_sound : (s : EndState) → IsSound s → s.ticks + 1 < lost_at
+    → IsSound (record s { ticks = s.ticks + 1; asked = false })
+ticked_sound s k h =
+    record { talk = k.talk; tx = k.tx; rx = k.rx; ticks = h; piece = k.piece; out = k.out }
+
+tick_up_sound : (s : EndState) (peer : Session) → IsSound s → IsKnown peer → HasNext s.talk.mine
+    → IsSound (tick_up s peer).state
+tick_up_sound s peer k known n =
+    elim (cases_lt (s.ticks + 1) lost_at) [
+      | inl before ↦
+          rw (lt-ltb _ _ before)
+          (again_sound (record s { ticks = s.ticks + 1; asked = false }) peer (unacknowledged s.tx)
+          (ticked_sound s k before) known (sent_unacknowledged s.tx k.tx))
+      | inr last ↦
+          rw (le-ltb _ _ last) (gone_down_sound (put s peer (Conn kinds.Reset))
+          (replied_sound s peer kinds.Reset k known (λ e. cc)) n)
+    ]
+
+tick_in_sound : (s : EndState) (standing : Standing) → s.talk.standing ≡ standing → IsSound s
+    → HasNext s.talk.mine → IsSound (tick_in s standing).state
+tick_in_sound s Connecting e k n = connect_sound s k
+tick_in_sound s (Up peer confirmed) e k n =
+    tick_up_sound s peer k (k.talk.peer peer (ap peer_in e)) n
+
+pub tick_sound : (s : EndState) → IsSound s → HasNext s.talk.mine → IsSound (tick_of s).state
+unfolding tick_of
+tick_sound s k n = tick_in_sound s s.talk.standing refl k n
+
+-- ---- an offered message
+
+followers_fit : (payloads : List (List ℕ)) → All FitsFrame (followers payloads)
+unfolding followers
+followers_fit [] = All-nil FitsFrame
+followers_fit (payload ∷ rest) = All-cons FitsFrame _ _ tt (followers_fit rest)
+
+framed_fit : (m : Message) (payloads : List (List ℕ)) → m.from < 2 ^ 32 → m.to < 2 ^ 32
+    → All FitsFrame (framed m payloads)
+unfolding framed
+framed_fit m [] f t = All-nil FitsFrame
+framed_fit m (payload ∷ rest) f t = All-cons FitsFrame _ _ (f, t) (followers_fit rest)
+
+pieces_fitting : (m : Message) (p : ℕ) → FitsMessage m → All FitsFrame (pieces_of m p)
+unfolding pieces_of
+pieces_fitting m p fits = framed_fit m (cut (length m.body) p m.body) fits.0 fits.1
+
+offered_sound : (s : EndState) (peer : Session) (m : Message) → IsSound s → IsKnown peer
+    → IsMessage m → FitsMessage m → 1024 ≤ left_of s.tx → IsSound (offered s peer m)
+offered_sound s peer m k known is fits left =
+    let piece = k.piece.0 in
+    let given = k.tx.given in
+    let few = few_pieces m s.piece piece is in
+    let frames = pieces_of m s.piece in
+    let tx : Sender = with_offered s.tx frames in
+    let sound : IsSoundSender tx = record {
+      frames = All-append IsFrame s.tx.frames frames k.tx.frames
+          (pieces_fit m s.piece (omega arith) k.piece.1 is);
+      fitting = All-append FitsFrame s.tx.frames frames k.tx.fitting
+          (pieces_fitting m s.piece fits);
+      given = omega (arith, length-append s.tx.frames frames);
+    } in
+    put_pieces_sound (record s { tx = tx }) peer (coming_in s.tx tx) (with_tx s tx k sound) known
+    (sent_from tx sound (sent_end s.tx))
+
+offer_in_sound : (s : EndState) (standing : Standing) (m : Message) → s.talk.standing ≡ standing
+    → IsSound s → IsMessage m → FitsMessage m → 1024 ≤ left_of s.tx
+    → IsSound (offer_in s standing m)
+offer_in_sound s Connecting m e k is fits left = k
+offer_in_sound s (Up peer confirmed) m e k is fits left =
+    offered_sound s peer m k (k.talk.peer peer (ap peer_in e)) is fits left
+
+pub offer_sound : (s : EndState) (m : Message) → IsSound s → IsMessage m → FitsMessage m
+    → 1024 ≤ left_of s.tx → IsSound (offer_of s m)
+unfolding offer_of
+offer_sound s m k is fits left = offer_in_sound s s.talk.standing m refl k is fits left
+
+-- ---- what goes out
+
+first_is : (out : List Packet) → All IsPacket out → ForSome (first_of out) IsPacket
+first_is [] all = λ p e. absurd (grind arith)
+first_is (q ∷ qs) all = λ p e.
+    let same : q ≡ p = grind arith in
+    subst IsPacket same (All-head IsPacket q qs all)
+
+pub first_packet : (s : EndState) → IsSound s → ForSome (first_of s.out) IsPacket
+first_packet s k = first_is s.out k.out
+
+pub after_out_sound : (s new : EndState) → IsSound s → new ≡ after_out s → IsSound new
+after_out_sound s new k e =
+    rw e (record {
+      talk = k.talk;
+      tx = k.tx;
+      rx = k.rx;
+      ticks = k.ticks;
+      piece = k.piece;
+      out = All-drop IsPacket 1 s.out k.out;
+    })
+
+-- ---- by the answer of an event
+
+pub sound_after : {A : Type 0} (r : Reaction A) (new : EndState) (answer : A)
+    → gives new answer ≡ r → IsSound r.state → IsSound new
+sound_after r new answer e k = subst IsSound (sym (ap (λ q. q.state) e)) k

@@ -2,6 +2,7 @@
 use Rattle.std.specs.Prelude.{ℕ, ◌^◌, ◌<◌, ◌≤◌, All}
 use Rattle.std.specs.Option.{ForSome}
 use Rattle.linx_base.specs.declared.identity.Session.{Session}
+use Rattle.linx_base.specs.declared.frame.Message.{Message}
 use Rattle.linx_base.specs.Frames.{FitsFrame, IsFrame, payload_limit}
 use Rattle.linx_base.specs.Numbers.{IsNumbered}
 use Rattle.ethcm_headers.specs.Packets.{IsPacket}
@@ -19,6 +20,10 @@ IsKnown session = (0 < session.0) × (session.0 < 2 ^ 64)
 -- pieces have 64 to 8,192 bytes
 abbrev pub IsPiece : ℕ → Type 0
 IsPiece piece = (64 ≤ piece) × (piece ≤ payload_limit)
+
+-- the numbers of a message fit their fields
+abbrev pub FitsMessage : Message → Type 0
+FitsMessage m = (m.from < 2 ^ 32) × (m.to < 2 ^ 32)
 
 -- a session that has a boot number and a count from 1, and a known peer where it is up
 pub record IsSoundTalk (talk : TalkState) : Type 0 where

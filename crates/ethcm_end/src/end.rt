@@ -8,7 +8,7 @@ ghost use Rattle.ethcm_headers.specs.declared.packets.Packet.{Packet as AnyPacke
 ghost use Rattle.ethcm_session.specs.Table.{HasNext};
 ghost use Rattle.ethcm_window.specs.Sending.{left_of};
 ghost use Rattle.ethcm_end.specs.States.{gives, has_work_in, new_end, peer_of};
-ghost use Rattle.ethcm_end.specs.Sound.{IsPiece, IsSound};
+ghost use Rattle.ethcm_end.specs.Sound.{FitsMessage, IsPiece, IsSound};
 ghost use Rattle.ethcm_end.specs.Rules.{after_out, first_of, input_of, offer_of, restart_of, tick_of};
 
 use crate::answers::{Input, Ticked};
@@ -64,6 +64,14 @@ fn beat(parts: &mut Parts) -> Result<Ticked, NoMemory>
     Ok(ticked)
 }
 
+/// The numbers of a message fit their fields.
+fn fits(message: &Message)
+    ensures { FitsMessage message.now }
+{
+    let _from = message.from;
+    let _to = message.to;
+}
+
 /// A message is offered.
 fn send(parts: &mut Parts, message: &Message) -> Result<(), NoMemory>
     requires message { IsMessage message.now }
@@ -74,9 +82,24 @@ fn send(parts: &mut Parts, message: &Message) -> Result<(), NoMemory>
     ensures sound { OnOk result (IsSound parts.new.is) }
 {
     let _ = parts.piece();
-    let (_from, _to) = (message.from, message.to);
+    fits(message);
     take_offer(parts, message)?;
     Ok(())
+}
+
+/// The next packet goes out.
+#[tactic(auto, using(crate::proofs::Soundness::first_packet, crate::proofs::Soundness::after_out_sound))]
+fn hand_out(parts: &mut Parts) -> Result<Option<Blob>, NoMemory>
+    requires { IsSound parts.old.is }
+    ensures bytes { IfOk result (λ bytes. bytes ≡ option_map spelling_of (first_of parts.old.is.out)) }
+    ensures is { OnOk result (parts.new.is ≡ after_out parts.old.is) }
+    ensures was { parts.new.was ≡ parts.old.was }
+    ensures err { OnErr result (parts.new ≡ parts.old) }
+    ensures packet { ForSome (first_of parts.old.is.out) IsPacket }
+    ensures sound { IsSound parts.new.is }
+{
+    let bytes = parts.out()?;
+    Ok(bytes)
 }
 
 impl End {
@@ -183,8 +206,7 @@ impl End {
         ensures was { self.new.was ≡ self.old.was }
         ensures err { OnErr result (self.new ≡ self.old) }
     {
-        let bytes = self.parts.out()?;
-        Ok(bytes)
+        hand_out(&mut self.parts)
     }
 
     /// The session of this end, which is never 0.

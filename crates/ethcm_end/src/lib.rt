@@ -15,3 +15,6 @@ mod parts;
 
 pub use answers::{Input, Ticked};
 pub use end::End;
+
+#[cfg(test)]
+mod tests;
