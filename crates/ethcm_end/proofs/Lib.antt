@@ -1,2 +1,6 @@
 pub mod Kept
 pub mod Soundness
+pub mod ByRule
+pub mod Following
+pub mod Answering
+mod Worked

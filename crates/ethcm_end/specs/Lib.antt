@@ -1,3 +1,5 @@
 pub mod States
 pub mod Rules
 pub mod Sound
+pub mod Rows
+pub mod Answers

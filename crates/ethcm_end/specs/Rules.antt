@@ -1,6 +1,6 @@
 -- What a packet, a tick, an offered message and a restart make of an end: one small function for
 -- each rule, and their composition. What is sent goes behind the packets that are still to go out.
-use Rattle.std.specs.Prelude.{ℕ, ◌+◌, ◌==◌, nat_lt, if◌then◌else◌, Bool, true, false, Option, None, Some, List, [], ◌∷◌, ◌++◌, map, drop}
+use Rattle.std.specs.Prelude.{ℕ, ◌+◌, ◌==◌, nat_lt, if◌then◌else◌, Bool, true, false, Option, None, Some, List, [], ◌∷◌, ◌++◌, map, drop, option_map}
 use Rattle.linx_base.specs.declared.identity.Session.{Session}
 use Rattle.linx_base.specs.declared.frame.ConnKind.{ConnKind}
 use Rattle.linx_base.specs.declared.frame.ConnKind.TheVariants as kinds
@@ -10,7 +10,7 @@ use Rattle.linx_base.specs.declared.frame.SentFrame.{SentFrame}
 use Rattle.ethcm_headers.specs.declared.packets.Packet.{Packet}
 use Rattle.ethcm_headers.specs.declared.packets.Part.{Part}
 use Rattle.ethcm_headers.specs.declared.packets.Part.TheVariants.{Conn, Ack, Nack, Piece}
-use Rattle.ethcm_session.specs.declared.standing.TalkState.{TalkState}
+use Rattle.ethcm_headers.specs.Packets.{spelling_of}
 use Rattle.ethcm_session.specs.declared.standing.Standing.{Standing}
 use Rattle.ethcm_session.specs.declared.standing.Standing.TheVariants.{Connecting, Up}
 use Rattle.ethcm_session.specs.declared.standing.Change.{Change}
@@ -104,17 +104,20 @@ take_kept expected (s ∷ kept) held More =
 take_kept expected kept held made =
     record { rx = record { expected = expected; kept = kept }; held = held; made = made }
 
+-- a frame is joined, and then those that are kept from the expected number on
+abbrev pub take_behind : Receiver → Option Begun → Frame → Taken
+take_behind rx held frame =
+    take_kept rx.expected rx.kept (held_after held frame) (answer_of held frame)
+
 -- a frame of the expected number is taken, and then those that are kept behind it
 abbrev pub take_frames : EndState → Frame → Taken
-take_frames s frame =
-    let rx : Receiver = after_taking s.rx in
-    take_kept rx.expected rx.kept (held_after s.held frame) (answer_of s.held frame)
+take_frames s frame = take_behind (after_taking s.rx) s.held frame
 
 -- the end after these frames were taken
 abbrev pub with_taken : EndState → Taken → EndState
 with_taken s taken = record s { rx = taken.rx; held = taken.held; asked = false }
 
--- what the last taken frame made: an acknowledgement goes out, or it was broken and ends the session
+-- what the last taken frame made: all is acknowledged, or it was broken and ends the session
 abbrev pub finished : EndState → Session → Joined → Reaction Input
 finished s peer More = gives (put_ack s peer) Nothing
 finished s peer (Whole message) = gives (put_ack s peer) (Got message)
@@ -204,10 +207,13 @@ abbrev pub sent_or_ack : EndState → Session → List SentFrame → EndState
 sent_or_ack s peer [] = put s peer (Conn kinds.Ack)
 sent_or_ack s peer (f ∷ fs) = put_pieces s peer (f ∷ fs)
 
+-- a tick is counted, and missing frames may be asked for again
+abbrev pub ticked : EndState → EndState
+ticked s = record s { ticks = s.ticks + 1; asked = false }
+
 -- a tick before the last one: what isn't acknowledged is sent again
 abbrev pub beat : EndState → Session → EndState
-beat s peer =
-    sent_or_ack (record s { ticks = s.ticks + 1; asked = false }) peer (unacknowledged s.tx)
+beat s peer = sent_or_ack (ticked s) peer (unacknowledged s.tx)
 
 -- the last tick: the link is lost, and a RESET goes out
 abbrev pub lost : EndState → Session → EndState
@@ -252,6 +258,10 @@ restart_of s boot = new_end boot s.tx.window s.piece
 abbrev pub first_of : List Packet → Option Packet
 first_of [] = None
 first_of (p ∷ ps) = Some p
+
+-- the bytes of the packet that goes out next
+abbrev pub next_bytes : EndState → Option (List ℕ)
+next_bytes s = option_map spelling_of (first_of s.out)
 
 -- the next packet has gone out
 abbrev pub after_out : EndState → EndState

@@ -5,9 +5,8 @@ ghost use Rattle.ethcm_headers.specs.Packets.{IsPart};
 ghost use Rattle.ethcm_session.specs.Table.{HasNext};
 ghost use Rattle.ethcm_window.specs.Sending.{number_limit, sent_frame};
 ghost use Rattle.ethcm_window.specs.Receiving.{missing_count};
-ghost use Rattle.fragmenter.specs.Joining.{answer_of, held_after};
 ghost use Rattle.ethcm_end.specs.States.{peer_of, gives};
-ghost use Rattle.ethcm_end.specs.Rules.{acked, nacked, ask, data_in, finished, framed_in, take_kept};
+ghost use Rattle.ethcm_end.specs.Rules.{acked, nacked, ask, data_in, finished, framed_in, take_behind};
 
 use crate::answers::Input;
 use crate::parts::Parts;
@@ -38,12 +37,12 @@ fn take_nack(parts: &mut Parts, peer: Session, next: u32, count: u32) -> Result<
 /// The frame of the expected number was taken out; it goes to the joiner, and then those that are
 /// kept behind it, until a message is whole.
 fn join_frames(rx: &mut Rx, joiner: &mut Joiner, frame: Frame) -> Result<Joined, NoMemory>
-    ensures rx { let first = answer_of joiner.old.is frame in let held = held_after joiner.old.is frame in
-        OnOk result (rx.new.is ≡ (take_kept rx.old.is.expected rx.old.is.kept held first).rx) }
-    ensures joiner { let first = answer_of joiner.old.is frame in let held = held_after joiner.old.is frame in
-        OnOk result (joiner.new.is ≡ (take_kept rx.old.is.expected rx.old.is.kept held first).held) }
-    ensures made { let first = answer_of joiner.old.is frame in let held = held_after joiner.old.is frame in
-        IfOk result (λ made. made ≡ (take_kept rx.old.is.expected rx.old.is.kept held first).made) }
+    ensures rx { let taken = take_behind rx.old.is joiner.old.is frame in
+        OnOk result (rx.new.is ≡ taken.rx) }
+    ensures joiner { let taken = take_behind rx.old.is joiner.old.is frame in
+        OnOk result (joiner.new.is ≡ taken.held) }
+    ensures made { let taken = take_behind rx.old.is joiner.old.is frame in
+        IfOk result (λ made. made ≡ taken.made) }
     ensures rx_was { rx.new.was ≡ rx.old.was }
     ensures joiner_was { joiner.new.was ≡ joiner.old.was }
 {
@@ -63,7 +62,8 @@ fn join_frames(rx: &mut Rx, joiner: &mut Joiner, frame: Frame) -> Result<Joined,
 fn finish(parts: &mut Parts, peer: Session, made: Joined) -> Result<Input, NoMemory>
     requires up { IsSome (peer_of parts.old.is) }
     requires counted { HasNext parts.old.is.talk.mine }
-    ensures reaction { IfOk result (λ handed. gives parts.new.is handed ≡ finished parts.old.is peer made) }
+    ensures reaction { let reaction = finished parts.old.is peer made in
+        IfOk result (λ handed. gives parts.new.is handed ≡ reaction) }
     ensures was { parts.new.was ≡ parts.old.was }
 {
     match made {
@@ -102,8 +102,8 @@ fn take_frame(parts: &mut Parts, peer: Session, seq: u32, frame: Frame) -> Resul
     requires up { IsSome (peer_of parts.old.is) }
     requires counted { HasNext parts.old.is.talk.mine }
     requires numbered { seq < number_limit }
-    ensures reaction { let sent = sent_frame seq frame in
-        IfOk result (λ handed. gives parts.new.is handed ≡ framed_in parts.old.is peer sent) }
+    ensures reaction { let reaction = framed_in parts.old.is peer (sent_frame seq frame) in
+        IfOk result (λ handed. gives parts.new.is handed ≡ reaction) }
     ensures was { parts.new.was ≡ parts.old.was }
 {
     match parts.rx.accept(seq, frame) {
@@ -130,7 +130,8 @@ pub fn take_part(parts: &mut Parts, peer: Session, part: Part) -> Result<Input, 
     requires up { IsSome (peer_of parts.old.is) }
     requires counted { HasNext parts.old.is.talk.mine }
     requires within { IsPart part }
-    ensures reaction { IfOk result (λ handed. gives parts.new.is handed ≡ data_in parts.old.is peer part) }
+    ensures reaction { let reaction = data_in parts.old.is peer part in
+        IfOk result (λ handed. gives parts.new.is handed ≡ reaction) }
     ensures was { parts.new.was ≡ parts.old.was }
 {
     match part {

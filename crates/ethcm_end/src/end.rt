@@ -9,7 +9,7 @@ ghost use Rattle.ethcm_session.specs.Table.{HasNext};
 ghost use Rattle.ethcm_window.specs.Sending.{left_of};
 ghost use Rattle.ethcm_end.specs.States.{gives, has_work_in, new_end, peer_of};
 ghost use Rattle.ethcm_end.specs.Sound.{FitsMessage, IsPiece, IsSound};
-ghost use Rattle.ethcm_end.specs.Rules.{after_out, first_of, input_of, offer_of, restart_of, tick_of};
+ghost use Rattle.ethcm_end.specs.Rules.{after_out, first_of, input_of, next_bytes, offer_of, restart_of, tick_of};
 
 use crate::answers::{Input, Ticked};
 use crate::events::{take_offer, take_packet, take_tick};
@@ -44,7 +44,8 @@ fn react(parts: &mut Parts, packet: Packet) -> Result<Input, NoMemory>
     requires counted { HasNext parts.old.is.talk.mine }
     requires packet { IsPacket packet }
     requires sound { IsSound parts.old.is }
-    ensures reaction { IfOk result (λ handed. gives parts.new.is handed ≡ input_of parts.old.is packet) }
+    ensures reaction { let reaction = input_of parts.old.is packet in
+        IfOk result (λ handed. gives parts.new.is handed ≡ reaction) }
     ensures was { parts.new.was ≡ parts.old.was }
     ensures sound { OnOk result (IsSound parts.new.is) }
 {
@@ -91,7 +92,7 @@ fn send(parts: &mut Parts, message: &Message) -> Result<(), NoMemory>
 #[tactic(auto, using(crate::proofs::Soundness::first_packet, crate::proofs::Soundness::after_out_sound))]
 fn hand_out(parts: &mut Parts) -> Result<Option<Blob>, NoMemory>
     requires { IsSound parts.old.is }
-    ensures bytes { IfOk result (λ bytes. bytes ≡ option_map spelling_of (first_of parts.old.is.out)) }
+    ensures bytes { IfOk result (λ bytes. bytes ≡ next_bytes parts.old.is) }
     ensures is { OnOk result (parts.new.is ≡ after_out parts.old.is) }
     ensures was { parts.new.was ≡ parts.old.was }
     ensures err { OnErr result (parts.new ≡ parts.old) }
@@ -119,8 +120,11 @@ impl End {
     /// undoes the event.
     pub fn input(&mut self, bytes: &Blob) -> Result<Input, NoMemory>
         requires { HasNext self.old.is.talk.mine }
-        ensures packet { IfOk result (λ handed. (packet : AnyPacket) → Spells packet bytes.now → gives self.new.is handed ≡ input_of self.old.is packet) }
-        ensures no_packet { IfOk result (λ handed. ((packet : AnyPacket) → ¬ (Spells packet bytes.now)) → gives self.new.is handed ≡ gives self.old.is Input.Nothing) }
+        ensures packet { IfOk result (λ handed. (packet : AnyPacket) → Spells packet bytes.now
+            → gives self.new.is handed ≡ input_of self.old.is packet) }
+        ensures no_packet { IfOk result (λ handed.
+            ((packet : AnyPacket) → ¬ (Spells packet bytes.now))
+            → gives self.new.is handed ≡ gives self.old.is Input.Nothing) }
         ensures was { self.new.was ≡ self.old.was }
         ensures err { OnErr result (self.new ≡ still self.old.was) }
     {
@@ -138,7 +142,8 @@ impl End {
     fn take(&mut self, packet: Packet) -> Result<Input, NoMemory>
         requires counted { HasNext self.old.is.talk.mine }
         requires packet { IsPacket packet }
-        ensures reaction { IfOk result (λ handed. gives self.new.is handed ≡ input_of self.old.is packet) }
+        ensures reaction { let reaction = input_of self.old.is packet in
+            IfOk result (λ handed. gives self.new.is handed ≡ reaction) }
         ensures was { self.new.was ≡ self.old.was }
         ensures err { OnErr result (self.new ≡ still self.old.was) }
     {
@@ -186,12 +191,13 @@ impl End {
         }
     }
 
-    /// The node boots again: the end is a new one, with the same window and pieces of the same size.
-    /// It takes no memory.
+    /// The node boots again: the end is a new one, with the same window and pieces of the same
+    /// size. It takes no memory.
     pub fn restart(&mut self, boot: u32)
         requires { 1 ≤ boot }
         ensures is { self.new.is ≡ restart_of self.old.is boot }
-        ensures rises { boot_of self.old.is.talk.mine < boot → self.old.is.talk.mine.0 < self.new.is.talk.mine.0 }
+        ensures rises { let mine = self.old.is.talk.mine in
+            boot_of mine < boot → mine.0 < self.new.is.talk.mine.0 }
         ensures was { self.new.was ≡ self.old.was }
     {
         self.parts.restart(boot);
@@ -200,7 +206,7 @@ impl End {
     /// Takes out the next packet to be put on the wire, as its bytes; `None` exactly where there is
     /// none. A refusal changes nothing.
     pub fn out(&mut self) -> Result<Option<Blob>, NoMemory>
-        ensures bytes { IfOk result (λ bytes. bytes ≡ option_map spelling_of (first_of self.old.is.out)) }
+        ensures bytes { IfOk result (λ bytes. bytes ≡ next_bytes self.old.is) }
         ensures is { OnOk result (self.new.is ≡ after_out self.old.is) }
         ensures packet { ForSome (first_of self.old.is.out) IsPacket }
         ensures was { self.new.was ≡ self.old.was }

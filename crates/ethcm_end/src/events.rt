@@ -44,7 +44,8 @@ fn go_up(parts: &mut Parts, src: Session, reply: bool) -> Result<(), NoMemory>
 pub fn take_packet(parts: &mut Parts, packet: Packet) -> Result<Input, NoMemory>
     requires counted { HasNext parts.old.is.talk.mine }
     requires within { IsPart packet.part }
-    ensures reaction { IfOk result (λ handed. gives parts.new.is handed ≡ input_of parts.old.is packet) }
+    ensures reaction { let reaction = input_of parts.old.is packet in
+        IfOk result (λ handed. gives parts.new.is handed ≡ reaction) }
     ensures was { parts.new.was ≡ parts.old.was }
 {
     let kind = kind_of(&packet.part);
@@ -52,11 +53,11 @@ pub fn take_packet(parts: &mut Parts, packet: Packet) -> Result<Input, NoMemory>
     match parts.talk.input(src, packet.dst, kind) {
         Change::Ignored => Ok(Input::Nothing),
         Change::Heard => {
-            parts.watch.heard();
+            parts.hear();
             take_part(parts, src, packet.part)
         }
         Change::HeardReply(kind) => {
-            parts.watch.heard();
+            parts.hear();
             parts.reply(src, kind)?;
             Ok(Input::Nothing)
         }
@@ -77,7 +78,8 @@ pub fn take_packet(parts: &mut Parts, packet: Packet) -> Result<Input, NoMemory>
 
 /// Sends again what isn't acknowledged, or an ACK of the session where there is nothing.
 fn put_again(parts: &mut Parts, peer: Session) -> Result<(), NoMemory>
-    ensures is { OnOk result (parts.new.is ≡ sent_or_ack parts.old.is peer (unacknowledged parts.old.is.tx)) }
+    ensures is { let sent = unacknowledged parts.old.is.tx in
+        OnOk result (parts.new.is ≡ sent_or_ack parts.old.is peer sent) }
     ensures was { parts.new.was ≡ parts.old.was }
 {
     let again = parts.tx.unacknowledged()?;

@@ -8,8 +8,8 @@ use linx_base::NoMemory;
 use std::alloc::Global;
 use std::marker::Model;
 
-/// The packets that are still to go out, in order, with a way back. Contracts see the list as it was
-/// when an event began and as it is now.
+/// The packets that are still to go out, in order, with a way back. Contracts see the list as it
+/// was when an event began and as it is now.
 #[derive(Drop)]
 pub struct Outgoing {
     /// What was and what is share the list: a packet that went out stays until the event is kept.
@@ -26,9 +26,13 @@ impl Model for Outgoing {
 
     ghost Value = { Both (List Packet) };
 
-    ghost view = { λ o. record { was = take o.old_len o.packets.items; is = drop o.gone o.packets.items } };
+    ghost view = { λ o. record {
+      was = take o.old_len o.packets.items;
+      is = drop o.gone o.packets.items;
+    } };
 
-    ghost invariant = { λ o. (o.gone ≤ length o.packets.items) × (o.old_len ≤ length o.packets.items) };
+    ghost invariant = { λ o.
+        (o.gone ≤ length o.packets.items) × (o.old_len ≤ length o.packets.items) };
 }
 
 impl Outgoing {

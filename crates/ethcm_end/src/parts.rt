@@ -3,7 +3,7 @@ ghost use Rattle.linx_base.specs.Both.{still};
 ghost use Rattle.ethcm_headers.specs.Packets.{IsPacket, spelling_of};
 ghost use Rattle.ethcm_session.specs.Table.{HasNext};
 ghost use Rattle.ethcm_end.specs.States.{new_end, peer_of};
-ghost use Rattle.ethcm_end.specs.Rules.{after_out, anew, first_of, gone_down, packet_of, put, put_ack, put_pieces, replied, restart_of};
+ghost use Rattle.ethcm_end.specs.Rules.{after_out, anew, gone_down, heard, next_bytes, packet_of, put, put_ack, put_pieces, replied, restart_of};
 
 use crate::outgoing::Outgoing;
 use ethcm_headers::{Packet, Part, write};
@@ -158,11 +158,11 @@ impl Parts {
         Ok(())
     }
 
-    /// Takes out the next packet, as its bytes; `None` exactly where there is none. A refusal changes
-    /// nothing.
+    /// Takes out the next packet, as its bytes; `None` exactly where there is none. A refusal
+    /// changes nothing.
     pub fn out(&mut self) -> Result<Option<Blob>, NoMemory>
         requires { All IsPacket self.old.is.out }
-        ensures bytes { IfOk result (λ bytes. bytes ≡ option_map spelling_of (first_of self.old.is.out)) }
+        ensures bytes { IfOk result (λ bytes. bytes ≡ next_bytes self.old.is) }
         ensures is { OnOk result (self.new.is ≡ after_out self.old.is) }
         ensures was { self.new.was ≡ self.old.was }
         ensures err { OnErr result (self.new ≡ self.old) }
@@ -175,6 +175,14 @@ impl Parts {
         Ok(Some(bytes))
     }
 
+    /// The peer was heard: the watch begins anew.
+    pub fn hear(&mut self)
+        ensures is { self.new.is ≡ heard self.old.is }
+        ensures was { self.new.was ≡ self.old.was }
+    {
+        self.watch.heard();
+    }
+
     /// The watch, the window and the joiner begin anew. It takes no memory.
     pub fn begin(&mut self)
         ensures is { self.new.is ≡ anew self.old.is }
@@ -183,7 +191,7 @@ impl Parts {
         self.tx.begin();
         self.rx.begin();
         self.joiner.clear();
-        self.watch.heard();
+        self.hear();
         self.asked = false;
     }
 

@@ -1,0 +1,126 @@
+#!/usr/bin/env bash
+# What a piece of 1,400 bytes costs on its way from one end of a link to the other, in memory: cut,
+# sent, written, read, taken, joined and acknowledged. The sender has twice its window ahead, so the
+# window is always full; a message has 40 pieces. The program that measures it is built in a copy of
+# the crates, so that the gate knows nothing of it. `bench/end.sh try` builds it unproved.
+set -euo pipefail
+top="$(cd "$(dirname "$0")/.." && pwd)"
+work="$(mktemp -d)"
+trap 'rm -rf "$work"' EXIT
+mkdir -p "$work/crates/end_bench/src"
+crates="linx_base ethcm_headers fragmenter ethcm_window ethcm_session link_supervisor ethcm_end"
+for crate in $crates; do
+    (cd "$top/crates" && tar cf - --exclude=out --exclude=must-fail "$crate") | tar xf - -C "$work/crates"
+    grep "^$crate:" "$top/crates.txt" >> "$work/crates.txt"
+done
+echo "end_bench: $crates anyhow" >> "$work/crates.txt"
+cat > "$work/crates/end_bench/src/main.rt" <<'PROGRAM'
+#![tactic(auto)]
+
+use anyhow::Context;
+use ethcm_end::{End, Input};
+use linx_base::{Blob, Message, NoMemory};
+use std::alloc::Global;
+use std::collections::VecDeque;
+use std::time::Instant;
+
+/// The pieces of a message.
+const PIECES: u64 = 40;
+
+fn message(alloc: Global) -> anyhow::Result<Message> {
+    let body = vec![in alloc; 0x5a; 56_000].context("body")?;
+    Ok(Message {
+        from: 7,
+        to: 9,
+        body: Blob::shared(body).context("body")?,
+    })
+}
+
+/// The event stays, and all that the end sends is put on the wire.
+fn put_all(end: &mut End, wire: &mut VecDeque<Blob>) -> anyhow::Result<()> {
+    for _ in 0..u64::MAX {
+        let Some(bytes) = end.out().context("out")? else {
+            break;
+        };
+        let Ok(()) = wire.push_back(bytes) else {
+            return Err(NoMemory).context("wire");
+        };
+    }
+    end.keep();
+    Ok(())
+}
+
+/// The next packet of a wire comes. The answer is whether a message is whole.
+fn take(end: &mut End, from: &mut VecDeque<Blob>, to: &mut VecDeque<Blob>) -> anyhow::Result<bool> {
+    let Some(bytes) = from.pop_front() else {
+        return Ok(false);
+    };
+    if end.mine().count() == u32::MAX {
+        return Ok(false);
+    }
+    let handed = end.input(&bytes).context("input")?;
+    put_all(end, to)?;
+    match handed {
+        Input::Got(_message) => Ok(true),
+        _ => Ok(false),
+    }
+}
+
+fn offer(end: &mut End, message: &Message, to: &mut VecDeque<Blob>) -> anyhow::Result<()> {
+    if end.frames_left() < 1_024 || message.body.is_empty() || message.body.len() > 65_536 {
+        return Ok(());
+    }
+    end.offer(message).context("offer")?;
+    put_all(end, to)
+}
+
+fn tick(end: &mut End, to: &mut VecDeque<Blob>) -> anyhow::Result<()> {
+    if end.mine().count() == u32::MAX {
+        return Ok(());
+    }
+    let _ = end.tick().context("tick")?;
+    put_all(end, to)
+}
+
+fn measured(rt: &HostRuntime, window: u32, pieces: u64) -> anyhow::Result<()> {
+    let alloc = rt.alloc();
+    let message = message(alloc)?;
+    let mut first = End::new(alloc, 1, window, 1_400);
+    let mut second = End::new(alloc, 1, window, 1_400);
+    let mut to_first = VecDeque::new(alloc);
+    let mut to_second = VecDeque::new(alloc);
+    tick(&mut first, &mut to_second)?;
+    let _ = take(&mut second, &mut to_second, &mut to_first)?;
+    let _ = take(&mut first, &mut to_first, &mut to_second)?;
+    let _ = take(&mut second, &mut to_second, &mut to_first)?;
+    let start = Instant::now(rt).context("clock")?;
+    let mut offered: u64 = 0;
+    let mut whole: u64 = 0;
+    for taken in 0..pieces {
+        if offered < pieces && offered < taken.saturating_add(2 * window as u64) {
+            offer(&mut first, &message, &mut to_second)?;
+            offered = offered.saturating_add(PIECES);
+        }
+        if take(&mut second, &mut to_second, &mut to_first)? {
+            whole = whole.saturating_add(1);
+        }
+        let _ = take(&mut first, &mut to_first, &mut to_second)?;
+    }
+    let spent = start.elapsed(rt).context("clock")?.as_nanos();
+    println!(rt; "window {window}, {pieces} pieces: {} ns a piece, {whole} messages", spent / (pieces as u128).max(1))?;
+    Ok(())
+}
+
+fn main(rt: HostRuntime) -> anyhow::Result<()> {
+    for _ in 0..2 {
+        for window in [32, 256] {
+            for pieces in [250_000, 1_000_000] {
+                measured(&rt, window, pieces)?;
+            }
+        }
+    }
+    Ok(())
+}
+PROGRAM
+cd "$work/crates/end_bench"
+rt "${1:-run}"

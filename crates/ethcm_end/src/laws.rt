@@ -1,0 +1,20 @@
+//! What follows from the functions of an end alone. These functions do nothing; their contracts are
+//! the laws.
+
+ghost use Rattle.ethcm_end.specs.Answers.{InputAnswersExactly};
+ghost use Rattle.ethcm_end.specs.Rows.{InputFollowsRules, TickFollowsRules};
+
+/// What a packet makes of an end is what its rule says, in a table with one row a rule.
+pub fn input_follows_rules()
+    ensures { InputFollowsRules }
+{}
+
+/// An end goes up or down by a packet, or hands up a message, exactly where the packet's rule says.
+pub fn input_answers_exactly()
+    ensures { InputAnswersExactly }
+{}
+
+/// What a tick makes of an end is what its rule says.
+pub fn tick_follows_rules()
+    ensures { TickFollowsRules }
+{}
