@@ -1,0 +1,2 @@
+pub mod Attaches
+pub mod Keys
