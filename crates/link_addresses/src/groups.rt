@@ -1,5 +1,5 @@
 //! Groups of neighbouring addresses, which tell where none is free.
-ghost use Rattle.std.specs.Prelude.{◌≡◌, ◌≢◌, ◌<◌, ◌≤◌, ◌*◌, ◌/◌, ℕ, List, suc, false, length, vec_len, OnOk, OnErr, IfSome, IfNone, slice_index_or, slice_set};
+ghost use Rattle.std.specs.Prelude.{◌≡◌, ◌<◌, ◌≤◌, ◌*◌, ◌/◌, List, suc, false, length, OnOk, IfSome, IfNone, slice_set};
 ghost use Rattle.link_addresses.specs.declared.meaning.Meaning.{Meaning as AnyMeaning};
 ghost use Rattle.link_addresses.specs.declared.meaning.Meaning.TheVariants.{Free};
 ghost use Rattle.link_addresses.specs.Meanings.{meaning_of};
