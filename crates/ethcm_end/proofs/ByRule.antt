@@ -46,7 +46,10 @@ by_asking P s peer before now =
     let missing : Part = Nack s.rx.expected (missing_count s.rx.expected s.rx.kept) in
     let asking : EndState = record (put s peer missing) { asked = true } in
     let by : (b : Bool) → s.asked ≡ b → P (if b then s else asking) =
-    λ b. elim b as (λ v. s.asked ≡ v → P (if v then s else asking)) [ true ↦ before | false ↦ now ] in
+    λ b. elim b as (λ v. s.asked ≡ v → P (if v then s else asking)) [
+      | true ↦ before
+      | false ↦ now
+    ] in
     by s.asked refl
 
 module _ (P : Reaction Input → Type 0) (s : EndState) (p : Packet) (rows : Rows P s p)

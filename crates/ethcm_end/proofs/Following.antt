@@ -95,8 +95,11 @@ module _ (s : EndState) (p : Packet) where
       → input_of s p ≡ gives (gone_down s) WentDown
   unfolding input_of
   greater peer e h =
-      rw ((is_up s.talk.standing peer e).1, le-ltb p.src.0 peer.0 (omega arith), lt-ltb peer.0 p.src.0 h)
-      refl
+      rw (
+        (is_up s.talk.standing peer e).1,
+        le-ltb p.src.0 peer.0 (omega arith),
+        lt-ltb peer.0 p.src.0 h,
+      ) refl
 
   piece : (next seq : ℕ) (frame : Frame) → IsBetween s p → p.part ≡ Piece next seq frame
       → input_of s p ≡ framed_in (after_header s p.src next) p.src (sent_frame seq frame)
@@ -116,7 +119,10 @@ module _ (s : EndState) (p : Packet) where
       ≡ gives (ask (with_early (after_header s p.src next) (sent_frame seq frame)) p.src) Nothing
   above next seq frame between e h =
       piece next seq frame between e
-      ∙ rw (ne_eqb seq s.rx.expected (λ q. omega arith), le-ltb seq s.rx.expected (omega arith)) refl
+      ∙ rw (
+        ne_eqb seq s.rx.expected (λ q. omega arith),
+        le-ltb seq s.rx.expected (omega arith),
+      ) refl
 
   expected : (next : ℕ) (frame : Frame) (made : Joined) → IsBetween s p
       → p.part ≡ Piece next s.rx.expected frame → (take_frames s frame).made ≡ made

@@ -28,7 +28,8 @@ take_first n (s ∷ kept) held f r e =
       | inl same ↦
           let above : kept ≡ kept_above n (s ∷ kept) =
           (front_kept 0 n (s ∷ kept) s rises refl (omega arith) same.1).0 in
-          let frame : f ≡ s.frame = let found : Some f ≡ Some s.frame = rw same.0 at e in grind arith in
+          let found : Some f ≡ Some s.frame = rw same.0 at e in
+          let frame : f ≡ s.frame = grind arith in
           rw (same.0, ← above, frame) refl
       | inr other ↦
           let none = (front_missing 0 n (s ∷ kept) s rises refl other.1).0 in

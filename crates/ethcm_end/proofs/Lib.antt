@@ -3,4 +3,4 @@ pub mod Soundness
 pub mod ByRule
 pub mod Following
 pub mod Answering
-mod Worked
+pub mod Worked

@@ -44,6 +44,11 @@ record IsSent (sent : SentFrame) : Type 0 where
   pub frame : IsFrame sent.frame
   pub fits : FitsFrame sent.frame
 
+with_out : (s : EndState) (out : List Packet) → IsSound s → All IsPacket out
+    → IsSound (record s { out = out })
+with_out s out k all =
+    record { talk = k.talk; tx = k.tx; rx = k.rx; ticks = k.ticks; piece = k.piece; out = all }
+
 module _ (s : EndState) (dst : Session) (part : Part) where
   -- a packet to a peer
   is_packet : IsSoundTalk s.talk → IsKnown dst → part ≢ Conn kinds.Connect → IsPart part
@@ -63,15 +68,9 @@ module _ (s : EndState) (dst : Session) (part : Part) where
 
   put_sound : IsSound s → IsPacket (packet_of s dst part) → IsSound (put s dst part)
   put_sound k packet =
-      record {
-        talk = k.talk;
-        tx = k.tx;
-        rx = k.rx;
-        ticks = k.ticks;
-        piece = k.piece;
-        out = All-append IsPacket s.out (packet_of s dst part ∷ []) k.out
-            (All-cons IsPacket (packet_of s dst part) [] packet (All-nil IsPacket));
-      }
+      with_out s (s.out ++ packet_of s dst part ∷ []) k
+      (All-append IsPacket s.out (packet_of s dst part ∷ []) k.out
+      (All-cons IsPacket (packet_of s dst part) [] packet (All-nil IsPacket)))
 
   put_known : IsSound s → IsKnown dst → part ≢ Conn kinds.Connect → IsPart part → FitsPart part
       → IsSound (put s dst part)
@@ -98,16 +97,10 @@ packets_of s dst (f ∷ fs) talk expected known all =
 put_pieces_sound : (s : EndState) (dst : Session) (sent : List SentFrame) → IsSound s
     → IsKnown dst → All IsSent sent → IsSound (put_pieces s dst sent)
 put_pieces_sound s dst sent k known all =
-    record {
-      talk = k.talk;
-      tx = k.tx;
-      rx = k.rx;
-      ticks = k.ticks;
-      piece = k.piece;
-      out = All-append IsPacket s.out (map (piece_packet s dst) sent) k.out
-          (All-map IsPacket (piece_packet s dst) sent
-          (packets_of s dst sent k.talk k.rx.expected known all));
-    }
+    with_out s (s.out ++ map (piece_packet s dst) sent) k
+    (All-append IsPacket s.out (map (piece_packet s dst) sent) k.out
+    (All-map IsPacket (piece_packet s dst) sent
+    (packets_of s dst sent k.talk k.rx.expected known all)))
 
 -- ---- the sender
 
@@ -129,7 +122,8 @@ module _ (tx : Sender) (k : IsSoundSender tx) where
   sent_unacknowledged : All IsSent (unacknowledged tx)
   sent_unacknowledged =
       let given = k.given in
-      numbered_sent tx.base (take tx.window tx.frames) (All-take IsFrame tx.window tx.frames k.frames)
+      numbered_sent tx.base (take tx.window tx.frames)
+      (All-take IsFrame tx.window tx.frames k.frames)
       (All-take FitsFrame tx.window tx.frames k.fitting)
       (omega (arith, length-take tx.window tx.frames))
 
@@ -272,7 +266,10 @@ early_sound rx sent k early numbered =
           rises_early rx.expected rx.kept k.in_order sent (ltb-true _ _ e) early numbered
       | false ↦ λ e. k.in_order
     ] in
-    record { expected = k.expected; in_order = by (ltb sent.number (rx.expected + early_limit)) refl }
+    record {
+      expected = k.expected;
+      in_order = by (ltb sent.number (rx.expected + early_limit)) refl;
+    }
 
 -- ---- the data rules
 
@@ -493,15 +490,7 @@ pub first_packet : (s : EndState) → IsSound s → ForSome (first_of s.out) IsP
 first_packet s k = first_is s.out k.out
 
 pub after_out_sound : (s new : EndState) → IsSound s → new ≡ after_out s → IsSound new
-after_out_sound s new k e =
-    rw e (record {
-      talk = k.talk;
-      tx = k.tx;
-      rx = k.rx;
-      ticks = k.ticks;
-      piece = k.piece;
-      out = All-drop IsPacket 1 s.out k.out;
-    })
+after_out_sound s new k e = rw e (with_out s (drop 1 s.out) k (All-drop IsPacket 1 s.out k.out))
 
 -- ---- by the answer of an event
 

@@ -3,8 +3,27 @@ use linx_base::{Blob, Message, NoMemory, Session};
 use std::alloc::Global;
 use std::test::Fail;
 
-// Packets in hexadecimal digits: MAIN's first four bytes, the sender's session, the receiver's
-// session, and the headers behind them. The end has session 5.1, its peer 9.4.
+/// What happens to an end.
+#[derive(Clone, Copy)]
+enum Event {
+    /// A packet comes, in hexadecimal digits: MAIN's first four bytes, the sender's session, the
+    /// receiver's session, and what stands behind them. The end has session 5.1, its peer 9.4.
+    Packet(&'static str),
+    Tick,
+    /// A message with a body of so many bytes is offered.
+    Offer(usize),
+    Keep,
+    Undo,
+}
+
+/// An event, what it means in a word, and how the next two packets that go out begin: with no digits
+/// where none goes out. Behind these none goes out.
+#[derive(Clone, Copy)]
+struct Row {
+    event: Event,
+    told: &'static str,
+    out: [&'static str; 2],
+}
 
 const CONNECT: &str = "02020018 0000000900000004 0000000000000000 00010000";
 
@@ -16,8 +35,40 @@ const RESET: &str = "02020018 0000000900000004 0000000500000001 00040000";
 
 const ACK_0: &str = "0205001c 0000000900000004 0000000500000001 00000000 00000000";
 
-/// What the end replies.
+/// What the end replies, and what it sends at an idle tick.
 const MY_CONN_ACK: &str = "02020018 0000000500000001 0000000900000004 00030000";
+
+/// The pieces 0 and 1 that the end sends of a message of 300 bytes, with nothing taken.
+const MY_PIECE_0: &str = "02050070 0000000500000001 0000000900000004 03000000 00000000
+    00010000 00000000 00000007 00000009 0000012c";
+
+const MY_PIECE_1: &str = "02050064 0000000500000001 0000000900000004 04000000 00000000
+    00010000 00000001";
+
+const MY_PIECE_2: &str = "02050064 0000000500000001 0000000900000004 04000000 00000000
+    00010000 00000002";
+
+/// Pieces of one byte that come to the end: of a message of two or three bytes, or of none.
+const FIRST_OF_3: &str = "02050031 0000000900000004 0000000500000001 03000000 00000000
+    00010000 00000000 00000007 00000009 00000003 aa";
+
+const FIRST_OF_2: &str = "02050031 0000000900000004 0000000500000001 03000000 00000000
+    00010000 00000000 00000007 00000009 00000002 aa";
+
+const ONLY: &str = "02050031 0000000900000004 0000000500000001 03000000 00000000
+    00000000 00000000 00000007 00000009 00000001 aa";
+
+const NEXT_1: &str = "02050025 0000000900000004 0000000500000001 04000000 00000000
+    00010000 00000001 bb";
+
+const LAST_1: &str = "02050025 0000000900000004 0000000500000001 04000000 00000000
+    00000000 00000001 bb";
+
+const LAST_2: &str = "02050025 0000000900000004 0000000500000001 04000000 00000000
+    00000000 00000002 cc";
+
+const LAST_0: &str = "02050025 0000000900000004 0000000500000001 04000000 00000000
+    00000000 00000000 cc";
 
 fn digit(byte: u8) -> Option<u8> {
     match byte {
@@ -45,107 +96,122 @@ fn bytes_of(alloc: Global, text: &str) -> Result<Vec<u8>, NoMemory> {
     Ok(bytes)
 }
 
-/// A packet comes. What it means is told in a word.
-fn input(alloc: Global, end: &mut End, packet: &str) -> Result<&'static str, Fail> {
-    let bytes = Blob::shared(bytes_of(alloc, packet)?)?;
-    take(end, &bytes)
-}
-
 /// These bytes come. What they mean is told in a word.
 fn take(end: &mut End, bytes: &Blob) -> Result<&'static str, Fail> {
     if end.mine().count() == u32::MAX {
         return Err(Fail::from("no session follows"));
     }
     Ok(match end.input(bytes)? {
-        Input::Nothing => "nothing",
+        Input::Nothing => "",
         Input::WentUp => "up",
         Input::WentDown => "down",
         Input::Got(_) => "got",
     })
 }
 
-fn tick(end: &mut End) -> Result<Ticked, Fail> {
+fn tick(end: &mut End) -> Result<&'static str, Fail> {
     if end.mine().count() == u32::MAX {
         return Err(Fail::from("no session follows"));
     }
-    Ok(end.tick()?)
-}
-
-/// Whether this packet goes out next; no digits where none does.
-fn sends(alloc: Global, end: &mut End, packet: &str) -> Result<bool, Fail> {
-    let bytes = bytes_of(alloc, packet)?;
-    Ok(match end.out()? {
-        None => bytes.is_empty(),
-        Some(out) => out.bytes() == bytes.as_slice(),
+    Ok(match end.tick()? {
+        Ticked::Stays => "",
+        Ticked::WentDown => "down",
     })
 }
 
-/// The packet that goes out next.
-fn next_out(end: &mut End) -> Result<Blob, Fail> {
-    match end.out()? {
-        None => Err(Fail::from("nothing goes out")),
-        Some(out) => Ok(out),
+fn offer(alloc: Global, end: &mut End, count: usize) -> Result<&'static str, Fail> {
+    let message = Message {
+        from: 7,
+        to: 9,
+        body: Blob::shared(vec![in alloc; 0x5a; count]?)?,
+    };
+    if message.body.is_empty() || message.body.len() > 65_536 || end.frames_left() < 1_024 {
+        return Err(Fail::from("this can't be offered"));
     }
+    end.offer(&message)?;
+    Ok("")
+}
+
+fn happens(alloc: Global, end: &mut End, event: &Event) -> Result<&'static str, Fail> {
+    match event {
+        Event::Packet(digits) => {
+            let bytes = Blob::shared(bytes_of(alloc, digits)?)?;
+            take(end, &bytes)
+        }
+        Event::Tick => tick(end),
+        Event::Offer(count) => offer(alloc, end, *count),
+        Event::Keep => {
+            end.keep();
+            Ok("")
+        }
+        Event::Undo => {
+            end.undo();
+            Ok("")
+        }
+    }
+}
+
+/// Whether the next packet that goes out begins so; with no digits, whether none goes out.
+fn sends(alloc: Global, end: &mut End, digits: &str) -> Result<bool, Fail> {
+    let bytes = bytes_of(alloc, digits)?;
+    Ok(match end.out()? {
+        None => bytes.is_empty(),
+        Some(out) => !bytes.is_empty() && out.bytes().starts_with(&bytes),
+    })
+}
+
+/// How many rows come out as they say, before the first that doesn't.
+fn follows(alloc: Global, end: &mut End, rows: &[Row]) -> Result<usize, Fail> {
+    let mut followed: usize = 0;
+    for row in rows {
+        if happens(alloc, end, &row.event)? != row.told {
+            return Ok(followed);
+        }
+        for digits in [row.out[0], row.out[1], ""] {
+            if !sends(alloc, end, digits)? {
+                return Ok(followed);
+            }
+        }
+        followed = followed.saturating_add(1);
+    }
+    Ok(followed)
 }
 
 /// An end of session 5.1 with pieces of 64 bytes, connecting or up with session 9.4.
 fn end(alloc: Global, window: u32, up: bool) -> Result<End, Fail> {
     let mut end = End::new(alloc, 5, window, 64);
     if up {
-        let _ = input(alloc, &mut end, CONNECT_ACK)?;
+        let _ = happens(alloc, &mut end, &Event::Packet(CONNECT_ACK))?;
         let _ = end.out()?;
     }
     end.keep();
     Ok(end)
 }
 
-/// A message whose body has `count` bytes.
-fn message(alloc: Global, count: usize) -> Result<Message, Fail> {
-    let mut body = Vec::with_capacity(alloc, count)?;
-    for k in 0..count {
-        body.push((k % 251) as u8)?;
-    }
-    Ok(Message {
-        from: 7,
-        to: 9,
-        body: Blob::shared(body)?,
-    })
-}
-
-/// A message of so many bytes is offered.
-fn offer(alloc: Global, end: &mut End, count: usize) -> Result<(), Fail> {
-    let message = message(alloc, count)?;
-    if message.body.is_empty() || message.body.len() > 65_536 || end.frames_left() < 1_024 {
-        return Err(Fail::from("this can't be offered"));
-    }
-    Ok(end.offer(&message)?)
-}
-
 #[test]
 fn every_row_of_the_table_of_sessions(rt: HostRuntime) -> Result<(), Fail> {
-    let alloc = rt.alloc();
     let mine = Session(0x0000_0005_0000_0001);
     for (up, packet, told, reply) in [
         (
             false,
             CONNECT,
-            "nothing",
+            "",
             "02020018 0000000500000001 0000000900000004 00020000",
         ),
         (false, CONNECT_ACK, "up", MY_CONN_ACK),
         (false, CONN_ACK, "up", ""),
-        (false, RESET, "nothing", ""),
-        (false, ACK_0, "nothing", ""),
+        (false, RESET, "", ""),
+        (false, ACK_0, "", ""),
         (
             false,
             "02020018 0000000900000004 0000000500000002 00020000",
-            "nothing",
+            "",
             "",
         ),
         (
             true,
             "02020018 0000000900000003 0000000500000001 00040000",
-            "nothing",
+            "",
             "",
         ),
         (
@@ -154,35 +220,34 @@ fn every_row_of_the_table_of_sessions(rt: HostRuntime) -> Result<(), Fail> {
             "down",
             "",
         ),
-        (true, CONNECT, "nothing", MY_CONN_ACK),
+        (true, CONNECT, "", MY_CONN_ACK),
         (
             true,
             "0205001c 0000000900000004 0000000500000002 00000000 00000000",
-            "nothing",
+            "",
             "",
         ),
         (true, RESET, "down", ""),
-        (true, CONNECT_ACK, "nothing", MY_CONN_ACK),
-        (true, CONN_ACK, "nothing", ""),
-        (true, ACK_0, "nothing", ""),
+        (true, CONNECT_ACK, "", MY_CONN_ACK),
+        (true, CONN_ACK, "", ""),
+        (true, ACK_0, "", ""),
         // A packet of version 1 is none.
         (
             true,
             "01020018 0000000900000004 0000000500000001 00040000",
-            "nothing",
+            "",
             "",
         ),
     ] {
-        let mut end = end(alloc, 32, up)?;
-        assert_eq!(rt; input(alloc, &mut end, packet)?, told, "at {packet}");
-        assert!(rt; sends(alloc, &mut end, reply)?, "at {packet}");
-        assert!(rt; sends(alloc, &mut end, "")?, "at {packet}");
-        let is_up = end.peer().is_some();
-        assert_eq!(rt;
-            is_up,
-            told == "up" || (up && told != "down"),
-            "at {packet}"
-        );
+        let mut end = end(rt.alloc(), 32, up)?;
+        let row = Row {
+            event: Event::Packet(packet),
+            told,
+            out: [reply, ""],
+        };
+        assert_eq!(rt; follows(rt.alloc(), &mut end, &[row])?, 1, "at {packet}");
+        let is_up = told == "up" || (up && told != "down");
+        assert_eq!(rt; end.peer().is_some(), is_up, "at {packet}");
         assert_eq!(rt; end.mine() == mine, told != "down", "at {packet}");
         end.undo();
         assert_eq!(rt; end.peer().is_some(), up, "at {packet}");
@@ -192,324 +257,359 @@ fn every_row_of_the_table_of_sessions(rt: HostRuntime) -> Result<(), Fail> {
 
 #[test]
 fn a_connecting_end_asks_at_each_tick_and_is_never_lost(rt: HostRuntime) -> Result<(), Fail> {
-    let alloc = rt.alloc();
-    let mut end = end(alloc, 32, false)?;
+    let mut end = end(rt.alloc(), 32, false)?;
     for _ in 0..4 {
-        assert_eq!(rt; tick(&mut end)?, Ticked::Stays);
-        let connect = "02020018 0000000500000001 0000000000000000 00010000";
-        assert!(rt; sends(alloc, &mut end, connect)?);
+        let asks = Row {
+            event: Event::Tick,
+            told: "",
+            out: ["02020018 0000000500000001 0000000000000000 00010000", ""],
+        };
+        assert_eq!(rt; follows(rt.alloc(), &mut end, &[asks])?, 1);
     }
     assert!(rt; end.has_work());
     // Nothing is offered to it: this does nothing.
-    offer(alloc, &mut end, 100)?;
-    assert!(rt; sends(alloc, &mut end, "")?);
+    let nothing = Row {
+        event: Event::Offer(100),
+        told: "",
+        out: ["", ""],
+    };
+    assert_eq!(rt; follows(rt.alloc(), &mut end, &[nothing])?, 1);
     assert_eq!(rt; end.frames_left(), u32::MAX);
     Ok(())
 }
 
+/// At each packet from the peer the ticks begin anew; at the third since then the link is lost.
 #[test]
 fn lost_at_the_third_tick_since_the_peer_was_heard(rt: HostRuntime) -> Result<(), Fail> {
-    let alloc = rt.alloc();
-    let mut end = end(alloc, 32, true)?;
-    for packet in [CONNECT, CONNECT_ACK, CONN_ACK, ACK_0] {
-        for _ in 0..2 {
-            assert_eq!(rt; tick(&mut end)?, Ticked::Stays);
-            assert!(rt; sends(alloc, &mut end, MY_CONN_ACK)?);
-        }
-        assert_eq!(rt; input(alloc, &mut end, packet)?, "nothing");
-        let _ = end.out()?;
+    let mut end = end(rt.alloc(), 32, true)?;
+    for (packet, reply) in [
+        (CONNECT, MY_CONN_ACK),
+        (CONNECT_ACK, MY_CONN_ACK),
+        (CONN_ACK, ""),
+        (ACK_0, ""),
+    ] {
+        let rows = [
+            tick_row("", MY_CONN_ACK),
+            tick_row("", MY_CONN_ACK),
+            Row {
+                event: Event::Packet(packet),
+                told: "",
+                out: [reply, ""],
+            },
+        ];
+        assert_eq!(rt; follows(rt.alloc(), &mut end, &rows)?, 3, "at {packet}");
     }
-    assert_eq!(rt; tick(&mut end)?, Ticked::Stays);
-    assert_eq!(rt; tick(&mut end)?, Ticked::Stays);
-    let _ = end.out()?;
-    let _ = end.out()?;
-    assert_eq!(rt; tick(&mut end)?, Ticked::WentDown);
-    let reset = "02020018 0000000500000001 0000000900000004 00040000";
-    assert!(rt; sends(alloc, &mut end, reset)?);
-    assert_eq!(rt; end.mine(), Session(0x0000_0005_0000_0002));
-    assert_eq!(rt; end.peer(), None);
+    let rows = [
+        tick_row("", MY_CONN_ACK),
+        tick_row("", MY_CONN_ACK),
+        tick_row(
+            "down",
+            "02020018 0000000500000001 0000000900000004 00040000",
+        ),
+        tick_row("", "02020018 0000000500000002 0000000000000000 00010000"),
+    ];
+    assert_eq!(rt; follows(rt.alloc(), &mut end, &rows)?, 4);
     Ok(())
+}
+
+fn tick_row(told: &'static str, out: &'static str) -> Row {
+    Row {
+        event: Event::Tick,
+        told,
+        out: [out, ""],
+    }
+}
+
+fn packet_row(packet: &'static str, told: &'static str, out: &'static str) -> Row {
+    Row {
+        event: Event::Packet(packet),
+        told,
+        out: [out, ""],
+    }
 }
 
 #[test]
 fn data_confirms_and_connect_ack_does_not(rt: HostRuntime) -> Result<(), Fail> {
-    let alloc = rt.alloc();
-    let mut end = end(alloc, 32, true)?;
+    let mut end = end(rt.alloc(), 32, true)?;
     assert!(rt; end.has_work());
-    assert_eq!(rt; input(alloc, &mut end, CONNECT_ACK)?, "nothing");
-    assert!(rt; end.has_work());
-    assert_eq!(rt; input(alloc, &mut end, ACK_0)?, "nothing");
-    assert!(rt; !end.has_work());
-    offer(alloc, &mut end, 1)?;
+    for (packet, reply, has_work) in [(CONNECT_ACK, MY_CONN_ACK, true), (ACK_0, "", false)] {
+        let row = packet_row(packet, "", reply);
+        assert_eq!(rt; follows(rt.alloc(), &mut end, &[row])?, 1);
+        assert_eq!(rt; end.has_work(), has_work);
+    }
+    let _ = offer(rt.alloc(), &mut end, 1)?;
     assert!(rt; end.has_work());
     Ok(())
 }
 
-#[test]
-fn a_message_of_100_bytes_goes_out_in_two_pieces(rt: HostRuntime) -> Result<(), Fail> {
-    let alloc = rt.alloc();
-    let mut end = end(alloc, 32, true)?;
-    offer(alloc, &mut end, 100)?;
-    let first = next_out(&mut end)?;
-    let head = bytes_of(
-        alloc,
-        "02050070 0000000500000001 0000000900000004 03000000 00000000
-            00010000 00000000 00000007 00000009 00000064",
-    )?;
-    assert!(rt; first.bytes().starts_with(&head));
-    assert_eq!(rt; first.len(), 112);
-    let second = next_out(&mut end)?;
-    let head = bytes_of(
-        alloc,
-        "02050048 0000000500000001 0000000900000004 04000000 00000000 00000000 00000001",
-    )?;
-    assert!(rt; second.bytes().starts_with(&head));
-    assert_eq!(rt; second.len(), 72);
-    assert!(rt; sends(alloc, &mut end, "")?);
-    Ok(())
-}
-
-/// The number of the piece that goes out next.
-fn next_number(end: &mut End) -> Result<Option<u8>, Fail> {
-    Ok(next_out(end)?.bytes().get(35).copied())
-}
-
+/// With a window of two frames: a message of 300 bytes in five pieces.
 #[test]
 fn a_nack_first_moves_the_window(rt: HostRuntime) -> Result<(), Fail> {
-    let alloc = rt.alloc();
-    let mut end = end(alloc, 2, true)?;
-    offer(alloc, &mut end, 300)?;
-    assert_eq!(rt; next_number(&mut end)?, Some(0));
-    assert_eq!(rt; next_number(&mut end)?, Some(1));
-    assert!(rt; sends(alloc, &mut end, "")?);
-    // Frame 0 has come, and one frame from 1 on is asked for.
-    let nack = "0206001c 0000000900000004 0000000500000001 00000001 00000001";
-    assert_eq!(rt; input(alloc, &mut end, nack)?, "nothing");
-    assert_eq!(rt; next_number(&mut end)?, Some(2));
-    assert_eq!(rt; next_number(&mut end)?, Some(1));
-    assert!(rt; sends(alloc, &mut end, "")?);
-    // A tick sends both again.
-    assert_eq!(rt; tick(&mut end)?, Ticked::Stays);
-    assert_eq!(rt; next_number(&mut end)?, Some(1));
-    assert_eq!(rt; next_number(&mut end)?, Some(2));
-    assert!(rt; sends(alloc, &mut end, "")?);
-    Ok(())
-}
-
-#[test]
-fn an_ack_beyond_what_was_sent_changes_nothing(rt: HostRuntime) -> Result<(), Fail> {
-    let alloc = rt.alloc();
-    let mut end = end(alloc, 2, true)?;
-    offer(alloc, &mut end, 300)?;
-    assert_eq!(rt; next_number(&mut end)?, Some(0));
-    assert_eq!(rt; next_number(&mut end)?, Some(1));
-    let ack = "0205001c 0000000900000004 0000000500000001 00000000 00000003";
-    assert_eq!(rt; input(alloc, &mut end, ack)?, "nothing");
-    assert!(rt; sends(alloc, &mut end, "")?);
-    assert_eq!(rt; tick(&mut end)?, Ticked::Stays);
-    assert_eq!(rt; next_number(&mut end)?, Some(0));
-    Ok(())
-}
-
-/// A piece from session 9.4 to the session of this count. Its payload is one byte. A first one is of
-/// a body of `size` bytes, and a size of 0 is of none.
-fn piece(alloc: Global, count: u8, seq: u16, size: u16, more: bool) -> Result<Blob, Fail> {
-    let [high, low] = seq.to_be_bytes();
-    let [size_high, size_low] = size.to_be_bytes();
-    let is_first = size > 0;
-    let (length, kind) = if is_first { (49, 3) } else { (37, 4) };
-    let main = [
-        2, 5, 0, length, 0, 0, 0, 9, 0, 0, 0, 4, 0, 0, 0, 5, 0, 0, 0, count,
+    let mut end = end(rt.alloc(), 2, true)?;
+    let rows = [
+        Row {
+            event: Event::Offer(300),
+            told: "",
+            out: [MY_PIECE_0, MY_PIECE_1],
+        },
+        // Beyond what was sent.
+        packet_row(
+            "0205001c 0000000900000004 0000000500000001 00000000 00000003",
+            "",
+            "",
+        ),
+        // Frame 0 has come, and one frame from 1 on is asked for.
+        Row {
+            event: Event::Packet("0206001c 0000000900000004 0000000500000001 00000001 00000001"),
+            told: "",
+            out: [MY_PIECE_2, MY_PIECE_1],
+        },
+        Row {
+            event: Event::Tick,
+            told: "",
+            out: [MY_PIECE_1, MY_PIECE_2],
+        },
     ];
-    let mut bytes = Vec::from_slice(alloc, main.as_slice())?;
-    bytes.extend_from_slice([kind, 0, 0, 0, 0, 0, 0, 0].as_slice())?;
-    bytes.extend_from_slice([0, u8::from(more), 0, 0, 0, 0, high, low].as_slice())?;
-    if is_first {
-        let body = [0, 0, 0, 7, 0, 0, 0, 9, 0, 0, size_high, size_low];
-        bytes.extend_from_slice(body.as_slice())?;
-    }
-    bytes.push(0xab)?;
-    Ok(Blob::shared(bytes)?)
+    assert_eq!(rt; follows(rt.alloc(), &mut end, &rows)?, 4);
+    Ok(())
 }
 
 #[test]
-fn only_a_repeated_frame_is_acknowledged_without_being_taken(rt: HostRuntime) -> Result<(), Fail> {
-    let alloc = rt.alloc();
-    let mut end = end(alloc, 32, true)?;
-    let only = piece(alloc, 1, 0, 1, false)?;
+fn a_repeated_frame_is_acknowledged_and_not_taken(rt: HostRuntime) -> Result<(), Fail> {
+    let mut end = end(rt.alloc(), 32, true)?;
     let ack = "0205001c 0000000500000001 0000000900000004 00000000 00000001";
-    for told in ["got", "nothing", "nothing"] {
-        assert_eq!(rt; take(&mut end, &only)?, told);
-        assert!(rt; sends(alloc, &mut end, ack)?);
-        assert!(rt; sends(alloc, &mut end, "")?);
-    }
+    let rows = [
+        packet_row(ONLY, "got", ack),
+        packet_row(ONLY, "", ack),
+        packet_row(LAST_0, "", ack),
+    ];
+    assert_eq!(rt; follows(rt.alloc(), &mut end, &rows)?, 3);
     Ok(())
 }
 
+/// Frame 2 comes, then 0, then 1: the missing are asked for once until a frame is taken, or a tick.
 #[test]
-fn the_missing_frames_are_asked_for_once(rt: HostRuntime) -> Result<(), Fail> {
-    let alloc = rt.alloc();
-    let mut end = end(alloc, 32, true)?;
-    assert_eq!(rt; take(&mut end, &piece(alloc, 1, 3, 0, false)?)?, "nothing");
-    let nack = "0206001c 0000000500000001 0000000900000004 00000003 00000000";
-    assert!(rt; sends(alloc, &mut end, nack)?);
-    assert_eq!(rt; take(&mut end, &piece(alloc, 1, 2, 0, true)?)?, "nothing");
-    assert!(rt; sends(alloc, &mut end, "")?);
-    // After a tick they are asked for again.
-    assert_eq!(rt; tick(&mut end)?, Ticked::Stays);
-    assert!(rt; sends(alloc, &mut end, MY_CONN_ACK)?);
-    assert_eq!(rt; take(&mut end, &piece(alloc, 1, 3, 0, false)?)?, "nothing");
-    let nack = "0206001c 0000000500000001 0000000900000004 00000002 00000000";
-    assert!(rt; sends(alloc, &mut end, nack)?);
+fn missing_frames_are_asked_for_once(rt: HostRuntime) -> Result<(), Fail> {
+    let mut end = end(rt.alloc(), 32, true)?;
+    let rows = [
+        packet_row(
+            LAST_2,
+            "",
+            "0206001c 0000000500000001 0000000900000004 00000002 00000000",
+        ),
+        packet_row(LAST_2, "", ""),
+        tick_row("", MY_CONN_ACK),
+        packet_row(
+            NEXT_1,
+            "",
+            "0206001c 0000000500000001 0000000900000004 00000001 00000000",
+        ),
+        packet_row(
+            FIRST_OF_3,
+            "got",
+            "0205001c 0000000500000001 0000000900000004 00000000 00000003",
+        ),
+    ];
+    assert_eq!(rt; follows(rt.alloc(), &mut end, &rows)?, 5);
     Ok(())
+}
+
+/// With a window of 32 and pieces of 64 bytes, a body of 256 bytes, of which frame 1 is lost.
+#[test]
+fn one_frame_is_missing_and_is_sent_again_alone(rt: HostRuntime) -> Result<(), Fail> {
+    let mut first = end(rt.alloc(), 32, true)?;
+    let mut second = end(rt.alloc(), 32, true)?;
+    // The second has the other end's session as its own, so the sessions are exchanged on the way.
+    let _ = offer(rt.alloc(), &mut first, 256)?;
+    let mut told = "";
+    for (number, reply) in [
+        (
+            0,
+            "0205001c 0000000500000001 0000000900000004 00000000 00000001",
+        ),
+        (1, ""),
+        (
+            2,
+            "0206001c 0000000500000001 0000000900000004 00000001 00000001",
+        ),
+        (3, ""),
+    ] {
+        let Some(piece) = first.out()? else {
+            return Err(Fail::from("nothing goes out"));
+        };
+        if number != 1 {
+            told = take(&mut second, &to_other(rt.alloc(), &piece)?)?;
+        }
+        assert!(rt; sends(rt.alloc(), &mut second, reply)?);
+        assert_eq!(rt; told, "");
+    }
+    assert!(rt; sends(rt.alloc(), &mut first, "")?);
+    let nack = "0206001c 0000000900000004 0000000500000001 00000001 00000001";
+    let _ = happens(rt.alloc(), &mut first, &Event::Packet(nack))?;
+    let Some(again) = first.out()? else {
+        return Err(Fail::from("nothing is sent again"));
+    };
+    assert!(rt; sends(rt.alloc(), &mut first, "")?);
+    assert_eq!(rt; take(&mut second, &to_other(rt.alloc(), &again)?)?, "got");
+    let ack = "0205001c 0000000500000001 0000000900000004 00000000 00000004";
+    assert!(rt; sends(rt.alloc(), &mut second, ack)?);
+    Ok(())
+}
+
+/// A packet with its two sessions exchanged.
+fn to_other(alloc: Global, packet: &Blob) -> Result<Blob, Fail> {
+    let bytes = packet.bytes();
+    if bytes.len() < 20 {
+        return Err(Fail::from("no packet"));
+    }
+    let mut other = Vec::from_slice(alloc, &bytes[..4])?;
+    other.extend_from_slice(&bytes[12..20])?;
+    other.extend_from_slice(&bytes[4..12])?;
+    other.extend_from_slice(&bytes[20..])?;
+    Ok(Blob::shared(other)?)
 }
 
 #[test]
 fn a_broken_frame_ends_the_session(rt: HostRuntime) -> Result<(), Fail> {
-    let alloc = rt.alloc();
-    let mut end = end(alloc, 32, true)?;
-    assert_eq!(rt; take(&mut end, &piece(alloc, 1, 0, 0, false)?)?, "down");
-    assert!(rt; sends(alloc, &mut end, "")?);
+    let mut end = end(rt.alloc(), 32, true)?;
+    let row = packet_row(LAST_0, "down", "");
+    assert_eq!(rt; follows(rt.alloc(), &mut end, &[row])?, 1);
     assert_eq!(rt; end.mine(), Session(0x0000_0005_0000_0002));
     Ok(())
 }
 
+/// A message of three bytes begins and its last frame is kept; then the session ends.
 #[test]
 fn what_was_kept_and_begun_is_gone_after_a_reconnection(rt: HostRuntime) -> Result<(), Fail> {
-    let alloc = rt.alloc();
-    let mut end = end(alloc, 32, true)?;
-    // A message of three bytes begins, and its last frame is kept.
-    assert_eq!(rt; take(&mut end, &piece(alloc, 1, 0, 3, true)?)?, "nothing");
-    assert_eq!(rt; take(&mut end, &piece(alloc, 1, 2, 0, false)?)?, "nothing");
-    let _ = (end.out()?, end.out()?);
-    assert_eq!(rt; input(alloc, &mut end, RESET)?, "down");
-    let again = "02020018 0000000900000004 0000000500000002 00020000";
-    assert_eq!(rt; input(alloc, &mut end, again)?, "up");
-    let _ = end.out()?;
-    // Data to the session before mean nothing.
-    assert_eq!(rt; take(&mut end, &piece(alloc, 1, 1, 0, true)?)?, "nothing");
-    assert!(rt; sends(alloc, &mut end, "")?);
-    // A message begins anew, and frame 2 isn't there.
-    assert_eq!(rt; take(&mut end, &piece(alloc, 2, 0, 3, true)?)?, "nothing");
-    assert_eq!(rt; take(&mut end, &piece(alloc, 2, 1, 0, true)?)?, "nothing");
-    let ack = "0205001c 0000000500000002 0000000900000004 00000000 00000001";
-    assert!(rt; sends(alloc, &mut end, ack)?);
-    let ack = "0205001c 0000000500000002 0000000900000004 00000000 00000002";
-    assert!(rt; sends(alloc, &mut end, ack)?);
-    assert_eq!(rt; take(&mut end, &piece(alloc, 2, 2, 0, false)?)?, "got");
+    let mut end = end(rt.alloc(), 32, true)?;
+    let ack_1 = "0205001c 0000000500000002 0000000900000004 00000000 00000001";
+    let ack_2 = "0205001c 0000000500000002 0000000900000004 00000000 00000002";
+    let rows = [
+        packet_row(
+            FIRST_OF_3,
+            "",
+            "0205001c 0000000500000001 0000000900000004 00000000 00000001",
+        ),
+        packet_row(
+            LAST_2,
+            "",
+            "0206001c 0000000500000001 0000000900000004 00000001 00000001",
+        ),
+        packet_row(RESET, "down", ""),
+        packet_row(
+            "02020018 0000000900000004 0000000500000002 00020000",
+            "up",
+            "02020018 0000000500000002 0000000900000004 00030000",
+        ),
+        // To the session before.
+        packet_row(NEXT_1, "", ""),
+        // A message of three bytes begins anew, and frame 2 isn't there.
+        packet_row(
+            "02050031 0000000900000004 0000000500000002 03000000 00000000
+                00010000 00000000 00000007 00000009 00000003 aa",
+            "",
+            ack_1,
+        ),
+        packet_row(
+            "02050025 0000000900000004 0000000500000002 04000000 00000000 00010000 00000001 bb",
+            "",
+            ack_2,
+        ),
+        packet_row(
+            "02050025 0000000900000004 0000000500000002 04000000 00000000 00000000 00000002 cc",
+            "got",
+            "0205001c 0000000500000002 0000000900000004 00000000 00000003",
+        ),
+    ];
+    assert_eq!(rt; follows(rt.alloc(), &mut end, &rows)?, 8);
     Ok(())
 }
 
+/// A further piece of one byte, with this number, and with more behind it or none.
+fn piece(alloc: Global, seq: u16, more: bool) -> Result<Blob, Fail> {
+    let [high, low] = seq.to_be_bytes();
+    let mut bytes = bytes_of(
+        alloc,
+        "02050025 0000000900000004 0000000500000001 04000000 00000000",
+    )?;
+    bytes.extend_from_slice([0, u8::from(more), 0, 0, 0, 0, high, low, 0xab].as_slice())?;
+    Ok(Blob::shared(bytes)?)
+}
+
+/// Frames 1 to 257 are a message of 257 bytes, and frame 0 is one before it.
 #[test]
 fn of_early_frames_256_are_kept_and_the_next_is_not(rt: HostRuntime) -> Result<(), Fail> {
-    let alloc = rt.alloc();
-    let mut end = end(alloc, 256, true)?;
-    // Frames 1 to 257 are a message, and frame 0 is one before it.
-    for seq in 1..256 {
-        let size = if seq == 1 { 257 } else { 0 };
-        assert_eq!(rt;
-            take(&mut end, &piece(alloc, 1, seq, size, true)?)?,
-            "nothing"
-        );
+    let mut end = end(rt.alloc(), 256, true)?;
+    let first = "02050031 0000000900000004 0000000500000001 03000000 00000000
+        00010000 00000001 00000007 00000009 00000101 aa";
+    let nack_0 = "0206001c 0000000500000001 0000000900000004 00000001 00000000";
+    let ack_1 = "0205001c 0000000500000001 0000000900000004 00000000 00000001";
+    let nack_1 = "0206001c 0000000500000001 0000000900000004 00000001 00000001";
+    let ack_257 = "0205001c 0000000500000001 0000000900000004 00000000 00000101";
+    let early = packet_row(first, "", nack_0);
+    assert_eq!(rt; follows(rt.alloc(), &mut end, &[early])?, 1);
+    for seq in 2..256 {
+        assert_eq!(rt; take(&mut end, &piece(rt.alloc(), seq, true)?)?, "");
     }
-    let nack = "0206001c 0000000500000001 0000000900000004 00000001 00000000";
-    assert!(rt; sends(alloc, &mut end, nack)?);
-    assert_eq!(rt; take(&mut end, &piece(alloc, 1, 0, 1, false)?)?, "got");
-    let ack = "0205001c 0000000500000001 0000000900000004 00000000 00000001";
-    assert!(rt; sends(alloc, &mut end, ack)?);
     // Frame 1 stays kept, since a message was made whole.
-    assert_eq!(rt; take(&mut end, &piece(alloc, 1, 256, 0, true)?)?, "nothing");
-    assert_eq!(rt;
-        take(&mut end, &piece(alloc, 1, 257, 0, false)?)?,
-        "nothing"
-    );
-    let nack = "0206001c 0000000500000001 0000000900000004 00000001 00000001";
-    assert!(rt; sends(alloc, &mut end, nack)?);
-    assert_eq!(rt; take(&mut end, &piece(alloc, 1, 1, 257, true)?)?, "nothing");
-    let ack = "0205001c 0000000500000001 0000000900000004 00000000 00000101";
-    assert!(rt; sends(alloc, &mut end, ack)?);
-    assert!(rt; sends(alloc, &mut end, "")?);
-    assert_eq!(rt; take(&mut end, &piece(alloc, 1, 257, 0, false)?)?, "got");
-    Ok(())
-}
-
-/// The next packet of one end comes to the other.
-fn pass(from: &mut End, to: &mut End) -> Result<&'static str, Fail> {
-    let packet = next_out(from)?;
-    let told = take(to, &packet)?;
-    from.keep();
-    to.keep();
-    Ok(told)
-}
-
-/// Two ends that are up with each other, with window 32 and pieces of 64 bytes.
-fn two_ends(alloc: Global) -> Result<(End, End), Fail> {
-    let mut first = End::new(alloc, 1, 32, 64);
-    let mut second = End::new(alloc, 1, 32, 64);
-    let _ = tick(&mut first)?;
-    let _ = pass(&mut first, &mut second)?;
-    let _ = pass(&mut second, &mut first)?;
-    let _ = pass(&mut first, &mut second)?;
-    Ok((first, second))
-}
-
-#[test]
-fn one_frame_is_missing_and_is_sent_again_alone(rt: HostRuntime) -> Result<(), Fail> {
-    let alloc = rt.alloc();
-    let (mut first, mut second) = two_ends(alloc)?;
-    offer(alloc, &mut first, 256)?;
-    assert_eq!(rt; pass(&mut first, &mut second)?, "nothing");
-    let ack = "0205001c 0000000100000001 0000000100000001 00000000 00000001";
-    assert!(rt; sends(alloc, &mut second, ack)?);
-    // Frame 1 is lost.
-    let _ = next_out(&mut first)?;
-    assert_eq!(rt; pass(&mut first, &mut second)?, "nothing");
-    assert_eq!(rt; pass(&mut first, &mut second)?, "nothing");
-    assert!(rt; sends(alloc, &mut first, "")?);
-    let nack = "0206001c 0000000100000001 0000000100000001 00000001 00000001";
-    assert_eq!(rt; input(alloc, &mut first, nack)?, "nothing");
-    assert!(rt; sends(alloc, &mut second, nack)?);
-    assert!(rt; sends(alloc, &mut second, "")?);
-    let again = next_out(&mut first)?;
-    assert_eq!(rt; again.bytes().get(35).copied(), Some(1));
-    assert!(rt; sends(alloc, &mut first, "")?);
-    assert_eq!(rt; take(&mut second, &again)?, "got");
-    let ack = "0205001c 0000000100000001 0000000100000001 00000000 00000004";
-    assert!(rt; sends(alloc, &mut second, ack)?);
+    let whole = packet_row(ONLY, "got", ack_1);
+    assert_eq!(rt; follows(rt.alloc(), &mut end, &[whole])?, 1);
+    for (seq, more) in [(256, true), (257, false)] {
+        assert_eq!(rt; take(&mut end, &piece(rt.alloc(), seq, more)?)?, "");
+    }
+    assert!(rt; sends(rt.alloc(), &mut end, nack_1)?);
+    let again = packet_row(first, "", ack_257);
+    assert_eq!(rt; follows(rt.alloc(), &mut end, &[again])?, 1);
+    assert_eq!(rt; take(&mut end, &piece(rt.alloc(), 257, false)?)?, "got");
     Ok(())
 }
 
 #[test]
 fn an_undone_event_leaves_the_end_as_the_kept_ones_did(rt: HostRuntime) -> Result<(), Fail> {
-    let alloc = rt.alloc();
-    let mut end = end(alloc, 32, true)?;
-    assert_eq!(rt; take(&mut end, &piece(alloc, 1, 1, 0, false)?)?, "nothing");
+    let mut end = end(rt.alloc(), 32, true)?;
+    let nack = "0206001c 0000000500000001 0000000900000004 00000001 00000000";
+    let ack = "0205001c 0000000500000001 0000000900000004 00000000 00000002";
+    let mut undo = packet_row(ONLY, "", "");
+    undo.event = Event::Undo;
+    let mut keep = packet_row(ONLY, "", "");
+    keep.event = Event::Keep;
+    let rows = [
+        packet_row(LAST_1, "", nack),
+        keep,
+        packet_row(FIRST_OF_2, "got", ack),
+        packet_row(RESET, "down", ""),
+        undo,
+        packet_row(FIRST_OF_2, "got", ack),
+    ];
+    assert_eq!(rt; follows(rt.alloc(), &mut end, &rows)?, 6);
+    Ok(())
+}
+
+#[test]
+fn what_was_to_go_out_comes_back_with_the_rest(rt: HostRuntime) -> Result<(), Fail> {
+    let mut end = end(rt.alloc(), 32, true)?;
+    let _ = take(&mut end, &piece(rt.alloc(), 1, false)?)?;
     end.keep();
-    // What was to go out is still to go out.
     let nack = "0206001c 0000000500000001 0000000900000004 00000001 00000000";
     for _ in 0..2 {
-        assert!(rt; sends(alloc, &mut end, nack)?);
-        let whole = piece(alloc, 1, 0, 2, true)?;
-        assert_eq!(rt; take(&mut end, &whole)?, "got");
-        offer(alloc, &mut end, 1_000)?;
-        assert_eq!(rt; input(alloc, &mut end, RESET)?, "down");
+        assert!(rt; sends(rt.alloc(), &mut end, nack)?);
+        let _ = offer(rt.alloc(), &mut end, 1_000)?;
         end.undo();
     }
-    assert!(rt; sends(alloc, &mut end, nack)?);
-    assert!(rt; sends(alloc, &mut end, "")?);
+    assert!(rt; sends(rt.alloc(), &mut end, nack)?);
+    assert!(rt; sends(rt.alloc(), &mut end, "")?);
     assert_eq!(rt; end.frames_left(), u32::MAX);
     Ok(())
 }
 
 #[test]
 fn a_restart_begins_the_first_session_of_the_boot(rt: HostRuntime) -> Result<(), Fail> {
-    let alloc = rt.alloc();
-    let mut end = end(alloc, 32, true)?;
-    offer(alloc, &mut end, 1_000)?;
+    let mut end = end(rt.alloc(), 32, true)?;
+    let _ = offer(rt.alloc(), &mut end, 1_000)?;
     end.restart(6);
     assert_eq!(rt; end.mine(), Session(0x0000_0006_0000_0001));
     assert_eq!(rt; end.peer(), None);
     assert_eq!(rt; end.frames_left(), u32::MAX);
-    assert!(rt; sends(alloc, &mut end, "")?);
+    assert!(rt; sends(rt.alloc(), &mut end, "")?);
     Ok(())
 }
