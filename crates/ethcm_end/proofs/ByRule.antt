@@ -63,7 +63,8 @@ module _ (P : Reaction Input → Type 0) (s : EndState) (p : Packet) (rows : Row
 
   early_row : (next seq : ℕ) (frame : Frame) → p.part ≡ Piece next seq frame
       → s.rx.expected < seq
-      → P (gives (ask (with_early (after_header s p.src next) (sent_frame seq frame)) p.src) Nothing)
+      → P (gives (ask (with_early (after_header s p.src next) (sent_frame seq frame)) p.src)
+      Nothing)
   early_row next seq frame e h =
       by_asking (λ t. P (gives t Nothing))
       (with_early (after_header s p.src next) (sent_frame seq frame)) p.src

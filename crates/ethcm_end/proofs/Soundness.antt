@@ -288,7 +288,8 @@ module _ (s : EndState) (peer : Session) (k : IsSound s) (known : IsKnown peer) 
       let missing : Part = Nack s.rx.expected (missing_count s.rx.expected s.rx.kept) in
       let sent = put_known s peer missing k known (λ e. cc) (counts.at_least, counts.at_most)
       (omega arith) in
-      elim s.asked as (λ b. IsSound (if b then s else record (put s peer missing) { asked = true })) [
+      let asking : EndState = record (put s peer missing) { asked = true } in
+      elim s.asked as (λ b. IsSound (if b then s else asking)) [
         | true ↦ k
         | false ↦ with_rx (put s peer missing) s.rx s.held true sent k.rx
       ]

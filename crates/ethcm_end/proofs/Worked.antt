@@ -65,7 +65,10 @@ gap_expected = refl
 
 -- three frames are there, and two of them were sent
 abbrev sending : EndState
-sending = record up_end { tx = record up_end.tx { frames = first ∷ next true 11 ∷ next true 12 ∷ [] } }
+sending =
+    record up_end {
+      tx = record up_end.tx { frames = first ∷ next true 11 ∷ next true 12 ∷ [] };
+    }
 
 -- a NACK first moves the window
 nack_moves : parts_of (after_all sending (Nack 1 1 ∷ []))

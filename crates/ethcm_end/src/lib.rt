@@ -2,8 +2,8 @@
 //! of the layers below. It makes sessions with its peer, numbers the pieces of the messages that it
 //! is offered and sends them until they are acknowledged, and hands up those that come, each frame
 //! once and in order. What a packet, a tick or an offer makes of an end is a function of its state
-//! and of what came, and the packets that it sends are handed out in order. An event changes the end
-//! in place, and either stays, or is taken back as if it had never been.
+//! and of what came, and the packets that it sends are handed out in order. An event changes the
+//! end in place, and either stays, or is taken back as if it had never been.
 #![tactic(auto)]
 
 mod answers;

@@ -16,14 +16,9 @@ enum Event {
     Undo,
 }
 
-/// An event, what it means in a word, and how the next two packets that go out begin: with no digits
-/// where none goes out. Behind these none goes out.
-#[derive(Clone, Copy)]
-struct Row {
-    event: Event,
-    told: &'static str,
-    out: [&'static str; 2],
-}
+/// An event, what it means in a word, and how the next two packets that go out begin: with no
+/// digits where none goes out. Behind these none goes out.
+type Row = (Event, &'static str, [&'static str; 2]);
 
 const CONNECT: &str = "02020018 0000000900000004 0000000000000000 00010000";
 
@@ -160,17 +155,24 @@ fn sends(alloc: Global, end: &mut End, digits: &str) -> Result<bool, Fail> {
     })
 }
 
+fn follows_row(alloc: Global, end: &mut End, row: &Row) -> Result<bool, Fail> {
+    if happens(alloc, end, &row.0)? != row.1 {
+        return Ok(false);
+    }
+    for digits in [row.2[0], row.2[1], ""] {
+        if !sends(alloc, end, digits)? {
+            return Ok(false);
+        }
+    }
+    Ok(true)
+}
+
 /// How many rows come out as they say, before the first that doesn't.
 fn follows(alloc: Global, end: &mut End, rows: &[Row]) -> Result<usize, Fail> {
     let mut followed: usize = 0;
     for row in rows {
-        if happens(alloc, end, &row.event)? != row.told {
+        if !follows_row(alloc, end, row)? {
             return Ok(followed);
-        }
-        for digits in [row.out[0], row.out[1], ""] {
-            if !sends(alloc, end, digits)? {
-                return Ok(followed);
-            }
         }
         followed = followed.saturating_add(1);
     }
@@ -188,271 +190,314 @@ fn end(alloc: Global, window: u32, up: bool) -> Result<End, Fail> {
     Ok(end)
 }
 
+/// Whether the row comes out as it says for an end that is connecting or up; so that it then is up
+/// and in its session as the row tells, and stands as before once that is undone.
+fn holds_alone(alloc: Global, up: bool, row: &Row) -> Result<bool, Fail> {
+    let mut end = end(alloc, 32, up)?;
+    let before = end.mine();
+    let follows = follows_row(alloc, &mut end, row)?;
+    let is_up = row.1 == "up" || (up && row.1 != "down");
+    let stands = end.peer().is_some() == is_up && (end.mine() == before) == (row.1 != "down");
+    end.undo();
+    Ok(follows && stands && end.peer().is_some() == up && end.mine() == before)
+}
+
+/// How many rows do so, before the first that doesn't.
+fn hold_alone(alloc: Global, up: bool, rows: &[Row]) -> Result<usize, Fail> {
+    let mut held: usize = 0;
+    for row in rows {
+        if !holds_alone(alloc, up, row)? {
+            return Ok(held);
+        }
+        held = held.saturating_add(1);
+    }
+    Ok(held)
+}
+
+const CONNECTING: [Row; 6] = [
+    (
+        Event::Packet(CONNECT),
+        "",
+        ["02020018 0000000500000001 0000000900000004 00020000", ""],
+    ),
+    (Event::Packet(CONNECT_ACK), "up", [MY_CONN_ACK, ""]),
+    (Event::Packet(CONN_ACK), "up", ["", ""]),
+    (Event::Packet(RESET), "", ["", ""]),
+    (Event::Packet(ACK_0), "", ["", ""]),
+    (
+        Event::Packet("02020018 0000000900000004 0000000500000002 00020000"),
+        "",
+        ["", ""],
+    ),
+];
+
+const UP: [Row; 9] = [
+    (
+        Event::Packet("02020018 0000000900000003 0000000500000001 00040000"),
+        "",
+        ["", ""],
+    ),
+    (
+        Event::Packet("02020018 0000000900000005 0000000000000000 00010000"),
+        "down",
+        ["", ""],
+    ),
+    (Event::Packet(CONNECT), "", [MY_CONN_ACK, ""]),
+    (
+        Event::Packet("0205001c 0000000900000004 0000000500000002 00000000 00000000"),
+        "",
+        ["", ""],
+    ),
+    (Event::Packet(RESET), "down", ["", ""]),
+    (Event::Packet(CONNECT_ACK), "", [MY_CONN_ACK, ""]),
+    (Event::Packet(CONN_ACK), "", ["", ""]),
+    (Event::Packet(ACK_0), "", ["", ""]),
+    // A packet of version 1 is none.
+    (
+        Event::Packet("01020018 0000000900000004 0000000500000001 00040000"),
+        "",
+        ["", ""],
+    ),
+];
+
 #[test]
 fn every_row_of_the_table_of_sessions(rt: HostRuntime) -> Result<(), Fail> {
-    let mine = Session(0x0000_0005_0000_0001);
-    for (up, packet, told, reply) in [
-        (
-            false,
-            CONNECT,
-            "",
-            "02020018 0000000500000001 0000000900000004 00020000",
-        ),
-        (false, CONNECT_ACK, "up", MY_CONN_ACK),
-        (false, CONN_ACK, "up", ""),
-        (false, RESET, "", ""),
-        (false, ACK_0, "", ""),
-        (
-            false,
-            "02020018 0000000900000004 0000000500000002 00020000",
-            "",
-            "",
-        ),
-        (
-            true,
-            "02020018 0000000900000003 0000000500000001 00040000",
-            "",
-            "",
-        ),
-        (
-            true,
-            "02020018 0000000900000005 0000000000000000 00010000",
-            "down",
-            "",
-        ),
-        (true, CONNECT, "", MY_CONN_ACK),
-        (
-            true,
-            "0205001c 0000000900000004 0000000500000002 00000000 00000000",
-            "",
-            "",
-        ),
-        (true, RESET, "down", ""),
-        (true, CONNECT_ACK, "", MY_CONN_ACK),
-        (true, CONN_ACK, "", ""),
-        (true, ACK_0, "", ""),
-        // A packet of version 1 is none.
-        (
-            true,
-            "01020018 0000000900000004 0000000500000001 00040000",
-            "",
-            "",
-        ),
-    ] {
-        let mut end = end(rt.alloc(), 32, up)?;
-        let row = Row {
-            event: Event::Packet(packet),
-            told,
-            out: [reply, ""],
-        };
-        assert_eq!(rt; follows(rt.alloc(), &mut end, &[row])?, 1, "at {packet}");
-        let is_up = told == "up" || (up && told != "down");
-        assert_eq!(rt; end.peer().is_some(), is_up, "at {packet}");
-        assert_eq!(rt; end.mine() == mine, told != "down", "at {packet}");
-        end.undo();
-        assert_eq!(rt; end.peer().is_some(), up, "at {packet}");
-    }
+    assert_eq!(rt; hold_alone(rt.alloc(), false, &CONNECTING)?, 6);
+    assert_eq!(rt; hold_alone(rt.alloc(), true, &UP)?, 9);
     Ok(())
 }
+
+const ASKS: Row = (
+    Event::Tick,
+    "",
+    ["02020018 0000000500000001 0000000000000000 00010000", ""],
+);
+
+/// Nothing is offered to an end that is connecting: this does nothing.
+const NEVER_LOST: [Row; 5] = [ASKS, ASKS, ASKS, ASKS, (Event::Offer(100), "", ["", ""])];
 
 #[test]
 fn a_connecting_end_asks_at_each_tick_and_is_never_lost(rt: HostRuntime) -> Result<(), Fail> {
     let mut end = end(rt.alloc(), 32, false)?;
-    for _ in 0..4 {
-        let asks = Row {
-            event: Event::Tick,
-            told: "",
-            out: ["02020018 0000000500000001 0000000000000000 00010000", ""],
-        };
-        assert_eq!(rt; follows(rt.alloc(), &mut end, &[asks])?, 1);
-    }
+    assert_eq!(rt; follows(rt.alloc(), &mut end, &NEVER_LOST)?, 5);
     assert!(rt; end.has_work());
-    // Nothing is offered to it: this does nothing.
-    let nothing = Row {
-        event: Event::Offer(100),
-        told: "",
-        out: ["", ""],
-    };
-    assert_eq!(rt; follows(rt.alloc(), &mut end, &[nothing])?, 1);
     assert_eq!(rt; end.frames_left(), u32::MAX);
     Ok(())
 }
 
-/// At each packet from the peer the ticks begin anew; at the third since then the link is lost.
+const IDLE: Row = (Event::Tick, "", [MY_CONN_ACK, ""]);
+
+/// At each packet from the peer the ticks begin anew.
+const LOST: [Row; 16] = [
+    IDLE,
+    IDLE,
+    (Event::Packet(CONNECT), "", [MY_CONN_ACK, ""]),
+    IDLE,
+    IDLE,
+    (Event::Packet(CONNECT_ACK), "", [MY_CONN_ACK, ""]),
+    IDLE,
+    IDLE,
+    (Event::Packet(CONN_ACK), "", ["", ""]),
+    IDLE,
+    IDLE,
+    (Event::Packet(ACK_0), "", ["", ""]),
+    IDLE,
+    IDLE,
+    (
+        Event::Tick,
+        "down",
+        ["02020018 0000000500000001 0000000900000004 00040000", ""],
+    ),
+    (
+        Event::Tick,
+        "",
+        ["02020018 0000000500000002 0000000000000000 00010000", ""],
+    ),
+];
+
 #[test]
 fn lost_at_the_third_tick_since_the_peer_was_heard(rt: HostRuntime) -> Result<(), Fail> {
     let mut end = end(rt.alloc(), 32, true)?;
-    for (packet, reply) in [
-        (CONNECT, MY_CONN_ACK),
-        (CONNECT_ACK, MY_CONN_ACK),
-        (CONN_ACK, ""),
-        (ACK_0, ""),
-    ] {
-        let rows = [
-            tick_row("", MY_CONN_ACK),
-            tick_row("", MY_CONN_ACK),
-            Row {
-                event: Event::Packet(packet),
-                told: "",
-                out: [reply, ""],
-            },
-        ];
-        assert_eq!(rt; follows(rt.alloc(), &mut end, &rows)?, 3, "at {packet}");
-    }
-    let rows = [
-        tick_row("", MY_CONN_ACK),
-        tick_row("", MY_CONN_ACK),
-        tick_row(
-            "down",
-            "02020018 0000000500000001 0000000900000004 00040000",
-        ),
-        tick_row("", "02020018 0000000500000002 0000000000000000 00010000"),
-    ];
-    assert_eq!(rt; follows(rt.alloc(), &mut end, &rows)?, 4);
+    assert_eq!(rt; follows(rt.alloc(), &mut end, &LOST)?, 16);
     Ok(())
-}
-
-fn tick_row(told: &'static str, out: &'static str) -> Row {
-    Row {
-        event: Event::Tick,
-        told,
-        out: [out, ""],
-    }
-}
-
-fn packet_row(packet: &'static str, told: &'static str, out: &'static str) -> Row {
-    Row {
-        event: Event::Packet(packet),
-        told,
-        out: [out, ""],
-    }
 }
 
 #[test]
 fn data_confirms_and_connect_ack_does_not(rt: HostRuntime) -> Result<(), Fail> {
     let mut end = end(rt.alloc(), 32, true)?;
+    let _ = happens(rt.alloc(), &mut end, &Event::Packet(CONNECT_ACK))?;
     assert!(rt; end.has_work());
-    for (packet, reply, has_work) in [(CONNECT_ACK, MY_CONN_ACK, true), (ACK_0, "", false)] {
-        let row = packet_row(packet, "", reply);
-        assert_eq!(rt; follows(rt.alloc(), &mut end, &[row])?, 1);
-        assert_eq!(rt; end.has_work(), has_work);
-    }
-    let _ = offer(rt.alloc(), &mut end, 1)?;
+    let _ = happens(rt.alloc(), &mut end, &Event::Packet(ACK_0))?;
+    assert!(rt; !end.has_work());
+    let _ = happens(rt.alloc(), &mut end, &Event::Offer(1))?;
     assert!(rt; end.has_work());
     Ok(())
 }
 
 /// With a window of two frames: a message of 300 bytes in five pieces.
+const WINDOW: [Row; 4] = [
+    (Event::Offer(300), "", [MY_PIECE_0, MY_PIECE_1]),
+    // Beyond what was sent.
+    (
+        Event::Packet("0205001c 0000000900000004 0000000500000001 00000000 00000003"),
+        "",
+        ["", ""],
+    ),
+    // Frame 0 has come, and one frame from 1 on is asked for.
+    (
+        Event::Packet("0206001c 0000000900000004 0000000500000001 00000001 00000001"),
+        "",
+        [MY_PIECE_2, MY_PIECE_1],
+    ),
+    (Event::Tick, "", [MY_PIECE_1, MY_PIECE_2]),
+];
+
 #[test]
 fn a_nack_first_moves_the_window(rt: HostRuntime) -> Result<(), Fail> {
     let mut end = end(rt.alloc(), 2, true)?;
-    let rows = [
-        Row {
-            event: Event::Offer(300),
-            told: "",
-            out: [MY_PIECE_0, MY_PIECE_1],
-        },
-        // Beyond what was sent.
-        packet_row(
-            "0205001c 0000000900000004 0000000500000001 00000000 00000003",
-            "",
-            "",
-        ),
-        // Frame 0 has come, and one frame from 1 on is asked for.
-        Row {
-            event: Event::Packet("0206001c 0000000900000004 0000000500000001 00000001 00000001"),
-            told: "",
-            out: [MY_PIECE_2, MY_PIECE_1],
-        },
-        Row {
-            event: Event::Tick,
-            told: "",
-            out: [MY_PIECE_1, MY_PIECE_2],
-        },
-    ];
-    assert_eq!(rt; follows(rt.alloc(), &mut end, &rows)?, 4);
+    assert_eq!(rt; follows(rt.alloc(), &mut end, &WINDOW)?, 4);
     Ok(())
+}
+
+const MY_ACK_1: &str = "0205001c 0000000500000001 0000000900000004 00000000 00000001";
+
+const MY_NACK_1: &str = "0206001c 0000000500000001 0000000900000004 00000001 00000001";
+
+const MY_NACK_0: &str = "0206001c 0000000500000001 0000000900000004 00000001 00000000";
+
+const REPEATED: [Row; 3] = [
+    (Event::Packet(ONLY), "got", [MY_ACK_1, ""]),
+    (Event::Packet(ONLY), "", [MY_ACK_1, ""]),
+    (Event::Packet(LAST_0), "", [MY_ACK_1, ""]),
+];
+
+/// Frame 2 comes, then 1, then 0: the missing are asked for once until a tick.
+const MISSING: [Row; 5] = [
+    (
+        Event::Packet(LAST_2),
+        "",
+        [
+            "0206001c 0000000500000001 0000000900000004 00000002 00000000",
+            "",
+        ],
+    ),
+    (Event::Packet(LAST_2), "", ["", ""]),
+    IDLE,
+    (Event::Packet(NEXT_1), "", [MY_NACK_0, ""]),
+    (
+        Event::Packet(FIRST_OF_3),
+        "got",
+        [
+            "0205001c 0000000500000001 0000000900000004 00000000 00000003",
+            "",
+        ],
+    ),
+];
+
+const BROKEN: [Row; 1] = [(Event::Packet(LAST_0), "down", ["", ""])];
+
+/// A message of three bytes begins and its last frame is kept; then the session ends.
+const RECONNECTED: [Row; 8] = [
+    (Event::Packet(FIRST_OF_3), "", [MY_ACK_1, ""]),
+    (Event::Packet(LAST_2), "", [MY_NACK_1, ""]),
+    (Event::Packet(RESET), "down", ["", ""]),
+    (
+        Event::Packet("02020018 0000000900000004 0000000500000002 00020000"),
+        "up",
+        ["02020018 0000000500000002 0000000900000004 00030000", ""],
+    ),
+    // To the session before.
+    (Event::Packet(NEXT_1), "", ["", ""]),
+    // A message of three bytes begins anew, and frame 2 isn't there.
+    (
+        Event::Packet(
+            "02050031 0000000900000004 0000000500000002 03000000 00000000
+                00010000 00000000 00000007 00000009 00000003 aa",
+        ),
+        "",
+        [
+            "0205001c 0000000500000002 0000000900000004 00000000 00000001",
+            "",
+        ],
+    ),
+    (
+        Event::Packet(
+            "02050025 0000000900000004 0000000500000002 04000000 00000000 00010000 00000001 bb",
+        ),
+        "",
+        [
+            "0205001c 0000000500000002 0000000900000004 00000000 00000002",
+            "",
+        ],
+    ),
+    (
+        Event::Packet(
+            "02050025 0000000900000004 0000000500000002 04000000 00000000 00000000 00000002 cc",
+        ),
+        "got",
+        [
+            "0205001c 0000000500000002 0000000900000004 00000000 00000003",
+            "",
+        ],
+    ),
+];
+
+const UNDONE: [Row; 6] = [
+    (Event::Packet(LAST_1), "", [MY_NACK_0, ""]),
+    (Event::Keep, "", ["", ""]),
+    (
+        Event::Packet(FIRST_OF_2),
+        "got",
+        [
+            "0205001c 0000000500000001 0000000900000004 00000000 00000002",
+            "",
+        ],
+    ),
+    (Event::Packet(RESET), "down", ["", ""]),
+    (Event::Undo, "", ["", ""]),
+    (
+        Event::Packet(FIRST_OF_2),
+        "got",
+        [
+            "0205001c 0000000500000001 0000000900000004 00000000 00000002",
+            "",
+        ],
+    ),
+];
+
+/// How many of the rows an end that is up follows.
+fn followed(alloc: Global, rows: &[Row]) -> Result<usize, Fail> {
+    let mut end = end(alloc, 32, true)?;
+    follows(alloc, &mut end, rows)
 }
 
 #[test]
 fn a_repeated_frame_is_acknowledged_and_not_taken(rt: HostRuntime) -> Result<(), Fail> {
-    let mut end = end(rt.alloc(), 32, true)?;
-    let ack = "0205001c 0000000500000001 0000000900000004 00000000 00000001";
-    let rows = [
-        packet_row(ONLY, "got", ack),
-        packet_row(ONLY, "", ack),
-        packet_row(LAST_0, "", ack),
-    ];
-    assert_eq!(rt; follows(rt.alloc(), &mut end, &rows)?, 3);
+    assert_eq!(rt; followed(rt.alloc(), &REPEATED)?, 3);
     Ok(())
 }
 
-/// Frame 2 comes, then 0, then 1: the missing are asked for once until a frame is taken, or a tick.
 #[test]
 fn missing_frames_are_asked_for_once(rt: HostRuntime) -> Result<(), Fail> {
-    let mut end = end(rt.alloc(), 32, true)?;
-    let rows = [
-        packet_row(
-            LAST_2,
-            "",
-            "0206001c 0000000500000001 0000000900000004 00000002 00000000",
-        ),
-        packet_row(LAST_2, "", ""),
-        tick_row("", MY_CONN_ACK),
-        packet_row(
-            NEXT_1,
-            "",
-            "0206001c 0000000500000001 0000000900000004 00000001 00000000",
-        ),
-        packet_row(
-            FIRST_OF_3,
-            "got",
-            "0205001c 0000000500000001 0000000900000004 00000000 00000003",
-        ),
-    ];
-    assert_eq!(rt; follows(rt.alloc(), &mut end, &rows)?, 5);
+    assert_eq!(rt; followed(rt.alloc(), &MISSING)?, 5);
     Ok(())
 }
 
-/// With a window of 32 and pieces of 64 bytes, a body of 256 bytes, of which frame 1 is lost.
 #[test]
-fn one_frame_is_missing_and_is_sent_again_alone(rt: HostRuntime) -> Result<(), Fail> {
-    let mut first = end(rt.alloc(), 32, true)?;
-    let mut second = end(rt.alloc(), 32, true)?;
-    // The second has the other end's session as its own, so the sessions are exchanged on the way.
-    let _ = offer(rt.alloc(), &mut first, 256)?;
-    let mut told = "";
-    for (number, reply) in [
-        (
-            0,
-            "0205001c 0000000500000001 0000000900000004 00000000 00000001",
-        ),
-        (1, ""),
-        (
-            2,
-            "0206001c 0000000500000001 0000000900000004 00000001 00000001",
-        ),
-        (3, ""),
-    ] {
-        let Some(piece) = first.out()? else {
-            return Err(Fail::from("nothing goes out"));
-        };
-        if number != 1 {
-            told = take(&mut second, &to_other(rt.alloc(), &piece)?)?;
-        }
-        assert!(rt; sends(rt.alloc(), &mut second, reply)?);
-        assert_eq!(rt; told, "");
-    }
-    assert!(rt; sends(rt.alloc(), &mut first, "")?);
-    let nack = "0206001c 0000000900000004 0000000500000001 00000001 00000001";
-    let _ = happens(rt.alloc(), &mut first, &Event::Packet(nack))?;
-    let Some(again) = first.out()? else {
-        return Err(Fail::from("nothing is sent again"));
-    };
-    assert!(rt; sends(rt.alloc(), &mut first, "")?);
-    assert_eq!(rt; take(&mut second, &to_other(rt.alloc(), &again)?)?, "got");
-    let ack = "0205001c 0000000500000001 0000000900000004 00000000 00000004";
-    assert!(rt; sends(rt.alloc(), &mut second, ack)?);
+fn a_broken_frame_ends_the_session(rt: HostRuntime) -> Result<(), Fail> {
+    assert_eq!(rt; followed(rt.alloc(), &BROKEN)?, 1);
+    Ok(())
+}
+
+#[test]
+fn what_was_kept_and_begun_is_gone_after_a_reconnection(rt: HostRuntime) -> Result<(), Fail> {
+    assert_eq!(rt; followed(rt.alloc(), &RECONNECTED)?, 8);
+    Ok(())
+}
+
+#[test]
+fn an_undone_event_leaves_the_end_as_the_kept_ones_did(rt: HostRuntime) -> Result<(), Fail> {
+    assert_eq!(rt; followed(rt.alloc(), &UNDONE)?, 6);
     Ok(())
 }
 
@@ -469,134 +514,113 @@ fn to_other(alloc: Global, packet: &Blob) -> Result<Blob, Fail> {
     Ok(Blob::shared(other)?)
 }
 
+/// The next packets of one end come to the other, but for those that are lost. What the last one
+/// means is told in a word.
+fn carry(alloc: Global, from: &mut End, to: &mut End, lost: &[bool]) -> Result<&'static str, Fail> {
+    let mut told = "";
+    for is_lost in lost {
+        let Some(packet) = from.out()? else {
+            return Ok("nothing goes out");
+        };
+        if !*is_lost {
+            told = take(to, &to_other(alloc, &packet)?)?;
+        }
+    }
+    Ok(told)
+}
+
+/// With a window of 32 and pieces of 64 bytes, a body of 256 bytes, of which frame 1 is lost. Both
+/// ends have the same session, so the sessions are exchanged on the way.
 #[test]
-fn a_broken_frame_ends_the_session(rt: HostRuntime) -> Result<(), Fail> {
-    let mut end = end(rt.alloc(), 32, true)?;
-    let row = packet_row(LAST_0, "down", "");
-    assert_eq!(rt; follows(rt.alloc(), &mut end, &[row])?, 1);
-    assert_eq!(rt; end.mine(), Session(0x0000_0005_0000_0002));
+fn one_frame_is_missing_and_is_sent_again_alone(rt: HostRuntime) -> Result<(), Fail> {
+    let mut first = end(rt.alloc(), 32, true)?;
+    let mut second = end(rt.alloc(), 32, true)?;
+    let _ = offer(rt.alloc(), &mut first, 256)?;
+    let lost = [false, true, false, false];
+    assert_eq!(rt; carry(rt.alloc(), &mut first, &mut second, &lost)?, "");
+    for digits in [MY_ACK_1, MY_NACK_1, ""] {
+        assert!(rt; sends(rt.alloc(), &mut second, digits)?);
+    }
+    let nack = Event::Packet("0206001c 0000000900000004 0000000500000001 00000001 00000001");
+    let _ = happens(rt.alloc(), &mut first, &nack)?;
+    assert_eq!(rt;
+        carry(rt.alloc(), &mut first, &mut second, &[false])?,
+        "got"
+    );
+    assert!(rt; sends(rt.alloc(), &mut first, "")?);
+    let ack = "0205001c 0000000500000001 0000000900000004 00000000 00000004";
+    assert!(rt; sends(rt.alloc(), &mut second, ack)?);
     Ok(())
 }
 
-/// A message of three bytes begins and its last frame is kept; then the session ends.
-#[test]
-fn what_was_kept_and_begun_is_gone_after_a_reconnection(rt: HostRuntime) -> Result<(), Fail> {
-    let mut end = end(rt.alloc(), 32, true)?;
-    let ack_1 = "0205001c 0000000500000002 0000000900000004 00000000 00000001";
-    let ack_2 = "0205001c 0000000500000002 0000000900000004 00000000 00000002";
-    let rows = [
-        packet_row(
-            FIRST_OF_3,
-            "",
-            "0205001c 0000000500000001 0000000900000004 00000000 00000001",
-        ),
-        packet_row(
-            LAST_2,
-            "",
-            "0206001c 0000000500000001 0000000900000004 00000001 00000001",
-        ),
-        packet_row(RESET, "down", ""),
-        packet_row(
-            "02020018 0000000900000004 0000000500000002 00020000",
-            "up",
-            "02020018 0000000500000002 0000000900000004 00030000",
-        ),
-        // To the session before.
-        packet_row(NEXT_1, "", ""),
-        // A message of three bytes begins anew, and frame 2 isn't there.
-        packet_row(
-            "02050031 0000000900000004 0000000500000002 03000000 00000000
-                00010000 00000000 00000007 00000009 00000003 aa",
-            "",
-            ack_1,
-        ),
-        packet_row(
-            "02050025 0000000900000004 0000000500000002 04000000 00000000 00010000 00000001 bb",
-            "",
-            ack_2,
-        ),
-        packet_row(
-            "02050025 0000000900000004 0000000500000002 04000000 00000000 00000000 00000002 cc",
-            "got",
-            "0205001c 0000000500000002 0000000900000004 00000000 00000003",
-        ),
-    ];
-    assert_eq!(rt; follows(rt.alloc(), &mut end, &rows)?, 8);
-    Ok(())
+/// Further pieces of one byte come, with more behind them: from one number up to another.
+fn take_pieces(alloc: Global, end: &mut End, from: u16, to: u16) -> Result<bool, Fail> {
+    for seq in from..to {
+        let [high, low] = seq.to_be_bytes();
+        let mut bytes = bytes_of(
+            alloc,
+            "02050025 0000000900000004 0000000500000001 04000000 00000000 00010000 0000",
+        )?;
+        bytes.extend_from_slice([high, low, 0xab].as_slice())?;
+        if take(end, &Blob::shared(bytes)?)? != "" {
+            return Ok(false);
+        }
+    }
+    Ok(true)
 }
 
-/// A further piece of one byte, with this number, and with more behind it or none.
-fn piece(alloc: Global, seq: u16, more: bool) -> Result<Blob, Fail> {
-    let [high, low] = seq.to_be_bytes();
-    let mut bytes = bytes_of(
-        alloc,
-        "02050025 0000000900000004 0000000500000001 04000000 00000000",
-    )?;
-    bytes.extend_from_slice([0, u8::from(more), 0, 0, 0, 0, high, low, 0xab].as_slice())?;
-    Ok(Blob::shared(bytes)?)
-}
+const FIRST_OF_257: &str = "02050031 0000000900000004 0000000500000001 03000000 00000000
+    00010000 00000001 00000007 00000009 00000101 aa";
+
+const LAST_257: &str = "02050025 0000000900000004 0000000500000001 04000000 00000000
+    00000000 00000101 cc";
+
+/// Frame 1 stays kept, since a message was made whole before it.
+const WHOLE: [Row; 1] = [(Event::Packet(ONLY), "got", [MY_NACK_0, MY_ACK_1])];
+
+const ALL_BUT_257: [Row; 3] = [
+    (Event::Packet(LAST_257), "", [MY_NACK_1, ""]),
+    (
+        Event::Packet(FIRST_OF_257),
+        "",
+        [
+            "0205001c 0000000500000001 0000000900000004 00000000 00000101",
+            "",
+        ],
+    ),
+    (
+        Event::Packet(LAST_257),
+        "got",
+        [
+            "0205001c 0000000500000001 0000000900000004 00000000 00000102",
+            "",
+        ],
+    ),
+];
 
 /// Frames 1 to 257 are a message of 257 bytes, and frame 0 is one before it.
 #[test]
 fn of_early_frames_256_are_kept_and_the_next_is_not(rt: HostRuntime) -> Result<(), Fail> {
     let mut end = end(rt.alloc(), 256, true)?;
-    let first = "02050031 0000000900000004 0000000500000001 03000000 00000000
-        00010000 00000001 00000007 00000009 00000101 aa";
-    let nack_0 = "0206001c 0000000500000001 0000000900000004 00000001 00000000";
-    let ack_1 = "0205001c 0000000500000001 0000000900000004 00000000 00000001";
-    let nack_1 = "0206001c 0000000500000001 0000000900000004 00000001 00000001";
-    let ack_257 = "0205001c 0000000500000001 0000000900000004 00000000 00000101";
-    let early = packet_row(first, "", nack_0);
-    assert_eq!(rt; follows(rt.alloc(), &mut end, &[early])?, 1);
-    for seq in 2..256 {
-        assert_eq!(rt; take(&mut end, &piece(rt.alloc(), seq, true)?)?, "");
-    }
-    // Frame 1 stays kept, since a message was made whole.
-    let whole = packet_row(ONLY, "got", ack_1);
-    assert_eq!(rt; follows(rt.alloc(), &mut end, &[whole])?, 1);
-    for (seq, more) in [(256, true), (257, false)] {
-        assert_eq!(rt; take(&mut end, &piece(rt.alloc(), seq, more)?)?, "");
-    }
-    assert!(rt; sends(rt.alloc(), &mut end, nack_1)?);
-    let again = packet_row(first, "", ack_257);
-    assert_eq!(rt; follows(rt.alloc(), &mut end, &[again])?, 1);
-    assert_eq!(rt; take(&mut end, &piece(rt.alloc(), 257, false)?)?, "got");
-    Ok(())
-}
-
-#[test]
-fn an_undone_event_leaves_the_end_as_the_kept_ones_did(rt: HostRuntime) -> Result<(), Fail> {
-    let mut end = end(rt.alloc(), 32, true)?;
-    let nack = "0206001c 0000000500000001 0000000900000004 00000001 00000000";
-    let ack = "0205001c 0000000500000001 0000000900000004 00000000 00000002";
-    let mut undo = packet_row(ONLY, "", "");
-    undo.event = Event::Undo;
-    let mut keep = packet_row(ONLY, "", "");
-    keep.event = Event::Keep;
-    let rows = [
-        packet_row(LAST_1, "", nack),
-        keep,
-        packet_row(FIRST_OF_2, "got", ack),
-        packet_row(RESET, "down", ""),
-        undo,
-        packet_row(FIRST_OF_2, "got", ack),
-    ];
-    assert_eq!(rt; follows(rt.alloc(), &mut end, &rows)?, 6);
+    let _ = happens(rt.alloc(), &mut end, &Event::Packet(FIRST_OF_257))?;
+    assert!(rt; take_pieces(rt.alloc(), &mut end, 2, 256)?);
+    assert_eq!(rt; follows(rt.alloc(), &mut end, &WHOLE)?, 1);
+    assert!(rt; take_pieces(rt.alloc(), &mut end, 256, 257)?);
+    assert_eq!(rt; follows(rt.alloc(), &mut end, &ALL_BUT_257)?, 3);
     Ok(())
 }
 
 #[test]
 fn what_was_to_go_out_comes_back_with_the_rest(rt: HostRuntime) -> Result<(), Fail> {
     let mut end = end(rt.alloc(), 32, true)?;
-    let _ = take(&mut end, &piece(rt.alloc(), 1, false)?)?;
+    let _ = happens(rt.alloc(), &mut end, &Event::Packet(LAST_1))?;
     end.keep();
-    let nack = "0206001c 0000000500000001 0000000900000004 00000001 00000000";
     for _ in 0..2 {
-        assert!(rt; sends(rt.alloc(), &mut end, nack)?);
+        assert!(rt; sends(rt.alloc(), &mut end, MY_NACK_0)?);
         let _ = offer(rt.alloc(), &mut end, 1_000)?;
         end.undo();
     }
-    assert!(rt; sends(rt.alloc(), &mut end, nack)?);
+    assert!(rt; sends(rt.alloc(), &mut end, MY_NACK_0)?);
     assert!(rt; sends(rt.alloc(), &mut end, "")?);
     assert_eq!(rt; end.frames_left(), u32::MAX);
     Ok(())
