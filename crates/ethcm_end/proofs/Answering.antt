@@ -1,6 +1,5 @@
 -- A packet is answered by going up or down, or with a message, exactly where its rule says.
-use Rattle.std.proofs.Common.{◌≡◌, ◌↔◌, ℕ, ◌<◌, None, Some, ap, sym, subst, ◌∙◌, ◌⊎◌, inl, inr}
-use Rattle.linx_base.specs.declared.identity.Session.{Session}
+use Rattle.std.proofs.Common.{◌≡◌, ap, subst, ◌⊎◌, inl, inr}
 use Rattle.linx_base.specs.declared.frame.Message.{Message}
 use Rattle.ethcm_headers.specs.declared.packets.Packet.{Packet}
 use Rattle.fragmenter.specs.declared.joiner.Joined.TheVariants.{Whole, Broken}
@@ -8,8 +7,7 @@ use Rattle.ethcm_end.specs.declared.answers.Input.{Input}
 use Rattle.ethcm_end.specs.declared.answers.Input.TheVariants.{Nothing, WentUp, WentDown, Got}
 use Rattle.ethcm_end.specs.States.{EndState, Reaction}
 use Rattle.ethcm_end.specs.Rules.{input_of}
-use Rattle.ethcm_end.specs.Rows.{IsBetween}
-use Rattle.ethcm_end.specs.Answers.{AnswersExactly, BringsUp, InputAnswersExactly, IsGreater, IsReset, TakesTo}
+use Rattle.ethcm_end.specs.Answers.{BringsUp, InputAnswersExactly, IsGreater, IsReset, TakesTo}
 use Rattle.ethcm_end.proofs.ByRule.{by_rules}
 use Rattle.ethcm_end.proofs.Following.{input_rows}
 

@@ -1,5 +1,5 @@
 -- Each event leaves an end sound, and what it sends are packets.
-use Rattle.std.proofs.Common.{◌≡◌, ◌≢◌, if◌then◌else◌, ℕ, suc, ◌+◌, ◌-◌, ◌^◌, ◌<◌, ◌≤◌, ◌↔◌, Bool, true, false, ltb, eqb, leb, ◌&&◌, Option, Some, None, List, [], ◌∷◌, ◌++◌, length, take, drop, map, All, IsSome, refl, ap, sym, subst, ◌∙◌, arith, ◌⊎◌, inl, inr}
+use Rattle.std.proofs.Common.{◌≡◌, ◌≢◌, if◌then◌else◌, ℕ, suc, ◌+◌, ◌-◌, ◌^◌, ◌<◌, ◌≤◌, Bool, true, false, ltb, leb, ◌&&◌, Option, List, [], ◌∷◌, ◌++◌, length, take, drop, map, All, refl, ap, sym, subst, arith, inl, inr}
 use Rattle.std.specs.Option.{ForSome}
 use Rattle.std.proofs.lemmas.Bool.{cases_lt, le-ltb, leb-true, lt-ltb, ltb-true}
 use Rattle.std.proofs.lemmas.Bool.Decides.{eqb_tells}
@@ -9,11 +9,9 @@ use Rattle.linx_base.specs.declared.identity.Session.{Session}
 use Rattle.linx_base.specs.declared.frame.ConnKind.{ConnKind}
 use Rattle.linx_base.specs.declared.frame.ConnKind.TheVariants as kinds
 use Rattle.linx_base.specs.declared.frame.Frame.{Frame}
-use Rattle.linx_base.specs.declared.frame.Frame.TheVariants.{First, Next}
 use Rattle.linx_base.specs.declared.frame.Message.{Message}
 use Rattle.linx_base.specs.declared.frame.SentFrame.{SentFrame}
 use Rattle.linx_base.specs.Frames.{FitsFrame, IsFrame, IsMessage}
-use Rattle.linx_base.specs.Numbers.{count_of}
 use Rattle.ethcm_headers.specs.declared.packets.Packet.{Packet}
 use Rattle.ethcm_headers.specs.declared.packets.Part.{Part}
 use Rattle.ethcm_headers.specs.declared.packets.Part.TheVariants.{Conn, Ack, Nack, Piece}
@@ -21,10 +19,10 @@ use Rattle.ethcm_headers.specs.Packets.{FitsPart, IsPacket, IsPart}
 use Rattle.ethcm_session.specs.declared.standing.Standing.{Standing}
 use Rattle.ethcm_session.specs.declared.standing.Standing.TheVariants.{Connecting, Up}
 use Rattle.ethcm_session.specs.declared.standing.TalkState.{TalkState}
-use Rattle.ethcm_session.specs.Table.{HasNext, after_down, boot_state, peer_in, up_with}
+use Rattle.ethcm_session.specs.Table.{HasNext, after_down, peer_in, up_with}
 use Rattle.ethcm_session.proofs.Rows.{by_rows, next_numbered}
 use Rattle.ethcm_window.specs.Sending.{Sender, after_ack, coming_in, from_number, left_of, number_limit, numbered_from, sent_again, sent_end, unacknowledged, with_offered}
-use Rattle.ethcm_window.specs.Receiving.{KeepsInOrder, Receiver, after_taking, early_limit, kept_above, kept_early, kept_with, missing_count}
+use Rattle.ethcm_window.specs.Receiving.{KeepsInOrder, Receiver, early_limit, kept_above, kept_early, kept_with, missing_count}
 use Rattle.ethcm_window.proofs.Keeping.{counts_missing, front_kept, rises_early, rises_from_expected, rises_taken}
 use Rattle.fragmenter.specs.declared.joiner.Joined.{Joined}
 use Rattle.fragmenter.specs.declared.joiner.Joined.TheVariants.{More, Whole, Broken}
@@ -34,7 +32,7 @@ use Rattle.fragmenter.proofs.Cuts.{few_pieces, pieces_fit}
 use Rattle.link_supervisor.specs.Loss.{lost_at}
 use Rattle.ethcm_end.specs.States.{EndState, Reaction, gives}
 use Rattle.ethcm_end.specs.Sound.{FitsMessage, IsKnown, IsSound, IsSoundReceiver, IsSoundSender, IsSoundTalk}
-use Rattle.ethcm_end.specs.Rules.{acked, after_out, anew, beat, data_in, finished, first_of, framed_in, gone_down, heard, input_of, kind_in, lost, nacked, offer_in, offer_of, offered, packet_of, piece_packet, put, put_ack, put_pieces, reacts, sent_or_ack, take_frames, take_kept, tick_in, tick_of, tick_up, with_early, with_taken, ask}
+use Rattle.ethcm_end.specs.Rules.{acked, after_out, anew, data_in, finished, first_of, framed_in, gone_down, heard, input_of, kind_in, nacked, offer_in, offer_of, offered, packet_of, piece_packet, put, put_ack, put_pieces, reacts, sent_or_ack, take_frames, take_kept, tick_in, tick_of, tick_up, with_early, with_taken, ask}
 
 -- ---- what goes out
 

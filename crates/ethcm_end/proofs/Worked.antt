@@ -1,5 +1,5 @@
 -- The functions of an end computed on worked rows.
-use Rattle.std.proofs.Common.{◌≡◌, ℕ, Bool, true, false, List, [], ◌∷◌, None, Some, map, refl}
+use Rattle.std.proofs.Common.{◌≡◌, ℕ, Bool, true, false, List, [], ◌∷◌, map, refl}
 use Rattle.linx_base.specs.Numbers.{first_session, session_of}
 use Rattle.linx_base.specs.declared.identity.Session.{Session}
 use Rattle.linx_base.specs.declared.frame.ConnKind.TheVariants as kinds
@@ -11,9 +11,9 @@ use Rattle.ethcm_headers.specs.declared.packets.Part.TheVariants.{Conn, Ack, Nac
 use Rattle.ethcm_session.specs.declared.standing.Standing.TheVariants.{Connecting, Up}
 use Rattle.ethcm_window.specs.Sending.{numbered_from}
 use Rattle.ethcm_end.specs.declared.answers.Input.{Input}
-use Rattle.ethcm_end.specs.declared.answers.Input.TheVariants.{Nothing, WentUp, WentDown, Got}
+use Rattle.ethcm_end.specs.declared.answers.Input.TheVariants.{Got}
 use Rattle.ethcm_end.specs.declared.answers.Ticked.TheVariants as ticks
-use Rattle.ethcm_end.specs.States.{EndState, new_end, peer_of}
+use Rattle.ethcm_end.specs.States.{EndState, new_end}
 use Rattle.ethcm_end.specs.Rules.{data_in, input_of, take_kept, tick_of}
 
 -- the end has session 1.1 and its peer 1.1; the window has two frames

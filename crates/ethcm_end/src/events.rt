@@ -1,6 +1,6 @@
 //! The events of an end: a packet comes, a tick comes, a message is offered.
 
-ghost use Rattle.std.specs.Prelude.{◌≡◌, ◌≤◌, length, IfOk, OnOk, IsSome};
+ghost use Rattle.std.specs.Prelude.{◌≡◌, ◌≤◌, IfOk, OnOk};
 ghost use Rattle.linx_base.specs.Frames.{IsMessage};
 ghost use Rattle.ethcm_headers.specs.Packets.{IsPart};
 ghost use Rattle.ethcm_session.specs.Table.{HasNext};
