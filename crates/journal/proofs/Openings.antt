@@ -21,9 +21,10 @@ use Rattle.journal.specs.declared.effect.Effect.{Effect}
 use Rattle.journal.specs.declared.effect.Effect.TheVariants.{Opened, Closed, Arrived}
 use Rattle.journal.specs.declared.effect.Step.{Step}
 use Rattle.journal.specs.History.{effects_of, is_by, opened_in, closes, last_opened, last_endpoint, is_closed, if_not_closed, endpoint_of, endpoint_by, openings, open_endpoints, opened_on, next_inc}
-use Rattle.journal.specs.Sessions.{is_alive}
+use Rattle.journal.specs.Living.{is_alive}
 use Rattle.journal.specs.Queues.{is_item_of}
-use Rattle.journal.specs.Laws.{Shape, IsLegal, IsLegalStep, HasEffects, arrivals_of, node_by}
+use Rattle.journal.specs.Effects.{arrivals_of}
+use Rattle.journal.specs.Laws.{Shape, IsLegal, IsLegalStep, HasEffects, node_by}
 use Rattle.journal.proofs.Lists.{filter-filter, list_any-wider, list_any-filter, list_any-one}
 
 -- the test of incarnations is their equality

@@ -20,7 +20,7 @@ use Rattle.journal.specs.declared.effect.Effect.TheVariants.{Opened, Closed, Arr
 use Rattle.journal.specs.declared.effect.Step.{Step}
 use Rattle.journal.specs.Logs.{step_at, signal_bytes_of}
 use Rattle.journal.specs.History.{endpoint_by, opened_on, next_inc, opening_name, has_ended}
-use Rattle.journal.specs.Sessions.{is_alive}
+use Rattle.journal.specs.Living.{is_alive}
 use Rattle.journal.specs.Traffic.{sent_to, arrived_from}
 use Rattle.journal.specs.Queues.{queued}
 use Rattle.journal.specs.Laws.{Shape, KeepsMakers, HasEffects, KeepsSends, KeepsReceives, IsLegal, node_by}

@@ -16,7 +16,8 @@ use Rattle.journal.specs.declared.effect.Effect.{Effect}
 use Rattle.journal.specs.declared.effect.Effect.TheVariants.{Opened, Closed, Arrived}
 use Rattle.journal.specs.declared.effect.Step.{Step}
 use Rattle.journal.specs.History.{is_by, endpoint_of, endpoint_by, opened_on, next_inc, has_ended}
-use Rattle.journal.specs.Sessions.{is_alive}
+use Rattle.journal.specs.Effects.{send_answer, arrivals_of}
+use Rattle.journal.specs.Living.{is_alive}
 use Rattle.journal.specs.Queues.{queued}
 
 -- what a run is laid out on: the links, and the node of each actor
@@ -54,18 +55,6 @@ may_make (Pump link) _ = false
 pub record KeepsMakers (shape : Shape) (P : List Step) (by : By) (head : Head) : Type 0 where
   pub maker : IsMaker shape P by
   pub may : may_make by head ≡ true
-
--- what becomes of a signal that is sent to a peer, which is alive or not
-abbrev pub send_answer : Bool → Peer → SentTo
-send_answer false q = Dead
-send_answer true (Here i) = Queued
-send_answer true (There link session i) = Link
-
--- the arrival that a send makes on the own node
-abbrev pub arrivals_of : Inc → SigNote → Bool → Peer → List Effect
-arrivals_of j note false q = []
-arrivals_of j note true (Here i) = Arrived i (Here j) note ∷ []
-arrivals_of j note true (There link session i) = []
 
 -- The effects of a step are exactly these, by the endpoint of its maker and its head: an opening
 -- needs that there is none, and names the next incarnation of the node. No other head is made yet

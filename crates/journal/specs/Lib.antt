@@ -1,6 +1,9 @@
 pub mod Logs
 pub mod History
 pub mod Sessions
+pub mod Living
+pub mod Pending
+pub mod Effects
 pub mod Traffic
 pub mod Queues
 pub mod Laws

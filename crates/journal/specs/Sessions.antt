@@ -25,25 +25,3 @@ session_past node link before (e ∷ es) =
 abbrev pub up_session : List Step → ℕ → ℕ → Option Session
 up_session [] node link = None
 up_session (s ∷ P) node link = session_past node link (up_session P node link) s.effects
-
--- the session is this one
-abbrev pub is_session : Session → Option Session → Bool
-is_session x None = false
-is_session x (Some y) = x.0 == y.0
-
--- the effect meets, or parts from, a peer at a node
-abbrev pub meets : ℕ → Peer → Effect → Bool
-meets node q (Met n p name) = n.0 == node && same_peer p q
-meets node q _ = false
-
-abbrev pub parts : ℕ → Peer → Effect → Bool
-parts node q (Gone n p) = n.0 == node && same_peer p q
-parts node q _ = false
-
--- a peer is alive at a node: an endpoint of the node while it is open, one over a link from its
--- meeting to its parting while its session is up
-abbrev pub is_alive : List Step → ℕ → Peer → Bool
-is_alive P node (Here i) = list_any (same_inc i) (open_endpoints P node)
-is_alive P node (There l x i) =
-    is_session x (up_session P node l.0) && list_any (meets node (There l x i)) (effects_of P)
-    && not (list_any (parts node (There l x i)) (effects_of P))

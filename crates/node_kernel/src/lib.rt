@@ -4,9 +4,11 @@
 #![tactic(auto)]
 
 mod answers;
+mod ask;
 mod endpoint;
 mod kernel;
 
+pub use ask::Ask;
 pub use answers::{OpenError, OpenedAs, Sent, StepAnswer};
 pub use kernel::Kernel;
 
