@@ -1,2 +1,2 @@
 pub mod Remains
-pub mod Events
+pub mod Machine

@@ -1,14 +1,21 @@
--- What a history leaves of a node, and what a fabric keeps.
-use Rattle.std.specs.Prelude.{ℕ, ◌≡◌, List, [], ◌∷◌, map, Option, Some, None}
-use Rattle.std.specs.Option.{option_to_list}
+-- What a history leaves of the nodes and the actors, and what a fabric keeps.
+use Rattle.std.specs.Prelude.{ℕ, suc, ◌≡◌, ◌≤◌, ◌<◌, Bool, true, false, not, List, [], ◌∷◌, ◌++◌, length, map, filter, slice_get, Option, Some, None, if◌then◌else◌}
+use Rattle.std.specs.List.{fold, list_any, AllByRecursion}
 use Rattle.linx_base.specs.declared.identity.Inc.{Inc}
 use Rattle.linx_base.specs.declared.identity.NodeNo.{NodeNo}
+use Rattle.linx_base.specs.declared.name.Names.{Names}
 use Rattle.journal.specs.declared.effect.Step.{Step}
+use Rattle.journal.specs.History.{closed_step, closes, endpoint_of, has_ended, name_in, open_endpoints, opened_by, opened_on, opening_name, opens}
+use Rattle.journal.specs.Laws.{IsLegal}
+use Rattle.journal.specs.Living.{living, living_after}
 use Rattle.journal.specs.Logs.{Log}
-use Rattle.journal.specs.History.{endpoint_of, open_endpoints, opened_on, opening_name}
-use Rattle.journal.specs.Queues.{queued}
-use Rattle.journal.specs.Laws.{Shape, IsLegal}
-use Rattle.node_kernel.specs.Nodes.{OpenEndpoint, NodeState}
+use Rattle.journal.specs.Pending.{hunting, hunts_past, owed, owed_past}
+use Rattle.journal.specs.Queues.{items_in, left_by, queued, unless_opened}
+use Rattle.journal.specs.Rest.{waits_with}
+use Rattle.journal.specs.Shapes.{Shape}
+use Rattle.journal.specs.Traffic.{is_endpoint}
+use Rattle.node_kernel.specs.Nodes.{NodeState, OpenEndpoint}
+use Rattle.fabric.specs.declared.standing.Standing.{Standing}
 
 -- the name of an opening; none for what wasn't opened
 abbrev pub name_or_none : Option (List ℕ) → List ℕ
@@ -29,26 +36,55 @@ node_left P node = record {
   node = node;
   openings = opened_on P node.0;
   endpoints = map (endpoint_left P) (open_endpoints P node.0);
+  hunts = hunting P node.0;
+  attaches = owed P node.0;
+  met = living P node.0;
 }
+
+-- an actor as the history leaves it
+abbrev pub standing_left : List Step → ℕ → Standing
+standing_left P k = record {
+  endpoint = endpoint_of P k;
+  closed = closed_step P k;
+  waits = waits_with P k;
+  ended = has_ended P k;
+}
+
+-- the kernels are those of the nodes from 1 on, as the history leaves them
+abbrev pub AreNodesLeft : List Step → List NodeState → Type 0
+AreNodesLeft P kernels =
+    (n : ℕ) → n < length kernels → slice_get kernels n ≡ Some (node_left P (record { 0 = suc n }))
+
+-- the standings are those of the actors from 1 on, as the history leaves them
+abbrev pub AreStandingsLeft : List Step → List Standing → Type 0
+AreStandingsLeft P standings =
+    (k : ℕ) → k < length standings → slice_get standings k ≡ Some (standing_left P (suc k))
+
+-- the node is one of so many
+abbrev pub IsNode : ℕ → NodeNo → Type 0
+IsNode count node = (0 < node.0) × (node.0 ≤ count)
+
+-- the most actors of a run
+abbrev pub actor_limit : ℕ
+actor_limit = 64
+
+-- a layout that a fabric can have: at most 64 actors, each on one of the nodes, and as yet no link
+pub record IsLaidOut (nodes : ℕ) (shape : Shape) : Type 0 where
+  pub few : length shape.actors ≤ actor_limit
+  pub placed : AllByRecursion (IsNode nodes) shape.actors
+  pub unlinked : shape.links ≡ []
 
 -- what a fabric is seen as: what it is laid out on, and its log
 pub record Layout : Type 0 where
   pub shape : Shape
   pub log : Log
 
--- the one node of a run
-abbrev pub only_node : NodeNo
-only_node = record { 0 = 1 }
-
--- one actor on one node, and no link
-abbrev pub IsOneActor : Shape → Type 0
-IsOneActor shape = shape ≡ record { links = []; actors = only_node ∷ [] }
-
--- What a fabric keeps: its journal is legal, its kernel is what the journal leaves, and it knows the
--- endpoint of its actor, which is the only one that can be open
-pub record IsKept (shape : Shape) (P : List Step) (kernel : NodeState) (endpoint : Option Inc) : Type 0 where
-  pub one_actor : IsOneActor shape
-  pub legal : IsLegal shape P
-  pub kernel_left : kernel ≡ node_left P only_node
-  pub endpoint_known : endpoint ≡ endpoint_of P 1
-  pub alone : open_endpoints P 1 ≡ option_to_list (endpoint_of P 1)
+-- What a fabric keeps: its journal is legal, its kernels are what the journal leaves of the nodes, and
+-- its standings what it leaves of the actors
+pub record IsKept (shape : Shape) (log : Log) (kernels : List NodeState) (standings : List Standing) : Type 0 where
+  pub laid_out : IsLaidOut (length log.names.nodes) shape
+  pub legal : IsLegal shape log.steps
+  pub nodes : length kernels ≡ length log.names.nodes
+  pub actors : length standings ≡ length shape.actors
+  pub kernels_left : AreNodesLeft log.steps kernels
+  pub standings_left : AreStandingsLeft log.steps standings

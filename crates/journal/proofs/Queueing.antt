@@ -1,10 +1,7 @@
 -- The queue of an endpoint after one more step.
 use Rattle.std.proofs.Common.{◌≡◌, ℕ, suc, ◌≤◌, ◌+◌, Bool, true, false, cond, not, List, [], ◌∷◌, ◌++◌, length, Some, refl, sym, ◌∙◌, ap, subst, arith}
 use Rattle.std.specs.List.{list_any, filter, AllByRecursion}
-use Rattle.std.proofs.lemmas.Bool.{or_parts}
 use Rattle.std.proofs.lemmas.Bool.Decides.{nat_tests}
-use Rattle.std.proofs.lemmas.List.{append-nil}
-use Rattle.std.proofs.lemmas.List.Folds.{list_any-append}
 use Rattle.linx_base.specs.FirstMatch.{first_match, without_match}
 use Rattle.linx_base.specs.Peers.{same_position}
 use Rattle.linx_base.specs.declared.identity.Inc.{Inc}
@@ -17,7 +14,7 @@ use Rattle.journal.specs.declared.head.Head.TheVariants.{Take}
 use Rattle.journal.specs.declared.effect.Effect.{Effect}
 use Rattle.journal.specs.declared.effect.Effect.TheVariants.{Arrived, Found, Notified}
 use Rattle.journal.specs.declared.effect.Step.{Step}
-use Rattle.journal.specs.History.{effects_of, endpoint_by}
+use Rattle.journal.specs.History.{endpoint_by, opens}
 use Rattle.journal.specs.Traffic.{is_endpoint}
 use Rattle.journal.specs.Queues.{is_item_of, items_from, items_in, removes, left_by, queued}
 use Rattle.journal.proofs.Lists.{all-append, all-filter, all-impl, all-first_match, filter-all, filter-every}
@@ -154,6 +151,21 @@ module _ (mine : Bool) (head : Head) where
   left_differ xs all = elim mine as
       (λ b. AllDiffer (left_by b head xs)) [ true ↦ differ-filter _ xs all | false ↦ all ]
 
+-- an opening leaves a part of a queue, which is none of it
+module _ (opens : Bool) where
+  started_all : (P : Item → Type 0) (xs : List Item) → AllByRecursion P xs
+      → AllByRecursion P (cond opens [] xs)
+  started_all P xs all = elim opens as (λ b. AllByRecursion P (cond b [] xs)) [
+    | true ↦ tt
+    | false ↦ all
+  ]
+
+  started_differ : (xs : List Item) → AllDiffer xs → AllDiffer (cond opens [] xs)
+  started_differ xs all = elim opens as (λ b. AllDiffer (cond b [] xs)) [
+    | true ↦ tt
+    | false ↦ all
+  ]
+
 -- a queue's items stand in the steps so far, and no two at one position
 module _ (j : Inc) where
   pub queued_stand : (P : List Step) → AllByRecursion (StandsWithin (length P)) (queued P j)
@@ -161,12 +173,15 @@ module _ (j : Inc) where
   queued_stand (s ∷ P) =
       let k : ℕ = suc (length P) in
       let mine : Bool = is_endpoint j (endpoint_by P s.by) in
+      let opens_it : Bool = list_any (opens j) s.effects in
+      let before : List Item = cond opens_it [] (queued P j) in
       let new : List Item = items_in j k 1 s.effects in
       let old : AllByRecursion (StandsWithin k) (queued P j) =
       all-impl (StandsWithin (length P)) (StandsWithin k) (λ x h. omega arith) (queued P j)
       (queued_stand P) in
-      all-append (StandsWithin k) (left_by mine s.head (queued P j)) new
-      (left_all mine s.head (StandsWithin k) (queued P j) old)
+      all-append (StandsWithin k) (left_by mine s.head before) new
+      (left_all mine s.head (StandsWithin k) before
+      (started_all opens_it (StandsWithin k) (queued P j) old))
       (all-impl (StandsFrom k 1) (StandsWithin k) (λ x h. omega arith) new
       (items_stand j k 1 s.effects))
 
@@ -175,6 +190,8 @@ module _ (j : Inc) where
   queued_differ (s ∷ P) =
       let k : ℕ = suc (length P) in
       let mine : Bool = is_endpoint j (endpoint_by P s.by) in
+      let opens_it : Bool = list_any (opens j) s.effects in
+      let before : List Item = cond opens_it [] (queued P j) in
       let new : List Item = items_in j k 1 s.effects in
       let apart : (x : Item) → StandsWithin (length P) x → AllByRecursion (Differs x) new = λ x old.
       all-impl (StandsFrom k 1) (Differs x) (λ y h. grind (arith, nat_tests)) new
@@ -182,53 +199,15 @@ module _ (j : Inc) where
       let across : AllByRecursion (λ x. AllByRecursion (Differs x) new) (queued P j) =
       all-impl (StandsWithin (length P)) (λ x. AllByRecursion (Differs x) new) apart (queued P j)
       (queued_stand P) in
-      differ-append (left_by mine s.head (queued P j)) new
-      (left_differ mine s.head (queued P j) (queued_differ P)) (items_differ j k 1 s.effects)
-      (left_all mine s.head (λ x. AllByRecursion (Differs x) new) (queued P j) across)
+      differ-append (left_by mine s.head before) new
+      (left_differ mine s.head before (started_differ opens_it (queued P j) (queued_differ P)))
+      (items_differ j k 1 s.effects)
+      (left_all mine s.head (λ x. AllByRecursion (Differs x) new) before
+      (started_all opens_it (λ x. AllByRecursion (Differs x) new) (queued P j) across))
 
-  -- without items nothing is queued
-  items_in-none : (step place : ℕ) (es : List Effect) → list_any (is_item_of j) es ≡ false
-      → items_in j step place es ≡ []
-  items_in-none step place [] none = refl
-  items_in-none step place (e ∷ es) none =
-      let both = or_parts (is_item_of j e) (list_any (is_item_of j) es) none in
-      rw (both.0) (items_in-none step (place + 1) es both.1)
-
-  pub queued-none : (P : List Step) → list_any (is_item_of j) (effects_of P) ≡ false
-      → queued P j ≡ []
-  queued-none [] none = refl
-  queued-none (s ∷ P) none =
-      let both = or_parts (list_any (is_item_of j) (effects_of P))
-      (list_any (is_item_of j) s.effects)
-      (sym (list_any-append (is_item_of j) (effects_of P) s.effects) ∙ none) in
-      let left : (b : Bool)
-      → left_by b s.head [] ≡ [] =
-      λ b. elim b as (λ c. left_by c s.head [] ≡ []) [ true ↦ refl | false ↦ refl ] in
-      rw (queued-none P both.0, items_in-none (suc (length P)) 1 s.effects both.1)
-      (rw (left (is_endpoint j (endpoint_by P s.by))) refl)
-
--- a head takes nothing out of a queue
-abbrev pub TakesNone : Head → Type 0
-TakesNone head = (x : Item) → removes head x ≡ false
-
-module _ (P : List Step) (s : Step) (j : Inc) where
-  -- a step that takes nothing out puts in what it brings
-  pub queued-put : TakesNone s.head
-      → queued (s ∷ P) j ≡ queued P j ++ items_in j (suc (length P)) 1 s.effects
-  queued-put keeps =
-      ap (λ l. l ++ items_in j (suc (length P)) 1 s.effects)
-      (elim (is_endpoint j (endpoint_by P s.by)) as
-      (λ b. left_by b s.head (queued P j) ≡ queued P j) [
-        | true ↦ filter-every (λ x. not (removes s.head x)) (λ x. ap not (keeps x)) (queued P j)
-        | false ↦ refl
-      ])
-
-  -- a take of the endpoint's own leaves the items but the earliest selected one
-  pub queued-take : (selection : Sigsel) (e : Item) → is_endpoint j (endpoint_by P s.by) ≡ true
-      → s.head ≡ Take selection e.pos → s.effects ≡ []
-      → first_selected selection (queued P j) ≡ Some e
-      → queued (s ∷ P) j ≡ without_first selection (queued P j)
-  queued-take selection e mine takes none is =
-      rw (mine, takes, none)
-      (append-nil (filter (stands_off e.pos) (queued P j))
-      ∙ without_first_position (is_selected selection) (queued P j) e (queued_differ j P) is)
+-- a take of the first selected item leaves the items but that one
+pub left-take : (P : List Step) (j : Inc) (selection : Sigsel) (e : Item)
+    → first_selected selection (queued P j) ≡ Some e
+    → left_by true (Take selection e.pos) (queued P j) ≡ without_first selection (queued P j)
+left-take P j selection e is =
+    without_first_position (is_selected selection) (queued P j) e (queued_differ j P) is

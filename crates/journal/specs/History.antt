@@ -1,4 +1,4 @@
-use Rattle.std.specs.Prelude.{ℕ, ◌+◌, Bool, true, false, not, ◌&&◌, ◌==◌, List, [], ◌∷◌, ◌++◌, filter, count_by, Option, Some, None, if◌then◌else◌}
+use Rattle.std.specs.Prelude.{ℕ, suc, ◌+◌, Bool, true, false, not, ◌&&◌, ◌==◌, List, [], ◌∷◌, ◌++◌, length, filter, Option, Some, None, if◌then◌else◌}
 use Rattle.std.specs.List.{list_any, filter_map}
 use Rattle.linx_base.specs.Numbers.{inc_of, is_on}
 use Rattle.linx_base.specs.Peers.{same_inc}
@@ -47,14 +47,28 @@ last_endpoint (s ∷ P) k =
 abbrev pub is_closed : List Step → Inc → Bool
 is_closed P i = list_any (closes i) (effects_of P)
 
--- where it isn't closed
-abbrev pub if_not_closed : List Step → Option Inc → Option Inc
-if_not_closed P None = None
-if_not_closed P (Some i) = if is_closed P i then None else Some i
+-- what of an endpoint is left by effects: it is gone where they close it
+abbrev pub unless_closed : List Effect → Option Inc → Option Inc
+unless_closed effects None = None
+unless_closed effects (Some i) = if list_any (closes i) effects then None else Some i
 
--- the endpoint of an actor: the one that it opened last, unless that was closed
+-- the endpoint of an actor: the one that it opened last, until that is closed
 abbrev pub endpoint_of : List Step → ℕ → Option Inc
-endpoint_of P k = if_not_closed P (last_endpoint P k)
+endpoint_of [] k = None
+endpoint_of (s ∷ P) k =
+    unless_closed s.effects
+      (if is_by s.by k then last_opened (endpoint_of P k) s.effects else endpoint_of P k)
+
+-- the effects close this endpoint
+abbrev pub is_lost : List Effect → Option Inc → Bool
+is_lost effects None = false
+is_lost effects (Some i) = list_any (closes i) effects
+
+-- the step that closed the last endpoint that an actor lost, or 0
+abbrev pub closed_step : List Step → ℕ → ℕ
+closed_step [] k = 0
+closed_step (s ∷ P) k =
+    if is_lost s.effects (endpoint_of P k) then suc (length P) else closed_step P k
 
 -- the endpoint of a step's maker; a pump has none
 abbrev pub endpoint_by : List Step → By → Option Inc
@@ -65,13 +79,21 @@ endpoint_by P (Pump link) = None
 abbrev pub openings : List Step → List Inc
 openings P = filter_map opened_in (effects_of P)
 
--- the open endpoints of a node, in order of opening
+-- the incarnations that effects open on a node, in order
+abbrev pub opened_by : ℕ → List Effect → List Inc
+opened_by node effects = filter (is_on node) (filter_map opened_in effects)
+
+-- the open endpoints of a node, in order of opening: those opened so far, until they are closed
 abbrev pub open_endpoints : List Step → ℕ → List Inc
-open_endpoints P node = filter (λ i. is_on node i && not (is_closed P i)) (openings P)
+open_endpoints [] node = []
+open_endpoints (s ∷ P) node =
+    filter (λ i. not (list_any (closes i) s.effects))
+      (open_endpoints P node ++ opened_by node s.effects)
 
 -- how many endpoints were opened on a node
 abbrev pub opened_on : List Step → ℕ → ℕ
-opened_on P node = count_by (is_on node) (openings P)
+opened_on [] node = 0
+opened_on (s ∷ P) node = opened_on P node + length (opened_by node s.effects)
 
 -- the incarnation of the next opening on a node, after so many
 abbrev pub next_inc : ℕ → ℕ → Inc

@@ -1,43 +1,27 @@
-use Rattle.std.specs.Prelude.{ℕ, zero, suc, ◌≡◌, ◌≢◌, ◌≤◌, ◌<◌, Bool, true, false, ◌==◌, ◌&&◌, List, [], ◌∷◌, length, slice_get, is_none, nat_lt, ◌||◌, IsSomeAnd, Option, Some, None, if◌then◌else◌}
+-- When a step is legal after the steps before it, and a journal is.
+use Rattle.std.specs.Prelude.{ℕ, suc, ◌≡◌, ◌≤◌, ◌<◌, Bool, true, false, ◌==◌, List, [], ◌∷◌, length, is_none, is_some, IsSomeAnd, Option, Some, None}
+use Rattle.std.specs.List.{list_any}
+use Rattle.linx_base.specs.Content.{data_limit}
+use Rattle.linx_base.specs.NameText.{is_name}
+use Rattle.linx_base.specs.declared.identity.AttRef.{AttRef}
 use Rattle.linx_base.specs.declared.identity.Inc.{Inc}
-use Rattle.linx_base.specs.declared.identity.NodeNo.{NodeNo}
 use Rattle.linx_base.specs.declared.identity.Peer.{Peer}
-use Rattle.linx_base.specs.declared.identity.Peer.TheVariants.{Here, There}
-use Rattle.linx_base.specs.declared.frame.LinkDecl.{LinkDecl}
+use Rattle.linx_base.specs.declared.name.Path.{Path}
 use Rattle.linx_base.specs.declared.signal.SigNote.{SigNote}
-use Rattle.sigsel.specs.Selection.{first_selected}
+use Rattle.sigsel.specs.Selection.{first_selected, is_notice_of}
 use Rattle.journal.specs.declared.by.By.{By}
 use Rattle.journal.specs.declared.by.By.TheVariants.{Actor, Pump}
-use Rattle.journal.specs.declared.head.SentTo.{SentTo}
-use Rattle.journal.specs.declared.head.SentTo.TheVariants.{Queued, Link, Dead}
+use Rattle.journal.specs.declared.head.Detached.{Detached}
 use Rattle.journal.specs.declared.head.Head.{Head}
-use Rattle.journal.specs.declared.head.Head.TheVariants.{Open, Close, Send, Take, TakeNone, Waits, Wire, Tick, Ended}
+use Rattle.journal.specs.declared.head.Head.TheVariants.{Open, Close, Send, Take, TakeNone, Waits, Hunt, Attach, Detach, Cut, Mend, Settle, Restart, Wire, Tick, Refused, Ended}
 use Rattle.journal.specs.declared.effect.Effect.{Effect}
-use Rattle.journal.specs.declared.effect.Effect.TheVariants.{Opened, Closed, Arrived}
 use Rattle.journal.specs.declared.effect.Step.{Step}
-use Rattle.journal.specs.History.{is_by, endpoint_of, endpoint_by, opened_on, next_inc, has_ended}
-use Rattle.journal.specs.Effects.{send_answer, arrivals_of}
-use Rattle.journal.specs.Living.{is_alive}
-use Rattle.journal.specs.Queues.{queued}
-
--- what a run is laid out on: the links, and the node of each actor
-pub record Shape : Type 0 where
-  pub links : List LinkDecl
-  pub actors : List NodeNo
-
--- the node of an actor, from 1
-abbrev pub node_of_actor : Shape → ℕ → Option NodeNo
-node_of_actor shape zero = None
-node_of_actor shape (suc k) = slice_get shape.actors k
-
--- the number of the maker's node; a pump has none
-abbrev pub node_by : Shape → By → ℕ
-node_by shape (Pump link) = 0
-node_by shape (Actor k) = number_or_0 (node_of_actor shape k)
-  where
-    number_or_0 : Option NodeNo → ℕ
-    number_or_0 None = 0
-    number_or_0 (Some n) = n.0
+use Rattle.journal.specs.Effects.{opening, ending, arrivals_of, hunted, attached, closings, send_answer, detach_answer}
+use Rattle.journal.specs.History.{endpoint_by, has_ended, next_inc, open_endpoints, opened_on}
+use Rattle.journal.specs.Living.{find, is_alive}
+use Rattle.journal.specs.Pending.{hunting, is_attach, owed}
+use Rattle.journal.specs.Rest.{IsAtRest, queue_of, waits_with}
+use Rattle.journal.specs.Shapes.{Shape, node_by}
 
 -- a maker is an actor of the shape that hasn't ended, or the pump of one of its links
 abbrev pub IsMaker : Shape → List Step → By → Type 0
@@ -56,19 +40,82 @@ pub record KeepsMakers (shape : Shape) (P : List Step) (by : By) (head : Head) :
   pub maker : IsMaker shape P by
   pub may : may_make by head ≡ true
 
--- The effects of a step are exactly these, by the endpoint of its maker and its head: an opening
--- needs that there is none, and names the next incarnation of the node. No other head is made yet
-abbrev pub HasEffects : List Step → ℕ → Option Inc → Head → List Effect → Type 0
-HasEffects P node None (Open name) effects =
-    effects ≡ Opened (next_inc node (opened_on P node)) ∷ []
-HasEffects P node (Some j) Close effects = effects ≡ Closed j ∷ []
-HasEffects P node (Some j) (Send q note answer) effects =
-    effects ≡ arrivals_of j note (is_alive P node q) q
-HasEffects P node (Some j) (Take filter position) effects = effects ≡ []
-HasEffects P node (Some j) (TakeNone filter) effects = effects ≡ []
-HasEffects P node None Ended effects = effects ≡ []
-HasEffects P node (Some j) Ended effects = effects ≡ Closed j ∷ []
-HasEffects P node _ _ effects = ⊥
+-- a step of this head opens its maker's endpoint
+abbrev pub is_opening : Head → Bool
+is_opening (Open name) = true
+is_opening _ = false
+
+-- a step of this head is one of its maker's endpoint
+abbrev pub is_endpoints : Head → Bool
+is_endpoints Close = true
+is_endpoints (Send q note answer) = true
+is_endpoints (Take filter position) = true
+is_endpoints (TakeNone filter) = true
+is_endpoints (Waits filter) = true
+is_endpoints (Hunt path note) = true
+is_endpoints (Attach q note) = true
+is_endpoints (Detach r answer) = true
+is_endpoints _ = false
+
+-- LAW OF ENDPOINTS. Who opens an endpoint has none, and the steps of an endpoint need one
+pub record KeepsEndpoints (me : Option Inc) (head : Head) : Type 0 where
+  pub opens : is_opening head ≡ true → is_none me ≡ true
+  pub needs : is_endpoints head ≡ true → is_some me ≡ true
+
+-- a step of this head is one on a link
+abbrev pub is_on_link : Head → Bool
+is_on_link (Cut l) = true
+is_on_link (Mend l) = true
+is_on_link (Settle l) = true
+is_on_link (Wire l side verdict) = true
+is_on_link (Tick l side) = true
+is_on_link _ = false
+
+-- LAW OF BOUNDS. A name is one, a signal has at most 65,532 data bytes, and the signal of an attach
+-- one fewer, for its reason
+abbrev pub IsBounded : Head → Type 0
+IsBounded (Open name) = is_name name ≡ true
+IsBounded (Send q note answer) = length note.bytes ≤ data_limit
+IsBounded (Hunt path note) = length note.bytes ≤ data_limit
+IsBounded (Attach q note) = length note.bytes < data_limit
+IsBounded _ = Unit {0}
+
+-- what a send, a hunt and an attach of an endpoint bring; nothing where there is none
+abbrev pub sending : List Step → ℕ → Option Inc → Peer → SigNote → List Effect
+sending P node None q note = []
+sending P node (Some j) q note = arrivals_of j note (is_alive P node q) q
+
+abbrev pub hunting_by : List Step → ℕ → Option Inc → Path → SigNote → List Effect
+hunting_by P node None path note = []
+hunting_by P node (Some j) path note =
+    hunted (find P node path)
+      (record { at = j; path = path; signal = note; number = suc (length P) })
+
+abbrev pub attaching : List Step → ℕ → Option Inc → Peer → SigNote → List Effect
+attaching P node None q note = []
+attaching P node (Some j) q note =
+    attached (is_alive P node q)
+      (record { at = j; peer = q; signal = note; reference = record { 0 = suc (length P) } })
+
+-- THE EFFECTS of a step, by the node and the endpoint of its maker, and its head
+abbrev pub effects_by : List Step → ℕ → Option Inc → Head → List Effect
+effects_by P node me (Open name) = opening (next_inc node (opened_on P node)) name (hunting P node)
+effects_by P node me Close = ending me (owed P node)
+effects_by P node me (Send q note answer) = sending P node me q note
+effects_by P node me (Take filter position) = []
+effects_by P node me (TakeNone filter) = []
+effects_by P node me (Waits filter) = []
+effects_by P node me (Hunt path note) = hunting_by P node me path note
+effects_by P node me (Attach q note) = attaching P node me q note
+effects_by P node me (Detach r answer) = []
+effects_by P node me (Cut l) = []
+effects_by P node me (Mend l) = []
+effects_by P node me (Settle l) = []
+effects_by P node me (Restart n) = closings (open_endpoints P n.0)
+effects_by P node me (Wire l side verdict) = []
+effects_by P node me (Tick l side) = []
+effects_by P node me (Refused reason) = []
+effects_by P node me Ended = ending me (owed P node)
 
 -- LAW OF SENDS. A signal is answered dead exactly where the peer isn't alive, queued where it is an
 -- endpoint of the node, and link where it is one over a link
@@ -76,48 +123,48 @@ abbrev pub KeepsSends : List Step → ℕ → Head → Type 0
 KeepsSends P node (Send q note answer) = answer ≡ send_answer (is_alive P node q) q
 KeepsSends P node _ = Unit {0}
 
--- the last head of an actor
-abbrev pub last_head : List Step → ℕ → Option Head
-last_head [] k = None
-last_head (s ∷ P) k = if is_by s.by k then Some s.head else last_head P k
-
--- an actor waits with nothing selected in its endpoint's queue
-abbrev pub is_idle : List Step → Option Head → Option Inc → Bool
-is_idle P (Some (Waits filter)) (Some j) = is_none (first_selected filter (queued P j))
-is_idle P _ _ = false
-
--- another actor leaves actor k at rest: it has ended, or it waits in vain and has a greater number
-abbrev pub leaves_at_rest : List Step → ℕ → ℕ → Bool
-leaves_at_rest P k other =
-    has_ended P other || (is_idle P (last_head P other) (endpoint_of P other) && nat_lt k other)
-
--- An actor is at rest where every other one leaves it so, and no link is there to stir (links come
--- with their stage)
-pub record IsAtRest (shape : Shape) (P : List Step) (k : ℕ) : Type 0 where
-  pub others : (other : ℕ) → 0 < other → other ≤ length shape.actors → other ≢ k
-      → leaves_at_rest P k other ≡ true
-  pub links : shape.links ≡ []
-
 -- the maker is an actor that is at rest
 abbrev pub IsMakerAtRest : Shape → List Step → By → Type 0
 IsMakerAtRest shape P (Actor k) = IsAtRest shape P k
 IsMakerAtRest shape P (Pump link) = ⊥
 
--- LAW OF RECEIVING. A receive takes the earliest item that its filter selects, or finds none, and
--- then nothing is selected and all else is at rest
-abbrev pub KeepsReceives : Shape → List Step → By → Option Inc → Head → Type 0
-KeepsReceives shape P by (Some j) (Take filter position) =
-    IsSomeAnd (first_selected filter (queued P j)) (λ item. item.pos ≡ position)
-KeepsReceives shape P by (Some j) (TakeNone filter) =
-    (first_selected filter (queued P j) ≡ None) × IsMakerAtRest shape P by
-KeepsReceives shape P by _ _ = Unit {0}
+-- the last step of the maker doesn't say that it waits
+abbrev pub HasNotWaited : List Step → By → Type 0
+HasNotWaited P (Actor k) = waits_with P k ≡ None
+HasNotWaited P (Pump link) = ⊥
 
--- a step is legal after the steps P
+-- the attach is one of this endpoint, and is owed
+abbrev pub is_owed : List Step → ℕ → Option Inc → AttRef → Bool
+is_owed P node None r = false
+is_owed P node (Some j) r = list_any (is_attach j r) (owed P node)
+
+-- the answer to a detach: whether the attach was owed, or its notification is queued
+abbrev pub detached_as : List Step → ℕ → Option Inc → AttRef → Detached
+detached_as P node me r =
+    detach_answer (is_owed P node me r) (list_any (is_notice_of r) (queue_of P me))
+
+-- LAW OF RECEIVING. A receive takes the earliest item that its filter selects; or it finds none, and
+-- then nothing is selected and all else is at rest; or it waits, and then nothing is selected and
+-- its maker doesn't wait already. A detach cancels what is owed, or takes out what is queued
+abbrev pub KeepsReceives : Shape → List Step → ℕ → By → Option Inc → Head → Type 0
+KeepsReceives shape P node by me (Take filter position) =
+    IsSomeAnd (first_selected filter (queue_of P me)) (λ item. item.pos ≡ position)
+KeepsReceives shape P node by me (TakeNone filter) =
+    (first_selected filter (queue_of P me) ≡ None) × IsMakerAtRest shape P by
+KeepsReceives shape P node by me (Waits filter) =
+    (first_selected filter (queue_of P me) ≡ None) × HasNotWaited P by
+KeepsReceives shape P node by me (Detach r answer) = answer ≡ detached_as P node me r
+KeepsReceives shape P node by me _ = Unit {0}
+
+-- A step is legal after the steps P. As yet none is made on a link
 pub record IsLegalStep (shape : Shape) (P : List Step) (s : Step) : Type 0 where
   pub makers : KeepsMakers shape P s.by s.head
-  pub effects : HasEffects P (node_by shape s.by) (endpoint_by P s.by) s.head s.effects
+  pub endpoints : KeepsEndpoints (endpoint_by P s.by) s.head
+  pub bounds : IsBounded s.head
+  pub effects : s.effects ≡ effects_by P (node_by shape s.by) (endpoint_by P s.by) s.head
   pub sends : KeepsSends P (node_by shape s.by) s.head
-  pub receives : KeepsReceives shape P s.by (endpoint_by P s.by) s.head
+  pub receives : KeepsReceives shape P (node_by shape s.by) s.by (endpoint_by P s.by) s.head
+  pub unlinked : is_on_link s.head ≡ false
 
 -- a journal is legal: each step is, after the steps before it
 abbrev pub IsLegal : Shape → List Step → Type 0

@@ -1,9 +1,11 @@
 pub mod Logs
+pub mod Shapes
 pub mod History
 pub mod Sessions
 pub mod Living
-pub mod Pending
-pub mod Effects
 pub mod Traffic
 pub mod Queues
+pub mod Pending
+pub mod Effects
+pub mod Rest
 pub mod Laws

@@ -1,3 +1,4 @@
+use Rattle.std.specs.List.{list_any}
 use Rattle.std.specs.Prelude.{ℕ, suc, ◌+◌, Bool, true, false, not, ◌&&◌, List, [], ◌∷◌, ◌++◌, length, filter, if◌then◌else◌}
 use Rattle.linx_base.specs.Peers.{same_inc, same_position}
 use Rattle.linx_base.specs.declared.identity.Inc.{Inc}
@@ -12,7 +13,7 @@ use Rattle.journal.specs.declared.head.Detached.TheVariants.{Pending, Queued, No
 use Rattle.journal.specs.declared.effect.Effect.{Effect}
 use Rattle.journal.specs.declared.effect.Effect.TheVariants.{Arrived, Found, Notified}
 use Rattle.journal.specs.declared.effect.Step.{Step}
-use Rattle.journal.specs.History.{endpoint_by}
+use Rattle.journal.specs.History.{endpoint_by, opens}
 use Rattle.journal.specs.Traffic.{is_endpoint}
 
 -- the effect puts an item into this endpoint's queue
@@ -57,9 +58,14 @@ abbrev pub left_by : Bool → Head → List Item → List Item
 left_by true head items = filter (λ item. not (removes head item)) items
 left_by false head items = items
 
--- the queue of an endpoint: what came to it, in order, without what its own steps took out
+-- what was queued at an endpoint before the effects that open it is none of its own
+abbrev pub unless_opened : Inc → List Effect → List Item → List Item
+unless_opened j effects items = if list_any (opens j) effects then [] else items
+
+-- the queue of an endpoint: what came to it since its opening, in order, without what its own steps
+-- took out
 abbrev pub queued : List Step → Inc → List Item
 queued [] j = []
 queued (s ∷ P) j =
-    left_by (is_endpoint j (endpoint_by P s.by)) s.head (queued P j)
+    left_by (is_endpoint j (endpoint_by P s.by)) s.head (unless_opened j s.effects (queued P j))
     ++ items_in j (suc (length P)) 1 s.effects

@@ -1,6 +1,5 @@
 -- What heads name, and what steps answer.
 use Rattle.std.specs.Prelude.{ℕ, ◌≡◌, ◌+◌, ◌-◌, Bool, true, false, List, [], ◌∷◌, length, slice_get, Option, Some, None, if◌then◌else◌}
-use Rattle.std.specs.List.{list_any}
 use Rattle.linx_base.specs.declared.identity.Inc.{Inc}
 use Rattle.linx_base.specs.declared.identity.ItemAt.{ItemAt}
 use Rattle.linx_base.specs.declared.identity.Peer.TheVariants.{Here}
@@ -15,7 +14,7 @@ use Rattle.journal.specs.declared.head.Refusal.{Refusal}
 use Rattle.journal.specs.declared.head.Refusal.TheVariants.{NotOpen, IsOpen}
 use Rattle.journal.specs.declared.effect.Effect.{Effect}
 use Rattle.journal.specs.declared.effect.Step.{Step}
-use Rattle.journal.specs.History.{closes, endpoint_of, last_endpoint, last_opened}
+use Rattle.journal.specs.History.{closed_step, endpoint_of, last_opened}
 use Rattle.journal.specs.Logs.{step_at}
 use Rattle.journal.specs.Queues.{items_from}
 use Rattle.node_kernel.specs.declared.answers.StepAnswer.{StepAnswer}
@@ -91,13 +90,6 @@ abbrev pub is_opening : Event → Bool
 is_opening (asks.Open name) = true
 is_opening _ = false
 
--- the position of the step that closed an incarnation, or 0
-abbrev pub closed_at : List Step → Option Inc → ℕ
-closed_at P None = 0
-closed_at [] (Some i) = 0
-closed_at (s ∷ P) (Some i) =
-    if list_any (closes i) s.effects then length P + 1 else closed_at P (Some i)
-
 -- a refusal, in place of what was asked
 abbrev pub refused : Refusal → Ask
 refused reason = record { event = asks.Refuse reason; hand = None }
@@ -109,7 +101,7 @@ granted_by None at ask = if needs_endpoint ask.event then refused (NotOpen at) e
 
 -- what is done of what actor k asks after P
 abbrev pub granted : List Step → ℕ → Ask → Ask
-granted P k ask = granted_by (endpoint_of P k) (closed_at P (last_endpoint P k)) ask
+granted P k ask = granted_by (endpoint_of P k) (closed_step P k) ask
 
 -- the item that stands first in a list; a plain one of no bytes where there is none
 abbrev pub item_or_none : ItemAt → List Item → Item

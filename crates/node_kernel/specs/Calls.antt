@@ -8,8 +8,6 @@ use Rattle.linx_base.specs.declared.identity.LinkNo.{LinkNo}
 use Rattle.linx_base.specs.declared.identity.Peer.{Peer}
 use Rattle.linx_base.specs.declared.identity.Peer.TheVariants.{Here, There}
 use Rattle.linx_base.specs.declared.identity.Session.{Session}
-use Rattle.linx_base.specs.declared.item.Item.{Item}
-use Rattle.linx_base.specs.declared.item.Kind.TheVariants.{Plain}
 use Rattle.linx_base.specs.declared.name.Path.TheVariants.{Local, Over}
 use Rattle.linx_base.specs.declared.pending.PendingAttach.{PendingAttach}
 use Rattle.linx_base.specs.declared.pending.PendingHunt.{PendingHunt}
@@ -17,7 +15,8 @@ use Rattle.linx_base.specs.declared.signal.SigNote.{SigNote}
 use Rattle.sigsel.specs.Selection.{is_notice_of}
 use Rattle.journal.specs.declared.head.Detached.{Detached}
 use Rattle.journal.specs.declared.head.Detached.TheVariants.{Pending, Queued as FromQueue, None as Neither}
-use Rattle.journal.specs.Effects.{opening, closing, hunted, attached, detach_answer, held_elsewhere, meeting, parting, losing}
+use Rattle.journal.specs.declared.effect.Effect.TheVariants.{Arrived}
+use Rattle.journal.specs.Effects.{opening, closing, arrivals_of, hunted, attached, detach_answer, held_elsewhere, meeting, parting, losing}
 use Rattle.journal.specs.Living.{is_of_session}
 use Rattle.journal.specs.Pending.{is_attach}
 use Rattle.node_kernel.specs.declared.answers.OpenError.{OpenError}
@@ -54,20 +53,12 @@ after_close k j step = record k {
   attaches = apart_from j k.attaches;
 }
 
--- SENDING. The item that a plain signal makes
-abbrev pub plain_item : SigNote → Peer → ℕ → Item
-plain_item signal from step = record { signal = signal; from = from; kind = Plain; pos = record { step = step; place = 1 } }
-
--- the endpoints with one more item at this one, if it is open
-abbrev pub put_at : List OpenEndpoint → Inc → Item → List OpenEndpoint
-put_at endpoints i item =
-    if is_open endpoints i then with_items endpoints i (items_at endpoints i ++ item ∷ []) else endpoints
-
--- the endpoints after a send: a signal to a living endpoint goes last into its queue, one to a peer
--- that isn't alive is freed, and one over a link is for the link
-abbrev pub after_send : List OpenEndpoint → Inc → Peer → SigNote → ℕ → List OpenEndpoint
-after_send old from (Here i) signal step = put_at old i (plain_item signal (Here from) step)
-after_send old from (There link session i) signal step = old
+-- SENDING. The node after a send: a signal to a living endpoint goes last into its queue, one to a
+-- peer that isn't alive is freed, and one over a link is for the link
+abbrev pub after_send : NodeState → Inc → Peer → SigNote → ℕ → NodeState
+after_send k from to signal step = record k {
+  endpoints = put_all step (arrivals_of from signal (is_living k to) to) k.endpoints;
+}
 
 -- what became of a signal to a peer, which is alive or not
 abbrev pub IsSent : Bool → Peer → SigNote → Sent → Type 0
@@ -120,7 +111,13 @@ after_detach k j r = after_detach_of (detached k j r) k j r
 abbrev pub after_restart : NodeState → NodeState
 after_restart k = record k { endpoints = []; hunts = []; attaches = []; met = [] }
 
--- OVER LINKS. The node after a meeting
+-- OVER LINKS. The node after an arrival
+abbrev pub after_arrival : NodeState → Inc → Peer → SigNote → ℕ → NodeState
+after_arrival k at from signal step = record k {
+  endpoints = put_all step (Arrived at from signal ∷ []) k.endpoints;
+}
+
+-- the node after a meeting
 abbrev pub after_met : NodeState → LinkNo → Peer → List ℕ → ℕ → NodeState
 after_met k link peer name step = record k {
   endpoints = put_all step (meeting k.node link peer name k.hunts) k.endpoints;
