@@ -5,7 +5,7 @@ use Rattle.linx_base.specs.declared.identity.Inc.{Inc}
 use Rattle.linx_base.specs.declared.identity.NodeNo.{NodeNo}
 use Rattle.linx_base.specs.declared.name.Names.{Names}
 use Rattle.journal.specs.declared.effect.Step.{Step}
-use Rattle.journal.specs.History.{closed_step, closes, endpoint_of, has_ended, name_in, open_endpoints, opened_by, opened_on, opening_name, opens}
+use Rattle.journal.specs.History.{closed_step, endpoint_of, has_ended, name_of, open_endpoints, opened_on}
 use Rattle.journal.specs.Laws.{IsLegal}
 use Rattle.journal.specs.Living.{living, living_after}
 use Rattle.journal.specs.Logs.{Log}
@@ -17,16 +17,11 @@ use Rattle.journal.specs.Traffic.{is_endpoint}
 use Rattle.node_kernel.specs.Nodes.{NodeState, OpenEndpoint}
 use Rattle.fabric.specs.declared.standing.Standing.{Standing}
 
--- the name of an opening; none for what wasn't opened
-abbrev pub name_or_none : Option (List ℕ) → List ℕ
-name_or_none None = []
-name_or_none (Some name) = name
-
 -- an open endpoint as the history leaves it
 abbrev pub endpoint_left : List Step → Inc → OpenEndpoint
 endpoint_left P i = record {
   inc = i;
-  name = name_or_none (opening_name P i);
+  name = name_of P i;
   items = queued P i;
 }
 

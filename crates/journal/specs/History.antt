@@ -114,6 +114,14 @@ abbrev pub opening_name : List Step → Inc → Option (List ℕ)
 opening_name [] i = None
 opening_name (s ∷ P) i = if list_any (opens i) s.effects then name_in s.head else opening_name P i
 
+-- its bytes; none for what wasn't opened
+abbrev pub name_or_none : Option (List ℕ) → List ℕ
+name_or_none None = []
+name_or_none (Some name) = name
+
+abbrev pub name_of : List Step → Inc → List ℕ
+name_of P i = name_or_none (opening_name P i)
+
 -- the head ends an actor
 abbrev pub is_end : Head → Bool
 is_end Ended = true

@@ -15,7 +15,7 @@ use Rattle.linx_base.specs.declared.pending.MetPeer.{MetPeer}
 use Rattle.journal.specs.declared.effect.Effect.{Effect}
 use Rattle.journal.specs.declared.effect.Effect.TheVariants.{Met, Gone, Down}
 use Rattle.journal.specs.declared.effect.Step.{Step}
-use Rattle.journal.specs.History.{open_endpoints, opening_name}
+use Rattle.journal.specs.History.{open_endpoints, name_of}
 
 -- a peer of this session of a link
 abbrev pub is_of_session : LinkNo → Session → Peer → Bool
@@ -65,14 +65,9 @@ met_peer (Some m) = Some m.peer
 abbrev pub is_named_over : LinkNo → List ℕ → MetPeer → Bool
 is_named_over l name m = is_over l m.peer && bytes_eq name m.name
 
--- the name is this one
-abbrev pub has_name : List ℕ → Option (List ℕ) → Bool
-has_name name None = false
-has_name name (Some other) = bytes_eq name other
-
 -- what a path finds at a node: the first opened endpoint of the name that is open, or the first met
 -- peer of the name that lives
 abbrev pub find : List Step → ℕ → Path → Option Peer
 find P node (Local name) =
-    here (first_match (λ i. has_name name (opening_name P i)) (open_endpoints P node))
+    here (first_match (λ i. bytes_eq name (name_of P i)) (open_endpoints P node))
 find P node (Over l name) = met_peer (first_match (is_named_over l name) (living P node))
