@@ -1,5 +1,5 @@
 -- The queue of an endpoint after one more step.
-use Rattle.std.proofs.Common.{◌≡◌, ℕ, suc, ◌≤◌, ◌+◌, Bool, true, false, cond, not, List, [], ◌∷◌, ◌++◌, length, Some, refl, sym, ◌∙◌, ap, subst, arith}
+use Rattle.std.proofs.Common.{◌≡◌, ℕ, suc, ◌≤◌, ◌+◌, Bool, true, false, cond, not, List, [], ◌∷◌, ◌++◌, length, Some, refl, sym, ap, subst, arith}
 use Rattle.std.specs.List.{list_any, filter, AllByRecursion}
 use Rattle.std.proofs.lemmas.Bool.Decides.{nat_tests}
 use Rattle.linx_base.specs.FirstMatch.{first_match, without_match}
@@ -16,8 +16,8 @@ use Rattle.journal.specs.declared.effect.Effect.TheVariants.{Arrived, Found, Not
 use Rattle.journal.specs.declared.effect.Step.{Step}
 use Rattle.journal.specs.History.{endpoint_by, opens}
 use Rattle.journal.specs.Traffic.{is_endpoint}
-use Rattle.journal.specs.Queues.{is_item_of, items_from, items_in, removes, left_by, queued}
-use Rattle.journal.proofs.Lists.{all-append, all-filter, all-impl, all-first_match, filter-all, filter-every}
+use Rattle.journal.specs.Queues.{is_item_of, items_from, items_in, left_by, queued}
+use Rattle.journal.proofs.Lists.{all-append, all-filter, all-impl, all-first_match, filter-all}
 
 -- one position
 pub position_itself : (p : ItemAt) → same_position p p ≡ true

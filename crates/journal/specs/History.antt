@@ -57,7 +57,7 @@ abbrev pub endpoint_of : List Step → ℕ → Option Inc
 endpoint_of [] k = None
 endpoint_of (s ∷ P) k =
     unless_closed s.effects
-      (if is_by s.by k then last_opened (endpoint_of P k) s.effects else endpoint_of P k)
+    (if is_by s.by k then last_opened (endpoint_of P k) s.effects else endpoint_of P k)
 
 -- the effects close this endpoint
 abbrev pub is_lost : List Effect → Option Inc → Bool
@@ -88,7 +88,7 @@ abbrev pub open_endpoints : List Step → ℕ → List Inc
 open_endpoints [] node = []
 open_endpoints (s ∷ P) node =
     filter (λ i. not (list_any (closes i) s.effects))
-      (open_endpoints P node ++ opened_by node s.effects)
+    (open_endpoints P node ++ opened_by node s.effects)
 
 -- how many endpoints were opened on a node
 abbrev pub opened_on : List Step → ℕ → ℕ

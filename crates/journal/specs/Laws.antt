@@ -89,13 +89,13 @@ abbrev pub hunting_by : List Step → ℕ → Option Inc → Path → SigNote �
 hunting_by P node None path note = []
 hunting_by P node (Some j) path note =
     hunted (find P node path)
-      (record { at = j; path = path; signal = note; number = suc (length P) })
+    (record { at = j; path = path; signal = note; number = suc (length P) })
 
 abbrev pub attaching : List Step → ℕ → Option Inc → Peer → SigNote → List Effect
 attaching P node None q note = []
 attaching P node (Some j) q note =
     attached (is_alive P node q)
-      (record { at = j; peer = q; signal = note; reference = record { 0 = suc (length P) } })
+    (record { at = j; peer = q; signal = note; reference = record { 0 = suc (length P) } })
 
 -- THE EFFECTS of a step, by the node and the endpoint of its maker, and its head
 abbrev pub effects_by : List Step → ℕ → Option Inc → Head → List Effect

@@ -1,13 +1,8 @@
-use Rattle.std.specs.Prelude.{ℕ, Bool, false, not, ◌&&◌, ◌==◌, List, [], ◌∷◌, Option, Some, None, if◌then◌else◌}
-use Rattle.std.specs.List.{list_any}
-use Rattle.linx_base.specs.Peers.{same_inc, same_peer}
+use Rattle.std.specs.Prelude.{ℕ, ◌&&◌, ◌==◌, List, [], ◌∷◌, Option, Some, None, if◌then◌else◌}
 use Rattle.linx_base.specs.declared.identity.Session.{Session}
-use Rattle.linx_base.specs.declared.identity.Peer.{Peer}
-use Rattle.linx_base.specs.declared.identity.Peer.TheVariants.{Here, There}
 use Rattle.journal.specs.declared.effect.Effect.{Effect}
-use Rattle.journal.specs.declared.effect.Effect.TheVariants.{Met, Gone, Up, Down}
+use Rattle.journal.specs.declared.effect.Effect.TheVariants.{Up, Down}
 use Rattle.journal.specs.declared.effect.Step.{Step}
-use Rattle.journal.specs.History.{effects_of, open_endpoints}
 
 -- the session of a node on a link after an effect
 abbrev pub session_after : ℕ → ℕ → Option Session → Effect → Option Session
