@@ -2,7 +2,7 @@
 use Rattle.std.proofs.Common.{◌≡◌, ℕ, zero, suc, ◌<◌, ◌≤◌, Bool, true, false, not, cond, ◌⊎◌, inl, inr, List, [], ◌∷◌, ◌++◌, append-nil, length, map, Option, Some, None, is_none, refl, sym, ap, ◌∙◌, subst, arith}
 use Rattle.std.specs.Prelude.{if◌then◌else◌}
 use Rattle.std.specs.List.{list_any, filter, filter_map, AllByRecursion}
-use Rattle.std.proofs.lemmas.Bool.{not-true, false_from_ne_true, true_from_ne_false, eqb-true, eq-eqb, cases_eq, ne_eqb, or_cases, or_left, or_right, true≢false}
+use Rattle.std.proofs.lemmas.Bool.{cond_both, not-true, false_from_ne_true, true_from_ne_false, eqb-true, eq-eqb, cases_eq, ne_eqb, or_cases, or_left, or_right, true≢false}
 use Rattle.std.proofs.lemmas.List.Folds.{list_any-append}
 use Rattle.linx_base.specs.Numbers.{is_on, node_of}
 use Rattle.linx_base.specs.Peers.{same_inc, same_peer}
@@ -215,17 +215,15 @@ opened_by-next shape P s legal short step node =
     filter (is_on node) (cond (is_opening s.head) (new ∷ []) []) =
     step-opens_on shape P s step node in
     let Next : List Inc → Type 0 = λ incs. (incs ≡ []) ⊎ (incs ≡ next_on P node ∷ []) in
-    let on : (there : Bool) → is_on node new ≡ there → Next (cond there (new ∷ []) []) = λ there.
-    elim there as (λ b. is_on node new ≡ b → Next (cond b (new ∷ []) [])) [
-      | true ↦ λ is.
-          let same : node ≡ by = next_on-one_node shape P legal short by node is in
-          inr (ap (λ n. next_on P n ∷ []) (sym same))
-      | false ↦ λ is. inl refl
-    ]
+    let on : Next (cond (is_on node new) (new ∷ []) []) =
+    cond_both (is_on node new) (new ∷ []) [] Next
+    (λ is. inr (ap (λ n. next_on P n ∷ [])
+    (sym (next_on-one_node shape P legal short by node is))))
+    (λ off. inl refl)
     in
     subst Next (sym opens)
     (elim (is_opening s.head) as (λ b. Next (filter (is_on node) (cond b (new ∷ []) []))) [
-      | true ↦ on (is_on node new) refl
+      | true ↦ on
       | false ↦ inl refl
     ])
 
@@ -302,43 +300,30 @@ list_any-passing : (p : Inc → Bool) (i : Inc) (incs : List Inc)
     → list_any (same_inc i) incs ≡ true → p i ≡ true → list_any (same_inc i) (filter p incs) ≡ true
 list_any-passing p i [] is passes = is
 list_any-passing p i (j ∷ incs) is passes =
-    let go : (b : Bool) → p j ≡ b
-    → list_any (same_inc i) (cond b (j ∷ filter p incs) (filter p incs)) ≡ true = λ b.
-    elim b as
-    (λ c. p j ≡ c → list_any (same_inc i) (cond c (j ∷ filter p incs) (filter p incs)) ≡ true) [
-      | true ↦ λ kept.
-          elim (or_cases (same_inc i j) (list_any (same_inc i) incs) is) [
-            | inl e ↦ or_left (same_inc i j) (list_any (same_inc i) (filter p incs)) e
-            | inr e ↦ or_right (same_inc i j) (list_any (same_inc i) (filter p incs))
-                (list_any-passing p i incs e passes)
-          ]
-      | false ↦ λ dropped.
-          elim (or_cases (same_inc i j) (list_any (same_inc i) incs) is) [
-            | inl e ↦ absurd (true≢false (sym passes ∙ ap p (same_inc-true i j e) ∙ dropped))
-            | inr e ↦ list_any-passing p i incs e passes
-          ]
-    ]
-    in
-    go (p j) refl
+    let kept : List Inc = filter p incs in
+    let either = or_cases (same_inc i j) (list_any (same_inc i) incs) is in
+    cond_both (p j) (j ∷ kept) kept (λ l. list_any (same_inc i) l ≡ true)
+    (λ stays. elim either [
+      | inl e ↦ or_left (same_inc i j) (list_any (same_inc i) kept) e
+      | inr e ↦ or_right (same_inc i j) (list_any (same_inc i) kept)
+          (list_any-passing p i incs e passes)
+    ])
+    (λ goes. elim either [
+      | inl e ↦ absurd (true≢false (sym passes ∙ ap p (same_inc-true i j e) ∙ goes))
+      | inr e ↦ list_any-passing p i incs e passes
+    ])
 
 list_any-passed : (p : Inc → Bool) (i : Inc) (incs : List Inc)
     → list_any (same_inc i) (filter p incs) ≡ true → p i ≡ true
 list_any-passed p i [] is = absurd (true≢false (sym is))
 list_any-passed p i (j ∷ incs) is =
-    let go : (b : Bool) → p j ≡ b
-    → list_any (same_inc i) (cond b (j ∷ filter p incs) (filter p incs)) ≡ true → p i ≡ true = λ b.
-    elim b as
-    (λ c. p j ≡ c
-    → list_any (same_inc i) (cond c (j ∷ filter p incs) (filter p incs)) ≡ true → p i ≡ true) [
-      | true ↦ λ kept among.
-          elim (or_cases (same_inc i j) (list_any (same_inc i) (filter p incs)) among) [
-            | inl e ↦ ap p (same_inc-true i j e) ∙ kept
-            | inr e ↦ list_any-passed p i incs e
-          ]
-      | false ↦ λ dropped among. list_any-passed p i incs among
-    ]
-    in
-    go (p j) refl is
+    let kept : List Inc = filter p incs in
+    cond_both (p j) (j ∷ kept) kept (λ l. list_any (same_inc i) l ≡ true → p i ≡ true)
+    (λ stays among. elim (or_cases (same_inc i j) (list_any (same_inc i) kept) among) [
+      | inl e ↦ ap p (same_inc-true i j e) ∙ stays
+      | inr e ↦ list_any-passed p i incs e
+    ])
+    (λ goes among. list_any-passed p i incs among) is
 
 -- an incarnation is open after a step: it was, or the step opened it, and the step didn't close it
 module _ (P : List Step) (s : Step) (node : ℕ) (i : Inc) where
@@ -383,16 +368,12 @@ unless_closed-some : (es : List Effect) (e : Option Inc) (j : Inc)
     → unless_closed es e ≡ Some j → (e ≡ Some j) × (list_any (closes j) es ≡ false)
 unless_closed-some es None j is = absurd cc
 unless_closed-some es (Some i) j is =
-    let go : (b : Bool) → list_any (closes i) es ≡ b → cond b None (Some i) ≡ Some j
-    → (Some i ≡ Some j) × (list_any (closes j) es ≡ false) = λ b.
-    elim b as (λ c. list_any (closes i) es ≡ c → cond c None (Some i) ≡ Some j
-    → (Some i ≡ Some j) × (list_any (closes j) es ≡ false)) [
-      | true ↦ λ closed none. absurd cc
-      | false ↦ λ stays some.
-          let same : i ≡ j = cc in (some, subst (λ x. list_any (closes x) es ≡ false) same stays)
-    ]
-    in
-    go (list_any (closes i) es) refl is
+    cond_both (list_any (closes i) es) None (Some i)
+    (λ e. e ≡ Some j → (Some i ≡ Some j) × (list_any (closes j) es ≡ false))
+    (λ closed none. absurd cc)
+    (λ stays some.
+    let same : i ≡ j = cc in (some, subst (λ x. list_any (closes x) es ≡ false) same stays))
+    is
 
 -- the endpoint of an actor before the effects of a step close any
 abbrev endpoint_opened : List Step → Step → ℕ → Option Inc
@@ -412,31 +393,22 @@ endpoint_opened-from : (shape : Shape) (P : List Step) (s : Step) → IsLegalSte
 endpoint_opened-from shape P s legal k j is =
     let before : Option Inc = endpoint_of P k in
     let Known : Type 0 = (before ≡ Some j) ⊎ OpensBy shape P s k j in
-    let opened : (b : Bool) → is_opening s.head ≡ b → s.by ≡ Actor k
-    → cond b (Some (next_on P (node_by shape s.by))) before ≡ Some j → Known = λ b.
-    elim b as (λ c. is_opening s.head ≡ c → s.by ≡ Actor k
-    → cond c (Some (next_on P (node_by shape s.by))) before ≡ Some j → Known) [
-      | true ↦ λ opens by some.
-          let same : next_on P (node_by shape s.by) ≡ j = cc in
-          inr (record {
-            by = by;
-            opens = opens;
-            next = sym same ∙ ap (λ maker. next_on P (node_by shape maker)) by;
-          })
-      | false ↦ λ none by some. inl some
-    ]
+    let next : Inc = next_on P (node_by shape s.by) in
+    let opened : s.by ≡ Actor k → cond (is_opening s.head) (Some next) before ≡ Some j → Known =
+    λ by. cond_both (is_opening s.head) (Some next) before (λ e. e ≡ Some j → Known)
+    (λ opens some.
+    let same : next ≡ j = cc in
+    inr (record {
+      by = by;
+      opens = opens;
+      next = sym same ∙ ap (λ maker. next_on P (node_by shape maker)) by;
+    }))
+    (λ none some. inl some)
     in
-    let go : (b : Bool) → is_by s.by k ≡ b
-    → cond b (last_opened before s.effects) before ≡ Some j → Known = λ b.
-    elim b as (λ c. is_by s.by k ≡ c
-    → cond c (last_opened before s.effects) before ≡ Some j → Known) [
-      | true ↦ λ by some.
-          opened (is_opening s.head) refl (is_by-actor s.by k by)
-          (sym (step-opens_last shape P s legal before) ∙ some)
-      | false ↦ λ other some. inl some
-    ]
-    in
-    go (is_by s.by k) refl is
+    cond_both (is_by s.by k) (last_opened before s.effects) before (λ e. e ≡ Some j → Known)
+    (λ by some.
+    opened (is_by-actor s.by k by) (sym (step-opens_last shape P s legal before) ∙ some))
+    (λ other some. inl some) is
 
 -- the endpoint of an actor is among the open ones of its node
 pub endpoint-open : (shape : Shape) (P : List Step) → IsLegal shape P → IsShort P
@@ -511,20 +483,17 @@ endpoint-stays : (shape : Shape) (P : List Step) (s : Step) → IsLegalStep shap
     → endpoint_of (s ∷ P) k ≡ Some i
 endpoint-stays shape P s legal k i had stays =
     let before : Option Inc = endpoint_of P k in
-    let go : (b : Bool) → is_by s.by k ≡ b
-    → cond b (last_opened before s.effects) before ≡ Some i = λ b.
-    elim b as (λ c. is_by s.by k ≡ c → cond c (last_opened before s.effects) before ≡ Some i) [
-      | true ↦ λ by.
-          let me : endpoint_by P s.by ≡ Some i = ap (endpoint_by P) (is_by-actor s.by k by) ∙ had in
-          step-opens_last shape P s legal before
-          ∙ ap (λ c. cond c (Some (next_on P (node_by shape s.by))) before)
-          (owner-opens_none (endpoint_by P s.by) i s.head legal.endpoints me)
-          ∙ had
-      | false ↦ λ other. had
-    ]
+    let opened : endpoint_opened P s k ≡ Some i =
+    cond_both (is_by s.by k) (last_opened before s.effects) before (λ e. e ≡ Some i)
+    (λ by.
+    let me : endpoint_by P s.by ≡ Some i = ap (endpoint_by P) (is_by-actor s.by k by) ∙ had in
+    step-opens_last shape P s legal before
+    ∙ ap (λ c. cond c (Some (next_on P (node_by shape s.by))) before)
+    (owner-opens_none (endpoint_by P s.by) i s.head legal.endpoints me)
+    ∙ had)
+    (λ other. had)
     in
-    ap (unless_closed s.effects) (go (is_by s.by k) refl)
-    ∙ ap (λ b. cond b None (Some i)) stays
+    ap (unless_closed s.effects) opened ∙ ap (λ b. cond b None (Some i)) stays
 
 -- the maker of an opening owns what it opens
 owned-new : (shape : Shape) (P : List Step) (s : Step) → IsLegalStep shape P s
@@ -584,23 +553,20 @@ one-endpoint : (e : Option Inc) (incs : List Inc) → Rising incs
 one-endpoint e [] rising = omega arith
 one-endpoint e (i ∷ incs) rising =
     let others : Inc → Bool = λ j. not (is_endpoint j e) in
+    let rest : List Inc = filter others incs in
     let go : (b : Bool) → is_endpoint i e ≡ b
-    → suc (length incs) ≤ suc (length (cond (not b) (i ∷ filter others incs) (filter others incs))) =
-    λ b.
-    elim b as (λ c. is_endpoint i e ≡ c → suc (length incs) ≤
-    suc (length (cond (not c) (i ∷ filter others incs) (filter others incs)))) [
+    → suc (length incs) ≤ suc (length (cond (not b) (i ∷ rest) rest)) = λ b.
+    elim b as (λ c. is_endpoint i e ≡ c
+    → suc (length incs) ≤ suc (length (cond (not c) (i ∷ rest) rest))) [
       | true ↦ λ is.
           let other : (j : Inc) → i.0 < j.0 → others j ≡ true = λ j above.
           ap (λ x. not (is_endpoint j x)) (is_endpoint-true i e is)
           ∙ ap not (ne_eqb j.0 i.0 (λ same. absurd (omega arith))) in
-          let all : filter others incs ≡ incs =
-          filter-all others incs
-          (all-impl (λ j. i.0 < j.0) (λ j. others j ≡ true) other incs rising.0) in
-          let same : length (filter others incs) ≡ length incs = ap length all in
+          let all : length rest ≡ length incs =
+          ap length (filter-all others incs
+          (all-impl (λ j. i.0 < j.0) (λ j. others j ≡ true) other incs rising.0)) in
           omega arith
-      | false ↦ λ is.
-          let rest = one-endpoint e incs rising.1 in
-          omega arith
+      | false ↦ λ is. let fewer = one-endpoint e incs rising.1 in omega arith
     ]
     in
     go (is_endpoint i e) refl
@@ -650,16 +616,8 @@ hunt_at-on : (node k : ℕ) (me : Option Inc) (path : Path) (note : SigNote)
     → AllByRecursion (λ h. is_on node h.at ≡ true) (hunt_at node k me path note)
 hunt_at-on node k None path note = tt
 hunt_at-on node k (Some j) path note =
-    let h : PendingHunt = record { at = j; path = path; signal = note; number = k } in
-    let go : (b : Bool) → is_on node j ≡ b
-    → AllByRecursion (λ h. is_on node h.at ≡ true) (cond b (h ∷ []) []) = λ b.
-    elim b as (λ c. is_on node j ≡ c
-    → AllByRecursion (λ h. is_on node h.at ≡ true) (cond c (h ∷ []) [])) [
-      | true ↦ λ on. (on, tt)
-      | false ↦ λ off. tt
-    ]
-    in
-    go (is_on node j) refl
+    cond_both (is_on node j) (record { at = j; path = path; signal = note; number = k } ∷ []) []
+    (AllByRecursion (λ h. is_on node h.at ≡ true)) (λ on. (on, tt)) (λ off. tt)
 
 hunt_in-on : (node k : ℕ) (me : Option Inc) (head : Head)
     → AllByRecursion (λ h. is_on node h.at ≡ true) (hunt_in node k me head)
@@ -681,17 +639,9 @@ attach_at-on : (node k : ℕ) (me : Option Inc) (q : Peer) (note : SigNote)
     → AllByRecursion (λ a. is_on node a.at ≡ true) (attach_at node k me q note)
 attach_at-on node k None q note = tt
 attach_at-on node k (Some j) q note =
-    let a : PendingAttach =
-    record { at = j; peer = q; signal = note; reference = record { 0 = k } } in
-    let go : (b : Bool) → is_on node j ≡ b
-    → AllByRecursion (λ a. is_on node a.at ≡ true) (cond b (a ∷ []) []) = λ b.
-    elim b as (λ c. is_on node j ≡ c
-    → AllByRecursion (λ a. is_on node a.at ≡ true) (cond c (a ∷ []) [])) [
-      | true ↦ λ on. (on, tt)
-      | false ↦ λ off. tt
-    ]
-    in
-    go (is_on node j) refl
+    cond_both (is_on node j)
+    (record { at = j; peer = q; signal = note; reference = record { 0 = k } } ∷ []) []
+    (AllByRecursion (λ a. is_on node a.at ≡ true)) (λ on. (on, tt)) (λ off. tt)
 
 attach_in-on : (node k : ℕ) (me : Option Inc) (head : Head)
     → AllByRecursion (λ a. is_on node a.at ≡ true) (attach_in node k me head)
