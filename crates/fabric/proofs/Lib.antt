@@ -1,3 +1,7 @@
-pub mod Leavings
-pub mod Keeps
-pub mod Made
+pub mod Leaving
+pub mod Pendings
+pub mod Effects
+pub mod Putting
+pub mod Calls
+pub mod Takings
+pub mod Endings

@@ -20,14 +20,14 @@ use Rattle.journal.specs.declared.effect.Effect.TheVariants.{Found, Notified}
 use Rattle.journal.specs.declared.effect.Step.{Step}
 use Rattle.journal.specs.History.{closes, endpoint_by}
 
--- the effect answers the hunt of this number
-abbrev pub answers_hunt : ℕ → Effect → Bool
-answers_hunt k (Found i q note number) = number == k
-answers_hunt k _ = false
+-- the effect answers the hunt: it has its number, at its hunter
+abbrev pub answers_hunt : PendingHunt → Effect → Bool
+answers_hunt h (Found i q note number) = number == h.number && same_inc i h.at
+answers_hunt h _ = false
 
 -- the effects end a hunt: they answer it, or close its hunter
 abbrev pub ends_hunt : List Effect → PendingHunt → Bool
-ends_hunt effects h = list_any (answers_hunt h.number) effects || list_any (closes h.at) effects
+ends_hunt effects h = list_any (answers_hunt h) effects || list_any (closes h.at) effects
 
 -- the hunt that this endpoint begins at step k, if it is one of the node
 abbrev pub hunt_at : ℕ → ℕ → Option Inc → Path → SigNote → List PendingHunt
@@ -71,15 +71,15 @@ abbrev pub detaches : Option Inc → Head → PendingAttach → Bool
 detaches me (Detach r answer) a = cancels answer && is_own_attach me r a
 detaches me _ a = false
 
--- the effect is the notification of this reference
-abbrev pub notifies : AttRef → Effect → Bool
-notifies reference (Notified i q note r reason) = r.0 == reference.0
-notifies reference _ = false
+-- the effect is the notification of the attach: it has its reference, at its holder
+abbrev pub notifies : PendingAttach → Effect → Bool
+notifies a (Notified i q note r reason) = r.0 == a.reference.0 && same_inc i a.at
+notifies a _ = false
 
 -- a step settles an attach: it notifies it, cancels it, or closes its holder
 abbrev pub settles : Option Inc → Head → List Effect → PendingAttach → Bool
 settles me head effects a =
-    list_any (notifies a.reference) effects || detaches me head a
+    list_any (notifies a) effects || detaches me head a
     || list_any (closes a.at) effects
 
 -- the attach that this endpoint begins at step k, if it is one of the node
