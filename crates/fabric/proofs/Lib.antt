@@ -5,3 +5,7 @@ pub mod Putting
 pub mod Calls
 pub mod Takings
 pub mod Endings
+pub mod Standings
+pub mod Elsewhere
+pub mod Nodes
+pub mod Legal

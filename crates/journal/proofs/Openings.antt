@@ -327,7 +327,7 @@ list_any-passed p i (j ∷ incs) is =
 
 -- an incarnation is open after a step: it was, or the step opened it, and the step didn't close it
 module _ (P : List Step) (s : Step) (node : ℕ) (i : Inc) where
-  open-after : list_any (closes i) s.effects ≡ false
+  pub open-after : list_any (closes i) s.effects ≡ false
       → (list_any (same_inc i) (open_endpoints P node) ≡ true)
       ⊎ (list_any (same_inc i) (opened_by node s.effects) ≡ true)
       → list_any (same_inc i) (open_endpoints (s ∷ P) node) ≡ true
@@ -360,11 +360,11 @@ module _ (P : List Step) (s : Step) (node : ℕ) (i : Inc) where
       ∙ list_any-filter (same_inc i) (λ j. not (list_any (closes j) s.effects)) (before ++ new) is)
 
 -- the actor made what it is said to have made
-is_by-actor : (by : By) (k : ℕ) → is_by by k ≡ true → by ≡ Actor k
+pub is_by-actor : (by : By) (k : ℕ) → is_by by k ≡ true → by ≡ Actor k
 is_by-actor (Actor a) k is = ap Actor (eqb-true a k is)
 is_by-actor (Pump link) k is = absurd (true≢false (sym is))
 
-unless_closed-some : (es : List Effect) (e : Option Inc) (j : Inc)
+pub unless_closed-some : (es : List Effect) (e : Option Inc) (j : Inc)
     → unless_closed es e ≡ Some j → (e ≡ Some j) × (list_any (closes j) es ≡ false)
 unless_closed-some es None j is = absurd cc
 unless_closed-some es (Some i) j is =
@@ -376,18 +376,18 @@ unless_closed-some es (Some i) j is =
     is
 
 -- the endpoint of an actor before the effects of a step close any
-abbrev endpoint_opened : List Step → Step → ℕ → Option Inc
+abbrev pub endpoint_opened : List Step → Step → ℕ → Option Inc
 endpoint_opened P s k =
     cond (is_by s.by k) (last_opened (endpoint_of P k) s.effects) (endpoint_of P k)
 
 -- a step of actor k opens this incarnation
-record OpensBy (shape : Shape) (P : List Step) (s : Step) (k : ℕ) (j : Inc) : Type 0 where
-  by : s.by ≡ Actor k
-  opens : is_opening s.head ≡ true
-  next : j ≡ next_on P (node_by shape (Actor k))
+pub record OpensBy (shape : Shape) (P : List Step) (s : Step) (k : ℕ) (j : Inc) : Type 0 where
+  pub by : s.by ≡ Actor k
+  pub opens : is_opening s.head ≡ true
+  pub next : j ≡ next_on P (node_by shape (Actor k))
 
 -- the endpoint of an actor is the one that it had, or the one that its step opens
-endpoint_opened-from : (shape : Shape) (P : List Step) (s : Step) → IsLegalStep shape P s
+pub endpoint_opened-from : (shape : Shape) (P : List Step) (s : Step) → IsLegalStep shape P s
     → (k : ℕ) (j : Inc) → endpoint_opened P s k ≡ Some j
     → (endpoint_of P k ≡ Some j) ⊎ OpensBy shape P s k j
 endpoint_opened-from shape P s legal k j is =
@@ -436,7 +436,7 @@ endpoint-open shape (s ∷ P) legal short k j is =
           (next_on-is_on shape P legal.0 short_before node)))
     ]
 
-all-among : (Q : Inc → Type 0) (i : Inc) (incs : List Inc) → AllByRecursion Q incs
+pub all-among : (Q : Inc → Type 0) (i : Inc) (incs : List Inc) → AllByRecursion Q incs
     → list_any (same_inc i) incs ≡ true → Q i
 all-among Q i [] all is = absurd (true≢false (sym is))
 all-among Q i (j ∷ incs) all is =
