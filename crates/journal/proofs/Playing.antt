@@ -80,7 +80,8 @@ pub acts : {shape : Shape} {P : List Step} {k : ℕ} {head : Head} {effects : Li
     → IsLegalStep shape P (record { by = Actor k; head = head; effects = effects })
 acts {shape} {P} {k} {head} {effects} may bounds same sends receives =
     let me : Option Inc = endpoint_of P k in
-    let parts = and_parts (is_actor shape P k) (has_endpoint me head && not (is_on_link head)) may in
+    let parts =
+    and_parts (is_actor shape P k) (has_endpoint me head && not (is_on_link head)) may in
     let others = and_parts (has_endpoint me head) (not (is_on_link head)) parts.1 in
     record {
       makers = made_by parts.0;

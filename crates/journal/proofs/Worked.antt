@@ -1,6 +1,6 @@
 -- The definitions computed on worked runs of one node: what is sent, queued and taken, hunted and
 -- found, attached and told; each run is legal.
-use Rattle.std.proofs.Common.{◌≡◌, ℕ, List, [], ◌∷◌, arith, Some, true, false, refl}
+use Rattle.std.proofs.Common.{◌≡◌, ℕ, List, [], ◌∷◌, arith, Some, true, false, refl, is_none}
 use Rattle.std.specs.Prelude.{codes}
 use Rattle.linx_base.specs.Numbers.{inc_of}
 use Rattle.linx_base.specs.declared.identity.Inc.{Inc}
@@ -18,12 +18,12 @@ use Rattle.linx_base.specs.declared.signal.SigNote.{SigNote}
 use Rattle.sigsel.specs.Selection.{first_selected}
 use Rattle.sigsel.specs.declared.sigsel.Sigsel.TheVariants.{Any, Only, Not}
 use Rattle.journal.specs.declared.head.Detached.TheVariants.{Pending, Queued as WasQueued, None as Neither}
-use Rattle.journal.specs.declared.head.Head.TheVariants.{Open, Close, TakeNone, Waits, Hunt, Attach, Detach}
+use Rattle.journal.specs.declared.head.Head.TheVariants.{Open, Close, TakeNone, Waits, Hunt, Attach, Detach, Restart}
 use Rattle.journal.specs.declared.effect.Effect.{Effect}
 use Rattle.journal.specs.declared.effect.Effect.TheVariants.{Opened, Closed, Found, Notified, Met, Gone, Down}
 use Rattle.journal.specs.declared.effect.Step.{Step}
 use Rattle.journal.specs.Effects.{losing, meeting, parting}
-use Rattle.journal.specs.History.{closed_step, next_inc, open_endpoints, opened_on, opening_name}
+use Rattle.journal.specs.History.{closed_step, endpoint_of, next_inc, open_endpoints, opened_on, opening_name}
 use Rattle.journal.specs.Living.{find, is_alive}
 use Rattle.journal.specs.Logs.{step_at, signal_bytes_of}
 use Rattle.journal.specs.Pending.{hunting, owed}
@@ -41,8 +41,8 @@ self_send =
 
 self_send_is_legal : IsLegal one_actor self_send
 self_send_is_legal =
-    tt ▸ acts refl refl refl tt tt ▸ acts refl (omega arith) refl refl tt ▸ acts refl tt refl tt refl
-    ▸ acts refl tt refl tt tt ▸ acts refl tt refl tt tt
+    tt ▸ acts refl refl refl tt tt ▸ acts refl (omega arith) refl refl tt
+    ▸ acts refl tt refl tt refl ▸ acts refl tt refl tt tt ▸ acts refl tt refl tt tt
 
 self_send_traffic : sent_to self_send first (Here first) ≡ note 5 [] ∷ []
 self_send_traffic = refl
@@ -219,12 +219,16 @@ told_dead =
     (Notified first (Here second) (note 252 (2 ∷ [])) (ref 15) reasons.Dead ∷ [])
     ∷ ends 2 [] ∷ takes 1 (Only (300 ∷ [])) (at 12 2) ∷ told_of_the_close
 
-pub told_dead_is_legal : IsLegal two_actors told_dead
-told_dead_is_legal =
+attached_twice_is_legal : IsLegal two_actors attached_twice
+attached_twice_is_legal =
     tt ▸ acts refl refl refl tt tt ▸ acts refl refl refl tt tt
     ▸ acts refl (omega arith) refl tt tt ▸ acts refl tt refl tt (refl, refl)
     ▸ acts refl tt refl tt refl ▸ acts refl (omega arith) refl tt tt
-    ▸ acts refl (omega arith) refl tt tt ▸ acts refl tt refl tt refl
+    ▸ acts refl (omega arith) refl tt tt
+
+pub told_dead_is_legal : IsLegal two_actors told_dead
+told_dead_is_legal =
+    attached_twice_is_legal ▸ acts refl tt refl tt refl
     ▸ acts refl (omega arith) refl refl tt ▸ acts refl tt refl tt refl
     ▸ acts refl tt refl tt (refl, refl) ▸ acts refl tt refl tt tt ▸ acts refl tt refl tt refl
     ▸ acts refl tt refl tt tt ▸ acts refl (omega arith) refl tt tt
@@ -311,11 +315,28 @@ unread_signals : queued two_holders third ≡
     item (note 4 []) first Plain (at 14 1) ∷ item (note 4 []) second Plain (at 15 1) ∷ []
 unread_signals = refl
 
--- WHAT LINKS WILL BRING: a peer that is met answers the hunts for its path; one that parts is told
--- as closed, one of a lost session as lost, each with the byte of its reason
+-- A RESTART closes every endpoint of its node, and tells nobody
 abbrev pub near_node : NodeNo
 near_node = record { 0 = 1 }
 
+abbrev restarted : List Step
+restarted =
+    made 1 (Restart near_node) (Closed first ∷ Closed second ∷ []) ∷ attached_twice
+
+restarted_is_legal : IsLegal two_actors restarted
+restarted_is_legal = attached_twice_is_legal ▸ acts refl tt refl tt tt
+
+restart_leaves_none_open : open_endpoints restarted 1 ≡ []
+restart_leaves_none_open = refl
+
+restart_leaves_none_owed : owed restarted 1 ≡ []
+restart_leaves_none_owed = refl
+
+second_lost_its_endpoint : is_none (endpoint_of restarted 2) ≡ true
+second_lost_its_endpoint = refl
+
+-- WHAT LINKS WILL BRING: a peer that is met answers the hunts for its path; one that parts is told
+-- as closed, one of a lost session as lost, each with the byte of its reason
 abbrev pub link : LinkNo
 link = record { 0 = 1 }
 
