@@ -9,3 +9,4 @@ pub mod Standings
 pub mod Elsewhere
 pub mod Nodes
 pub mod Legal
+pub mod Kept
