@@ -9,3 +9,4 @@ pub mod Pending
 pub mod Effects
 pub mod Rest
 pub mod Laws
+pub mod Promises
