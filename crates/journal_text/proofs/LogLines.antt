@@ -5,7 +5,7 @@ use Rattle.std.specs.Prelude.{Option}
 use Rattle.linx_base.specs.declared.identity.Inc.{Inc}
 use Rattle.linx_base.specs.declared.name.Names.{Names}
 use Rattle.journal.specs.declared.effect.Step.{Step}
-use Rattle.journal.specs.History.{endpoint_by}
+use Rattle.journal_text.specs.Makers.{owner_by}
 use Rattle.journal_text.specs.Histories.{first_steps}
 use Rattle.journal_text.specs.Blocks.{if_for, head_log, effect_logs, log_lines}
 use Rattle.journal_text.proofs.Positions.{first_steps_none}
@@ -20,7 +20,7 @@ log_lines_none names S i old =
 
 -- one step more
 pub log_lines_more : (names : Names) (S P Q : List Step) (i : Inc) (s : Step) (owner : Option Inc)
-    (old before after : List ℕ) → Q ≡ s ∷ P → owner ≡ endpoint_by P s.by
+    (old before after : List ℕ) → Q ≡ s ∷ P → owner ≡ owner_by P s.by
     → before ≡ old ++ log_lines names S P i
     → after ≡ before ++ (if_for i owner (head_log names S s.head) ++ effect_logs names i s.effects)
     → after ≡ old ++ log_lines names S Q i
@@ -30,7 +30,7 @@ log_lines_more names S P Q i s owner old before after grown own so_far now =
     ++ (if_for i owner (head_log names S s.head) ++ effect_logs names i s.effects)) so_far
     ∙ ap (λ (o : Option Inc). (old ++ log_lines names S P i)
     ++ (if_for i o (head_log names S s.head) ++ effect_logs names i s.effects)) own
-    ∙ regroup old (log_lines names S P i) (if_for i (endpoint_by P s.by) (head_log names S s.head))
+    ∙ regroup old (log_lines names S P i) (if_for i (owner_by P s.by) (head_log names S s.head))
     (effect_logs names i s.effects)
     ∙ ap (λ (R : List Step). old ++ log_lines names S R i) (sym grown)
   where

@@ -11,7 +11,8 @@ use Rattle.journal.specs.declared.effect.Effect.{Effect}
 use Rattle.journal.specs.declared.effect.Effect.TheVariants.{Closed, Arrived, Found, Notified}
 use Rattle.journal.specs.declared.effect.Step.{Step}
 use Rattle.journal.specs.Logs.{Log, step_at}
-use Rattle.journal.specs.History.{endpoint_by, opening_name, openings}
+use Rattle.journal.specs.History.{opening_name, openings}
+use Rattle.journal_text.specs.Makers.{owner_by}
 use Rattle.journal.specs.Traffic.{is_endpoint}
 use Rattle.journal_text.specs.Values.{halves_text, name_or_mark, node_text, peer_signal_text}
 use Rattle.journal_text.specs.Values.{path_text, signal_text, reason_text, sent_text, detached_text}
@@ -89,7 +90,7 @@ effect_logs names i effects = flat_map (λ e. if_for i (concerned e) (effect_log
 unfoldable pub log_lines : Names → List Step → List Step → Inc → List ℕ
 log_lines names steps [] i = []
 log_lines names steps (s ∷ P) i =
-    log_lines names steps P i ++ if_for i (endpoint_by P s.by) (head_log names steps s.head)
+    log_lines names steps P i ++ if_for i (owner_by P s.by) (head_log names steps s.head)
     ++ effect_logs names i s.effects
 
 -- the log of an incarnation: its title, and its lines in the order of the steps

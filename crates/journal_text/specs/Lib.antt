@@ -1,5 +1,6 @@
 pub mod Values
 pub mod Steps
+pub mod Makers
 pub mod Blocks
 pub mod Texts
 pub mod Owners

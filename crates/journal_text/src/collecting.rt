@@ -5,7 +5,7 @@ ghost use Rattle.std.specs.Option.{option_copied};
 ghost use Rattle.std.specs.HashMap.{get};
 ghost use Rattle.linx_base.specs.declared.name.Names.{Names as NamesOf};
 ghost use Rattle.journal.specs.declared.effect.Step.{Step as StepOf};
-ghost use Rattle.journal.specs.History.{endpoint_by};
+ghost use Rattle.journal_text.specs.Makers.{owner_by};
 ghost use Rattle.journal_text.specs.Texts.{kept};
 ghost use Rattle.journal.specs.History.{opens, name_in};
 ghost use Rattle.journal_text.specs.Blocks.{if_for, head_log, concerned, effect_log, effect_logs};
@@ -151,7 +151,7 @@ impl Logs {
         owner: Option<Inc>,
         step: &Step,
     ) -> Result<(), NoMemory>
-        ensures { (P : List StepOf) → owner ≡ endpoint_by P step.now.by
+        ensures { (P : List StepOf) → owner ≡ owner_by P step.now.by
             → Collects journal.now.log.names journal.now.log.steps P self.old
             → OnOk result (Collects journal.now.log.names journal.now.log.steps (step.now ∷ P)
             self.new) }

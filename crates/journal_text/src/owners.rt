@@ -4,7 +4,8 @@ ghost use Rattle.std.specs.List.{list_any};
 ghost use Rattle.std.specs.HashMap.{get};
 ghost use Rattle.std.specs.HashSet.{contains};
 ghost use Rattle.journal.specs.declared.effect.Step.{Step};
-ghost use Rattle.journal.specs.History.{last_opened, closes, endpoint_by};
+ghost use Rattle.journal.specs.History.{last_opened, closes};
+ghost use Rattle.journal_text.specs.Makers.{owner_by};
 ghost use Rattle.journal_text.specs.Owners.{Tracks};
 
 use journal::{By, Effect, Step};
@@ -96,7 +97,7 @@ impl Owners {
 
     /// The open endpoint of a maker.
     pub(crate) fn endpoint(&self, by: By) -> Option<Inc>
-        ensures { (P : List Step) → Tracks P self.now → result ≡ endpoint_by P by }
+        ensures { (P : List Step) → Tracks P self.now → result ≡ owner_by P by }
     {
         let By::Actor(actor) = by else {
             return None;
