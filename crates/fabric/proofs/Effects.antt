@@ -77,7 +77,8 @@ founds-notify_none q (h ∷ hs) r = founds-notify_none q hs r
 -- what the end of a peer brings
 pub only-notices : (reason : Reason) (xs : List PendingAttach) → OnlyItems (map (notice reason) xs)
 only-notices reason [] = only-none
-only-notices reason (a ∷ xs) = only-notice (map (notice reason) xs) (only-notices reason xs) reason a
+only-notices reason (a ∷ xs) = only-notice (map (notice reason) xs)
+    (only-notices reason xs) reason a
 
 pub notices-answer_none : (reason : Reason) (xs : List PendingAttach)
     → AnswersNone (map (notice reason) xs)
@@ -114,7 +115,8 @@ hunted-notify_none (Some q) h r = refl
 
 pub only-attached : (alive : Bool) (a : PendingAttach) → OnlyItems (attached alive a)
 only-attached true a = only-none
-only-attached false a = only-notice [] only-none Rattle.linx_base.specs.declared.signal.Reason.TheVariants.Dead a
+only-attached false a = only-notice [] only-none
+    Rattle.linx_base.specs.declared.signal.Reason.TheVariants.Dead a
 
 pub attached-answer_none : (alive : Bool) (a : PendingAttach) → AnswersNone (attached alive a)
 attached-answer_none true a n = refl

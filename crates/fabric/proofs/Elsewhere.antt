@@ -57,7 +57,9 @@ IsAbout n (Down m l x) = m.0 ≡ n
 -- incarnations of two nodes differ
 apart : (n m : ℕ) → n ≢ m → (i j : Inc) → is_on n i ≡ true → is_on m j ≡ true → same_inc i j ≡ false
 apart n m other i j on_n on_m =
-    ne_eqb i.0 j.0 (λ same. other (sym (eqb-true (node_of i) n on_n) ∙ ap (λ (x : ℕ). node_of (let y : Inc = record { 0 = x } in y)) same ∙ eqb-true (node_of j) m on_m))
+    ne_eqb i.0 j.0 (λ same. other (sym (eqb-true (node_of i) n on_n)
+    ∙ ap (λ (x : ℕ). node_of (let y : Inc = record { 0 = x } in y)) same
+    ∙ eqb-true (node_of j) m on_m))
 
 off : (n m : ℕ) → n ≢ m → (i : Inc) → is_on n i ≡ true → is_on m i ≡ false
 off n m other i on = ne_eqb (node_of i) m (λ same. other (sym (eqb-true (node_of i) n on) ∙ same))
@@ -92,16 +94,20 @@ module _ (n m : ℕ) (other : n ≢ m) where
   meet_none (Arrived i q note ∷ es) all met = meet_none es all.1 met
   meet_none (Found i q note h ∷ es) all met = meet_none es all.1 met
   meet_none (Notified i q note r reason ∷ es) all met = meet_none es all.1 met
-  meet_none (Met k q name ∷ es) all met = rw (ne_eqb k.0 m (λ e. other (sym all.0 ∙ e))) (meet_none es all.1 met)
-  meet_none (Gone k q ∷ es) all met = rw (ne_eqb k.0 m (λ e. other (sym all.0 ∙ e))) (meet_none es all.1 met)
+  meet_none (Met k q name ∷ es) all met = rw (ne_eqb k.0 m (λ e. other (sym all.0
+      ∙ e))) (meet_none es all.1 met)
+  meet_none (Gone k q ∷ es) all met = rw (ne_eqb k.0 m (λ e. other (sym all.0
+      ∙ e))) (meet_none es all.1 met)
   meet_none (Up k l x y ∷ es) all met = meet_none es all.1 met
-  meet_none (Down k l x ∷ es) all met = rw (ne_eqb k.0 m (λ e. other (sym all.0 ∙ e))) (meet_none es all.1 met)
+  meet_none (Down k l x ∷ es) all met = rw (ne_eqb k.0 m (λ e. other (sym all.0
+      ∙ e))) (meet_none es all.1 met)
 
   module _ (j : Inc) (on : is_on m j ≡ true) where
     differs : (i : Inc) → is_on n i ≡ true → same_inc j i ≡ false
     differs i at = apart m n (λ e. other (sym e)) j i on at
 
-    closes_none : (es : List Effect) → AllByRecursion (IsAbout n) es → list_any (closes j) es ≡ false
+    closes_none : (es : List Effect) → AllByRecursion (IsAbout n) es
+        → list_any (closes j) es ≡ false
     closes_none [] all = refl
     closes_none (Closed i ∷ es) all = rw (differs i all.0) (closes_none es all.1)
     closes_none (Opened i ∷ es) all = closes_none es all.1
@@ -125,13 +131,17 @@ module _ (n m : ℕ) (other : n ≢ m) where
     opens_none (Up k l x y ∷ es) all = opens_none es all.1
     opens_none (Down k l x ∷ es) all = opens_none es all.1
 
-    no_items : (k place : ℕ) (es : List Effect) → AllByRecursion (IsAbout n) es → items_in j k place es ≡ []
+    no_items : (k place : ℕ) (es : List Effect) → AllByRecursion (IsAbout n) es
+        → items_in j k place es ≡ []
     no_items k place [] all = refl
     no_items k place (Opened i ∷ es) all = no_items k (place + 1) es all.1
     no_items k place (Closed i ∷ es) all = no_items k (place + 1) es all.1
-    no_items k place (Arrived i q note ∷ es) all = rw (apart n m other i j all.0 on) (no_items k (place + 1) es all.1)
-    no_items k place (Found i q note h ∷ es) all = rw (apart n m other i j all.0 on) (no_items k (place + 1) es all.1)
-    no_items k place (Notified i q note r reason ∷ es) all = rw (apart n m other i j all.0 on) (no_items k (place + 1) es all.1)
+    no_items k place (Arrived i q note ∷ es) all =
+        rw (apart n m other i j all.0 on) (no_items k (place + 1) es all.1)
+    no_items k place (Found i q note h ∷ es) all =
+        rw (apart n m other i j all.0 on) (no_items k (place + 1) es all.1)
+    no_items k place (Notified i q note r reason ∷ es) all =
+        rw (apart n m other i j all.0 on) (no_items k (place + 1) es all.1)
     no_items k place (Met a q name ∷ es) all = no_items k (place + 1) es all.1
     no_items k place (Gone a q ∷ es) all = no_items k (place + 1) es all.1
     no_items k place (Up a l x y ∷ es) all = no_items k (place + 1) es all.1
@@ -141,7 +151,8 @@ module _ (n m : ℕ) (other : n ≢ m) where
   andf true = refl
   andf false = refl
 
-  answers_none : (h : PendingHunt) → is_on m h.at ≡ true → (es : List Effect) → AllByRecursion (IsAbout n) es
+  answers_none : (h : PendingHunt) → is_on m h.at ≡ true → (es : List Effect)
+      → AllByRecursion (IsAbout n) es
       → list_any (answers_hunt h) es ≡ false
   answers_none h on [] all = refl
   answers_none h on (Found i q note number ∷ es) all =
@@ -155,11 +166,16 @@ module _ (n m : ℕ) (other : n ≢ m) where
   answers_none h on (Up k l x y ∷ es) all = answers_none h on es all.1
   answers_none h on (Down k l x ∷ es) all = answers_none h on es all.1
 
-  notifies_none : (a : PendingAttach) → is_on m a.at ≡ true → (es : List Effect) → AllByRecursion (IsAbout n) es
+  notifies_none : (a : PendingAttach) → is_on m a.at ≡ true → (es : List Effect)
+      → AllByRecursion (IsAbout n) es
       → list_any (notifies a) es ≡ false
   notifies_none a on [] all = refl
   notifies_none a on (Notified i q note r reason ∷ es) all =
-      rw (apart n m other i a.at all.0 on, andf (r.0 == a.reference.0)) (notifies_none a on es all.1)
+      rw (
+        apart n m other i a.at all.0 on,
+        andf (r.0 ==
+            a.reference.0),
+      ) (notifies_none a on es all.1)
   notifies_none a on (Opened i ∷ es) all = notifies_none a on es all.1
   notifies_none a on (Closed i ∷ es) all = notifies_none a on es all.1
   notifies_none a on (Arrived i q note ∷ es) all = notifies_none a on es all.1
@@ -169,14 +185,21 @@ module _ (n m : ℕ) (other : n ≢ m) where
   notifies_none a on (Up k l x y ∷ es) all = notifies_none a on es all.1
   notifies_none a on (Down k l x ∷ es) all = notifies_none a on es all.1
 
-  module _ (k : ℕ) (me : Option Inc) (head : Head) (es : List Effect) (about : AllByRecursion (IsAbout n) es)
+  module _ (k : ℕ) (me : Option Inc) (head : Head) (es : List Effect) (about : AllByRecursion
+      (IsAbout n) es)
       (far : IsApart m k me head) (old : NodeState) (node : old.node.0 ≡ m)
       (endpoints_on : AllByRecursion (λ e. is_on m e.inc ≡ true) old.endpoints)
       (hunts_on : AllByRecursion (λ h. is_on m h.at ≡ true) old.hunts)
       (attaches_on : AllByRecursion (λ a. is_on m a.at ≡ true) old.attaches) where
     past-same : (e : OpenEndpoint) → is_on m e.inc ≡ true → endpoint_past k me head es e ≡ e
     past-same e on =
-        rw (opens_none e.inc on es about, far.takes e.inc on e.items, no_items e.inc on k 1 es about, append-nil e.items) refl
+        rw (
+          opens_none e.inc on es about,
+          far.takes e.inc on e.items,
+          no_items e.inc on k 1 es
+              about,
+          append-nil e.items,
+        ) refl
 
     all-same : (xs : List OpenEndpoint) → AllByRecursion (λ e. is_on m e.inc ≡ true) xs
         → filter (stays es) (map (endpoint_past k me head es) xs) ≡ xs
@@ -186,10 +209,12 @@ module _ (n m : ℕ) (other : n ≢ m) where
 
     pub after-elsewhere : after_step k me head es old ≡ old
     after-elsewhere =
-        let none : opened_by old.node.0 es ≡ [] = ap (λ (x : ℕ). opened_by x es) node ∙ open_none es about in
+        let none : opened_by old.node.0 es ≡ [] = ap (λ (x : ℕ). opened_by x es) node
+        ∙ open_none es about in
         state_by_parts old.node _ _ _ _ _ _ _ _ _ _
         (rw none (omega arith))
-        (ap (λ l. filter (stays es) (map (endpoint_past k me head es) old.endpoints ++ map (new_endpoint k me head es) l)) none
+        (ap (λ l. filter (stays es) (map (endpoint_past k me head es) old.endpoints ++ map
+        (new_endpoint k me head es) l)) none
         ∙ ap (filter (stays es)) (append-nil (map (endpoint_past k me head es) old.endpoints))
         ∙ all-same old.endpoints endpoints_on)
         (ap (λ (x : ℕ). hunts_past x k me head es old.hunts) node
@@ -197,13 +222,15 @@ module _ (n m : ℕ) (other : n ≢ m) where
         ∙ ap (filter (λ h. not (ends_hunt es h))) (append-nil old.hunts)
         ∙ filter-all (λ h. not (ends_hunt es h)) old.hunts
         (all-impl (λ h. is_on m h.at ≡ true) (λ h. not (ends_hunt es h) ≡ true)
-        (λ h on. rw (answers_none h on es about, closes_none h.at on es about) refl) old.hunts hunts_on))
+        (λ h on. rw (answers_none h on es about, closes_none h.at on es about) refl) old.hunts
+        hunts_on))
         (ap (λ (x : ℕ). owed_past x k me head es old.attaches) node
         ∙ ap (λ l. filter (λ a. not (settles me head es a)) (old.attaches ++ l)) far.attaches
         ∙ ap (filter (λ a. not (settles me head es a))) (append-nil old.attaches)
         ∙ filter-all (λ a. not (settles me head es a)) old.attaches
         (all-impl (λ a. is_on m a.at ≡ true) (λ a. not (settles me head es a) ≡ true)
-        (λ a on. rw (notifies_none a on es about, far.cancels a on, closes_none a.at on es about) refl) old.attaches attaches_on))
+        (λ a on. rw (notifies_none a on es about, far.cancels a on, closes_none a.at on es about)
+        refl) old.attaches attaches_on))
         (ap (λ (x : ℕ). fold (living_after x) old.met es) node ∙ meet_none es about old.met)
 
 -- THE EFFECTS OF A LEGAL STEP are on the node that it changes
@@ -226,7 +253,8 @@ module _ (shape : Shape) (P : List Step) (legal : IsLegal shape P) (short : IsSh
   notices_about : (node : ℕ) (reason : Reason) (ended : Peer → Bool) (j : Inc)
       → AllByRecursion (IsAbout node) (notices reason ended (held_elsewhere j (owed P node)))
   notices_about node reason ended j =
-      all-map (IsAbout node) (notice reason) (filter (λ a. ended a.peer) (held_elsewhere j (owed P node)))
+      all-map (IsAbout node) (notice reason) (filter (λ a. ended a.peer) (held_elsewhere j
+      (owed P node)))
       (all-filter (λ a. is_on node a.at ≡ true) _ (held_elsewhere j (owed P node))
       (all-filter (λ a. is_on node a.at ≡ true) _ (owed P node) (owed-on P node)))
 
@@ -283,14 +311,25 @@ module _ (shape : Shape) (P : List Step) (legal : IsLegal shape P) (short : IsSh
         → AllByRecursion (IsAbout (node_by shape by)) (attaching P (node_by shape by) me q note)
     attaching_about None is q note = tt
     attaching_about (Some j) is q note =
-        attached_about (record { at = j; peer = q; signal = note; reference = record { 0 = suc (length P) } })
+        attached_about (record {
+          at = j;
+          peer = q;
+          signal = note;
+          reference = record {
+            0 =
+                suc (length P);
+          };
+        })
         (is_alive P (node_by shape by) q) (maker-on by j is)
 
     pub effects-about : (head : Head)
         → AllByRecursion (IsAbout (changed_node shape by head))
         (effects_by P (node_by shape by) (endpoint_by P by) head)
-    effects-about (Open name) =
-        (next_on-is_on shape P legal short (node_by shape by), founds_about (node_by shape by) (Local name) (Here (next_on P (node_by shape by))))
+    effects-about (Open name) = (
+      next_on-is_on shape P legal short (node_by shape by),
+      founds_about (node_by shape by)
+          (Local name) (Here (next_on P (node_by shape by))),
+    )
     effects-about Close = ending_about (endpoint_by P by) refl
     effects-about (Send q note answer) = sending_about (endpoint_by P by) q note
     effects-about (Take filter position) = tt
@@ -302,7 +341,8 @@ module _ (shape : Shape) (P : List Step) (legal : IsLegal shape P) (short : IsSh
     effects-about (Cut l) = tt
     effects-about (Mend l) = tt
     effects-about (Settle l) = tt
-    effects-about (Restart n) = all-map (IsAbout n.0) Closed (open_endpoints P n.0) (opens_about n.0)
+    effects-about (Restart n) = all-map (IsAbout n.0) Closed (open_endpoints P n.0)
+        (opens_about n.0)
     effects-about (Wire l side verdict) = tt
     effects-about (Tick l side) = tt
     effects-about (Refused reason) = tt
@@ -313,24 +353,29 @@ abbrev IsOff : ℕ → Option Inc → Type 0
 IsOff m me = (i : Inc) → me ≡ Some i → is_on m i ≡ false
 
 module _ (m k : ℕ) where
-  off_hunt : (me : Option Inc) → IsOff m me → (path : Path) (note : SigNote) → hunt_at m k me path note ≡ []
+  off_hunt : (me : Option Inc) → IsOff m me → (path : Path) (note : SigNote)
+      → hunt_at m k me path note ≡ []
   off_hunt None off path note = refl
   off_hunt (Some i) off path note = rw (off i refl) refl
 
-  off_attach : (me : Option Inc) → IsOff m me → (q : Peer) (note : SigNote) → attach_at m k me q note ≡ []
+  off_attach : (me : Option Inc) → IsOff m me → (q : Peer) (note : SigNote)
+      → attach_at m k me q note ≡ []
   off_attach None off q note = refl
   off_attach (Some i) off q note = rw (off i refl) refl
 
   off_own : (me : Option Inc) → IsOff m me → (j : Inc) → is_on m j ≡ true → is_endpoint j me ≡ false
   off_own None off j on = refl
   off_own (Some i) off j on =
-      ne_eqb j.0 i.0 (λ same. true≢false (sym on ∙ ap (λ (x : ℕ). is_on m (record { 0 = x })) same ∙ off i refl))
+      ne_eqb j.0 i.0 (λ same. true≢false (sym on
+      ∙ ap (λ (x : ℕ). is_on m (record { 0 = x })) same ∙ off i refl))
 
-  off_cancel : (me : Option Inc) → IsOff m me → (r : AttRef) (a : PendingAttach) → is_on m a.at ≡ true
+  off_cancel : (me : Option Inc) → IsOff m me → (r : AttRef) (a : PendingAttach)
+      → is_on m a.at ≡ true
       → is_own_attach me r a ≡ false
   off_cancel None off r a on = refl
   off_cancel (Some i) off r a on =
-      rw (ne_eqb i.0 a.at.0 (λ same. true≢false (sym on ∙ ap (λ (x : ℕ). is_on m (record { 0 = x })) (sym same) ∙ off i refl))) refl
+      rw (ne_eqb i.0 a.at.0 (λ same. true≢false (sym on
+      ∙ ap (λ (x : ℕ). is_on m (record { 0 = x })) (sym same) ∙ off i refl))) refl
 
   hunts_off : (me : Option Inc) → IsOff m me → (head : Head) → hunt_in m k me head ≡ []
   hunts_off me off (Hunt path note) = off_hunt me off path note
@@ -344,7 +389,8 @@ module _ (m k : ℕ) where
   and_false true = refl
   and_false false = refl
 
-  cancels_off : (me : Option Inc) → IsOff m me → (head : Head) (a : PendingAttach) → is_on m a.at ≡ true
+  cancels_off : (me : Option Inc) → IsOff m me → (head : Head) (a : PendingAttach)
+      → is_on m a.at ≡ true
       → detaches me head a ≡ false
   cancels_off me off (Detach r answer) a on =
       ap (λ b. cancels answer && b) (off_cancel me off r a on) ∙ and_false (cancels answer)
@@ -374,31 +420,60 @@ module _ (shape : Shape) (P : List Step) (legal : IsLegal shape P) (short : IsSh
   apart_from : (m : ℕ) → (head : Head) → changed_node shape s.by head ≢ m
       → IsApart m (suc (length P)) (endpoint_by P s.by) head
   apart_from m (Restart n) other = apart-restart m (suc (length P)) (endpoint_by P s.by) n
-  apart_from m (Open name) other = apart-off m (suc (length P)) (endpoint_by P s.by) (λ i is. off (node_by shape s.by) m other i (maker-on shape P legal short s.by i is)) (Open name)
-  apart_from m Close other = apart-off m (suc (length P)) (endpoint_by P s.by) (λ i is. off (node_by shape s.by) m other i (maker-on shape P legal short s.by i is)) Close
-  apart_from m (Send q note answer) other = apart-off m (suc (length P)) (endpoint_by P s.by) (λ i is. off (node_by shape s.by) m other i (maker-on shape P legal short s.by i is)) (Send q note answer)
-  apart_from m (Take f position) other = apart-off m (suc (length P)) (endpoint_by P s.by) (λ i is. off (node_by shape s.by) m other i (maker-on shape P legal short s.by i is)) (Take f position)
-  apart_from m (TakeNone f) other = apart-off m (suc (length P)) (endpoint_by P s.by) (λ i is. off (node_by shape s.by) m other i (maker-on shape P legal short s.by i is)) (TakeNone f)
-  apart_from m (Waits f) other = apart-off m (suc (length P)) (endpoint_by P s.by) (λ i is. off (node_by shape s.by) m other i (maker-on shape P legal short s.by i is)) (Waits f)
-  apart_from m (Hunt path note) other = apart-off m (suc (length P)) (endpoint_by P s.by) (λ i is. off (node_by shape s.by) m other i (maker-on shape P legal short s.by i is)) (Hunt path note)
-  apart_from m (Attach q note) other = apart-off m (suc (length P)) (endpoint_by P s.by) (λ i is. off (node_by shape s.by) m other i (maker-on shape P legal short s.by i is)) (Attach q note)
-  apart_from m (Detach r answer) other = apart-off m (suc (length P)) (endpoint_by P s.by) (λ i is. off (node_by shape s.by) m other i (maker-on shape P legal short s.by i is)) (Detach r answer)
-  apart_from m (Cut l) other = apart-off m (suc (length P)) (endpoint_by P s.by) (λ i is. off (node_by shape s.by) m other i (maker-on shape P legal short s.by i is)) (Cut l)
-  apart_from m (Mend l) other = apart-off m (suc (length P)) (endpoint_by P s.by) (λ i is. off (node_by shape s.by) m other i (maker-on shape P legal short s.by i is)) (Mend l)
-  apart_from m (Settle l) other = apart-off m (suc (length P)) (endpoint_by P s.by) (λ i is. off (node_by shape s.by) m other i (maker-on shape P legal short s.by i is)) (Settle l)
-  apart_from m (Wire l side v) other = apart-off m (suc (length P)) (endpoint_by P s.by) (λ i is. off (node_by shape s.by) m other i (maker-on shape P legal short s.by i is)) (Wire l side v)
-  apart_from m (Tick l side) other = apart-off m (suc (length P)) (endpoint_by P s.by) (λ i is. off (node_by shape s.by) m other i (maker-on shape P legal short s.by i is)) (Tick l side)
-  apart_from m (Refused reason) other = apart-off m (suc (length P)) (endpoint_by P s.by) (λ i is. off (node_by shape s.by) m other i (maker-on shape P legal short s.by i is)) (Refused reason)
-  apart_from m Ended other = apart-off m (suc (length P)) (endpoint_by P s.by) (λ i is. off (node_by shape s.by) m other i (maker-on shape P legal short s.by i is)) Ended
+  apart_from m (Open name) other = apart-off m (suc (length P)) (endpoint_by P s.by)
+      (λ i is. off (node_by shape s.by) m other i (maker-on shape P legal short s.by i is))
+      (Open name)
+  apart_from m Close other = apart-off m (suc (length P)) (endpoint_by P s.by) (λ i is. off
+      (node_by shape s.by) m other i (maker-on shape P legal short s.by i is)) Close
+  apart_from m (Send q note answer) other = apart-off m (suc (length P)) (endpoint_by P s.by)
+      (λ i is. off (node_by shape s.by) m other i (maker-on shape P legal short s.by i is))
+      (Send q note answer)
+  apart_from m (Take f position) other = apart-off m (suc (length P)) (endpoint_by P s.by)
+      (λ i is. off (node_by shape s.by) m other i (maker-on shape P legal short s.by i is))
+      (Take f position)
+  apart_from m (TakeNone f) other = apart-off m (suc (length P)) (endpoint_by P s.by)
+      (λ i is. off (node_by shape s.by) m other i (maker-on shape P legal short s.by i is))
+      (TakeNone f)
+  apart_from m (Waits f) other = apart-off m (suc (length P)) (endpoint_by P s.by) (λ i is. off
+      (node_by shape s.by) m other i (maker-on shape P legal short s.by i is)) (Waits f)
+  apart_from m (Hunt path note) other = apart-off m (suc (length P)) (endpoint_by P s.by)
+      (λ i is. off (node_by shape s.by) m other i (maker-on shape P legal short s.by i is))
+      (Hunt path note)
+  apart_from m (Attach q note) other = apart-off m (suc (length P)) (endpoint_by P s.by)
+      (λ i is. off (node_by shape s.by) m other i (maker-on shape P legal short s.by i is))
+      (Attach q note)
+  apart_from m (Detach r answer) other = apart-off m (suc (length P)) (endpoint_by P s.by)
+      (λ i is. off (node_by shape s.by) m other i (maker-on shape P legal short s.by i is))
+      (Detach r answer)
+  apart_from m (Cut l) other = apart-off m (suc (length P)) (endpoint_by P s.by) (λ i is. off
+      (node_by shape s.by) m other i (maker-on shape P legal short s.by i is)) (Cut l)
+  apart_from m (Mend l) other = apart-off m (suc (length P)) (endpoint_by P s.by) (λ i is. off
+      (node_by shape s.by) m other i (maker-on shape P legal short s.by i is)) (Mend l)
+  apart_from m (Settle l) other = apart-off m (suc (length P)) (endpoint_by P s.by) (λ i is. off
+      (node_by shape s.by) m other i (maker-on shape P legal short s.by i is)) (Settle l)
+  apart_from m (Wire l side v) other = apart-off m (suc (length P)) (endpoint_by P s.by)
+      (λ i is. off (node_by shape s.by) m other i (maker-on shape P legal short s.by i is))
+      (Wire l side v)
+  apart_from m (Tick l side) other = apart-off m (suc (length P)) (endpoint_by P s.by)
+      (λ i is. off (node_by shape s.by) m other i (maker-on shape P legal short s.by i is))
+      (Tick l side)
+  apart_from m (Refused reason) other = apart-off m (suc (length P)) (endpoint_by P s.by)
+      (λ i is. off (node_by shape s.by) m other i (maker-on shape P legal short s.by i is))
+      (Refused reason)
+  apart_from m Ended other = apart-off m (suc (length P)) (endpoint_by P s.by) (λ i is. off
+      (node_by shape s.by) m other i (maker-on shape P legal short s.by i is)) Ended
 
   pub node_left-elsewhere : (node : NodeNo) → changed_node shape s.by s.head ≢ node.0
       → node_left (s ∷ P) node ≡ node_left P node
   node_left-elsewhere node other =
       let n : ℕ = changed_node shape s.by s.head in
       let about : AllByRecursion (IsAbout n) s.effects =
-      subst (AllByRecursion (IsAbout n)) (sym effects) (effects-about shape P legal short s.by s.head) in
+      subst (AllByRecursion (IsAbout n)) (sym effects)
+      (effects-about shape P legal short s.by s.head) in
       node_left-step P s node
       ∙ after-elsewhere n node.0 other (suc (length P)) (endpoint_by P s.by) s.head s.effects about
       (apart_from node.0 s.head other) (node_left P node) refl
-      (all-map (λ (e : OpenEndpoint). is_on node.0 e.inc ≡ true) (endpoint_left P) (open_endpoints P node.0) (opens_about shape P legal short node.0))
+      (all-map (λ (e : OpenEndpoint). is_on node.0 e.inc
+      ≡ true) (endpoint_left P) (open_endpoints P node.0)
+      (opens_about shape P legal short node.0))
       (hunting-on P node.0) (owed-on P node.0)

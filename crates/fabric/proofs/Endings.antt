@@ -44,7 +44,8 @@ all-each : {X : Type 0} (P : X → Type 0) → ((x : X) → P x) → (xs : List 
 all-each P h [] = tt
 all-each P h (x ∷ xs) = (h x, all-each P h xs)
 
-map-all : {X Y : Type 0} (f g : X → Y) (xs : List X) → AllByRecursion (λ x. f x ≡ g x) xs → map f xs ≡ map g xs
+map-all : {X Y : Type 0} (f g : X → Y) (xs : List X) → AllByRecursion (λ x. f x ≡ g x) xs
+    → map f xs ≡ map g xs
 map-all f g [] all = refl
 map-all f g (x ∷ xs) all = rw (all.0, map-all f g xs all.1) refl
 
@@ -88,10 +89,12 @@ module _ (k : ℕ) (name : List ℕ) (old : NodeState)
       let before : List OpenEndpoint = map (endpoint_past k None (Open name) es) old.endpoints in
       let added : OpenEndpoint = record { inc = new; name = name; items = [] } in
       ap (λ l. filter (stays es) (before ++ map (new_endpoint k None (Open name) es) l)) opened_one
-      ∙ filter-every (stays es) (λ e. ap not (closes_none e.inc)) (before ++ new_endpoint k None (Open name) es new ∷ [])
+      ∙ filter-every (stays es) (λ e. ap not (closes_none e.inc)) (before ++ new_endpoint k None
+      (Open name) es new ∷ [])
       ∙ ap (λ l. l ++ put_into k es added ∷ [])
       (map-all (endpoint_past k None (Open name) es) (put_into k es) old.endpoints
-      (all-impl (λ e. e.inc.0 < new.0) (λ e. endpoint_past k None (Open name) es e ≡ put_into k es e)
+      (all-impl (λ e. e.inc.0 < new.0) (λ e. endpoint_past k None (Open name) es e
+      ≡ put_into k es e)
       (past-other (Open name) (λ x. refl)) old.endpoints below))
       ∙ sym (map-append (put_into k es) old.endpoints (added ∷ []))
 
@@ -103,7 +106,8 @@ module _ (k : ℕ) (name : List ℕ) (old : NodeState)
       ≡ filter (λ h. not (same_path (Local name) h.path)) old.hunts
   hunts_answered =
       ap (filter (λ h. not (ends_hunt es h))) (append-nil old.hunts)
-      ∙ filter-agree (λ h. not (ends_hunt es h)) (λ h. not (same_path (Local name) h.path)) old.hunts
+      ∙ filter-agree (λ h. not (ends_hunt es h)) (λ h. not (same_path
+      (Local name) h.path)) old.hunts
       (all-impl (λ h. list_any (answers_hunt h) founds_then ≡ same_path (Local name) h.path)
       (λ h. not (ends_hunt es h) ≡ not (same_path (Local name) h.path))
       (λ h is. ends h (same_path (Local name) h.path) is) old.hunts
@@ -125,7 +129,8 @@ module _ (k : ℕ) (name : List ℕ) (old : NodeState)
       (only.meets_none old.node.0 old.met)
 
 -- A CLOSING, by a head that takes nothing out and begins nothing
-module _ (k : ℕ) (j : Inc) (head : Head) (old : NodeState) (F : Inc → OpenEndpoint) (incs : List Inc)
+module _ (k : ℕ) (j : Inc) (head : Head) (old : NodeState) (F : Inc
+    → OpenEndpoint) (incs : List Inc)
     (named : (i : Inc) → (F i).inc ≡ i)
     (rising : Rising incs) (left : old.endpoints ≡ map F incs)
     (rises : Rises (λ a. a.reference.0) old.attaches)
@@ -152,12 +157,14 @@ module _ (k : ℕ) (j : Inc) (head : Head) (old : NodeState) (F : Inc → OpenEn
 
   -- of endpoints with rising incarnations one is taken out
   others_stay : (incs : List Inc) → AllByRecursion (λ i. j.0 < i.0) incs
-      → filter (stays cs) (map (endpoint_past k (Some j) head cs) (map F incs)) ≡ put_all k cs (map F incs)
+      → filter (stays cs) (map (endpoint_past k (Some j) head cs) (map F incs))
+      ≡ put_all k cs (map F incs)
   others_stay [] all = refl
   others_stay (i ∷ incs) all =
       let apart : same_inc i j ≡ false = same_inc-sym i j ∙ same_inc-above j i all.0 in
       let stay : list_any (closes (endpoint_past k (Some j) head cs (F i)).inc) cs ≡ false
-      = ap (λ (e : OpenEndpoint). list_any (closes e.inc) cs) (past-put (F i)) ∙ ap (λ (x : Inc). list_any (closes x) cs) (named i) ∙ closes_it i ∙ apart in
+      = ap (λ (e : OpenEndpoint). list_any (closes e.inc) cs) (past-put (F i))
+      ∙ ap (λ (x : Inc). list_any (closes x) cs) (named i) ∙ closes_it i ∙ apart in
       rw (stay, past-put (F i), others_stay incs all.1) refl
 
   one_closed : (incs : List Inc) → Rising incs
@@ -165,7 +172,8 @@ module _ (k : ℕ) (j : Inc) (head : Head) (old : NodeState) (F : Inc → OpenEn
       ≡ put_all k cs (without_match (is_at j) (map F incs))
   one_closed [] up = refl
   one_closed (i ∷ incs) up =
-      let inc_is : (endpoint_past k (Some j) head cs (F i)).inc ≡ i = ap (λ (e : OpenEndpoint). e.inc) (past-put (F i)) ∙ named i in
+      let inc_is : (endpoint_past k (Some j) head cs (F i)).inc ≡ i =
+      ap (λ (e : OpenEndpoint). e.inc) (past-put (F i)) ∙ named i in
       let goes : list_any (closes (endpoint_past k (Some j) head cs (F i)).inc) cs ≡ same_inc j i
       = ap (λ (x : Inc). list_any (closes x) cs) inc_is ∙ closes_it i ∙ same_inc-sym i j in
       let at : is_at j (F i) ≡ same_inc j i = ap (same_inc j) (named i) in
@@ -177,7 +185,8 @@ module _ (k : ℕ) (j : Inc) (head : Head) (old : NodeState) (F : Inc → OpenEn
       ≡ put_all k cs (without_match (is_at j) (map F (i ∷ incs)))) [
         | true ↦ λ same.
             let e : j ≡ i = same_inc-true j i same in
-            let above : AllByRecursion (λ x. j.0 < x.0) incs = subst (λ (y : Inc). AllByRecursion (λ x. y.0 < x.0) incs) (sym e) up.0 in
+            let above : AllByRecursion (λ x. j.0 < x.0) incs =
+            subst (λ (y : Inc). AllByRecursion (λ x. y.0 < x.0) incs) (sym e) up.0 in
             rw (goes ∙ same, at ∙ same) (others_stay incs above)
         | false ↦ λ other.
             rw (goes ∙ other, at ∙ other, past-put (F i), one_closed incs up.1) refl
@@ -189,7 +198,8 @@ module _ (k : ℕ) (j : Inc) (head : Head) (old : NodeState) (F : Inc → OpenEn
       ≡ put_all k cs (without_endpoint old.endpoints j)
   endpoints_closed =
       let none : opened_by old.node.0 cs ≡ [] = ap (filter (is_on old.node.0)) only_told.opened in
-      ap (λ l. filter (stays cs) (map (endpoint_past k (Some j) head cs) old.endpoints ++ map (new_endpoint k (Some j) head cs) l)) none
+      ap (λ l. filter (stays cs) (map (endpoint_past k (Some j) head cs) old.endpoints ++ map
+      (new_endpoint k (Some j) head cs) l)) none
       ∙ ap (filter (stays cs)) (append-nil (map (endpoint_past k (Some j) head cs) old.endpoints))
       ∙ rw left (one_closed incs rising)
 
@@ -200,7 +210,13 @@ module _ (k : ℕ) (j : Inc) (head : Head) (old : NodeState) (F : Inc → OpenEn
       ∙ ap (filter (λ h. not (ends_hunt cs h))) (append-nil old.hunts)
       ∙ filter-agree (λ h. not (ends_hunt cs h)) (λ h. not (same_inc j h.at)) old.hunts
       (all-each (λ h. not (ends_hunt cs h) ≡ not (same_inc j h.at))
-      (λ h. rw (notices-answer_none reasons.Closed _ h, only_told.closes_none h.at, or-false (same_inc h.at j), same_inc-sym h.at j) refl) old.hunts)
+      (λ h. rw (
+        notices-answer_none reasons.Closed _ h,
+        only_told.closes_none h.at,
+        or-false
+            (same_inc h.at j),
+        same_inc-sym h.at j,
+      ) refl) old.hunts)
 
   kept_apart : (x y : Bool) → not (((not x && y) || false) || x) ≡ (not x && not y)
   kept_apart true true = refl
@@ -208,30 +224,42 @@ module _ (k : ℕ) (j : Inc) (head : Head) (old : NodeState) (F : Inc → OpenEn
   kept_apart false true = refl
   kept_apart false false = refl
 
-  told_all : told ≡ map (notice reasons.Closed) (filter (λ a. not (same_inc j a.at) && same_peer (Here j) a.peer) old.attaches)
+  told_all : told ≡ map (notice reasons.Closed) (filter (λ a. not (same_inc j a.at) && same_peer
+      (Here j) a.peer) old.attaches)
   told_all =
       ap (map (notice reasons.Closed))
       (filter-filter (λ a. same_peer (Here j) a.peer) (λ a. not (same_inc j a.at)) old.attaches)
 
   settled : (a : PendingAttach)
       → list_any (notifies a) told ≡ (not (same_inc j a.at) && same_peer (Here j) a.peer)
-      → not (settles (Some j) head cs a) ≡ (not (same_inc j a.at) && not (same_peer (Here j) a.peer))
+      → not (settles (Some j) head cs a) ≡ (not (same_inc j a.at) && not (same_peer
+      (Here j) a.peer))
   settled a is =
-      rw (is, cancels a, only_told.closes_none a.at, or-false (same_inc a.at j), same_inc-sym a.at j)
+      rw (
+        is,
+        cancels a,
+        only_told.closes_none a.at,
+        or-false
+            (same_inc a.at j),
+        same_inc-sym a.at j,
+      )
       (kept_apart (same_inc j a.at) (same_peer (Here j) a.peer))
 
   owed_settled : owed_past old.node.0 k (Some j) head cs old.attaches ≡ apart_from j old.attaches
   owed_settled =
       let p : PendingAttach → Bool = λ a. not (same_inc j a.at) && same_peer (Here j) a.peer in
-      let q : PendingAttach → Bool = λ a. not (same_inc j a.at) && not (same_peer (Here j) a.peer) in
+      let q : PendingAttach → Bool = λ a. not (same_inc j a.at) && not (same_peer
+      (Here j) a.peer) in
       ap (λ l. filter (λ a. not (settles (Some j) head cs a)) (old.attaches ++ l)) attaches
       ∙ ap (filter (λ a. not (settles (Some j) head cs a))) (append-nil old.attaches)
       ∙ filter-agree (λ a. not (settles (Some j) head cs a)) q old.attaches
-      (all-impl (λ a. list_any (notifies a) (map (notice reasons.Closed) (filter p old.attaches)) ≡ p a)
+      (all-impl (λ a. list_any (notifies a) (map (notice reasons.Closed)
+      (filter p old.attaches)) ≡ p a)
       (λ a. not (settles (Some j) head cs a) ≡ q a)
       (λ a is. settled a (ap (list_any (notifies a)) told_all ∙ is)) old.attaches
       (notified-each reasons.Closed p old.attaches rises))
-      ∙ sym (filter-filter (λ a. not (same_peer (Here j) a.peer)) (λ a. not (same_inc j a.at)) old.attaches)
+      ∙ sym (filter-filter (λ a. not (same_peer (Here j) a.peer)) (λ a. not
+      (same_inc j a.at)) old.attaches)
 
   pub close-left : after_step k (Some j) head cs old ≡ after_close old j k
   close-left =
@@ -251,23 +279,27 @@ closings-opened : (incs : List Inc) → filter_map opened_in (closings incs) ≡
 closings-opened [] = refl
 closings-opened (j ∷ incs) = closings-opened incs
 
-closings-meet_none : (node : ℕ) (met : List MetPeer) (incs : List Inc) → fold (living_after node) met (closings incs) ≡ met
+closings-meet_none : (node : ℕ) (met : List MetPeer) (incs : List Inc)
+    → fold (living_after node) met (closings incs) ≡ met
 closings-meet_none node met [] = refl
 closings-meet_none node met (j ∷ incs) = closings-meet_none node met incs
 
 -- they close just these
-pub closes-closings : (i : Inc) (incs : List Inc) → list_any (closes i) (closings incs) ≡ list_any (same_inc i) incs
+pub closes-closings : (i : Inc) (incs : List Inc)
+    → list_any (closes i) (closings incs) ≡ list_any (same_inc i) incs
 closes-closings i [] = refl
 closes-closings i (j ∷ incs) = ap (λ b. same_inc i j || b) (closes-closings i incs)
 
 itself-among : (i : Inc) (incs : List Inc) → list_any (same_inc i) (i ∷ incs) ≡ true
 itself-among i incs = or_left (same_inc i i) (list_any (same_inc i) incs) (same_inc-refl i)
 
-filter-no : {X : Type 0} (p : X → Bool) (xs : List X) → AllByRecursion (λ x. p x ≡ false) xs → filter p xs ≡ []
+filter-no : {X : Type 0} (p : X → Bool) (xs : List X) → AllByRecursion (λ x. p x ≡ false) xs
+    → filter p xs ≡ []
 filter-no p [] all = refl
 filter-no p (x ∷ xs) all = rw all.0 (filter-no p xs all.1)
 
-among-more : (i : Inc) (incs more : List Inc) → AllByRecursion (λ x. list_any (same_inc x) incs ≡ true) more
+among-more : (i : Inc) (incs more : List Inc) → AllByRecursion (λ x. list_any (same_inc x) incs
+    ≡ true) more
     → AllByRecursion (λ x. list_any (same_inc x) (i ∷ incs) ≡ true) more
 among-more i incs [] all = tt
 among-more i incs (x ∷ more) all =
@@ -277,7 +309,8 @@ all-among : (incs : List Inc) → AllByRecursion (λ i. list_any (same_inc i) in
 all-among [] = tt
 all-among (i ∷ incs) = (itself-among i incs, among-more i incs incs (all-among incs))
 
-module _ (k : ℕ) (me : Option Inc) (n : NodeNo) (old : NodeState) (F : Inc → OpenEndpoint) (incs : List Inc)
+module _ (k : ℕ) (me : Option Inc) (n : NodeNo) (old : NodeState) (F : Inc
+    → OpenEndpoint) (incs : List Inc)
     (named : (i : Inc) → (F i).inc ≡ i) (left : old.endpoints ≡ map F incs)
     (hunters : AllByRecursion (λ h. list_any (same_inc h.at) incs ≡ true) old.hunts)
     (holders : AllByRecursion (λ a. list_any (same_inc a.at) incs ≡ true) old.attaches)
@@ -293,25 +326,32 @@ module _ (k : ℕ) (me : Option Inc) (n : NodeNo) (old : NodeState) (F : Inc →
       ap (λ (x : Inc). not (list_any (closes x) rs)) same ∙ ap not (closes-closings i incs ∙ among)
 
   all_gone : (is : List Inc) → AllByRecursion (λ i. list_any (same_inc i) incs ≡ true) is
-      → AllByRecursion (λ e. stays rs e ≡ false) (map (endpoint_past k me (Restart n) rs) (map F is))
+      → AllByRecursion (λ e. stays rs e ≡ false) (map (endpoint_past k me (Restart n) rs)
+      (map F is))
   all_gone [] all = tt
   all_gone (i ∷ is) all = (gone i all.0, all_gone is all.1)
 
   pub restart-left : after_step k me (Restart n) rs old ≡ after_restart old
   restart-left =
-      let none : opened_by old.node.0 rs ≡ [] = ap (filter (is_on old.node.0)) (closings-opened incs) in
+      let none : opened_by old.node.0 rs ≡ [] =
+      ap (filter (is_on old.node.0)) (closings-opened incs) in
       state_by_parts old.node _ _ _ _ _ _ _ _ _ _
       (rw none (omega arith))
-      (ap (λ l. filter (stays rs) (map (endpoint_past k me (Restart n) rs) old.endpoints ++ map (new_endpoint k me (Restart n) rs) l)) none
+      (ap (λ l. filter (stays rs) (map (endpoint_past k me (Restart n) rs) old.endpoints ++ map
+      (new_endpoint k me (Restart n) rs) l)) none
       ∙ ap (filter (stays rs)) (append-nil (map (endpoint_past k me (Restart n) rs) old.endpoints))
-      ∙ rw left (filter-no (stays rs) (map (endpoint_past k me (Restart n) rs) (map F incs)) (all_gone incs (all-among incs))))
+      ∙ rw left (filter-no (stays rs) (map (endpoint_past k me (Restart n) rs) (map F incs))
+      (all_gone incs (all-among incs))))
       (ap (filter (λ h. not (ends_hunt rs h))) (append-nil old.hunts)
       ∙ filter-no (λ h. not (ends_hunt rs h)) old.hunts
       (all-impl (λ h. list_any (same_inc h.at) incs ≡ true) (λ h. not (ends_hunt rs h) ≡ false)
-      (λ h among. ap not (or_right (list_any (answers_hunt h) rs) (list_any (closes h.at) rs) (closes-closings h.at incs ∙ among))) old.hunts hunters))
+      (λ h among. ap not (or_right (list_any (answers_hunt h) rs) (list_any (closes h.at) rs)
+      (closes-closings h.at incs ∙ among))) old.hunts hunters))
       (ap (filter (λ a. not (settles me (Restart n) rs a))) (append-nil old.attaches)
       ∙ filter-no (λ a. not (settles me (Restart n) rs a)) old.attaches
-      (all-impl (λ a. list_any (same_inc a.at) incs ≡ true) (λ a. not (settles me (Restart n) rs a) ≡ false)
-      (λ a among. ap not (or_right (list_any (notifies a) rs || detaches me (Restart n) a) (list_any (closes a.at) rs)
+      (all-impl (λ a. list_any (same_inc a.at) incs
+      ≡ true) (λ a. not (settles me (Restart n) rs a) ≡ false)
+      (λ a among. ap not (or_right (list_any (notifies a) rs || detaches me (Restart n) a)
+      (list_any (closes a.at) rs)
       (closes-closings a.at incs ∙ among))) old.attaches holders))
       (closings-meet_none old.node.0 old.met incs ∙ alone)

@@ -41,7 +41,8 @@ abbrev pub stays : List Effect → OpenEndpoint → Bool
 stays es e = not (list_any (closes e.inc) es)
 
 -- the open endpoints of a node after step k
-abbrev pub endpoints_past : ℕ → ℕ → Option Inc → Head → List Effect → List OpenEndpoint → List OpenEndpoint
+abbrev pub endpoints_past : ℕ → ℕ → Option Inc → Head → List Effect → List OpenEndpoint
+    → List OpenEndpoint
 endpoints_past node k me head es before =
     filter (stays es)
     (map (endpoint_past k me head es) before
@@ -71,7 +72,8 @@ filter-map f same p (i ∷ is) =
       | false ↦ filter-map f same p is
     ]
     in
-    go (p i) ∙ ap (λ (x : Inc). cond (p x) (f i ∷ filter (λ e. p e.inc) (map f is)) (filter (λ e. p e.inc) (map f is))) (sym (same i))
+    go (p i) ∙ ap (λ (x : Inc). cond (p x) (f i ∷ filter (λ e. p e.inc) (map f is)) (filter
+    (λ e. p e.inc) (map f is))) (sym (same i))
 
 map-map : (g : OpenEndpoint → OpenEndpoint) (f h : Inc → OpenEndpoint)
     → ((i : Inc) → h i ≡ g (f i)) → (is : List Inc) → map h is ≡ map g (map f is)
@@ -102,14 +104,22 @@ opened-opens (Opened i ∷ es) = (
   or_left (opens i (Opened i)) (list_any (opens i) es) (opens-itself i),
   opened-wider (Opened i) es (filter_map opened_in es) (opened-opens es),
 )
-opened-opens (Closed i ∷ es) = opened-wider (Closed i) es (filter_map opened_in es) (opened-opens es)
-opened-opens (Arrived i q note ∷ es) = opened-wider (Arrived i q note) es (filter_map opened_in es) (opened-opens es)
-opened-opens (Found i q note h ∷ es) = opened-wider (Found i q note h) es (filter_map opened_in es) (opened-opens es)
-opened-opens (Notified i q note r reason ∷ es) = opened-wider (Notified i q note r reason) es (filter_map opened_in es) (opened-opens es)
-opened-opens (Met n q name ∷ es) = opened-wider (Met n q name) es (filter_map opened_in es) (opened-opens es)
-opened-opens (Gone n q ∷ es) = opened-wider (Gone n q) es (filter_map opened_in es) (opened-opens es)
-opened-opens (Up n l x y ∷ es) = opened-wider (Up n l x y) es (filter_map opened_in es) (opened-opens es)
-opened-opens (Down n l x ∷ es) = opened-wider (Down n l x) es (filter_map opened_in es) (opened-opens es)
+opened-opens (Closed i ∷ es) = opened-wider (Closed i) es (filter_map opened_in es)
+    (opened-opens es)
+opened-opens (Arrived i q note ∷ es) = opened-wider (Arrived i q note) es
+    (filter_map opened_in es) (opened-opens es)
+opened-opens (Found i q note h ∷ es) = opened-wider (Found i q note h) es
+    (filter_map opened_in es) (opened-opens es)
+opened-opens (Notified i q note r reason ∷ es) =
+    opened-wider (Notified i q note r reason) es (filter_map opened_in es) (opened-opens es)
+opened-opens (Met n q name ∷ es) = opened-wider (Met n q name) es (filter_map opened_in es)
+    (opened-opens es)
+opened-opens (Gone n q ∷ es) = opened-wider (Gone n q) es (filter_map opened_in es)
+    (opened-opens es)
+opened-opens (Up n l x y ∷ es) = opened-wider (Up n l x y) es (filter_map opened_in es)
+    (opened-opens es)
+opened-opens (Down n l x ∷ es) = opened-wider (Down n l x) es (filter_map opened_in es)
+    (opened-opens es)
 
 module _ (P : List Step) (s : Step) where
   abbrev k : ℕ
@@ -130,9 +140,13 @@ module _ (P : List Step) (s : Step) where
           → (let e : OpenEndpoint = record {
             inc = i;
             name = name_or_none (cond b (name_in s.head) (opening_name P i));
-            items = left_by (is_endpoint i me) s.head (cond b [] (queued P i)) ++ items_in i k 1 s.effects;
+            items = left_by (is_endpoint i me) s.head (cond b []
+                (queued P i)) ++ items_in i k 1 s.effects;
           } in e) ≡ cond b (new_endpoint k me s.head s.effects i)
-          (record (endpoint_left P i) { items = left_by (is_endpoint i me) s.head (queued P i) ++ items_in i k 1 s.effects })
+          (record (endpoint_left P i) {
+            items =
+                left_by (is_endpoint i me) s.head (queued P i) ++ items_in i k 1 s.effects;
+          })
       go true = refl
       go false = refl
 
@@ -142,17 +156,24 @@ module _ (P : List Step) (s : Step) where
   endpoints_left-step node =
       let old : List Inc = open_endpoints P node in
       let new : List Inc = opened_by node s.effects in
-      let kept : map (endpoint_left (s ∷ P)) old ≡ map (endpoint_past k me s.head s.effects) (map (endpoint_left P) old)
-      = map-map (endpoint_past k me s.head s.effects) (endpoint_left P) (endpoint_left (s ∷ P)) endpoint_left-step old in
+      let kept : map (endpoint_left (s ∷ P)) old
+      ≡ map (endpoint_past k me s.head s.effects) (map (endpoint_left P) old)
+      = map-map (endpoint_past k me s.head s.effects) (endpoint_left P) (endpoint_left
+      (s ∷ P)) endpoint_left-step old in
       let added : map (endpoint_left (s ∷ P)) new ≡ map (new_endpoint k me s.head s.effects) new
-      = map-where (endpoint_left (s ∷ P)) (new_endpoint k me s.head s.effects) (λ i. list_any (opens i) s.effects ≡ true) endpoint_left-new new
-      (all-filter (λ i. list_any (opens i) s.effects ≡ true) _ (filter_map opened_in s.effects) (opened-opens s.effects)) in
-      filter-map (endpoint_left (s ∷ P)) (λ i. refl) (λ i. not (list_any (closes i) s.effects)) (old ++ new)
-      ∙ ap (filter (stays s.effects)) (map-append (endpoint_left (s ∷ P)) old new ∙ ap (λ l. l ++ map (endpoint_left (s ∷ P)) new) kept
+      = map-where (endpoint_left (s ∷ P)) (new_endpoint k me s.head s.effects) (λ i. list_any
+      (opens i) s.effects ≡ true) endpoint_left-new new
+      (all-filter (λ i. list_any (opens i) s.effects
+      ≡ true) _ (filter_map opened_in s.effects) (opened-opens s.effects)) in
+      filter-map (endpoint_left (s ∷ P)) (λ i. refl) (λ i. not (list_any (closes i) s.effects))
+      (old ++ new)
+      ∙ ap (filter (stays s.effects)) (map-append (endpoint_left (s ∷ P)) old new
+      ∙ ap (λ l. l ++ map (endpoint_left (s ∷ P)) new) kept
       ∙ ap (λ l. map (endpoint_past k me s.head s.effects) (map (endpoint_left P) old) ++ l) added)
 
   -- THE NODE AFTER A STEP
   pub node_left-step : (node : NodeNo)
       → node_left (s ∷ P) node ≡ after_step k me s.head s.effects (node_left P node)
   node_left-step node =
-      ap (λ (es : List OpenEndpoint). (let n : NodeState = record (node_left (s ∷ P) node) { endpoints = es } in n)) (endpoints_left-step node.0)
+      ap (λ (es : List OpenEndpoint). (let n : NodeState =
+      record (node_left (s ∷ P) node) { endpoints = es } in n)) (endpoints_left-step node.0)

@@ -40,7 +40,8 @@ pub rest-others : (P : List Step) (k n other : ℕ) → all_leave_at_rest P k n 
     → 0 < other → other ≤ n → other ≢ k → leaves_at_rest P k other ≡ true
 rest-others P k zero other all above within different = absurd (omega arith)
 rest-others P k (suc n) other all above within different =
-    let parts = and_parts (all_leave_at_rest P k n) ((k == suc n) || leaves_at_rest P k (suc n)) all in
+    let parts = and_parts (all_leave_at_rest P k n) ((k ==
+    suc n) || leaves_at_rest P k (suc n)) all in
     let go : (b : Bool) → (other == suc n) ≡ b → leaves_at_rest P k other ≡ true = λ b.
     elim b as (λ c. (other == suc n) ≡ c → leaves_at_rest P k other ≡ true) [
       | true ↦ λ is.
@@ -53,7 +54,8 @@ rest-others P k (suc n) other all above within different =
           in
           subst (λ (x : ℕ). leaves_at_rest P k x ≡ true) (sym same) last
       | false ↦ λ no.
-          let less : other ≢ suc n = λ e. true≢false (sym (Rattle.std.proofs.lemmas.Bool.eq-eqb other (suc n) e) ∙ no) in
+          let less : other ≢ suc n = λ e. true≢false (sym
+          (Rattle.std.proofs.lemmas.Bool.eq-eqb other (suc n) e) ∙ no) in
           rest-others P k n other parts.0 above (omega (arith, less)) different
     ]
     in
@@ -69,7 +71,8 @@ pub record IsGranted (me : Option Inc) (event : Event) : Type 0 where
   pub opening : opens event ≡ true → is_none me ≡ true
   pub needing : needs_endpoint event ≡ true → is_some me ≡ true
 
-module _ (shape : Shape) (P : List Step) (k : ℕ) (maker : IsMaker shape P (Actor k)) (unlinked : shape.links ≡ []) where
+module _ (shape : Shape) (P : List Step) (k : ℕ) (maker : IsMaker shape P (Actor k))
+    (unlinked : shape.links ≡ []) where
   abbrev home : ℕ
   home = node_by shape (Actor k)
 
@@ -111,7 +114,8 @@ module _ (shape : Shape) (P : List Step) (k : ℕ) (maker : IsMaker shape P (Act
         receives = (
           none,
           record {
-            others = λ other above within different. rest-others P k (length shape.actors) other at_rest above within different;
+            others = λ other above within different. rest-others P k
+                (length shape.actors) other at_rest above within different;
             links = unlinked;
           },
         );
@@ -132,7 +136,8 @@ module _ (shape : Shape) (P : List Step) (k : ℕ) (maker : IsMaker shape P (Act
       no_filter None is = refl
       no_filter (Some g) is = absurd (true≢false is)
 
-  looks : (f : Sigsel) → is_some me ≡ true → (item : Option Item) → first_selected f (queue_of P me) ≡ item
+  looks : (f : Sigsel) → is_some me ≡ true → (item : Option Item)
+      → first_selected f (queue_of P me) ≡ item
       → LegalIf shape P (step_with shape P (Actor k) (look shape P k f item))
   looks f mine None is = vain f mine is (is_at_rest shape P k) (is_some (waits_with P k)) refl refl
   looks f mine (Some item) is =
@@ -146,8 +151,10 @@ module _ (shape : Shape) (P : List Step) (k : ℕ) (maker : IsMaker shape P (Act
       })
 
   -- a head of no endpoint
-  plain : (head : Head) → is_opening head ≡ false → is_endpoints head ≡ false → IsBounded head → KeepsSends P home head
-      → KeepsReceives shape P home (Actor k) me head → is_on_link head ≡ false → LegalIf shape P (made head)
+  plain : (head : Head) → is_opening head ≡ false → is_endpoints head ≡ false → IsBounded head
+      → KeepsSends P home head
+      → KeepsReceives shape P home (Actor k) me head → is_on_link head ≡ false
+      → LegalIf shape P (made head)
   plain head opens_not needs_not bounds sends receives off_links =
       legal-made head (record {
         opens_one = λ is. absurd (true≢false (sym is ∙ opens_not));
@@ -159,8 +166,10 @@ module _ (shape : Shape) (P : List Step) (k : ℕ) (maker : IsMaker shape P (Act
       })
 
   -- a head of the endpoint's
-  owned : (head : Head) → is_some me ≡ true → is_opening head ≡ false → IsBounded head → KeepsSends P home head
-      → KeepsReceives shape P home (Actor k) me head → is_on_link head ≡ false → LegalIf shape P (made head)
+  owned : (head : Head) → is_some me ≡ true → is_opening head ≡ false → IsBounded head
+      → KeepsSends P home head
+      → KeepsReceives shape P home (Actor k) me head → is_on_link head ≡ false
+      → LegalIf shape P (made head)
   owned head mine opens_not bounds sends receives off_links =
       legal-made head (record {
         opens_one = λ is. absurd (true≢false (sym is ∙ opens_not));
@@ -172,7 +181,8 @@ module _ (shape : Shape) (P : List Step) (k : ℕ) (maker : IsMaker shape P (Act
       })
 
   -- WHAT IS GRANTED makes a legal step
-  pub granted-legal : (nodes : ℕ) (event : Event) (note : SigNote) → IsGranted me event → IsNamedEvent event
+  pub granted-legal : (nodes : ℕ) (event : Event) (note : SigNote) → IsGranted me event
+      → IsNamedEvent event
       → length note.bytes ≤ data_limit → FitsEvent nodes event note → is_link_event event ≡ false
       → LegalIf shape P (step_with shape P (Actor k) (head_of shape P k home me event note))
   granted-legal nodes (asks.Open name) note g named short fits off =
@@ -184,20 +194,30 @@ module _ (shape : Shape) (P : List Step) (k : ℕ) (maker : IsMaker shape P (Act
         receives = tt;
         off_links = refl;
       })
-  granted-legal nodes asks.Close note g named short fits off = owned heads.Close (g.needing refl) refl tt tt tt refl
+  granted-legal nodes asks.Close note g named short fits off =
+      owned heads.Close (g.needing refl) refl tt tt tt refl
   granted-legal nodes (asks.Send q) note g named short fits off =
-      owned (heads.Send q note (Rattle.journal.specs.Effects.send_answer (is_alive P home q) q)) (g.needing refl) refl short refl tt refl
-  granted-legal nodes (asks.Look f) note g named short fits off = looks f (g.needing refl) (first_selected f (queue_of P me)) refl
-  granted-legal nodes (asks.Hunt path) note g named short fits off = owned (heads.Hunt path note) (g.needing refl) refl short tt tt refl
-  granted-legal nodes (asks.Attach q) note g named short fits off = owned (heads.Attach q note) (g.needing refl) refl fits tt tt refl
-  granted-legal nodes (asks.Detach r) note g named short fits off = owned (heads.Detach r (detached_as P home me r)) (g.needing refl) refl tt tt refl refl
+      owned (heads.Send q note (Rattle.journal.specs.Effects.send_answer (is_alive P home q) q))
+      (g.needing refl) refl short refl tt refl
+  granted-legal nodes (asks.Look f) note g named short fits off =
+      looks f (g.needing refl) (first_selected f (queue_of P me)) refl
+  granted-legal nodes (asks.Hunt path) note g named short fits off =
+      owned (heads.Hunt path note) (g.needing refl) refl short tt tt refl
+  granted-legal nodes (asks.Attach q) note g named short fits off =
+      owned (heads.Attach q note) (g.needing refl) refl fits tt tt refl
+  granted-legal nodes (asks.Detach r) note g named short fits off =
+      owned (heads.Detach r (detached_as P home me r)) (g.needing refl) refl tt tt refl refl
   granted-legal nodes (asks.Cut link) note g named short fits off = absurd (true≢false off)
   granted-legal nodes (asks.Mend link) note g named short fits off = absurd (true≢false off)
-  granted-legal nodes (asks.Restart n) note g named short fits off = plain (heads.Restart n) refl refl tt tt tt refl
+  granted-legal nodes (asks.Restart n) note g named short fits off =
+      plain (heads.Restart n) refl refl tt tt tt refl
   granted-legal nodes (asks.Settle link) note g named short fits off = absurd (true≢false off)
-  granted-legal nodes (asks.Refuse reason) note g named short fits off = plain (heads.Refused reason) refl refl tt tt tt refl
-  granted-legal nodes asks.End note g named short fits off = plain heads.Ended refl refl tt tt tt refl
-  granted-legal nodes (asks.Wire link from verdict) note g named short fits off = absurd (true≢false off)
+  granted-legal nodes (asks.Refuse reason) note g named short fits off =
+      plain (heads.Refused reason) refl refl tt tt tt refl
+  granted-legal nodes asks.End note g named short fits off =
+      plain heads.Ended refl refl tt tt tt refl
+  granted-legal nodes (asks.Wire link from verdict) note g named short fits off =
+      absurd (true≢false off)
   granted-legal nodes (asks.Tick link side) note g named short fits off = absurd (true≢false off)
 
   -- a refusal
@@ -205,17 +225,23 @@ module _ (shape : Shape) (P : List Step) (k : ℕ) (maker : IsMaker shape P (Act
   refused-legal reason = plain (heads.Refused reason) refl refl tt tt tt refl
 
   -- THE STEP OF AN ASK
-  pub step-legal : (nodes : ℕ) (ask : Ask) → IsTyped ask → FitsEvent nodes ask.event (signal_in ask.hand)
+  pub step-legal : (nodes : ℕ) (ask : Ask) → IsTyped ask
+      → FitsEvent nodes ask.event (signal_in ask.hand)
       → is_link_event ask.event ≡ false → LegalIf shape P (step_of shape P (Actor k) ask)
   step-legal nodes ask typed fits off = go (endpoint_of P k) refl
     where
-      with : (e : Option Inc) → endpoint_of P k ≡ e → (b : Bool) → LegalIf shape P (granted_step shape P k (granted_by e (closed_step P k) ask)) → LegalIf shape P (step_of shape P (Actor k) ask)
-      with e is b h = subst (λ (x : Option Inc). LegalIf shape P (granted_step shape P k (granted_by x (closed_step P k) ask))) (sym is) h
+      with : (e : Option Inc) → endpoint_of P k ≡ e → (b : Bool)
+          → LegalIf shape P (granted_step shape P k (granted_by e (closed_step P k) ask))
+          → LegalIf shape P (step_of shape P (Actor k) ask)
+      with e is b h = subst (λ (x : Option Inc). LegalIf shape P (granted_step shape P k
+          (granted_by x (closed_step P k) ask))) (sym is) h
 
       go : (e : Option Inc) → endpoint_of P k ≡ e → LegalIf shape P (step_of shape P (Actor k) ask)
       go None is = with None is true (none (needs_endpoint ask.event) refl)
         where
-          none : (b : Bool) → needs_endpoint ask.event ≡ b → LegalIf shape P (granted_step shape P k (cond b (refused (Refusal.NotOpen (closed_step P k))) ask))
+          none : (b : Bool) → needs_endpoint ask.event ≡ b
+              → LegalIf shape P (granted_step shape P k (cond b (refused (Refusal.NotOpen
+              (closed_step P k))) ask))
           none true needs = refused-legal (Refusal.NotOpen (closed_step P k))
           none false needs = granted-legal nodes ask.event (signal_in ask.hand) (record {
             opening = λ o. rw is refl;
@@ -223,7 +249,8 @@ module _ (shape : Shape) (P : List Step) (k : ℕ) (maker : IsMaker shape P (Act
           }) typed.name typed.signal fits off
       go (Some i) is = with (Some i) is true (some (opens ask.event) refl)
         where
-          some : (b : Bool) → opens ask.event ≡ b → LegalIf shape P (granted_step shape P k (cond b (refused (Refusal.IsOpen i)) ask))
+          some : (b : Bool) → opens ask.event ≡ b
+              → LegalIf shape P (granted_step shape P k (cond b (refused (Refusal.IsOpen i)) ask))
           some true opens_it = refused-legal (Refusal.IsOpen i)
           some false opens_it = granted-legal nodes ask.event (signal_in ask.hand) (record {
             opening = λ o. absurd (true≢false (sym o ∙ opens_it));

@@ -54,11 +54,13 @@ module _ (P : List Step) where
   open-left_of i (j ∷ incs) = ap (λ b. same_inc i j || b) (open-left_of i incs)
 
   named-left : (name : List ℕ) (incs : List Inc)
-      → first_named (map (endpoint_left P) incs) name ≡ first_match (λ i. bytes_eq name (name_of P i)) incs
+      → first_named (map (endpoint_left P) incs) name
+      ≡ first_match (λ i. bytes_eq name (name_of P i)) incs
   named-left name [] = refl
   named-left name (i ∷ incs) =
       let rest = named-left name incs in
-      elim (bytes_eq name (name_of P i)) as (λ b. inc_if (cond b (Some (endpoint_left P i)) (first_match (is_named name) (map (endpoint_left P) incs)))
+      elim (bytes_eq name (name_of P i)) as (λ b. inc_if (cond b (Some (endpoint_left P i))
+      (first_match (is_named name) (map (endpoint_left P) incs)))
       ≡ cond b (Some i) (first_match (λ i. bytes_eq name (name_of P i)) incs)) [
         | true ↦ refl
         | false ↦ rest
@@ -72,7 +74,8 @@ module _ (P : List Step) (node : NodeNo) where
 
   -- a path finds
   pub find-left : (path : Path) → find_at (node_left P node) path ≡ find P node.0 path
-  find-left (Local name) = ap Rattle.journal.specs.Living.here (named-left P name (open_endpoints P node.0))
+  find-left (Local name) = ap Rattle.journal.specs.Living.here (named-left P name
+      (open_endpoints P node.0))
   find-left (Over link name) = refl
 
 -- THE MAKER'S STEP on its node
@@ -85,8 +88,10 @@ module _ (shape : Shape) (P : List Step) (legal : IsLegal shape P) (short : IsSh
   old = node_left P node
 
   -- the actor's endpoint is open on its node
-  pub own-open : (j : Inc) → endpoint_of P k ≡ Some j → list_any (same_inc j) (open_endpoints P node.0) ≡ true
-  own-open j is = subst (λ (n : ℕ). list_any (same_inc j) (open_endpoints P n) ≡ true) home (endpoint-open shape P legal short k j is)
+  pub own-open : (j : Inc) → endpoint_of P k ≡ Some j
+      → list_any (same_inc j) (open_endpoints P node.0) ≡ true
+  own-open j is = subst (λ (n : ℕ). list_any (same_inc j) (open_endpoints P n)
+      ≡ true) home (endpoint-open shape P legal short k j is)
 
   pub own-is_open : (j : Inc) → endpoint_of P k ≡ Some j → is_open old.endpoints j ≡ true
   own-is_open j is = open-left_of P j (open_endpoints P node.0) ∙ own-open j is
@@ -100,14 +105,20 @@ module _ (shape : Shape) (P : List Step) (legal : IsLegal shape P) (short : IsSh
 
   -- the effects of the actor's step, by the node as it is left
   abbrev step_by : Head → Step
-  step_by head = record { by = Actor k; head = head; effects = effects_by P (node_by shape (Actor k)) (endpoint_of P k) head }
+  step_by head = record {
+    by = Actor k;
+    head = head;
+    effects =
+        effects_by P (node_by shape (Actor k)) (endpoint_of P k) head;
+  }
 
   -- with the endpoint known
   step-to : (head : Head) (me : Option Inc) → endpoint_of P k ≡ me
       → node_left (step_by head ∷ P) node ≡ after_step now me head (effects_by P node.0 me head) old
   step-to head me is =
       node_left-step P (step_by head) node
-      ∙ ap (λ (n : ℕ). after_step now (endpoint_of P k) head (effects_by P n (endpoint_of P k) head) old) home
+      ∙ ap (λ (n : ℕ). after_step now (endpoint_of P k) head (effects_by P n
+      (endpoint_of P k) head) old) home
       ∙ ap (λ (e : Option Inc). after_step now e head (effects_by P node.0 e head) old) is
 
   pub node-quiet : (head : Head) → effects_by P node.0 (endpoint_of P k) head ≡ []
@@ -121,7 +132,8 @@ module _ (shape : Shape) (P : List Step) (legal : IsLegal shape P) (short : IsSh
       ∙ quiet-left now (endpoint_of P k) head old takes hunts cancels attaches
 
   all-endpoints : (incs : List Inc) → AllByRecursion (IsBelow P node.0) incs
-      → AllByRecursion (λ (e : OpenEndpoint). e.inc.0 < (next_of old).0) (map (endpoint_left P) incs)
+      → AllByRecursion (λ (e : OpenEndpoint). e.inc.0 < (next_of old).0) (map
+      (endpoint_left P) incs)
   all-endpoints [] all = tt
   all-endpoints (i ∷ incs) all = (all.0.1, all-endpoints incs all.1)
 
@@ -130,14 +142,17 @@ module _ (shape : Shape) (P : List Step) (legal : IsLegal shape P) (short : IsSh
   node-open name none =
       step-to (Open name) None none
       ∙ open-left now name old (next_on-is_on shape P legal short node.0)
-      (all-endpoints (open_endpoints P node.0) (open-below shape P legal short node.0)) (hunting-rises P node.0)
+      (all-endpoints (open_endpoints P node.0) (open-below shape P legal short node.0))
+      (hunting-rises P node.0)
 
   closed-by : (j : Inc) (head : Head) → TakesNone head → hunt_in node.0 now (Some j) head ≡ []
-      → ((a : PendingAttach) → detaches (Some j) head a ≡ false) → attach_in node.0 now (Some j) head ≡ []
+      → ((a : PendingAttach) → detaches (Some j) head a ≡ false)
+      → attach_in node.0 now (Some j) head ≡ []
       → after_step now (Some j) head (closing j (owed P node.0)) old ≡ after_close old j now
   closed-by j head takes hunts cancels attaches =
       close-left now j head old (endpoint_left P) (open_endpoints P node.0) (λ i. refl)
-      (open-rising shape P legal short node.0) refl (owed-rises P node.0) takes hunts cancels attaches
+      (open-rising shape P legal short node.0) refl
+      (owed-rises P node.0) takes hunts cancels attaches
 
   pub node-close : (j : Inc) → endpoint_of P k ≡ Some j
       → node_left (step_by Close ∷ P) node ≡ after_close old j now
@@ -151,16 +166,21 @@ module _ (shape : Shape) (P : List Step) (legal : IsLegal shape P) (short : IsSh
       → node_left (step_by (Send q note answer) ∷ P) node ≡ after_send old j q note now
   node-send j q note answer is =
       step-to (Send q note answer) (Some j) is
-      ∙ ap (λ (b : Bool). after_step now (Some j) (Send q note answer) (arrivals_of j note b q) old) (sym (living-left P node q))
+      ∙ ap (λ (b : Bool). after_step now (Some j) (Send q note answer)
+      (arrivals_of j note b q) old) (sym (living-left P node q))
       ∙ send-left now j q note answer old
 
   pub node-take : (j : Inc) (f : Sigsel) (item : Item) → endpoint_of P k ≡ Some j
       → first_selected f (queued P j) ≡ Some item
       → node_left (step_by (Take f item.pos) ∷ P) node
-      ≡ record old { endpoints = with_items old.endpoints j (without_first f (items_at old.endpoints j)) }
+      ≡ record old {
+        endpoints = with_items old.endpoints j (without_first f
+            (items_at old.endpoints j));
+      }
   node-take j f item is selected =
       step-to (Take f item.pos) (Some j) is
-      ∙ take-left P j (open_endpoints P node.0) now f item item.pos old (open-rising shape P legal short node.0) refl
+      ∙ take-left P j (open_endpoints P node.0) now f item item.pos old
+      (open-rising shape P legal short node.0) refl
       (own-open j is) selected refl
 
   pub node-hunt : (j : Inc) (path : Path) (note : SigNote) → endpoint_of P k ≡ Some j
@@ -168,21 +188,46 @@ module _ (shape : Shape) (P : List Step) (legal : IsLegal shape P) (short : IsSh
       ≡ after_hunt old (record { at = j; path = path; signal = note; number = now })
   node-hunt j path note is =
       step-to (Hunt path note) (Some j) is
-      ∙ ap (λ (q : Option Peer). after_step now (Some j) (Hunt path note) (hunted q (record { at = j; path = path; signal = note; number = now })) old) (sym (find-left P node path))
+      ∙ ap (λ (q : Option Peer). after_step now (Some j) (Hunt path note) (hunted q
+      (record {
+        at = j;
+        path = path;
+        signal = note;
+        number =
+            now;
+      })) old) (sym (find-left P node path))
       ∙ hunt-left now j path note old (own-on j is) (hunting-below P node.0)
 
   pub node-attach : (j : Inc) (q : Peer) (note : SigNote) → endpoint_of P k ≡ Some j
       → node_left (step_by (Attach q note) ∷ P) node
-      ≡ after_attach old (record { at = j; peer = q; signal = note; reference = record { 0 = now } })
+      ≡ after_attach old (record {
+        at = j;
+        peer = q;
+        signal = note;
+        reference = record {
+          0 =
+              now;
+        };
+      })
   node-attach j q note is =
       step-to (Attach q note) (Some j) is
-      ∙ ap (λ (b : Bool). after_step now (Some j) (Attach q note) (attached b (record { at = j; peer = q; signal = note; reference = record { 0 = now } })) old) (sym (living-left P node q))
+      ∙ ap (λ (b : Bool). after_step now (Some j) (Attach q note) (attached b (record {
+        at =
+            j;
+        peer = q;
+        signal = note;
+        reference = record {
+          0 =
+              now;
+        };
+      })) old) (sym (living-left P node q))
       ∙ attach-left now j q note old (own-on j is) (owed-below P node.0)
 
   pub detached-left : (j : Inc) (r : AttRef) → endpoint_of P k ≡ Some j
       → detached old j r ≡ detached_as P (node_by shape (Actor k)) (endpoint_of P k) r
   detached-left j r is =
-      ap (λ (items : List Item). detach_answer (is_owed P node.0 (Some j) r) (list_any (is_notice_of r) items)) (own-items j is)
+      ap (λ (items : List Item). detach_answer (is_owed P node.0 (Some j) r) (list_any
+      (is_notice_of r) items)) (own-items j is)
       ∙ ap (λ (e : Option Inc). detached_as P node.0 e r) (sym is)
       ∙ ap (λ (n : ℕ). detached_as P n (endpoint_of P k) r) (sym home)
 
@@ -190,14 +235,28 @@ module _ (shape : Shape) (P : List Step) (legal : IsLegal shape P) (short : IsSh
       → node_left (step_by (Detach r answer) ∷ P) node ≡ after_detach_of answer old j r
   node-detach j r answer is =
       step-to (Detach r answer) (Some j) is
-      ∙ detach-left P j (open_endpoints P node.0) now r old (open-rising shape P legal short node.0) refl (own-open j is) answer
+      ∙ detach-left P j (open_endpoints P node.0) now r old
+      (open-rising shape P legal short node.0) refl (own-open j is) answer
 
 -- A RESTART leaves nothing of the node that it restarts
-pub node-restart : (shape : Shape) (P : List Step) → IsLegal shape P → IsShort P → (k : ℕ) (node : NodeNo)
+pub node-restart : (shape : Shape) (P : List Step) → IsLegal shape P → IsShort P
+    → (k : ℕ) (node : NodeNo)
     → living P node.0 ≡ []
-    → (let s : Step = record { by = Actor k; head = Restart node; effects = effects_by P (node_by shape (Actor k)) (endpoint_of P k) (Restart node) } in node_left (s ∷ P) node)
+    → (let s : Step = record {
+      by = Actor k;
+      head = Restart node;
+      effects =
+          effects_by P (node_by shape (Actor k)) (endpoint_of P k) (Restart node);
+    } in
+    node_left (s ∷ P) node)
     ≡ after_restart (node_left P node)
 node-restart shape P legal short k node alone =
-    node_left-step P (record { by = Actor k; head = Restart node; effects = effects_by P (node_by shape (Actor k)) (endpoint_of P k) (Restart node) }) node
-    ∙ restart-left (suc (length P)) (endpoint_of P k) node (node_left P node) (endpoint_left P) (open_endpoints P node.0) (λ i. refl) refl
+    node_left-step P (record {
+      by = Actor k;
+      head = Restart node;
+      effects =
+          effects_by P (node_by shape (Actor k)) (endpoint_of P k) (Restart node);
+    }) node
+    ∙ restart-left (suc (length P)) (endpoint_of P k) node (node_left P node) (endpoint_left P)
+    (open_endpoints P node.0) (λ i. refl) refl
     (hunters-open shape P legal short node.0) (holders-open shape P legal short node.0) alone

@@ -22,10 +22,19 @@ use Rattle.fabric.proofs.Effects.{AnswersNone, NotifiesNone, OnlyItems}
 use Rattle.fabric.proofs.Leaving.{after_step, endpoint_past, endpoints_past, new_endpoint, stays}
 
 -- a node by its parts
-pub state_by_parts : (node : NodeNo) (n m : ℕ) (es fs : List OpenEndpoint) (hs is : List PendingHunt)
+pub state_by_parts : (node : NodeNo) (n m : ℕ) (es fs : List OpenEndpoint)
+    (hs is : List PendingHunt)
     (xs ys : List PendingAttach) (ps qs : List MetPeer)
     → n ≡ m → es ≡ fs → hs ≡ is → xs ≡ ys → ps ≡ qs
-    → (let k : NodeState = record { node = node; openings = n; endpoints = es; hunts = hs; attaches = xs; met = ps } in k)
+    → (let k : NodeState = record {
+      node = node;
+      openings = n;
+      endpoints = es;
+      hunts =
+          hs;
+      attaches = xs;
+      met = ps;
+    } in k)
     ≡ record { node = node; openings = m; endpoints = fs; hunts = is; attaches = ys; met = qs }
 state_by_parts node n m es fs hs is xs ys ps qs a b c d e = rw (a, b, c, d, e) refl
 
@@ -38,13 +47,15 @@ abbrev pub put_past : ℕ → Option Inc → Head → List Effect → OpenEndpoi
 put_past k me head es e =
     record e { items = left_by (is_endpoint e.inc me) head e.items ++ items_in e.inc k 1 es }
 
-map-each : {X Y : Type 0} (f g : X → Y) → ((x : X) → f x ≡ g x) → (xs : List X) → map f xs ≡ map g xs
+map-each : {X Y : Type 0} (f g : X → Y) → ((x : X) → f x ≡ g x) → (xs : List X)
+    → map f xs ≡ map g xs
 map-each f g same [] = refl
 map-each f g same (x ∷ xs) = rw (same x) (ap (λ l. g x ∷ l) (map-each f g same xs))
 
 pub left_by-none : (mine : Bool) (head : Head) (items : List Item) → TakesNone head
     → left_by mine head items ≡ items
-left_by-none true head items none = filter-every (λ x. not (removes head x)) (λ x. ap not (none x)) items
+left_by-none true head items none = filter-every (λ x. not (removes head x)) (λ x. ap not
+    (none x)) items
 left_by-none false head items none = refl
 
 pub left_by-empty : (mine : Bool) (head : Head) → left_by mine head [] ≡ []
@@ -64,9 +75,11 @@ module _ (node k : ℕ) (me : Option Inc) (head : Head) (es : List Effect) (only
       → endpoints_past node k me head es before ≡ map (put_past k me head es) before
   endpoints-kept before =
       let new : opened_by node es ≡ [] = ap (filter (is_on node)) only.opened in
-      ap (λ l. filter (stays es) (map (endpoint_past k me head es) before ++ map (new_endpoint k me head es) l)) new
+      ap (λ l. filter (stays es) (map (endpoint_past k me head es) before ++ map
+      (new_endpoint k me head es) l)) new
       ∙ ap (filter (stays es)) (append-nil (map (endpoint_past k me head es) before))
-      ∙ filter-every (stays es) (λ e. ap not (only.closes_none e.inc)) (map (endpoint_past k me head es) before)
+      ∙ filter-every (stays es) (λ e. ap not (only.closes_none e.inc)) (map
+      (endpoint_past k me head es) before)
       ∙ map-each (endpoint_past k me head es) (put_past k me head es) past-put before
 
   pub endpoints-put : (before : List OpenEndpoint) → TakesNone head
@@ -74,7 +87,10 @@ module _ (node k : ℕ) (me : Option Inc) (head : Head) (es : List Effect) (only
   endpoints-put before none =
       endpoints-kept before
       ∙ map-each (put_past k me head es) (put_into k es)
-      (λ e. ap (λ (l : List Item). (let x : OpenEndpoint = record e { items = l ++ items_in e.inc k 1 es } in x))
+      (λ e. ap (λ (l : List Item). (let x : OpenEndpoint = record e {
+        items =
+            l ++ items_in e.inc k 1 es;
+      } in x))
       (left_by-none (is_endpoint e.inc me) head e.items none)) before
 
   pub openings-kept : (n : ℕ) → n + length (opened_by node es) ≡ n
@@ -89,9 +105,11 @@ module _ (node k : ℕ) (me : Option Inc) (head : Head) (es : List Effect) (only
       ∙ filter-every (λ h. not (ends_hunt es h)) (λ h. rw (none h, only.closes_none h.at) refl) hs
 
   -- no attach is begun, cancelled or notified
-  pub owed-kept : (xs : List PendingAttach) → NotifiesNone es → ((a : PendingAttach) → detaches me head a ≡ false)
+  pub owed-kept : (xs : List PendingAttach) → NotifiesNone es → ((a : PendingAttach)
+      → detaches me head a ≡ false)
       → attach_in node k me head ≡ [] → owed_past node k me head es xs ≡ xs
   owed-kept xs none cancels_none begins =
       ap (λ l. filter (λ a. not (settles me head es a)) (xs ++ l)) begins
       ∙ ap (filter (λ a. not (settles me head es a))) (append-nil xs)
-      ∙ filter-every (λ a. not (settles me head es a)) (λ a. rw (none a, cancels_none a, only.closes_none a.at) refl) xs
+      ∙ filter-every (λ a. not (settles me head es a)) (λ a. rw
+      (none a, cancels_none a, only.closes_none a.at) refl) xs

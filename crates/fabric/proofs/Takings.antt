@@ -71,13 +71,18 @@ module _ (P : List Step) (j : Inc) where
     changed-one [] up = refl
     changed-one (i ∷ incs) up =
         let go : (b : Bool) → same_inc j i ≡ b
-        → map g (map (endpoint_left P) (i ∷ incs)) ≡ with_items (map (endpoint_left P) (i ∷ incs)) j items = λ b.
+        → map g (map (endpoint_left P) (i ∷ incs))
+        ≡ with_items (map (endpoint_left P) (i ∷ incs)) j items = λ b.
         elim b as (λ c. same_inc j i ≡ c
-        → map g (map (endpoint_left P) (i ∷ incs)) ≡ with_items (map (endpoint_left P) (i ∷ incs)) j items) [
+        → map g (map (endpoint_left P) (i ∷ incs))
+        ≡ with_items (map (endpoint_left P) (i ∷ incs)) j items) [
           | true ↦ λ same.
               let e : j ≡ i = same_inc-true j i same in
-              let above : AllByRecursion (λ x. j.0 < x.0) incs = subst (λ (y : Inc). AllByRecursion (λ x. y.0 < x.0) incs) (sym e) up.0 in
-              let here : g (endpoint_left P i) ≡ record (endpoint_left P i) { items = items } = subst (λ (y : Inc). g (endpoint_left P y) ≡ record (endpoint_left P y) { items = items }) e itself in
+              let above : AllByRecursion (λ x. j.0 < x.0) incs =
+              subst (λ (y : Inc). AllByRecursion (λ x. y.0 < x.0) incs) (sym e) up.0 in
+              let here : g (endpoint_left P i) ≡ record (endpoint_left P i) { items = items } =
+              subst (λ (y : Inc). g (endpoint_left P y)
+              ≡ record (endpoint_left P y) { items = items }) e itself in
               rw (same, here, others-kept incs above) refl
           | false ↦ λ other. rw (other, others i other, changed-one incs up.1) refl
         ]
@@ -92,7 +97,10 @@ module _ (P : List Step) (j : Inc) where
         rw (same_inc-sym i j ∙ other, append-nil (queued P i)) refl
 
     pub own-left : (items : List Item) → left_by true head (queued P j) ≡ items
-        → put_past k (Some j) head [] (endpoint_left P j) ≡ record (endpoint_left P j) { items = items }
+        → put_past k (Some j) head [] (endpoint_left P j) ≡ record (endpoint_left P j) {
+          items =
+              items;
+        }
     own-left items is =
         rw (same_inc-refl j, append-nil (left_by true head (queued P j)), is) refl
 
@@ -100,7 +108,8 @@ module _ (P : List Step) (j : Inc) where
 module _ (P : List Step) (j : Inc) (incs : List Inc) (k : ℕ) (head : Head) (old : NodeState)
     (rising : Rising incs) (left : old.endpoints ≡ map (endpoint_left P) incs)
     (items : List Item) (taken : left_by true head (queued P j) ≡ items) where
-  endpoints-taken : map (put_past k (Some j) head []) old.endpoints ≡ with_items old.endpoints j items
+  endpoints-taken : map (put_past k (Some j) head []) old.endpoints
+      ≡ with_items old.endpoints j items
   endpoints-taken =
       rw left (changed-one P j (put_past k (Some j) head []) items (other-kept P j k head)
       (own-left P j k head items taken) incs rising)
@@ -111,13 +120,17 @@ pub take-left : (P : List Step) (j : Inc) (incs : List Inc) (k : ℕ) (filter : 
     → list_any (same_inc j) incs ≡ true → first_selected filter (queued P j) ≡ Some item
     → item.pos ≡ position
     → after_step k (Some j) (Take filter position) [] old
-    ≡ record old { endpoints = with_items old.endpoints j (without_first filter (items_at old.endpoints j)) }
+    ≡ record old {
+      endpoints = with_items old.endpoints j (without_first filter
+          (items_at old.endpoints j));
+    }
 take-left P j incs k sel item position old rising left mine is at =
     let node : ℕ = old.node.0 in
     let head : Head = Take sel position in
     let items : List Item = without_first sel (queued P j) in
     let taken : left_by true head (queued P j) ≡ items =
-    subst (λ (p : ItemAt). left_by true (Take sel p) (queued P j) ≡ items) at (left-take P j sel item is) in
+    subst (λ (p : ItemAt). left_by true (Take sel p) (queued P j)
+    ≡ items) at (left-take P j sel item is) in
     let same : items ≡ without_first sel (items_at old.endpoints j) =
     ap (without_first sel) (sym (ap (λ es. items_at es j) left ∙ items_left P j incs mine)) in
     state_by_parts old.node _ _ _ _ _ _ _ _ _ _
@@ -140,15 +153,18 @@ module _ (P : List Step) (j : Inc) (incs : List Inc) (k : ℕ) (r : AttRef) (old
       let head : Head = Detach r Pending in
       let p : PendingAttach → Bool = λ a. not (settles (Some j) head [] a) in
       let q : PendingAttach → Bool = λ a. not (is_attach j r a) in
-      let agree : (xs : List PendingAttach) → AllByRecursion (λ a. p a ≡ q a) xs = λ xs. every p q (λ a. ap not (or-false (is_attach j r a))) xs in
+      let agree : (xs : List PendingAttach) → AllByRecursion (λ a. p a ≡ q a) xs =
+      λ xs. every p q (λ a. ap not (or-false (is_attach j r a))) xs in
       state_by_parts old.node _ _ _ _ _ _ _ _ _ _
       (openings-kept node k (Some j) head [] only-none old.openings)
-      (endpoints-put node k (Some j) head [] only-none old.endpoints (λ x. refl) ∙ put-none k old.endpoints)
+      (endpoints-put node k (Some j) head [] only-none old.endpoints (λ x. refl)
+      ∙ put-none k old.endpoints)
       (hunts-kept node k (Some j) head [] only-none old.hunts (λ n. refl) refl)
       (ap (filter p) (append-nil old.attaches) ∙ filter-agree p q old.attaches (agree old.attaches))
       refl
     where
-      every : (p q : PendingAttach → Bool) → ((a : PendingAttach) → p a ≡ q a) → (xs : List PendingAttach) → AllByRecursion (λ a. p a ≡ q a) xs
+      every : (p q : PendingAttach → Bool) → ((a : PendingAttach) → p a ≡ q a)
+          → (xs : List PendingAttach) → AllByRecursion (λ a. p a ≡ q a) xs
       every p q same [] = tt
       every p q same (x ∷ xs) = (same x, every p q same xs)
   detach-left Queued =
@@ -156,7 +172,8 @@ module _ (P : List Step) (j : Inc) (incs : List Inc) (k : ℕ) (r : AttRef) (old
       let head : Head = Detach r Queued in
       let items : List Item = filter (λ item. not (is_notice_of r item)) (queued P j) in
       let same : items ≡ filter (λ item. not (is_notice_of r item)) (items_at old.endpoints j) =
-      ap (filter (λ item. not (is_notice_of r item))) (sym (ap (λ es. items_at es j) left ∙ items_left P j incs mine)) in
+      ap (filter (λ item. not (is_notice_of r item))) (sym (ap (λ es. items_at es j) left
+      ∙ items_left P j incs mine)) in
       state_by_parts old.node _ _ _ _ _ _ _ _ _ _
       (openings-kept node k (Some j) head [] only-none old.openings)
       (endpoints-kept node k (Some j) head [] only-none old.endpoints
@@ -170,7 +187,8 @@ module _ (P : List Step) (j : Inc) (incs : List Inc) (k : ℕ) (r : AttRef) (old
       let head : Head = Detach r Neither in
       state_by_parts old.node _ _ _ _ _ _ _ _ _ _
       (openings-kept node k (Some j) head [] only-none old.openings)
-      (endpoints-put node k (Some j) head [] only-none old.endpoints (λ x. refl) ∙ put-none k old.endpoints)
+      (endpoints-put node k (Some j) head [] only-none old.endpoints (λ x. refl)
+      ∙ put-none k old.endpoints)
       (hunts-kept node k (Some j) head [] only-none old.hunts (λ n. refl) refl)
       (owed-kept node k (Some j) head [] only-none old.attaches (λ r. refl) (λ a. refl) refl)
       refl

@@ -33,11 +33,13 @@ use Rattle.journal.proofs.Openings.{IsShort, endpoint-open}
 
 -- NO EFFECT BUT AN ARRIVAL brings a plain signal
 module _ (j : Inc) (q : Peer) where
-  found-brings_none : (p : Peer) (hs : List PendingHunt) → filter_map (arrival_in j q) (map (found p) hs) ≡ []
+  found-brings_none : (p : Peer) (hs : List PendingHunt)
+      → filter_map (arrival_in j q) (map (found p) hs) ≡ []
   found-brings_none p [] = refl
   found-brings_none p (h ∷ hs) = found-brings_none p hs
 
-  notice-brings_none : (reason : Reason) (xs : List PendingAttach) → filter_map (arrival_in j q) (map (notice reason) xs) ≡ []
+  notice-brings_none : (reason : Reason) (xs : List PendingAttach)
+      → filter_map (arrival_in j q) (map (notice reason) xs) ≡ []
   notice-brings_none reason [] = refl
   notice-brings_none reason (a ∷ xs) = notice-brings_none reason xs
 
@@ -45,15 +47,19 @@ module _ (j : Inc) (q : Peer) where
   closings-bring_none [] = refl
   closings-bring_none (i ∷ incs) = closings-bring_none incs
 
-  ending-brings_none : (me : Option Inc) (owes : List PendingAttach) → filter_map (arrival_in j q) (ending me owes) ≡ []
+  ending-brings_none : (me : Option Inc) (owes : List PendingAttach)
+      → filter_map (arrival_in j q) (ending me owes) ≡ []
   ending-brings_none None owes = refl
-  ending-brings_none (Some i) owes = notice-brings_none reasons.Closed (filter (λ a. same_peer (Here i) a.peer) (held_elsewhere i owes))
+  ending-brings_none (Some i) owes = notice-brings_none reasons.Closed (filter (λ a. same_peer
+      (Here i) a.peer) (held_elsewhere i owes))
 
-  hunted-brings_none : (p : Option Peer) (h : PendingHunt) → filter_map (arrival_in j q) (hunted p h) ≡ []
+  hunted-brings_none : (p : Option Peer) (h : PendingHunt)
+      → filter_map (arrival_in j q) (hunted p h) ≡ []
   hunted-brings_none None h = refl
   hunted-brings_none (Some p) h = refl
 
-  attached-brings_none : (alive : Bool) (a : PendingAttach) → filter_map (arrival_in j q) (attached alive a) ≡ []
+  attached-brings_none : (alive : Bool) (a : PendingAttach)
+      → filter_map (arrival_in j q) (attached alive a) ≡ []
   attached-brings_none true a = refl
   attached-brings_none false a = refl
 
@@ -87,7 +93,8 @@ module _ (i j : Inc) where
   step-brings : (P : List Step) (node : ℕ) (me : Option Inc) (head : Head) → KeepsSends P node head
       → filter_map (arrival_in j (Here i)) (effects_by P node me head) ≡ sent_in i j me head
   step-brings P node me (Open name) keeps =
-      found-brings_none j (Here i) (Here (next_inc node (opened_on P node))) (hunts_for (Local name) (hunting P node))
+      found-brings_none j (Here i) (Here (next_inc node (opened_on P node))) (hunts_for
+      (Local name) (hunting P node))
       ∙ sym (cond-same (is_endpoint i me) [])
   step-brings P node me Close keeps =
       ending-brings_none j (Here i) me (owed P node) ∙ sym (cond-same (is_endpoint i me) [])
@@ -127,9 +134,11 @@ module _ (i j : Inc) where
       let node : ℕ = node_by shape s.by in
       let me : Option Inc = endpoint_by P s.by in
       filter_map-append (arrival_in j (Here i)) (effects_of P) s.effects
-      ∙ ap (λ (xs : List SigNote). xs ++ filter_map (arrival_in j (Here i)) s.effects) (arrived-sent shape P legal.0)
+      ∙ ap (λ (xs : List SigNote). xs ++ filter_map (arrival_in j (Here i)) s.effects)
+      (arrived-sent shape P legal.0)
       ∙ ap (λ (ys : List SigNote). sent_to P i (Here j) ++ ys)
-      (ap (filter_map (arrival_in j (Here i))) legal.1.effects ∙ step-brings P node me s.head legal.1.sends)
+      (ap (filter_map (arrival_in j (Here i))) legal.1.effects
+      ∙ step-brings P node me s.head legal.1.sends)
 
 -- WHAT ARRIVES comes from the maker's own endpoint, which is open
 module _ (P : List Step) (node : ℕ) where
@@ -150,8 +159,11 @@ module _ (P : List Step) (node : ℕ) where
 
   ending-living : (me : Option Inc) (owes : List PendingAttach) → Living (ending me owes)
   ending-living None owes = tt
-  ending-living (Some i) owes =
-      (tt, notices-living reasons.Closed (filter (λ a. same_peer (Here i) a.peer) (held_elsewhere i owes)))
+  ending-living (Some i) owes = (
+    tt,
+    notices-living reasons.Closed (filter (λ a. same_peer (Here i) a.peer)
+        (held_elsewhere i owes)),
+  )
 
   arrivals-living : (m : Inc) (note : SigNote) (alive : Bool) (q : Peer)
       → is_alive P node (Here m) ≡ true → Living (arrivals_of m note alive q)
@@ -169,17 +181,27 @@ module _ (P : List Step) (node : ℕ) where
 
   step-living : (me : Option Inc) → ((m : Inc) → me ≡ Some m → is_alive P node (Here m) ≡ true)
       → (head : Head) → Living (effects_by P node me head)
-  step-living me own (Open name) =
-      (tt, founds-living (Here (next_inc node (opened_on P node))) (hunts_for (Local name) (hunting P node)))
+  step-living me own (Open name) = (
+    tt,
+    founds-living (Here (next_inc node (opened_on P node))) (hunts_for (Local name)
+        (hunting P node)),
+  )
   step-living me own Close = ending-living me (owed P node)
   step-living None own (Send q note answer) = tt
-  step-living (Some m) own (Send q note answer) = arrivals-living m note (is_alive P node q) q (own m refl)
+  step-living (Some m) own (Send q note answer) =
+      arrivals-living m note (is_alive P node q) q (own m refl)
   step-living me own (Take f position) = tt
   step-living me own (TakeNone f) = tt
   step-living me own (Waits f) = tt
   step-living None own (Hunt path note) = tt
   step-living (Some m) own (Hunt path note) =
-      hunted-living (find P node path) (record { at = m; path = path; signal = note; number = suc (length P) })
+      hunted-living (find P node path) (record {
+        at = m;
+        path = path;
+        signal = note;
+        number =
+            suc (length P);
+      })
   step-living None own (Attach q note) = tt
   step-living (Some m) own (Attach q note) =
       attached-living (is_alive P node q)
@@ -207,11 +229,13 @@ never-from_the_dead shape (s ∷ P) legal short =
     let node : ℕ = node_by shape s.by in (
       never-from_the_dead shape P legal.0 before,
       subst (AllByRecursion (IsFromLiving P node)) (sym legal.1.effects)
-          (step-living P node (endpoint_by P s.by) (maker-living shape P legal.0 before s.by) s.head),
+          (step-living P node (endpoint_by P s.by)
+          (maker-living shape P legal.0 before s.by) s.head),
     )
 
 -- THE PROMISES
-pub keeps-promises : (shape : Shape) (P : List Step) → IsLegal shape P → IsShort P → KeepsPromises shape P
+pub keeps-promises : (shape : Shape) (P : List Step) → IsLegal shape P → IsShort P
+    → KeepsPromises shape P
 keeps-promises shape P legal short = record {
   arrived = λ i j. arrived-sent i j shape P legal;
   living = never-from_the_dead shape P legal short;

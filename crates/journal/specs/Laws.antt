@@ -143,7 +143,8 @@ abbrev pub detached_as : List Step → ℕ → Option Inc → AttRef → Detache
 detached_as P node me r =
     detach_answer (is_owed P node me r) (list_any (is_notice_of r) (queue_of P me))
 
--- LAW OF RECEIVING. A receive takes the earliest item that its filter selects; or it finds none, and
+-- LAW OF RECEIVING. A receive takes the earliest item that its filter selects; or it finds none,
+-- and
 -- then nothing is selected and all else is at rest; or it waits, and then nothing is selected and
 -- its maker doesn't wait already. A detach cancels what is owed, or takes out what is queued
 abbrev pub KeepsReceives : Shape → List Step → ℕ → By → Option Inc → Head → Type 0

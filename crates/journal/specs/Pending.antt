@@ -41,7 +41,8 @@ hunt_in node k me (Hunt path note) = hunt_at node k me path note
 hunt_in node k me _ = []
 
 -- the hunts that are pending after step k, of those before it
-abbrev pub hunts_past : ℕ → ℕ → Option Inc → Head → List Effect → List PendingHunt → List PendingHunt
+abbrev pub hunts_past : ℕ → ℕ → Option Inc → Head → List Effect → List PendingHunt
+    → List PendingHunt
 hunts_past node k me head effects before =
     filter (λ h. not (ends_hunt effects h)) (before ++ hunt_in node k me head)
 
@@ -96,7 +97,8 @@ attach_in node k me (Attach q note) = attach_at node k me q note
 attach_in node k me _ = []
 
 -- the attaches that are owed a notification after step k, of those before it
-abbrev pub owed_past : ℕ → ℕ → Option Inc → Head → List Effect → List PendingAttach → List PendingAttach
+abbrev pub owed_past : ℕ → ℕ → Option Inc → Head → List Effect → List PendingAttach
+    → List PendingAttach
 owed_past node k me head effects before =
     filter (λ a. not (settles me head effects a)) (before ++ attach_in node k me head)
 

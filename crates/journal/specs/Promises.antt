@@ -22,7 +22,8 @@ NeverFromTheDead shape [] = Unit {0}
 NeverFromTheDead shape (s ∷ P) =
     NeverFromTheDead shape P × AllByRecursion (IsFromLiving P (node_by shape s.by)) s.effects
 
--- On a node an endpoint has got just what another sent it, in order and complete, and nothing from a
+-- On a node an endpoint has got just what another sent it, in order and complete, and nothing from
+-- a
 -- dead one
 pub record KeepsPromises (shape : Shape) (P : List Step) : Type 0 where
   pub arrived : (i j : Inc) → arrived_from P j (Here i) ≡ sent_to P i (Here j)
