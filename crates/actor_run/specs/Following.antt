@@ -1,40 +1,102 @@
-use Rattle.std.specs.Prelude.{ℕ, ◌≡◌, ◌+◌, Bool, true, List, [], ◌∷◌, length, count_by, slice_get}
-use Rattle.std.specs.Prelude.{Option, Some, None, IsTrue}
+-- How an actor's steps follow its commands.
+use Rattle.std.specs.Prelude.{ℕ, ◌≡◌, ◌≤◌, ◌⊎◌, Bool, true, false, not, ◌&&◌, List, [], ◌∷◌, length, Option, Some, None, if◌then◌else◌}
 use Rattle.linx_base.specs.declared.identity.Inc.{Inc}
+use Rattle.journal.specs.declared.by.By.TheVariants.{Actor}
 use Rattle.journal.specs.declared.head.Head.{Head}
-use Rattle.journal.specs.declared.head.Head.TheVariants as heads
 use Rattle.journal.specs.declared.effect.Step.{Step}
-use Rattle.journal.specs.History.{is_by, last_endpoint}
+use Rattle.journal.specs.History.{is_by, last_opened, last_endpoint, has_ended}
+use Rattle.journal.specs.Laws.{last_head}
 use Rattle.script_words.specs.declared.command.Command.{Command}
-use Rattle.script_words.specs.declared.command.Command.TheVariants.{Open, Close, Send, Recv}
-use Rattle.script_words.specs.Filling.{data_of}
-use Rattle.actor_run.specs.Asks.{IsPeerOf, signal_of}
+use Rattle.node_kernel.specs.Answers.{named, granted, answer_of, is_pumped, is_waits, is_end_event}
+use Rattle.node_kernel.specs.declared.answers.StepAnswer.{StepAnswer}
+use Rattle.node_kernel.specs.declared.answers.StepAnswer.TheVariants.{Opened, NotYet}
+use Rattle.node_kernel.specs.declared.ask.Ask.{Ask}
+use Rattle.actor_run.specs.Knowing.{Knows, knows_nothing, told}
+use Rattle.actor_run.specs.Asking.{asked_by, handed, is_sending}
 
--- The head of the step of a command, for an actor whose last endpoint this is: an open with its
--- name,
--- a send of its signal to the peer that its target names, a receive by its filter that took an item
--- or found none. After the last command comes the end
-abbrev pub IsStepOf : Option Command → Option Inc → Head → Type 0
-IsStepOf None me heads.Ended = Unit {0}
-IsStepOf (Some (Open name)) me (heads.Open n) = n ≡ name
-IsStepOf (Some Close) me heads.Close = Unit {0}
-IsStepOf (Some (Send to number bytes)) me (heads.Send q note answer) =
-    IsPeerOf to me q × (note ≡ signal_of number (data_of bytes))
-IsStepOf (Some (Recv filter)) me (heads.Take f position) = f ≡ filter
-IsStepOf (Some (Recv filter)) me (heads.TakeNone f) = f ≡ filter
-IsStepOf _ me _ = ⊥
+-- The step is one of the actor's commands. A step on a link, which an actor makes while it settles
+-- that link, is none
+abbrev pub is_own : Step → ℕ → Bool
+is_own s k = is_by s.by k && not (is_pumped s.head)
 
--- how many steps an actor has made
-abbrev pub steps_by : List Step → ℕ → ℕ
-steps_by P k = count_by (λ s. is_by s.by k) P
+-- what actor k knows after P: a fold over its own steps
+abbrev pub knows : List Command → ℕ → List Step → Knows
+knows commands k [] = knows_nothing commands
+knows commands k (s ∷ P) =
+    if is_own s k
+    then told commands (handed commands (knows commands k P) (last_endpoint P k))
+    (answer_of P s.head s.effects)
+    else knows commands k P
 
--- the actor's steps are those of its commands in order, with one end after them, so far
+-- what actor k asks for next, after P
+abbrev pub next_ask : List Command → ℕ → List Step → Ask
+next_ask commands k P = asked_by commands (knows commands k P) (last_endpoint P k)
+
+-- The step is the one that was asked for, by an actor that hasn't ended: it says what was asked, or
+-- in its place that the endpoint is open, or isn't; and a receive says at most once that it waits
+pub record IsAskedStep (commands : List Command) (k : ℕ) (P : List Step) (s : Step) : Type 0 where
+  pub running : has_ended P k ≡ false
+  pub names : named s.head ≡ granted P k (next_ask commands k P)
+  pub once : is_waits s.head ≡ true → (knows commands k P).waiting ≡ false
+
+-- actor k follows its commands so far: each step of its own is the one that was asked for
 abbrev pub Follows : List Command → ℕ → List Step → Type 0
 Follows commands k [] = Unit {0}
 Follows commands k (s ∷ P) =
-    Follows commands k P × (is_by s.by k ≡ true
-    → IsStepOf (slice_get commands (steps_by P k)) (last_endpoint P k) s.head)
+    Follows commands k P × (is_own s k ≡ true → IsAskedStep commands k P s)
 
--- they are all of these
+-- and it has ended, which it does after its last command
 abbrev pub FollowsWhole : List Command → ℕ → List Step → Type 0
-FollowsWhole commands k P = Follows commands k P × (steps_by P k ≡ length commands + 1)
+FollowsWhole commands k P = Follows commands k P × (has_ended P k ≡ true)
+
+-- the last step of actor k says that it waits
+abbrev pub waits_in : Option Head → Bool
+waits_in None = false
+waits_in (Some head) = is_waits head
+
+abbrev pub last_waits : List Step → ℕ → Bool
+last_waits P k = waits_in (last_head P k)
+
+-- between two turns of actor k, which knows this, and opened that endpoint last
+pub record Playing (commands : List Command) (k : ℕ) (P : List Step) (mind : Knows)
+    (me : Option Inc) : Type 0 where
+  pub follows : Follows commands k P
+  pub known : mind ≡ knows commands k P
+  pub mine : me ≡ last_endpoint P k
+  pub waits : mind.waiting ≡ last_waits P k
+  pub home : mind.lent ≡ false
+  pub within : mind.place ≤ length commands
+  pub running : has_ended P k ≡ false
+
+-- the endpoint that an actor opened last, after an answer
+abbrev pub endpoint_after : Option Inc → StepAnswer → Option Inc
+endpoint_after me (Opened i) = Some i
+endpoint_after me _ = me
+
+-- the step was made after P for what actor k asked, and was answered so
+pub record IsMade (P : List Step) (k : ℕ) (ask : Ask) (answer : StepAnswer) (s : Step)
+    : Type 0 where
+  pub maker : s.by ≡ Actor k
+  pub names : named s.head ≡ granted P k ask
+  pub answered : answer ≡ answer_of P s.head s.effects
+  pub opened : (me : Option Inc) → last_opened me s.effects ≡ endpoint_after me answer
+  pub once : is_waits s.head ≡ true → last_waits P k ≡ false
+
+-- an ask that makes no step: a receive that has said that it waits, and finds nothing yet
+pub record IsStill (P : List Step) (k : ℕ) (ask : Ask) (answer : StepAnswer) (new : List Step)
+    : Type 0 where
+  pub same : new ≡ P
+  pub answered : answer ≡ NotYet
+  pub goes_on : is_end_event ask.event ≡ false
+  pub keeps : is_sending ask.event ≡ false
+  pub waits : last_waits P k ≡ true
+
+-- what an ask makes of the history P: one step more, or none
+abbrev pub Makes : List Step → ℕ → Ask → StepAnswer → List Step → Type 0
+Makes P k ask answer new =
+    ((s : Step) × (new ≡ s ∷ P) × IsMade P k ask answer s) ⊎ IsStill P k ask answer new
+
+-- after a turn of actor k, by whether it asked for its end
+abbrev pub IsTurned : List Command → ℕ → List Step → Knows → Option Inc → Bool → Type 0
+IsTurned commands k new mind me true = FollowsWhole commands k new
+IsTurned commands k new mind me false = Playing commands k new mind me

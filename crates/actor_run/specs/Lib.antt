@@ -1,2 +1,4 @@
-pub mod Asks
+pub mod Bindings
+pub mod Knowing
+pub mod Asking
 pub mod Following

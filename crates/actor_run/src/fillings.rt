@@ -1,7 +1,7 @@
 ghost use Rattle.std.specs.Prelude.{◌≡◌, IfOk, length, ◌≤◌, replicate, IsTrue};
-ghost use Rattle.script_words.specs.Filling.{data_of};
-ghost use Rattle.script_words.specs.Filling.{fits_data};
-ghost use Rattle.actor_run.specs.Asks.{signal_of};
+ghost use Rattle.linx_base.specs.Content.{data_limit};
+ghost use Rattle.script_words.specs.Filling.{data_of, fits_data};
+ghost use Rattle.actor_run.specs.Asking.{signal_of};
 
 use linx_base::{BufferError, NoMemory, Signal};
 use script_lang::Filling;
@@ -9,7 +9,7 @@ use std::alloc::Global;
 
 /// The signal of a send: its number, and the bytes that its filling stands for.
 pub(crate) fn signal_filled(alloc: Global, number: u32, bytes: &Filling) -> Result<Signal, NoMemory>
-    requires { IsTrue (fits_data 65532 bytes.now) }
+    requires { IsTrue (fits_data data_limit bytes.now) }
     ensures { IfOk result (λ signal. signal ≡ signal_of number (data_of bytes.now)) }
 {
     match bytes {

@@ -1,12 +1,23 @@
-//! What an actor asks for next: each command of its script becomes one event, and after the last
-//! command comes the end. An actor makes its buffer here and hands it to the event. As yet a command
-//! opens an endpoint, closes it, sends a new signal to itself, or receives.
+//! What an actor asks for next. A `Mind` knows the place in the actor's script and what its own
+//! steps have told: the item that was taken last, the peers that were kept, the references of its
+//! attaches. Each command becomes one event, with the buffer that it hands over, or the refusal in
+//! its place; after the last command comes the end. `turn` is one turn of an actor over whatever
+//! makes steps: it keeps that the actor's steps follow its commands.
 #![tactic(auto)]
 
+mod asks;
+mod bindings;
 mod fillings;
+mod maker;
 mod mind;
+mod names;
+mod turning;
 
-pub use mind::{Ask, Mind};
+pub use bindings::Binding;
+pub use maker::Maker;
+pub use mind::Mind;
+pub use names::NameKind;
+pub use turning::turn;
 
 #[cfg(test)]
 mod tests;

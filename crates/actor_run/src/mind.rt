@@ -1,100 +1,233 @@
-ghost use Rattle.std.specs.Prelude.{◌≡◌, ◌+◌, ◌≤◌, ◌<◌, ◌^◌, true, length, slice_get};
-ghost use Rattle.std.specs.Prelude.{IfOk, OnErr, Some, None, IsTrue};
+ghost use Rattle.std.specs.Prelude.{◌≡◌, ◌≤◌, IfOk, OnOk, OnErr, None, true, false, length, slice_get, if◌then◌else◌};
 ghost use Rattle.std.specs.Option.{option_copied};
-ghost use Rattle.actor_run.specs.Asks.{is_plain, is_plain_at, NeedsItself, IsAskOf};
+ghost use Rattle.actor_run.specs.Asking.{ask_of, peer_of, ask_forward, asked_by, handed, is_forward, is_sending, fits_signal, AreRunnable};
+ghost use Rattle.actor_run.specs.Knowing.{knows_nothing, told, stopped_with, learned, passed};
 
+use crate::asks::{empty_handed, holding, refuse};
+use crate::bindings::Bindings;
 use crate::fillings::signal_filled;
-use journal::Event;
-use linx_base::{Inc, NoMemory, Peer, Signal, TryCopy};
+use crate::names::{NameKind, keep_at};
+use journal::{Event, Refusal};
+use linx_base::{AttRef, Inc, NoMemory, Peer, Signal, TryCopy};
+use node_kernel::{Ask, StepAnswer};
 use script_lang::{ActorScript, Command, Target};
 use std::alloc::Global;
 use std::marker::Model;
 
-/// What an actor asks for, with what it hands over.
-#[derive(Drop)]
-pub struct Ask {
-    pub event: Event,
-    pub hand: Option<Signal>,
-}
-
-/// An actor's place in its script, seen as the number of commands that are done.
+/// What an actor knows of its own steps, and its place in its script.
 #[derive(Drop)]
 pub struct Mind {
     place: usize,
+    waiting: bool,
+    last: Option<Peer>,
+    held: Option<Signal>,
+    lent: bool,
+    kept: Bindings<Peer>,
+    refs: Bindings<AttRef>,
 }
 
 impl Model for Mind {
-    ghost use Rattle.std.specs.Prelude.{ℕ};
+    ghost use Rattle.actor_run.specs.Knowing.{Knows};
 
-    ghost Value = { ℕ };
+    ghost Value = { Knows };
 
-    ghost view = { λ m. m.place };
-}
-
-fn empty_handed(event: Event) -> Ask
-    ensures { result ≡ record { event = event; hand = None } }
-{
-    Ask { event, hand: None }
-}
-
-/// The ask of a command, or of the end after the last one.
-fn ask_of(alloc: Global, command: Option<&Command>, me: Option<Inc>) -> Result<Ask, NoMemory>
-    requires plain { is_plain_at (option_copied command) ≡ true }
-    requires itself { NeedsItself (option_copied command) me }
-    ensures { IfOk result (λ asked.
-        IsAskOf (option_copied command.entry) me asked.event asked.hand) }
-{
-    let Some(command) = command else {
-        return Ok(empty_handed(Event::End));
-    };
-    match command {
-        Command::Open(name) => Ok(empty_handed(Event::Open(name.copy()?))),
-        Command::Close => Ok(empty_handed(Event::Close)),
-        Command::Send {
-            to: Target::Me,
-            number,
-            bytes,
-        } => match me {
-            Some(inc) => Ok(Ask {
-                event: Event::Send(Peer::Here(inc)),
-                hand: Some(signal_filled(alloc, *number, bytes)?),
-            }),
-            None => unreachable!(),
-        },
-        Command::Recv(filter) => Ok(empty_handed(Event::Look(filter.copy()?))),
-        _ => unreachable!(),
-    }
+    ghost view = { λ m. record {
+      place = m.place;
+      waiting = m.waiting;
+      last = m.last;
+      held = m.held;
+      lent = m.lent;
+      kept = m.kept;
+      refs = m.refs;
+    } };
 }
 
 impl Mind {
-    /// At the first command.
-    pub fn new() -> Mind
-        ensures { result ≡ 0 }
+    /// Before the first step. It makes the room for every name of the script.
+    pub fn new(alloc: Global, script: &ActorScript) -> Result<Mind, NoMemory>
+        ensures { IfOk result (λ mind. mind ≡ knows_nothing script.now.commands) }
     {
-        Mind { place: 0 }
+        let commands = script.commands.as_slice();
+        let kept = Bindings::of(alloc, NameKind::OfPeers, commands)?;
+        let refs = Bindings::of(alloc, NameKind::OfReferences, commands)?;
+        Ok(Mind {
+            place: 0,
+            waiting: false,
+            last: None,
+            held: None,
+            lent: false,
+            kept,
+            refs,
+        })
     }
 
-    /// What the actor asks for at its place, where `me` is the endpoint that it opened last. The
-    /// command there is one that can be run, and a send comes after an opening.
-    pub fn next(
+    /// The peer that a target names.
+    fn peer_of(&self, to: &Target, me: Option<Inc>) -> Option<Peer>
+        ensures { result ≡ peer_of self.now me to.now }
+    {
+        match to {
+            Target::Me => match me {
+                Some(inc) => Some(Peer::Here(inc)),
+                None => None,
+            },
+            Target::Last => self.last,
+            Target::Kept(name) => self.kept.get(self.place, name),
+        }
+    }
+
+    /// A forward hands over the buffer that is held.
+    fn forward(&mut self, to: &Target, me: Option<Inc>) -> Ask
+        ensures ask { result ≡ ask_forward self.old.held (peer_of self.old me to.now) }
+        ensures left { self.new ≡ (if is_sending result.event
+            then record self.old { held = None; lent = true } else self.old) }
+    {
+        let peer = self.peer_of(to, me);
+        let Some(signal) = self.held.take() else {
+            return refuse(Refusal::NoSignal);
+        };
+        match peer {
+            Some(peer) => {
+                self.lent = true;
+                holding(Event::Send(peer), signal)
+            }
+            None => {
+                self.held = Some(signal);
+                refuse(Refusal::NoPeer)
+            }
+        }
+    }
+
+    /// What a command that is no forward asks for.
+    fn ask_of(
         &self,
+        alloc: Global,
+        command: Option<&Command>,
+        me: Option<Inc>,
+    ) -> Result<Ask, NoMemory>
+        requires other { is_forward (option_copied command) ≡ false }
+        requires fits { fits_signal (option_copied command) ≡ true }
+        ensures { IfOk result (λ ask. ask ≡ ask_of self.now me (option_copied command.entry)) }
+    {
+        let Some(command) = command else {
+            return Ok(empty_handed(Event::End));
+        };
+        match command {
+            Command::Open(name) => Ok(empty_handed(Event::Open(name.copy()?))),
+            Command::Close => Ok(empty_handed(Event::Close)),
+            Command::Send { to, number, bytes } => match self.peer_of(to, me) {
+                Some(peer) => Ok(holding(Event::Send(peer), signal_filled(alloc, *number, bytes)?)),
+                None => Ok(refuse(Refusal::NoPeer)),
+            },
+            Command::Forward(_) => unreachable!(),
+            Command::Recv(filter) => Ok(empty_handed(Event::Look(filter.copy()?))),
+            Command::Hunt {
+                path,
+                number,
+                bytes,
+            } => Ok(holding(
+                Event::Hunt(path.copy()?),
+                signal_filled(alloc, *number, bytes)?,
+            )),
+            Command::Attach {
+                to,
+                number,
+                bytes,
+                ..
+            } => match self.peer_of(to, me) {
+                Some(peer) => Ok(holding(
+                    Event::Attach(peer),
+                    signal_filled(alloc, *number, bytes)?,
+                )),
+                None => Ok(refuse(Refusal::NoPeer)),
+            },
+            Command::Detach(r) => match self.refs.get(self.place, r) {
+                Some(r) => Ok(empty_handed(Event::Detach(r))),
+                None => Ok(refuse(Refusal::NoRef)),
+            },
+            Command::Keep(_) => Ok(refuse(Refusal::NoPeer)),
+            Command::Cut(link) => Ok(empty_handed(Event::Cut(*link))),
+            Command::Mend(link) => Ok(empty_handed(Event::Mend(*link))),
+            Command::Restart(node) => Ok(empty_handed(Event::Restart(*node))),
+            Command::Settle(link) => Ok(empty_handed(Event::Settle(*link))),
+        }
+    }
+
+    /// What the actor asks for next, where `me` is the endpoint that it opened last, open or not. A
+    /// forward hands the buffer over. A refusal of memory changes nothing.
+    pub fn next(
+        &mut self,
         alloc: Global,
         script: &ActorScript,
         me: Option<Inc>,
     ) -> Result<Ask, NoMemory>
-        requires plain { is_plain_at (slice_get script.now.commands self.now) ≡ true }
-        requires itself { NeedsItself (slice_get script.now.commands self.now) me }
-        ensures { IfOk result (λ asked.
-            IsAskOf (slice_get script.now.commands self.now) me asked.event asked.hand) }
+        requires { AreRunnable script.now.commands }
+        ensures ask { IfOk result (λ ask. ask ≡ asked_by script.now.commands self.old me) }
+        ensures ok { OnOk result (self.new ≡ handed script.now.commands self.old me) }
+        ensures err { OnErr result (self.new ≡ self.old) }
     {
-        ask_of(alloc, script.commands.get(self.place), me)
+        match script.commands.get(self.place) {
+            Some(Command::Forward(to)) => Ok(self.forward(to, me)),
+            command => self.ask_of(alloc, command, me),
+        }
     }
 
-    /// Goes on to the next command.
-    pub fn told(&mut self)
-        requires { self.old + 1 < 2 ^ 64 }
-        ensures { self.new ≡ self.old + 1 }
+    /// Takes back what was handed over, where a stop came in place of an answer.
+    pub fn stopped(&mut self, hand: Option<Signal>)
+        ensures { self.new ≡ stopped_with self.old hand }
     {
+        if self.lent {
+            self.held = hand;
+            self.lent = false;
+        }
+    }
+
+    /// Learns what the answer to a command tells.
+    fn learn(&mut self, command: Option<&Command>, answer: StepAnswer)
+        ensures { self.new ≡ learned (option_copied command.entry) answer self.old }
+    {
+        match answer {
+            StepAnswer::Took(item) => {
+                self.last = Some(item.from);
+                self.held = Some(item.signal);
+            }
+            StepAnswer::Attached(reference) => {
+                if let Some(Command::Attach { r, .. }) = command {
+                    self.refs.put(self.place, r, reference);
+                }
+            }
+            _ => {}
+        }
+    }
+
+    /// Goes past the keeps that come next, which make no step where an item was taken.
+    fn pass_keeps(&mut self, script: &ActorScript)
+        requires { AreRunnable script.now.commands }
+        ensures { self.new ≡ passed script.now.commands self.old }
+    {
+        let Some(peer) = self.last else {
+            return;
+        };
+        while let Some(name) = keep_at(script, self.place) {
+            self.kept.put(self.place, name, peer);
+            self.place += 1;
+        }
+    }
+
+    /// Learns the answer to what was asked for, and goes on to the next command that makes a step.
+    /// After `NotYet` the place stays. It takes no memory.
+    pub fn told(&mut self, script: &ActorScript, answer: StepAnswer)
+        requires runnable { AreRunnable script.now.commands }
+        requires place { self.old.place ≤ length script.now.commands }
+        ensures { self.new ≡ told script.now.commands self.old answer }
+    {
+        if let StepAnswer::NotYet = &answer {
+            self.waiting = true;
+            return;
+        }
+        self.learn(script.commands.get(self.place), answer);
         self.place += 1;
+        self.waiting = false;
+        self.lent = false;
+        self.pass_keeps(script);
     }
 }

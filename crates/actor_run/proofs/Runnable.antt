@@ -1,0 +1,92 @@
+-- The actors of a script can be run.
+use Rattle.std.proofs.Common.{◌≡◌, ℕ, zero, suc, ◌≤◌, Bool, true, false, ◌&&◌, List, [], ◌∷◌, Some, refl, sym, arith}
+use Rattle.std.specs.Prelude.{slice_get, nat_le, length}
+use Rattle.std.specs.List.{list_all}
+use Rattle.std.proofs.lemmas.Bool.Decides.{nat_tests}
+use Rattle.linx_base.specs.declared.identity.NodeNo.{NodeNo}
+use Rattle.script_words.specs.declared.command.Command.{Command}
+use Rattle.script_words.specs.declared.command.Command.TheVariants.{Open, Close, Send, Forward, Recv, Hunt, Attach, Detach, Keep, Cut, Mend, Restart, Settle}
+use Rattle.script_words.specs.declared.filling.Filling.{Filling}
+use Rattle.script_words.specs.Filling.{fits_data}
+use Rattle.script_lang.specs.declared.actor_script.ActorScript.{ActorScript}
+use Rattle.script_lang.specs.Fits.{is_node, fits_path, fits_command, fits_actor, IsScript}
+use Rattle.script_lang.specs.Parts.{ScriptParts}
+use Rattle.actor_run.specs.Asking.{fits_signal, AreRunnable}
+
+and_left : (a b : Bool) → (a && b) ≡ true → a ≡ true
+and_left true b h = refl
+and_left false b h = cc
+
+and_right : (a b : Bool) → (a && b) ≡ true → b ≡ true
+and_right true b h = h
+and_right false b h = cc
+
+-- data with room for a reason fit in a signal
+shorter_fits : (bytes : Filling) → fits_data 65531 bytes ≡ true → fits_data 65532 bytes ≡ true
+shorter_fits bytes h = grind (arith, nat_tests)
+
+-- the signal of a command of a script fits
+signal_fits : (s : ScriptParts) (node : NodeNo) (c : Command)
+    → fits_command s node c ≡ true → fits_signal (Some c) ≡ true
+signal_fits s node (Send to number bytes) h = h
+signal_fits s node (Hunt path number bytes) h =
+    and_right (fits_path s node path) (fits_data 65532 bytes) h
+signal_fits s node (Attach to r number bytes) h = shorter_fits bytes h
+signal_fits s node (Open name) h = refl
+signal_fits s node Close h = refl
+signal_fits s node (Forward to) h = refl
+signal_fits s node (Recv filter) h = refl
+signal_fits s node (Detach r) h = refl
+signal_fits s node (Keep name) h = refl
+signal_fits s node (Cut link) h = refl
+signal_fits s node (Mend link) h = refl
+signal_fits s node (Restart other) h = refl
+signal_fits s node (Settle link) h = refl
+
+signals_fit : (s : ScriptParts) (node : NodeNo) (commands : List Command)
+    → list_all (fits_command s node) commands ≡ true
+    → (place : ℕ) → fits_signal (slice_get commands place) ≡ true
+signals_fit s node [] h zero = refl
+signals_fit s node [] h (suc place) = refl
+signals_fit s node (c ∷ rest) h zero =
+    signal_fits s node c (and_left (fits_command s node c) (list_all (fits_command s node) rest) h)
+signals_fit s node (c ∷ rest) h (suc place) =
+    signals_fit s node rest
+    (and_right (fits_command s node c) (list_all (fits_command s node) rest) h) place
+
+few_commands : (n : ℕ) → nat_le n 20000 ≡ true → n ≤ 20000
+few_commands n h = grind (arith, nat_tests)
+
+pub runnable : (s : ScriptParts) (actor : ActorScript)
+    → fits_actor s actor ≡ true → AreRunnable actor.commands
+runnable s actor h =
+    let on = is_node s actor.node in
+    let sized = nat_le (length actor.commands) 20000 in
+    let each = list_all (fits_command s actor.node) actor.commands in
+    record {
+      few = few_commands (length actor.commands)
+          (and_right on sized (and_left (on && sized) each h));
+      fits = signals_fit s actor.node actor.commands (and_right (on && sized) each h);
+    }
+
+-- each actor of a script can be run
+actors_runnable : (s : ScriptParts) (actors : List ActorScript) (place : ℕ) (actor : ActorScript)
+    → list_all (fits_actor s) actors ≡ true → slice_get actors place ≡ Some actor
+    → AreRunnable actor.commands
+actors_runnable s [] zero actor h is = cc
+actors_runnable s [] (suc place) actor h is = cc
+actors_runnable s (first ∷ rest) zero actor h is =
+    let same : first ≡ actor = inner is in
+    runnable s actor
+    (rw (sym same) (and_left (fits_actor s first) (list_all (fits_actor s) rest) h))
+  where
+    inner : Some first ≡ Some actor → first ≡ actor
+    inner e = cc
+actors_runnable s (first ∷ rest) (suc place) actor h is =
+    actors_runnable s rest place actor
+    (and_right (fits_actor s first) (list_all (fits_actor s) rest) h) is
+
+pub script_runnable : (s : ScriptParts) (place : ℕ) (actor : ActorScript)
+    → IsScript s → slice_get s.actors place ≡ Some actor → AreRunnable actor.commands
+script_runnable s place actor script is =
+    actors_runnable s s.actors place actor script.each_actor is
