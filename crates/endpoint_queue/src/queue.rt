@@ -1,6 +1,6 @@
-ghost use Rattle.std.specs.Prelude.{◌≡◌, ◌≤◌, ◌<◌, ◌+◌, ◌^◌, [], ◌∷◌, ◌++◌, if◌then◌else◌, false};
-ghost use Rattle.std.specs.Prelude.{is_some, length, max, slice_index_or, IfNone, IfSome, OnOk};
-ghost use Rattle.std.specs.Prelude.{OnErr, IsOk};
+ghost use Rattle.std.specs.Prelude.{◌≡◌, ◌≤◌, ◌<◌, ◌+◌, ◌-◌, ◌^◌, [], ◌∷◌, ◌++◌, if◌then◌else◌};
+ghost use Rattle.std.specs.Prelude.{false, is_some, length, max, slice_get, slice_index_or, take};
+ghost use Rattle.std.specs.Prelude.{IfNone, IfSome, OnOk, OnErr, IsOk};
 ghost use Rattle.std.specs.List.{position, range_with_len, remove, All, AllPairs};
 ghost use Rattle.std.specs.List.Sorted.{IsPermutation};
 ghost use Rattle.std.specs.VecDeque.{deque_capacity, deque_len};
@@ -272,6 +272,19 @@ impl Queue {
             Some(at) => Some(self.remove_at(at)),
             None => None,
         }
+    }
+
+    /// Takes out the last item. `None` exactly where there is none. It takes no memory.
+    pub fn take_last(&mut self) -> Option<Item>
+        ensures item { result ≡ slice_get self.old.items (length self.old.items - 1) }
+        ensures others { self.new.items ≡ take (length self.old.items - 1) self.old.items }
+        ensures counts { (self.new.next ≡ self.old.next) × (self.new.spare ≡ self.old.spare) }
+    {
+        if self.items.is_empty() {
+            return None;
+        }
+        let last = self.items.len() - 1;
+        Some(self.remove_at(last))
     }
 
     /// The place of each item, by number and then by ticket. It takes no memory.
