@@ -1,1 +1,10 @@
 pub mod Places
+pub mod Rising
+pub mod Bringing
+pub mod Gathering
+pub mod Keeping
+pub mod Calling
+pub mod ByPeer
+pub mod NamesOver
+pub mod Owing
+mod Worked

@@ -31,7 +31,7 @@ abbrev pub after_open : NodeState → List ℕ → ℕ → NodeState
 after_open k name step = record k {
   openings = k.openings + 1;
   endpoints = put_all step (opening (next_of k) name k.hunts)
-    (k.endpoints ++ record { inc = next_of k; name = name; items = [] } ∷ []);
+      (k.endpoints ++ record { inc = next_of k; name = name; items = [] } ∷ []);
   hunts = filter (λ h. not (same_path (Local name) h.path)) k.hunts;
 }
 

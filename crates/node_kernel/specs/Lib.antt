@@ -1,3 +1,5 @@
 pub mod Nodes
 pub mod Calls
 pub mod Answers
+pub mod Kept
+pub mod Tables

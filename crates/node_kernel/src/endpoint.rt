@@ -1,10 +1,11 @@
-ghost use Rattle.std.specs.Prelude.{◌≡◌, ◌∷◌, ◌++◌, [], is_some, OnOk, Some, IfOk, IfErr, if◌then◌else◌, vec_len, ◌≤◌};
-ghost use Rattle.std.specs.List.{position};
-ghost use Rattle.sigsel.specs.Selection.{is_selected, first_selected, without_first};
-ghost use Rattle.node_kernel.specs.Nodes.{is_at, is_open, items_at, with_items, without_endpoint};
+ghost use Rattle.std.specs.Prelude.{◌≡◌, ◌∷◌, ◌++◌, [], filter, is_some, length, nat_lt, not, OnOk, IfErr};
+ghost use Rattle.std.specs.List.{list_any};
+ghost use Rattle.sigsel.specs.Selection.{first_selected, is_notice_of, without_first};
+ghost use Rattle.node_kernel.specs.Nodes.{is_at};
+ghost use Rattle.node_kernel.specs.Kept.{without_last};
 
 use endpoint_queue::Queue;
-use linx_base::{Inc, Item, Name};
+use linx_base::{AttRef, Inc, Item, Name};
 use sigsel::Sigsel;
 use std::alloc::Global;
 use std::marker::Model;
@@ -25,6 +26,13 @@ impl Model for Endpoint {
     ghost view = { λ e. record { inc = e.inc; name = e.name; items = e.queue.items } };
 }
 
+/// Frees the notices of an attach that are left.
+fn drop_rest(queue: &mut Queue, attach: AttRef)
+    ensures { queue.new.items ≡ filter (λ item. not (is_notice_of attach item)) queue.old.items }
+{
+    while let Some(_notice) = queue.remove_ref(attach) {}
+}
+
 impl Endpoint {
     pub(crate) fn new(alloc: Global, inc: Inc, name: Name) -> Endpoint
         ensures { result ≡ record { inc = inc; name = name; items = [] } }
@@ -40,6 +48,13 @@ impl Endpoint {
         ensures { result ≡ is_at inc self.now }
     {
         inc.0 == self.inc.0
+    }
+
+    /// Whether it is of an earlier incarnation.
+    pub(crate) fn is_earlier(&self, inc: Inc) -> bool
+        ensures { result ≡ nat_lt self.now.inc.0 inc.0 }
+    {
+        self.inc.0 < inc.0
     }
 
     /// Puts an item last. A refusal gives it back and changes nothing.
@@ -68,97 +83,43 @@ impl Endpoint {
     {
         self.queue.holds(filter)
     }
-}
 
-/// The place of an incarnation among the open endpoints.
-pub(crate) fn place_of(endpoints: &[Endpoint], inc: Inc) -> Option<usize>
-    ensures { result ≡ position (is_at inc) endpoints.now }
-{
-    endpoints.iter().position(|endpoint| endpoint.is_at(inc))
-}
-
-/// Whether an incarnation is among the open endpoints.
-pub(crate) fn has_endpoint(endpoints: &[Endpoint], inc: Inc) -> bool
-    ensures { result ≡ is_open endpoints.now inc }
-{
-    place_of(endpoints, inc).is_some()
-}
-
-/// Puts an item into the queue at a place.
-fn put_at(endpoints: &mut [Endpoint], place: usize, inc: Inc, item: Item) -> Result<(), Item>
-    requires { position (is_at inc) endpoints.old ≡ Some place }
-    ensures ok { OnOk result (endpoints.new ≡ with_items endpoints.old inc (items_at endpoints.old inc ++ item ∷ [])) }
-    ensures err { IfErr result (λ back. (back ≡ item) × (endpoints.new ≡ endpoints.old)) }
-{
-    let endpoint = &mut endpoints[place];
-    endpoint.put(item)
-}
-
-/// Puts an item into the queue of an endpoint, and tells whether that is open. A refusal gives the
-/// item back and changes nothing.
-pub(crate) fn deliver(endpoints: &mut [Endpoint], inc: Inc, item: Item) -> Result<bool, Item>
-    ensures answer { IfOk result (λ found. found ≡ is_open endpoints.old inc) }
-    ensures queued { IfOk result (λ found. endpoints.new ≡ (if found then with_items endpoints.old inc (items_at endpoints.old inc ++ item ∷ []) else endpoints.old)) }
-    ensures err { IfErr result (λ back. (back ≡ item) × (endpoints.new ≡ endpoints.old)) }
-{
-    match place_of(endpoints, inc) {
-        None => Ok(false),
-        Some(place) => match put_at(endpoints, place, inc, item) {
-            Ok(()) => Ok(true),
-            Err(item) => Err(item),
-        },
+    pub(crate) fn inc(&self) -> Inc
+        ensures { result ≡ self.now.inc }
+    {
+        self.inc
     }
-}
 
-/// Takes the first selected item out of the queue at a place.
-fn take_at(endpoints: &mut [Endpoint], place: usize, inc: Inc, filter: &Sigsel) -> Option<Item>
-    requires { position (is_at inc) endpoints.old ≡ Some place }
-    ensures item { result ≡ first_selected filter.now (items_at endpoints.old inc) }
-    ensures others { endpoints.new ≡ with_items endpoints.old inc (without_first filter.now (items_at endpoints.old inc)) }
-{
-    let endpoint = &mut endpoints[place];
-    endpoint.take(filter)
-}
-
-/// Takes the first selected item out of the queue of an endpoint.
-pub(crate) fn take(endpoints: &mut [Endpoint], inc: Inc, filter: &Sigsel) -> Option<Item>
-    ensures item { result ≡ first_selected filter.now (items_at endpoints.old inc) }
-    ensures others { endpoints.new ≡ with_items endpoints.old inc (without_first filter.now (items_at endpoints.old inc)) }
-{
-    match place_of(endpoints, inc) {
-        None => None,
-        Some(place) => take_at(endpoints, place, inc, filter),
+    pub(crate) fn into_name(self) -> Name
+        ensures { result ≡ self.name }
+    {
+        self.name
     }
-}
 
-/// Whether the filter selects an item of the queue at a place.
-fn holds_at(endpoints: &[Endpoint], place: usize, inc: Inc, filter: &Sigsel) -> bool
-    requires { position (is_at inc) endpoints.now ≡ Some place }
-    ensures { result ≡ is_some (first_selected filter.now (items_at endpoints.now inc)) }
-{
-    let endpoint = &endpoints[place];
-    endpoint.holds(filter)
-}
-
-/// Whether the filter selects an item of the queue of an endpoint.
-pub(crate) fn holds(endpoints: &[Endpoint], inc: Inc, filter: &Sigsel) -> bool
-    ensures { result ≡ is_some (first_selected filter.now (items_at endpoints.now inc)) }
-{
-    match place_of(endpoints, inc) {
-        None => false,
-        Some(place) => holds_at(endpoints, place, inc, filter),
+    pub(crate) fn name(&self) -> &Name
+        ensures { result.now ≡ self.now.name }
+    {
+        &self.name
     }
-}
 
-/// Frees an endpoint with its queue.
-pub(crate) fn remove(endpoints: &mut Vec<Endpoint>, inc: Inc)
-    ensures items { endpoints.new.items ≡ without_endpoint endpoints.old.items inc }
-    ensures fewer { vec_len endpoints.new ≤ vec_len endpoints.old }
-{
-    match place_of(endpoints, inc) {
-        None => (),
-        Some(place) => {
-            endpoints.remove(place);
+    /// Takes the last item back out.
+    pub(crate) fn take_last(&mut self)
+        ensures { self.new ≡ record self.old { items = without_last self.old.items } }
+    {
+        let _last = self.queue.take_last();
+    }
+
+    /// Frees the notices of an attach, and says whether there was one.
+    pub(crate) fn drop_notices(&mut self, attach: AttRef) -> bool
+        ensures any { result ≡ list_any (is_notice_of attach) self.old.items }
+        ensures others { self.new ≡ record self.old { items = filter (λ item. not (is_notice_of attach item)) self.old.items } }
+    {
+        match self.queue.remove_ref(attach) {
+            None => false,
+            Some(_notice) => {
+                drop_rest(&mut self.queue, attach);
+                true
+            }
         }
     }
 }

@@ -5,11 +5,19 @@
 
 mod answers;
 mod ask;
+mod attaches;
+mod calls;
+mod delivery;
 mod endpoint;
+mod hunts;
 mod kernel;
+mod lookup;
+mod met;
+mod roster;
+mod rules;
 
-pub use ask::Ask;
 pub use answers::{OpenError, OpenedAs, Sent, StepAnswer};
+pub use ask::Ask;
 pub use kernel::Kernel;
 
 #[cfg(test)]

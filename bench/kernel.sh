@@ -1,0 +1,143 @@
+#!/usr/bin/env bash
+# What a hunt, an attach, a detach, a found hunt and a notification cost a kernel in which many others
+# are pending. The program that measures it is built in a copy of the crates, so that the gate knows
+# nothing of it.
+set -euo pipefail
+top="$(cd "$(dirname "$0")/.." && pwd)"
+work="$(mktemp -d)"
+trap 'rm -rf "$work"' EXIT
+mkdir -p "$work/crates/kernel_bench/src"
+below="$(sed -n 's/^node_kernel: //p' "$top/crates.txt")"
+for crate in node_kernel $below; do
+    [ -d "$top/crates/$crate" ] || continue
+    (cd "$top/crates" && tar cf - --exclude=out --exclude=must-fail "$crate") | tar xf - -C "$work/crates"
+    grep "^$crate:" "$top/crates.txt" >> "$work/crates.txt"
+done
+echo "kernel_bench: $below node_kernel anyhow" >> "$work/crates.txt"
+cat > "$work/crates/kernel_bench/src/main.rt" <<'PROGRAM'
+#![tactic(auto)]
+
+use anyhow::Context;
+use linx_base::{AttRef, Inc, Name, NodeNo, Path, Peer, Signal};
+use node_kernel::Kernel;
+use std::alloc::Global;
+use std::time::Instant;
+
+const ROUNDS: u64 = 1_000;
+
+/// The name of a number.
+fn name(alloc: Global, number: u64) -> anyhow::Result<Name> {
+    let text = format!(in alloc; "n{number}")?;
+    Name::of(alloc, text.as_bytes()).context("name")
+}
+
+fn opened(alloc: Global, kernel: &mut Kernel, number: u64) -> anyhow::Result<Inc> {
+    let name = name(alloc, number)?;
+    if kernel.openings() > 1_000_000 {
+        return Err(anyhow::anyhow!("too many"));
+    }
+    match kernel.open(name, 1) {
+        Ok(opened) => Ok(opened.inc),
+        Err(_) => Err(anyhow::anyhow!("opening")),
+    }
+}
+
+fn closed(kernel: &mut Kernel, at: Inc) -> anyhow::Result<()> {
+    if !kernel.is_open(at) {
+        return Err(anyhow::anyhow!("closed"));
+    }
+    kernel.close(at, 1).context("close")?;
+    Ok(())
+}
+
+fn hunt(alloc: Global, kernel: &mut Kernel, at: Inc, number: u64) -> anyhow::Result<()> {
+    let path = Path::Local(name(alloc, number)?);
+    let signal = Signal::alloc(alloc, 251, b"").context("signal")?;
+    if !kernel.is_open(at) {
+        return Err(anyhow::anyhow!("closed"));
+    }
+    match kernel.hunt(at, path, signal, number) {
+        Ok(_) => Ok(()),
+        Err(_) => Err(anyhow::anyhow!("hunt")),
+    }
+}
+
+fn attach(alloc: Global, kernel: &mut Kernel, at: Inc, to: Inc, r: u64) -> anyhow::Result<()> {
+    let signal = Signal::alloc(alloc, 252, b"").context("signal")?;
+    if !kernel.is_open(at) || signal.bytes().len() > 100 {
+        return Err(anyhow::anyhow!("closed"));
+    }
+    match kernel.attach(at, Peer::Here(to), signal, AttRef(r)) {
+        Ok(_) => Ok(()),
+        Err(_) => Err(anyhow::anyhow!("attach")),
+    }
+}
+
+fn detach(kernel: &mut Kernel, at: Inc, r: u64) -> anyhow::Result<()> {
+    if !kernel.is_open(at) {
+        return Err(anyhow::anyhow!("closed"));
+    }
+    let _ = kernel.detach(at, AttRef(r));
+    Ok(())
+}
+
+/// Tells how long a round took.
+fn tell(rt: &HostRuntime, start: Instant, pending: u64, what: &str) -> anyhow::Result<()> {
+    let spent = start.elapsed(rt).context("clock")?.as_nanos();
+    println!(rt; "{pending} pending: {} ns {what}", spent / 1_000)?;
+    Ok(())
+}
+
+fn measured(rt: &HostRuntime, pending: u64) -> anyhow::Result<()> {
+    let alloc = rt.alloc();
+    let mut kernel = Kernel::new(alloc, NodeNo(1));
+    let a = opened(alloc, &mut kernel, 0)?;
+    let b = opened(alloc, &mut kernel, 1)?;
+    for k in 0..pending {
+        hunt(alloc, &mut kernel, a, k.saturating_add(1_000_000))?;
+        attach(alloc, &mut kernel, a, b, k)?;
+    }
+    let start = Instant::now(rt).context("clock")?;
+    for k in 0..ROUNDS {
+        hunt(alloc, &mut kernel, b, k.saturating_add(2_000_000))?;
+    }
+    tell(rt, start, pending, "a hunt")?;
+    let start = Instant::now(rt).context("clock")?;
+    for k in 0..ROUNDS {
+        attach(alloc, &mut kernel, b, a, k.saturating_add(2_000_000))?;
+    }
+    tell(rt, start, pending, "an attach")?;
+    let start = Instant::now(rt).context("clock")?;
+    for k in 0..ROUNDS {
+        detach(&mut kernel, b, k.saturating_add(2_000_000))?;
+    }
+    tell(rt, start, pending, "a detach")?;
+    let start = Instant::now(rt).context("clock")?;
+    for k in 0..ROUNDS {
+        let found = opened(alloc, &mut kernel, k.saturating_add(2_000_000))?;
+        closed(&mut kernel, found)?;
+    }
+    tell(rt, start, pending, "an opening that answers a hunt, and its closing")?;
+    let start = Instant::now(rt).context("clock")?;
+    for k in 0..ROUNDS {
+        let c = opened(alloc, &mut kernel, 2)?;
+        attach(alloc, &mut kernel, b, c, k.saturating_add(3_000_000))?;
+        closed(&mut kernel, c)?;
+    }
+    tell(rt, start, pending, "an opening, an attach and a closing that notifies")?;
+    let start = Instant::now(rt).context("clock")?;
+    closed(&mut kernel, b)?;
+    let spent = start.elapsed(rt).context("clock")?.as_nanos();
+    println!(rt; "{pending} pending: {} ns a notification of all", spent / u128::from(pending.max(1)))?;
+    Ok(())
+}
+
+fn main(rt: HostRuntime) -> anyhow::Result<()> {
+    for pending in [10, 1_000, 100_000] {
+        measured(&rt, pending)?;
+    }
+    Ok(())
+}
+PROGRAM
+cd "$work/crates/kernel_bench"
+rt "${1:-run}"
