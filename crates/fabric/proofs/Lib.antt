@@ -10,3 +10,7 @@ pub mod Elsewhere
 pub mod Nodes
 pub mod Legal
 pub mod Kept
+pub mod Came
+pub mod Own
+pub mod Made
+pub mod Counting

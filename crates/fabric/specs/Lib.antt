@@ -1,2 +1,4 @@
 pub mod Remains
 pub mod Machine
+pub mod Standings
+pub mod Looks

@@ -14,7 +14,7 @@ use Rattle.journal.specs.declared.head.Head.{Head}
 use Rattle.journal.specs.declared.head.Head.TheVariants as heads
 use Rattle.journal.specs.declared.effect.Step.{Step}
 use Rattle.journal.specs.Effects.{send_answer}
-use Rattle.journal.specs.History.{endpoint_by, endpoint_of}
+use Rattle.journal.specs.History.{endpoint_by, endpoint_of, has_ended}
 use Rattle.journal.specs.Laws.{IsMaker, detached_as, effects_by, is_on_link}
 use Rattle.journal.specs.Living.{is_alive}
 use Rattle.journal.specs.Rest.{leaves_at_rest, queue_of, waits_with}
@@ -137,3 +137,12 @@ pub record MayAsk (nodes : ℕ) (shape : Shape) (P : List Step) (by : By) (ask :
   pub handed : is_some ask.hand ≡ hands_over ask.event
   pub fits : FitsEvent nodes ask.event (signal_in ask.hand)
   pub unlinked : is_link_event ask.event ≡ false
+
+-- the first so many actors have ended
+abbrev pub have_ended : List Step → ℕ → Bool
+have_ended P zero = true
+have_ended P (suc n) = have_ended P n && has_ended P (suc n)
+
+-- every actor has ended
+abbrev pub all_have_ended : Shape → List Step → Bool
+all_have_ended shape P = have_ended P (length shape.actors)

@@ -8,7 +8,7 @@ use Rattle.journal.specs.declared.effect.Step.{Step}
 use Rattle.journal.specs.History.{closed_step, endpoint_of, has_ended, name_of, open_endpoints, opened_on}
 use Rattle.journal.specs.Laws.{IsLegal}
 use Rattle.journal.specs.Living.{living, living_after}
-use Rattle.journal.specs.Logs.{Log}
+use Rattle.journal.specs.Logs.{Log, step_limit}
 use Rattle.journal.specs.Pending.{hunting, hunts_past, owed, owed_past}
 use Rattle.journal.specs.Queues.{items_in, left_by, queued, unless_opened}
 use Rattle.journal.specs.Rest.{waits_with}
@@ -83,3 +83,8 @@ pub record IsKept (shape : Shape) (log : Log) (kernels : List NodeState) (standi
   pub actors : length standings ≡ length shape.actors
   pub kernels_left : AreNodesLeft log.steps kernels
   pub standings_left : AreStandingsLeft log.steps standings
+
+-- it keeps this, and its journal has at most 200,000 steps
+pub record IsWellKept (shape : Shape) (log : Log) (kernels : List NodeState) (standings : List Standing) : Type 0 where
+  pub kept : IsKept shape log kernels standings
+  pub short : length log.steps ≤ step_limit

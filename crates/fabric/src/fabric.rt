@@ -1,31 +1,44 @@
-ghost use Rattle.std.specs.Prelude.{◌≡◌, ◌<◌, ◌↔◌, true, false, [], ◌∷◌, length, IfOk, IfErr, OnOk, OnErr, IsSome, Some, None};
+ghost use Rattle.std.specs.Prelude.{◌≡◌, ◌==◌, ◌||◌, ◌+◌, ◌<◌, ◌≤◌, Option, true, false, [], length, replicate, is_some, IfOk, IfErr, OnOk, IsSome, IsTrue, Some, None};
+ghost use Rattle.linx_base.specs.declared.signal.SigNote.{SigNote};
+ghost use Rattle.sigsel.specs.Selection.{first_selected};
+ghost use Rattle.journal.specs.History.{endpoint_of, has_ended};
+ghost use Rattle.journal.specs.Laws.{IsLegal, IsMaker};
 ghost use Rattle.journal.specs.Logs.{is_full};
-ghost use Rattle.journal.specs.History.{endpoint_by};
-ghost use Rattle.journal.specs.Laws.{IsMaker, IsLegal};
-ghost use Rattle.fabric.specs.Events.{take_answer};
+ghost use Rattle.journal.specs.Rest.{is_idle, leaves_at_rest, queue_of, waits_with};
+ghost use Rattle.journal.specs.Shapes.{node_by};
+ghost use Rattle.node_kernel.specs.Answers.{granted, refused};
+ghost use Rattle.fabric.specs.Standings.{empty_nodes, fresh, unless_refused};
+ghost use Rattle.fabric.specs.Machine.{MayAsk, all_have_ended, answer_to, is_at_rest, steps_after};
 
-use crate::makings::{make_close, make_open, make_quiet, make_send, make_take};
+use crate::granting::refusal_of;
+use crate::makings::{
+    Looked, make_attach, make_close, make_detach, make_hunt, make_open, make_quiet, make_restart,
+    make_send, make_take, make_wait,
+};
+use crate::rest::is_vain;
+use crate::standing::Standing;
 use crate::stop::{StepStop, StopCause};
-use journal::{By, Event, Head, Journal};
-use linx_base::{Inc, Item, LinkDecl, Name, Names, NoMemory, NodeNo, Peer, Signal};
+use journal::{By, Event, Head, Journal, Refusal};
+use linx_base::{AttRef, Inc, LinkDecl, Name, Names, NoMemory, NodeNo, Path, Peer, Signal};
 use node_kernel::{Kernel, StepAnswer};
 use sigsel::Sigsel;
 use std::alloc::Global;
 use std::marker::Model;
 
-/// The nodes of a run and its journal.
+/// The nodes of a run, the standings of its actors, and its journal.
 #[derive(Drop)]
 pub struct Fabric {
     alloc: Global,
     links: Vec<LinkDecl>,
     actors: Vec<NodeNo>,
     journal: Journal,
-    kernel: Kernel,
-    endpoint: Option<Inc>,
+    kernels: Vec<Kernel>,
+    standings: Vec<Standing>,
+    stop: Option<StopCause>,
 }
 
 impl Model for Fabric {
-    ghost use Rattle.fabric.specs.Remains.{Layout, IsKept};
+    ghost use Rattle.fabric.specs.Remains.{Layout, IsWellKept};
 
     ghost Value = { Layout };
 
@@ -34,35 +47,62 @@ impl Model for Fabric {
       log = f.journal.log;
     } };
 
-    ghost invariant = { λ f. IsKept (record { links = f.links.items; actors = f.actors.items }) f.journal.log.steps f.kernel f.endpoint };
+    ghost invariant = { λ f. IsWellKept (record { links = f.links.items; actors = f.actors.items }) f.journal.log f.kernels.items f.standings.items };
+}
+
+/// A kernel for each node.
+fn kernels_of(alloc: Global, count: u32) -> Result<Vec<Kernel>, NoMemory>
+    ensures { IfOk result (λ kernels. kernels.items ≡ empty_nodes count) }
+{
+    let mut kernels = Vec::new(alloc);
+    for place in 0..count {
+        kernels.push(Kernel::new(alloc, NodeNo(place + 1)))?;
+    }
+    Ok(kernels)
+}
+
+/// How so many actors stand before their first steps.
+fn standings_of(alloc: Global, count: usize) -> Result<Vec<Standing>, NoMemory>
+    ensures { IfOk result (λ standings. standings.items ≡ replicate count fresh) }
+{
+    let mut standings = Vec::new(alloc);
+    for _place in 0..count {
+        standings.push(Standing::new())?;
+    }
+    Ok(standings)
 }
 
 impl Fabric {
-    ghost use Rattle.fabric.specs.Remains.{IsOneActor, only_node};
-    ghost use Rattle.fabric.specs.Events.{CanAsk, Makes};
+    ghost use Rattle.fabric.specs.Remains.{IsLaidOut};
+    ghost use Rattle.fabric.specs.Standings.{Makes};
 
-    /// A fabric without steps: its nodes have these names. As yet there is no link, and one actor on
-    /// the first node.
+    /// A fabric without steps: its nodes and links have these names, and each actor is on one of the
+    /// nodes. As yet there is no link.
     pub fn new(
         alloc: Global,
         names: Names,
         links: &[LinkDecl],
         actors: &[NodeNo],
     ) -> Result<Fabric, NoMemory>
-        requires no_links { links.now ≡ [] }
-        requires one_actor { actors.now ≡ only_node ∷ [] }
+        requires laid_out { IsLaidOut (length names.nodes) (record { links = links.now; actors = actors.now }) }
         ensures ok { IfOk result (λ fabric. fabric ≡ record {
           shape = record { links = links.now; actors = actors.now };
           log = record { names = names; steps = [] };
         }) }
     {
+        let Ok(count) = u32::try_from(names.nodes.len()) else {
+            return Err(NoMemory);
+        };
+        let kernels = kernels_of(alloc, count)?;
+        let standings = standings_of(alloc, actors.len())?;
         Ok(Fabric {
             alloc,
             links: Vec::from_slice(alloc, links)?,
             actors: Vec::from_slice(alloc, actors)?,
             journal: Journal::new(alloc, names),
-            kernel: Kernel::new(alloc, NodeNo(1)),
-            endpoint: None,
+            kernels,
+            standings,
+            stop: None,
         })
     }
 
@@ -82,19 +122,127 @@ impl Fabric {
         self.journal
     }
 
-    /// Makes one step of the event, or none where the journal is full or memory is refused: then
-    /// nothing changed, and the hand comes back. The maker hasn't ended, and the event is one that it
-    /// can ask for: an opening where it has no endpoint, a closing, a send of the signal in hand or a
-    /// look where it has one, an end.
+    /// Whether an actor has made its last step.
+    pub fn has_ended(&self, actor: u32) -> bool
+        requires above { 0 < actor }
+        requires within { actor ≤ length self.now.shape.actors }
+        ensures { result ≡ has_ended self.now.log.steps actor }
+    {
+        self.standings[(actor - 1) as usize].ended
+    }
+
+    /// The endpoint of an actor, if it has one.
+    pub fn endpoint_of(&self, actor: u32) -> Option<Inc>
+        requires above { 0 < actor }
+        requires within { actor ≤ length self.now.shape.actors }
+        ensures { result ≡ endpoint_of self.now.log.steps actor }
+    {
+        self.standings[(actor - 1) as usize].endpoint
+    }
+
+    /// Whether the last step of an actor says that it waits.
+    fn is_waiting(&self, actor: u32) -> bool
+        requires above { 0 < actor }
+        requires within { actor ≤ length self.now.shape.actors }
+        ensures { result ≡ is_some (waits_with self.now.log.steps actor) }
+    {
+        self.standings[(actor - 1) as usize].waits.is_some()
+    }
+
+    /// The place of the kernel of an actor's node.
+    fn kernel_of(&self, actor: u32) -> usize
+        requires above { 0 < actor }
+        requires within { actor ≤ length self.now.shape.actors }
+        ensures place { result + 1 ≡ node_by self.now.shape (By.Actor actor) }
+        ensures there { result < length self.now.log.names.nodes }
+    {
+        self.actors[(actor - 1) as usize].0 as usize - 1
+    }
+
+    /// Whether every actor has made its last step.
+    pub fn is_over(&self) -> bool
+        ensures { result ≡ all_have_ended self.now.shape self.now.log.steps }
+    {
+        for place in 0..self.actor_count() {
+            if !self.has_ended(place + 1) {
+                return false;
+            }
+        }
+        true
+    }
+
+    /// The number of actors.
+    fn actor_count(&self) -> u32
+        ensures count { result ≡ length self.now.shape.actors }
+    {
+        self.actors.len() as u32
+    }
+
+    /// Whether an actor is at rest: each other one has ended, or waits with nothing selected and has a
+    /// greater number.
+    pub fn is_rest(&self, actor: u32) -> bool
+        ensures { result ≡ is_at_rest self.now.shape self.now.log.steps actor }
+    {
+        for place in 0..self.actor_count() {
+            if !self.leaves_at_rest(actor, place + 1) {
+                return false;
+            }
+        }
+        true
+    }
+
+    /// Whether an actor is this one, or leaves this one at rest.
+    fn leaves_at_rest(&self, actor: u32, other: u32) -> bool
+        requires above { 0 < other }
+        requires within { other ≤ length self.now.shape.actors }
+        ensures { result ≡ ((actor == other) || leaves_at_rest self.now.log.steps actor other) }
+    {
+        if actor == other || self.has_ended(other) {
+            return true;
+        }
+        if actor > other {
+            return false;
+        }
+        self.is_idle(other)
+    }
+
+    /// Whether an actor waits, and nothing that it waits for is in its queue.
+    fn is_idle(&self, actor: u32) -> bool
+        requires above { 0 < actor }
+        requires within { actor ≤ length self.now.shape.actors }
+        ensures { result ≡ is_idle self.now.log.steps actor }
+    {
+        let place = self.kernel_of(actor);
+        let standing = &self.standings[(actor - 1) as usize];
+        is_vain(standing, &self.kernels[place])
+    }
+
+    /// Notes why the run stops. The first cause stays.
+    pub fn stop(&mut self, cause: StopCause)
+        requires { cause ≡ StopCause.JournalFull → is_full self.old.log.steps ≡ true }
+        ensures { self.new ≡ self.old }
+    {
+        if self.stop.is_none() {
+            self.stop = Some(cause);
+        }
+    }
+
+    /// The first cause that was noted.
+    pub fn stopped(&self) -> Option<StopCause> {
+        self.stop
+    }
+
+    /// Makes the step of an event, or none where the actor waits already, and answers. Where the
+    /// journal is full or memory is refused nothing changes, and the hand comes back.
     pub fn step(
         &mut self,
         by: By,
         event: Event,
         hand: Option<Signal>,
     ) -> Result<StepAnswer, StepStop>
-        requires maker { IsMaker self.old.shape self.old.log.steps by }
-        requires asked { CanAsk (endpoint_by self.old.log.steps by) event hand }
-        ensures ok { IfOk result (λ answer. Makes self.old.shape self.old.log.steps by event hand answer self.new.log.steps) }
+        requires asked { MayAsk (length self.old.log.names.nodes) self.old.shape self.old.log.steps by (record { event = event; hand = hand }) }
+        ensures answer { IfOk result (λ answer. answer ≡ answer_to self.old.shape self.old.log.steps by (record { event = event; hand = hand })) }
+        ensures ok { OnOk result (self.new.log.steps ≡ steps_after self.old.shape self.old.log.steps by (record { event = event; hand = hand })) }
         ensures fixed { self.new ≡ record self.old { log = record self.old.log { steps = self.new.log.steps } } }
         ensures full { is_full self.old.log.steps ≡ true → result ≡ Err (record { cause = StopCause.JournalFull; hand = hand }) }
         ensures full_only { IfErr result (λ stop. stop.cause ≡ StopCause.JournalFull → is_full self.old.log.steps ≡ true) }
@@ -106,138 +254,443 @@ impl Fabric {
                 hand,
             });
         }
+        match by {
+            By::Actor(actor) => self.act(actor, event, hand),
+            By::Pump(_) => unreachable!(),
+        }
+    }
+
+    /// The refusal of an actor's event, if it isn't granted.
+    fn refusal_of(&self, actor: u32, event: &Event) -> Option<Refusal>
+        requires above { 0 < actor }
+        requires within { actor ≤ length self.now.shape.actors }
+        ensures { (hand : Option SigNote) → granted self.now.log.steps actor (record { event = event.now; hand = hand }) ≡ unless_refused result (record { event = event.now; hand = hand }) }
+    {
+        let standing = &self.standings[(actor - 1) as usize];
+        refusal_of(standing, event)
+    }
+
+    /// What is granted to an actor is made, or else its refusal.
+    fn act(
+        &mut self,
+        actor: u32,
+        event: Event,
+        hand: Option<Signal>,
+    ) -> Result<StepAnswer, StepStop>
+        requires asked { MayAsk (length self.old.log.names.nodes) self.old.shape self.old.log.steps (By.Actor actor) (record { event = event; hand = hand }) }
+        requires short { length self.old.log.steps < 200000 }
+        ensures ok { IfOk result (λ answer. Makes self.old.shape self.old.log.steps actor (granted self.old.log.steps actor (record { event = event; hand = hand })) answer self.new.log.steps) }
+        ensures fixed { self.new ≡ record self.old { log = record self.old.log { steps = self.new.log.steps } } }
+        ensures err { IfErr result (λ stop. (stop ≡ record { cause = StopCause.NoMemory; hand = hand }) × (self.new ≡ self.old)) }
+    {
+        match self.refusal_of(actor, &event) {
+            Some(reason) => self.refuse(actor, reason, hand),
+            None => self.make(actor, event, hand),
+        }
+    }
+
+    /// An event that is granted is made.
+    fn make(
+        &mut self,
+        actor: u32,
+        event: Event,
+        hand: Option<Signal>,
+    ) -> Result<StepAnswer, StepStop>
+        requires asked { MayAsk (length self.old.log.names.nodes) self.old.shape self.old.log.steps (By.Actor actor) (record { event = event; hand = hand }) }
+        requires granted { granted self.old.log.steps actor (record { event = event; hand = hand }) ≡ record { event = event; hand = hand } }
+        requires short { length self.old.log.steps < 200000 }
+        ensures ok { IfOk result (λ answer. Makes self.old.shape self.old.log.steps actor (record { event = event; hand = hand }) answer self.new.log.steps) }
+        ensures fixed { self.new ≡ record self.old { log = record self.old.log { steps = self.new.log.steps } } }
+        ensures err { IfErr result (λ stop. (stop ≡ record { cause = StopCause.NoMemory; hand = hand }) × (self.new ≡ self.old)) }
+    {
         match event {
-            Event::Open(name) => self.open(by, name),
-            Event::Close => self.close(by),
+            Event::Open(name) => self.open(actor, name),
+            Event::Close => self.close(actor),
             Event::Send(to) => match hand {
-                Some(signal) => self.send(by, to, signal),
+                Some(signal) => self.send(actor, to, signal),
                 None => unreachable!(),
             },
-            Event::Look(filter) => self.look(by, filter),
-            Event::End => self.end(by),
+            Event::Look(filter) => self.look(actor, filter),
+            Event::Hunt(path) => match hand {
+                Some(signal) => self.hunt(actor, path, signal),
+                None => unreachable!(),
+            },
+            Event::Attach(peer) => match hand {
+                Some(signal) => self.attach(actor, peer, signal),
+                None => unreachable!(),
+            },
+            Event::Detach(r) => self.detach(actor, r),
+            Event::Restart(node) => self.restart(actor, node),
+            Event::Refuse(reason) => self.refuse(actor, reason, None),
+            Event::End => self.end(actor),
             _ => unreachable!(),
         }
     }
 
-    fn open(&mut self, by: By, name: Name) -> Result<StepAnswer, StepStop>
-        requires maker { IsMaker self.old.shape self.old.log.steps by }
-        requires asked { endpoint_by self.old.log.steps by ≡ None }
+    /// An opening.
+    fn open(&mut self, actor: u32, name: Name) -> Result<StepAnswer, StepStop>
+        requires asked { MayAsk (length self.old.log.names.nodes) self.old.shape self.old.log.steps (By.Actor actor) (record { event = Event.Open name; hand = None }) }
+        requires granted { endpoint_of self.old.log.steps actor ≡ None }
         requires short { length self.old.log.steps < 200000 }
-        ensures ok { IfOk result (λ answer. Makes self.old.shape self.old.log.steps by (Event.Open name) None answer self.new.log.steps) }
+        ensures ok { IfOk result (λ answer. Makes self.old.shape self.old.log.steps actor (record { event = Event.Open name; hand = None }) answer self.new.log.steps) }
         ensures fixed { self.new ≡ record self.old { log = record self.old.log { steps = self.new.log.steps } } }
         ensures err { IfErr result (λ stop. (stop ≡ record { cause = StopCause.NoMemory; hand = None }) × (self.new ≡ self.old)) }
     {
-        let Ok(inc) = make_open(&mut self.journal, &mut self.kernel, by, name) else {
-            return Err(no_memory(None));
-        };
-        self.endpoint = Some(inc);
-        Ok(StepAnswer::Opened(inc))
+        let place = self.kernel_of(actor);
+        let by = By::Actor(actor);
+        match make_open(&mut self.journal, &mut self.kernels[place], by, name) {
+            Ok(inc) => {
+                self.standings[(actor - 1) as usize].open(inc);
+                Ok(StepAnswer::Opened(inc))
+            }
+            Err(NoMemory) => Err(no_memory(None)),
+        }
     }
 
-    fn close(&mut self, by: By) -> Result<StepAnswer, StepStop>
-        requires maker { IsMaker self.old.shape self.old.log.steps by }
-        requires asked { IsSome (endpoint_by self.old.log.steps by) }
+    /// A closing.
+    fn close(&mut self, actor: u32) -> Result<StepAnswer, StepStop>
+        requires asked { MayAsk (length self.old.log.names.nodes) self.old.shape self.old.log.steps (By.Actor actor) (record { event = Event.Close; hand = None }) }
+        requires granted { IsSome (endpoint_of self.old.log.steps actor) }
         requires short { length self.old.log.steps < 200000 }
-        ensures ok { IfOk result (λ answer. Makes self.old.shape self.old.log.steps by Event.Close None answer self.new.log.steps) }
+        ensures ok { IfOk result (λ answer. Makes self.old.shape self.old.log.steps actor (record { event = Event.Close; hand = None }) answer self.new.log.steps) }
         ensures fixed { self.new ≡ record self.old { log = record self.old.log { steps = self.new.log.steps } } }
         ensures err { IfErr result (λ stop. (stop ≡ record { cause = StopCause.NoMemory; hand = None }) × (self.new ≡ self.old)) }
     {
-        let Some(at) = self.endpoint else {
+        let Some(at) = self.endpoint_of(actor) else {
             unreachable!()
         };
-        let Ok(()) = make_close(&mut self.journal, &mut self.kernel, by, Head::Close, at) else {
-            return Err(no_memory(None));
-        };
-        self.endpoint = None;
-        Ok(StepAnswer::Closed)
+        let place = self.kernel_of(actor);
+        let made = make_close(
+            &mut self.journal,
+            &mut self.kernels[place],
+            By::Actor(actor),
+            Head::Close,
+            at,
+        );
+        match made {
+            Ok(()) => {
+                let step = self.journal.len();
+                self.standings[(actor - 1) as usize].close(step);
+                Ok(StepAnswer::Closed)
+            }
+            Err(NoMemory) => Err(no_memory(None)),
+        }
     }
 
-    fn send(&mut self, by: By, to: Peer, signal: Signal) -> Result<StepAnswer, StepStop>
-        requires maker { IsMaker self.old.shape self.old.log.steps by }
-        requires asked { IsSome (endpoint_by self.old.log.steps by) }
+    /// A send.
+    fn send(&mut self, actor: u32, to: Peer, signal: Signal) -> Result<StepAnswer, StepStop>
+        requires asked { MayAsk (length self.old.log.names.nodes) self.old.shape self.old.log.steps (By.Actor actor) (record { event = Event.Send to; hand = Some signal }) }
+        requires granted { IsSome (endpoint_of self.old.log.steps actor) }
         requires short { length self.old.log.steps < 200000 }
-        ensures ok { IfOk result (λ answer. Makes self.old.shape self.old.log.steps by (Event.Send to) (Some signal) answer self.new.log.steps) }
+        ensures ok { IfOk result (λ answer. Makes self.old.shape self.old.log.steps actor (record { event = Event.Send to; hand = Some signal }) answer self.new.log.steps) }
         ensures fixed { self.new ≡ record self.old { log = record self.old.log { steps = self.new.log.steps } } }
         ensures err { IfErr result (λ stop. (stop ≡ record { cause = StopCause.NoMemory; hand = Some signal }) × (self.new ≡ self.old)) }
     {
-        let Some(from) = self.endpoint else {
+        let Some(at) = self.endpoint_of(actor) else {
             unreachable!()
         };
-        match make_send(
+        let place = self.kernel_of(actor);
+        let made = make_send(
             self.alloc,
             &mut self.journal,
-            &mut self.kernel,
-            by,
-            from,
+            &mut self.kernels[place],
+            By::Actor(actor),
+            at,
             to,
             signal,
-        ) {
-            Err((NoMemory, signal)) => return Err(no_memory(Some(signal))),
-            Ok(sent) => return Ok(StepAnswer::Sent(sent)),
+        );
+        match made {
+            Ok(sent) => {
+                self.standings[(actor - 1) as usize].wait(None);
+                Ok(StepAnswer::Sent(sent))
+            }
+            Err((NoMemory, signal)) => Err(no_memory(Some(signal))),
         }
     }
 
-    fn look(&mut self, by: By, filter: Sigsel) -> Result<StepAnswer, StepStop>
-        requires maker { IsMaker self.old.shape self.old.log.steps by }
-        requires asked { IsSome (endpoint_by self.old.log.steps by) }
+    /// A look.
+    fn look(&mut self, actor: u32, filter: Sigsel) -> Result<StepAnswer, StepStop>
+        requires asked { MayAsk (length self.old.log.names.nodes) self.old.shape self.old.log.steps (By.Actor actor) (record { event = Event.Look filter; hand = None }) }
+        requires granted { IsSome (endpoint_of self.old.log.steps actor) }
         requires short { length self.old.log.steps < 200000 }
-        ensures ok { IfOk result (λ answer. Makes self.old.shape self.old.log.steps by (Event.Look filter) None answer self.new.log.steps) }
+        ensures ok { IfOk result (λ answer. Makes self.old.shape self.old.log.steps actor (record { event = Event.Look filter; hand = None }) answer self.new.log.steps) }
         ensures fixed { self.new ≡ record self.old { log = record self.old.log { steps = self.new.log.steps } } }
         ensures err { IfErr result (λ stop. (stop ≡ record { cause = StopCause.NoMemory; hand = None }) × (self.new ≡ self.old)) }
     {
-        let Some(at) = self.endpoint else {
+        let Some(at) = self.endpoint_of(actor) else {
             unreachable!()
         };
-        let Ok(took) = make_take(
+        let place = self.kernel_of(actor);
+        let made = make_take(
             self.alloc,
             &mut self.journal,
-            &mut self.kernel,
-            by,
+            &mut self.kernels[place],
+            By::Actor(actor),
             at,
             filter,
-        ) else {
-            return Err(no_memory(None));
-        };
-        Ok(answer_of_look(took))
-    }
-
-    fn end(&mut self, by: By) -> Result<StepAnswer, StepStop>
-        requires maker { IsMaker self.old.shape self.old.log.steps by }
-        requires short { length self.old.log.steps < 200000 }
-        ensures ok { IfOk result (λ answer. Makes self.old.shape self.old.log.steps by Event.End None answer self.new.log.steps) }
-        ensures fixed { self.new ≡ record self.old { log = record self.old.log { steps = self.new.log.steps } } }
-        ensures err { IfErr result (λ stop. (stop ≡ record { cause = StopCause.NoMemory; hand = None }) × (self.new ≡ self.old)) }
-    {
-        match self.endpoint {
-            Some(at) => self.end_open(by, at),
-            None => self.end_closed(by),
+        );
+        match made {
+            Ok(Looked::Found(item)) => {
+                self.standings[(actor - 1) as usize].wait(None);
+                Ok(StepAnswer::Took(item))
+            }
+            Ok(Looked::Vain(filter)) => self.look_in_vain(actor, filter),
+            Err(NoMemory) => Err(no_memory(None)),
         }
     }
 
-    fn end_open(&mut self, by: By, at: Inc) -> Result<StepAnswer, StepStop>
-        requires maker { IsMaker self.old.shape self.old.log.steps by }
-        requires mine { endpoint_by self.old.log.steps by ≡ Some at }
+    /// A look with nothing selected.
+    fn look_in_vain(&mut self, actor: u32, filter: Sigsel) -> Result<StepAnswer, StepStop>
+        requires asked { MayAsk (length self.old.log.names.nodes) self.old.shape self.old.log.steps (By.Actor actor) (record { event = Event.Look filter; hand = None }) }
+        requires granted { IsSome (endpoint_of self.old.log.steps actor) }
+        requires vain { first_selected filter (queue_of self.old.log.steps (endpoint_of self.old.log.steps actor)) ≡ None }
         requires short { length self.old.log.steps < 200000 }
-        ensures ok { IfOk result (λ answer. Makes self.old.shape self.old.log.steps by Event.End None answer self.new.log.steps) }
+        ensures ok { IfOk result (λ answer. Makes self.old.shape self.old.log.steps actor (record { event = Event.Look filter; hand = None }) answer self.new.log.steps) }
         ensures fixed { self.new ≡ record self.old { log = record self.old.log { steps = self.new.log.steps } } }
         ensures err { IfErr result (λ stop. (stop ≡ record { cause = StopCause.NoMemory; hand = None }) × (self.new ≡ self.old)) }
     {
-        let Ok(()) = make_close(&mut self.journal, &mut self.kernel, by, Head::Ended, at) else {
-            return Err(no_memory(None));
-        };
-        self.endpoint = None;
-        Ok(StepAnswer::Done)
+        if self.is_rest(actor) {
+            return self.find_none(actor, filter);
+        }
+        if self.is_waiting(actor) {
+            return Ok(StepAnswer::NotYet);
+        }
+        self.wait(actor, filter)
     }
 
-    fn end_closed(&mut self, by: By) -> Result<StepAnswer, StepStop>
-        requires maker { IsMaker self.old.shape self.old.log.steps by }
-        requires mine { endpoint_by self.old.log.steps by ≡ None }
-        ensures ok { IfOk result (λ answer. Makes self.old.shape self.old.log.steps by Event.End None answer self.new.log.steps) }
+    /// A look with nothing selected, at rest.
+    fn find_none(&mut self, actor: u32, filter: Sigsel) -> Result<StepAnswer, StepStop>
+        requires asked { MayAsk (length self.old.log.names.nodes) self.old.shape self.old.log.steps (By.Actor actor) (record { event = Event.Look filter; hand = None }) }
+        requires granted { IsSome (endpoint_of self.old.log.steps actor) }
+        requires vain { first_selected filter (queue_of self.old.log.steps (endpoint_of self.old.log.steps actor)) ≡ None }
+        requires rest { is_at_rest self.old.shape self.old.log.steps actor ≡ true }
+        requires short { length self.old.log.steps < 200000 }
+        ensures ok { IfOk result (λ answer. Makes self.old.shape self.old.log.steps actor (record { event = Event.Look filter; hand = None }) answer self.new.log.steps) }
         ensures fixed { self.new ≡ record self.old { log = record self.old.log { steps = self.new.log.steps } } }
         ensures err { IfErr result (λ stop. (stop ≡ record { cause = StopCause.NoMemory; hand = None }) × (self.new ≡ self.old)) }
     {
+        let by = By::Actor(actor);
+        match make_quiet(self.alloc, &mut self.journal, by, Head::TakeNone(filter)) {
+            Ok(()) => {
+                self.standings[(actor - 1) as usize].wait(None);
+                Ok(StepAnswer::Nothing)
+            }
+            Err(NoMemory) => Err(no_memory(None)),
+        }
+    }
+
+    /// The first look with nothing selected, not at rest.
+    fn wait(&mut self, actor: u32, filter: Sigsel) -> Result<StepAnswer, StepStop>
+        requires asked { MayAsk (length self.old.log.names.nodes) self.old.shape self.old.log.steps (By.Actor actor) (record { event = Event.Look filter; hand = None }) }
+        requires granted { IsSome (endpoint_of self.old.log.steps actor) }
+        requires vain { first_selected filter (queue_of self.old.log.steps (endpoint_of self.old.log.steps actor)) ≡ None }
+        requires busy { is_at_rest self.old.shape self.old.log.steps actor ≡ false }
+        requires first { waits_with self.old.log.steps actor ≡ None }
+        requires short { length self.old.log.steps < 200000 }
+        ensures ok { IfOk result (λ answer. Makes self.old.shape self.old.log.steps actor (record { event = Event.Look filter; hand = None }) answer self.new.log.steps) }
+        ensures fixed { self.new ≡ record self.old { log = record self.old.log { steps = self.new.log.steps } } }
+        ensures err { IfErr result (λ stop. (stop ≡ record { cause = StopCause.NoMemory; hand = None }) × (self.new ≡ self.old)) }
+    {
+        let by = By::Actor(actor);
+        match make_wait(self.alloc, &mut self.journal, by, filter) {
+            Ok(filter) => {
+                self.standings[(actor - 1) as usize].wait(Some(filter));
+                Ok(StepAnswer::NotYet)
+            }
+            Err(NoMemory) => Err(no_memory(None)),
+        }
+    }
+
+    /// A hunt.
+    fn hunt(&mut self, actor: u32, path: Path, signal: Signal) -> Result<StepAnswer, StepStop>
+        requires asked { MayAsk (length self.old.log.names.nodes) self.old.shape self.old.log.steps (By.Actor actor) (record { event = Event.Hunt path; hand = Some signal }) }
+        requires granted { IsSome (endpoint_of self.old.log.steps actor) }
+        requires short { length self.old.log.steps < 200000 }
+        ensures ok { IfOk result (λ answer. Makes self.old.shape self.old.log.steps actor (record { event = Event.Hunt path; hand = Some signal }) answer self.new.log.steps) }
+        ensures fixed { self.new ≡ record self.old { log = record self.old.log { steps = self.new.log.steps } } }
+        ensures err { IfErr result (λ stop. (stop ≡ record { cause = StopCause.NoMemory; hand = Some signal }) × (self.new ≡ self.old)) }
+    {
+        let Some(at) = self.endpoint_of(actor) else {
+            unreachable!()
+        };
+        let place = self.kernel_of(actor);
+        let made = make_hunt(
+            &mut self.journal,
+            &mut self.kernels[place],
+            By::Actor(actor),
+            at,
+            path,
+            signal,
+        );
+        match made {
+            Ok(number) => {
+                self.standings[(actor - 1) as usize].wait(None);
+                Ok(StepAnswer::Hunted(number))
+            }
+            Err((NoMemory, signal)) => Err(no_memory(Some(signal))),
+        }
+    }
+
+    /// An attach.
+    fn attach(&mut self, actor: u32, peer: Peer, signal: Signal) -> Result<StepAnswer, StepStop>
+        requires asked { MayAsk (length self.old.log.names.nodes) self.old.shape self.old.log.steps (By.Actor actor) (record { event = Event.Attach peer; hand = Some signal }) }
+        requires granted { IsSome (endpoint_of self.old.log.steps actor) }
+        requires short { length self.old.log.steps < 200000 }
+        ensures ok { IfOk result (λ answer. Makes self.old.shape self.old.log.steps actor (record { event = Event.Attach peer; hand = Some signal }) answer self.new.log.steps) }
+        ensures fixed { self.new ≡ record self.old { log = record self.old.log { steps = self.new.log.steps } } }
+        ensures err { IfErr result (λ stop. (stop ≡ record { cause = StopCause.NoMemory; hand = Some signal }) × (self.new ≡ self.old)) }
+    {
+        let Some(at) = self.endpoint_of(actor) else {
+            unreachable!()
+        };
+        let place = self.kernel_of(actor);
+        let made = make_attach(
+            &mut self.journal,
+            &mut self.kernels[place],
+            By::Actor(actor),
+            at,
+            peer,
+            signal,
+        );
+        match made {
+            Ok(reference) => {
+                self.standings[(actor - 1) as usize].wait(None);
+                Ok(StepAnswer::Attached(reference))
+            }
+            Err((NoMemory, signal)) => Err(no_memory(Some(signal))),
+        }
+    }
+
+    /// A detach.
+    fn detach(&mut self, actor: u32, r: AttRef) -> Result<StepAnswer, StepStop>
+        requires asked { MayAsk (length self.old.log.names.nodes) self.old.shape self.old.log.steps (By.Actor actor) (record { event = Event.Detach r; hand = None }) }
+        requires granted { IsSome (endpoint_of self.old.log.steps actor) }
+        requires short { length self.old.log.steps < 200000 }
+        ensures ok { IfOk result (λ answer. Makes self.old.shape self.old.log.steps actor (record { event = Event.Detach r; hand = None }) answer self.new.log.steps) }
+        ensures fixed { self.new ≡ record self.old { log = record self.old.log { steps = self.new.log.steps } } }
+        ensures err { IfErr result (λ stop. (stop ≡ record { cause = StopCause.NoMemory; hand = None }) × (self.new ≡ self.old)) }
+    {
+        let Some(at) = self.endpoint_of(actor) else {
+            unreachable!()
+        };
+        let place = self.kernel_of(actor);
+        let made = make_detach(
+            self.alloc,
+            &mut self.journal,
+            &mut self.kernels[place],
+            By::Actor(actor),
+            at,
+            r,
+        );
+        match made {
+            Ok(answer) => {
+                self.standings[(actor - 1) as usize].wait(None);
+                Ok(StepAnswer::Detached(answer))
+            }
+            Err(NoMemory) => Err(no_memory(None)),
+        }
+    }
+
+    /// A restart of a node, which may be another than the actor's.
+    fn restart(&mut self, actor: u32, node: NodeNo) -> Result<StepAnswer, StepStop>
+        requires asked { MayAsk (length self.old.log.names.nodes) self.old.shape self.old.log.steps (By.Actor actor) (record { event = Event.Restart node; hand = None }) }
+        requires short { length self.old.log.steps < 200000 }
+        ensures ok { IfOk result (λ answer. Makes self.old.shape self.old.log.steps actor (record { event = Event.Restart node; hand = None }) answer self.new.log.steps) }
+        ensures fixed { self.new ≡ record self.old { log = record self.old.log { steps = self.new.log.steps } } }
+        ensures err { IfErr result (λ stop. (stop ≡ record { cause = StopCause.NoMemory; hand = None }) × (self.new ≡ self.old)) }
+    {
+        let made = make_restart(
+            &mut self.journal,
+            &mut self.kernels[node.0 as usize - 1],
+            &mut self.standings,
+            By::Actor(actor),
+            node,
+        );
+        match made {
+            Ok(()) => {
+                self.standings[(actor - 1) as usize].wait(None);
+                Ok(StepAnswer::Done)
+            }
+            Err(NoMemory) => Err(no_memory(None)),
+        }
+    }
+
+    /// A refusal of what was asked, which frees the hand.
+    fn refuse(&mut self, actor: u32, reason: Refusal, hand: Option<Signal>) -> Result<StepAnswer, StepStop>
+        requires maker { IsMaker self.old.shape self.old.log.steps (By.Actor actor) }
+        requires short { length self.old.log.steps < 200000 }
+        ensures ok { IfOk result (λ answer. Makes self.old.shape self.old.log.steps actor (refused reason) answer self.new.log.steps) }
+        ensures fixed { self.new ≡ record self.old { log = record self.old.log { steps = self.new.log.steps } } }
+        ensures err { IfErr result (λ stop. (stop ≡ record { cause = StopCause.NoMemory; hand = hand }) × (self.new ≡ self.old)) }
+    {
+        let by = By::Actor(actor);
+        match make_quiet(self.alloc, &mut self.journal, by, Head::Refused(reason)) {
+            Ok(()) => {
+                self.standings[(actor - 1) as usize].wait(None);
+                Ok(StepAnswer::Refused(reason))
+            }
+            Err(NoMemory) => Err(no_memory(hand)),
+        }
+    }
+
+    /// The end of an actor.
+    fn end(&mut self, actor: u32) -> Result<StepAnswer, StepStop>
+        requires asked { MayAsk (length self.old.log.names.nodes) self.old.shape self.old.log.steps (By.Actor actor) (record { event = Event.End; hand = None }) }
+        requires short { length self.old.log.steps < 200000 }
+        ensures ok { IfOk result (λ answer. Makes self.old.shape self.old.log.steps actor (record { event = Event.End; hand = None }) answer self.new.log.steps) }
+        ensures fixed { self.new ≡ record self.old { log = record self.old.log { steps = self.new.log.steps } } }
+        ensures err { IfErr result (λ stop. (stop ≡ record { cause = StopCause.NoMemory; hand = None }) × (self.new ≡ self.old)) }
+    {
+        match self.endpoint_of(actor) {
+            Some(at) => self.end_open(actor, at),
+            None => self.end_closed(actor),
+        }
+    }
+
+    /// The end of an actor whose endpoint is open.
+    fn end_open(&mut self, actor: u32, at: Inc) -> Result<StepAnswer, StepStop>
+        requires asked { MayAsk (length self.old.log.names.nodes) self.old.shape self.old.log.steps (By.Actor actor) (record { event = Event.End; hand = None }) }
+        requires granted { endpoint_of self.old.log.steps actor ≡ Some at }
+        requires short { length self.old.log.steps < 200000 }
+        ensures ok { IfOk result (λ answer. Makes self.old.shape self.old.log.steps actor (record { event = Event.End; hand = None }) answer self.new.log.steps) }
+        ensures fixed { self.new ≡ record self.old { log = record self.old.log { steps = self.new.log.steps } } }
+        ensures err { IfErr result (λ stop. (stop ≡ record { cause = StopCause.NoMemory; hand = None }) × (self.new ≡ self.old)) }
+    {
+        let place = self.kernel_of(actor);
+        let made = make_close(
+            &mut self.journal,
+            &mut self.kernels[place],
+            By::Actor(actor),
+            Head::Ended,
+            at,
+        );
+        match made {
+            Ok(()) => {
+                let step = self.journal.len();
+                let standing = &mut self.standings[(actor - 1) as usize];
+                standing.close(step);
+                standing.end();
+                Ok(StepAnswer::Done)
+            }
+            Err(NoMemory) => Err(no_memory(None)),
+        }
+    }
+
+    /// The end of an actor that has no endpoint.
+    fn end_closed(&mut self, actor: u32) -> Result<StepAnswer, StepStop>
+        requires asked { MayAsk (length self.old.log.names.nodes) self.old.shape self.old.log.steps (By.Actor actor) (record { event = Event.End; hand = None }) }
+        requires granted { endpoint_of self.old.log.steps actor ≡ None }
+        requires short { length self.old.log.steps < 200000 }
+        ensures ok { IfOk result (λ answer. Makes self.old.shape self.old.log.steps actor (record { event = Event.End; hand = None }) answer self.new.log.steps) }
+        ensures fixed { self.new ≡ record self.old { log = record self.old.log { steps = self.new.log.steps } } }
+        ensures err { IfErr result (λ stop. (stop ≡ record { cause = StopCause.NoMemory; hand = None }) × (self.new ≡ self.old)) }
+    {
+        let by = By::Actor(actor);
         match make_quiet(self.alloc, &mut self.journal, by, Head::Ended) {
-            Ok(()) => Ok(StepAnswer::Done),
+            Ok(()) => {
+                self.standings[(actor - 1) as usize].end();
+                Ok(StepAnswer::Done)
+            }
             Err(NoMemory) => Err(no_memory(None)),
         }
     }
@@ -249,14 +702,5 @@ fn no_memory(hand: Option<Signal>) -> StepStop
     StepStop {
         cause: StopCause::NoMemory,
         hand,
-    }
-}
-
-fn answer_of_look(took: Option<Item>) -> StepAnswer
-    ensures { result ≡ take_answer took }
-{
-    match took {
-        Some(item) => StepAnswer::Took(item),
-        None => StepAnswer::Nothing,
     }
 }

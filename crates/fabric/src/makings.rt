@@ -1,20 +1,21 @@
-//! One step made on a journal and a kernel: all memory is taken first, the kernel changes last.
+//! One step made on a journal and the kernel of one node: all memory is taken first, the kernel
+//! changes last, and then the step is noted.
 
-ghost use Rattle.std.specs.Prelude.{◌≡◌, ◌+◌, ◌<◌, true, [], ◌∷◌, length, IfOk, IfErr, OnOk, OnErr, IsTrue, Some, None};
-ghost use Rattle.linx_base.specs.declared.identity.Peer.TheVariants.{Here};
+ghost use Rattle.std.specs.Prelude.{◌≡◌, ◌+◌, ◌<◌, ◌≤◌, [], ◌∷◌, length, map, IfOk, IfErr, OnOk, OnErr, IsTrue};
+ghost use Rattle.linx_base.specs.Content.{data_limit};
+ghost use Rattle.linx_base.specs.NameText.{is_name};
+ghost use Rattle.journal.specs.Effects.{arrivals_of, attached, closing, closings, hunted, opening, send_answer};
 ghost use Rattle.journal.specs.declared.head.Head.TheVariants as heads;
-ghost use Rattle.journal.specs.declared.head.SentTo.TheVariants as sent_to;
-ghost use Rattle.journal.specs.declared.effect.Effect.TheVariants.{Opened, Closed, Arrived};
-ghost use Rattle.node_kernel.specs.Nodes.{is_open, is_living, items_at, endpoint_limit, next_of};
-ghost use Rattle.node_kernel.specs.Calls.{after_open, after_send};
-ghost use Rattle.sigsel.specs.Selection.{first_selected, without_first};
-ghost use Rattle.node_kernel.specs.Nodes.{with_items, without_endpoint};
-ghost use Rattle.journal.specs.Laws.{send_answer, arrivals_of};
-ghost use Rattle.fabric.specs.Events.{take_head, sent_step};
+ghost use Rattle.sigsel.specs.Selection.{first_selected};
+ghost use Rattle.node_kernel.specs.Calls.{after_attach, after_close, after_detach, after_hunt, after_open, after_restart, after_send, detached};
+ghost use Rattle.node_kernel.specs.Nodes.{endpoint_limit, find_at, is_living, is_open, items_at, next_of};
+ghost use Rattle.fabric.specs.Standings.{past_effects};
+ghost use Rattle.fabric.specs.Looks.{after_take, looked_at, with_take};
 
-use journal::{By, Effect, Effects, Head, Journal, SentTo, Step};
-use linx_base::{Inc, Item, Name, NoMemory, Peer, SigNote, Signal, TryCopy};
-use node_kernel::{Kernel, OpenError, Sent};
+use crate::standing::{Standing, lose_all};
+use journal::{By, Detached, Effect, Effects, Head, Journal, SentTo, Step};
+use linx_base::{AttRef, Inc, Item, Name, NoMemory, NodeNo, Path, Peer, SigNote, Signal, TryCopy};
+use node_kernel::{Kernel, OpenError};
 use sigsel::Sigsel;
 use std::alloc::Global;
 
@@ -48,12 +49,14 @@ pub(crate) fn make_open(
     requires room { length kernel.old.endpoints < endpoint_limit }
     requires short { length journal.old.log.steps < 200000 }
     ensures inc { IfOk result (λ inc. inc ≡ next_of kernel.old) }
-    ensures kernel { OnOk result (kernel.new ≡ after_open kernel.old name) }
+    ensures name { IsTrue (is_name name) }
+    ensures kernel { OnOk result (kernel.new ≡ after_open kernel.old name (length journal.old.log.steps + 1)) }
     ensures log { OnOk result (journal.new.log ≡ record journal.old.log {
-      steps = record { by = by; head = heads.Open name; effects = Opened (next_of kernel.old) ∷ [] } ∷ journal.old.log.steps;
+      steps = record { by = by; head = heads.Open name; effects = opening (next_of kernel.old) name kernel.old.hunts } ∷ journal.old.log.steps;
     }) }
     ensures err { OnErr result ((journal.new.log ≡ journal.old.log) × (kernel.new ≡ kernel.old)) }
 {
+    let _name = name.bytes();
     journal.reserve(1)?;
     let head = Head::Open(name.copy()?);
     match kernel.open(name, journal.len() + 1) {
@@ -80,9 +83,9 @@ pub(crate) fn make_close(
 ) -> Result<(), NoMemory>
     requires is_open { IsTrue (is_open kernel.old.endpoints at) }
     requires short { length journal.old.log.steps < 200000 }
-    ensures kernel { OnOk result (kernel.new ≡ record kernel.old { endpoints = without_endpoint kernel.old.endpoints at }) }
+    ensures kernel { OnOk result (kernel.new ≡ after_close kernel.old at (length journal.old.log.steps + 1)) }
     ensures log { OnOk result (journal.new.log ≡ record journal.old.log {
-      steps = record { by = by; head = head; effects = Closed at ∷ [] } ∷ journal.old.log.steps;
+      steps = record { by = by; head = head; effects = closing at kernel.old.attaches } ∷ journal.old.log.steps;
     }) }
     ensures err { OnErr result ((journal.new.log ≡ journal.old.log) × (kernel.new ≡ kernel.old)) }
 {
@@ -92,7 +95,14 @@ pub(crate) fn make_close(
     Ok(())
 }
 
-/// A receive, which takes the first selected item or finds none.
+/// What a look found: an item, or nothing, and then the filter comes back.
+#[derive(Drop)]
+pub(crate) enum Looked {
+    Found(Item),
+    Vain(Sigsel),
+}
+
+/// Takes the first selected item of an endpoint, and notes it. Where there is none nothing changes.
 pub(crate) fn make_take(
     alloc: Global,
     journal: &mut Journal,
@@ -100,40 +110,110 @@ pub(crate) fn make_take(
     by: By,
     at: Inc,
     filter: Sigsel,
-) -> Result<Option<Item>, NoMemory>
-    requires is_open { IsTrue (is_open kernel.old.endpoints at) }
-    ensures took { IfOk result (λ took. took ≡ first_selected filter (items_at kernel.old.endpoints at)) }
-    ensures kernel { OnOk result (kernel.new ≡ record kernel.old {
-      endpoints = with_items kernel.old.endpoints at (without_first filter (items_at kernel.old.endpoints at));
-    }) }
-    ensures log { IfOk result (λ took. journal.new.log ≡ record journal.old.log {
-      steps = record { by = by; head = take_head filter took; effects = [] } ∷ journal.old.log.steps;
+) -> Result<Looked, NoMemory>
+    requires { IsTrue (is_open kernel.old.endpoints at) }
+    ensures looked { IfOk result (λ looked. looked ≡ looked_at filter (first_selected filter (items_at kernel.old.endpoints at))) }
+    ensures kernel { OnOk result (kernel.new ≡ after_take kernel.old at filter) }
+    ensures log { OnOk result (journal.new.log ≡ record journal.old.log {
+      steps = with_take by filter (first_selected filter (items_at kernel.old.endpoints at)) journal.old.log.steps;
     }) }
     ensures err { OnErr result ((journal.new.log ≡ journal.old.log) × (kernel.new ≡ kernel.old)) }
 {
     journal.reserve(1)?;
-    let took = kernel.receive(at, &filter);
-    let head = match &took {
-        Some(item) => Head::Take(filter, item.pos),
-        None => Head::TakeNone(filter),
-    };
-    journal.push(Step {
-        by,
-        head,
-        effects: Effects::new(alloc),
-    });
-    Ok(took)
+    match kernel.receive(at, &filter) {
+        Some(item) => {
+            journal.push(Step {
+                by,
+                head: Head::Take(filter, item.pos),
+                effects: Effects::new(alloc),
+            });
+            Ok(Looked::Found(item))
+        }
+        None => Ok(Looked::Vain(filter)),
+    }
 }
 
-/// The effects of a send to a living peer.
-fn effects_of_send(alloc: Global, from: Inc, to: Peer, note: &SigNote) -> Result<Effects, NoMemory>
-    ensures { IfOk result (λ effects. effects ≡ arrivals_of from note.now true to) }
+/// A step that waits with a filter, which comes back.
+pub(crate) fn make_wait(
+    alloc: Global,
+    journal: &mut Journal,
+    by: By,
+    filter: Sigsel,
+) -> Result<Sigsel, NoMemory>
+    ensures filter { IfOk result (λ back. back ≡ filter) }
+    ensures log { OnOk result (journal.new.log ≡ record journal.old.log { steps = record { by = by; head = heads.Waits filter; effects = [] } ∷ journal.old.log.steps }) }
+    ensures err { OnErr result (journal.new.log ≡ journal.old.log) }
+{
+    let copy = filter.copy()?;
+    make_quiet(alloc, journal, by, Head::Waits(copy))?;
+    Ok(filter)
+}
+
+/// What becomes of a signal that is sent to a peer, which is alive or not.
+fn answer_to_send(living: bool, to: Peer) -> SentTo
+    ensures { result ≡ send_answer living to }
+{
+    if !living {
+        return SentTo::Dead;
+    }
+    match to {
+        Peer::Here(_) => SentTo::Queued,
+        Peer::There { .. } => SentTo::Link,
+    }
+}
+
+/// The effects of a send to a peer, which is alive or not.
+fn effects_of_send(
+    alloc: Global,
+    from: Inc,
+    note: &SigNote,
+    living: bool,
+    to: Peer,
+) -> Result<Effects, NoMemory>
+    ensures { IfOk result (λ effects. effects ≡ arrivals_of from note.now living to) }
 {
     let mut effects = Effects::new(alloc);
-    if let Peer::Here(inc) = to {
-        effects.push(Effect::Arrived(inc, Peer::Here(from), note.copy()?))?;
+    if !living {
+        return Ok(effects);
     }
-    Ok(effects)
+    match to {
+        Peer::Here(inc) => {
+            effects.push(Effect::Arrived(inc, Peer::Here(from), note.copy()?))?;
+            Ok(effects)
+        }
+        Peer::There { .. } => Ok(effects),
+    }
+}
+
+/// Room for a step, and the note of its signal.
+fn prepare(journal: &mut Journal, signal: &Signal) -> Result<SigNote, NoMemory>
+    ensures room { OnOk result (0 < journal.new.spare) }
+    ensures log { journal.new.log ≡ journal.old.log }
+    ensures note { IfOk result (λ note. note ≡ signal.now) }
+    ensures bounded { length signal.now.bytes ≤ data_limit }
+{
+    let _bytes = signal.bytes();
+    journal.reserve(1)?;
+    signal.note()
+}
+
+/// Room for a step, the note of its signal, and its effects.
+fn prepare_send(
+    alloc: Global,
+    journal: &mut Journal,
+    from: Inc,
+    signal: &Signal,
+    living: bool,
+    to: Peer,
+) -> Result<(SigNote, Effects), NoMemory>
+    ensures room { OnOk result (0 < journal.new.spare) }
+    ensures log { journal.new.log ≡ journal.old.log }
+    ensures ok { IfOk result (λ made. (made.0 ≡ signal.now) × (made.1 ≡ arrivals_of from signal.now living to)) }
+    ensures bounded { length signal.now.bytes ≤ data_limit }
+{
+    let note = prepare(journal, signal)?;
+    let effects = effects_of_send(alloc, from, &note, living, to)?;
+    Ok((note, effects))
 }
 
 /// A send. A refusal gives the signal back.
@@ -148,62 +228,181 @@ pub(crate) fn make_send(
 ) -> Result<SentTo, (NoMemory, Signal)>
     requires is_open { IsTrue (is_open kernel.old.endpoints from) }
     requires short { length journal.old.log.steps < 200000 }
-    ensures sent { IfOk result (λ sent. sent ≡ send_answer (is_living kernel.old.endpoints to) to) }
-    ensures kernel { OnOk result (kernel.new ≡ record kernel.old {
-      endpoints = after_send kernel.old.endpoints from to signal (length journal.old.log.steps + 1);
-    }) }
+    ensures sent { IfOk result (λ sent. sent ≡ send_answer (is_living kernel.old to) to) }
+    ensures bounded { length signal.bytes ≤ data_limit }
+    ensures kernel { OnOk result (kernel.new ≡ after_send kernel.old from to signal (length journal.old.log.steps + 1)) }
     ensures log { OnOk result (journal.new.log ≡ record journal.old.log {
-      steps = sent_step by from to signal (is_living kernel.old.endpoints to) ∷ journal.old.log.steps;
+      steps = record {
+        by = by;
+        head = heads.Send to signal (send_answer (is_living kernel.old to) to);
+        effects = arrivals_of from signal (is_living kernel.old to) to;
+      } ∷ journal.old.log.steps;
     }) }
     ensures err { IfErr result (λ back. (back.1 ≡ signal) × (journal.new.log ≡ journal.old.log) × (kernel.new ≡ kernel.old)) }
 {
-    let Ok((note, arrivals)) = prepare_send(alloc, journal, from, to, &signal) else {
+    let living = kernel.is_living(to);
+    let Ok((note, effects)) = prepare_send(alloc, journal, from, &signal, living, to) else {
         return Err((NoMemory, signal));
     };
     match kernel.send(from, to, signal, journal.len() + 1) {
-        Ok(Sent::Queued) => {
-            push_sent(journal, by, to, note, SentTo::Queued, arrivals);
-            Ok(SentTo::Queued)
-        }
-        Ok(Sent::Dead) => {
-            push_sent(journal, by, to, note, SentTo::Dead, Effects::new(alloc));
-            Ok(SentTo::Dead)
-        }
-        Ok(Sent::Link(_)) => {
-            push_sent(journal, by, to, note, SentTo::Link, Effects::new(alloc));
-            Ok(SentTo::Link)
+        Ok(_) => {
+            let sent = answer_to_send(living, to);
+            journal.push(Step {
+                by,
+                head: Head::Send(to, note, sent),
+                effects,
+            });
+            Ok(sent)
         }
         Err(back) => Err(back),
     }
 }
 
-/// Room for a step, the note of its signal, and the arrival that a living peer of the node gets.
-fn prepare_send(
-    alloc: Global,
+/// Room for a step, the note of its signal, and its path.
+fn prepare_hunt(
     journal: &mut Journal,
-    from: Inc,
-    to: Peer,
     signal: &Signal,
-) -> Result<(SigNote, Effects), NoMemory>
+    path: &Path,
+) -> Result<(SigNote, Path), NoMemory>
     ensures room { OnOk result (0 < journal.new.spare) }
     ensures log { journal.new.log ≡ journal.old.log }
-    ensures ok { IfOk result (λ made. (made.0 ≡ signal.now) × (made.1 ≡ arrivals_of from signal.now true to)) }
+    ensures ok { IfOk result (λ made. (made.0 ≡ signal.now) × (made.1 ≡ path.now)) }
+    ensures bounded { length signal.now.bytes ≤ data_limit }
 {
-    journal.reserve(1)?;
-    let note = signal.note()?;
-    let arrivals = effects_of_send(alloc, from, to, &note)?;
-    Ok((note, arrivals))
+    let note = prepare(journal, signal)?;
+    Ok((note, path.copy()?))
 }
 
-fn push_sent(journal: &mut Journal, by: By, to: Peer, note: SigNote, sent: SentTo, effects: Effects)
-    requires { 0 < journal.old.spare }
-    ensures { journal.new.log ≡ record journal.old.log {
-      steps = record { by = by; head = heads.Send to note sent; effects = effects } ∷ journal.old.log.steps;
-    } }
+/// A hunt. The number is the position of its step. A refusal gives the signal back.
+pub(crate) fn make_hunt(
+    journal: &mut Journal,
+    kernel: &mut Kernel,
+    by: By,
+    at: Inc,
+    path: Path,
+    signal: Signal,
+) -> Result<u64, (NoMemory, Signal)>
+    requires is_open { IsTrue (is_open kernel.old.endpoints at) }
+    requires short { length journal.old.log.steps < 200000 }
+    ensures number { IfOk result (λ number. number ≡ length journal.old.log.steps + 1) }
+    ensures bounded { length signal.bytes ≤ data_limit }
+    ensures kernel { OnOk result (kernel.new ≡ after_hunt kernel.old (record { at = at; path = path; signal = signal; number = length journal.old.log.steps + 1 })) }
+    ensures log { OnOk result (journal.new.log ≡ record journal.old.log {
+      steps = record {
+        by = by;
+        head = heads.Hunt path signal;
+        effects = hunted (find_at kernel.old path) (record { at = at; path = path; signal = signal; number = length journal.old.log.steps + 1 });
+      } ∷ journal.old.log.steps;
+    }) }
+    ensures err { IfErr result (λ back. (back.1 ≡ signal) × (journal.new.log ≡ journal.old.log) × (kernel.new ≡ kernel.old)) }
 {
+    let Ok((note, copy)) = prepare_hunt(journal, &signal, &path) else {
+        return Err((NoMemory, signal));
+    };
+    let number = journal.len() + 1;
+    match kernel.hunt(at, path, signal, number) {
+        Ok(effects) => {
+            journal.push(Step {
+                by,
+                head: Head::Hunt(copy, note),
+                effects,
+            });
+            Ok(number)
+        }
+        Err(back) => Err(back),
+    }
+}
+
+/// An attach. The reference is the position of its step. A refusal gives the signal back.
+pub(crate) fn make_attach(
+    journal: &mut Journal,
+    kernel: &mut Kernel,
+    by: By,
+    at: Inc,
+    peer: Peer,
+    signal: Signal,
+) -> Result<AttRef, (NoMemory, Signal)>
+    requires is_open { IsTrue (is_open kernel.old.endpoints at) }
+    requires room { length signal.bytes < data_limit }
+    requires short { length journal.old.log.steps < 200000 }
+    ensures reference { IfOk result (λ r. r ≡ record { 0 = length journal.old.log.steps + 1 }) }
+    ensures kernel { OnOk result (kernel.new ≡ after_attach kernel.old (record { at = at; peer = peer; signal = signal; reference = record { 0 = length journal.old.log.steps + 1 } })) }
+    ensures log { OnOk result (journal.new.log ≡ record journal.old.log {
+      steps = record {
+        by = by;
+        head = heads.Attach peer signal;
+        effects = attached (is_living kernel.old peer) (record { at = at; peer = peer; signal = signal; reference = record { 0 = length journal.old.log.steps + 1 } });
+      } ∷ journal.old.log.steps;
+    }) }
+    ensures err { IfErr result (λ back. (back.1 ≡ signal) × (journal.new.log ≡ journal.old.log) × (kernel.new ≡ kernel.old)) }
+{
+    let Ok(note) = prepare(journal, &signal) else {
+        return Err((NoMemory, signal));
+    };
+    let reference = AttRef(journal.len() + 1);
+    match kernel.attach(at, peer, signal, reference) {
+        Ok(effects) => {
+            journal.push(Step {
+                by,
+                head: Head::Attach(peer, note),
+                effects,
+            });
+            Ok(reference)
+        }
+        Err(back) => Err(back),
+    }
+}
+
+/// A detach.
+pub(crate) fn make_detach(
+    alloc: Global,
+    journal: &mut Journal,
+    kernel: &mut Kernel,
+    by: By,
+    at: Inc,
+    r: AttRef,
+) -> Result<Detached, NoMemory>
+    requires { IsTrue (is_open kernel.old.endpoints at) }
+    ensures answer { IfOk result (λ answer. answer ≡ detached kernel.old at r) }
+    ensures kernel { OnOk result (kernel.new ≡ after_detach kernel.old at r) }
+    ensures log { OnOk result (journal.new.log ≡ record journal.old.log {
+      steps = record { by = by; head = heads.Detach r (detached kernel.old at r); effects = [] } ∷ journal.old.log.steps;
+    }) }
+    ensures err { OnErr result ((journal.new.log ≡ journal.old.log) × (kernel.new ≡ kernel.old)) }
+{
+    journal.reserve(1)?;
+    let answer = kernel.detach(at, r);
     journal.push(Step {
         by,
-        head: Head::Send(to, note, sent),
+        head: Head::Detach(r, answer),
+        effects: Effects::new(alloc),
+    });
+    Ok(answer)
+}
+
+/// The restart of a node: all of its endpoints are closed, and those whose they were lose them.
+pub(crate) fn make_restart(
+    journal: &mut Journal,
+    kernel: &mut Kernel,
+    standings: &mut [Standing],
+    by: By,
+    node: NodeNo,
+) -> Result<(), NoMemory>
+    requires { length journal.old.log.steps < 200000 }
+    ensures kernel { OnOk result (kernel.new ≡ after_restart kernel.old) }
+    ensures log { OnOk result (journal.new.log ≡ record journal.old.log {
+      steps = record { by = by; head = heads.Restart node; effects = closings (map (λ e. e.inc) kernel.old.endpoints) } ∷ journal.old.log.steps;
+    }) }
+    ensures standings { OnOk result (standings.new ≡ map (past_effects (length journal.old.log.steps + 1) (closings (map (λ e. e.inc) kernel.old.endpoints))) standings.old) }
+    ensures err { OnErr result ((journal.new.log ≡ journal.old.log) × (kernel.new ≡ kernel.old) × (standings.new ≡ standings.old)) }
+{
+    journal.reserve(1)?;
+    let effects = kernel.restart()?;
+    lose_all(standings, effects.as_slice(), journal.len() + 1);
+    journal.push(Step {
+        by,
+        head: Head::Restart(node),
         effects,
     });
+    Ok(())
 }
