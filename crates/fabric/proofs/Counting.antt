@@ -1,8 +1,7 @@
 -- What holds of the first so many, and fails at one of them.
-use Rattle.std.proofs.Common.{◌≡◌, ◌≢◌, ℕ, zero, suc, ◌<◌, ◌≤◌, ◌+◌, Bool, true, false, ◌&&◌, List, [], ◌∷◌, ◌++◌, length, map, take, drop, replicate, Option, Some, None, get_or, set, refl, sym, ◌∙◌, ap, subst, arith, add-one}
+use Rattle.std.proofs.Common.{◌≡◌, ◌≢◌, ℕ, zero, suc, ◌<◌, ◌≤◌, Bool, true, false, ◌&&◌, List, [], ◌∷◌, ◌++◌, length, map, take, drop, replicate, Some, get_or, set, refl, sym, ◌∙◌, ap, subst, arith}
 use Rattle.std.specs.Prelude.{◌==◌, slice_get}
 use Rattle.std.proofs.lemmas.Bool.{eq-eqb, eqb-true, true≢false}
-use Rattle.linx_base.specs.declared.identity.NodeNo.{NodeNo}
 use Rattle.linx_base.specs.declared.name.Names.{Names}
 use Rattle.journal.specs.Logs.{Log}
 use Rattle.journal.specs.Shapes.{Shape}
@@ -30,6 +29,13 @@ pub map-turn : {X : Type 0} (f : X → X) (xs : List X) (k : ℕ) (x : X) → k 
 map-turn f [] k x within is = absurd (omega arith)
 map-turn f (y ∷ xs) zero x within is = ap (λ z. f z ∷ xs) is
 map-turn f (y ∷ xs) (suc k) x within is = ap (λ l. f y ∷ l) (map-turn f xs k x (omega arith) is)
+
+-- what stands before, of its own length
+pub take-front : {X : Type 0} (xs ys : List X) (n : ℕ) → length xs ≡ n → take n (xs ++ ys) ≡ xs
+take-front [] ys zero is = refl
+take-front [] ys (suc n) is = absurd (omega arith)
+take-front (x ∷ xs) ys zero is = absurd (omega arith)
+take-front (x ∷ xs) ys (suc n) is = ap (λ l. x ∷ l) (take-front xs ys n (omega arith))
 
 -- THE FIRST NODES AND ACTORS
 pub length-empty_nodes : (n : ℕ) → length (empty_nodes n) ≡ n

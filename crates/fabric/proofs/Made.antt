@@ -1,5 +1,5 @@
 -- Each kind of step as the fabric's methods make it: what is kept, and that it is the machine's.
-use Rattle.std.proofs.Common.{◌≡◌, ℕ, zero, suc, ◌+◌, ◌<◌, ◌≤◌, Bool, true, false, cond, ◌||◌, List, [], ◌∷◌, ◌++◌, length, map, Option, Some, None, get_or, refl, sym, ◌∙◌, ap, subst, add-one, arith, is_some, is_none}
+use Rattle.std.proofs.Common.{◌≡◌, ℕ, zero, suc, ◌+◌, ◌<◌, ◌≤◌, Bool, true, false, cond, ◌||◌, List, [], ◌∷◌, length, map, Option, Some, None, get_or, refl, sym, ◌∙◌, ap, subst, add-one, arith, is_some, is_none}
 use Rattle.std.specs.Prelude.{◌==◌, ◌≢◌, ◌-◌, slice_get, slice_set}
 use Rattle.std.specs.List.{AllByRecursion}
 use Rattle.std.specs.Option.{IfSome, IsSome}
@@ -32,11 +32,10 @@ use Rattle.journal.specs.declared.head.Detached.{Detached}
 use Rattle.journal.specs.declared.head.Head.{Head}
 use Rattle.journal.specs.declared.head.Head.TheVariants as heads
 use Rattle.journal.specs.declared.head.Refusal.{Refusal}
-use Rattle.journal.specs.declared.head.SentTo.{SentTo}
 use Rattle.journal.specs.Effects.{arrivals_of, attached, closing, closings, founds, held_elsewhere, hunted, hunts_for, opening, send_answer}
-use Rattle.journal.specs.History.{closed_step, endpoint_of, has_ended, is_by, is_end, last_opened, open_endpoints, unless_closed}
-use Rattle.journal.specs.Laws.{IsLegal, IsLegalStep, IsMaker, detached_as, effects_by}
-use Rattle.journal.specs.Living.{find, is_alive, living}
+use Rattle.journal.specs.History.{endpoint_of, is_by, is_end, last_opened, open_endpoints, unless_closed}
+use Rattle.journal.specs.Laws.{IsLegalStep, IsMaker, detached_as, effects_by}
+use Rattle.journal.specs.Living.{find, is_alive}
 use Rattle.journal.specs.Logs.{Log}
 use Rattle.journal.specs.Pending.{hunting, owed}
 use Rattle.journal.specs.Queues.{queued}
@@ -45,7 +44,6 @@ use Rattle.journal.specs.Shapes.{Shape, node_by, number_or_0}
 use Rattle.journal.proofs.Openings.{IsShort, open-few, opened_on-few}
 use Rattle.node_kernel.specs.declared.answers.StepAnswer.{StepAnswer}
 use Rattle.node_kernel.specs.declared.answers.StepAnswer.TheVariants as answers
-use Rattle.node_kernel.specs.declared.ask.Ask.{Ask}
 use Rattle.node_kernel.specs.Answers.{answer_of, refused}
 use Rattle.node_kernel.specs.Calls.{after_attach, after_close, after_detach, after_hunt, after_open, after_restart, after_send, detached}
 use Rattle.node_kernel.specs.Nodes.{NodeState, OpenEndpoint, endpoint_limit, find_at, is_at, items_of, with_items, is_living, is_open, items_at, next_of}
@@ -231,20 +229,21 @@ module _ (shape : Shape) (log : Log) (kernels : List NodeState) (standings : Lis
       let logged : new ≡ record log { steps = step_by (heads.Open name) ∷ P } = log-is new _ (step_by (heads.Open name)) new_eq (step-is (heads.Open name) (opening (next_of kernel) name kernel.hunts) es_is) in
       let legal : IsLegalStep shape P (step_by (heads.Open name)) =
       legal-of (asks.Open name) (signal_in None) 0 (record { opening = λ o. ap is_none none; needing = λ n. absurd (true≢false (sym n)) }) named (omega arith) tt refl
-      in
-      (calm (heads.Open name) refl at.home_is legal
-      next (next_eq ∙ ap (λ (k : NodeState). after_open k name (length P + 1)) k_is ∙ ap (after_open old name) next_is ∙ sym (node-open shape P at.kept.legal fits actor node at.home_is name none))
-      then (then_eq ∙ ap (λ (s : Standing). let t : Standing = record s { endpoint = Some (next_of kernel); waits = None } in t) s_is
-      ∙ ap (λ (k : NodeState). let t : Standing = record stood { endpoint = Some (next_of k); waits = None } in t) k_is
-      ∙ sym (own-open fs only now i name stood none)
-      ∙ ap (λ (es : List Effect). standing_past true now (heads.Open name) es stood) (sym own_es))
-      new logged,
-      record {
-        steps = ap (λ (l : Log). l.steps) logged;
-        answered = ap (λ (k : NodeState). answers.Opened (next_of k)) k_is
-        ∙ ap Rattle.node_kernel.specs.Answers.opened_as (sym (Rattle.fabric.proofs.Own.opens-same fs only (Some i)))
-        ∙ ap (λ (es : List Effect). answer_of P (heads.Open name) es) (sym own_es);
-      })
+      in (
+        calm (heads.Open name) refl at.home_is legal
+            next (next_eq ∙ ap (λ (k : NodeState). after_open k name (length P + 1)) k_is ∙ ap (after_open old name) next_is ∙ sym (node-open shape P at.kept.legal fits actor node at.home_is name none))
+            then (then_eq ∙ ap (λ (s : Standing). let t : Standing = record s { endpoint = Some (next_of kernel); waits = None } in t) s_is
+            ∙ ap (λ (k : NodeState). let t : Standing = record stood { endpoint = Some (next_of k); waits = None } in t) k_is
+            ∙ sym (own-open fs only now i name stood none)
+            ∙ ap (λ (es : List Effect). standing_past true now (heads.Open name) es stood) (sym own_es))
+            new logged,
+        record {
+          steps = ap (λ (l : Log). l.steps) logged;
+          answered = ap (λ (k : NodeState). answers.Opened (next_of k)) k_is
+              ∙ ap Rattle.node_kernel.specs.Answers.opened_as (sym (Rattle.fabric.proofs.Own.opens-same fs only (Some i)))
+              ∙ ap (λ (es : List Effect). answer_of P (heads.Open name) es) (sym own_es);
+        },
+      )
 
   -- A CLOSING, by a head that ends what its maker has
   closing-kept : (head : Head) → is_restart head ≡ false → changed_node shape (Actor actor) head ≡ suc home
@@ -267,15 +266,16 @@ module _ (shape : Shape) (log : Log) (kernels : List NodeState) (standings : Lis
       let es_is : closing j kernel.attaches ≡ effects_by P (suc home) me head = ap (λ (k : NodeState). closing j k.attaches) k_is ∙ sym ending_is in
       let own_es : (step_by head).effects ≡ closing j (owed P (suc home)) = ap (λ (n : ℕ). effects_by P n me head) at.home_is ∙ ending_is in
       let logged : new ≡ record log { steps = step_by head ∷ P } = log-is new _ (step_by head) new_eq (step-is head (closing j kernel.attaches) es_is) in
-      let step_is : step ≡ now = counted ∙ ap (λ (l : Log). length l.steps) logged in
-      (calm head calm_it changed legal
-      next (next_eq ∙ ap (λ (k : NodeState). after_close k j (length P + 1)) k_is ∙ ap (after_close old j) next_is ∙ sym left)
-      then (then_eq ∙ ap (λ (s : Standing). let t : Standing = record s { endpoint = None; closed = step; waits = waits_in head; ended = is_end head || s.ended } in t) s_is
-      ∙ ap (λ (k : ℕ). let t : Standing = record stood { endpoint = None; closed = k; waits = waits_in head; ended = is_end head || stood.ended } in t) step_is
-      ∙ sym (own-close fs only now j head stood mine)
-      ∙ ap (λ (es : List Effect). standing_past true now head es stood) (sym own_es))
-      new logged,
-      logged)
+      let step_is : step ≡ now = counted ∙ ap (λ (l : Log). length l.steps) logged in (
+        calm head calm_it changed legal
+            next (next_eq ∙ ap (λ (k : NodeState). after_close k j (length P + 1)) k_is ∙ ap (after_close old j) next_is ∙ sym left)
+            then (then_eq ∙ ap (λ (s : Standing). let t : Standing = record s { endpoint = None; closed = step; waits = waits_in head; ended = is_end head || s.ended } in t) s_is
+            ∙ ap (λ (k : ℕ). let t : Standing = record stood { endpoint = None; closed = k; waits = waits_in head; ended = is_end head || stood.ended } in t) step_is
+            ∙ sym (own-close fs only now j head stood mine)
+            ∙ ap (λ (es : List Effect). standing_past true now head es stood) (sym own_es))
+            new logged,
+        logged,
+      )
 
   pub made-close : (j : Inc) → me ≡ Some j
       → (kernel next : NodeState) → kernel ≡ get_or kernels home kernel → next ≡ after_close kernel j (length P + 1)
@@ -317,13 +317,14 @@ module _ (shape : Shape) (log : Log) (kernels : List NodeState) (standings : Lis
       × (new.steps ≡ step_by head ∷ P)
   items-kept head calm_it changed goes_on no_wait legal only next next_left standing then stands then_eq new s new_eq same =
       let s_is : standing ≡ stood = standing-is standing stands in
-      let logged : new ≡ record log { steps = step_by head ∷ P } = log-is new s (step_by head) new_eq same in
-      (calm head calm_it changed legal next next_left
-      then (then_eq ∙ ap (λ (t : Standing). let u : Standing = record t { waits = None } in u) s_is
-      ∙ ap (λ (w : Option Sigsel). let u : Standing = record stood { waits = w } in u) (sym no_wait)
-      ∙ sym (own-quiet (step_by head).effects only now head stood goes_on))
-      new logged,
-      ap (λ (l : Log). l.steps) logged)
+      let logged : new ≡ record log { steps = step_by head ∷ P } = log-is new s (step_by head) new_eq same in (
+        calm head calm_it changed legal next next_left
+            then (then_eq ∙ ap (λ (t : Standing). let u : Standing = record t { waits = None } in u) s_is
+            ∙ ap (λ (w : Option Sigsel). let u : Standing = record stood { waits = w } in u) (sym no_wait)
+            ∙ sym (own-quiet (step_by head).effects only now head stood goes_on))
+            new logged,
+        ap (λ (l : Log). l.steps) logged,
+      )
 
   granted-own : (event : Event) → Rattle.node_kernel.specs.Answers.is_opening event ≡ false → (j : Inc) → me ≡ Some j → IsGranted me event
   granted-own event opens_not j mine = record { opening = λ o. absurd (true≢false (sym o ∙ opens_not)); needing = λ n. ap is_some mine }
@@ -455,12 +456,14 @@ module _ (shape : Shape) (log : Log) (kernels : List NodeState) (standings : Lis
       let both = items-kept head refl at.home_is refl refl legal only-none
       next (next_eq ∙ ap (λ (k : NodeState). after_take k j f) k_is ∙ sym (node-take shape P at.kept.legal fits actor node at.home_is j f item mine in_queue))
       standing then stands then_eq new (step_by head) logged refl
-      in
-      (both.0, record {
-        steps = both.1 ∙ ap (λ (o : Option Item). Rattle.fabric.specs.Machine.with_step P (step_with shape P (Actor actor) (look shape P actor f o))) (sym of_me);
-        answered = ap (λ (x : Item). answers.Took x) (sym (item-came P j f item in_queue))
-        ∙ ap (λ (o : Option Item). Rattle.fabric.specs.Machine.answer_with P (step_with shape P (Actor actor) (look shape P actor f o))) (sym of_me);
-      })
+      in (
+        both.0,
+        record {
+          steps = both.1 ∙ ap (λ (o : Option Item). Rattle.fabric.specs.Machine.with_step P (step_with shape P (Actor actor) (look shape P actor f o))) (sym of_me);
+          answered = ap (λ (x : Item). answers.Took x) (sym (item-came P j f item in_queue))
+              ∙ ap (λ (o : Option Item). Rattle.fabric.specs.Machine.answer_with P (step_with shape P (Actor actor) (look shape P actor f o))) (sym of_me);
+        },
+      )
 
   -- a look in vain takes nothing
   pub vain-queue : (j : Inc) (f : Sigsel) → me ≡ Some j → (kernel : NodeState) → kernel ≡ get_or kernels home kernel
@@ -477,13 +480,14 @@ module _ (shape : Shape) (log : Log) (kernels : List NodeState) (standings : Lis
       × (new.steps ≡ step_by head ∷ P)
   quiet-kept head calm_it changed own_es legal left standing then stands then_eq new new_eq =
       let s_is : standing ≡ stood = standing-is standing stands in
-      let logged : new ≡ record log { steps = step_by head ∷ P } = log-is new _ (step_by head) new_eq (ap (λ (es : List Effect). let s : Step = record { by = Actor actor; head = head; effects = es } in s) (sym own_es)) in
-      (still head calm_it changed legal left
-      then (then_eq ∙ ap (λ (s : Standing). let t : Standing = record s { waits = waits_in head; ended = is_end head || s.ended } in t) s_is
-      ∙ sym (Rattle.fabric.proofs.Own.own-none now head stood)
-      ∙ ap (λ (es : List Effect). standing_past true now head es stood) (sym own_es))
-      new logged,
-      ap (λ (l : Log). l.steps) logged)
+      let logged : new ≡ record log { steps = step_by head ∷ P } = log-is new _ (step_by head) new_eq (ap (λ (es : List Effect). let s : Step = record { by = Actor actor; head = head; effects = es } in s) (sym own_es)) in (
+        still head calm_it changed legal left
+            then (then_eq ∙ ap (λ (s : Standing). let t : Standing = record s { waits = waits_in head; ended = is_end head || s.ended } in t) s_is
+            ∙ sym (Rattle.fabric.proofs.Own.own-none now head stood)
+            ∙ ap (λ (es : List Effect). standing_past true now head es stood) (sym own_es))
+            new logged,
+        ap (λ (l : Log). l.steps) logged,
+      )
 
   -- a look in vain that makes a step
   vain-legal : (f : Sigsel) → is_some me ≡ true → (rest waits : Bool) → is_at_rest shape P actor ≡ rest → is_some (waits_with P actor) ≡ waits
@@ -794,11 +798,12 @@ module _ (shape : Shape) (log : Log) (kernels : List NodeState) (standings : Lis
       let left : next ≡ node_left (restarted ∷ Q) (record { 0 = suc home }) =
       next_eq ∙ ap after_restart (was-left kernel is) ∙ sym (node-restart shape Q kept.legal brief actor n (living-none shape Q kept.legal n.0))
       ∙ ap (node_left (restarted ∷ Q)) (sym node_is)
-      in
-      (well_kept log new restarted logged short (slice_set kernels home next) (slice_set lost place then)
-      (subst (λ (xs : List Standing). IsKept shape (record log { steps = restarted ∷ Q }) (slice_set kernels home next) (slice_set xs place then)) (sym lost_is)
-      (kept-next shape log kernels (slice_set kernels home next) standings (slice_set (map past standings) place then) restarted kept legal_restart
-      (length-set kernels home next) (length-set (map past standings) place then ∙ length-mapped past standings)
-      (kernels-next shape Q kept.legal brief restarted refl home home_is kernels kept.kernels_left next there left)
-      (standings-after then then_is))),
-      record { steps = ap (λ (l : Log). l.steps) logged; answered = refl })
+      in (
+        well_kept log new restarted logged short (slice_set kernels home next) (slice_set lost place then)
+            (subst (λ (xs : List Standing). IsKept shape (record log { steps = restarted ∷ Q }) (slice_set kernels home next) (slice_set xs place then)) (sym lost_is)
+            (kept-next shape log kernels (slice_set kernels home next) standings (slice_set (map past standings) place then) restarted kept legal_restart
+            (length-set kernels home next) (length-set (map past standings) place then ∙ length-mapped past standings)
+            (kernels-next shape Q kept.legal brief restarted refl home home_is kernels kept.kernels_left next there left)
+            (standings-after then then_is))),
+        record { steps = ap (λ (l : Log). l.steps) logged; answered = refl },
+      )

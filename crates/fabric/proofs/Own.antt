@@ -1,12 +1,12 @@
 -- How the maker of a step stands past it, by its head.
-use Rattle.std.proofs.Common.{◌≡◌, ℕ, suc, Bool, true, false, cond, if◌then◌else◌, ◌||◌, ◌&&◌, List, [], ◌∷◌, ◌++◌, Option, Some, None, refl, sym, ◌∙◌, ap, subst}
-use Rattle.std.specs.List.{list_any, filter_map}
+use Rattle.std.proofs.Common.{◌≡◌, ℕ, Bool, true, false, cond, ◌||◌, List, [], ◌∷◌, Option, Some, None, refl, ◌∙◌, ap}
+use Rattle.std.specs.List.{list_any}
 use Rattle.linx_base.specs.declared.identity.Inc.{Inc}
 use Rattle.sigsel.specs.declared.sigsel.Sigsel.{Sigsel}
 use Rattle.journal.specs.declared.effect.Effect.{Effect}
 use Rattle.journal.specs.declared.effect.Effect.TheVariants.{Opened, Closed}
 use Rattle.journal.specs.declared.head.Head.{Head}
-use Rattle.journal.specs.declared.head.Head.TheVariants.{Open, Close, Ended}
+use Rattle.journal.specs.declared.head.Head.TheVariants.{Open}
 use Rattle.journal.specs.History.{closes, is_end, is_lost, last_opened, unless_closed}
 use Rattle.journal.specs.Rest.{waits_in}
 use Rattle.journal.proofs.Openings.{last_in, last_opened-opens, same_inc-refl}

@@ -1,5 +1,5 @@
 -- The machine: the step that an event makes after a history, and its answer.
-use Rattle.std.specs.Prelude.{ℕ, zero, suc, ◌≡◌, ◌≤◌, ◌<◌, Bool, true, false, ◌&&◌, ◌||◌, ◌==◌, List, [], ◌∷◌, length, is_none, is_some, Option, Some, None, if◌then◌else◌}
+use Rattle.std.specs.Prelude.{ℕ, zero, suc, ◌≡◌, ◌≤◌, ◌<◌, Bool, true, false, ◌&&◌, ◌||◌, ◌==◌, List, [], ◌∷◌, length, is_some, Option, Some, None}
 use Rattle.linx_base.specs.Content.{data_limit}
 use Rattle.linx_base.specs.declared.identity.Inc.{Inc}
 use Rattle.linx_base.specs.declared.item.Item.{Item}
@@ -15,7 +15,7 @@ use Rattle.journal.specs.declared.head.Head.TheVariants as heads
 use Rattle.journal.specs.declared.effect.Step.{Step}
 use Rattle.journal.specs.Effects.{send_answer}
 use Rattle.journal.specs.History.{endpoint_by, endpoint_of, has_ended}
-use Rattle.journal.specs.Laws.{IsMaker, detached_as, effects_by, is_on_link}
+use Rattle.journal.specs.Laws.{IsMaker, detached_as, effects_by}
 use Rattle.journal.specs.Living.{is_alive}
 use Rattle.journal.specs.Rest.{leaves_at_rest, queue_of, waits_with}
 use Rattle.journal.specs.Shapes.{Shape, node_by}
@@ -85,7 +85,7 @@ step_with shape P by (Some head) = Some (record {
 abbrev pub granted_step : Shape → List Step → ℕ → Ask → Option Step
 granted_step shape P k ask =
     step_with shape P (Actor k)
-      (head_of shape P k (node_by shape (Actor k)) (endpoint_of P k) ask.event (signal_in ask.hand))
+    (head_of shape P k (node_by shape (Actor k)) (endpoint_of P k) ask.event (signal_in ask.hand))
 
 -- THE STEP that a maker's event makes: none where an actor waits already. As yet no pump makes one
 abbrev pub step_of : Shape → List Step → By → Ask → Option Step

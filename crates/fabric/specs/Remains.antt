@@ -1,19 +1,17 @@
 -- What a history leaves of the nodes and the actors, and what a fabric keeps.
-use Rattle.std.specs.Prelude.{ℕ, suc, ◌≡◌, ◌≤◌, ◌<◌, Bool, true, false, not, List, [], ◌∷◌, ◌++◌, length, map, filter, slice_get, Option, Some, None, if◌then◌else◌}
-use Rattle.std.specs.List.{fold, list_any, AllByRecursion}
+use Rattle.std.specs.Prelude.{ℕ, suc, ◌≡◌, ◌≤◌, ◌<◌, List, [], length, map, slice_get, Some}
+use Rattle.std.specs.List.{AllByRecursion}
 use Rattle.linx_base.specs.declared.identity.Inc.{Inc}
 use Rattle.linx_base.specs.declared.identity.NodeNo.{NodeNo}
-use Rattle.linx_base.specs.declared.name.Names.{Names}
 use Rattle.journal.specs.declared.effect.Step.{Step}
 use Rattle.journal.specs.History.{closed_step, endpoint_of, has_ended, name_of, open_endpoints, opened_on}
 use Rattle.journal.specs.Laws.{IsLegal}
-use Rattle.journal.specs.Living.{living, living_after}
+use Rattle.journal.specs.Living.{living}
 use Rattle.journal.specs.Logs.{Log, step_limit}
-use Rattle.journal.specs.Pending.{hunting, hunts_past, owed, owed_past}
-use Rattle.journal.specs.Queues.{items_in, left_by, queued, unless_opened}
+use Rattle.journal.specs.Pending.{hunting, owed}
+use Rattle.journal.specs.Queues.{queued}
 use Rattle.journal.specs.Rest.{waits_with}
 use Rattle.journal.specs.Shapes.{Shape}
-use Rattle.journal.specs.Traffic.{is_endpoint}
 use Rattle.node_kernel.specs.Nodes.{NodeState, OpenEndpoint}
 use Rattle.fabric.specs.declared.standing.Standing.{Standing}
 

@@ -616,7 +616,12 @@ impl Fabric {
     }
 
     /// A refusal of what was asked, which frees the hand.
-    fn refuse(&mut self, actor: u32, reason: Refusal, hand: Option<Signal>) -> Result<StepAnswer, StepStop>
+    fn refuse(
+        &mut self,
+        actor: u32,
+        reason: Refusal,
+        hand: Option<Signal>,
+    ) -> Result<StepAnswer, StepStop>
         requires maker { IsMaker self.old.shape self.old.log.steps (By.Actor actor) }
         requires short { length self.old.log.steps < 200000 }
         ensures ok { IfOk result (λ answer. Makes self.old.shape self.old.log.steps actor (refused reason) answer self.new.log.steps) }

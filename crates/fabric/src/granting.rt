@@ -44,7 +44,9 @@ pub(crate) fn refusal_of(standing: &Standing, event: &Event) -> Option<Refusal>
         }
         None => {
             if needs_endpoint(event) {
-                return Some(Refusal::NotOpen { at: standing.closed });
+                return Some(Refusal::NotOpen {
+                    at: standing.closed,
+                });
             }
             None
         }

@@ -3,9 +3,7 @@ ghost use Rattle.fabric.specs.Machine.{FitsEvent, hands_over, is_link_event, sig
 
 use crate::Fabric;
 use journal::{By, Event, Refusal, SentTo};
-use linx_base::{
-    AttRef, Inc, Kind, Name, NameList, Names, NodeNo, Path, Peer, Signal,
-};
+use linx_base::{AttRef, Inc, Kind, Name, NameList, Names, NodeNo, Path, Peer, Signal};
 use node_kernel::StepAnswer;
 use sigsel::Sigsel;
 use std::alloc::Global;
@@ -25,7 +23,9 @@ fn named(rt: &impl Abort, alloc: Global, bytes: &[u8]) -> Name {
 fn numbered(rt: &impl Abort, alloc: Global, number: u32) -> Signal
     ensures { result.bytes ≡ [] }
 {
-    Signal::alloc(alloc, number, b"").ok().expect(rt, "a signal")
+    Signal::alloc(alloc, number, b"")
+        .ok()
+        .expect(rt, "a signal")
 }
 
 /// Two nodes, and two actors on these of them.
@@ -76,9 +76,21 @@ fn ask(
 fn each_waits_once_and_the_lower_finds_none_at_rest(rt: HostRuntime) -> Result<(), Fail> {
     let alloc = rt.alloc();
     let mut fabric = two_actors(&rt, alloc, NodeNo(1), NodeNo(2));
-    let opened = ask(&rt, &mut fabric, 1, Event::Open(named(&rt, alloc, b"p")), None);
+    let opened = ask(
+        &rt,
+        &mut fabric,
+        1,
+        Event::Open(named(&rt, alloc, b"p")),
+        None,
+    );
     assert!(rt; matches!(&opened, StepAnswer::Opened(inc) if *inc == FIRST_OF_1));
-    let opened = ask(&rt, &mut fabric, 2, Event::Open(named(&rt, alloc, b"q")), None);
+    let opened = ask(
+        &rt,
+        &mut fabric,
+        2,
+        Event::Open(named(&rt, alloc, b"q")),
+        None,
+    );
     assert!(rt; matches!(&opened, StepAnswer::Opened(inc) if *inc == FIRST_OF_2));
     let looked = ask(&rt, &mut fabric, 1, Event::Look(Sigsel::Any), None);
     assert!(rt; matches!(&looked, StepAnswer::NotYet) && fabric.journal().len() == 3);
@@ -101,19 +113,49 @@ fn actors_of_one_node_reach_each_other(rt: HostRuntime) -> Result<(), Fail> {
     let alloc = rt.alloc();
     let mut fabric = two_actors(&rt, alloc, NodeNo(1), NodeNo(1));
     let path = Path::Local(named(&rt, alloc, b"q"));
-    ask(&rt, &mut fabric, 1, Event::Open(named(&rt, alloc, b"p")), None);
-    let hunted = ask(&rt, &mut fabric, 1, Event::Hunt(path), Some(numbered(&rt, alloc, 3)));
+    ask(
+        &rt,
+        &mut fabric,
+        1,
+        Event::Open(named(&rt, alloc, b"p")),
+        None,
+    );
+    let hunted = ask(
+        &rt,
+        &mut fabric,
+        1,
+        Event::Hunt(path),
+        Some(numbered(&rt, alloc, 3)),
+    );
     assert!(rt; matches!(&hunted, StepAnswer::Hunted(2)));
-    ask(&rt, &mut fabric, 2, Event::Open(named(&rt, alloc, b"q")), None);
+    ask(
+        &rt,
+        &mut fabric,
+        2,
+        Event::Open(named(&rt, alloc, b"q")),
+        None,
+    );
     let took = ask(&rt, &mut fabric, 1, Event::Look(Sigsel::Any), None);
     assert!(rt;
         matches!(&took, StepAnswer::Took(item) if item.signal.number() == 3
             && item.from == Peer::Here(SECOND_OF_1) && item.kind == Kind::Found(2))
     );
     let to = Peer::Here(SECOND_OF_1);
-    let attached = ask(&rt, &mut fabric, 1, Event::Attach(to), Some(numbered(&rt, alloc, 4)));
+    let attached = ask(
+        &rt,
+        &mut fabric,
+        1,
+        Event::Attach(to),
+        Some(numbered(&rt, alloc, 4)),
+    );
     assert!(rt; matches!(&attached, StepAnswer::Attached(AttRef(5))));
-    let sent = ask(&rt, &mut fabric, 1, Event::Send(to), Some(numbered(&rt, alloc, 5)));
+    let sent = ask(
+        &rt,
+        &mut fabric,
+        1,
+        Event::Send(to),
+        Some(numbered(&rt, alloc, 5)),
+    );
     assert!(rt; matches!(&sent, StepAnswer::Sent(SentTo::Queued)));
     let took = ask(&rt, &mut fabric, 2, Event::Look(Sigsel::Any), None);
     assert!(rt;
@@ -126,7 +168,13 @@ fn actors_of_one_node_reach_each_other(rt: HostRuntime) -> Result<(), Fail> {
         matches!(&took, StepAnswer::Took(item) if item.signal.number() == 4
             && item.kind == Kind::Notice(AttRef(5)))
     );
-    let sent = ask(&rt, &mut fabric, 1, Event::Send(to), Some(numbered(&rt, alloc, 6)));
+    let sent = ask(
+        &rt,
+        &mut fabric,
+        1,
+        Event::Send(to),
+        Some(numbered(&rt, alloc, 6)),
+    );
     assert!(rt; matches!(&sent, StepAnswer::Sent(SentTo::Dead)));
     Ok(())
 }
@@ -135,8 +183,20 @@ fn actors_of_one_node_reach_each_other(rt: HostRuntime) -> Result<(), Fail> {
 fn a_restart_closes_the_endpoints_of_its_node(rt: HostRuntime) -> Result<(), Fail> {
     let alloc = rt.alloc();
     let mut fabric = two_actors(&rt, alloc, NodeNo(1), NodeNo(2));
-    ask(&rt, &mut fabric, 1, Event::Open(named(&rt, alloc, b"p")), None);
-    ask(&rt, &mut fabric, 2, Event::Open(named(&rt, alloc, b"q")), None);
+    ask(
+        &rt,
+        &mut fabric,
+        1,
+        Event::Open(named(&rt, alloc, b"p")),
+        None,
+    );
+    ask(
+        &rt,
+        &mut fabric,
+        2,
+        Event::Open(named(&rt, alloc, b"q")),
+        None,
+    );
     let done = ask(&rt, &mut fabric, 1, Event::Restart(NodeNo(2)), None);
     assert!(rt; matches!(&done, StepAnswer::Done) && fabric.endpoint_of(2).is_none());
     assert!(rt; fabric.endpoint_of(1) == Some(FIRST_OF_1));
@@ -154,11 +214,31 @@ fn what_is_not_granted_is_refused(rt: HostRuntime) -> Result<(), Fail> {
     let alloc = rt.alloc();
     let mut fabric = two_actors(&rt, alloc, NodeNo(1), NodeNo(1));
     let to = Peer::Here(FIRST_OF_1);
-    let refused = ask(&rt, &mut fabric, 1, Event::Send(to), Some(numbered(&rt, alloc, 7)));
+    let refused = ask(
+        &rt,
+        &mut fabric,
+        1,
+        Event::Send(to),
+        Some(numbered(&rt, alloc, 7)),
+    );
     assert!(rt; matches!(&refused, StepAnswer::Refused(Refusal::NotOpen { at: 0 })));
-    ask(&rt, &mut fabric, 1, Event::Open(named(&rt, alloc, b"p")), None);
-    let refused = ask(&rt, &mut fabric, 1, Event::Open(named(&rt, alloc, b"q")), None);
-    assert!(rt; matches!(&refused, StepAnswer::Refused(Refusal::IsOpen { inc }) if *inc == FIRST_OF_1));
+    ask(
+        &rt,
+        &mut fabric,
+        1,
+        Event::Open(named(&rt, alloc, b"p")),
+        None,
+    );
+    let refused = ask(
+        &rt,
+        &mut fabric,
+        1,
+        Event::Open(named(&rt, alloc, b"q")),
+        None,
+    );
+    assert!(rt;
+        matches!(&refused, StepAnswer::Refused(Refusal::IsOpen { inc }) if *inc == FIRST_OF_1)
+    );
     ask(&rt, &mut fabric, 1, Event::Close, None);
     let refused = ask(&rt, &mut fabric, 1, Event::Look(Sigsel::Any), None);
     assert!(rt; matches!(&refused, StepAnswer::Refused(Refusal::NotOpen { at: 4 })));

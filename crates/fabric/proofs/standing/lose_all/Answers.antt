@@ -1,4 +1,4 @@
-use Rattle.std.proofs.Common.{ℕ, ◌≡◌, ◌<◌, ◌++◌, suc, sym, ◌∙◌, ap, add-one, set, arith, get_or, List, length, map, take, drop}
+use Rattle.std.proofs.Common.{ℕ, ◌≡◌, ◌++◌, sym, ◌∙◌, ap, add-one, set, get_or, List, map, take, drop}
 use Rattle.fabric.specs.Standings.{past_effects}
 use Rattle.fabric.specs.declared.standing.Standing.{Standing}
 use Rattle.fabric.proofs.Counting.{map-turn}
@@ -11,7 +11,7 @@ loop-standing-preserved c =
     let f : Standing → Standing = past_effects c.args.step c.args.effects.now in
     let item : Standing = c.standing-item.result in
     let before : c.loop-standing.standings ≡ map f (take k xs) ++ drop k xs = c.loop-standing.invariant in
-    ap (λ (z : Standing). set c.loop-standing.standings k z) c.lose.ensures
+    ap (λ (z : Standing). set c.loop-standing.standings k z) (c.lose.ensures ∙ ap f (sym c.standing-item.is))
     ∙ ap (λ (ys : List Standing). set ys k (f item)) before
     ∙ map-turn f xs k item c.loop-standing-test.true (c.standing-item.is ∙ ap (λ (ys : List Standing). get_or ys k item) before)
     ∙ ap (λ (n : ℕ). map f (take n xs) ++ drop n xs) (sym (add-one k))

@@ -1,11 +1,9 @@
-use Rattle.std.proofs.Common.{◌≡◌, ◌<◌, ◌-◌, true, false, length, is_some, Option, Some, None, sym, ◌∙◌, ap, arith}
-use Rattle.linx_base.specs.declared.identity.Inc.{Inc}
+use Rattle.std.proofs.Common.{◌≡◌, ◌<◌, ◌-◌, length, Some, sym, ◌∙◌, arith}
 use Rattle.journal.specs.declared.by.By.TheVariants.{Actor}
 use Rattle.journal.specs.History.{endpoint_of}
 use Rattle.journal.specs.Laws.{IsMaker}
 use Rattle.journal.specs.Logs.{Log}
 use Rattle.journal.specs.Shapes.{Shape}
-use Rattle.fabric.specs.declared.standing.Standing.{Standing}
 use Rattle.fabric.proofs.Made.{made-attach, actor-at, own_open, kept-same}
 use Rattle.fabric.proofs.fabric.Fabric.attach.Goals as goal
 

@@ -1,12 +1,10 @@
 use Rattle.journal.specs.Shapes.{node_by}
-use Rattle.std.proofs.Common.{◌≡◌, ◌<◌, ◌-◌, true, false, length, is_some, Option, Some, None, sym, ◌∙◌, ap, arith}
-use Rattle.linx_base.specs.declared.identity.Inc.{Inc}
+use Rattle.std.proofs.Common.{◌≡◌, ◌<◌, ◌-◌, length, None, arith}
 use Rattle.journal.specs.declared.by.By.TheVariants.{Actor}
 use Rattle.journal.specs.History.{endpoint_of}
 use Rattle.journal.specs.Laws.{IsMaker}
 use Rattle.journal.specs.Logs.{Log}
 use Rattle.journal.specs.Shapes.{Shape}
-use Rattle.fabric.specs.declared.standing.Standing.{Standing}
 use Rattle.fabric.proofs.Made.{made-end_closed, actor-home}
 use Rattle.fabric.proofs.fabric.Fabric.end_closed.Goals as goal
 

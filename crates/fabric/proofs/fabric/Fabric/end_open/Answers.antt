@@ -1,5 +1,4 @@
-use Rattle.std.proofs.Common.{◌≡◌, ◌<◌, ◌-◌, true, false, length, is_some, Option, Some, None, sym, ◌∙◌, ap, arith}
-use Rattle.linx_base.specs.declared.identity.Inc.{Inc}
+use Rattle.std.proofs.Common.{◌≡◌, ◌<◌, ◌-◌, true, length, Some, None, ◌∙◌, ap, arith}
 use Rattle.journal.specs.declared.by.By.TheVariants.{Actor}
 use Rattle.journal.specs.History.{endpoint_of}
 use Rattle.journal.specs.Laws.{IsMaker}

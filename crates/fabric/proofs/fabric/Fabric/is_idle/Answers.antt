@@ -1,12 +1,7 @@
 use Rattle.std.proofs.Common.{◌≤◌}
-use Rattle.std.proofs.Common.{◌≡◌, ◌<◌, ◌-◌, true, false, length, is_some, Option, Some, None, sym, ◌∙◌, ap, arith}
-use Rattle.linx_base.specs.declared.identity.Inc.{Inc}
-use Rattle.journal.specs.declared.by.By.TheVariants.{Actor}
-use Rattle.journal.specs.History.{endpoint_of}
-use Rattle.journal.specs.Laws.{IsMaker}
+use Rattle.std.proofs.Common.{◌-◌, length, ◌∙◌, arith}
 use Rattle.journal.specs.Logs.{Log}
 use Rattle.journal.specs.Shapes.{Shape}
-use Rattle.fabric.specs.declared.standing.Standing.{Standing}
 use Rattle.fabric.proofs.Made.{actor-at, idle-open, idle-is}
 use Rattle.fabric.proofs.fabric.Fabric.is_idle.Goals as goal
 

@@ -1,12 +1,10 @@
 use Rattle.std.proofs.Common.{◌≤◌}
-use Rattle.std.proofs.Common.{◌≡◌, ◌<◌, ◌-◌, true, false, length, is_some, Option, Some, None, sym, ◌∙◌, ap, arith}
-use Rattle.linx_base.specs.declared.identity.Inc.{Inc}
+use Rattle.fabric.proofs.Counting.{take-front}
+use Rattle.std.proofs.Common.{◌≡◌, ◌<◌, ◌-◌, length, ◌∙◌, arith}
 use Rattle.journal.specs.declared.by.By.TheVariants.{Actor}
-use Rattle.journal.specs.History.{endpoint_of}
 use Rattle.journal.specs.Laws.{IsMaker}
 use Rattle.journal.specs.Logs.{Log}
 use Rattle.journal.specs.Shapes.{Shape}
-use Rattle.fabric.specs.declared.standing.Standing.{Standing}
 use Rattle.fabric.proofs.Made.{made-restart, actor-home}
 use Rattle.fabric.proofs.fabric.Fabric.restart.Goals as goal
 
@@ -19,7 +17,8 @@ invariant_of-self c =
     let above : 0 < c.args.node.0 = c.requires.asked.fits.0 in
     let below : c.args.node.0 ≤ length log.names.nodes = rw (← c.self.view_is) at c.requires.asked.fits.1 in
     let at = actor-home shape log c.self.inside.kernels.items c.self.inside.standings.items c.self.invariant.kept (omega arith) c.args.actor maker.0 maker.1 in
-    (made-restart shape log c.self.inside.kernels.items c.self.inside.standings.items c.args.actor (c.args.actor - 1) c.self.invariant.kept short at.own at.inside maker c.args.node (c.args.node.0 - 1) (omega arith) (omega (arith, c.self.invariant.kept.nodes)) (length log.names.nodes) above below c.index_mut.result.now c.make_restart-made.new.kernel c.index_mut.ensures.value c.in-Ok.ensures.kernel c.make_restart-made.new.standings (rw c.deref_mut.ensures.value at c.in-Ok.ensures.standings) c.index_mut-in-Ok.result.now c.wait.new.self c.index_mut-in-Ok.ensures.value c.wait.ensures c.make_restart-made.new.journal.log c.in-Ok.ensures.log).0
+    let counted : length c.make_restart-made.new.standings ≡ c.self.inside.standings.len = omega (arith, c.make_restart-made.auto.standings, c.deref_mut.ensures.len) in
+    (made-restart shape log c.self.inside.kernels.items c.self.inside.standings.items c.args.actor (c.args.actor - 1) c.self.invariant.kept short at.own at.inside maker c.args.node (c.args.node.0 - 1) (omega arith) (omega (arith, c.self.invariant.kept.nodes)) (length log.names.nodes) above below c.index_mut.result.now c.make_restart-made.new.kernel c.index_mut.ensures.value c.in-Ok.ensures.kernel _ (take-front c.make_restart-made.new.standings _ c.self.inside.standings.len counted ∙ rw c.deref_mut.ensures.value at c.in-Ok.ensures.standings) c.index_mut-in-Ok.result.now c.wait.new.self c.index_mut-in-Ok.ensures.value c.wait.ensures c.make_restart-made.new.journal.log c.in-Ok.ensures.log).0
 
 pub returns-in-Ok-clause-ok : goal.returns-in-Ok-clause-ok
 returns-in-Ok-clause-ok c =
@@ -30,4 +29,5 @@ returns-in-Ok-clause-ok c =
     let above : 0 < c.args.node.0 = c.requires.asked.fits.0 in
     let below : c.args.node.0 ≤ length log.names.nodes = rw (← c.self.view_is) at c.requires.asked.fits.1 in
     let at = actor-home shape log c.self.inside.kernels.items c.self.inside.standings.items c.self.invariant.kept (omega arith) c.args.actor maker.0 maker.1 in
-    rw (← c.self.view_is) ((made-restart shape log c.self.inside.kernels.items c.self.inside.standings.items c.args.actor (c.args.actor - 1) c.self.invariant.kept short at.own at.inside maker c.args.node (c.args.node.0 - 1) (omega arith) (omega (arith, c.self.invariant.kept.nodes)) (length log.names.nodes) above below c.index_mut.result.now c.make_restart-made.new.kernel c.index_mut.ensures.value c.in-Ok.ensures.kernel c.make_restart-made.new.standings (rw c.deref_mut.ensures.value at c.in-Ok.ensures.standings) c.index_mut-in-Ok.result.now c.wait.new.self c.index_mut-in-Ok.ensures.value c.wait.ensures c.make_restart-made.new.journal.log c.in-Ok.ensures.log).1)
+    let counted : length c.make_restart-made.new.standings ≡ c.self.inside.standings.len = omega (arith, c.make_restart-made.auto.standings, c.deref_mut.ensures.len) in
+    rw (← c.self.view_is) ((made-restart shape log c.self.inside.kernels.items c.self.inside.standings.items c.args.actor (c.args.actor - 1) c.self.invariant.kept short at.own at.inside maker c.args.node (c.args.node.0 - 1) (omega arith) (omega (arith, c.self.invariant.kept.nodes)) (length log.names.nodes) above below c.index_mut.result.now c.make_restart-made.new.kernel c.index_mut.ensures.value c.in-Ok.ensures.kernel _ (take-front c.make_restart-made.new.standings _ c.self.inside.standings.len counted ∙ rw c.deref_mut.ensures.value at c.in-Ok.ensures.standings) c.index_mut-in-Ok.result.now c.wait.new.self c.index_mut-in-Ok.ensures.value c.wait.ensures c.make_restart-made.new.journal.log c.in-Ok.ensures.log).1)

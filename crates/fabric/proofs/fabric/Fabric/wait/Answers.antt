@@ -1,7 +1,6 @@
 use Rattle.journal.specs.Shapes.{node_by}
 use Rattle.sigsel.specs.declared.sigsel.Sigsel.{Sigsel}
-use Rattle.std.proofs.Common.{◌≡◌, ◌<◌, ◌-◌, true, false, length, is_some, Option, Some, None, sym, ◌∙◌, ap, arith}
-use Rattle.linx_base.specs.declared.identity.Inc.{Inc}
+use Rattle.std.proofs.Common.{◌≡◌, ◌<◌, ◌-◌, true, length, is_some, Some, ◌∙◌, ap, arith}
 use Rattle.journal.specs.declared.by.By.TheVariants.{Actor}
 use Rattle.journal.specs.History.{endpoint_of}
 use Rattle.journal.specs.Laws.{IsMaker}
