@@ -1,7 +1,6 @@
 -- What lists of effects open, close, answer, notify and meet.
-use Rattle.std.proofs.Common.{◌≡◌, ℕ, suc, ◌+◌, Bool, true, false, cond, not, ◌||◌, List, [], ◌∷◌, ◌++◌, length, map, filter, Option, Some, None, refl, sym, ◌∙◌, ap, arith}
-use Rattle.std.specs.List.{fold, list_any, filter_map, AllByRecursion}
-use Rattle.linx_base.specs.declared.identity.AttRef.{AttRef}
+use Rattle.std.proofs.Common.{◌≡◌, ℕ, Bool, true, false, List, [], ◌∷◌, map, Option, Some, None, refl}
+use Rattle.std.specs.List.{fold, list_any, filter_map}
 use Rattle.linx_base.specs.declared.identity.Inc.{Inc}
 use Rattle.linx_base.specs.declared.identity.Peer.{Peer}
 use Rattle.linx_base.specs.declared.identity.Peer.TheVariants.{Here, There}
@@ -11,7 +10,7 @@ use Rattle.linx_base.specs.declared.pending.PendingHunt.{PendingHunt}
 use Rattle.linx_base.specs.declared.signal.Reason.{Reason}
 use Rattle.linx_base.specs.declared.signal.SigNote.{SigNote}
 use Rattle.journal.specs.declared.effect.Effect.{Effect}
-use Rattle.journal.specs.declared.effect.Effect.TheVariants.{Opened, Closed, Arrived, Found, Notified}
+use Rattle.journal.specs.declared.effect.Effect.TheVariants.{Arrived}
 use Rattle.journal.specs.Effects.{arrivals_of, attached, found, hunted, notice}
 use Rattle.journal.specs.History.{closes, opened_in, opens}
 use Rattle.journal.specs.Living.{living_after}

@@ -1,8 +1,7 @@
 -- What a step leaves of its node is what the kernel's call for it leaves: openings, closings and
 -- restarts.
-use Rattle.std.proofs.Common.{◌≡◌, ℕ, suc, ◌+◌, ◌<◌, Bool, true, false, cond, if◌then◌else◌, not, ◌||◌, ◌&&◌, List, [], ◌∷◌, ◌++◌, length, map, filter, Option, Some, None, refl, sym, ◌∙◌, ap, subst, arith}
+use Rattle.std.proofs.Common.{◌≡◌, ℕ, ◌+◌, ◌<◌, Bool, true, false, not, ◌||◌, ◌&&◌, List, [], ◌∷◌, ◌++◌, length, map, filter, Option, Some, None, refl, sym, ◌∙◌, ap, subst, arith}
 use Rattle.std.specs.List.{fold, filter_map, list_any, AllByRecursion}
-use Rattle.std.specs.Prelude.{◌==◌}
 use Rattle.std.proofs.Math.Bool.{or-false}
 use Rattle.std.proofs.lemmas.Bool.{or_left, or_right}
 use Rattle.std.proofs.lemmas.List.{append-nil, map-append}
@@ -11,7 +10,6 @@ use Rattle.linx_base.specs.Numbers.{is_on}
 use Rattle.linx_base.specs.Peers.{same_inc, same_path, same_peer}
 use Rattle.linx_base.specs.declared.identity.Inc.{Inc}
 use Rattle.linx_base.specs.declared.identity.NodeNo.{NodeNo}
-use Rattle.linx_base.specs.declared.identity.Peer.{Peer}
 use Rattle.linx_base.specs.declared.identity.Peer.TheVariants.{Here}
 use Rattle.linx_base.specs.declared.name.Path.TheVariants.{Local}
 use Rattle.linx_base.specs.declared.pending.MetPeer.{MetPeer}
@@ -19,25 +17,22 @@ use Rattle.linx_base.specs.declared.pending.PendingAttach.{PendingAttach}
 use Rattle.linx_base.specs.declared.pending.PendingHunt.{PendingHunt}
 use Rattle.linx_base.specs.declared.signal.Reason.TheVariants as reasons
 use Rattle.journal.specs.declared.effect.Effect.{Effect}
-use Rattle.journal.specs.declared.effect.Effect.TheVariants.{Opened, Closed}
-use Rattle.journal.specs.declared.effect.Step.{Step}
 use Rattle.journal.specs.declared.head.Head.{Head}
-use Rattle.journal.specs.declared.head.Head.TheVariants.{Open, Close, Ended, Restart}
-use Rattle.journal.specs.Effects.{closing, closings, found, founds, held_elsewhere, notice, notices, opening}
-use Rattle.journal.specs.History.{closes, next_inc, opened_by, opened_in, opens}
+use Rattle.journal.specs.declared.head.Head.TheVariants.{Open, Restart}
+use Rattle.journal.specs.Effects.{closing, closings, founds, held_elsewhere, notice, notices, opening}
+use Rattle.journal.specs.History.{closes, opened_by, opened_in, opens}
 use Rattle.journal.specs.Living.{living_after}
 use Rattle.journal.specs.Pending.{answers_hunt, attach_in, detaches, ends_hunt, hunt_in, hunts_past, notifies, owed_past, settles}
-use Rattle.journal.specs.Queues.{items_in, left_by}
+use Rattle.journal.specs.Queues.{items_in}
 use Rattle.journal.specs.Traffic.{is_endpoint}
 use Rattle.journal.proofs.Lists.{all-impl, filter-every, filter-filter}
 use Rattle.journal.proofs.Openings.{Rising, same_inc-refl, same_inc-true}
 use Rattle.node_kernel.specs.Nodes.{NodeState, OpenEndpoint, is_at, next_of, put_all, put_into, without_endpoint}
 use Rattle.node_kernel.specs.Calls.{after_close, after_open, after_restart, apart_from}
-use Rattle.fabric.specs.Remains.{endpoint_left}
-use Rattle.fabric.proofs.Effects.{AnswersNone, NotifiesNone, OnlyItems, founds-notify_none, notices-answer_none, only-founds, only-notices}
+use Rattle.fabric.proofs.Effects.{OnlyItems, founds-notify_none, notices-answer_none, only-founds, only-notices}
 use Rattle.fabric.proofs.Leaving.{after_step, endpoint_past, endpoints_past, new_endpoint, stays}
-use Rattle.fabric.proofs.Pendings.{Rises, all-both, answered-each, filter-agree, notified-each}
-use Rattle.fabric.proofs.Putting.{TakesNone, left_by-empty, left_by-none, state_by_parts}
+use Rattle.fabric.proofs.Pendings.{Rises, answered-each, filter-agree, notified-each}
+use Rattle.fabric.proofs.Putting.{TakesNone, left_by-none, state_by_parts}
 use Rattle.fabric.proofs.Takings.{same_inc-above, same_inc-sym}
 
 all-each : {X : Type 0} (P : X → Type 0) → ((x : X) → P x) → (xs : List X) → AllByRecursion P xs

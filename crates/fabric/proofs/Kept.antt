@@ -1,24 +1,23 @@
 -- What a fabric keeps over one step.
-use Rattle.std.proofs.Common.{◌≡◌, ◌≢◌, ℕ, zero, suc, ◌+◌, ◌<◌, ◌≤◌, Bool, true, false, cond, not, ◌||◌, List, [], ◌∷◌, ◌++◌, length, map, filter, Option, Some, None, refl, sym, ◌∙◌, ap, subst, arith}
+use Rattle.std.proofs.Common.{◌≡◌, ◌≢◌, ℕ, zero, suc, ◌<◌, Bool, true, false, ◌||◌, List, [], ◌∷◌, length, filter, Option, Some, None, refl, sym, ◌∙◌, ap, subst, arith}
 use Rattle.std.specs.Prelude.{◌==◌, slice_get, slice_set}
-use Rattle.std.specs.List.{fold, list_any, AllByRecursion}
+use Rattle.std.specs.List.{fold, list_any}
 use Rattle.std.proofs.Math.Bool.{or-false}
-use Rattle.std.proofs.lemmas.Bool.{eqb-true, eq-eqb, false_from_ne_true, ne_eqb, or_cases, true≢false}
+use Rattle.std.proofs.lemmas.Bool.{eqb-true, eq-eqb, false_from_ne_true, ne_eqb, true≢false}
 use Rattle.linx_base.specs.Peers.{same_inc, same_peer}
 use Rattle.linx_base.specs.declared.identity.Inc.{Inc}
-use Rattle.linx_base.specs.declared.identity.NodeNo.{NodeNo}
 use Rattle.linx_base.specs.declared.identity.Peer.TheVariants.{Here}
 use Rattle.linx_base.specs.declared.name.Path.TheVariants.{Local}
 use Rattle.linx_base.specs.declared.pending.MetPeer.{MetPeer}
 use Rattle.linx_base.specs.declared.pending.PendingAttach.{PendingAttach}
 use Rattle.linx_base.specs.declared.signal.Reason.TheVariants as reasons
 use Rattle.journal.specs.declared.by.By.{By}
-use Rattle.journal.specs.declared.by.By.TheVariants.{Actor, Pump}
+use Rattle.journal.specs.declared.by.By.TheVariants.{Actor}
 use Rattle.journal.specs.declared.effect.Effect.{Effect}
 use Rattle.journal.specs.declared.effect.Step.{Step}
 use Rattle.journal.specs.declared.head.Head.{Head}
 use Rattle.journal.specs.declared.head.Head.TheVariants.{Open, Close, Send, Take, TakeNone, Waits, Hunt, Attach, Detach, Cut, Mend, Settle, Restart, Wire, Tick, Refused, Ended}
-use Rattle.journal.specs.Effects.{closing, closings, ending, held_elsewhere, hunts_for, notices}
+use Rattle.journal.specs.Effects.{closing, closings, ending, held_elsewhere, hunts_for}
 use Rattle.journal.specs.History.{closes, endpoint_by, endpoint_of, is_by, is_lost, next_inc, open_endpoints, opened_on}
 use Rattle.journal.specs.Laws.{IsLegal, IsLegalStep, effects_by}
 use Rattle.journal.specs.Living.{find, is_alive, living, living_after}

@@ -1,13 +1,11 @@
 -- What one more step leaves of a node: its tables after the step are a function of those before it.
-use Rattle.std.proofs.Common.{◌≡◌, ℕ, suc, Bool, true, false, cond, if◌then◌else◌, ◌+◌, not, List, [], ◌∷◌, ◌++◌, length, map, filter, Option, Some, None, refl, sym, ◌∙◌, ap, arith}
+use Rattle.std.proofs.Common.{◌≡◌, ℕ, suc, Bool, true, false, cond, if◌then◌else◌, ◌+◌, not, List, [], ◌∷◌, ◌++◌, length, map, filter, Option, refl, sym, ◌∙◌, ap, arith}
 use Rattle.std.proofs.lemmas.Bool.Decides.{nat_tests}
 use Rattle.std.specs.List.{fold, list_any, filter_map, AllByRecursion}
 use Rattle.std.proofs.lemmas.Bool.{or_left, or_right}
 use Rattle.std.proofs.lemmas.List.{map-append}
 use Rattle.linx_base.specs.declared.identity.Inc.{Inc}
 use Rattle.linx_base.specs.declared.identity.NodeNo.{NodeNo}
-use Rattle.linx_base.specs.declared.item.Item.{Item}
-use Rattle.linx_base.specs.declared.pending.MetPeer.{MetPeer}
 use Rattle.journal.specs.declared.head.Head.{Head}
 use Rattle.journal.specs.declared.effect.Effect.{Effect}
 use Rattle.journal.specs.declared.effect.Effect.TheVariants.{Opened, Closed, Arrived, Found, Notified, Met, Gone, Up, Down}

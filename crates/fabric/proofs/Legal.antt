@@ -1,6 +1,6 @@
 -- The step that the machine makes is legal.
-use Rattle.std.proofs.Common.{◌≡◌, ◌≢◌, ℕ, zero, suc, ◌+◌, ◌<◌, ◌≤◌, Bool, true, false, cond, not, ◌||◌, List, [], ◌∷◌, length, Option, Some, None, is_none, inl, inr, refl, sym, ◌∙◌, ap, subst, arith}
-use Rattle.std.specs.Prelude.{◌&&◌, ◌==◌, is_some, if◌then◌else◌}
+use Rattle.std.proofs.Common.{◌≡◌, ◌≢◌, ℕ, zero, suc, ◌<◌, ◌≤◌, Bool, true, false, cond, ◌||◌, List, [], length, Option, Some, None, is_none, inl, inr, refl, sym, ◌∙◌, subst, arith}
+use Rattle.std.specs.Prelude.{◌==◌, is_some}
 use Rattle.std.proofs.lemmas.Bool.{and_parts, eqb-true, ne_eqb, or_cases, true≢false}
 use Rattle.linx_base.specs.Content.{data_limit}
 use Rattle.linx_base.specs.NameText.{is_name}
@@ -9,8 +9,7 @@ use Rattle.linx_base.specs.declared.item.Item.{Item}
 use Rattle.linx_base.specs.declared.signal.SigNote.{SigNote}
 use Rattle.sigsel.specs.Selection.{first_selected}
 use Rattle.sigsel.specs.declared.sigsel.Sigsel.{Sigsel}
-use Rattle.journal.specs.declared.by.By.{By}
-use Rattle.journal.specs.declared.by.By.TheVariants.{Actor, Pump}
+use Rattle.journal.specs.declared.by.By.TheVariants.{Actor}
 use Rattle.journal.specs.declared.effect.Step.{Step}
 use Rattle.journal.specs.declared.event.Event.{Event}
 use Rattle.journal.specs.declared.event.Event.TheVariants as asks
@@ -18,13 +17,13 @@ use Rattle.journal.specs.declared.head.Head.{Head}
 use Rattle.journal.specs.declared.head.Head.TheVariants as heads
 use Rattle.journal.specs.declared.head.Refusal.{Refusal}
 use Rattle.journal.specs.History.{closed_step, endpoint_of}
-use Rattle.journal.specs.Laws.{IsBounded, IsLegal, IsLegalStep, IsMaker, KeepsReceives, KeepsSends, detached_as, effects_by, is_endpoints, is_on_link, is_opening}
+use Rattle.journal.specs.Laws.{IsBounded, IsLegalStep, IsMaker, KeepsReceives, KeepsSends, detached_as, is_endpoints, is_on_link, is_opening}
 use Rattle.journal.specs.Living.{is_alive}
-use Rattle.journal.specs.Rest.{IsAtRest, leaves_at_rest, queue_of, waits_with}
+use Rattle.journal.specs.Rest.{leaves_at_rest, queue_of, waits_with}
 use Rattle.journal.specs.Shapes.{Shape, node_by}
 use Rattle.node_kernel.specs.declared.ask.Ask.{Ask}
-use Rattle.node_kernel.specs.Answers.{granted, granted_by, is_opening as opens, needs_endpoint, refused}
-use Rattle.fabric.specs.Machine.{FitsEvent, MayAsk, all_leave_at_rest, granted_step, head_of, is_at_rest, is_link_event, look, signal_in, step_of, step_with, steps_after, vain_look, with_step}
+use Rattle.node_kernel.specs.Answers.{granted_by, is_opening as opens, needs_endpoint, refused}
+use Rattle.fabric.specs.Machine.{FitsEvent, all_leave_at_rest, granted_step, head_of, is_at_rest, is_link_event, look, signal_in, step_of, step_with, vain_look}
 
 -- what the types of an event tell: its name is one, and its signal has at most 65,532 bytes
 abbrev pub IsNamedEvent : Event → Type 0

@@ -1,6 +1,5 @@
--- The pending hunts and the owed attaches of a node: their numbers rise, and are those of steps
--- made.
-use Rattle.std.proofs.Common.{◌≡◌, ℕ, suc, ◌+◌, ◌≤◌, ◌<◌, Bool, true, false, cond, not, ◌||◌, List, [], ◌∷◌, ◌++◌, length, map, filter, Option, Some, None, refl, sym, ◌∙◌, ap, subst, arith}
+-- The pending hunts and the owed attaches of a node: their numbers rise, and are those of steps made.
+use Rattle.std.proofs.Common.{◌≡◌, ℕ, suc, ◌<◌, Bool, true, false, cond, not, List, [], ◌∷◌, ◌++◌, length, map, filter, Option, Some, None, refl, arith}
 use Rattle.std.specs.List.{list_any, AllByRecursion}
 use Rattle.std.specs.Prelude.{◌==◌}
 use Rattle.std.proofs.lemmas.Bool.Decides.{nat_tests}
@@ -49,35 +48,19 @@ module _ {X : Type 0} (f : X → ℕ) where
 -- THE HUNTS
 module _ (node k : ℕ) (me : Option Inc) where
   hunt_at-number : (path : Path) (note : SigNote)
-      → AllByRecursion (λ h. h.number ≡ k) (hunt_at node k me path note) × Rises (λ h. h.number)
-      (hunt_at node k me path note)
-  hunt_at-number path note = elim me as (λ m. AllByRecursion (λ h. h.number
-      ≡ k) (hunt_at node k m path note) × Rises (λ h. h.number) (hunt_at node k m path note)) [
-        | None ↦ (tt, tt)
-        | Some j ↦ go j (is_on node j)
-      ]
+      → AllByRecursion (λ h. h.number ≡ k) (hunt_at node k me path note) × Rises (λ h. h.number) (hunt_at node k me path note)
+  hunt_at-number path note = elim me as (λ m. AllByRecursion (λ h. h.number ≡ k) (hunt_at node k m path note) × Rises (λ h. h.number) (hunt_at node k m path note)) [
+    | None ↦ (tt, tt)
+    | Some j ↦ go j (is_on node j)
+  ]
     where
-      go : (j : Inc) (b : Bool) → AllByRecursion (λ h. h.number
-          ≡ k) (cond b ((let h : PendingHunt = record {
-            at = j;
-            path = path;
-            signal =
-                note;
-            number = k;
-          } in h) ∷ []) [])
-          × Rises (λ h. h.number) (cond b ((let h : PendingHunt = record {
-            at = j;
-            path =
-                path;
-            signal = note;
-            number = k;
-          } in h) ∷ []) [])
+      go : (j : Inc) (b : Bool) → AllByRecursion (λ h. h.number ≡ k) (cond b ((let h : PendingHunt = record { at = j; path = path; signal = note; number = k } in h) ∷ []) [])
+          × Rises (λ h. h.number) (cond b ((let h : PendingHunt = record { at = j; path = path; signal = note; number = k } in h) ∷ []) [])
       go j true = ((refl, tt), (tt, tt))
       go j false = (tt, tt)
 
   pub hunt_in-number : (head : Head)
-      → AllByRecursion (λ h. h.number ≡ k) (hunt_in node k me head) × Rises (λ h. h.number)
-      (hunt_in node k me head)
+      → AllByRecursion (λ h. h.number ≡ k) (hunt_in node k me head) × Rises (λ h. h.number) (hunt_in node k me head)
   hunt_in-number (Hunt path note) = hunt_at-number path note
   hunt_in-number (Open name) = (tt, tt)
   hunt_in-number Close = (tt, tt)
@@ -97,35 +80,19 @@ module _ (node k : ℕ) (me : Option Inc) where
   hunt_in-number Ended = (tt, tt)
 
   attach_at-number : (q : Peer) (note : SigNote)
-      → AllByRecursion (λ a. a.reference.0 ≡ k) (attach_at node k me q note) × Rises
-      (λ a. a.reference.0) (attach_at node k me q note)
-  attach_at-number q note = elim me as (λ m. AllByRecursion (λ a. a.reference.0
-      ≡ k) (attach_at node k m q note) × Rises (λ a. a.reference.0) (attach_at node k m q note)) [
-        | None ↦ (tt, tt)
-        | Some j ↦ go j (is_on node j)
-      ]
+      → AllByRecursion (λ a. a.reference.0 ≡ k) (attach_at node k me q note) × Rises (λ a. a.reference.0) (attach_at node k me q note)
+  attach_at-number q note = elim me as (λ m. AllByRecursion (λ a. a.reference.0 ≡ k) (attach_at node k m q note) × Rises (λ a. a.reference.0) (attach_at node k m q note)) [
+    | None ↦ (tt, tt)
+    | Some j ↦ go j (is_on node j)
+  ]
     where
-      go : (j : Inc) (b : Bool) → AllByRecursion (λ a. a.reference.0
-          ≡ k) (cond b ((let a : PendingAttach = record {
-            at = j;
-            peer = q;
-            signal =
-                note;
-            reference = record { 0 = k };
-          } in a) ∷ []) [])
-          × Rises (λ a. a.reference.0) (cond b ((let a : PendingAttach = record {
-            at = j;
-            peer =
-                q;
-            signal = note;
-            reference = record { 0 = k };
-          } in a) ∷ []) [])
+      go : (j : Inc) (b : Bool) → AllByRecursion (λ a. a.reference.0 ≡ k) (cond b ((let a : PendingAttach = record { at = j; peer = q; signal = note; reference = record { 0 = k } } in a) ∷ []) [])
+          × Rises (λ a. a.reference.0) (cond b ((let a : PendingAttach = record { at = j; peer = q; signal = note; reference = record { 0 = k } } in a) ∷ []) [])
       go j true = ((refl, tt), (tt, tt))
       go j false = (tt, tt)
 
   pub attach_in-number : (head : Head)
-      → AllByRecursion (λ a. a.reference.0 ≡ k) (attach_in node k me head) × Rises
-      (λ a. a.reference.0) (attach_in node k me head)
+      → AllByRecursion (λ a. a.reference.0 ≡ k) (attach_in node k me head) × Rises (λ a. a.reference.0) (attach_in node k me head)
   attach_in-number (Attach q note) = attach_at-number q note
   attach_in-number (Open name) = (tt, tt)
   attach_in-number Close = (tt, tt)
@@ -151,24 +118,18 @@ hunting-below [] node = tt
 hunting-below (s ∷ P) node =
     let k : ℕ = suc (length P) in
     let new = hunt_in-number node k (endpoint_by P s.by) s.head in
-    all-filter (λ h. h.number < suc k) (λ h. not (ends_hunt s.effects h))
-    (hunting P node ++ hunt_in node k (endpoint_by P s.by) s.head)
-    (all-append (λ h. h.number < suc k) (hunting P node) (hunt_in node k
-    (endpoint_by P s.by) s.head)
-    (all-impl (λ h. h.number < k) (λ h. h.number < suc k) (λ h low. omega arith)
-    (hunting P node) (hunting-below P node))
-    (all-impl (λ h. h.number ≡ k) (λ h. h.number < suc k) (λ h e. omega arith) (hunt_in node k
-    (endpoint_by P s.by) s.head) new.0))
+    all-filter (λ h. h.number < suc k) (λ h. not (ends_hunt s.effects h)) (hunting P node ++ hunt_in node k (endpoint_by P s.by) s.head)
+    (all-append (λ h. h.number < suc k) (hunting P node) (hunt_in node k (endpoint_by P s.by) s.head)
+    (all-impl (λ h. h.number < k) (λ h. h.number < suc k) (λ h low. omega arith) (hunting P node) (hunting-below P node))
+    (all-impl (λ h. h.number ≡ k) (λ h. h.number < suc k) (λ h e. omega arith) (hunt_in node k (endpoint_by P s.by) s.head) new.0))
 
 pub hunting-rises : (P : List Step) (node : ℕ) → Rises (λ h. h.number) (hunting P node)
 hunting-rises [] node = tt
 hunting-rises (s ∷ P) node =
     let k : ℕ = suc (length P) in
     let new = hunt_in-number node k (endpoint_by P s.by) s.head in
-    rises-filter (λ h. h.number) (λ h. not (ends_hunt s.effects h))
-    (hunting P node ++ hunt_in node k (endpoint_by P s.by) s.head)
-    (rises-append (λ h. h.number) k (hunting P node) (hunt_in node k
-    (endpoint_by P s.by) s.head) (hunting-rises P node) (hunting-below P node) new.1 new.0)
+    rises-filter (λ h. h.number) (λ h. not (ends_hunt s.effects h)) (hunting P node ++ hunt_in node k (endpoint_by P s.by) s.head)
+    (rises-append (λ h. h.number) k (hunting P node) (hunt_in node k (endpoint_by P s.by) s.head) (hunting-rises P node) (hunting-below P node) new.1 new.0)
 
 pub owed-below : (P : List Step) (node : ℕ)
     → AllByRecursion (λ a. a.reference.0 < suc (length P)) (owed P node)
@@ -177,13 +138,10 @@ owed-below (s ∷ P) node =
     let k : ℕ = suc (length P) in
     let me : Option Inc = endpoint_by P s.by in
     let new = attach_in-number node k me s.head in
-    all-filter (λ a. a.reference.0 < suc k) (λ a. not (settles me s.head s.effects a))
-    (owed P node ++ attach_in node k me s.head)
+    all-filter (λ a. a.reference.0 < suc k) (λ a. not (settles me s.head s.effects a)) (owed P node ++ attach_in node k me s.head)
     (all-append (λ a. a.reference.0 < suc k) (owed P node) (attach_in node k me s.head)
-    (all-impl (λ a. a.reference.0 < k) (λ a. a.reference.0 < suc k) (λ a low. omega arith)
-    (owed P node) (owed-below P node))
-    (all-impl (λ a. a.reference.0 ≡ k) (λ a. a.reference.0 < suc k) (λ a e. omega arith)
-    (attach_in node k me s.head) new.0))
+    (all-impl (λ a. a.reference.0 < k) (λ a. a.reference.0 < suc k) (λ a low. omega arith) (owed P node) (owed-below P node))
+    (all-impl (λ a. a.reference.0 ≡ k) (λ a. a.reference.0 < suc k) (λ a e. omega arith) (attach_in node k me s.head) new.0))
 
 pub owed-rises : (P : List Step) (node : ℕ) → Rises (λ a. a.reference.0) (owed P node)
 owed-rises [] node = tt
@@ -191,10 +149,8 @@ owed-rises (s ∷ P) node =
     let k : ℕ = suc (length P) in
     let me : Option Inc = endpoint_by P s.by in
     let new = attach_in-number node k me s.head in
-    rises-filter (λ a. a.reference.0) (λ a. not (settles me s.head s.effects a))
-    (owed P node ++ attach_in node k me s.head)
-    (rises-append (λ a. a.reference.0) k (owed P node) (attach_in node k me s.head)
-    (owed-rises P node) (owed-below P node) new.1 new.0)
+    rises-filter (λ a. a.reference.0) (λ a. not (settles me s.head s.effects a)) (owed P node ++ attach_in node k me s.head)
+    (rises-append (λ a. a.reference.0) k (owed P node) (attach_in node k me s.head) (owed-rises P node) (owed-below P node) new.1 new.0)
 
 -- WHICH OF THEM ARE NAMED. Where numbers rise, the effects of some of a list name just these
 not_numbered : (n m : ℕ) → n < m → (m == n) ≡ false
@@ -227,8 +183,7 @@ module _ {X : Type 0} (f : X → ℕ) (e : X → Effect) (names : X → Effect �
   named-none x [] all = refl
   named-none x (y ∷ xs) all =
       let rest = named-none x xs all.1 in
-      elim (p y) as (λ b. list_any (names x) (map e (cond b (y ∷ filter p xs) (filter p xs)))
-      ≡ false) [
+      elim (p y) as (λ b. list_any (names x) (map e (cond b (y ∷ filter p xs) (filter p xs))) ≡ false) [
         | true ↦ rw (another x y all.0) rest
         | false ↦ rest
       ]
@@ -236,8 +191,7 @@ module _ {X : Type 0} (f : X → ℕ) (e : X → Effect) (names : X → Effect �
   named-head : (x : X) (xs : List X) → AllByRecursion (λ y. f x < f y) xs
       → list_any (names x) (map e (filter p (x ∷ xs))) ≡ p x
   named-head x xs later =
-      let rest = named-none x xs (all-impl (λ y. f x < f y) (λ y. (f y == f x)
-      ≡ false) (λ y low. not_numbered (f x) (f y) low) xs later) in
+      let rest = named-none x xs (all-impl (λ y. f x < f y) (λ y. (f y == f x) ≡ false) (λ y low. not_numbered (f x) (f y) low) xs later) in
       elim (p x) as (λ b. list_any (names x) (map e (cond b (x ∷ filter p xs) (filter p xs))) ≡ b) [
         | true ↦ rw (itself x) refl
         | false ↦ rest
@@ -261,13 +215,11 @@ module _ {X : Type 0} (f : X → ℕ) (e : X → Effect) (names : X → Effect �
     all-impl (λ y. (f x < f y) × (list_any (names y) (map e (filter p xs)) ≡ p y))
         (λ y. list_any (names y) (map e (filter p (x ∷ xs))) ≡ p y)
         (λ y h. named-tail x xs y (p y) h.0 h.1) xs
-        (all-both (λ y. f x < f y) (λ y. list_any (names y) (map e (filter p xs))
-        ≡ p y) xs up.0 (named-each xs up.1)),
+        (all-both (λ y. f x < f y) (λ y. list_any (names y) (map e (filter p xs)) ≡ p y) xs up.0 (named-each xs up.1)),
   )
 
 -- the answered hunts
-pub answered-each : (q : Peer) (p : PendingHunt → Bool) (hs : List PendingHunt)
-    → Rises (λ h. h.number) hs
+pub answered-each : (q : Peer) (p : PendingHunt → Bool) (hs : List PendingHunt) → Rises (λ h. h.number) hs
     → AllByRecursion (λ h. list_any (answers_hunt h) (map (found q) (filter p hs)) ≡ p h) hs
 answered-each q p hs up =
     named-each (λ h. h.number) (found q) answers_hunt (λ h g other. rw other refl)

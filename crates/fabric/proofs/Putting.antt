@@ -1,6 +1,5 @@
 -- What a step that only brings items leaves of a node.
-use Rattle.std.proofs.Common.{◌≡◌, ℕ, suc, ◌+◌, Bool, true, false, cond, if◌then◌else◌, not, ◌||◌, List, [], ◌∷◌, ◌++◌, length, map, filter, Option, Some, None, refl, sym, ◌∙◌, ap, arith}
-use Rattle.std.specs.List.{fold, list_any, filter_map, AllByRecursion}
+use Rattle.std.proofs.Common.{◌≡◌, ℕ, ◌+◌, Bool, true, false, not, List, [], ◌∷◌, ◌++◌, length, map, filter, Option, refl, ◌∙◌, ap, arith}
 use Rattle.std.proofs.lemmas.List.{append-nil}
 use Rattle.linx_base.specs.Numbers.{is_on}
 use Rattle.linx_base.specs.declared.identity.Inc.{Inc}
@@ -11,15 +10,14 @@ use Rattle.linx_base.specs.declared.pending.PendingAttach.{PendingAttach}
 use Rattle.linx_base.specs.declared.pending.PendingHunt.{PendingHunt}
 use Rattle.journal.specs.declared.head.Head.{Head}
 use Rattle.journal.specs.declared.effect.Effect.{Effect}
-use Rattle.journal.specs.History.{closes, opened_by, opened_in, opens}
-use Rattle.journal.specs.Living.{living_after}
-use Rattle.journal.specs.Pending.{answers_hunt, attach_in, detaches, ends_hunt, hunt_in, hunts_past, notifies, owed_past, settles}
+use Rattle.journal.specs.History.{opened_by}
+use Rattle.journal.specs.Pending.{attach_in, detaches, ends_hunt, hunt_in, hunts_past, owed_past, settles}
 use Rattle.journal.specs.Queues.{items_in, left_by, removes}
 use Rattle.journal.specs.Traffic.{is_endpoint}
 use Rattle.journal.proofs.Lists.{filter-every}
 use Rattle.node_kernel.specs.Nodes.{NodeState, OpenEndpoint, put_all, put_into}
 use Rattle.fabric.proofs.Effects.{AnswersNone, NotifiesNone, OnlyItems}
-use Rattle.fabric.proofs.Leaving.{after_step, endpoint_past, endpoints_past, new_endpoint, stays}
+use Rattle.fabric.proofs.Leaving.{endpoint_past, endpoints_past, new_endpoint, stays}
 
 -- a node by its parts
 pub state_by_parts : (node : NodeNo) (n m : ℕ) (es fs : List OpenEndpoint)

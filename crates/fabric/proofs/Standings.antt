@@ -1,17 +1,12 @@
 -- What one more step leaves of an actor.
-use Rattle.std.proofs.Common.{◌≡◌, ◌≢◌, ℕ, suc, ◌<◌, ◌≤◌, Bool, true, false, cond, if◌then◌else◌, not, ◌||◌, ◌&&◌, List, [], ◌∷◌, ◌++◌, length, Option, Some, None, refl, sym, ◌∙◌, ap, subst, arith, ◌⊎◌, inl, inr}
-use Rattle.std.specs.List.{filter_map, list_any, AllByRecursion}
-use Rattle.std.specs.Prelude.{◌==◌}
-use Rattle.linx_base.specs.Peers.{same_inc}
+use Rattle.std.proofs.Common.{◌≡◌, ℕ, suc, Bool, false, if◌then◌else◌, ◌||◌, ◌&&◌, List, ◌∷◌, length, Option, Some, None, refl, sym, ◌∙◌, ap}
+use Rattle.std.specs.List.{list_any}
 use Rattle.linx_base.specs.declared.identity.Inc.{Inc}
-use Rattle.journal.specs.declared.by.By.TheVariants.{Actor}
 use Rattle.journal.specs.declared.effect.Effect.{Effect}
 use Rattle.journal.specs.declared.effect.Step.{Step}
 use Rattle.journal.specs.declared.head.Head.{Head}
-use Rattle.journal.specs.History.{closes, endpoint_of, is_by, is_end, is_lost, last_opened, unless_closed}
-use Rattle.journal.specs.Laws.{IsLegal}
+use Rattle.journal.specs.History.{closes, is_by, is_end, is_lost, last_opened, unless_closed}
 use Rattle.journal.specs.Rest.{waits_in}
-use Rattle.journal.specs.Shapes.{Shape, node_by}
 use Rattle.fabric.specs.declared.standing.Standing.{Standing}
 use Rattle.fabric.specs.Remains.{standing_left}
 

@@ -1,11 +1,9 @@
 -- What a step leaves of its node is what the kernel's call for it leaves: receives and detaches.
-use Rattle.std.proofs.Common.{◌≡◌, ℕ, suc, ◌+◌, ◌<◌, Bool, true, false, cond, if◌then◌else◌, not, ◌||◌, ◌&&◌, List, [], ◌∷◌, ◌++◌, length, map, filter, Option, Some, None, refl, sym, ◌∙◌, ap, subst, arith}
+use Rattle.std.proofs.Common.{◌≡◌, ℕ, ◌<◌, Bool, true, false, not, ◌||◌, List, [], ◌∷◌, map, filter, Some, refl, sym, ◌∙◌, ap, subst, arith}
 use Rattle.std.specs.List.{list_any, AllByRecursion}
-use Rattle.std.specs.Prelude.{◌==◌}
 use Rattle.std.proofs.Math.Bool.{or-false}
 use Rattle.std.proofs.lemmas.Bool.Decides.{nat_tests}
 use Rattle.std.proofs.lemmas.List.{append-nil}
-use Rattle.linx_base.specs.FirstMatch.{first_match, without_match}
 use Rattle.linx_base.specs.Peers.{same_inc}
 use Rattle.linx_base.specs.declared.identity.AttRef.{AttRef}
 use Rattle.linx_base.specs.declared.identity.Inc.{Inc}
@@ -19,13 +17,11 @@ use Rattle.journal.specs.declared.head.Detached.{Detached}
 use Rattle.journal.specs.declared.head.Detached.TheVariants.{Pending, Queued, None as Neither}
 use Rattle.journal.specs.declared.head.Head.{Head}
 use Rattle.journal.specs.declared.head.Head.TheVariants.{Take, Detach}
-use Rattle.journal.specs.Pending.{detaches, is_attach, settles}
-use Rattle.journal.specs.Queues.{left_by, queued, removes}
-use Rattle.journal.specs.Traffic.{is_endpoint}
-use Rattle.journal.proofs.Lists.{filter-every}
+use Rattle.journal.specs.Pending.{is_attach, settles}
+use Rattle.journal.specs.Queues.{left_by, queued}
 use Rattle.journal.proofs.Openings.{Rising, same_inc-refl, same_inc-true}
 use Rattle.journal.proofs.Queueing.{left-take}
-use Rattle.node_kernel.specs.Nodes.{NodeState, OpenEndpoint, is_at, items_at, with_items}
+use Rattle.node_kernel.specs.Nodes.{NodeState, OpenEndpoint, items_at, with_items}
 use Rattle.node_kernel.specs.Calls.{after_detach_of}
 use Rattle.fabric.specs.Remains.{endpoint_left}
 use Rattle.fabric.proofs.Effects.{only-none}
