@@ -12,5 +12,8 @@ pub mod Legal
 pub mod Kept
 pub mod Came
 pub mod Own
+pub mod Placed
+pub mod Unchanged
 pub mod Made
+pub mod Restarted
 pub mod Counting

@@ -1,11 +1,8 @@
 -- Each kind of step as the fabric's methods make it: what is kept, and that it is the machine's.
-use Rattle.std.proofs.Common.{◌≡◌, ℕ, zero, suc, ◌+◌, ◌<◌, ◌≤◌, Bool, true, false, cond, ◌||◌, List, [], ◌∷◌, length, map, Option, Some, None, get_or, refl, sym, ◌∙◌, ap, subst, add-one, arith, is_some, is_none}
-use Rattle.std.specs.Prelude.{◌==◌, ◌≢◌, ◌-◌, slice_get, slice_set}
-use Rattle.std.specs.List.{AllByRecursion}
-use Rattle.std.specs.Option.{IfSome, IsSome}
-use Rattle.std.specs.Bool.{IsTrue}
-use Rattle.linx_base.specs.FirstMatch.{first_match}
-use Rattle.std.proofs.lemmas.Bool.{eq-eqb, eqb-true, ne_eqb, true≢false}
+use Rattle.std.proofs.Common.{◌≡◌, ℕ, suc, ◌+◌, ◌<◌, ◌≤◌, Bool, true, false, ◌||◌, List, [], ◌∷◌, length, Option, Some, None, get_or, refl, sym, ◌∙◌, ap, subst, add-one, arith, is_some, is_none}
+use Rattle.std.specs.Prelude.{slice_set}
+use Rattle.std.specs.List.{filter}
+use Rattle.std.proofs.lemmas.Bool.{true≢false}
 use Rattle.linx_base.specs.Content.{data_limit}
 use Rattle.linx_base.specs.NameText.{is_name}
 use Rattle.linx_base.specs.declared.identity.AttRef.{AttRef}
@@ -20,9 +17,8 @@ use Rattle.linx_base.specs.declared.pending.PendingAttach.{PendingAttach}
 use Rattle.linx_base.specs.declared.signal.Reason.TheVariants as reasons
 use Rattle.linx_base.specs.declared.signal.SigNote.{SigNote}
 use Rattle.linx_base.specs.Peers.{same_peer}
-use Rattle.sigsel.specs.Selection.{first_selected, is_selected, without_first}
+use Rattle.sigsel.specs.Selection.{first_selected}
 use Rattle.sigsel.specs.declared.sigsel.Sigsel.{Sigsel}
-use Rattle.journal.specs.declared.by.By.{By}
 use Rattle.journal.specs.declared.by.By.TheVariants.{Actor}
 use Rattle.journal.specs.declared.effect.Effect.{Effect}
 use Rattle.journal.specs.declared.effect.Step.{Step}
@@ -32,93 +28,44 @@ use Rattle.journal.specs.declared.head.Detached.{Detached}
 use Rattle.journal.specs.declared.head.Head.{Head}
 use Rattle.journal.specs.declared.head.Head.TheVariants as heads
 use Rattle.journal.specs.declared.head.Refusal.{Refusal}
-use Rattle.journal.specs.Effects.{arrivals_of, attached, closing, closings, founds, held_elsewhere, hunted, hunts_for, opening, send_answer}
-use Rattle.journal.specs.History.{endpoint_of, is_by, is_end, last_opened, open_endpoints, unless_closed}
+use Rattle.journal.specs.Effects.{arrivals_of, attached, closing, founds, held_elsewhere, hunted, hunts_for, opening, send_answer, ending, notices}
+use Rattle.journal.specs.History.{endpoint_of, is_end}
 use Rattle.journal.specs.Laws.{IsLegalStep, IsMaker, detached_as, effects_by}
 use Rattle.journal.specs.Living.{find, is_alive}
 use Rattle.journal.specs.Logs.{Log}
 use Rattle.journal.specs.Pending.{hunting, owed}
 use Rattle.journal.specs.Queues.{queued}
-use Rattle.journal.specs.Rest.{is_idle, queue_of, waits_in, waits_in_vain, waits_with}
-use Rattle.journal.specs.Shapes.{Shape, node_by, number_or_0}
-use Rattle.journal.proofs.Openings.{IsShort, open-few, opened_on-few}
+use Rattle.journal.specs.Rest.{queue_of, waits_in, waits_with}
+use Rattle.journal.specs.Shapes.{Shape, node_by}
+use Rattle.journal.proofs.Openings.{IsShort}
 use Rattle.node_kernel.specs.declared.answers.StepAnswer.{StepAnswer}
 use Rattle.node_kernel.specs.declared.answers.StepAnswer.TheVariants as answers
-use Rattle.node_kernel.specs.Answers.{answer_of, refused}
-use Rattle.node_kernel.specs.Calls.{after_attach, after_close, after_detach, after_hunt, after_open, after_restart, after_send, detached}
-use Rattle.node_kernel.specs.Nodes.{NodeState, OpenEndpoint, endpoint_limit, find_at, is_at, items_of, with_items, is_living, is_open, items_at, next_of}
+use Rattle.node_kernel.specs.Answers.{answer_of, refused, opened_as, is_opening}
+use Rattle.node_kernel.specs.Calls.{after_attach, after_close, after_detach, after_hunt, after_open, after_send, detached, after_detach_of}
+use Rattle.node_kernel.specs.Nodes.{NodeState, find_at, is_living, items_at, next_of}
 use Rattle.fabric.specs.declared.standing.Standing.{Standing}
-use Rattle.fabric.specs.declared.makings.Looked.TheVariants.{Found, Vain}
-use Rattle.fabric.specs.Looks.{after_take, looked_at, with_take}
-use Rattle.fabric.specs.Machine.{FitsEvent, MayAsk, head_of, is_at_rest, look, signal_in, step_with, vain_look}
-use Rattle.fabric.specs.Remains.{AreStandingsLeft, IsKept, IsNode, IsWellKept, actor_limit, endpoint_left, node_left, standing_left}
-use Rattle.fabric.specs.Standings.{Makes, past_effects, vain_with}
+use Rattle.fabric.specs.Looks.{after_take, with_take}
+use Rattle.fabric.specs.Machine.{FitsEvent, head_of, is_at_rest, look, signal_in, step_with, vain_look, is_link_event, answer_with, with_step}
+use Rattle.fabric.specs.Remains.{IsWellKept, node_left, standing_left}
+use Rattle.fabric.specs.Standings.{Makes}
 use Rattle.fabric.proofs.Came.{item-came}
 use Rattle.fabric.proofs.Effects.{OnlyItems, only-arrivals, only-attached, only-founds, only-hunted, only-none, only-notices}
 use Rattle.fabric.proofs.Elsewhere.{changed_node}
-use Rattle.fabric.proofs.Kept.{get-set, get-set-other, is_restart, kept-next, kernels-next, kernels-same, length-set, living-none, standings-next}
-use Rattle.fabric.proofs.Legal.{IsGranted, LegalIf, granted-legal, refused-legal}
-use Rattle.fabric.proofs.Nodes.{detached-left, find-left, living-left, node-attach, node-close, node-detach, node-end, node-hunt, node-open, node-quiet, node-restart, node-send, node-take, own-is_open, own-items}
-use Rattle.fabric.proofs.Own.{own-close, own-open, own-quiet}
+use Rattle.fabric.proofs.Kept.{is_restart, kept-next, kernels-next, kernels-same, length-set, standings-next}
+use Rattle.fabric.proofs.Legal.{IsGranted, LegalIf, granted-legal, refused-legal, IsNamedEvent}
+use Rattle.fabric.proofs.Nodes.{detached-left, find-left, living-left, node-attach, node-close, node-detach, node-end, node-hunt, node-open, node-quiet, node-send, node-take, own-items}
+use Rattle.fabric.proofs.Own.{own-close, own-open, own-quiet, own-none, opens-same}
 use Rattle.fabric.proofs.Standings.{standing_past}
+use Rattle.fabric.proofs.Placed.{Acts, IsAt, kernel-is, standing-is, well_kept}
 
--- a list read at a place
-pub get-is : {X : Type 0} (xs : List X) (k : ℕ) (d v : X) → slice_get xs k ≡ Some v → get_or xs k d ≡ v
-get-is [] k d v is = cc
-get-is (x ∷ xs) zero d v is = cc
-get-is (x ∷ xs) (suc k) d v is = get-is xs k d v is
+module _ {shape : Shape} {log : Log} {kernels : List NodeState} {standings : List Standing}
+    {actor place home : ℕ} (acts : Acts shape log kernels standings actor place home) where
+  abbrev at : IsAt shape log kernels standings actor place home
+  at = acts.at
 
-length-mapped : {X Y : Type 0} (f : X → Y) (xs : List X) → length (map f xs) ≡ length xs
-length-mapped f [] = refl
-length-mapped f (x ∷ xs) = ap suc (length-mapped f xs)
+  abbrev maker : IsMaker shape log.steps (Actor actor)
+  maker = acts.maker
 
--- what is kept of a history with one more step, within its bounds
-well_kept : {shape : Shape} (log new : Log) (s : Step) → new ≡ record log { steps = s ∷ log.steps } → length log.steps < 200000
-    → (kernels : List NodeState) (standings : List Standing) → IsKept shape (record log { steps = s ∷ log.steps }) kernels standings
-    → IsWellKept shape new kernels standings
-well_kept {shape = shape} log new s is short kernels standings kept =
-    subst (λ (l : Log). IsWellKept shape l kernels standings) (sym is) (record { kept = kept; short = omega arith })
-
--- a fabric that is kept, one of its actors, and the places of its standing and of its node's kernel
-pub record IsAt (shape : Shape) (log : Log) (kernels : List NodeState) (standings : List Standing) (actor place home : ℕ) : Type 0 where
-  pub kept : IsKept shape log kernels standings
-  pub short : length log.steps < 4294967295
-  pub own : actor ≡ suc place
-  pub inside : place < length standings
-  pub home_is : node_by shape (Actor actor) ≡ suc home
-  pub there : home < length kernels
-
--- an actor of a fabric that is kept, with the place of its node's kernel
-pub actor-at : (shape : Shape) (log : Log) (kernels : List NodeState) (standings : List Standing) → IsKept shape log kernels standings
-    → length log.steps < 4294967295 → (actor home : ℕ) → 0 < actor → actor ≤ length shape.actors
-    → home + 1 ≡ node_by shape (Actor actor) → home < length log.names.nodes
-    → IsAt shape log kernels standings actor (actor - 1) home
-actor-at shape log kernels standings kept short actor home above within home_is there = record {
-  kept = kept;
-  short = short;
-  own = omega arith;
-  inside = omega (arith, kept.actors);
-  home_is = sym home_is ∙ add-one home;
-  there = omega (arith, kept.nodes);
-}
-
-placed-node : (nodes : ℕ) (actors : List NodeNo) (k : ℕ) → AllByRecursion (IsNode nodes) actors → k < length actors
-    → (let h : ℕ = number_or_0 (slice_get actors k) - 1 in h + 1 ≡ number_or_0 (slice_get actors k)) × (number_or_0 (slice_get actors k) - 1 < nodes)
-placed-node nodes [] k all within = absurd (omega arith)
-placed-node nodes (n ∷ actors) zero all within = let above : 0 < n.0 = all.0.0 in let below : n.0 ≤ nodes = all.0.1 in (omega arith, omega arith)
-placed-node nodes (n ∷ actors) (suc k) all within = placed-node nodes actors k all.1 (omega arith)
-
--- the same where no kernel is looked up
-pub actor-home : (shape : Shape) (log : Log) (kernels : List NodeState) (standings : List Standing) → IsKept shape log kernels standings
-    → length log.steps < 4294967295 → (actor : ℕ) → 0 < actor → actor ≤ length shape.actors
-    → IsAt shape log kernels standings actor (actor - 1) (node_by shape (Actor actor) - 1)
-actor-home shape log kernels standings kept short zero above within = absurd (omega arith)
-actor-home shape log kernels standings kept short (suc k) above within =
-    let placed = placed-node (length log.names.nodes) shape.actors k kept.laid_out.placed (omega arith) in
-    actor-at shape log kernels standings kept short (suc k) (node_by shape (Actor (suc k)) - 1) above within placed.0 placed.1
-
-module _ (shape : Shape) (log : Log) (kernels : List NodeState) (standings : List Standing) (actor place home : ℕ)
-    (at : IsAt shape log kernels standings actor place home) (maker : IsMaker shape log.steps (Actor actor)) (short : length log.steps < 200000) where
   abbrev P : List Step
   P = log.steps
 
@@ -138,7 +85,12 @@ module _ (shape : Shape) (log : Log) (kernels : List NodeState) (standings : Lis
   me = endpoint_of P actor
 
   abbrev step_by : Head → Step
-  step_by head = record { by = Actor actor; head = head; effects = effects_by P (node_by shape (Actor actor)) me head }
+  step_by head = record {
+    by = Actor actor;
+    head = head;
+    effects = effects_by P
+        (node_by shape (Actor actor)) me head;
+  }
 
   fits : IsShort P
   fits = at.short
@@ -146,31 +98,21 @@ module _ (shape : Shape) (log : Log) (kernels : List NodeState) (standings : Lis
   next_is : length P + 1 ≡ now
   next_is = add-one (length P)
 
-  pub kernel-is : (kernel : NodeState) → kernel ≡ get_or kernels home kernel → kernel ≡ old
-  kernel-is kernel is = is ∙ get-is kernels home kernel old (at.kept.kernels_left home at.there)
-
-  pub standing-is : (standing : Standing) → standing ≡ get_or standings place standing → standing ≡ stood
-  standing-is standing is =
-      is ∙ get-is standings place standing (standing_left P (suc place)) (at.kept.standings_left place at.inside)
-      ∙ ap (standing_left P) (sym at.own)
-
-  -- the actor's endpoint is open at its kernel
-  pub own_open : (kernel : NodeState) → kernel ≡ get_or kernels home kernel → (j : Inc) → me ≡ Some j → is_open kernel.endpoints j ≡ true
-  own_open kernel is j mine =
-      ap (λ (k : NodeState). is_open k.endpoints j) (kernel-is kernel is)
-      ∙ own-is_open shape P at.kept.legal fits actor node at.home_is j mine
-
   unlinked : shape.links ≡ []
   unlinked = at.kept.laid_out.unlinked
 
   -- the step with the effects as the kernel's tables give them
-  step-is : (head : Head) (es : List Effect) → es ≡ effects_by P (suc home) me head → (let s : Step = record { by = Actor actor; head = head; effects = es } in s) ≡ step_by head
+  step-is : (head : Head) (es : List Effect) → es ≡ effects_by P (suc home) me head
+      → (let s : Step = record { by = Actor actor; head = head; effects = es } in s) ≡ step_by head
   step-is head es is =
-      ap (λ (x : List Effect). let s : Step = record { by = Actor actor; head = head; effects = x } in s)
+      ap (λ (x : List Effect). let s : Step = record { by = Actor actor; head = head; effects = x }
+      in s)
       (is ∙ ap (λ (n : ℕ). effects_by P n me head) (sym at.home_is))
 
-  log-is : (new : Log) (s t : Step) → new ≡ record log { steps = s ∷ P } → s ≡ t → new ≡ record log { steps = t ∷ P }
-  log-is new s t is same = is ∙ ap (λ (x : Step). let l : Log = record log { steps = x ∷ P } in l) same
+  log-is : (new : Log) (s t : Step) → new ≡ record log { steps = s ∷ P } → s ≡ t
+      → new ≡ record log { steps = t ∷ P }
+  log-is new s t is same = is ∙ ap
+      (λ (x : Step). let l : Log = record log { steps = x ∷ P } in l) same
 
   -- WHAT IS KEPT where the kernel and the standing of the maker change alone
   calm : (head : Head) → is_restart head ≡ false → changed_node shape (Actor actor) head ≡ suc home
@@ -180,14 +122,20 @@ module _ (shape : Shape) (log : Log) (kernels : List NodeState) (standings : Lis
       → (new : Log) → new ≡ record log { steps = step_by head ∷ P }
       → IsWellKept shape new (slice_set kernels home kernel) (slice_set standings place standing)
   calm head still changed legal kernel kernel_is standing standing_is new new_is =
-      let then_is : standing ≡ standing_past true now head (step_by head).effects (standing_left P (suc place)) =
-      standing_is ∙ ap (λ (a : ℕ). standing_past true now head (step_by head).effects (standing_left P a)) at.own
+      let then_is : standing ≡ standing_past true now head (step_by head).effects
+      (standing_left P (suc place)) =
+      standing_is ∙ ap (λ (a : ℕ). standing_past true now head (step_by head).effects
+      (standing_left P a)) at.own
       in
-      well_kept log new (step_by head) new_is short (slice_set kernels home kernel) (slice_set standings place standing)
-      (kept-next shape log kernels (slice_set kernels home kernel) standings (slice_set standings place standing) (step_by head) at.kept legal
+      well_kept log new (step_by head) new_is acts.short (slice_set kernels home kernel)
+      (slice_set standings place standing)
+      (kept-next shape log kernels (slice_set kernels home kernel) standings
+      (slice_set standings place standing) (step_by head) at.kept legal
       (length-set kernels home kernel) (length-set standings place standing)
-      (kernels-next shape P at.kept.legal fits (step_by head) refl home changed kernels at.kept.kernels_left kernel at.there kernel_is)
-      (standings-next shape P at.kept.legal fits (step_by head) place (ap Actor at.own) refl still standings at.kept.standings_left at.inside standing then_is))
+      (kernels-next shape P at.kept.legal fits
+      (step_by head) refl home changed kernels at.kept.kernels_left kernel at.there kernel_is)
+      (standings-next shape P at.kept.legal fits (step_by head) place
+      (ap Actor at.own) refl still standings at.kept.standings_left at.inside standing then_is))
 
   -- or the standing alone
   still : (head : Head) → is_restart head ≡ false → changed_node shape (Actor actor) head ≡ suc home
@@ -196,81 +144,143 @@ module _ (shape : Shape) (log : Log) (kernels : List NodeState) (standings : Lis
       → (new : Log) → new ≡ record log { steps = step_by head ∷ P }
       → IsWellKept shape new kernels (slice_set standings place standing)
   still head calm_it changed legal same standing standing_is new new_is =
-      let then_is : standing ≡ standing_past true now head (step_by head).effects (standing_left P (suc place)) =
-      standing_is ∙ ap (λ (a : ℕ). standing_past true now head (step_by head).effects (standing_left P a)) at.own
+      let then_is : standing ≡ standing_past true now head (step_by head).effects
+      (standing_left P (suc place)) =
+      standing_is ∙ ap (λ (a : ℕ). standing_past true now head (step_by head).effects
+      (standing_left P a)) at.own
       in
-      well_kept log new (step_by head) new_is short kernels (slice_set standings place standing)
-      (kept-next shape log kernels kernels standings (slice_set standings place standing) (step_by head) at.kept legal
+      well_kept log new (step_by head) new_is acts.short kernels
+      (slice_set standings place standing)
+      (kept-next shape log kernels kernels standings (slice_set standings place standing)
+      (step_by head) at.kept legal
       refl (length-set standings place standing)
-      (kernels-same shape P at.kept.legal fits (step_by head) refl home changed kernels at.kept.kernels_left same)
-      (standings-next shape P at.kept.legal fits (step_by head) place (ap Actor at.own) refl calm_it standings at.kept.standings_left at.inside standing then_is))
+      (kernels-same shape P at.kept.legal fits
+      (step_by head) refl home changed kernels at.kept.kernels_left same)
+      (standings-next shape P at.kept.legal fits (step_by head) place
+      (ap Actor at.own) refl calm_it standings at.kept.standings_left at.inside standing
+      then_is))
 
   -- the legality of what is granted
-  legal-of : (event : Event) (note : SigNote) (nodes : ℕ) → IsGranted me event → Rattle.fabric.proofs.Legal.IsNamedEvent event
-      → length note.bytes ≤ data_limit → FitsEvent nodes event note → Rattle.fabric.specs.Machine.is_link_event event ≡ false
-      → LegalIf shape P (step_with shape P (Actor actor) (head_of shape P actor (node_by shape (Actor actor)) me event note))
-  legal-of event note nodes granted named bounded fit off = granted-legal shape P actor maker unlinked nodes event note granted named bounded fit off
+  legal-of : (event : Event) (note : SigNote) (nodes : ℕ) → IsGranted me event → IsNamedEvent event
+      → length note.bytes ≤ data_limit → FitsEvent nodes event note → is_link_event event ≡ false
+      → LegalIf shape P (step_with shape P (Actor actor)
+      (head_of shape P actor (node_by shape (Actor actor)) me event note))
+  legal-of event note nodes granted named bounded fit off = granted-legal shape P actor maker
+      unlinked nodes event note granted named bounded fit off
 
   -- AN OPENING
   pub made-open : (name : List ℕ) → me ≡ None → is_name name ≡ true
-      → (kernel next : NodeState) → kernel ≡ get_or kernels home kernel → next ≡ after_open kernel name (length P + 1)
-      → (standing then : Standing) → standing ≡ get_or standings place standing → then ≡ record standing { endpoint = Some (next_of kernel); waits = None }
-      → (new : Log) → new ≡ record log { steps = record { by = Actor actor; head = heads.Open name; effects = opening (next_of kernel) name kernel.hunts } ∷ P }
+      → (kernel next : NodeState) → kernel ≡ get_or kernels home kernel
+      → next ≡ after_open kernel name (length P + 1)
+      → (standing then : Standing) → standing ≡ get_or standings place standing
+      → then ≡ record standing { endpoint = Some (next_of kernel); waits = None }
+      → (new : Log) → new ≡ record log {
+        steps = record {
+          by = Actor actor;
+          head = heads.Open name;
+          effects = opening
+              (next_of kernel) name kernel.hunts;
+        } ∷ P;
+      }
       → IsWellKept shape new (slice_set kernels home next) (slice_set standings place then)
-      × Makes shape P actor (record { event = asks.Open name; hand = None }) (answers.Opened (next_of kernel)) new.steps
+      × Makes shape P actor (record { event = asks.Open name; hand = None })
+      (answers.Opened (next_of kernel)) new.steps
   made-open name none named kernel next is next_eq standing then stands then_eq new new_eq =
-      let k_is : kernel ≡ old = kernel-is kernel is in
-      let s_is : standing ≡ stood = standing-is standing stands in
+      let k_is : kernel ≡ old = kernel-is at kernel is in
+      let s_is : standing ≡ stood = standing-is at standing stands in
       let i : Inc = next_of old in
       let fs : List Effect = founds (Local name) (Here i) (hunting P (suc home)) in
-      let only : OnlyItems fs = only-founds (Here i) (hunts_for (Local name) (hunting P (suc home))) in
-      let es_is : opening (next_of kernel) name kernel.hunts ≡ effects_by P (suc home) me (heads.Open name) = ap (λ (k : NodeState). opening (next_of k) name k.hunts) k_is in
-      let own_es : (step_by (heads.Open name)).effects ≡ opening i name (hunting P (suc home)) = ap (λ (n : ℕ). effects_by P n me (heads.Open name)) at.home_is in
-      let logged : new ≡ record log { steps = step_by (heads.Open name) ∷ P } = log-is new _ (step_by (heads.Open name)) new_eq (step-is (heads.Open name) (opening (next_of kernel) name kernel.hunts) es_is) in
+      let only : OnlyItems fs = only-founds (Here i)
+      (hunts_for (Local name) (hunting P (suc home))) in
+      let es_is : opening (next_of kernel) name kernel.hunts ≡ effects_by P (suc home) me
+      (heads.Open name) = ap (λ (k : NodeState). opening (next_of k) name k.hunts) k_is in
+      let own_es : (step_by (heads.Open name)).effects ≡ opening i name (hunting P (suc home)) = ap
+      (λ (n : ℕ). effects_by P n me (heads.Open name)) at.home_is in
+      let logged : new ≡ record log { steps = step_by (heads.Open name) ∷ P } = log-is new _
+      (step_by (heads.Open name)) new_eq
+      (step-is (heads.Open name) (opening (next_of kernel) name kernel.hunts) es_is) in
       let legal : IsLegalStep shape P (step_by (heads.Open name)) =
-      legal-of (asks.Open name) (signal_in None) 0 (record { opening = λ o. ap is_none none; needing = λ n. absurd (true≢false (sym n)) }) named (omega arith) tt refl
+      legal-of (asks.Open name) (signal_in None) 0
+      (record { opening = λ o. ap is_none none; needing = λ n. absurd (true≢false (sym n)) })
+      named (omega arith) tt refl
       in (
         calm (heads.Open name) refl at.home_is legal
-            next (next_eq ∙ ap (λ (k : NodeState). after_open k name (length P + 1)) k_is ∙ ap (after_open old name) next_is ∙ sym (node-open shape P at.kept.legal fits actor node at.home_is name none))
-            then (then_eq ∙ ap (λ (s : Standing). let t : Standing = record s { endpoint = Some (next_of kernel); waits = None } in t) s_is
-            ∙ ap (λ (k : NodeState). let t : Standing = record stood { endpoint = Some (next_of k); waits = None } in t) k_is
+            next (next_eq ∙ ap (λ (k : NodeState). after_open k name (length P + 1)) k_is
+            ∙ ap (after_open old name) next_is
+            ∙ sym (node-open shape P at.kept.legal fits actor node at.home_is name none))
+            then (then_eq ∙ ap (λ (s : Standing). let t : Standing = record s
+            { endpoint = Some (next_of kernel); waits = None } in t) s_is
+            ∙ ap (λ (k : NodeState). let t : Standing = record stood
+            { endpoint = Some (next_of k); waits = None } in t) k_is
             ∙ sym (own-open fs only now i name stood none)
-            ∙ ap (λ (es : List Effect). standing_past true now (heads.Open name) es stood) (sym own_es))
+            ∙ ap (λ (es : List Effect). standing_past true now (heads.Open name) es stood)
+            (sym own_es))
             new logged,
         record {
           steps = ap (λ (l : Log). l.steps) logged;
           answered = ap (λ (k : NodeState). answers.Opened (next_of k)) k_is
-              ∙ ap Rattle.node_kernel.specs.Answers.opened_as (sym (Rattle.fabric.proofs.Own.opens-same fs only (Some i)))
+              ∙ ap opened_as (sym (opens-same fs only (Some i)))
               ∙ ap (λ (es : List Effect). answer_of P (heads.Open name) es) (sym own_es);
         },
       )
 
   -- A CLOSING, by a head that ends what its maker has
-  closing-kept : (head : Head) → is_restart head ≡ false → changed_node shape (Actor actor) head ≡ suc home
-      → (ends : (n : ℕ) (e : Option Inc) → effects_by P n e head ≡ Rattle.journal.specs.Effects.ending e (owed P n))
+  closing-kept : (head : Head) → is_restart head ≡ false
+      → changed_node shape (Actor actor) head ≡ suc home
+      → (ends : (n : ℕ) (e : Option Inc) → effects_by P n e head ≡ ending e (owed P n))
       → (j : Inc) → me ≡ Some j → IsLegalStep shape P (step_by head)
       → node_left (step_by head ∷ P) node ≡ after_close old j now
-      → (kernel next : NodeState) → kernel ≡ get_or kernels home kernel → next ≡ after_close kernel j (length P + 1)
+      → (kernel next : NodeState) → kernel ≡ get_or kernels home kernel
+      → next ≡ after_close kernel j (length P + 1)
       → (standing then : Standing) (step : ℕ) → standing ≡ get_or standings place standing
-      → then ≡ record standing { endpoint = None; closed = step; waits = waits_in head; ended = is_end head || standing.ended }
+      → then ≡ record standing {
+        endpoint = None;
+        closed = step;
+        waits = waits_in head;
+        ended =
+            is_end head || standing.ended;
+      }
       → (new : Log) → step ≡ length new.steps
-      → new ≡ record log { steps = record { by = Actor actor; head = head; effects = closing j kernel.attaches } ∷ P }
+      → new ≡ record log {
+        steps = record
+            { by = Actor actor; head = head; effects = closing j kernel.attaches } ∷ P;
+      }
       → IsWellKept shape new (slice_set kernels home next) (slice_set standings place then)
       × (new ≡ record log { steps = step_by head ∷ P })
-  closing-kept head calm_it changed ends j mine legal left kernel next is next_eq standing then step stands then_eq new counted new_eq =
-      let k_is : kernel ≡ old = kernel-is kernel is in
-      let s_is : standing ≡ stood = standing-is standing stands in
-      let fs : List Effect = Rattle.journal.specs.Effects.notices reasons.Closed (same_peer (Here j)) (held_elsewhere j (owed P (suc home))) in
-      let only : OnlyItems fs = only-notices reasons.Closed (Rattle.std.specs.List.filter (λ (a : PendingAttach). same_peer (Here j) a.peer) (held_elsewhere j (owed P (suc home)))) in
-      let ending_is : effects_by P (suc home) me head ≡ closing j (owed P (suc home)) = ends (suc home) me ∙ ap (λ (e : Option Inc). Rattle.journal.specs.Effects.ending e (owed P (suc home))) mine in
-      let es_is : closing j kernel.attaches ≡ effects_by P (suc home) me head = ap (λ (k : NodeState). closing j k.attaches) k_is ∙ sym ending_is in
-      let own_es : (step_by head).effects ≡ closing j (owed P (suc home)) = ap (λ (n : ℕ). effects_by P n me head) at.home_is ∙ ending_is in
-      let logged : new ≡ record log { steps = step_by head ∷ P } = log-is new _ (step_by head) new_eq (step-is head (closing j kernel.attaches) es_is) in
+  closing-kept head calm_it changed ends j mine legal left kernel next is next_eq standing then step
+      stands then_eq new counted new_eq =
+      let k_is : kernel ≡ old = kernel-is at kernel is in
+      let s_is : standing ≡ stood = standing-is at standing stands in
+      let fs : List Effect = notices reasons.Closed (same_peer (Here j))
+      (held_elsewhere j (owed P (suc home))) in
+      let only : OnlyItems fs = only-notices reasons.Closed
+      (filter (λ (a : PendingAttach). same_peer (Here j) a.peer)
+      (held_elsewhere j (owed P (suc home)))) in
+      let ending_is : effects_by P (suc home) me head ≡ closing j (owed P (suc home)) = ends
+      (suc home) me ∙ ap (λ (e : Option Inc). ending e (owed P (suc home))) mine in
+      let es_is : closing j kernel.attaches ≡ effects_by P (suc home) me head = ap
+      (λ (k : NodeState). closing j k.attaches) k_is ∙ sym ending_is in
+      let own_es : (step_by head).effects ≡ closing j (owed P (suc home)) = ap
+      (λ (n : ℕ). effects_by P n me head) at.home_is ∙ ending_is in
+      let logged : new ≡ record log { steps = step_by head ∷ P } = log-is new _
+      (step_by head) new_eq (step-is head (closing j kernel.attaches) es_is) in
       let step_is : step ≡ now = counted ∙ ap (λ (l : Log). length l.steps) logged in (
         calm head calm_it changed legal
-            next (next_eq ∙ ap (λ (k : NodeState). after_close k j (length P + 1)) k_is ∙ ap (after_close old j) next_is ∙ sym left)
-            then (then_eq ∙ ap (λ (s : Standing). let t : Standing = record s { endpoint = None; closed = step; waits = waits_in head; ended = is_end head || s.ended } in t) s_is
-            ∙ ap (λ (k : ℕ). let t : Standing = record stood { endpoint = None; closed = k; waits = waits_in head; ended = is_end head || stood.ended } in t) step_is
+            next (next_eq ∙ ap (λ (k : NodeState). after_close k j (length P + 1)) k_is
+            ∙ ap (after_close old j) next_is ∙ sym left)
+            then (then_eq ∙ ap (λ (s : Standing). let t : Standing = record s {
+              endpoint = None;
+              closed = step;
+              waits = waits_in head;
+              ended = is_end head ||
+                  s.ended;
+            } in t) s_is
+            ∙ ap (λ (k : ℕ). let t : Standing = record stood {
+              endpoint = None;
+              closed = k;
+              waits = waits_in head;
+              ended = is_end head || stood.ended;
+            } in t) step_is
             ∙ sym (own-close fs only now j head stood mine)
             ∙ ap (λ (es : List Effect). standing_past true now head es stood) (sym own_es))
             new logged,
@@ -278,532 +288,497 @@ module _ (shape : Shape) (log : Log) (kernels : List NodeState) (standings : Lis
       )
 
   pub made-close : (j : Inc) → me ≡ Some j
-      → (kernel next : NodeState) → kernel ≡ get_or kernels home kernel → next ≡ after_close kernel j (length P + 1)
+      → (kernel next : NodeState) → kernel ≡ get_or kernels home kernel
+      → next ≡ after_close kernel j (length P + 1)
       → (standing then : Standing) (step : ℕ) → standing ≡ get_or standings place standing
       → then ≡ record standing { endpoint = None; closed = step; waits = None }
       → (new : Log) → step ≡ length new.steps
-      → new ≡ record log { steps = record { by = Actor actor; head = heads.Close; effects = closing j kernel.attaches } ∷ P }
+      → new ≡ record log {
+        steps = record
+            { by = Actor actor; head = heads.Close; effects = closing j kernel.attaches } ∷ P;
+      }
       → IsWellKept shape new (slice_set kernels home next) (slice_set standings place then)
       × Makes shape P actor (record { event = asks.Close; hand = None }) answers.Closed new.steps
   made-close j mine kernel next is next_eq standing then step stands then_eq new counted new_eq =
       let legal : IsLegalStep shape P (step_by heads.Close) =
-      legal-of asks.Close (signal_in None) 0 (record { opening = λ o. absurd (true≢false (sym o)); needing = λ n. ap is_some mine }) tt (omega arith) tt refl
+      legal-of asks.Close (signal_in None) 0
+      (record { opening = λ o. absurd (true≢false (sym o)); needing = λ n. ap is_some mine }) tt
+      (omega arith) tt refl
       in
-      let both = closing-kept heads.Close refl at.home_is (λ n e. refl) j mine legal (node-close shape P at.kept.legal fits actor node at.home_is j mine) kernel next is next_eq standing then step stands then_eq new counted new_eq in
+      let both = closing-kept heads.Close refl at.home_is (λ n e. refl) j mine legal
+      (node-close shape P at.kept.legal fits actor node at.home_is j mine) kernel next is
+      next_eq standing then step stands then_eq new counted new_eq in
       (both.0, record { steps = ap (λ (l : Log). l.steps) both.1; answered = refl })
 
   pub made-end_open : (j : Inc) → me ≡ Some j
-      → (kernel next : NodeState) → kernel ≡ get_or kernels home kernel → next ≡ after_close kernel j (length P + 1)
+      → (kernel next : NodeState) → kernel ≡ get_or kernels home kernel
+      → next ≡ after_close kernel j (length P + 1)
       → (standing then : Standing) (step : ℕ) → standing ≡ get_or standings place standing
       → then ≡ record standing { endpoint = None; closed = step; waits = None; ended = true }
       → (new : Log) → step ≡ length new.steps
-      → new ≡ record log { steps = record { by = Actor actor; head = heads.Ended; effects = closing j kernel.attaches } ∷ P }
+      → new ≡ record log {
+        steps = record
+            { by = Actor actor; head = heads.Ended; effects = closing j kernel.attaches } ∷ P;
+      }
       → IsWellKept shape new (slice_set kernels home next) (slice_set standings place then)
       × Makes shape P actor (record { event = asks.End; hand = None }) answers.Done new.steps
   made-end_open j mine kernel next is next_eq standing then step stands then_eq new counted new_eq =
       let legal : IsLegalStep shape P (step_by heads.Ended) =
-      legal-of asks.End (signal_in None) 0 (record { opening = λ o. absurd (true≢false (sym o)); needing = λ n. absurd (true≢false (sym n)) }) tt (omega arith) tt refl
+      legal-of asks.End (signal_in None) 0
+      (record {
+        opening = λ o. absurd (true≢false (sym o));
+        needing = λ n. absurd
+            (true≢false (sym n));
+      }) tt (omega arith) tt refl
       in
-      let both = closing-kept heads.Ended refl at.home_is (λ n e. refl) j mine legal (node-end shape P at.kept.legal fits actor node at.home_is j mine) kernel next is next_eq standing then step stands then_eq new counted new_eq in
+      let both = closing-kept heads.Ended refl at.home_is (λ n e. refl) j mine legal
+      (node-end shape P at.kept.legal fits actor node at.home_is j mine) kernel next is next_eq
+      standing then step stands then_eq new counted new_eq in
       (both.0, record { steps = ap (λ (l : Log). l.steps) both.1; answered = refl })
 
   -- A STEP THAT ONLY BRINGS ITEMS, and after which its maker doesn't wait
-  items-kept : (head : Head) → is_restart head ≡ false → changed_node shape (Actor actor) head ≡ suc home
-      → is_end head ≡ false → waits_in head ≡ None → IsLegalStep shape P (step_by head) → OnlyItems (step_by head).effects
+  items-kept : (head : Head) → is_restart head ≡ false
+      → changed_node shape (Actor actor) head ≡ suc home
+      → is_end head ≡ false → waits_in head ≡ None → IsLegalStep shape P (step_by head)
+      → OnlyItems (step_by head).effects
       → (next : NodeState) → next ≡ node_left (step_by head ∷ P) node
-      → (standing then : Standing) → standing ≡ get_or standings place standing → then ≡ record standing { waits = None }
+      → (standing then : Standing) → standing ≡ get_or standings place standing
+      → then ≡ record standing { waits = None }
       → (new : Log) (s : Step) → new ≡ record log { steps = s ∷ P } → s ≡ step_by head
       → IsWellKept shape new (slice_set kernels home next) (slice_set standings place then)
       × (new.steps ≡ step_by head ∷ P)
-  items-kept head calm_it changed goes_on no_wait legal only next next_left standing then stands then_eq new s new_eq same =
-      let s_is : standing ≡ stood = standing-is standing stands in
-      let logged : new ≡ record log { steps = step_by head ∷ P } = log-is new s (step_by head) new_eq same in (
+  items-kept head calm_it changed goes_on no_wait legal only next next_left standing then stands
+      then_eq new s new_eq same =
+      let s_is : standing ≡ stood = standing-is at standing stands in
+      let logged : new ≡ record log { steps = step_by head ∷ P } = log-is new s
+      (step_by head) new_eq same in (
         calm head calm_it changed legal next next_left
-            then (then_eq ∙ ap (λ (t : Standing). let u : Standing = record t { waits = None } in u) s_is
-            ∙ ap (λ (w : Option Sigsel). let u : Standing = record stood { waits = w } in u) (sym no_wait)
+            then (then_eq ∙ ap (λ (t : Standing). let u : Standing = record t { waits = None } in u)
+            s_is
+            ∙ ap (λ (w : Option Sigsel). let u : Standing = record stood { waits = w } in u)
+            (sym no_wait)
             ∙ sym (own-quiet (step_by head).effects only now head stood goes_on))
             new logged,
         ap (λ (l : Log). l.steps) logged,
       )
 
-  granted-own : (event : Event) → Rattle.node_kernel.specs.Answers.is_opening event ≡ false → (j : Inc) → me ≡ Some j → IsGranted me event
-  granted-own event opens_not j mine = record { opening = λ o. absurd (true≢false (sym o ∙ opens_not)); needing = λ n. ap is_some mine }
+  granted-own : (event : Event) → is_opening event ≡ false → (j : Inc) → me ≡ Some j
+      → IsGranted me event
+  granted-own event opens_not j mine = record
+      { opening = λ o. absurd (true≢false (sym o ∙ opens_not)); needing = λ n. ap is_some mine }
 
-  pub made-send : (j : Inc) (q : Peer) (note : SigNote) → me ≡ Some j → length note.bytes ≤ data_limit
-      → (kernel next : NodeState) → kernel ≡ get_or kernels home kernel → next ≡ after_send kernel j q note (length P + 1)
-      → (standing then : Standing) → standing ≡ get_or standings place standing → then ≡ record standing { waits = None }
+  pub made-send : (j : Inc) (q : Peer) (note : SigNote) → me ≡ Some j
+      → length note.bytes ≤ data_limit
+      → (kernel next : NodeState) → kernel ≡ get_or kernels home kernel
+      → next ≡ after_send kernel j q note (length P + 1)
+      → (standing then : Standing) → standing ≡ get_or standings place standing
+      → then ≡ record standing { waits = None }
       → (new : Log)
-      → new ≡ record log { steps = record { by = Actor actor; head = heads.Send q note (send_answer (is_living kernel q) q); effects = arrivals_of j note (is_living kernel q) q } ∷ P }
+      → new ≡ record log {
+        steps = record {
+          by = Actor actor;
+          head = heads.Send q note
+              (send_answer (is_living kernel q) q);
+          effects = arrivals_of j note (is_living kernel q) q;
+        } ∷
+            P;
+      }
       → IsWellKept shape new (slice_set kernels home next) (slice_set standings place then)
-      × Makes shape P actor (record { event = asks.Send q; hand = Some note }) (answers.Sent (send_answer (is_living kernel q) q)) new.steps
+      × Makes shape P actor (record { event = asks.Send q; hand = Some note })
+      (answers.Sent (send_answer (is_living kernel q) q)) new.steps
   made-send j q note mine bounded kernel next is next_eq standing then stands then_eq new new_eq =
-      let k_is : kernel ≡ old = kernel-is kernel is in
+      let k_is : kernel ≡ old = kernel-is at kernel is in
       let alive : Bool = is_alive P (node_by shape (Actor actor)) q in
-      let alive_is : is_living kernel q ≡ alive = ap (λ (k : NodeState). is_living k q) k_is ∙ living-left P node q ∙ ap (λ (n : ℕ). is_alive P n q) (sym at.home_is) in
+      let alive_is : is_living kernel q ≡ alive = ap (λ (k : NodeState). is_living k q) k_is
+      ∙ living-left P node q ∙ ap (λ (n : ℕ). is_alive P n q) (sym at.home_is) in
       let head : Head = heads.Send q note (send_answer alive q) in
-      let own_es : (step_by head).effects ≡ arrivals_of j note alive q = ap (λ (e : Option Inc). effects_by P (node_by shape (Actor actor)) e head) mine in
-      let legal : IsLegalStep shape P (step_by head) = legal-of (asks.Send q) note 0 (granted-own (asks.Send q) refl j mine) tt bounded tt refl in
+      let own_es : (step_by head).effects ≡ arrivals_of j note alive q = ap
+      (λ (e : Option Inc). effects_by P (node_by shape (Actor actor)) e head) mine in
+      let legal : IsLegalStep shape P (step_by head) = legal-of (asks.Send q) note 0
+      (granted-own (asks.Send q) refl j mine) tt bounded tt refl in
       let both = items-kept head refl at.home_is refl refl legal
       (subst OnlyItems (sym own_es) (only-arrivals j note alive q))
-      next (next_eq ∙ ap (λ (k : NodeState). after_send k j q note (length P + 1)) k_is ∙ ap (after_send old j q note) next_is ∙ sym (node-send shape P at.kept.legal fits actor node at.home_is j q note (send_answer alive q) mine))
+      next (next_eq ∙ ap (λ (k : NodeState). after_send k j q note (length P + 1)) k_is
+      ∙ ap (after_send old j q note) next_is
+      ∙ sym (node-send shape P at.kept.legal fits actor node at.home_is j q note
+      (send_answer alive q) mine))
       standing then stands then_eq new _ new_eq
-      (ap (λ (b : Bool). let s : Step = record { by = Actor actor; head = heads.Send q note (send_answer b q); effects = arrivals_of j note b q } in s) alive_is
-      ∙ ap (λ (es : List Effect). let s : Step = record { by = Actor actor; head = head; effects = es } in s) (sym own_es))
-      in
-      (both.0, record { steps = both.1; answered = ap (λ (b : Bool). answers.Sent (send_answer b q)) alive_is })
+      (ap (λ (b : Bool). let s : Step = record {
+        by = Actor actor;
+        head = heads.Send q note
+            (send_answer b q);
+        effects = arrivals_of j note b q;
+      } in s) alive_is
+      ∙ ap (λ (es : List Effect). let s : Step = record
+      { by = Actor actor; head = head; effects = es } in s) (sym own_es))
+      in (
+        both.0,
+        record {
+          steps = both.1;
+          answered = ap
+              (λ (b : Bool). answers.Sent (send_answer b q)) alive_is;
+        },
+      )
 
-  pub made-hunt : (j : Inc) (path : Path) (note : SigNote) (number : ℕ) → me ≡ Some j → length note.bytes ≤ data_limit → number ≡ length P + 1
+  pub made-hunt : (j : Inc) (path : Path) (note : SigNote) (number : ℕ) → me ≡ Some j
+      → length note.bytes ≤ data_limit → number ≡ length P + 1
       → (kernel next : NodeState) → kernel ≡ get_or kernels home kernel
-      → next ≡ after_hunt kernel (record { at = j; path = path; signal = note; number = length P + 1 })
-      → (standing then : Standing) → standing ≡ get_or standings place standing → then ≡ record standing { waits = None }
+      → next ≡ after_hunt kernel (record
+      { at = j; path = path; signal = note; number = length P + 1 })
+      → (standing then : Standing) → standing ≡ get_or standings place standing
+      → then ≡ record standing { waits = None }
       → (new : Log)
-      → new ≡ record log { steps = record { by = Actor actor; head = heads.Hunt path note; effects = hunted (find_at kernel path) (record { at = j; path = path; signal = note; number = length P + 1 }) } ∷ P }
+      → new ≡ record log {
+        steps = record {
+          by = Actor actor;
+          head = heads.Hunt path note;
+          effects = hunted (find_at kernel path)
+              (record { at = j; path = path; signal = note; number = length P + 1 });
+        } ∷ P;
+      }
       → IsWellKept shape new (slice_set kernels home next) (slice_set standings place then)
-      × Makes shape P actor (record { event = asks.Hunt path; hand = Some note }) (answers.Hunted number) new.steps
-  made-hunt j path note number mine bounded counted kernel next is next_eq standing then stands then_eq new new_eq =
-      let k_is : kernel ≡ old = kernel-is kernel is in
+      × Makes shape P actor (record { event = asks.Hunt path; hand = Some note })
+      (answers.Hunted number) new.steps
+  made-hunt j path note number mine bounded counted kernel next is next_eq standing then stands
+      then_eq new new_eq =
+      let k_is : kernel ≡ old = kernel-is at kernel is in
       let head : Head = heads.Hunt path note in
       let q : Option Peer = find P (node_by shape (Actor actor)) path in
-      let q_is : find_at kernel path ≡ q = ap (λ (k : NodeState). find_at k path) k_is ∙ find-left P node path ∙ ap (λ (n : ℕ). find P n path) (sym at.home_is) in
-      let own_es : (step_by head).effects ≡ hunted q (record { at = j; path = path; signal = note; number = now }) = ap (λ (e : Option Inc). effects_by P (node_by shape (Actor actor)) e head) mine in
-      let legal : IsLegalStep shape P (step_by head) = legal-of (asks.Hunt path) note 0 (granted-own (asks.Hunt path) refl j mine) tt bounded tt refl in
+      let q_is : find_at kernel path ≡ q = ap (λ (k : NodeState). find_at k path) k_is
+      ∙ find-left P node path ∙ ap (λ (n : ℕ). find P n path) (sym at.home_is) in
+      let own_es : (step_by head).effects ≡ hunted q
+      (record { at = j; path = path; signal = note; number = now }) = ap
+      (λ (e : Option Inc). effects_by P (node_by shape (Actor actor)) e head) mine in
+      let legal : IsLegalStep shape P (step_by head) = legal-of (asks.Hunt path) note 0
+      (granted-own (asks.Hunt path) refl j mine) tt bounded tt refl in
       let both = items-kept head refl at.home_is refl refl legal
-      (subst OnlyItems (sym own_es) (only-hunted q (record { at = j; path = path; signal = note; number = now })))
-      next (next_eq ∙ ap (λ (k : NodeState). after_hunt k (record { at = j; path = path; signal = note; number = length P + 1 })) k_is
-      ∙ ap (λ (n : ℕ). after_hunt old (record { at = j; path = path; signal = note; number = n })) next_is ∙ sym (node-hunt shape P at.kept.legal fits actor node at.home_is j path note mine))
+      (subst OnlyItems (sym own_es) (only-hunted q
+      (record { at = j; path = path; signal = note; number = now })))
+      next (next_eq ∙ ap (λ (k : NodeState). after_hunt k
+      (record { at = j; path = path; signal = note; number = length P + 1 })) k_is
+      ∙ ap (λ (n : ℕ). after_hunt old (record { at = j; path = path; signal = note; number = n }))
+      next_is ∙ sym (node-hunt shape P at.kept.legal fits actor node at.home_is j path note mine))
       standing then stands then_eq new _ new_eq
-      (ap (λ (p : Option Peer). let s : Step = record { by = Actor actor; head = head; effects = hunted p (record { at = j; path = path; signal = note; number = length P + 1 }) } in s) q_is
-      ∙ ap (λ (n : ℕ). let s : Step = record { by = Actor actor; head = head; effects = hunted q (record { at = j; path = path; signal = note; number = n }) } in s) next_is
-      ∙ ap (λ (es : List Effect). let s : Step = record { by = Actor actor; head = head; effects = es } in s) (sym own_es))
+      (ap (λ (p : Option Peer). let s : Step = record {
+        by = Actor actor;
+        head = head;
+        effects = hunted p
+            (record { at = j; path = path; signal = note; number = length P + 1 });
+      } in s) q_is
+      ∙ ap (λ (n : ℕ). let s : Step = record {
+        by = Actor actor;
+        head = head;
+        effects = hunted q
+            (record { at = j; path = path; signal = note; number = n });
+      } in s) next_is
+      ∙ ap (λ (es : List Effect). let s : Step = record
+      { by = Actor actor; head = head; effects = es } in s) (sym own_es))
       in
       (both.0, record { steps = both.1; answered = ap (λ (n : ℕ). answers.Hunted n) counted })
 
-  pub made-attach : (j : Inc) (q : Peer) (note : SigNote) (r : AttRef) → me ≡ Some j → length note.bytes < data_limit → r ≡ record { 0 = length P + 1 }
+  pub made-attach : (j : Inc) (q : Peer) (note : SigNote) (r : AttRef) → me ≡ Some j
+      → length note.bytes < data_limit → r ≡ record { 0 = length P + 1 }
       → (kernel next : NodeState) → kernel ≡ get_or kernels home kernel
-      → next ≡ after_attach kernel (record { at = j; peer = q; signal = note; reference = record { 0 = length P + 1 } })
-      → (standing then : Standing) → standing ≡ get_or standings place standing → then ≡ record standing { waits = None }
+      → next ≡ after_attach kernel (record
+      { at = j; peer = q; signal = note; reference = record { 0 = length P + 1 } })
+      → (standing then : Standing) → standing ≡ get_or standings place standing
+      → then ≡ record standing { waits = None }
       → (new : Log)
-      → new ≡ record log { steps = record { by = Actor actor; head = heads.Attach q note; effects = attached (is_living kernel q) (record { at = j; peer = q; signal = note; reference = record { 0 = length P + 1 } }) } ∷ P }
+      → new ≡ record log {
+        steps = record {
+          by = Actor actor;
+          head = heads.Attach q note;
+          effects = attached (is_living kernel q)
+              (record { at = j; peer = q; signal = note; reference = record { 0 = length P + 1 } });
+        } ∷ P;
+      }
       → IsWellKept shape new (slice_set kernels home next) (slice_set standings place then)
-      × Makes shape P actor (record { event = asks.Attach q; hand = Some note }) (answers.Attached r) new.steps
-  made-attach j q note r mine bounded counted kernel next is next_eq standing then stands then_eq new new_eq =
-      let k_is : kernel ≡ old = kernel-is kernel is in
+      × Makes shape P actor (record { event = asks.Attach q; hand = Some note })
+      (answers.Attached r) new.steps
+  made-attach j q note r mine bounded counted kernel next is next_eq standing then stands then_eq
+      new new_eq =
+      let k_is : kernel ≡ old = kernel-is at kernel is in
       let head : Head = heads.Attach q note in
       let alive : Bool = is_alive P (node_by shape (Actor actor)) q in
-      let alive_is : is_living kernel q ≡ alive = ap (λ (k : NodeState). is_living k q) k_is ∙ living-left P node q ∙ ap (λ (n : ℕ). is_alive P n q) (sym at.home_is) in
-      let own_es : (step_by head).effects ≡ attached alive (record { at = j; peer = q; signal = note; reference = record { 0 = now } }) = ap (λ (e : Option Inc). effects_by P (node_by shape (Actor actor)) e head) mine in
-      let legal : IsLegalStep shape P (step_by head) = legal-of (asks.Attach q) note 0 (granted-own (asks.Attach q) refl j mine) tt (omega arith) bounded refl in
+      let alive_is : is_living kernel q ≡ alive = ap (λ (k : NodeState). is_living k q) k_is
+      ∙ living-left P node q ∙ ap (λ (n : ℕ). is_alive P n q) (sym at.home_is) in
+      let own_es : (step_by head).effects ≡ attached alive
+      (record { at = j; peer = q; signal = note; reference = record { 0 = now } }) = ap
+      (λ (e : Option Inc). effects_by P (node_by shape (Actor actor)) e head) mine in
+      let legal : IsLegalStep shape P (step_by head) = legal-of (asks.Attach q) note 0
+      (granted-own (asks.Attach q) refl j mine) tt (omega arith) bounded refl in
       let both = items-kept head refl at.home_is refl refl legal
-      (subst OnlyItems (sym own_es) (only-attached alive (record { at = j; peer = q; signal = note; reference = record { 0 = now } })))
-      next (next_eq ∙ ap (λ (k : NodeState). after_attach k (record { at = j; peer = q; signal = note; reference = record { 0 = length P + 1 } })) k_is
-      ∙ ap (λ (n : ℕ). after_attach old (record { at = j; peer = q; signal = note; reference = record { 0 = n } })) next_is ∙ sym (node-attach shape P at.kept.legal fits actor node at.home_is j q note mine))
+      (subst OnlyItems (sym own_es) (only-attached alive
+      (record { at = j; peer = q; signal = note; reference = record { 0 = now } })))
+      next (next_eq ∙ ap (λ (k : NodeState). after_attach k
+      (record { at = j; peer = q; signal = note; reference = record { 0 = length P + 1 } }))
+      k_is
+      ∙ ap (λ (n : ℕ). after_attach old
+      (record { at = j; peer = q; signal = note; reference = record { 0 = n } })) next_is
+      ∙ sym (node-attach shape P at.kept.legal fits actor node at.home_is j q note mine))
       standing then stands then_eq new _ new_eq
-      (ap (λ (b : Bool). let s : Step = record { by = Actor actor; head = head; effects = attached b (record { at = j; peer = q; signal = note; reference = record { 0 = length P + 1 } }) } in s) alive_is
-      ∙ ap (λ (n : ℕ). let s : Step = record { by = Actor actor; head = head; effects = attached alive (record { at = j; peer = q; signal = note; reference = record { 0 = n } }) } in s) next_is
-      ∙ ap (λ (es : List Effect). let s : Step = record { by = Actor actor; head = head; effects = es } in s) (sym own_es))
-      in
-      (both.0, record { steps = both.1; answered = ap (λ (x : AttRef). answers.Attached x) counted })
+      (ap (λ (b : Bool). let s : Step = record {
+        by = Actor actor;
+        head = head;
+        effects = attached b
+            (record { at = j; peer = q; signal = note; reference = record { 0 = length P + 1 } });
+      }
+      in s) alive_is
+      ∙ ap (λ (n : ℕ). let s : Step = record {
+        by = Actor actor;
+        head = head;
+        effects = attached alive
+            (record { at = j; peer = q; signal = note; reference = record { 0 = n } });
+      } in s) next_is
+      ∙ ap (λ (es : List Effect). let s : Step = record
+      { by = Actor actor; head = head; effects = es } in s) (sym own_es))
+      in (
+        both.0,
+        record {
+          steps = both.1;
+          answered = ap
+              (λ (x : AttRef). answers.Attached x) counted;
+        },
+      )
 
   pub made-detach : (j : Inc) (r : AttRef) → me ≡ Some j
-      → (kernel next : NodeState) → kernel ≡ get_or kernels home kernel → next ≡ after_detach kernel j r
-      → (standing then : Standing) → standing ≡ get_or standings place standing → then ≡ record standing { waits = None }
+      → (kernel next : NodeState) → kernel ≡ get_or kernels home kernel
+      → next ≡ after_detach kernel j r
+      → (standing then : Standing) → standing ≡ get_or standings place standing
+      → then ≡ record standing { waits = None }
       → (new : Log)
-      → new ≡ record log { steps = record { by = Actor actor; head = heads.Detach r (detached kernel j r); effects = [] } ∷ P }
+      → new ≡ record log {
+        steps = record
+            { by = Actor actor; head = heads.Detach r (detached kernel j r); effects = [] } ∷ P;
+      }
       → IsWellKept shape new (slice_set kernels home next) (slice_set standings place then)
-      × Makes shape P actor (record { event = asks.Detach r; hand = None }) (answers.Detached (detached kernel j r)) new.steps
+      × Makes shape P actor (record { event = asks.Detach r; hand = None })
+      (answers.Detached (detached kernel j r)) new.steps
   made-detach j r mine kernel next is next_eq standing then stands then_eq new new_eq =
-      let k_is : kernel ≡ old = kernel-is kernel is in
+      let k_is : kernel ≡ old = kernel-is at kernel is in
       let answer : Detached = detached_as P (node_by shape (Actor actor)) me r in
-      let old_answer : detached old j r ≡ answer = detached-left shape P at.kept.legal fits actor node at.home_is j r mine in
-      let answer_is : detached kernel j r ≡ answer = ap (λ (k : NodeState). detached k j r) k_is ∙ old_answer in
+      let old_answer : detached old j r
+      ≡ answer = detached-left shape P at.kept.legal fits actor node at.home_is j r mine in
+      let answer_is : detached kernel j r ≡ answer = ap (λ (k : NodeState). detached k j r) k_is
+      ∙ old_answer in
       let head : Head = heads.Detach r answer in
-      let legal : IsLegalStep shape P (step_by head) = legal-of (asks.Detach r) (signal_in None) 0 (granted-own (asks.Detach r) refl j mine) tt (omega arith) tt refl in
+      let legal : IsLegalStep shape P (step_by head) = legal-of (asks.Detach r) (signal_in None) 0
+      (granted-own (asks.Detach r) refl j mine) tt (omega arith) tt refl in
       let both = items-kept head refl at.home_is refl refl legal only-none
       next (next_eq ∙ ap (λ (k : NodeState). after_detach k j r) k_is
-      ∙ ap (λ (a : Detached). Rattle.node_kernel.specs.Calls.after_detach_of a old j r) old_answer ∙ sym (node-detach shape P at.kept.legal fits actor node at.home_is j r answer mine))
+      ∙ ap (λ (a : Detached). after_detach_of a old j r) old_answer
+      ∙ sym (node-detach shape P at.kept.legal fits actor node at.home_is j r answer mine))
       standing then stands then_eq new _ new_eq
-      (ap (λ (a : Detached). let s : Step = record { by = Actor actor; head = heads.Detach r a; effects = [] } in s) answer_is)
-      in
-      (both.0, record { steps = both.1; answered = ap (λ (a : Detached). answers.Detached a) answer_is })
+      (ap (λ (a : Detached). let s : Step = record
+      { by = Actor actor; head = heads.Detach r a; effects = [] } in s) answer_is)
+      in (
+        both.0,
+        record {
+          steps = both.1;
+          answered = ap
+              (λ (a : Detached). answers.Detached a) answer_is;
+        },
+      )
 
   -- A LOOK. What its endpoint's kernel selects is what its queue has
-  selected-is : (j : Inc) (f : Sigsel) → me ≡ Some j → (kernel : NodeState) → kernel ≡ get_or kernels home kernel
+  selected-is : (j : Inc) (f : Sigsel) → me ≡ Some j → (kernel : NodeState)
+      → kernel ≡ get_or kernels home kernel
       → first_selected f (items_at kernel.endpoints j) ≡ first_selected f (queued P j)
   selected-is j f mine kernel is =
-      ap (λ (k : NodeState). first_selected f (items_at k.endpoints j)) (kernel-is kernel is)
+      ap (λ (k : NodeState). first_selected f (items_at k.endpoints j)) (kernel-is at kernel is)
       ∙ ap (first_selected f) (own-items shape P at.kept.legal fits actor node at.home_is j mine)
 
-  queue-is : (j : Inc) (f : Sigsel) → me ≡ Some j → first_selected f (queue_of P me) ≡ first_selected f (queued P j)
+  queue-is : (j : Inc) (f : Sigsel) → me ≡ Some j
+      → first_selected f (queue_of P me) ≡ first_selected f (queued P j)
   queue-is j f mine = ap (λ (e : Option Inc). first_selected f (queue_of P e)) mine
 
   pub made-take : (j : Inc) (f : Sigsel) (item : Item) → me ≡ Some j
       → (kernel next : NodeState) → kernel ≡ get_or kernels home kernel
       → first_selected f (items_at kernel.endpoints j) ≡ Some item → next ≡ after_take kernel j f
-      → (standing then : Standing) → standing ≡ get_or standings place standing → then ≡ record standing { waits = None }
-      → (new : Log) → new ≡ record log { steps = with_take (Actor actor) f (first_selected f (items_at kernel.endpoints j)) P }
+      → (standing then : Standing) → standing ≡ get_or standings place standing
+      → then ≡ record standing { waits = None }
+      → (new : Log) → new ≡ record log
+      { steps = with_take (Actor actor) f (first_selected f (items_at kernel.endpoints j)) P }
       → IsWellKept shape new (slice_set kernels home next) (slice_set standings place then)
-      × Makes shape P actor (record { event = asks.Look f; hand = None }) (answers.Took item) new.steps
+      × Makes shape P actor (record { event = asks.Look f; hand = None })
+      (answers.Took item) new.steps
   made-take j f item mine kernel next is selected next_eq standing then stands then_eq new new_eq =
-      let k_is : kernel ≡ old = kernel-is kernel is in
-      let in_queue : first_selected f (queued P j) ≡ Some item = sym (selected-is j f mine kernel is) ∙ selected in
+      let k_is : kernel ≡ old = kernel-is at kernel is in
+      let in_queue : first_selected f (queued P j) ≡ Some item = sym
+      (selected-is j f mine kernel is) ∙ selected in
       let of_me : first_selected f (queue_of P me) ≡ Some item = queue-is j f mine ∙ in_queue in
       let head : Head = heads.Take f item.pos in
-      let logged : new ≡ record log { steps = step_by head ∷ P } = new_eq ∙ ap (λ (o : Option Item). let l : Log = record log { steps = with_take (Actor actor) f o P } in l) selected in
+      let logged : new ≡ record log { steps = step_by head ∷ P } = new_eq
+      ∙ ap (λ (o : Option Item). let l : Log = record log
+      { steps = with_take (Actor actor) f o P } in l) selected in
       let legal : IsLegalStep shape P (step_by head) =
-      subst (λ (o : Option Item). LegalIf shape P (step_with shape P (Actor actor) (look shape P actor f o))) of_me
-      (legal-of (asks.Look f) (signal_in None) 0 (granted-own (asks.Look f) refl j mine) tt (omega arith) tt refl)
+      subst (λ (o : Option Item). LegalIf shape P
+      (step_with shape P (Actor actor) (look shape P actor f o))) of_me
+      (legal-of (asks.Look f) (signal_in None) 0 (granted-own (asks.Look f) refl j mine) tt
+      (omega arith) tt refl)
       in
       let both = items-kept head refl at.home_is refl refl legal only-none
-      next (next_eq ∙ ap (λ (k : NodeState). after_take k j f) k_is ∙ sym (node-take shape P at.kept.legal fits actor node at.home_is j f item mine in_queue))
+      next (next_eq ∙ ap (λ (k : NodeState). after_take k j f) k_is
+      ∙ sym (node-take shape P at.kept.legal fits actor node at.home_is j f item mine in_queue))
       standing then stands then_eq new (step_by head) logged refl
       in (
         both.0,
         record {
-          steps = both.1 ∙ ap (λ (o : Option Item). Rattle.fabric.specs.Machine.with_step P (step_with shape P (Actor actor) (look shape P actor f o))) (sym of_me);
+          steps = both.1 ∙ ap (λ (o : Option Item). with_step P
+              (step_with shape P (Actor actor) (look shape P actor f o))) (sym of_me);
           answered = ap (λ (x : Item). answers.Took x) (sym (item-came P j f item in_queue))
-              ∙ ap (λ (o : Option Item). Rattle.fabric.specs.Machine.answer_with P (step_with shape P (Actor actor) (look shape P actor f o))) (sym of_me);
+              ∙ ap (λ (o : Option Item). answer_with P
+              (step_with shape P (Actor actor) (look shape P actor f o))) (sym of_me);
         },
       )
 
   -- a look in vain takes nothing
-  pub vain-queue : (j : Inc) (f : Sigsel) → me ≡ Some j → (kernel : NodeState) → kernel ≡ get_or kernels home kernel
-      → first_selected f (items_at kernel.endpoints j) ≡ None → first_selected f (queue_of P me) ≡ None
-  vain-queue j f mine kernel is none = queue-is j f mine ∙ sym (selected-is j f mine kernel is) ∙ none
+  pub vain-queue : (j : Inc) (f : Sigsel) → me ≡ Some j → (kernel : NodeState)
+      → kernel ≡ get_or kernels home kernel
+      → first_selected f (items_at kernel.endpoints j) ≡ None
+      → first_selected f (queue_of P me) ≡ None
+  vain-queue j f mine kernel is none = queue-is j f mine ∙ sym (selected-is j f mine kernel is)
+      ∙ none
 
   -- A STEP OF NO EFFECTS that leaves its node
-  quiet-kept : (head : Head) → is_restart head ≡ false → changed_node shape (Actor actor) head ≡ suc home
-      → (step_by head).effects ≡ [] → IsLegalStep shape P (step_by head) → node_left (step_by head ∷ P) node ≡ old
+  quiet-kept : (head : Head) → is_restart head ≡ false
+      → changed_node shape (Actor actor) head ≡ suc home
+      → (step_by head).effects ≡ [] → IsLegalStep shape P (step_by head)
+      → node_left (step_by head ∷ P) node ≡ old
       → (standing then : Standing) → standing ≡ get_or standings place standing
       → then ≡ record standing { waits = waits_in head; ended = is_end head || standing.ended }
-      → (new : Log) → new ≡ record log { steps = record { by = Actor actor; head = head; effects = [] } ∷ P }
+      → (new : Log) → new ≡ record log
+      { steps = record { by = Actor actor; head = head; effects = [] } ∷ P }
       → IsWellKept shape new kernels (slice_set standings place then)
       × (new.steps ≡ step_by head ∷ P)
   quiet-kept head calm_it changed own_es legal left standing then stands then_eq new new_eq =
-      let s_is : standing ≡ stood = standing-is standing stands in
-      let logged : new ≡ record log { steps = step_by head ∷ P } = log-is new _ (step_by head) new_eq (ap (λ (es : List Effect). let s : Step = record { by = Actor actor; head = head; effects = es } in s) (sym own_es)) in (
+      let s_is : standing ≡ stood = standing-is at standing stands in
+      let logged : new ≡ record log { steps = step_by head ∷ P } = log-is new _
+      (step_by head) new_eq (ap (λ (es : List Effect). let s : Step = record
+      { by = Actor actor; head = head; effects = es } in s) (sym own_es)) in (
         still head calm_it changed legal left
-            then (then_eq ∙ ap (λ (s : Standing). let t : Standing = record s { waits = waits_in head; ended = is_end head || s.ended } in t) s_is
-            ∙ sym (Rattle.fabric.proofs.Own.own-none now head stood)
+            then (then_eq ∙ ap (λ (s : Standing). let t : Standing = record s
+            { waits = waits_in head; ended = is_end head || s.ended } in t) s_is
+            ∙ sym (own-none now head stood)
             ∙ ap (λ (es : List Effect). standing_past true now head es stood) (sym own_es))
             new logged,
         ap (λ (l : Log). l.steps) logged,
       )
 
   -- a look in vain that makes a step
-  vain-legal : (f : Sigsel) → is_some me ≡ true → (rest waits : Bool) → is_at_rest shape P actor ≡ rest → is_some (waits_with P actor) ≡ waits
-      → first_selected f (queue_of P me) ≡ None → LegalIf shape P (step_with shape P (Actor actor) (vain_look rest waits f))
-  vain-legal f owns rest waits rest_is waits_is none =
-      subst (λ (b : Bool). LegalIf shape P (step_with shape P (Actor actor) (vain_look rest b f))) waits_is
-      (subst (λ (b : Bool). LegalIf shape P (step_with shape P (Actor actor) (vain_look b (is_some (waits_with P actor)) f))) rest_is
-      (subst (λ (o : Option Item). LegalIf shape P (step_with shape P (Actor actor) (look shape P actor f o))) none
-      (legal-of (asks.Look f) (signal_in None) 0 (record { opening = λ o. absurd (true≢false (sym o)); needing = λ n. owns }) tt (omega arith) tt refl)))
-
-  vain-made : (f : Sigsel) (answer : StepAnswer) (new : List Step) (rest waits : Bool) → is_at_rest shape P actor ≡ rest → is_some (waits_with P actor) ≡ waits
+  vain-legal : (f : Sigsel) → is_some me ≡ true → (rest waits : Bool)
+      → is_at_rest shape P actor ≡ rest → is_some (waits_with P actor) ≡ waits
       → first_selected f (queue_of P me) ≡ None
-      → new ≡ Rattle.fabric.specs.Machine.with_step P (step_with shape P (Actor actor) (vain_look rest waits f))
-      → answer ≡ Rattle.fabric.specs.Machine.answer_with P (step_with shape P (Actor actor) (vain_look rest waits f))
+      → LegalIf shape P (step_with shape P (Actor actor) (vain_look rest waits f))
+  vain-legal f owns rest waits rest_is waits_is none =
+      subst (λ (b : Bool). LegalIf shape P (step_with shape P (Actor actor) (vain_look rest b f)))
+      waits_is
+      (subst (λ (b : Bool). LegalIf shape P
+      (step_with shape P (Actor actor) (vain_look b (is_some (waits_with P actor)) f))) rest_is
+      (subst (λ (o : Option Item). LegalIf shape P
+      (step_with shape P (Actor actor) (look shape P actor f o))) none
+      (legal-of (asks.Look f) (signal_in None) 0
+      (record { opening = λ o. absurd (true≢false (sym o)); needing = λ n. owns }) tt
+      (omega arith) tt refl)))
+
+  vain-made : (f : Sigsel) (answer : StepAnswer) (new : List Step) (rest waits : Bool)
+      → is_at_rest shape P actor ≡ rest → is_some (waits_with P actor) ≡ waits
+      → first_selected f (queue_of P me) ≡ None
+      → new ≡ with_step P (step_with shape P (Actor actor) (vain_look rest waits f))
+      → answer ≡ answer_with P (step_with shape P (Actor actor) (vain_look rest waits f))
       → Makes shape P actor (record { event = asks.Look f; hand = None }) answer new
   vain-made f answer new rest waits rest_is waits_is none new_eq answer_eq =
-      let looked : look shape P actor f (first_selected f (queue_of P me)) ≡ vain_look rest waits f =
-      ap (look shape P actor f) none ∙ ap (λ (b : Bool). vain_look b (is_some (waits_with P actor)) f) rest_is ∙ ap (λ (b : Bool). vain_look rest b f) waits_is
+      let looked : look shape P actor f
+      (first_selected f (queue_of P me)) ≡ vain_look rest waits f =
+      ap (look shape P actor f) none
+      ∙ ap (λ (b : Bool). vain_look b (is_some (waits_with P actor)) f) rest_is
+      ∙ ap (λ (b : Bool). vain_look rest b f) waits_is
       in
       record {
-        steps = new_eq ∙ ap (λ (h : Option Head). Rattle.fabric.specs.Machine.with_step P (step_with shape P (Actor actor) h)) (sym looked);
-        answered = answer_eq ∙ ap (λ (h : Option Head). Rattle.fabric.specs.Machine.answer_with P (step_with shape P (Actor actor) h)) (sym looked);
+        steps = new_eq ∙ ap (λ (h : Option Head). with_step P (step_with shape P (Actor actor) h))
+            (sym looked);
+        answered = answer_eq ∙ ap (λ (h : Option Head). answer_with P
+            (step_with shape P (Actor actor) h)) (sym looked);
       }
 
-  pub made-find_none : (f : Sigsel) → is_some me ≡ true → first_selected f (queue_of P me) ≡ None → is_at_rest shape P actor ≡ true
-      → (standing then : Standing) → standing ≡ get_or standings place standing → then ≡ record standing { waits = None }
-      → (new : Log) → new ≡ record log { steps = record { by = Actor actor; head = heads.TakeNone f; effects = [] } ∷ P }
+  pub made-find_none : (f : Sigsel) → is_some me ≡ true → first_selected f (queue_of P me) ≡ None
+      → is_at_rest shape P actor ≡ true
+      → (standing then : Standing) → standing ≡ get_or standings place standing
+      → then ≡ record standing { waits = None }
+      → (new : Log) → new ≡ record log
+      { steps = record { by = Actor actor; head = heads.TakeNone f; effects = [] } ∷ P }
       → IsWellKept shape new kernels (slice_set standings place then)
       × Makes shape P actor (record { event = asks.Look f; hand = None }) answers.Nothing new.steps
   made-find_none f owns none rest standing then stands then_eq new new_eq =
-      let both = quiet-kept (heads.TakeNone f) refl at.home_is refl (vain-legal f owns true (is_some (waits_with P actor)) rest refl none)
-      (node-quiet shape P at.kept.legal fits actor node at.home_is (heads.TakeNone f) refl (λ x. refl) refl (λ a. refl) refl)
+      let both = quiet-kept (heads.TakeNone f) refl at.home_is refl
+      (vain-legal f owns true (is_some (waits_with P actor)) rest refl none)
+      (node-quiet shape P at.kept.legal fits actor node at.home_is (heads.TakeNone f) refl
+      (λ x. refl) refl (λ a. refl) refl)
       standing then stands then_eq new new_eq
-      in
-      (both.0, vain-made f answers.Nothing new.steps true (is_some (waits_with P actor)) rest refl none both.1 refl)
+      in (
+        both.0,
+        vain-made f answers.Nothing new.steps true
+            (is_some (waits_with P actor)) rest refl none both.1 refl,
+      )
 
-  pub made-wait : (f : Sigsel) → is_some me ≡ true → first_selected f (queue_of P me) ≡ None → is_at_rest shape P actor ≡ false → waits_with P actor ≡ None
-      → (standing then : Standing) → standing ≡ get_or standings place standing → then ≡ record standing { waits = Some f }
-      → (new : Log) → new ≡ record log { steps = record { by = Actor actor; head = heads.Waits f; effects = [] } ∷ P }
+  pub made-wait : (f : Sigsel) → is_some me ≡ true → first_selected f (queue_of P me) ≡ None
+      → is_at_rest shape P actor ≡ false → waits_with P actor ≡ None
+      → (standing then : Standing) → standing ≡ get_or standings place standing
+      → then ≡ record standing { waits = Some f }
+      → (new : Log) → new ≡ record log
+      { steps = record { by = Actor actor; head = heads.Waits f; effects = [] } ∷ P }
       → IsWellKept shape new kernels (slice_set standings place then)
       × Makes shape P actor (record { event = asks.Look f; hand = None }) answers.NotYet new.steps
   made-wait f owns none busy first standing then stands then_eq new new_eq =
       let waits_not : is_some (waits_with P actor) ≡ false = ap is_some first in
-      let both = quiet-kept (heads.Waits f) refl at.home_is refl (vain-legal f owns false false busy waits_not none)
-      (node-quiet shape P at.kept.legal fits actor node at.home_is (heads.Waits f) refl (λ x. refl) refl (λ a. refl) refl)
+      let both = quiet-kept (heads.Waits f) refl at.home_is refl
+      (vain-legal f owns false false busy waits_not none)
+      (node-quiet shape P at.kept.legal fits actor node at.home_is (heads.Waits f) refl
+      (λ x. refl) refl (λ a. refl) refl)
       standing then stands then_eq new new_eq
       in
       (both.0, vain-made f answers.NotYet new.steps false false busy waits_not none both.1 refl)
 
   -- A REFUSAL
   pub made-refuse : (reason : Refusal)
-      → (standing then : Standing) → standing ≡ get_or standings place standing → then ≡ record standing { waits = None }
-      → (new : Log) → new ≡ record log { steps = record { by = Actor actor; head = heads.Refused reason; effects = [] } ∷ P }
+      → (standing then : Standing) → standing ≡ get_or standings place standing
+      → then ≡ record standing { waits = None }
+      → (new : Log) → new ≡ record log
+      { steps = record { by = Actor actor; head = heads.Refused reason; effects = [] } ∷ P }
       → IsWellKept shape new kernels (slice_set standings place then)
       × Makes shape P actor (refused reason) (answers.Refused reason) new.steps
   made-refuse reason standing then stands then_eq new new_eq =
-      let both = quiet-kept (heads.Refused reason) refl at.home_is refl (refused-legal shape P actor maker unlinked reason)
-      (node-quiet shape P at.kept.legal fits actor node at.home_is (heads.Refused reason) refl (λ x. refl) refl (λ a. refl) refl)
+      let both = quiet-kept (heads.Refused reason) refl at.home_is refl
+      (refused-legal shape P actor maker unlinked reason)
+      (node-quiet shape P at.kept.legal fits actor node at.home_is (heads.Refused reason) refl
+      (λ x. refl) refl (λ a. refl) refl)
       standing then stands then_eq new new_eq
       in
       (both.0, record { steps = both.1; answered = refl })
 
   -- THE END of one that has no endpoint
   pub made-end_closed : me ≡ None
-      → (standing then : Standing) → standing ≡ get_or standings place standing → then ≡ record standing { waits = None; ended = true }
-      → (new : Log) → new ≡ record log { steps = record { by = Actor actor; head = heads.Ended; effects = [] } ∷ P }
+      → (standing then : Standing) → standing ≡ get_or standings place standing
+      → then ≡ record standing { waits = None; ended = true }
+      → (new : Log) → new ≡ record log
+      { steps = record { by = Actor actor; head = heads.Ended; effects = [] } ∷ P }
       → IsWellKept shape new kernels (slice_set standings place then)
       × Makes shape P actor (record { event = asks.End; hand = None }) answers.Done new.steps
   made-end_closed none standing then stands then_eq new new_eq =
       let legal : IsLegalStep shape P (step_by heads.Ended) =
-      legal-of asks.End (signal_in None) 0 (record { opening = λ o. absurd (true≢false (sym o)); needing = λ n. absurd (true≢false (sym n)) }) tt (omega arith) tt refl
+      legal-of asks.End (signal_in None) 0
+      (record {
+        opening = λ o. absurd (true≢false (sym o));
+        needing = λ n. absurd
+            (true≢false (sym n));
+      }) tt (omega arith) tt refl
       in
-      let no_effects : (n : ℕ) → effects_by P n me heads.Ended ≡ [] = λ n. ap (λ (e : Option Inc). Rattle.journal.specs.Effects.ending e (owed P n)) none in
-      let both = quiet-kept heads.Ended refl at.home_is (no_effects (node_by shape (Actor actor))) legal
-      (node-quiet shape P at.kept.legal fits actor node at.home_is heads.Ended (no_effects (suc home)) (λ x. refl) refl (λ a. refl) refl)
+      let no_effects : (n : ℕ) → effects_by P n me heads.Ended ≡ [] = λ n. ap
+      (λ (e : Option Inc). ending e (owed P n)) none in
+      let both = quiet-kept heads.Ended refl at.home_is
+      (no_effects (node_by shape (Actor actor))) legal
+      (node-quiet shape P at.kept.legal fits actor node at.home_is heads.Ended
+      (no_effects (suc home)) (λ x. refl) refl (λ a. refl) refl)
       standing then stands then_eq new new_eq
       in
       (both.0, record { steps = both.1; answered = refl })
-
--- WHAT THE KERNEL OF AN OPENING REQUIRES
-module _ (shape : Shape) (log : Log) (kernels : List NodeState) (standings : List Standing) (actor place home : ℕ)
-    (at : IsAt shape log kernels standings actor place home) (maker : IsMaker shape log.steps (Actor actor)) (short : length log.steps < 200000) where
-  pub openings_fit : (kernel : NodeState) → kernel ≡ get_or kernels home kernel → kernel.openings < 4294967295
-  openings_fit kernel is =
-      let few : kernel.openings ≤ length log.steps =
-      subst (λ (k : NodeState). k.openings ≤ length log.steps) (sym (kernel-is shape log kernels standings actor place home at maker short kernel is))
-      (opened_on-few shape log.steps at.kept.legal (suc home))
-      in
-      omega arith
-
-  pub endpoints_fit : (kernel : NodeState) → kernel ≡ get_or kernels home kernel → length kernel.endpoints < endpoint_limit
-  endpoints_fit kernel is =
-      let brief : IsShort log.steps = at.short in
-      let few : length (open_endpoints log.steps (suc home)) ≤ length shape.actors = open-few shape log.steps at.kept.legal brief (suc home) in
-      let actors : length shape.actors ≤ actor_limit = at.kept.laid_out.few in
-      let all : length kernel.endpoints ≡ length (open_endpoints log.steps (suc home)) =
-      ap (λ (k : NodeState). length k.endpoints) (kernel-is shape log kernels standings actor place home at maker short kernel is)
-      ∙ length-mapped (endpoint_left log.steps) (open_endpoints log.steps (suc home))
-      in
-      omega (arith, few, actors, all)
-
--- AN ACTOR THAT WAITS: its endpoint is open at its kernel, and what it waits for is in its queue or not
-module _ (shape : Shape) (log : Log) (kernels : List NodeState) (standings : List Standing) (actor place home : ℕ)
-    (at : IsAt shape log kernels standings actor place home)
-    (kernel : NodeState) (kernel_is : kernel ≡ get_or kernels home kernel)
-    (standing : Standing) (standing_is : standing ≡ get_or standings place standing) where
-  left_kernel : kernel ≡ node_left log.steps (record { 0 = suc home })
-  left_kernel = kernel_is ∙ get-is kernels home kernel (node_left log.steps (record { 0 = suc home })) (at.kept.kernels_left home at.there)
-
-  left_standing : standing ≡ standing_left log.steps actor
-  left_standing =
-      standing_is ∙ get-is standings place standing (standing_left log.steps (suc place)) (at.kept.standings_left place at.inside)
-      ∙ ap (standing_left log.steps) (sym at.own)
-
-  brief_log : IsShort log.steps
-  brief_log = let short : length log.steps < 4294967295 = at.short in short
-
-  open-if : (e : Option Inc) → endpoint_of log.steps actor ≡ e → IfSome e (λ j. IsTrue (is_open kernel.endpoints j))
-  open-if None is = tt
-  open-if (Some j) is =
-      ap (λ (k : NodeState). is_open k.endpoints j) left_kernel
-      ∙ own-is_open shape log.steps at.kept.legal brief_log actor (record { 0 = suc home }) at.home_is j is
-
-  pub idle-open : IfSome standing.endpoint (λ j. IsTrue (is_open kernel.endpoints j))
-  idle-open =
-      subst (λ (e : Option Inc). IfSome e (λ j. IsTrue (is_open kernel.endpoints j))) (sym (ap (λ (s : Standing). s.endpoint) left_standing))
-      (open-if (endpoint_of log.steps actor) refl)
-
-  vain-if : (w : Option Sigsel) (e : Option Inc) → endpoint_of log.steps actor ≡ e → vain_with kernel w e ≡ waits_in_vain log.steps w e
-  vain-if (Some f) (Some j) is =
-      ap (λ (items : List Item). is_none (first_selected f items))
-      (ap (λ (k : NodeState). items_at k.endpoints j) left_kernel
-      ∙ own-items shape log.steps at.kept.legal brief_log actor (record { 0 = suc home }) at.home_is j is)
-  vain-if (Some f) None is = refl
-  vain-if None e is = refl
-
-  pub idle-is : vain_with kernel standing.waits standing.endpoint ≡ is_idle log.steps actor
-  idle-is =
-      ap (λ (s : Standing). vain_with kernel s.waits s.endpoint) left_standing
-      ∙ vain-if (waits_with log.steps actor) (endpoint_of log.steps actor) refl
-
--- WHAT CHANGES NOTHING
-set-itself : {X : Type 0} (xs : List X) (k : ℕ) (x : X) → k < length xs → x ≡ get_or xs k x → slice_set xs k x ≡ xs
-set-itself [] k x within is = refl
-set-itself (y ∷ xs) zero x within is = ap (λ z. z ∷ xs) is
-set-itself (y ∷ xs) (suc k) x within is = ap (λ l. y ∷ l) (set-itself xs k x (omega arith) is)
-
-pub kept-same : (shape : Shape) (log new : Log) (kernels : List NodeState) (standings : List Standing) → IsWellKept shape log kernels standings
-    → new ≡ log → (home : ℕ) → home < length log.names.nodes → (kernel next : NodeState) → kernel ≡ get_or kernels home kernel → next ≡ kernel
-    → IsWellKept shape new (slice_set kernels home next) standings
-kept-same shape log new kernels standings well same home there kernel next is next_eq =
-    let there_too : home < length kernels = omega (arith, there, well.kept.nodes) in
-    let unchanged : slice_set kernels home next ≡ kernels = ap (slice_set kernels home) next_eq ∙ set-itself kernels home kernel there_too is in
-    subst (λ (l : Log). IsWellKept shape l (slice_set kernels home next) standings) (sym same)
-    (subst (λ (ks : List NodeState). IsWellKept shape log ks standings) (sym unchanged) well)
-
--- a queue that is put back as it was changes nothing
-put_back : (es : List OpenEndpoint) (j : Inc) → with_items es j (items_at es j) ≡ es
-put_back [] j = refl
-put_back (e ∷ es) j =
-    elim (is_at j e) as (λ b. cond b (record e { items = items_of (cond b (Some e) (first_match (is_at j) es)) } ∷ es) (e ∷ with_items es j (items_of (cond b (Some e) (first_match (is_at j) es)))) ≡ e ∷ es) [
-      | true ↦ refl
-      | false ↦ ap (λ l. e ∷ l) (put_back es j)
-    ]
-
--- a filter that selects nothing takes nothing out
-without_none : (filter : Sigsel) (items : List Item) → first_selected filter items ≡ None → without_first filter items ≡ items
-without_none filter [] none = refl
-without_none filter (x ∷ xs) none =
-    let go : (b : Bool) → cond b (Some x) (first_selected filter xs) ≡ None → cond b xs (x ∷ without_first filter xs) ≡ x ∷ xs = λ b.
-    elim b as (λ c. cond c (Some x) (first_selected filter xs) ≡ None → cond c xs (x ∷ without_first filter xs) ≡ x ∷ xs) [
-      | true ↦ λ e. cc
-      | false ↦ λ e. ap (λ l. x ∷ l) (without_none filter xs e)
-    ]
-    in
-    go (is_selected filter x) none
-
-pub after_take-none : (kernel : NodeState) (j : Inc) (f : Sigsel) → first_selected f (items_at kernel.endpoints j) ≡ None → after_take kernel j f ≡ kernel
-after_take-none kernel j f none =
-    let same : with_items kernel.endpoints j (without_first f (items_at kernel.endpoints j)) ≡ kernel.endpoints =
-    ap (with_items kernel.endpoints j) (without_none f (items_at kernel.endpoints j) none) ∙ put_back kernel.endpoints j
-    in
-    ap (λ (es : List OpenEndpoint). let k : NodeState = record kernel { endpoints = es } in k) same
-
-pub found-is : (f : Sigsel) (o : Option Item) (item : Item) → Found item ≡ looked_at f o → o ≡ Some item
-found-is f None item is = cc
-found-is f (Some x) item is = let same : item ≡ x = cc in ap (λ y. Some y) (sym same)
-
-pub vain-is : (f g : Sigsel) (o : Option Item) → Vain g ≡ looked_at f o → o ≡ None
-vain-is f g None is = refl
-vain-is f g (Some x) is = cc
-
-pub vain-filter : (f g : Sigsel) (o : Option Item) → Vain g ≡ looked_at f o → g ≡ f
-vain-filter f g None is = cc
-vain-filter f g (Some x) is = cc
-
-pub take-none_log : (by : By) (f : Sigsel) (o : Option Item) (log : Log) → o ≡ None → (let l : Log = record log { steps = with_take by f o log.steps } in l) ≡ log
-take-none_log by f o log none = ap (λ (x : Option Item). let l : Log = record log { steps = with_take by f x log.steps } in l) none
-
--- what was in vain still is, where nothing changed
-pub still-vain : (new log : Log) (g f : Sigsel) (k : ℕ) → new ≡ log → g ≡ f
-    → first_selected f (queue_of log.steps (endpoint_of log.steps k)) ≡ None
-    → first_selected g (queue_of new.steps (endpoint_of new.steps k)) ≡ None
-still-vain new log g f k same filter none =
-    ap (λ (l : Log). first_selected g (queue_of l.steps (endpoint_of l.steps k))) same
-    ∙ ap (λ (x : Sigsel). first_selected x (queue_of log.steps (endpoint_of log.steps k))) filter ∙ none
-
--- A RESTART, whose node may be another than its maker's
-incs-left : (P : List Step) (incs : List Inc) → map (λ (e : OpenEndpoint). e.inc) (map (endpoint_left P) incs) ≡ incs
-incs-left P [] = refl
-incs-left P (i ∷ incs) = ap (λ l. i ∷ l) (incs-left P incs)
-
-get-map : {X Y : Type 0} (f : X → Y) (xs : List X) (k : ℕ) (x : X) → slice_get xs k ≡ Some x → slice_get (map f xs) k ≡ Some (f x)
-get-map f [] k x is = cc
-get-map f (y ∷ xs) zero x is = let same : y ≡ x = cc in ap (λ z. Some (f z)) same
-get-map f (y ∷ xs) (suc k) x is = get-map f xs k x is
-
-closings-open_none : (e : Option Inc) (incs : List Inc) → last_opened e (closings incs) ≡ e
-closings-open_none e [] = refl
-closings-open_none e (i ∷ incs) = closings-open_none e incs
-
-module _ (shape : Shape) (log : Log) (kernels : List NodeState) (standings : List Standing) (actor place : ℕ)
-    (kept : IsKept shape log kernels standings) (short : length log.steps < 200000)
-    (own : actor ≡ suc place) (inside : place < length standings)
-    (maker : IsMaker shape log.steps (Actor actor))
-    (n : NodeNo) (home : ℕ) (home_is : n.0 ≡ suc home) (there : home < length kernels) (nodes : ℕ) (above : 0 < n.0) (below : n.0 ≤ nodes) where
-  abbrev Q : List Step
-  Q = log.steps
-
-  abbrev restarted : Step
-  restarted = record { by = Actor actor; head = heads.Restart n; effects = closings (open_endpoints Q n.0) }
-
-  brief : IsShort Q
-  brief = omega arith
-
-  node_is : (let m : NodeNo = record { 0 = suc home } in m) ≡ n
-  node_is = ap (λ (x : ℕ). let m : NodeNo = record { 0 = x } in m) (sym home_is)
-
-  was-left : (kernel : NodeState) → kernel ≡ get_or kernels home kernel → kernel ≡ node_left Q n
-  was-left kernel is = is ∙ get-is kernels home kernel (node_left Q (record { 0 = suc home })) (kept.kernels_left home there) ∙ ap (node_left Q) node_is
-
-  effects_are : (kernel : NodeState) → kernel ≡ get_or kernels home kernel → closings (map (λ (e : OpenEndpoint). e.inc) kernel.endpoints) ≡ closings (open_endpoints Q n.0)
-  effects_are kernel is =
-      ap (λ (k : NodeState). closings (map (λ (e : OpenEndpoint). e.inc) k.endpoints)) (was-left kernel is)
-      ∙ ap closings (incs-left Q (open_endpoints Q n.0))
-
-  legal_restart : IsLegalStep shape Q restarted
-  legal_restart =
-      granted-legal shape Q actor maker kept.laid_out.unlinked nodes (asks.Restart n) (signal_in None) (record { opening = λ o. absurd (true≢false (sym o)); needing = λ m. absurd (true≢false (sym m)) }) tt (omega arith) (above, below) refl
-
-  standings-after : (then : Standing) → then ≡ record (past_effects (suc (length Q)) restarted.effects (standing_left Q actor)) { waits = None }
-      → AreStandingsLeft (restarted ∷ Q) (slice_set (map (past_effects (suc (length Q)) restarted.effects) standings) place then)
-  standings-after then then_is m under = go (place == m) refl
-    where
-      es : List Effect
-      es = restarted.effects
-
-      past : Standing → Standing
-      past = past_effects (suc (length Q)) es
-
-      within : m < length standings
-      within = omega (arith, under, length-set (map past standings) place then, length-mapped past standings)
-
-      mine : is_by (Actor actor) actor ≡ true
-      mine = eq-eqb actor actor refl
-
-      own_is : then ≡ standing_left (restarted ∷ Q) actor
-      own_is =
-          then_is
-          ∙ ap (λ (e : Option Inc). let s : Standing = record (past (standing_left Q actor)) { endpoint = unless_closed es e; waits = None } in s) (sym (closings-open_none (endpoint_of Q actor) (open_endpoints Q n.0)))
-          ∙ ap (λ (b : Bool). standing_past b (suc (length Q)) (heads.Restart n) es (standing_left Q actor)) (sym mine)
-
-      go : (b : Bool) → (place == m) ≡ b → slice_get (slice_set (map past standings) place then) m ≡ Some (standing_left (restarted ∷ Q) (suc m))
-      go true e =
-          let same : place ≡ m = eqb-true place m e in
-          subst (λ (x : ℕ). slice_get (slice_set (map past standings) place then) x ≡ Some (standing_left (restarted ∷ Q) (suc x))) same
-          (get-set (map past standings) place then (omega (arith, inside, length-mapped past standings))
-          ∙ ap (λ (s : Standing). Some s) (own_is ∙ ap (standing_left (restarted ∷ Q)) own))
-      go false e =
-          let other : place ≢ m = λ same. true≢false (sym (eq-eqb place m same) ∙ e) in
-          let apart : is_by (Actor actor) (suc m) ≡ false = ap (λ (a : ℕ). a == suc m) own ∙ ne_eqb (suc place) (suc m) (λ same. other (omega arith)) in
-          get-set-other (map past standings) place m then other
-          ∙ get-map past standings m (standing_left Q (suc m)) (kept.standings_left m within)
-          ∙ ap (λ (b : Bool). Some (standing_past b (suc (length Q)) (heads.Restart n) es (standing_left Q (suc m)))) (sym apart)
-
-  pub made-restart : (kernel next : NodeState) → kernel ≡ get_or kernels home kernel → next ≡ after_restart kernel
-      → (lost : List Standing) → lost ≡ map (past_effects (length Q + 1) (closings (map (λ (e : OpenEndpoint). e.inc) kernel.endpoints))) standings
-      → (standing then : Standing) → standing ≡ get_or lost place standing → then ≡ record standing { waits = None }
-      → (new : Log) → new ≡ record log { steps = record { by = Actor actor; head = heads.Restart n; effects = closings (map (λ (e : OpenEndpoint). e.inc) kernel.endpoints) } ∷ Q }
-      → IsWellKept shape new (slice_set kernels home next) (slice_set lost place then)
-      × Makes shape Q actor (record { event = asks.Restart n; hand = None }) answers.Done new.steps
-  made-restart kernel next is next_eq lost lost_eq standing then stands then_eq new new_eq =
-      let past : Standing → Standing = past_effects (suc (length Q)) restarted.effects in
-      let es_are = effects_are kernel is in
-      let lost_is : lost ≡ map past standings =
-      lost_eq ∙ ap (λ (k : ℕ). map (past_effects k (closings (map (λ (e : OpenEndpoint). e.inc) kernel.endpoints))) standings) (add-one (length Q))
-      ∙ ap (λ (es : List Effect). map (past_effects (suc (length Q)) es) standings) es_are
-      in
-      let logged : new ≡ record log { steps = restarted ∷ Q } =
-      new_eq ∙ ap (λ (es : List Effect). let l : Log = record log { steps = (record { by = Actor actor; head = heads.Restart n; effects = es }) ∷ Q } in l) es_are
-      in
-      let was : standing ≡ past (standing_left Q actor) =
-      stands ∙ ap (λ (xs : List Standing). get_or xs place standing) lost_is
-      ∙ get-is (map past standings) place standing (past (standing_left Q (suc place))) (get-map past standings place (standing_left Q (suc place)) (kept.standings_left place inside))
-      ∙ ap (λ (a : ℕ). past (standing_left Q a)) (sym own)
-      in
-      let then_is : then ≡ record (past (standing_left Q actor)) { waits = None } = then_eq ∙ ap (λ (s : Standing). let t : Standing = record s { waits = None } in t) was in
-      let left : next ≡ node_left (restarted ∷ Q) (record { 0 = suc home }) =
-      next_eq ∙ ap after_restart (was-left kernel is) ∙ sym (node-restart shape Q kept.legal brief actor n (living-none shape Q kept.legal n.0))
-      ∙ ap (node_left (restarted ∷ Q)) (sym node_is)
-      in (
-        well_kept log new restarted logged short (slice_set kernels home next) (slice_set lost place then)
-            (subst (λ (xs : List Standing). IsKept shape (record log { steps = restarted ∷ Q }) (slice_set kernels home next) (slice_set xs place then)) (sym lost_is)
-            (kept-next shape log kernels (slice_set kernels home next) standings (slice_set (map past standings) place then) restarted kept legal_restart
-            (length-set kernels home next) (length-set (map past standings) place then ∙ length-mapped past standings)
-            (kernels-next shape Q kept.legal brief restarted refl home home_is kernels kept.kernels_left next there left)
-            (standings-after then then_is))),
-        record { steps = ap (λ (l : Log). l.steps) logged; answered = refl },
-      )

@@ -1,14 +1,12 @@
 -- How a step changes the standings of the actors.
-use Rattle.std.specs.Prelude.{ℕ, zero, suc, ◌≡◌, Bool, false, ◌||◌, List, [], ◌∷◌, ◌++◌, is_none, Option, Some, None, if◌then◌else◌}
+use Rattle.std.specs.Prelude.{ℕ, zero, suc, ◌≡◌, Bool, false, List, [], ◌∷◌, ◌++◌, is_none, Option, Some, None, if◌then◌else◌}
 use Rattle.linx_base.specs.declared.identity.Inc.{Inc}
 use Rattle.sigsel.specs.Selection.{first_selected}
 use Rattle.sigsel.specs.declared.sigsel.Sigsel.{Sigsel}
 use Rattle.journal.specs.declared.effect.Effect.{Effect}
-use Rattle.journal.specs.declared.head.Head.{Head}
 use Rattle.journal.specs.declared.head.Refusal.{Refusal}
 use Rattle.journal.specs.declared.effect.Step.{Step}
-use Rattle.journal.specs.History.{is_end, is_lost, last_opened, unless_closed}
-use Rattle.journal.specs.Rest.{waits_in}
+use Rattle.journal.specs.History.{is_lost, unless_closed}
 use Rattle.journal.specs.Shapes.{Shape}
 use Rattle.node_kernel.specs.Answers.{refused}
 use Rattle.node_kernel.specs.Nodes.{NodeState, empty_node, items_at}
@@ -26,15 +24,6 @@ abbrev pub past_effects : ℕ → List Effect → Standing → Standing
 past_effects step effects standing = record standing {
   endpoint = unless_closed effects standing.endpoint;
   closed = if is_lost effects standing.endpoint then step else standing.closed;
-}
-
--- how the maker of a step stands past it
-abbrev pub past_own : ℕ → Head → List Effect → Standing → Standing
-past_own step head effects standing = record {
-  endpoint = unless_closed effects (last_opened standing.endpoint effects);
-  closed = if is_lost effects standing.endpoint then step else standing.closed;
-  waits = waits_in head;
-  ended = is_end head || standing.ended;
 }
 
 -- what is done of what is asked, unless it is refused

@@ -10,8 +10,11 @@ loop-standing-preserved c =
     let k : ℕ = c.loop-standing.standing-index in
     let f : Standing → Standing = past_effects c.args.step c.args.effects.now in
     let item : Standing = c.standing-item.result in
-    let before : c.loop-standing.standings ≡ map f (take k xs) ++ drop k xs = c.loop-standing.invariant in
-    ap (λ (z : Standing). set c.loop-standing.standings k z) (c.lose.ensures ∙ ap f (sym c.standing-item.is))
+    let before : c.loop-standing.standings ≡ map f
+    (take k xs) ++ drop k xs = c.loop-standing.invariant in
+    ap (λ (z : Standing). set c.loop-standing.standings k z) (c.lose.ensures
+    ∙ ap f (sym c.standing-item.is))
     ∙ ap (λ (ys : List Standing). set ys k (f item)) before
-    ∙ map-turn f xs k item c.loop-standing-test.true (c.standing-item.is ∙ ap (λ (ys : List Standing). get_or ys k item) before)
+    ∙ map-turn f xs k item c.loop-standing-test.true (c.standing-item.is
+    ∙ ap (λ (ys : List Standing). get_or ys k item) before)
     ∙ ap (λ (n : ℕ). map f (take n xs) ++ drop n xs) (sym (add-one k))

@@ -1,21 +1,14 @@
-use Rattle.journal.specs.Shapes.{node_by}
-use Rattle.std.proofs.Common.{◌≡◌, ◌<◌, ◌-◌, true, length, is_some, arith}
-use Rattle.journal.specs.declared.by.By.TheVariants.{Actor}
-use Rattle.journal.specs.History.{endpoint_of}
-use Rattle.journal.specs.Laws.{IsMaker}
-use Rattle.journal.specs.Logs.{Log}
-use Rattle.journal.specs.Shapes.{Shape}
-use Rattle.fabric.proofs.Made.{made-find_none, actor-home}
+use Rattle.fabric.proofs.Placed.{acting-home, sees}
+use Rattle.fabric.proofs.Made.{made-find_none}
 use Rattle.fabric.proofs.fabric.Fabric.find_none.Goals as goal
 
 pub invariant_of-self : goal.invariant_of-self
 invariant_of-self c =
-    let shape : Shape = record { links = c.self.inside.links.items; actors = c.self.inside.actors.items } in
-    let log : Log = c.self.inside.journal.log in
-    let short : length log.steps < 200000 = rw (← c.self.view_is) at c.requires.short in
-    let maker : IsMaker shape log.steps (Actor c.args.actor) = rw (← c.self.view_is) at c.requires.asked.maker in
-    let at = actor-home shape log c.self.inside.kernels.items c.self.inside.standings.items c.self.invariant.kept (omega arith) c.args.actor maker.0 maker.1 in
-    let owns : is_some (endpoint_of log.steps c.args.actor) ≡ true = rw (← c.self.view_is) at c.requires.granted in
+    let seen = sees c.self.invariant c.self.view_is in
+    let acts = acting-home seen c.args.actor c.requires.asked.maker c.requires.short in
+    let owns = rw (← c.self.view_is) at c.requires.granted in
     let vain = rw (← c.self.view_is) at c.requires.vain in
     let rest = rw (← c.self.view_is) at c.requires.rest in
-    (made-find_none shape log c.self.inside.kernels.items c.self.inside.standings.items c.args.actor (c.args.actor - 1) (node_by shape (Actor c.args.actor) - 1) at maker short c.args.filter owns vain rest c.index_mut.result.now c.wait.new.self c.index_mut.ensures.value c.wait.ensures c.make_quiet.new.journal.log c.in-Ok.ensures.log).0
+    (made-find_none acts c.args.filter owns vain rest c.index_mut.result.now c.wait.new.self
+    c.index_mut.ensures.value
+    c.wait.ensures c.make_quiet.new.journal.log c.in-Ok.ensures.log).0

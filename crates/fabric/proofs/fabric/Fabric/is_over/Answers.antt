@@ -15,5 +15,6 @@ returns-then-not-has_ended c =
     let fails : have_ended P (suc place) ≡ false =
     ap (λ (b : Bool). b && has_ended P (suc place)) c.loop-place.invariant ∙ one
     in
-    sym (fails-on (have_ended P) (λ n. has_ended P (suc n)) (λ n. refl) (suc place) (length c.args.self.now.shape.actors) fails
+    sym (fails-on (have_ended P) (λ n. has_ended P (suc n)) (λ n. refl) (suc place)
+    (length c.args.self.now.shape.actors) fails
     (omega (arith, c.actor_count-place-end.ensures.count)))

@@ -1,24 +1,18 @@
-use Rattle.journal.specs.Shapes.{node_by}
-use Rattle.sigsel.specs.declared.sigsel.Sigsel.{Sigsel}
-use Rattle.std.proofs.Common.{◌≡◌, ◌<◌, ◌-◌, true, length, is_some, Some, ◌∙◌, ap, arith}
-use Rattle.journal.specs.declared.by.By.TheVariants.{Actor}
-use Rattle.journal.specs.History.{endpoint_of}
-use Rattle.journal.specs.Laws.{IsMaker}
-use Rattle.journal.specs.Logs.{Log}
-use Rattle.journal.specs.Shapes.{Shape}
-use Rattle.fabric.specs.declared.standing.Standing.{Standing}
-use Rattle.fabric.proofs.Made.{made-wait, actor-home}
+use Rattle.std.proofs.Common.{◌∙◌, ap}
+use Rattle.fabric.proofs.Own.{as_waiting}
+use Rattle.fabric.proofs.Placed.{acting-home, sees}
+use Rattle.fabric.proofs.Made.{made-wait}
 use Rattle.fabric.proofs.fabric.Fabric.wait.Goals as goal
 
 pub invariant_of-self : goal.invariant_of-self
 invariant_of-self c =
-    let shape : Shape = record { links = c.self.inside.links.items; actors = c.self.inside.actors.items } in
-    let log : Log = c.self.inside.journal.log in
-    let short : length log.steps < 200000 = rw (← c.self.view_is) at c.requires.short in
-    let maker : IsMaker shape log.steps (Actor c.args.actor) = rw (← c.self.view_is) at c.requires.asked.maker in
-    let at = actor-home shape log c.self.inside.kernels.items c.self.inside.standings.items c.self.invariant.kept (omega arith) c.args.actor maker.0 maker.1 in
-    let owns : is_some (endpoint_of log.steps c.args.actor) ≡ true = rw (← c.self.view_is) at c.requires.granted in
+    let seen = sees c.self.invariant c.self.view_is in
+    let acts = acting-home seen c.args.actor c.requires.asked.maker c.requires.short in
+    let owns = rw (← c.self.view_is) at c.requires.granted in
     let vain = rw (← c.self.view_is) at c.requires.vain in
     let busy = rw (← c.self.view_is) at c.requires.busy in
     let first = rw (← c.self.view_is) at c.requires.first in
-    (made-wait shape log c.self.inside.kernels.items c.self.inside.standings.items c.args.actor (c.args.actor - 1) (node_by shape (Actor c.args.actor) - 1) at maker short c.args.filter owns vain busy first c.index_mut.result.now c.wait.new.self c.index_mut.ensures.value (c.wait.ensures ∙ ap (λ (f : Sigsel). let t : Standing = record c.index_mut.result.now { waits = Some f } in t) c.in-Ok.ensures.filter) c.make_wait.new.journal.log c.in-Ok.ensures.log).0
+    (made-wait acts c.args.filter owns vain busy first c.index_mut.result.now c.wait.new.self
+    c.index_mut.ensures.value
+    (c.wait.ensures ∙ ap (as_waiting c.index_mut.result.now) c.in-Ok.ensures.filter)
+    c.make_wait.new.journal.log c.in-Ok.ensures.log).0
