@@ -10,6 +10,8 @@ use Rattle.journal.specs.declared.head.Refusal.{Refusal}
 use Rattle.journal.specs.declared.head.Refusal.TheVariants.{NotOpen, IsOpen}
 use Rattle.journal.specs.declared.effect.Effect.{Effect}
 use Rattle.journal.specs.declared.effect.Step.{Step}
+use Rattle.std.specs.Prelude.{is_some}
+use Rattle.journal.specs.Rest.{waits_in}
 use Rattle.journal.specs.History.{is_end, last_opened}
 use Rattle.node_kernel.specs.Answers.{event_of, granted_by, is_pump_event, is_pumped, is_end_event, is_waits, is_not_yet, answer_of, opened_as, needs_endpoint, is_opening, refused}
 use Rattle.node_kernel.specs.declared.ask.Ask.{Ask}
@@ -143,6 +145,26 @@ is_end_by_event heads.Ended = refl
 
 pub pumped_end : (h : Head) → is_pumped h ≡ true → is_end h ≡ false
 pumped_end h pumped = is_end_by_event h ∙ pump_no_end (event_of h) pumped
+
+-- a head waits where it says a filter that it waits with
+pub waits_by_filter : (h : Head) → is_some (waits_in h) ≡ is_waits h
+waits_by_filter (heads.Open name) = refl
+waits_by_filter heads.Close = refl
+waits_by_filter (heads.Send peer note answer) = refl
+waits_by_filter (heads.Take filter position) = refl
+waits_by_filter (heads.TakeNone filter) = refl
+waits_by_filter (heads.Waits filter) = refl
+waits_by_filter (heads.Hunt path note) = refl
+waits_by_filter (heads.Attach peer note) = refl
+waits_by_filter (heads.Detach r answer) = refl
+waits_by_filter (heads.Cut link) = refl
+waits_by_filter (heads.Mend link) = refl
+waits_by_filter (heads.Settle link) = refl
+waits_by_filter (heads.Restart node) = refl
+waits_by_filter (heads.Wire link from verdict) = refl
+waits_by_filter (heads.Tick link side) = refl
+waits_by_filter (heads.Refused reason) = refl
+waits_by_filter heads.Ended = refl
 
 -- a head that waits is a look of a filter
 waits_only : (h : Head) → is_waits h ≡ true → (filter : Sigsel) × (h ≡ heads.Waits filter)

@@ -1,13 +1,14 @@
 -- What holds of an actor stays true while others make steps.
 use Rattle.std.proofs.Common.{◌≡◌, ℕ, false, List, [], ◌∷◌, ◌++◌, All, Option, refl, sym, ◌∙◌, ap, subst}
+use Rattle.std.specs.Prelude.{is_some}
 use Rattle.std.proofs.lemmas.List.Elements.{All-head, All-tail}
 use Rattle.linx_base.specs.declared.identity.Inc.{Inc}
 use Rattle.journal.specs.declared.effect.Step.{Step}
 use Rattle.journal.specs.History.{is_by, has_ended, last_endpoint}
-use Rattle.journal.specs.Laws.{last_head}
+use Rattle.journal.specs.Rest.{waits_with}
 use Rattle.script_words.specs.declared.command.Command.{Command}
 use Rattle.actor_run.specs.Knowing.{Knows}
-use Rattle.actor_run.specs.Following.{is_own, knows, last_waits, waits_in, Follows, FollowsWhole, Playing}
+use Rattle.actor_run.specs.Following.{is_own, knows, last_waits, Follows, FollowsWhole, Playing}
 
 -- actor k made none of these steps
 abbrev pub NoneBy : ℕ → List Step → Type 0
@@ -35,11 +36,11 @@ last_endpoint_since k [] P none = refl
 last_endpoint_since k (s ∷ since) P none =
     rw (first_other k s since none) (last_endpoint_since k since P (rest_others k s since none))
 
-last_head_since : (k : ℕ) (since P : List Step) → NoneBy k since
-    → last_head (since ++ P) k ≡ last_head P k
-last_head_since k [] P none = refl
-last_head_since k (s ∷ since) P none =
-    rw (first_other k s since none) (last_head_since k since P (rest_others k s since none))
+waits_with_since : (k : ℕ) (since P : List Step) → NoneBy k since
+    → waits_with (since ++ P) k ≡ waits_with P k
+waits_with_since k [] P none = refl
+waits_with_since k (s ∷ since) P none =
+    rw (first_other k s since none) (waits_with_since k since P (rest_others k s since none))
 
 knows_since : (commands : List Command) (k : ℕ) (since P : List Step) → NoneBy k since
     → knows commands k (since ++ P) ≡ knows commands k P
@@ -84,7 +85,7 @@ playing_goes_on commands k now before mind me on playing = record {
   mine = playing.mine
       ∙ sym (ap (λ P. last_endpoint P k) on.1 ∙ last_endpoint_since k on.0 before on.2);
   waits = playing.waits
-      ∙ sym (ap (λ P. last_waits P k) on.1 ∙ ap waits_in (last_head_since k on.0 before on.2));
+      ∙ sym (ap (λ P. last_waits P k) on.1 ∙ ap is_some (waits_with_since k on.0 before on.2));
   home = playing.home;
   within = playing.within;
   running = has_ended_goes_on k now before on ∙ playing.running;

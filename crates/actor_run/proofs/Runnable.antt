@@ -54,8 +54,8 @@ signals_fit s node (c ∷ rest) h (suc place) =
     signals_fit s node rest
     (and_right (fits_command s node c) (list_all (fits_command s node) rest) h) place
 
-few_commands : (n : ℕ) → nat_le n 20000 ≡ true → n ≤ 20000
-few_commands n h = grind (arith, nat_tests)
+pub within : (n most : ℕ) → nat_le n most ≡ true → n ≤ most
+within n most h = grind (arith, nat_tests)
 
 pub runnable : (s : ScriptParts) (actor : ActorScript)
     → fits_actor s actor ≡ true → AreRunnable actor.commands
@@ -64,7 +64,7 @@ runnable s actor h =
     let sized = nat_le (length actor.commands) 20000 in
     let each = list_all (fits_command s actor.node) actor.commands in
     record {
-      few = few_commands (length actor.commands)
+      few = within (length actor.commands) 20000
           (and_right on sized (and_left (on && sized) each h));
       fits = signals_fit s actor.node actor.commands (and_right (on && sized) each h);
     }

@@ -5,9 +5,9 @@ use Rattle.linx_base.specs.declared.identity.Inc.{Inc}
 use Rattle.journal.specs.declared.by.By.{By}
 use Rattle.journal.specs.declared.by.By.TheVariants.{Actor}
 use Rattle.journal.specs.declared.effect.Step.{Step}
-use Rattle.journal.specs.History.{is_by, is_end, last_opened, last_endpoint, endpoint_of}
+use Rattle.journal.specs.History.{is_by, is_end, last_opened, last_endpoint, endpoint_of, closed_step}
 use Rattle.script_words.specs.declared.command.Command.{Command}
-use Rattle.node_kernel.specs.Answers.{granted, closed_at, is_pump_event, is_pumped, is_waits, is_not_yet, is_end_event}
+use Rattle.node_kernel.specs.Answers.{granted, is_pump_event, is_pumped, is_waits, is_not_yet, is_end_event}
 use Rattle.node_kernel.specs.declared.answers.StepAnswer.{StepAnswer}
 use Rattle.node_kernel.specs.declared.answers.StepAnswer.TheVariants.{NotYet}
 use Rattle.node_kernel.specs.declared.ask.Ask.{Ask}
@@ -15,7 +15,7 @@ use Rattle.actor_run.specs.Knowing.{Knows, told, learned, moved_on, knows_nothin
 use Rattle.actor_run.specs.Asking.{asked_by, handed, is_sending}
 use Rattle.actor_run.specs.Following.{is_own, knows, endpoint_after, Follows, FollowsWhole, Playing, IsMade, Makes, IsTurned}
 use Rattle.actor_run.proofs.Keeps.{past}
-use Rattle.actor_run.proofs.Heads.{is_look, granted_end, granted_pump, granted_look, is_end_by_event, waits_look, waits_by_answer, pumped_waits, pumped_end}
+use Rattle.actor_run.proofs.Heads.{is_look, granted_end, granted_pump, granted_look, is_end_by_event, waits_look, waits_by_answer, waits_by_filter, pumped_waits, pumped_end}
 use Rattle.actor_run.proofs.Commands.{asks_well, some_left, handed_place, handed_back}
 
 by_itself : (by : By) (k : ℕ) → by ≡ Actor k → is_by by k ≡ true
@@ -28,7 +28,7 @@ own_step : (commands : List Command) (k : ℕ) (P : List Step) (mind : Knows) (m
 own_step commands k P mind me answer s made =
     let unpumped : is_pumped s.head ≡ false =
     ap (λ (a : Ask). is_pump_event a.event) made.names
-    ∙ granted_pump (endpoint_of P k) (closed_at P (last_endpoint P k))
+    ∙ granted_pump (endpoint_of P k) (closed_step P k)
     (asked_by commands mind me)
     ((asks_well mind me (slice_get commands mind.place)).unpumped) in
     rw (by_itself s.by k made.maker, unpumped) refl
@@ -86,19 +86,28 @@ is_told commands m answer false e =
           omega (arith, end, far);
     })
 
+-- so the place stays within the commands, but after the end
+pub told_within : (commands : List Command) (mind : Knows) (me : Option Inc) (answer : StepAnswer)
+    → is_end_event (asked_by commands mind me).event ≡ false
+    → (told commands (handed commands mind me) answer).place ≤ length commands
+told_within commands mind me answer goes_on =
+    let less = some_left commands mind.place mind me goes_on in
+    (is_told commands (handed commands mind me) answer (is_not_yet answer) refl).within
+    (omega (arith, less, handed_place commands mind me))
+
 -- the step ends the actor where it asked for its end
 ends_by_ask : (P : List Step) (k : ℕ) (ask : Ask) (answer : StepAnswer) (s : Step)
     → IsMade P k ask answer s → is_end s.head ≡ is_end_event ask.event
 ends_by_ask P k ask answer s made =
     is_end_by_event s.head
     ∙ (ap (λ (a : Ask). is_end_event a.event) made.names
-    ∙ granted_end (endpoint_of P k) (closed_at P (last_endpoint P k)) ask)
+    ∙ granted_end (endpoint_of P k) (closed_step P k) ask)
 
 -- a step that waits was asked for by no send
 waits_unsent : (P : List Step) (k : ℕ) (ask : Ask) (answer : StepAnswer) (s : Step)
     → IsMade P k ask answer s → is_waits s.head ≡ true → is_sending ask.event ≡ false
 waits_unsent P k ask answer s made w =
-    granted_look (endpoint_of P k) (closed_at P (last_endpoint P k)) ask
+    granted_look (endpoint_of P k) (closed_step P k) ask
     (sym (ap (λ (a : Ask). is_look a.event) made.names) ∙ waits_look s.head w)
 
 -- AFTER A STEP the actor plays on
@@ -117,7 +126,7 @@ playing_after commands k P mind me answer s playing goes_on made =
       follows = follows_more commands k P mind me answer s playing made;
       known = knows_more commands k P mind me answer s playing made;
       mine = sym (rw mine (ap (λ m. last_opened m s.effects) (sym playing.mine) ∙ made.opened me));
-      waits = rw mine after.waiting;
+      waits = rw mine (after.waiting ∙ sym (waits_by_filter s.head));
       home = after.home (λ w.
           let quiet : is_sending (asked_by commands mind me).event ≡ false =
           waits_unsent P k ask answer s made w in
@@ -161,7 +170,8 @@ playing_pumped commands k P mind me s playing by pumped opens idle =
       follows = (playing.follows, λ own. cc);
       known = rw off playing.known;
       mine = rw (mine, opens (last_endpoint P k)) playing.mine;
-      waits = rw (mine, pumped_waits s.head pumped) idle;
+      waits = rw mine
+          (idle ∙ sym (waits_by_filter s.head ∙ pumped_waits s.head pumped));
       home = playing.home;
       within = playing.within;
       running = rw (mine, pumped_end s.head pumped) playing.running;

@@ -1,11 +1,10 @@
 -- How an actor's steps follow its commands.
-use Rattle.std.specs.Prelude.{ℕ, ◌≡◌, ◌≤◌, ◌⊎◌, Bool, true, false, not, ◌&&◌, List, [], ◌∷◌, length, Option, Some, None, if◌then◌else◌}
+use Rattle.std.specs.Prelude.{is_some, ℕ, ◌≡◌, ◌≤◌, ◌⊎◌, Bool, true, false, not, ◌&&◌, List, [], ◌∷◌, length, Option, Some, if◌then◌else◌}
 use Rattle.linx_base.specs.declared.identity.Inc.{Inc}
 use Rattle.journal.specs.declared.by.By.TheVariants.{Actor}
-use Rattle.journal.specs.declared.head.Head.{Head}
 use Rattle.journal.specs.declared.effect.Step.{Step}
 use Rattle.journal.specs.History.{is_by, last_opened, last_endpoint, has_ended}
-use Rattle.journal.specs.Laws.{last_head}
+use Rattle.journal.specs.Rest.{waits_with}
 use Rattle.script_words.specs.declared.command.Command.{Command}
 use Rattle.node_kernel.specs.Answers.{named, granted, answer_of, is_pumped, is_waits, is_end_event}
 use Rattle.node_kernel.specs.declared.answers.StepAnswer.{StepAnswer}
@@ -50,12 +49,8 @@ abbrev pub FollowsWhole : List Command → ℕ → List Step → Type 0
 FollowsWhole commands k P = Follows commands k P × (has_ended P k ≡ true)
 
 -- the last step of actor k says that it waits
-abbrev pub waits_in : Option Head → Bool
-waits_in None = false
-waits_in (Some head) = is_waits head
-
 abbrev pub last_waits : List Step → ℕ → Bool
-last_waits P k = waits_in (last_head P k)
+last_waits P k = is_some (waits_with P k)
 
 -- between two turns of actor k, which knows this, and opened that endpoint last
 pub record Playing (commands : List Command) (k : ℕ) (P : List Step) (mind : Knows)

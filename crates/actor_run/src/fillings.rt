@@ -1,32 +1,32 @@
-ghost use Rattle.std.specs.Prelude.{◌≡◌, IfOk, length, ◌≤◌, replicate, IsTrue};
+ghost use Rattle.std.specs.Prelude.{◌≡◌, IfOk, IsTrue};
 ghost use Rattle.linx_base.specs.Content.{data_limit};
 ghost use Rattle.script_words.specs.Filling.{data_of, fits_data};
 ghost use Rattle.actor_run.specs.Asking.{signal_of};
 
-use linx_base::{BufferError, NoMemory, Signal};
+use linx_base::{Blob, NoMemory, Signal, TryCopy};
 use script_lang::Filling;
 use std::alloc::Global;
 
-/// The signal of a send: its number, and the bytes that its filling stands for.
-pub(crate) fn signal_filled(alloc: Global, number: u32, bytes: &Filling) -> Result<Signal, NoMemory>
-    requires { IsTrue (fits_data data_limit bytes.now) }
-    ensures { IfOk result (λ signal. signal ≡ signal_of number (data_of bytes.now)) }
+/// The bytes that a filling stands for. Those of the script are shared.
+fn bytes_of(alloc: Global, filling: &Filling) -> Result<Blob, NoMemory>
+    ensures { IfOk result (λ bytes. bytes ≡ data_of filling.now) }
 {
-    match bytes {
-        Filling::Bytes(bytes) => made(Signal::alloc(alloc, number, bytes.bytes())),
-        Filling::Repeat { count, byte } => {
-            let all = vec![in alloc; *byte; *count as usize]?;
-            made(Signal::alloc(alloc, number, &all))
-        }
+    match filling {
+        Filling::Bytes(bytes) => bytes.copy(),
+        Filling::Repeat { count, byte } => { Blob::shared(vec![in alloc; *byte; *count as usize]?) }
     }
 }
 
-/// A signal that can be refused for memory alone.
-fn made(signal: Result<Signal, BufferError>) -> Result<Signal, NoMemory>
-    ensures { IfOk result (λ signal_made. signal ≡ Ok signal_made) }
+/// A signal of this number, with the bytes that its filling stands for.
+#[tactic(auto, using(crate::proofs::Runnable::within))]
+pub(crate) fn signal_filled(
+    alloc: Global,
+    number: u32,
+    filling: &Filling,
+) -> Result<Signal, NoMemory>
+    requires { IsTrue (fits_data data_limit filling.now) }
+    ensures { IfOk result (λ signal. signal ≡ signal_of number (data_of filling.now)) }
 {
-    match signal {
-        Ok(signal) => Ok(signal),
-        Err(_) => Err(NoMemory),
-    }
+    let bytes = bytes_of(alloc, filling)?;
+    Ok(Signal::of(number, bytes))
 }

@@ -3,6 +3,7 @@ ghost use Rattle.std.specs.Prelude.{◌≤◌, IfOk, OnOk, length};
 ghost use Rattle.actor_run.specs.Asking.{AreRunnable};
 
 use crate::Mind;
+use crate::turning::is_end;
 use journal::{Event, Refusal, SentTo};
 use linx_base::{AttRef, Inc, Item, ItemAt, Kind, NoMemory, Peer, Signal};
 use node_kernel::{Ask, StepAnswer};
@@ -36,8 +37,8 @@ fn asked(
     ensures { OnOk result (mind.new.place ≤ length script.now.commands) }
 {
     let ask = mind.next(alloc, script, me)?;
-    if let Event::End = &ask.event {
-        Err(NoMemory)?;
+    if is_end(&ask.event) {
+        return Err(Fail::from(NoMemory));
     }
     mind.told(script, answer);
     Ok(ask)

@@ -11,7 +11,8 @@ use node_kernel::{Ask, StepAnswer};
 use script_lang::ActorScript;
 use std::alloc::Global;
 
-fn is_end(event: &Event) -> bool
+/// Whether an actor asks for its end.
+pub(crate) fn is_end(event: &Event) -> bool
     ensures { result ≡ is_end_event event.now }
 {
     matches!(event, Event::End)
