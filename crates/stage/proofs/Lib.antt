@@ -1,0 +1,5 @@
+mod Asking
+mod Makings
+mod Waiting
+mod Rounds
+mod Seats

@@ -1,0 +1,161 @@
+-- The players of a stage, before and after a turn.
+use Rattle.std.proofs.Common.{◌≡◌, ◌≢◌, ℕ, zero, suc, ◌<◌, ◌≤◌, Bool, true, false, cond, List, [], ◌∷◌, ◌++◌, All, length, map, Option, Some, None, refl, sym, ◌∙◌, ap, subst, arith}
+use Rattle.std.specs.Prelude.{◌==◌, slice_get, slice_set, if◌then◌else◌}
+use Rattle.std.proofs.lemmas.Bool.{eqb-true, eq-eqb, ne_eqb, true≢false}
+use Rattle.std.proofs.lemmas.List.Elements.{All-cons, All-nil}
+use Rattle.linx_base.specs.declared.identity.Inc.{Inc}
+use Rattle.journal.specs.declared.by.By.TheVariants.{Actor}
+use Rattle.journal.specs.declared.effect.Step.{Step}
+use Rattle.journal.specs.declared.head.Head.{Head}
+use Rattle.journal.specs.History.{endpoint_of, has_ended, is_by}
+use Rattle.journal.specs.Laws.{IsLegal}
+use Rattle.journal.specs.Logs.{Log}
+use Rattle.journal.specs.Shapes.{Shape, node_by}
+use Rattle.script_words.specs.declared.command.Command.{Command}
+use Rattle.script_lang.specs.declared.actor_script.ActorScript.{ActorScript}
+use Rattle.script_lang.specs.Parts.{ScriptParts}
+use Rattle.node_kernel.specs.declared.ask.Ask.{Ask}
+use Rattle.node_kernel.specs.declared.answers.StepAnswer.{StepAnswer}
+use Rattle.node_kernel.specs.Answers.{granted}
+use Rattle.actor_run.specs.Following.{Follows, FollowsWhole, IsTurned, Playing}
+use Rattle.actor_run.specs.Knowing.{Knows, knows_nothing}
+use Rattle.actor_run.proofs.Others.{GoesOn, has_ended_goes_on, playing_goes_on, whole_goes_on}
+use Rattle.actor_run.proofs.Turns.{playing_first}
+use Rattle.fabric.specs.Machine.{head_of, signal_in, step_with, steps_after, with_step}
+use Rattle.fabric.specs.Remains.{Layout}
+use Rattle.fabric.proofs.Kept.{get-set, get-set-other}
+use Rattle.stage.specs.declared.player.Player.{Player}
+use Rattle.stage.specs.Plays.{AllFollow, AllFollowWhole, IsSoFar}
+use Rattle.stage.specs.Seats.{AreSeated, IsSeated, IsStaged, unstarted}
+use Rattle.stage.specs.Turns.{commands_in, commands_of, is_over, shape_of}
+
+-- BEFORE THE FIRST TURNS
+first_seated : (actors : List ActorScript) (n : ℕ) (player : Player)
+    → slice_get (unstarted actors) n ≡ Some player
+    → Playing (commands_in (slice_get actors n)) (suc n) [] player.mind player.me
+first_seated [] zero player is = cc
+first_seated [] (suc n) player is = cc
+first_seated (a ∷ actors) zero player is =
+    let same : record { mind = knows_nothing a.commands; me = None } ≡ player = inner is in
+    subst (λ (p : Player). Playing a.commands 1 [] p.mind p.me) same (playing_first a.commands 1)
+  where
+    inner : {p q : Player} → Some p ≡ Some q → p ≡ q
+    inner e = cc
+first_seated (a ∷ actors) (suc n) player is = step (first_seated_at actors n player is)
+  where
+    first_seated_at : (actors : List ActorScript) (n : ℕ) (player : Player)
+        → slice_get (unstarted actors) n ≡ Some player
+        → player ≡ record { mind = knows_nothing (commands_in (slice_get actors n)); me = None }
+    first_seated_at [] zero player is = cc
+    first_seated_at [] (suc n) player is = cc
+    first_seated_at (a ∷ actors) zero player is = cc
+    first_seated_at (a ∷ actors) (suc n) player is = first_seated_at actors n player is
+
+    step : player ≡ record { mind = knows_nothing (commands_in (slice_get actors n)); me = None }
+        → Playing (commands_in (slice_get actors n)) (suc (suc n)) [] player.mind player.me
+    step is = subst (λ (p : Player).
+        Playing (commands_in (slice_get actors n)) (suc (suc n)) [] p.mind p.me) (sym is)
+        (playing_first (commands_in (slice_get actors n)) (suc (suc n)))
+
+pub unstarted-seated : (script : ScriptParts) → AreSeated script [] (unstarted script.actors)
+unstarted-seated script n player is = first_seated script.actors n player is
+
+-- A TURN OF ANOTHER ACTOR leaves an actor as it was
+pub step-goes_on : (P : List Step) (a k : ℕ) → a ≢ k → (s : Step) → s.by ≡ Actor a
+    → GoesOn k (s ∷ P) P
+step-goes_on P a k other s by =
+    let off : is_by s.by k ≡ false = ap (λ b. is_by b k) by ∙ ne_eqb a k other in
+    (s ∷ [], refl, All-cons (λ (x : Step). is_by x.by k ≡ false) s [] off (All-nil (λ (x : Step). is_by x.by k ≡ false)))
+
+pub none-goes_on : (P : List Step) (k : ℕ) → GoesOn k P P
+none-goes_on P k = ([], refl, All-nil (λ (x : Step). is_by x.by k ≡ false))
+
+-- the head of what the machine makes of an ask
+abbrev made : Shape → List Step → ℕ → Ask → Option Head
+made shape P a ask =
+    head_of shape P a (node_by shape (Actor a)) (endpoint_of P a) (granted P a ask).event
+    (signal_in (granted P a ask).hand)
+
+pub after-goes_on : (shape : Shape) (P : List Step) (a k : ℕ) (ask : Ask) → a ≢ k
+    → GoesOn k (steps_after shape P (Actor a) ask) P
+after-goes_on shape P a k ask other = go (made shape P a ask)
+  where
+    go : (head : Option Head) → GoesOn k (with_step P (step_with shape P (Actor a) head)) P
+    go None = none-goes_on P k
+    go (Some head) = step-goes_on P a k other _ refl
+
+seated-other : (script : ScriptParts) (now before : List Step) (k : ℕ) (player : Player)
+    → GoesOn k now before → IsSeated script before k player → IsSeated script now k player
+seated-other script now before k player on seated =
+    let ended : has_ended now k ≡ has_ended before k = has_ended_goes_on k now before on in
+    subst (λ (b : Bool). IsTurned (commands_of script k) k now player.mind player.me b) (sym ended)
+    (go (has_ended before k) seated)
+  where
+    go : (b : Bool) → IsTurned (commands_of script k) k before player.mind player.me b
+        → IsTurned (commands_of script k) k now player.mind player.me b
+    go true whole = whole_goes_on (commands_of script k) k now before on whole
+    go false playing =
+        playing_goes_on (commands_of script k) k now before player.mind player.me on playing
+
+same_player : {p q : Player} → Some p ≡ Some q → p ≡ q
+same_player is = cc
+
+-- AFTER A TURN of the actor at a place
+pub seated-set : (script : ScriptParts) (now before : List Step) (players : List Player) (n : ℕ)
+    (player : Player) → n < length players → AreSeated script before players
+    → ((k : ℕ) → suc n ≢ k → GoesOn k now before) → IsSeated script now (suc n) player
+    → AreSeated script now (slice_set players n player)
+seated-set script now before players n player within seated on new m other is =
+    go (n == m) refl
+  where
+    go : (b : Bool) → (n == m) ≡ b → IsSeated script now (suc m) other
+    go true e =
+        let same : n ≡ m = eqb-true n m e in
+        let mine : slice_get (slice_set players n player) n ≡ Some other =
+        ap (slice_get (slice_set players n player)) same ∙ is in
+        let it : player ≡ other = same_player (sym (get-set players n player within) ∙ mine) in
+        subst (λ (k : ℕ). IsSeated script now (suc k) other) same
+        (subst (λ (p : Player). IsSeated script now (suc n) p) it new)
+    go false e =
+        let apart : n ≢ m = λ same. true≢false (sym (eq-eqb n m same) ∙ e) in
+        let there : slice_get players m ≡ Some other =
+        sym (get-set-other players n m player apart) ∙ is in
+        let far : suc n ≢ suc m = λ same. apart (omega arith) in
+        seated-other script now before (suc m) other (on (suc m) far) (seated m other there)
+
+-- whoever asked for its end has ended
+pub turned-seated : (script : ScriptParts) (now : List Step) (k : ℕ) (player : Player) (over : Bool)
+    → IsTurned (commands_of script k) k now player.mind player.me over
+    → IsSeated script now k player
+turned-seated script now k player over turned =
+    subst (λ (b : Bool). IsTurned (commands_of script k) k now player.mind player.me b)
+    (sym (ended over turned)) turned
+  where
+    ended : (b : Bool) → IsTurned (commands_of script k) k now player.mind player.me b
+        → has_ended now k ≡ b
+    ended true whole = whole.1
+    ended false playing = playing.running
+
+-- WHAT IS KNOWN OF EACH ACTOR
+seat_of : {X : Type 0} (xs : List X) (n : ℕ) → n < length xs → (x : X) × (slice_get xs n ≡ Some x)
+seat_of [] n within = absurd (omega arith)
+seat_of (x ∷ xs) zero within = (x, refl)
+seat_of (x ∷ xs) (suc n) within = seat_of xs n (omega arith)
+
+module _ (script : ScriptParts) (P : List Step) (players : List Player)
+    (count : length players ≡ length script.actors) (seated : AreSeated script P players) where
+  pub all-follow : AllFollow script P
+  all-follow zero above within = absurd (omega arith)
+  all-follow (suc n) above within =
+      let seat = seat_of players n (omega arith) in
+      go (has_ended P (suc n)) seat.0 (seated n seat.0 seat.1)
+    where
+      go : (b : Bool) (player : Player)
+          → IsTurned (commands_of script (suc n)) (suc n) P player.mind player.me b
+          → Follows (commands_of script (suc n)) (suc n) P
+      go true player whole = whole.0
+      go false player playing = playing.follows
+
+  pub all-whole : ((k : ℕ) → 0 < k → k ≤ length script.actors → has_ended P k ≡ true)
+      → AllFollowWhole script P
+  all-whole ended k above within = (all-follow k above within, ended k above within)

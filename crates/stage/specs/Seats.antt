@@ -1,0 +1,36 @@
+-- What a stage keeps of its actors between two turns.
+use Rattle.std.specs.Prelude.{ℕ, suc, ◌≡◌, ◌≤◌, List, length, map, slice_get, Some, None, []}
+use Rattle.journal.specs.declared.effect.Step.{Step}
+use Rattle.journal.specs.History.{has_ended}
+use Rattle.script_lang.specs.declared.actor_script.ActorScript.{ActorScript}
+use Rattle.script_lang.specs.Parts.{ScriptParts}
+use Rattle.actor_run.specs.Following.{IsTurned}
+use Rattle.actor_run.specs.Knowing.{knows_nothing}
+use Rattle.fabric.specs.Remains.{Layout}
+use Rattle.stage.specs.declared.player.Player.{Player}
+use Rattle.stage.specs.Turns.{commands_of, shape_of}
+
+-- the players of actors before their first turns
+abbrev pub unstarted : List ActorScript → List Player
+unstarted actors = map (λ a. record { mind = knows_nothing a.commands; me = None }) actors
+
+-- actor k is between two turns, or has followed its commands to their end
+abbrev pub IsSeated : ScriptParts → List Step → ℕ → Player → Type 0
+IsSeated script P k player =
+    IsTurned (commands_of script k) k P player.mind player.me (has_ended P k)
+
+-- the players are the actors from 1 on
+abbrev pub AreSeated : ScriptParts → List Step → List Player → Type 0
+AreSeated script P players =
+    (n : ℕ) → (player : Player) → slice_get players n ≡ Some player
+    → IsSeated script P (suc n) player
+
+-- What a stage keeps: its fabric is laid out as the script says, has its names and no more steps than
+-- a journal takes, and each actor has its player
+pub record IsStaged (script : ScriptParts) (fabric : Layout) (players : List Player) : Type 0 where
+  pub unlinked : script.links ≡ []
+  pub shape : fabric.shape ≡ shape_of script
+  pub names : fabric.log.names ≡ script.names
+  pub few : length fabric.log.steps ≤ 200000
+  pub count : length players ≡ length script.actors
+  pub seated : AreSeated script fabric.log.steps players

@@ -1,0 +1,98 @@
+ghost use Rattle.std.specs.Prelude.{◌≡◌, ◌<◌, ◌≤◌, true, false, [], length, IfOk, IfErr, OnOk, OnErr, IsErr};
+ghost use Rattle.linx_base.specs.declared.identity.Inc.{Inc};
+ghost use Rattle.journal.specs.Logs.{is_full};
+ghost use Rattle.actor_run.specs.Following.{endpoint_after, next_ask, Playing};
+ghost use Rattle.fabric.specs.Machine.{answer_to, steps_after};
+ghost use Rattle.node_kernel.specs.Answers.{is_not_yet};
+ghost use Rattle.stage.specs.Plays.{came_of};
+ghost use Rattle.stage.specs.Turns.{commands_of, shape_of};
+ghost use Rattle.stage.specs.Seats.{IsSeated};
+
+use crate::stage::Turn;
+use actor_run::Mind;
+use fabric::{Fabric, StepStop, StopCause};
+use journal::By;
+use linx_base::Inc;
+use node_kernel::{Ask, StepAnswer};
+use script_lang::Script;
+use std::alloc::Global;
+
+/// An actor between two turns: what it knows, and the endpoint that it opened last.
+#[derive(Drop)]
+pub struct Player {
+    pub(crate) mind: Mind,
+    pub(crate) me: Option<Inc>,
+}
+
+/// The endpoint that an actor opened last, after an answer.
+fn endpoint_after(me: Option<Inc>, answer: &StepAnswer) -> Option<Inc>
+    ensures { result ≡ endpoint_after me answer.now }
+{
+    match answer {
+        StepAnswer::Opened(inc) => Some(*inc),
+        _ => me,
+    }
+}
+
+/// What came of a turn that was answered so.
+fn came_of(answer: &StepAnswer) -> Turn
+    ensures { result ≡ came_of false answer.now }
+{
+    match answer {
+        StepAnswer::NotYet => Turn::Waits,
+        _ => Turn::Moved,
+    }
+}
+
+/// A turn of an actor that hasn't ended. A stop leaves it to be made: nothing changed.
+pub(crate) fn turn_of(
+    alloc: Global,
+    fabric: &mut Fabric,
+    script: &Script,
+    actor: u32,
+    player: &mut Player,
+) -> Result<Turn, StepStop>
+    requires above { 0 < actor }
+    requires within { actor ≤ length script.now.actors }
+    requires unlinked { script.now.links ≡ [] }
+    requires shape { fabric.old.shape ≡ shape_of script.now }
+    requires names { fabric.old.log.names ≡ script.now.names }
+    requires playing { Playing (commands_of script.now actor) actor fabric.old.log.steps
+        player.old.mind player.old.me }
+    ensures came { IfOk result (λ turn. turn ≡ came_of false
+        (answer_to (shape_of script.now) fabric.old.log.steps (By.Actor actor)
+        (next_ask (commands_of script.now actor) actor fabric.old.log.steps))) }
+    ensures ok { OnOk result (fabric.new.log.steps ≡
+        steps_after (shape_of script.now) fabric.old.log.steps (By.Actor actor)
+        (next_ask (commands_of script.now actor) actor fabric.old.log.steps)) }
+    ensures seated { OnOk result
+        (IsSeated script.now fabric.new.log.steps actor player.new) }
+    ensures fixed { fabric.new ≡
+        record fabric.old { log = record fabric.old.log { steps = fabric.new.log.steps } } }
+    ensures full { is_full fabric.old.log.steps ≡ true → IsErr result }
+    ensures full_only { IfErr result (λ stop.
+        stop.cause ≡ StopCause.JournalFull → is_full fabric.old.log.steps ≡ true) }
+    ensures fabric_stays { OnErr result (fabric.new ≡ fabric.old) }
+    ensures player_stays { OnErr result (player.new ≡ player.old) }
+{
+    let actor_script = &script.actors()[(actor - 1) as usize];
+    let Ok(ask) = player.mind.next(alloc, actor_script, player.me) else {
+        return Err(StepStop {
+            cause: StopCause::NoMemory,
+            hand: None,
+        });
+    };
+    let Ask { event, hand } = ask;
+    match fabric.step(By::Actor(actor), event, hand) {
+        Ok(answer) => {
+            let turn = came_of(&answer);
+            player.me = endpoint_after(player.me, &answer);
+            player.mind.told(actor_script, answer);
+            Ok(turn)
+        }
+        Err(StepStop { cause, hand }) => {
+            player.mind.stopped(hand);
+            Err(StepStop { cause, hand: None })
+        }
+    }
+}
