@@ -13,7 +13,7 @@ use Rattle.linx_base.specs.declared.signal.SigNote.{SigNote}
 use Rattle.journal.specs.declared.by.By.TheVariants.{Actor}
 use Rattle.journal.specs.declared.effect.Step.{Step}
 use Rattle.journal.specs.declared.head.Refusal.{Refusal}
-use Rattle.journal.specs.History.{has_ended}
+use Rattle.journal.specs.History.{has_ended, last_endpoint}
 use Rattle.script_words.specs.declared.command.Command.{Command}
 use Rattle.script_words.specs.declared.command.Command.TheVariants.{Open, Close, Send, Forward, Recv, Hunt, Attach, Detach, Keep, Cut, Mend, Restart, Settle}
 use Rattle.script_words.specs.Filling.{data_of, fits_data}
@@ -59,7 +59,7 @@ fit-detach nodes None = fit-refused nodes Refusal.NoRef
 fit-detach nodes (Some r) = record { handed = refl; fits = tt; unlinked = refl }
 
 -- the bounds of a number that is within them
-within_bounds : (low high n : ℕ) → is_within low high n ≡ true → (low ≤ n) × (n ≤ high)
+pub within_bounds : (low high n : ℕ) → is_within low high n ≡ true → (low ≤ n) × (n ≤ high)
 within_bounds low high n is =
     let parts = and_parts (nat_le low n) (nat_le n high) is in
     (below low n parts.0, below n high parts.1)
@@ -140,19 +140,28 @@ commands-fit s (a ∷ rest) (suc n) place all =
     commands-fit s rest n place (and_parts (fits_actor s a) (list_all (fits_actor s) rest) all).1
 
 -- WHAT AN ACTOR ASKS FOR next is what it may ask for
-pub may_ask : (s : ScriptParts) → IsScript s → s.links ≡ [] → (P : List Step) (n : ℕ)
-    → suc n ≤ length s.actors → has_ended P (suc n) ≡ false
-    → MayAsk (length s.names.nodes) (shape_of s) P (Actor (suc n))
-    (next_ask (commands_of s (suc n)) (suc n) P)
-may_ask s script unlinked P n within running =
+pub next-fit : (s : ScriptParts) → IsScript s → s.links ≡ [] → (P : List Step) (k : ℕ)
+    → IsFit (length s.names.nodes) (next_ask (commands_of s k) k P)
+next-fit s script unlinked P zero = ended (knows [] 0 P).place
+  where
+    ended : (place : ℕ) → IsFit (length s.names.nodes)
+        (ask_of (knows [] 0 P) (last_endpoint P 0) (slice_get [] place))
+    ended zero = record { handed = refl; fits = tt; unlinked = refl }
+    ended (suc place) = record { handed = refl; fits = tt; unlinked = refl }
+next-fit s script unlinked P (suc n) =
     let bare : length s.names.links ≡ 0 = sym script.each_name ∙ ap length unlinked in
     let mind : Knows = knows (commands_of s (suc n)) (suc n) P in
-    let fit = asks-fit s (node_in (slice_get s.actors n)) bare mind
-    (Rattle.journal.specs.History.last_endpoint P (suc n))
+    asks-fit s (node_in (slice_get s.actors n)) bare mind (last_endpoint P (suc n))
     (slice_get (commands_of s (suc n)) mind.place)
-    (commands-fit s s.actors n mind.place script.each_actor) in
+    (commands-fit s s.actors n mind.place script.each_actor)
+
+pub may_ask : (s : ScriptParts) → IsScript s → s.links ≡ [] → (P : List Step) (k : ℕ)
+    → 0 < k → k ≤ length s.actors → has_ended P k ≡ false
+    → MayAsk (length s.names.nodes) (shape_of s) P (Actor k) (next_ask (commands_of s k) k P)
+may_ask s script unlinked P k above within running =
+    let fit = next-fit s script unlinked P k in
     record {
-      maker = (omega arith, omega (arith, length-map s.actors (λ a. a.node)), running);
+      maker = (above, omega (arith, length-map s.actors (λ a. a.node)), running);
       handed = fit.handed;
       fits = fit.fits;
       unlinked = fit.unlinked;

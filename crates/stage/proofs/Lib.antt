@@ -3,3 +3,5 @@ mod Makings
 mod Waiting
 mod Rounds
 mod Seats
+mod Turned
+mod Whole

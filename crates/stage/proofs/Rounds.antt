@@ -83,7 +83,7 @@ module _ (shape : Shape) (P : List Step) (k : ℕ) (commands : List Command)
       go (Some head) made still = absurd (step-some head still)
 
 -- ENDED. Each of so many has ended
-ended-each : (P : List Step) (n o : ℕ) → have_ended P n ≡ true → 0 < o → o ≤ n
+pub ended-each : (P : List Step) (n o : ℕ) → have_ended P n ≡ true → 0 < o → o ≤ n
     → has_ended P o ≡ true
 ended-each P zero o all above within = absurd (omega arith)
 ended-each P (suc n) o all above within =

@@ -1,7 +1,8 @@
 -- The players of a stage, before and after a turn.
-use Rattle.std.proofs.Common.{◌≡◌, ◌≢◌, ℕ, zero, suc, ◌<◌, ◌≤◌, Bool, true, false, cond, List, [], ◌∷◌, ◌++◌, All, length, map, Option, Some, None, refl, sym, ◌∙◌, ap, subst, arith}
-use Rattle.std.specs.Prelude.{◌==◌, slice_get, slice_set, if◌then◌else◌}
-use Rattle.std.proofs.lemmas.Bool.{eqb-true, eq-eqb, ne_eqb, true≢false}
+use Rattle.std.proofs.Common.{◌≡◌, ◌≢◌, ℕ, zero, suc, ◌+◌, ◌-◌, ◌<◌, ◌≤◌, Bool, Result, Ok, Err, IsErr, OnOk, OnErr, inl, inr, length-set, true, false, cond, List, [], ◌∷◌, ◌++◌, All, length, map, Option, Some, None, refl, sym, ◌∙◌, ap, subst, arith}
+use Rattle.std.specs.Prelude.{◌==◌, nat_le, slice_get, slice_set, if◌then◌else◌}
+use Rattle.std.proofs.lemmas.Bool.{cases_lt, eqb-true, eq-eqb, le-leb, ne_eqb, or_left, true≢false}
+use Rattle.std.proofs.lemmas.List.{length-map}
 use Rattle.std.proofs.lemmas.List.Elements.{All-cons, All-nil}
 use Rattle.linx_base.specs.declared.identity.Inc.{Inc}
 use Rattle.journal.specs.declared.by.By.TheVariants.{Actor}
@@ -9,7 +10,7 @@ use Rattle.journal.specs.declared.effect.Step.{Step}
 use Rattle.journal.specs.declared.head.Head.{Head}
 use Rattle.journal.specs.History.{endpoint_of, has_ended, is_by}
 use Rattle.journal.specs.Laws.{IsLegal}
-use Rattle.journal.specs.Logs.{Log}
+use Rattle.journal.specs.Logs.{Log, is_full}
 use Rattle.journal.specs.Shapes.{Shape, node_by}
 use Rattle.script_words.specs.declared.command.Command.{Command}
 use Rattle.script_lang.specs.declared.actor_script.ActorScript.{ActorScript}
@@ -21,13 +22,16 @@ use Rattle.actor_run.specs.Following.{Follows, FollowsWhole, IsTurned, Playing}
 use Rattle.actor_run.specs.Knowing.{Knows, knows_nothing}
 use Rattle.actor_run.proofs.Others.{GoesOn, has_ended_goes_on, playing_goes_on, whole_goes_on}
 use Rattle.actor_run.proofs.Turns.{playing_first}
-use Rattle.fabric.specs.Machine.{head_of, signal_in, step_with, steps_after, with_step}
+use Rattle.fabric.specs.Machine.{have_ended, head_of, signal_in, step_of, step_with, steps_after, with_step}
 use Rattle.fabric.specs.Remains.{Layout}
 use Rattle.fabric.proofs.Kept.{get-set, get-set-other}
 use Rattle.stage.specs.declared.player.Player.{Player}
+use Rattle.stage.specs.declared.stage.Turn.{Turn}
 use Rattle.stage.specs.Plays.{AllFollow, AllFollowWhole, IsSoFar}
 use Rattle.stage.specs.Seats.{AreSeated, IsSeated, IsStaged, unstarted}
-use Rattle.stage.specs.Turns.{commands_in, commands_of, is_over, shape_of}
+use Rattle.stage.specs.Turns.{commands_in, commands_of, is_over, round_of, shape_of}
+use Rattle.stage.proofs.Asking.{next-fit}
+use Rattle.stage.proofs.Rounds.{ended-each, round-moves}
 
 -- BEFORE THE FIRST TURNS
 first_seated : (actors : List ActorScript) (n : ℕ) (player : Player)
@@ -159,3 +163,118 @@ module _ (script : ScriptParts) (P : List Step) (players : List Player)
   pub all-whole : ((k : ℕ) → 0 < k → k ≤ length script.actors → has_ended P k ≡ true)
       → AllFollowWhole script P
   all-whole ended k above within = (all-follow k above within, ended k above within)
+
+-- AN ACTOR THAT HASN'T ENDED is between two turns
+pub seat-playing : (script : ScriptParts) (P : List Step) (players : List Player)
+    → AreSeated script P players → (k : ℕ) → 0 < k → (player : Player)
+    → slice_get players (k - 1) ≡ Some player → has_ended P k ≡ false
+    → Playing (commands_of script k) k P player.mind player.me
+seat-playing script P players seated zero above player is running = absurd (omega arith)
+seat-playing script P players seated (suc n) above player is running =
+    let place : suc n - 1 ≡ n = omega arith in
+    let there : slice_get players n ≡ Some player = ap (slice_get players) (sym place) ∙ is in
+    subst (λ (b : Bool).
+    IsTurned (commands_of script (suc n)) (suc n) P player.mind player.me b) running
+    (seated n player there)
+
+pub playing-seated : (script : ScriptParts) (P : List Step) (k : ℕ) (player : Player)
+    → Playing (commands_of script k) k P player.mind player.me → IsSeated script P k player
+playing-seated script P k player playing = turned-seated script P k player false playing
+
+-- A STAGE after a turn of actor k
+module _ (script : ScriptParts) (old now : Layout) (players : List Player) (k : ℕ)
+    (player : Player) (staged : IsStaged script old players) (above : 0 < k)
+    (within : k ≤ length script.actors)
+    (fixed : now ≡ record old { log = record old.log { steps = now.log.steps } }) where
+  staged-next : length now.log.steps ≤ 200000
+      → ((m : ℕ) → k ≢ m → GoesOn m now.log.steps old.log.steps)
+      → IsSeated script now.log.steps k player
+      → IsStaged script now (slice_set players (k - 1) player)
+  staged-next few on seated = record {
+    declared = staged.declared;
+    unlinked = staged.unlinked;
+    shape = ap (λ (l : Layout). l.shape) fixed ∙ staged.shape;
+    names = ap (λ (l : Layout). l.log.names) fixed ∙ staged.names;
+    few = few;
+    count = length-set players (k - 1) player ∙ staged.count;
+    seated = go k above within refl;
+  }
+    where
+      go : (a : ℕ) → 0 < a → a ≤ length script.actors → k ≡ a
+          → AreSeated script now.log.steps (slice_set players (k - 1) player)
+      go zero low high is = absurd (omega arith)
+      go (suc n) low high is =
+          let place : k - 1 ≡ n = omega arith in
+          let count = staged.count in
+          subst (λ (i : ℕ). AreSeated script now.log.steps (slice_set players i player))
+          (sym place)
+          (seated-set script now.log.steps old.log.steps players n player (omega arith)
+          staged.seated (subst (λ (a : ℕ). (m : ℕ) → a ≢ m
+          → GoesOn m now.log.steps old.log.steps) is on)
+          (subst (λ (a : ℕ). IsSeated script now.log.steps a player) is seated))
+
+  one_more : (P : List Step) (o : Option Step) → length P < 200000
+      → length (with_step P o) ≤ 200000
+  one_more P None low = omega arith
+  one_more P (Some s) low = omega arith
+
+  not_full : (P : List Step) → (is_full P ≡ true → ⊥) → length P < 200000
+  not_full P room =
+      elim (cases_lt (length P) 200000) [
+        | inl less ↦ less
+        | inr full ↦
+            absurd (room (or_left (nat_le 200000 (length P)) _ (le-leb 200000 (length P) full)))
+      ]
+
+  -- whatever came of it
+  pub staged-turned : {E : Type 0} (r : Result Turn E) (ask : Ask)
+      → OnOk r (now.log.steps ≡ steps_after (shape_of script) old.log.steps (Actor k) ask)
+      → OnOk r (IsSeated script now.log.steps k player)
+      → (is_full old.log.steps ≡ true → IsErr r) → OnErr r (now ≡ old)
+      → (before : Player) → OnErr r (player ≡ before) → IsSeated script old.log.steps k before
+      → IsStaged script now (slice_set players (k - 1) player)
+  staged-turned (Ok turn) ask steps seated room still before stays was =
+      let low : length old.log.steps < 200000 =
+      not_full old.log.steps (λ full. true≢false (sym (room full))) in
+      staged-next
+      (subst (λ (P : List Step). length P ≤ 200000) (sym steps)
+      (one_more old.log.steps
+      (step_of (shape_of script) old.log.steps (Actor k) ask) low))
+      (λ m other. subst (λ (P : List Step). GoesOn m P old.log.steps) (sym steps)
+      (after-goes_on (shape_of script) old.log.steps k m ask other))
+      seated
+  staged-turned (Err stop) ask steps seated room still before stays was =
+      let same : now.log.steps ≡ old.log.steps = ap (λ (l : Layout). l.log.steps) still in
+      staged-next
+      (subst (λ (P : List Step). length P ≤ 200000) (sym same) staged.few)
+      (λ m other. subst (λ (P : List Step). GoesOn m P old.log.steps) (sym same)
+      (none-goes_on old.log.steps m))
+      (subst (λ (P : List Step). IsSeated script P k player) (sym same)
+      (subst (λ (p : Player). IsSeated script old.log.steps k p) (sym stays) was))
+
+-- WHAT A STAGE PROMISES of its journal
+module _ (script : ScriptParts) (fabric : Layout) (players : List Player)
+    (staged : IsStaged script fabric players) where
+  pub staged-follows : AllFollow script fabric.log.steps
+  staged-follows = all-follow script fabric.log.steps players staged.count staged.seated
+
+  pub staged-so_far : IsLegal fabric.shape fabric.log.steps → IsSoFar script fabric.log
+  staged-so_far legal = record {
+    names = staged.names;
+    legal = subst (λ (s : Shape). IsLegal s fabric.log.steps) staged.shape legal;
+    follows = staged-follows;
+  }
+
+  pub staged-moves : is_over script fabric.log.steps ≡ false
+      → length fabric.log.steps < length (round_of script fabric.log.steps)
+  staged-moves running =
+      round-moves script fabric.log.steps staged-follows
+      (λ k. (next-fit script staged.declared staged.unlinked fabric.log.steps k).handed) running
+
+  pub staged-whole : is_over script fabric.log.steps ≡ true
+      → AllFollowWhole script fabric.log.steps
+  staged-whole over =
+      all-whole script fabric.log.steps players staged.count staged.seated
+      (λ k above within. ended-each fabric.log.steps (length script.actors) k
+      (subst (λ (n : ℕ). have_ended fabric.log.steps n ≡ true)
+      (length-map script.actors (λ a. a.node)) over) above within)

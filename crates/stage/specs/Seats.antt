@@ -3,6 +3,7 @@ use Rattle.std.specs.Prelude.{ℕ, suc, ◌≡◌, ◌≤◌, List, length, map,
 use Rattle.journal.specs.declared.effect.Step.{Step}
 use Rattle.journal.specs.History.{has_ended}
 use Rattle.script_lang.specs.declared.actor_script.ActorScript.{ActorScript}
+use Rattle.script_lang.specs.Fits.{IsScript}
 use Rattle.script_lang.specs.Parts.{ScriptParts}
 use Rattle.actor_run.specs.Following.{IsTurned}
 use Rattle.actor_run.specs.Knowing.{knows_nothing}
@@ -25,9 +26,10 @@ AreSeated script P players =
     (n : ℕ) → (player : Player) → slice_get players n ≡ Some player
     → IsSeated script P (suc n) player
 
--- What a stage keeps: its fabric is laid out as the script says, has its names and no more steps than
+-- What a stage keeps: its script is one without links, its fabric is laid out as the script says, has its names and no more steps than
 -- a journal takes, and each actor has its player
 pub record IsStaged (script : ScriptParts) (fabric : Layout) (players : List Player) : Type 0 where
+  pub declared : IsScript script
   pub unlinked : script.links ≡ []
   pub shape : fabric.shape ≡ shape_of script
   pub names : fabric.log.names ≡ script.names

@@ -1,9 +1,9 @@
 ghost use Rattle.std.specs.Prelude.{◌≡◌, ◌<◌, ◌≤◌, true, false, [], length, IfOk, IfErr, OnOk, OnErr, IsErr};
-ghost use Rattle.linx_base.specs.declared.identity.Inc.{Inc};
 ghost use Rattle.journal.specs.Logs.{is_full};
+ghost use Rattle.actor_run.specs.Asking.{AreRunnable};
 ghost use Rattle.actor_run.specs.Following.{endpoint_after, next_ask, Playing};
 ghost use Rattle.fabric.specs.Machine.{answer_to, steps_after};
-ghost use Rattle.node_kernel.specs.Answers.{is_not_yet};
+ghost use Rattle.script_lang.specs.Fits.{IsScript};
 ghost use Rattle.stage.specs.Plays.{came_of};
 ghost use Rattle.stage.specs.Turns.{commands_of, shape_of};
 ghost use Rattle.stage.specs.Seats.{IsSeated};
@@ -14,7 +14,7 @@ use fabric::{Fabric, StepStop, StopCause};
 use journal::By;
 use linx_base::Inc;
 use node_kernel::{Ask, StepAnswer};
-use script_lang::Script;
+use script_lang::{ActorScript, Script};
 use std::alloc::Global;
 
 /// An actor between two turns: what it knows, and the endpoint that it opened last.
@@ -42,6 +42,17 @@ fn came_of(answer: &StepAnswer) -> Turn
         StepAnswer::NotYet => Turn::Waits,
         _ => Turn::Moved,
     }
+}
+
+/// What an actor does.
+fn actor_of(script: &Script, actor: u32) -> &ActorScript
+    requires above { 0 < actor }
+    requires within { actor ≤ length script.now.actors }
+    ensures commands { result.now.commands ≡ commands_of script.now actor }
+    ensures runnable { AreRunnable result.now.commands }
+    ensures script { IsScript script.now }
+{
+    &script.actors()[(actor - 1) as usize]
 }
 
 /// A turn of an actor that hasn't ended. A stop leaves it to be made: nothing changed.
@@ -75,8 +86,8 @@ pub(crate) fn turn_of(
     ensures fabric_stays { OnErr result (fabric.new ≡ fabric.old) }
     ensures player_stays { OnErr result (player.new ≡ player.old) }
 {
-    let actor_script = &script.actors()[(actor - 1) as usize];
-    let Ok(ask) = player.mind.next(alloc, actor_script, player.me) else {
+    let commands = actor_of(script, actor);
+    let Ok(ask) = player.mind.next(alloc, commands, player.me) else {
         return Err(StepStop {
             cause: StopCause::NoMemory,
             hand: None,
@@ -87,7 +98,7 @@ pub(crate) fn turn_of(
         Ok(answer) => {
             let turn = came_of(&answer);
             player.me = endpoint_after(player.me, &answer);
-            player.mind.told(actor_script, answer);
+            player.mind.told(commands, answer);
             Ok(turn)
         }
         Err(StepStop { cause, hand }) => {

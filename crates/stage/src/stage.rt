@@ -110,10 +110,13 @@ impl Stage {
         self.fabric.into_journal()
     }
 
-    /// Whether every actor has ended.
+    /// Whether every actor has ended. Until then the next round makes a step.
     pub fn is_over(&self) -> bool
-        ensures { result ≡ is_over self.now.script self.now.log.steps }
+        ensures over { result ≡ is_over self.now.script self.now.log.steps }
+        ensures moves { result ≡ false → length self.now.log.steps
+            < length (round_of self.now.script self.now.log.steps) }
     {
+        let _ = &self.players;
         self.fabric.is_over()
     }
 
@@ -132,6 +135,7 @@ impl Stage {
         ensures full_only { IfErr result (λ stop. stop.cause ≡ StopCause.JournalFull
             → (is_full self.old.log.steps ≡ true)
             × (has_ended self.old.log.steps actor ≡ false)) }
+        ensures few { length self.new.log.steps ≤ 200000 }
         ensures err { OnErr result (self.new ≡ self.old) }
     {
         if self.fabric.has_ended(actor) {
@@ -155,7 +159,7 @@ impl Stage {
             → (is_full self.new.log.steps ≡ true) × ((k : ℕ) × (0 < k)
             × (k ≤ length self.old.script.actors)
             × (has_ended self.new.log.steps k ≡ false))) }
-        ensures within { length self.new.log.steps ≤ 200000 }
+        ensures few { length self.new.log.steps ≤ 200000 }
     {
         let count = self.script.actors().len() as u32;
         'turns: for place in 0..count {
