@@ -17,3 +17,4 @@ pub mod Unchanged
 pub mod Made
 pub mod Restarted
 pub mod Counting
+pub mod Worked
