@@ -213,7 +213,7 @@ module _ {shape : Shape} {log : Log} {kernels : List NodeState} {standings : Lis
           short = few;
         }
 
--- AN ACTOR THAT WAITS: its endpoint is open at its kernel, and what it waits for is in its queue or not
+-- AN ACTOR THAT WAITS: its endpoint is open at its kernel, whose queue tells whether in vain
 module _ {shape : Shape} {log : Log} {kernels : List NodeState} {standings : List Standing}
     {actor place home : ℕ} (at : IsAt shape log kernels standings actor place home)
     (kernel : NodeState) (kernel_is : kernel ≡ get_or kernels home kernel)

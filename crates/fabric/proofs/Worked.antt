@@ -14,7 +14,7 @@ use Rattle.journal.specs.declared.head.Head.TheVariants.{Open, Refused, Restart,
 use Rattle.journal.specs.declared.head.Refusal.TheVariants.{IsOpen, NotOpen}
 use Rattle.journal.specs.declared.head.SentTo.TheVariants.{Dead, Queued}
 use Rattle.journal.specs.History.{endpoint_of}
-use Rattle.journal.proofs.Playing.{at, ends, first, item, made, note, opens, second, sends, takes, two_actors}
+use Rattle.journal.proofs.Playing.{at, ends, first, item, made, note, opens, second, sends, takes, third, two_actors}
 use Rattle.node_kernel.specs.declared.answers.StepAnswer.TheVariants as answers
 use Rattle.node_kernel.specs.declared.ask.Ask.{Ask}
 use Rattle.fabric.specs.Machine.{all_have_ended, answer_to, is_at_rest, steps_after}
@@ -65,7 +65,7 @@ a_take_answered : answer_to two_actors sent_over (Actor 2) (bare (asks.Look Any)
     ≡ answers.Took (item (note 5 []) first Plain (at 3 1))
 a_take_answered = refl
 
--- LOOKS IN VAIN: the first waits, a second makes no step, and none is found once all else is at rest
+-- LOOKS IN VAIN: the first waits, a second makes no step, and none is found once all else rests
 abbrev waiting : List Step
 waiting = made 1 (Waits Any) [] ∷ both_open
 
@@ -109,7 +109,7 @@ then_not_open : answer_to two_actors restarted (Actor 2) (bare (asks.Look Any))
     ≡ answers.Refused (NotOpen 3)
 then_not_open = refl
 
-then_dead : answer_to two_actors (opens 1 (codes "c") (record { 0 = 4294967299 }) ∷ restarted) (Actor 1)
+then_dead : answer_to two_actors (opens 1 (codes "c") third ∷ restarted) (Actor 1)
     (record { event = asks.Send (Here second); hand = Some (note 5 []) }) ≡ answers.Sent Dead
 then_dead = refl
 

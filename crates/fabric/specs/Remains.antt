@@ -83,6 +83,7 @@ pub record IsKept (shape : Shape) (log : Log) (kernels : List NodeState) (standi
   pub standings_left : AreStandingsLeft log.steps standings
 
 -- it keeps this, and its journal has at most 200,000 steps
-pub record IsWellKept (shape : Shape) (log : Log) (kernels : List NodeState) (standings : List Standing) : Type 0 where
+pub record IsWellKept (shape : Shape) (log : Log) (kernels : List NodeState)
+    (standings : List Standing) : Type 0 where
   pub kept : IsKept shape log kernels standings
   pub short : length log.steps ≤ step_limit

@@ -76,8 +76,8 @@ impl Fabric {
     ghost use Rattle.fabric.specs.Remains.{IsLaidOut};
     ghost use Rattle.fabric.specs.Standings.{Makes};
 
-    /// A fabric without steps: its nodes and links have these names, and each actor is on one of the
-    /// nodes. As yet there is no link.
+    /// A fabric without steps: its nodes and links have these names, and each actor is on one of
+    /// the nodes. As yet there is no link.
     pub fn new(
         alloc: Global,
         names: Names,
@@ -178,8 +178,8 @@ impl Fabric {
         self.actors.len() as u32
     }
 
-    /// Whether an actor is at rest: each other one has ended, or waits with nothing selected and has a
-    /// greater number.
+    /// Whether an actor is at rest: each other one has ended, or waits with nothing selected and
+    /// has a greater number.
     pub fn is_rest(&self, actor: u32) -> bool
         ensures { result ≡ is_at_rest self.now.shape self.now.log.steps actor }
     {
