@@ -10,7 +10,7 @@ use Rattle.script_lang.specs.Reading.{script_of}
 use Rattle.script_lang.proofs.Sizes.{script_within}
 use Rattle.linx_sim.specs.Streams.{read_most}
 use Rattle.linx_sim.specs.Runs.{is_built, IsCaused, IsBadAt, IsBuilt, Completes, read_of}
-use Rattle.linx_sim.specs.Turns.{IsUnread}
+use Rattle.linx_sim.specs.Causes.{IsUnread}
 use Rattle.linx_sim.specs.declared.outcome.Status.{Status}
 use Rattle.linx_sim.specs.declared.outcome.Status.TheVariants.{Done, Usage, Script, ReadFault}
 use Rattle.linx_sim.specs.declared.outcome.Status.TheVariants.{WriteFault, JournalFull, NoMemory}

@@ -26,7 +26,7 @@ use Rattle.clap.specs.declared.error.Error.{Error}
 use Rattle.clap.specs.declared.parser.matches.Found.{Found}
 use Rattle.clap.proofs.OnLiterals.{clap_on_literals}
 use Rattle.clap.proofs.WalkLemmas.{first_value-rows, list_any-map}
-use Rattle.linx_sim.specs.CommandLine.{IsRun, is_dashed, one_word}
+use Rattle.linx_sim.specs.CommandLine.{IsWord, is_dashed, one_word}
 
 is_simple_line : is_simple_and_free one_word ≡ true
 unfolding clap_on_literals
@@ -173,47 +173,47 @@ abbrev first_text : List Text → Text
 first_text [] = []
 first_text (word ∷ words) = word
 
--- words of which one begins with `-` are not the word `run`
-pub no_run_dashed : {Z : Type 0} (words : List (String Z))
-    → list_any (λ word. is_dashed (string_bytes word)) words ≡ true → IsTrue false ↔ IsRun words
-no_run_dashed words dashed = (
+-- words of which one begins with `-` are not a word that doesn't
+pub none_dashed : {Z : Type 0} (name : Text) (words : List (String Z)) → is_dashed name ≡ false
+    → list_any (λ word. is_dashed (string_bytes word)) words ≡ true
+    → IsTrue false ↔ IsWord name words
+none_dashed name words plain dashed = (
   λ bad. absurd (true≢false (sym bad)),
   λ is. absurd (true≢false (sym dashed ∙ list_any-map is_dashed string_bytes words
-      ∙ ap (list_any is_dashed) is)),
+      ∙ ap (list_any is_dashed) is ∙ ap (λ b. b || false) plain)),
 )
 
--- at the word `run` clap fails for want of memory alone
-pub only_memory : (line : App) (words : List Text) (e : Error) → line ≡ one_word
-    → (is_simple_and_free line ≡ true → HasKind (fault_of line words) e)
-    → words ≡ codes "run" ∷ [] → kind_of e ≡ OutOfMemory
-only_memory line words e same fails is =
+-- at the one word clap fails for want of memory alone
+pub only_memory : (name : Text) (line : App) (words : List Text) (e : Error) → is_dashed name ≡ false
+    → line ≡ one_word → (is_simple_and_free line ≡ true → HasKind (fault_of line words) e)
+    → words ≡ name ∷ [] → kind_of e ≡ OutOfMemory
+only_memory name line words e plain same fails is =
     let simple : is_simple_and_free line ≡ true = ap is_simple_and_free same ∙ is_simple_line in
-    let none : fault_of line words ≡ [] = ap₂ fault_of same is ∙ none_at_one (codes "run") refl in
+    let none : fault_of line words ≡ [] = ap₂ fault_of same is ∙ none_at_one name plain in
     ⊎_elim (λ memory. memory) (λ among. absurd among)
     (subst (λ kinds. HasKind kinds e) none (fails simple))
 
--- the value that was found is `run` where the words are
-value_is_run : (words : List Text) (word : Text) (o : Option (Bor Text)) (t : Bor Text)
-    → words ≡ word ∷ [] → option_map (λ s. s.now) o ≡ Some word → t.now ≡ codes "run"
-    → IsTrue (option_eq (λ (a b : Bor Text). bytes_eq a.now b.now) o (Some t)) ↔
-    (words ≡ codes "run" ∷ [])
-value_is_run words word None t one is run = absurd (true≢false (sym (ap (λ x. is_some x) is)))
-value_is_run words word (Some s) t one is run =
+-- the value that was found is the name where the words are
+value_is : (name : Text) (words : List Text) (word : Text) (o : Option (Bor Text)) (t : Bor Text)
+    → words ≡ word ∷ [] → option_map (λ s. s.now) o ≡ Some word → t.now ≡ name
+    → IsTrue (option_eq (λ (a b : Bor Text). bytes_eq a.now b.now) o (Some t)) ↔ (words ≡ name ∷ [])
+value_is name words word None t one is named = absurd (true≢false (sym (ap (λ x. is_some x) is)))
+value_is name words word (Some s) t one is named =
     let same : s.now ≡ word = ap (λ x. unwrap_or x []) is in (
       λ hit. one ∙ ap (λ (w : Text). w ∷ []) (sym same ∙ (bytes_eq-Decides s.now t.now).0 hit
-          ∙ run),
-      λ asks. (bytes_eq-Decides s.now t.now).1 (same ∙ ap first_text (sym one ∙ asks) ∙ sym run),
+          ∙ named),
+      λ asks. (bytes_eq-Decides s.now t.now).1 (same ∙ ap first_text (sym one ∙ asks) ∙ sym named),
     )
 
-pub asked_is_run : {Z : Type 0} (line : App) (words : List (String Z)) (found : Found)
+pub asked_is : {Z : Type 0} (name : Text) (line : App) (words : List (String Z)) (found : Found)
     (asked : Bool) (o : Option (Bor Text)) (t : Bor Text) → line ≡ one_word
     → list_any (λ word. is_dashed (string_bytes word)) words ≡ false
     → (is_simple_and_free line ≡ true → fault_of line (map string_bytes words) ≡ [])
     → (is_simple line ≡ true → rows_of found ≡ matches_of line (map string_bytes words))
-    → option_map (λ s. s.now) o ≡ first_value found (codes "command") → t.now ≡ codes "run"
+    → option_map (λ s. s.now) o ≡ first_value found (codes "command") → t.now ≡ name
     → asked ≡ option_eq (λ (a b : Bor Text). bytes_eq a.now b.now) o (Some t)
-    → IsTrue asked ↔ IsRun words
-asked_is_run line words found asked o t same plain passes rows read run is =
+    → IsTrue asked ↔ IsWord name words
+asked_is name line words found asked o t same plain passes rows read named is =
     let texts = map string_bytes words in
     let none : fault_of one_word texts ≡ [] = ap (λ a. fault_of a texts) (sym same)
     ∙ passes (ap is_simple_and_free same ∙ is_simple_line) in
@@ -223,4 +223,5 @@ asked_is_run line words found asked o t same plain passes rows read run is =
     let value : option_map (λ s. s.now) o ≡ Some one.0 = read
     ∙ first_value-rows found (codes "command") ∙ ap (first_of (codes "command")) found_rows
     ∙ one.2 in
-    subst (λ b. IsTrue b ↔ IsRun words) (sym is) (value_is_run texts one.0 o t one.1 value run)
+    subst (λ b. IsTrue b ↔ IsWord name words) (sym is)
+    (value_is name texts one.0 o t one.1 value named)

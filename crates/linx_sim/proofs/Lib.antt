@@ -1,4 +1,3 @@
-pub mod Alone
 mod CommandLine
-pub mod Turning
 mod Causes
+mod Answering

@@ -1,12 +1,16 @@
 -- What the words of a command line ask for.
-use Rattle.std.specs.Prelude.{◌≡◌, ◌==◌, ℕ, Bool, List, [], ◌∷◌, map, codes, slice_index, String}
+use Rattle.std.specs.Prelude.{◌≡◌, ◌==◌, ◌⊎◌, ℕ, Bool, List, [], ◌∷◌, map, codes, slice_index, String}
 use Rattle.std.specs.Prelude.{string_bytes, true}
 use Rattle.clap.specs.Words.{App, Rule, new_app, new_rule, with_rule}
 use Rattle.clap.specs.Simple.{on_top}
 
--- the words are the one word `run`
-abbrev pub IsRun : {Z : Type 0} → List (String Z) → Type 0
-IsRun words = map string_bytes words ≡ codes "run" ∷ []
+-- the words are this one word
+abbrev pub IsWord : {Z : Type 0} → List ℕ → List (String Z) → Type 0
+IsWord name words = map string_bytes words ≡ name ∷ []
+
+-- the words are those of a command: the one word `run`, or the one word `serial`
+abbrev pub IsCommand : {Z : Type 0} → List (String Z) → Type 0
+IsCommand words = IsWord (codes "run") words ⊎ IsWord (codes "serial") words
 
 -- the text begins with `-` (45)
 abbrev pub is_dashed : List ℕ → Bool

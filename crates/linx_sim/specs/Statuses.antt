@@ -19,7 +19,7 @@ exit_of NotBuilt = 10
 -- what is said of a status, but for the number of a bad line
 abbrev pub words_of : Status → List ℕ
 words_of Done = []
-words_of Usage = codes "usage: linx_sim run"
+words_of Usage = codes "usage: linx_sim run or serial"
 words_of (Script line) = codes "script line "
 words_of ReadFault = codes "read fault"
 words_of WriteFault = codes "write fault"

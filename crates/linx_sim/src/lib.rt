@@ -1,13 +1,12 @@
 //! linx_sim reads a script of nodes, links, planned losses and actors, runs it, and writes each
-//! endpoint's log and the journal of all steps. As yet it runs scripts of one node and one actor
-//! that opens an endpoint, sends itself signals, receives them and closes; every other script is
-//! answered `NotBuilt`. `process` is the whole program, over the words and the streams of a
+//! endpoint's log and the journal of all steps. As yet it runs the scripts that declare no link,
+//! with any nodes, actors and commands, in the fixed order; every other script is answered
+//! `NotBuilt`. `process` is the whole program, over the words and the streams of a
 //! process. It alone gives a `Told`, so a `main` with this result can't end in any other way.
 #![tactic(auto)]
 
 mod building;
 mod outcome;
-mod playing;
 mod program;
 mod serving;
 mod told;
@@ -18,5 +17,7 @@ pub use program::process;
 pub use serving::{run, serial};
 pub use told::Told;
 
+#[cfg(test)]
+mod rows;
 #[cfg(test)]
 mod tests;

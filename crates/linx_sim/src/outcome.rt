@@ -19,10 +19,10 @@ pub enum Status {
     ReadFault,
     /// The sink failed. A front of the text was written.
     WriteFault,
-    /// The actor had a turn to take while the journal was full.
+    /// An actor had a turn to take while the journal was full.
     JournalFull,
     NoMemory,
-    /// The script is one that can't be run as yet.
+    /// The script declares a link, and can't be run as yet.
     NotBuilt,
 }
 
@@ -35,7 +35,7 @@ impl Status {
     {
         match self {
             Status::Done => "",
-            Status::Usage => "usage: linx_sim run",
+            Status::Usage => "usage: linx_sim run or serial",
             Status::Script { .. } => "script line ",
             Status::ReadFault => "read fault",
             Status::WriteFault => "write fault",

@@ -2,29 +2,27 @@
 
 ghost use Rattle.std.specs.Prelude.{◌≡◌, ◌≢◌, ◌⊎◌, Some, true, [], Ok};
 ghost use Rattle.std.specs.Prelude.{IfOk, IfErr, OnOk, IfSome};
-ghost use Rattle.std.specs.List.{list_all};
 ghost use Rattle.std.specs.Io.KnownBytes.{IsAtEnd};
 ghost use Rattle.linx_outside.specs.Counts.{HasFaulted, NeverFalls};
-ghost use Rattle.journal.specs.Laws.{IsLegal};
 ghost use Rattle.journal_text.specs.Text.{text_of};
 ghost use Rattle.script_lang.specs.Reading.{script_of};
-ghost use Rattle.linx_sim.specs.CommandLine.{IsRun};
+ghost use Rattle.linx_sim.specs.CommandLine.{IsCommand};
 ghost use Rattle.linx_sim.specs.Statuses.{IsUsageOrRefused};
 ghost use Rattle.linx_sim.specs.Streams.{Reads, Writes, TakesAtMost, read_most};
-ghost use Rattle.linx_sim.specs.Runs.{is_first_path, IsAnswerTo, IsCaused, Completes};
-ghost use Rattle.linx_sim.specs.Turns.{IsAlone, IsPlayed, IsUnread, lone_shape, fits_signal};
-ghost use Rattle.linx_sim.specs.Turns.{is_of_writing, read_status, script_status, stop_status};
+ghost use Rattle.linx_sim.specs.Runs.{is_built, IsAnswerTo, IsCaused, IsLegalSomehow, Completes};
+ghost use Rattle.stage.specs.Plays.{Play};
+ghost use Rattle.linx_sim.specs.Causes.{IsUnread, is_of_writing, read_status, script_status, stop_status};
 
 use crate::building::is_built;
 use crate::outcome::{Outcome, Status};
-use crate::playing::play;
-use crate::words::asks_for_run;
-use fabric::{Fabric, StopCause};
+use crate::words::ask_for_a_run;
+use fabric::StopCause;
 use journal::Journal;
-use linx_base::{NameList, Names, NoMemory, TryCopy};
+use linx_base::{NameList, Names, NoMemory};
 use linx_outside::{Gate, ReadStop, Sink, Source, read_up_to};
 use report::{ReportError, write_report};
-use script_lang::{ActorScript, Script, ScriptError, parse};
+use script_lang::{Script, ScriptError, parse};
+use stage::Stage;
 use std::alloc::Global;
 use std::sync::Wait;
 
@@ -88,55 +86,37 @@ fn write_run<K: Sink>(alloc: Global, journal: Journal, out: &mut K) -> Outcome
     Outcome { status, journal }
 }
 
-/// Runs the actor on the fabric, and writes the text of the whole run.
-fn run_actor<K: Sink>(alloc: Global, fabric: Fabric, actor: &ActorScript, out: &mut K) -> Outcome
-    requires one_actor { fabric.shape ≡ lone_shape }
-    requires unstarted { fabric.log.steps ≡ [] }
-    requires path { is_first_path actor.now.commands ≡ true }
-    requires sized { list_all fits_signal actor.now.commands ≡ true }
-    ensures legal { IsLegal lone_shape result.journal.log.steps }
-    ensures names { result.journal.log.names ≡ fabric.log.names }
-    ensures played { IsPlayed result.status actor.now.commands result.journal.log.steps }
+/// Plays a script in the fixed order, and writes the text of the whole run.
+fn play_script<K: Sink>(stage: Stage, alloc: Global, out: &mut K) -> Outcome
+    requires built { is_built stage.script ≡ true }
+    requires unstarted { stage.log.steps ≡ [] }
+    ensures answer { IsAnswerTo result.status stage.script result.journal.log }
     ensures sink { Writes K.held K.faults K.last_count K.can_take out.old out.new
         result.status (text_of result.journal.log) }
 {
-    let mut fabric = fabric;
-    match play(alloc, &mut fabric, actor) {
-        Ok(()) => write_run(alloc, fabric.into_journal(), out),
+    let mut stage = stage;
+    match stage.play() {
+        Ok(()) => write_run(alloc, stage.into_journal(), out),
         Err(stop) => Outcome {
             status: status_of_stop(stop.cause),
-            journal: fabric.into_journal(),
+            journal: stage.into_journal(),
         },
     }
 }
 
-/// The fabric that a script of one actor is run on.
-fn fabric_of(alloc: Global, script: &Script, actor: &ActorScript) -> Result<Fabric, NoMemory>
-    requires { IsAlone script.now actor.now }
-    ensures { IfOk result (λ fabric. fabric ≡ record {
-      shape = lone_shape;
-      log = record { names = script.now.names; steps = [] };
-    }) }
-{
-    Fabric::new(alloc, script.names().copy()?, script.links(), &[actor.node])
-}
-
 /// Runs a script, where it is one that can be run as yet.
-fn run_script<K: Sink>(alloc: Global, script: &Script, out: &mut K) -> Outcome
+fn run_script<K: Sink>(alloc: Global, script: Script, out: &mut K) -> Outcome
     ensures answer { ((result.status ≡ Status.NoMemory) × (result.journal.log.steps ≡ []))
-        ⊎ IsAnswerTo result.status script.now result.journal.log }
-    ensures legal { IsLegal lone_shape result.journal.log.steps }
+        ⊎ IsAnswerTo result.status script result.journal.log }
+    ensures legal { IsLegalSomehow result.journal.log.steps }
     ensures sink { Writes K.held K.faults K.last_count K.can_take out.old out.new
         result.status (text_of result.journal.log) }
 {
-    if !is_built(script) {
+    if !is_built(&script) {
         return unstarted(alloc, Status::NotBuilt);
     }
-    let [actor] = script.actors() else {
-        return unstarted(alloc, Status::NotBuilt);
-    };
-    match fabric_of(alloc, script, actor) {
-        Ok(fabric) => run_actor(alloc, fabric, actor, out),
+    match Stage::new(alloc, script) {
+        Ok(stage) => play_script(stage, alloc, out),
         Err(NoMemory) => unstarted(alloc, Status::NoMemory),
     }
 }
@@ -165,10 +145,10 @@ fn read_script<S: Source>(alloc: Global, source: &mut S) -> Result<Script, Statu
     }
 }
 
-/// Reads a script, runs it step by step, and writes the text of the whole run.
+/// Reads a script, runs it in the fixed order, and writes the text of the whole run.
 pub fn serial<S: Source, K: Sink>(alloc: Global, script: &mut S, out: &mut K) -> Outcome
     ensures cause { IsCaused result.status (S.left script.old) result.journal.log }
-    ensures legal { IsLegal lone_shape result.journal.log.steps }
+    ensures legal { IsLegalSomehow result.journal.log.steps }
     ensures never_usage { result.status ≢ Status.Usage }
     ensures complete { IfSome (S.left script.old) (λ told.
         Completes told result.status result.journal.log) }
@@ -178,12 +158,12 @@ pub fn serial<S: Source, K: Sink>(alloc: Global, script: &mut S, out: &mut K) ->
         result.status (text_of result.journal.log) }
 {
     match read_script(alloc, script) {
-        Ok(script) => run_script(alloc, &script, out),
+        Ok(script) => run_script(alloc, script, out),
         Err(status) => unstarted(alloc, status),
     }
 }
 
-/// Does what the words of the command line say. The one command is `run`.
+/// Does what the words of the command line say. As yet `run` does what `serial` does.
 pub fn run<S: Source, K: Sink, G: Gate + Sync, R: Wait>(
     _rt: &R,
     alloc: Global,
@@ -193,15 +173,15 @@ pub fn run<S: Source, K: Sink, G: Gate + Sync, R: Wait>(
     _gate: &G,
 ) -> Outcome
     // Of the words.
-    ensures usage { result.status ≡ Status.Usage → ¬ (IsRun words.now) }
-    ensures other_words { ¬ (IsRun words.now) → IsUsageOrRefused result.status }
-    ensures untouched { ¬ (IsRun words.now)
+    ensures usage { result.status ≡ Status.Usage → ¬ (IsCommand words.now) }
+    ensures other_words { ¬ (IsCommand words.now) → IsUsageOrRefused result.status }
+    ensures untouched { ¬ (IsCommand words.now)
         → (script.new ≡ script.old) × (out.new ≡ out.old) }
 
     // Of the bytes, the run and the journal.
     ensures cause { IsCaused result.status (S.left script.old) result.journal.log }
-    ensures legal { IsLegal lone_shape result.journal.log.steps }
-    ensures complete { IsRun words.now → IfSome (S.left script.old) (λ told.
+    ensures legal { IsLegalSomehow result.journal.log.steps }
+    ensures complete { IsCommand words.now → IfSome (S.left script.old) (λ told.
         Completes told result.status result.journal.log) }
 
     // Of the source and the sink.
@@ -210,7 +190,7 @@ pub fn run<S: Source, K: Sink, G: Gate + Sync, R: Wait>(
     ensures sink { Writes K.held K.faults K.last_count K.can_take out.old out.new
         result.status (text_of result.journal.log) }
 {
-    match asks_for_run(alloc, words) {
+    match ask_for_a_run(alloc, words) {
         Ok(true) => serial(alloc, script, out),
         Ok(false) => unstarted(alloc, Status::Usage),
         Err(NoMemory) => unstarted(alloc, Status::NoMemory),

@@ -10,6 +10,7 @@ use crate::program::program;
 use crate::serving;
 use crate::told::tell;
 use crate::words::words_behind_name;
+use itoa::Buffer;
 use linx_outside::{MemSink, MemSource, OpenGate, PlainSource};
 use std::alloc::Global;
 use std::env::{Env, FillError};
@@ -19,11 +20,10 @@ use std::test::Fail;
 
 const SCRIPT: &[u8] = b"node n\nactor p n\nopen a\nsend self 5\nrecv any\nclose\nend\n";
 
-const TWO_ACTORS: &[u8] = b"node n\nactor p n\nopen a\nclose\nend\nactor q n\nopen b\nclose\nend\n";
-
 const A_LINK: &[u8] = b"node n\nnode m\nlink l n m\nactor p n\nopen a\nclose\nend\n";
 
-const A_HUNT: &[u8] = b"node n\nactor p n\nopen a\nhunt b\nclose\nend\n";
+const A_PLAN: &[u8] =
+    b"node n\nnode m\nlink l n m\nplan l > D L\nactor p n\nopen a\nhunt l/b\nend\n";
 
 const LARGE_SENDS: &[u8] =
     b"node n\nactor p n\nopen a\nrepeat 600\nsend self 1 fill:65532:00\nend\nclose\nend\n";
@@ -90,11 +90,66 @@ fn not_built(alloc: Global, script: &[u8]) -> Result<bool, Fail> {
 }
 
 #[test]
-fn scripts_of_another_form_are_not_run(rt: HostRuntime) -> Result<(), Fail> {
+fn scripts_with_links_are_not_run(rt: HostRuntime) -> Result<(), Fail> {
     let alloc = rt.alloc();
-    assert!(rt; not_built(alloc, TWO_ACTORS)?);
     assert!(rt; not_built(alloc, A_LINK)?);
-    assert!(rt; not_built(alloc, A_HUNT)?);
+    assert!(rt; not_built(alloc, A_PLAN)?);
+    Ok(())
+}
+
+#[test]
+fn scripts_without_actors_print_nothing(rt: HostRuntime) -> Result<(), Fail> {
+    let alloc = rt.alloc();
+    for script in [b"".as_slice(), b"node n"] {
+        let mut sink = MemSink::new(alloc, 10, 4096, Vec::new(alloc))?;
+        let outcome = outcome_of(alloc, script, &mut sink)?;
+        assert_eq!(rt; outcome.status, Status::Done);
+        assert!(rt; outcome.journal.is_empty() && sink.held().is_empty());
+    }
+    Ok(())
+}
+
+// A script of so many actors, each of which opens an endpoint and sends itself signals.
+fn senders(alloc: Global, nodes: u32, actors: u32, sends: u32) -> Result<Vec<u8>, Fail> {
+    let mut script = Vec::new(alloc);
+    let mut digits = Buffer::new();
+    for node in 0..nodes {
+        script.extend_from_slice(b"node n")?;
+        script.extend_from_slice(digits.format(node).as_bytes())?;
+        script.push(b'\n')?;
+    }
+    for actor in 0..actors {
+        script.extend_from_slice(b"actor p")?;
+        script.extend_from_slice(digits.format(actor).as_bytes())?;
+        script.extend_from_slice(b" n")?;
+        script.extend_from_slice(digits.format(actor % nodes).as_bytes())?;
+        script.extend_from_slice(b"\nopen a\nrepeat ")?;
+        script.extend_from_slice(digits.format(sends).as_bytes())?;
+        script.extend_from_slice(b"\nsend self 1\nend\nend\n")?;
+    }
+    Ok(script)
+}
+
+#[test]
+fn eleven_actors_fill_the_journal(rt: HostRuntime) -> Result<(), Fail> {
+    let alloc = rt.alloc();
+    let script = senders(alloc, 1, 11, 19_990)?;
+    let mut sink = MemSink::new(alloc, 10, 4096, Vec::new(alloc))?;
+    let outcome = outcome_of(alloc, &script, &mut sink)?;
+    assert_eq!(rt; outcome.status, Status::JournalFull);
+    assert_eq!(rt; outcome.journal.len(), 200_000);
+    assert!(rt; sink.held().is_empty());
+    Ok(())
+}
+
+#[test]
+fn as_many_nodes_and_actors_as_a_script_may_have(rt: HostRuntime) -> Result<(), Fail> {
+    let alloc = rt.alloc();
+    let script = senders(alloc, 16, 64, 3)?;
+    let mut sink = MemSink::new(alloc, 4096, 65_536, Vec::new(alloc))?;
+    let outcome = outcome_of(alloc, &script, &mut sink)?;
+    assert_eq!(rt; outcome.status, Status::Done);
+    assert_eq!(rt; outcome.journal.len(), 320);
     Ok(())
 }
 
@@ -157,6 +212,7 @@ fn status_for(rt: &impl Wait, alloc: Global, words: &[&str]) -> Result<Status, F
 fn words_that_are_no_command(rt: HostRuntime) -> Result<(), Fail> {
     let alloc = rt.alloc();
     assert_eq!(rt; status_for(&rt, alloc, &["run"])?, Status::Done);
+    assert_eq!(rt; status_for(&rt, alloc, &["serial"])?, Status::Done);
     assert_eq!(rt; status_for(&rt, alloc, &["run", "run"])?, Status::Usage);
     assert_eq!(rt; status_for(&rt, alloc, &["-x"])?, Status::Usage);
     assert_eq!(rt; status_for(&rt, alloc, &["gen"])?, Status::Usage);
@@ -167,7 +223,7 @@ fn words_that_are_no_command(rt: HostRuntime) -> Result<(), Fail> {
 // The rows of the statuses: the exit status, and the line on standard error.
 const ROWS: [(Status, u8, &str); 8] = [
     (Status::Done, 0, ""),
-    (Status::Usage, 1, "linx_sim: usage: linx_sim run\n"),
+    (Status::Usage, 1, "linx_sim: usage: linx_sim run or serial\n"),
     (
         Status::Script {
             line: 4_294_967_295,
@@ -256,14 +312,14 @@ fn is_all<R: Wait + Eprint>(
 fn the_whole_program(rt: HostRuntime) -> Result<(), Fail> {
     let alloc = rt.alloc();
     let run: [&[u8]; 2] = [b"linx_sim", b"run"];
-    let usage = "linx_sim: usage: linx_sim run\n";
+    let usage = "linx_sim: usage: linx_sim run or serial\n";
     assert!(rt; is_all(&rt, alloc, &run, SCRIPT, (0, TEXT, ""))?);
     assert!(rt; is_all(&rt, alloc, &[b"linx_sim"], SCRIPT, (1, "", usage))?);
     assert!(rt; is_all(&rt, alloc, &[b"linx_sim", b"\xff"], SCRIPT, (1, "", usage))?);
     let bad_line = "linx_sim: script line 2\n";
     assert!(rt; is_all(&rt, alloc, &run, b"node n\nnode n\n", (2, "", bad_line))?);
     let not_built = "linx_sim: not built\n";
-    assert!(rt; is_all(&rt, alloc, &run, TWO_ACTORS, (10, "", not_built))?);
+    assert!(rt; is_all(&rt, alloc, &run, A_LINK, (10, "", not_built))?);
     Ok(())
 }
 

@@ -1,10 +1,10 @@
-//! The words of the command line: those that are given, and what they ask for. The one command is
-//! `run`, and `clap` reads it.
+//! The words of the command line: those that are given, and what they ask for. The commands are
+//! `run` and `serial`, and `clap` reads them.
 
 ghost use Rattle.std.specs.Prelude.{◌≡◌, ◌↔◌, IfErr, IfOk, IsTrue, IsUtf8, false, string_bytes};
 ghost use Rattle.std.specs.List.{list_any};
 ghost use Rattle.clap.specs.Words.{app_of, kind_of};
-ghost use Rattle.linx_sim.specs.CommandLine.{IsRun, is_dashed, one_word};
+ghost use Rattle.linx_sim.specs.CommandLine.{IsCommand, IsWord, is_dashed, one_word};
 ghost use Rattle.linx_sim.specs.Statuses.{IsUsageOrRefused};
 
 use crate::outcome::Status;
@@ -88,30 +88,39 @@ fn command_line<'a>(alloc: Global) -> Result<Command<'a>, AllocError>
         .arg(word)
 }
 
-/// Whether clap reads the one command `run` in the words. Its refusals are errors.
-fn reads_run(alloc: Global, words: &[String]) -> Result<bool, Error>
+/// Whether clap reads the one command of this name in the words. Its refusals are errors.
+fn reads(alloc: Global, words: &[String], name: &str) -> Result<bool, Error>
     requires plain { list_any (λ word. is_dashed (string_bytes word)) words.now ≡ false }
-    ensures ok { IfOk result (λ asked. IsTrue asked ↔ IsRun words.now) }
-    ensures err { IfErr result (λ error. IsRun words.now → kind_of error ≡ ErrorKind.OutOfMemory) }
+    requires named { is_dashed name.now ≡ false }
+    ensures ok { IfOk result (λ asked. IsTrue asked ↔ IsWord name.now words.now) }
+    ensures err { IfErr result (λ error. IsWord name.now words.now → kind_of error ≡ ErrorKind.OutOfMemory) }
 {
     let matches = command_line(alloc)?.try_get_matches_from(words)?;
-    Ok(matches.get_str("command") == Some("run"))
+    Ok(matches.get_str("command") == Some(name))
 }
 
-/// Whether the words ask for a run. A word that begins with `-` is none of ours, so `-- run`, which
-/// clap would take, asks for none.
-#[tactic(auto, using(crate::proofs::CommandLine::no_run_dashed))]
-pub(crate) fn asks_for_run(alloc: Global, words: &[String]) -> Result<bool, NoMemory>
-    ensures { IfOk result (λ asked. IsTrue asked ↔ IsRun words.now) }
+/// Whether the words are the one command of this name. A word that begins with `-` is none of ours,
+/// so `-- run`, which clap would take, asks for none.
+#[tactic(auto, using(crate::proofs::CommandLine::none_dashed))]
+fn asks_for(alloc: Global, words: &[String], name: &str) -> Result<bool, NoMemory>
+    requires named { is_dashed name.now ≡ false }
+    ensures { IfOk result (λ asked. IsTrue asked ↔ IsWord name.now words.now) }
 {
     if has_dashed_word(words) {
         return Ok(false);
     }
-    match reads_run(alloc, words) {
+    match reads(alloc, words, name) {
         Ok(asked) => Ok(asked),
         Err(error) => match error.kind() {
             ErrorKind::OutOfMemory => Err(NoMemory),
             _ => Ok(false),
         },
     }
+}
+
+/// Whether the words are those of a command.
+pub(crate) fn ask_for_a_run(alloc: Global, words: &[String]) -> Result<bool, NoMemory>
+    ensures { IfOk result (λ asked. IsTrue asked ↔ IsCommand words.now) }
+{
+    Ok(asks_for(alloc, words, "run")? || asks_for(alloc, words, "serial")?)
 }

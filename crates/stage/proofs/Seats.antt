@@ -27,6 +27,7 @@ use Rattle.fabric.specs.Remains.{Layout}
 use Rattle.fabric.proofs.Kept.{get-set, get-set-other}
 use Rattle.stage.specs.declared.player.Player.{Player}
 use Rattle.stage.specs.declared.stage.Turn.{Turn}
+use Rattle.journal.proofs.Promises.{keeps-promises}
 use Rattle.stage.specs.Plays.{AllFollow, AllFollowWhole, IsSoFar}
 use Rattle.stage.specs.Seats.{AreSeated, IsSeated, IsStaged, unstarted}
 use Rattle.stage.specs.Turns.{commands_in, commands_of, is_over, round_of, shape_of}
@@ -259,11 +260,15 @@ module _ (script : ScriptParts) (fabric : Layout) (players : List Player)
   staged-follows = all-follow script fabric.log.steps players staged.count staged.seated
 
   pub staged-so_far : IsLegal fabric.shape fabric.log.steps → IsSoFar script fabric.log
-  staged-so_far legal = record {
-    names = staged.names;
-    legal = subst (λ (s : Shape). IsLegal s fabric.log.steps) staged.shape legal;
-    follows = staged-follows;
-  }
+  staged-so_far legal =
+      let laid : IsLegal (shape_of script) fabric.log.steps =
+      subst (λ (s : Shape). IsLegal s fabric.log.steps) staged.shape legal in
+      let few : length fabric.log.steps ≤ 200000 = staged.few in record {
+        names = staged.names;
+        legal = laid;
+        follows = staged-follows;
+        promises = keeps-promises (shape_of script) fabric.log.steps laid (omega arith);
+      }
 
   pub staged-moves : is_over script fabric.log.steps ≡ false
       → length fabric.log.steps < length (round_of script fabric.log.steps)

@@ -5,6 +5,7 @@ use Rattle.journal.specs.declared.effect.Step.{Step}
 use Rattle.journal.specs.History.{has_ended}
 use Rattle.journal.specs.Laws.{IsLegal}
 use Rattle.journal.specs.Logs.{Log}
+use Rattle.journal.specs.Promises.{KeepsPromises}
 use Rattle.actor_run.specs.Following.{Follows, FollowsWhole, next_ask}
 use Rattle.fabric.specs.Machine.{answer_to}
 use Rattle.node_kernel.specs.declared.answers.StepAnswer.{StepAnswer}
@@ -29,11 +30,13 @@ abbrev pub AllFollowWhole : ScriptParts → List Step → Type 0
 AllFollowWhole script P =
     (k : ℕ) → 0 < k → k ≤ length script.actors → FollowsWhole (commands_of script k) k P
 
--- a journal of the script so far: it has its names, is legal, and each actor follows its commands
+-- A journal of the script so far: it has its names, is legal, keeps what is promised, and each actor
+-- follows its commands
 pub record IsSoFar (script : ScriptParts) (log : Log) : Type 0 where
   pub names : log.names ≡ script.names
   pub legal : IsLegal (shape_of script) log.steps
   pub follows : AllFollow script log.steps
+  pub promises : KeepsPromises (shape_of script) log.steps
 
 -- what came of a turn, by whether the actor had ended, and by the answer
 abbrev pub came_of : Bool → StepAnswer → Turn

@@ -1,7 +1,7 @@
 use Rattle.std.proofs.Common.{subst, sym}
 use Rattle.std.specs.Prelude.{IfSome}
 use Rattle.linx_sim.specs.Runs.{Completes}
-use Rattle.linx_sim.specs.Turns.{IsUnread}
+use Rattle.linx_sim.specs.Causes.{IsUnread}
 use Rattle.linx_sim.specs.declared.outcome.Status.{Status}
 use Rattle.linx_sim.proofs.Causes.{caused_unread, completes_told}
 use Rattle.linx_sim.proofs.serving.serial.Goals as goal
