@@ -3,7 +3,6 @@ use Rattle.std.proofs.Common.{◌≡◌, if◌then◌else◌, ℕ, ◌+◌, ◌<
 use Rattle.std.proofs.lemmas.Bool.{cases_lt, le-ltb, lt-ltb}
 use Rattle.std.proofs.lemmas.Bool.Decides.{eqb_tells}
 use Rattle.linx_base.specs.declared.identity.Session.{Session}
-use Rattle.linx_base.specs.declared.frame.ConnKind.{ConnKind}
 use Rattle.linx_base.specs.declared.frame.ConnKind.TheVariants as kinds
 use Rattle.linx_base.specs.declared.frame.Frame.{Frame}
 use Rattle.linx_base.specs.declared.frame.SentFrame.{SentFrame}
@@ -26,14 +25,9 @@ use Rattle.ethcm_end.specs.declared.answers.Ticked.TheVariants as ticks
 use Rattle.ethcm_end.specs.States.{EndState, Reaction, gives, peer_of}
 use Rattle.ethcm_end.specs.Rules.{ask, data_in, finished, framed_in, heard, input_of, kind_in, put, put_pieces, reacts, sent_or_ack, take_frames, tick_in, tick_of, tick_up, ticked, with_early, with_taken}
 use Rattle.ethcm_end.specs.Rows.{IsBetween, Rows, TickRows, after_header, up}
+use Rattle.ethcm_end.proofs.Cases.{is_between, kind_is, peered, unpeered}
 
 -- ---- a packet
-
-part_of : (part : Part) (kind : ConnKind) → kind_in part ≡ Some kind → part ≡ Conn kind
-part_of (Conn k) kind e = ap Conn (grind arith)
-part_of (Ack next) kind e = absurd (grind arith)
-part_of (Nack next count) kind e = absurd (grind arith)
-part_of (Piece next seq frame) kind e = absurd (grind arith)
 
 -- the missing frames were asked for, or are asked for now
 by_asking : (P : EndState → Type 0) (s : EndState) (peer : Session) → (s.asked ≡ true → P s)
@@ -110,30 +104,26 @@ pub by_rules : (P : Reaction Input → Type 0) (s : EndState) (p : Packet) → R
     → P (input_of s p)
 unfolding input_of
 by_rules P s p rows =
-    let connecting : s.talk.standing ≡ Connecting → peer_of s ≡ None = λ e. ap peer_in e in
-    let peer : (y : Session) (c : Bool) → s.talk.standing ≡ Up y c → peer_of s ≡ Some y =
-    λ y c e. ap peer_in e in
-    let is : (kind : ConnKind) → kind_in p.part ≡ Some kind → p.part ≡ Conn kind =
-    λ kind e. part_of p.part kind e in
-    let between : (c : Bool) → s.talk.standing ≡ Up p.src c → p.dst ≡ s.talk.mine.0
-    → IsBetween s p = λ c e d. record { from = ap peer_in e; to = d } in
     by_rows (λ outcome. P (reacts s p.src p.part outcome)) s.talk p.src p.dst (kind_in p.part)
     (record {
-      connecting_connect = λ e k. rows.connecting_connect (connecting e) (is kinds.Connect k);
+      connecting_connect = λ e k.
+          rows.connecting_connect (unpeered s e) (kind_is p kinds.Connect k);
       connecting_connect_ack = λ e k d.
-          rows.connecting_connect_ack (connecting e) (is kinds.ConnectAck k) d;
-      connecting_ack = λ e k d. rows.connecting_ack (connecting e) (is kinds.Ack k) d;
+          rows.connecting_connect_ack (unpeered s e) (kind_is p kinds.ConnectAck k) d;
+      connecting_ack = λ e k d. rows.connecting_ack (unpeered s e) (kind_is p kinds.Ack k) d;
       connecting_other = λ e a b c.
-          rows.connecting_other (connecting e) (λ q. a (ap kind_in q)) (λ q. b (ap kind_in q))
+          rows.connecting_other (unpeered s e) (λ q. a (ap kind_in q)) (λ q. b (ap kind_in q))
           (λ q. c (ap kind_in q));
-      up_lower = λ y c e l. rows.up_lower y (peer y c e) l;
-      up_greater = λ y c e l. rows.up_greater y (peer y c e) l;
-      up_connect = λ c e k. rows.up_connect (peer p.src c e) (is kinds.Connect k);
-      up_not_mine = λ c e k d. rows.up_not_mine (peer p.src c e) (λ q. k (ap kind_in q)) d;
-      up_reset = λ c e d k. rows.up_reset (between c e d) (is kinds.Reset k);
-      up_connect_ack = λ c e d k. rows.up_connect_ack (between c e d) (is kinds.ConnectAck k);
-      up_ack = λ c e d k. ack_row P s p rows (between c e d) p.part refl (is kinds.Ack k);
-      up_data = λ c e d k. data_row P s p rows (between c e d) p.part refl k;
+      up_lower = λ y c e l. rows.up_lower y (peered s y c e) l;
+      up_greater = λ y c e l. rows.up_greater y (peered s y c e) l;
+      up_connect = λ c e k. rows.up_connect (peered s p.src c e) (kind_is p kinds.Connect k);
+      up_not_mine = λ c e k d. rows.up_not_mine (peered s p.src c e) (λ q. k (ap kind_in q)) d;
+      up_reset = λ c e d k. rows.up_reset (is_between s p c e d) (kind_is p kinds.Reset k);
+      up_connect_ack = λ c e d k.
+          rows.up_connect_ack (is_between s p c e d) (kind_is p kinds.ConnectAck k);
+      up_ack = λ c e d k.
+          ack_row P s p rows (is_between s p c e d) p.part refl (kind_is p kinds.Ack k);
+      up_data = λ c e d k. data_row P s p rows (is_between s p c e d) p.part refl k;
     })
 
 -- ---- a tick

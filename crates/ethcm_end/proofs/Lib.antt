@@ -1,5 +1,6 @@
 pub mod Kept
 pub mod Soundness
+pub mod Cases
 pub mod ByRule
 pub mod Following
 pub mod Answering
