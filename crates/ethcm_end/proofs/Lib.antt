@@ -5,3 +5,6 @@ pub mod ByRule
 pub mod Following
 pub mod Answering
 pub mod Worked
+mod Worked
+pub mod Rising
+pub mod Confirming

@@ -3,3 +3,4 @@ pub mod Rules
 pub mod Sound
 pub mod Rows
 pub mod Answers
+pub mod Sessions
