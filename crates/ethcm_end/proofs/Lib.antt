@@ -8,3 +8,5 @@ pub mod Worked
 mod Worked
 pub mod Rising
 pub mod Confirming
+pub mod Moving
+pub mod Sending

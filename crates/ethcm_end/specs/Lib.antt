@@ -4,3 +4,4 @@ pub mod Sound
 pub mod Rows
 pub mod Answers
 pub mod Sessions
+pub mod Windows
