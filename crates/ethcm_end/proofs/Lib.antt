@@ -9,4 +9,5 @@ mod Worked
 pub mod Rising
 pub mod Confirming
 pub mod Moving
+pub mod Taking
 pub mod Sending

@@ -5,3 +5,4 @@ pub mod Rows
 pub mod Answers
 pub mod Sessions
 pub mod Windows
+pub mod Taking
