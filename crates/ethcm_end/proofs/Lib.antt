@@ -11,3 +11,4 @@ pub mod Confirming
 pub mod Moving
 pub mod Taking
 pub mod Sending
+mod WorkedLaws

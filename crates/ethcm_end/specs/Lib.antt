@@ -6,3 +6,4 @@ pub mod Answers
 pub mod Sessions
 pub mod Windows
 pub mod Taking
+pub mod Laws

@@ -2,6 +2,7 @@
 //! the laws.
 
 ghost use Rattle.ethcm_end.specs.Answers.{InputAnswersExactly};
+ghost use Rattle.ethcm_end.specs.Laws.{EndLaws};
 ghost use Rattle.ethcm_end.specs.Rows.{InputFollowsRules, TickFollowsRules};
 
 /// What a packet makes of an end is what its rule says, in a table with one row a rule.
@@ -17,4 +18,12 @@ pub fn input_answers_exactly()
 /// What a tick makes of an end is what its rule says.
 pub fn tick_follows_rules()
     ensures { TickFollowsRules }
+{}
+
+/// The session of an end never falls, and rises exactly where the end goes down; going up or down,
+/// all begins anew; it is confirmed by its peer alone. Its window moves by acknowledgements and
+/// offers alone. What it sends names its session and its peer's, and a piece is the frame of its
+/// number. Each frame that it takes is the one of the expected number.
+pub fn ends_keep_laws()
+    ensures { EndLaws }
 {}
