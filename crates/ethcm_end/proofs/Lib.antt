@@ -11,4 +11,5 @@ pub mod Confirming
 pub mod Moving
 pub mod Taking
 pub mod Sending
+pub mod Naming
 mod WorkedLaws
