@@ -4,7 +4,6 @@ pub mod Cases
 pub mod ByRule
 pub mod Following
 pub mod Answering
-pub mod Worked
 mod Worked
 pub mod Rising
 pub mod Confirming

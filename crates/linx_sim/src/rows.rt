@@ -169,7 +169,9 @@ fn a_hunt_waits_for_an_endpoint_of_the_name(rt: HostRuntime) -> Result<(), Fail>
 }
 
 #[test]
-fn a_hunt_finds_the_first_opened_endpoint_that_is_open_and_a_receive_ends_at_rest(rt: HostRuntime) -> Result<(), Fail> {
+fn a_hunt_finds_the_first_opened_endpoint_that_is_open_and_a_receive_ends_at_rest(
+    rt: HostRuntime,
+) -> Result<(), Fail> {
     let alloc = rt.alloc();
     assert!(rt; prints(&rt, alloc, "run", FIRST_OPEN)?);
     assert!(rt; prints(&rt, alloc, "serial", FIRST_OPEN)?);
@@ -193,7 +195,9 @@ fn a_detach_takes_a_queued_notification_back_once(rt: HostRuntime) -> Result<(),
 }
 
 #[test]
-fn all_that_are_attached_are_notified_in_the_order_of_attaching(rt: HostRuntime) -> Result<(), Fail> {
+fn all_that_are_attached_are_notified_in_the_order_of_attaching(
+    rt: HostRuntime,
+) -> Result<(), Fail> {
     let alloc = rt.alloc();
     assert!(rt; prints(&rt, alloc, "run", TWO_ATTACHED)?);
     assert!(rt; prints(&rt, alloc, "serial", TWO_ATTACHED)?);
@@ -201,7 +205,9 @@ fn all_that_are_attached_are_notified_in_the_order_of_attaching(rt: HostRuntime)
 }
 
 #[test]
-fn a_node_that_another_ones_actor_restarts_loses_its_endpoints_and_nobody_is_told(rt: HostRuntime) -> Result<(), Fail> {
+fn a_node_that_another_ones_actor_restarts_loses_its_endpoints_and_nobody_is_told(
+    rt: HostRuntime,
+) -> Result<(), Fail> {
     let alloc = rt.alloc();
     assert!(rt; prints(&rt, alloc, "run", RESTARTED)?);
     assert!(rt; prints(&rt, alloc, "serial", RESTARTED)?);
@@ -209,7 +215,9 @@ fn a_node_that_another_ones_actor_restarts_loses_its_endpoints_and_nobody_is_tol
 }
 
 #[test]
-fn a_node_that_one_of_its_own_actors_restarts_closes_all_and_ends_their_waits(rt: HostRuntime) -> Result<(), Fail> {
+fn a_node_that_one_of_its_own_actors_restarts_closes_all_and_ends_their_waits(
+    rt: HostRuntime,
+) -> Result<(), Fail> {
     let alloc = rt.alloc();
     assert!(rt; prints(&rt, alloc, "run", RESTARTS_ITSELF)?);
     assert!(rt; prints(&rt, alloc, "serial", RESTARTS_ITSELF)?);
@@ -217,7 +225,9 @@ fn a_node_that_one_of_its_own_actors_restarts_closes_all_and_ends_their_waits(rt
 }
 
 #[test]
-fn each_refusal_has_its_word_and_a_command_that_was_refused_is_done(rt: HostRuntime) -> Result<(), Fail> {
+fn each_refusal_has_its_word_and_a_command_that_was_refused_is_done(
+    rt: HostRuntime,
+) -> Result<(), Fail> {
     let alloc = rt.alloc();
     assert!(rt; prints(&rt, alloc, "run", REFUSED)?);
     assert!(rt; prints(&rt, alloc, "serial", REFUSED)?);

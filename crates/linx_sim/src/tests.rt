@@ -223,7 +223,11 @@ fn words_that_are_no_command(rt: HostRuntime) -> Result<(), Fail> {
 // The rows of the statuses: the exit status, and the line on standard error.
 const ROWS: [(Status, u8, &str); 8] = [
     (Status::Done, 0, ""),
-    (Status::Usage, 1, "linx_sim: usage: linx_sim run or serial\n"),
+    (
+        Status::Usage,
+        1,
+        "linx_sim: usage: linx_sim run or serial\n",
+    ),
     (
         Status::Script {
             line: 4_294_967_295,

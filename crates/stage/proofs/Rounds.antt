@@ -108,12 +108,12 @@ first-running P (suc n) =
     elim (first-running P n) [
       | inl all ↦ last all (has_ended P (suc n)) refl
       | inr first ↦ inr (record {
-          k = first.k;
-          above = first.above;
-          within = let w = first.within in omega arith;
-          running = first.running;
-          before = first.before;
-        })
+        k = first.k;
+        above = first.above;
+        within = let w = first.within in omega arith;
+        running = first.running;
+        before = first.before;
+      })
     ]
   where
     last : have_ended P n ≡ true → (b : Bool) → has_ended P (suc n) ≡ b
@@ -232,8 +232,11 @@ module _ (script : ScriptParts) where
             → leaves_at_rest P first.k o ≡ true
         behind more true is = rw is refl
         behind more false is =
-            rw (is, (stuck o above within is (still.each o above within)).idle,
-            lt-ltb first.k o more) refl
+            rw (
+              is,
+              (stuck o above within is (still.each o above within)).idle,
+              lt-ltb first.k o more,
+            ) refl
 
     still-over : AreStill count P → have_ended P count ≡ true
     still-over still =

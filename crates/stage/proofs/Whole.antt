@@ -55,11 +55,10 @@ rounds-more start before now fixed rounds made running =
     let script : before.script ≡ start.script = ap (λ (p : Play). p.script) fixed in
     let last : is_over start.script (rounds_of start.script rounds.0) ≡ false =
     sym (ap (λ (s : ScriptParts). is_over s before.log.steps) script
-    ∙ ap (is_over start.script) rounds.1) ∙ running in
-    (
+    ∙ ap (is_over start.script) rounds.1) ∙ running in (
       suc rounds.0,
       made ∙ ap (λ (s : ScriptParts). round_of s before.log.steps) script
-      ∙ ap (round_of start.script) rounds.1,
+          ∙ ap (round_of start.script) rounds.1,
       λ m less. elim (cases_lt m rounds.0) [
         | inl under ↦ rounds.2 m under
         | inr over ↦

@@ -47,4 +47,4 @@ came_of false answer = if is_not_yet answer then Waits else Moved
 abbrev pub turn_answer : ScriptParts → ℕ → List Step → Turn
 turn_answer script k P =
     came_of (has_ended P k)
-      (answer_to (shape_of script) P (Actor k) (next_ask (commands_of script k) k P))
+    (answer_to (shape_of script) P (Actor k) (next_ask (commands_of script k) k P))

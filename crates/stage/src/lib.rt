@@ -10,4 +10,3 @@ mod stage;
 
 pub use player::Player;
 pub use stage::{Stage, Turn};
-

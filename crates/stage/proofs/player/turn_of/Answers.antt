@@ -26,7 +26,6 @@ step-requires c =
           c.requires.playing c.in-Ok.ask is fabric c.requires.shape c.requires.names;
     }
 
-
 pub returns-in-Ok-step-clause-came : goal.returns-in-Ok-step-clause-came
 returns-in-Ok-step-clause-came c =
     let script = c.args.script.now in
