@@ -72,34 +72,63 @@ fn ask(
     }
 }
 
+/// Opens an endpoint of this name.
+fn open(rt: &impl Abort, alloc: Global, fabric: &mut Fabric, actor: u32, name: &[u8]) -> StepAnswer
+    requires actors { length fabric.old.shape.actors ≡ 2 }
+    requires nodes { length fabric.old.log.names.nodes ≡ 2 }
+    requires one { (0 < actor) × (actor ≤ 2) }
+    ensures actors { length fabric.new.shape.actors ≡ 2 }
+    ensures nodes { length fabric.new.log.names.nodes ≡ 2 }
+{
+    ask(rt, fabric, actor, Event::Open(named(rt, alloc, name)), None)
+}
+
+/// Looks for any signal.
+fn look(rt: &impl Abort, fabric: &mut Fabric, actor: u32) -> StepAnswer
+    requires actors { length fabric.old.shape.actors ≡ 2 }
+    requires nodes { length fabric.old.log.names.nodes ≡ 2 }
+    requires one { (0 < actor) × (actor ≤ 2) }
+    ensures actors { length fabric.new.shape.actors ≡ 2 }
+    ensures nodes { length fabric.new.log.names.nodes ≡ 2 }
+{
+    ask(rt, fabric, actor, Event::Look(Sigsel::Any), None)
+}
+
+/// Sends a signal of this number.
+fn send(
+    rt: &impl Abort,
+    alloc: Global,
+    fabric: &mut Fabric,
+    actor: u32,
+    to: Inc,
+    number: u32,
+) -> StepAnswer
+    requires actors { length fabric.old.shape.actors ≡ 2 }
+    requires nodes { length fabric.old.log.names.nodes ≡ 2 }
+    requires one { (0 < actor) × (actor ≤ 2) }
+    ensures actors { length fabric.new.shape.actors ≡ 2 }
+    ensures nodes { length fabric.new.log.names.nodes ≡ 2 }
+{
+    let signal = numbered(rt, alloc, number);
+    ask(rt, fabric, actor, Event::Send(Peer::Here(to)), Some(signal))
+}
+
 #[test]
 fn each_waits_once_and_the_lower_finds_none_at_rest(rt: HostRuntime) -> Result<(), Fail> {
     let alloc = rt.alloc();
     let mut fabric = two_actors(&rt, alloc, NodeNo(1), NodeNo(2));
-    let opened = ask(
-        &rt,
-        &mut fabric,
-        1,
-        Event::Open(named(&rt, alloc, b"p")),
-        None,
-    );
+    let opened = open(&rt, alloc, &mut fabric, 1, b"p");
     assert!(rt; matches!(&opened, StepAnswer::Opened(inc) if *inc == FIRST_OF_1));
-    let opened = ask(
-        &rt,
-        &mut fabric,
-        2,
-        Event::Open(named(&rt, alloc, b"q")),
-        None,
-    );
+    let opened = open(&rt, alloc, &mut fabric, 2, b"q");
     assert!(rt; matches!(&opened, StepAnswer::Opened(inc) if *inc == FIRST_OF_2));
-    let looked = ask(&rt, &mut fabric, 1, Event::Look(Sigsel::Any), None);
+    let looked = look(&rt, &mut fabric, 1);
     assert!(rt; matches!(&looked, StepAnswer::NotYet) && fabric.journal().len() == 3);
-    let looked = ask(&rt, &mut fabric, 1, Event::Look(Sigsel::Any), None);
+    let looked = look(&rt, &mut fabric, 1);
     assert!(rt; matches!(&looked, StepAnswer::NotYet) && fabric.journal().len() == 3);
-    let looked = ask(&rt, &mut fabric, 2, Event::Look(Sigsel::Any), None);
+    let looked = look(&rt, &mut fabric, 2);
     assert!(rt; matches!(&looked, StepAnswer::NotYet) && fabric.journal().len() == 4);
     assert!(rt; fabric.is_rest(1) && !fabric.is_rest(2));
-    let looked = ask(&rt, &mut fabric, 1, Event::Look(Sigsel::Any), None);
+    let looked = look(&rt, &mut fabric, 1);
     assert!(rt; matches!(&looked, StepAnswer::Nothing) && fabric.journal().len() == 5);
     let ended = ask(&rt, &mut fabric, 1, Event::End, None);
     assert!(rt; matches!(&ended, StepAnswer::Done) && fabric.is_rest(2) && !fabric.is_over());
@@ -109,72 +138,45 @@ fn each_waits_once_and_the_lower_finds_none_at_rest(rt: HostRuntime) -> Result<(
 }
 
 #[test]
-fn actors_of_one_node_reach_each_other(rt: HostRuntime) -> Result<(), Fail> {
+fn an_actor_finds_another_of_its_node_and_sends_to_it(rt: HostRuntime) -> Result<(), Fail> {
     let alloc = rt.alloc();
     let mut fabric = two_actors(&rt, alloc, NodeNo(1), NodeNo(1));
-    let path = Path::Local(named(&rt, alloc, b"q"));
-    ask(
-        &rt,
-        &mut fabric,
-        1,
-        Event::Open(named(&rt, alloc, b"p")),
-        None,
-    );
-    let hunted = ask(
-        &rt,
-        &mut fabric,
-        1,
-        Event::Hunt(path),
-        Some(numbered(&rt, alloc, 3)),
-    );
+    let hunt = Event::Hunt(Path::Local(named(&rt, alloc, b"q")));
+    open(&rt, alloc, &mut fabric, 1, b"p");
+    let hunted = ask(&rt, &mut fabric, 1, hunt, Some(numbered(&rt, alloc, 3)));
     assert!(rt; matches!(&hunted, StepAnswer::Hunted(2)));
-    ask(
-        &rt,
-        &mut fabric,
-        2,
-        Event::Open(named(&rt, alloc, b"q")),
-        None,
-    );
-    let took = ask(&rt, &mut fabric, 1, Event::Look(Sigsel::Any), None);
+    open(&rt, alloc, &mut fabric, 2, b"q");
+    let took = look(&rt, &mut fabric, 1);
     assert!(rt;
         matches!(&took, StepAnswer::Took(item) if item.signal.number() == 3
             && item.from == Peer::Here(SECOND_OF_1) && item.kind == Kind::Found(2))
     );
-    let to = Peer::Here(SECOND_OF_1);
-    let attached = ask(
-        &rt,
-        &mut fabric,
-        1,
-        Event::Attach(to),
-        Some(numbered(&rt, alloc, 4)),
-    );
-    assert!(rt; matches!(&attached, StepAnswer::Attached(AttRef(5))));
-    let sent = ask(
-        &rt,
-        &mut fabric,
-        1,
-        Event::Send(to),
-        Some(numbered(&rt, alloc, 5)),
-    );
+    let sent = send(&rt, alloc, &mut fabric, 1, SECOND_OF_1, 5);
     assert!(rt; matches!(&sent, StepAnswer::Sent(SentTo::Queued)));
-    let took = ask(&rt, &mut fabric, 2, Event::Look(Sigsel::Any), None);
+    let took = look(&rt, &mut fabric, 2);
     assert!(rt;
         matches!(&took, StepAnswer::Took(item) if item.signal.number() == 5
             && item.from == Peer::Here(FIRST_OF_1) && item.kind == Kind::Plain)
     );
+    Ok(())
+}
+
+#[test]
+fn who_is_attached_hears_of_a_close(rt: HostRuntime) -> Result<(), Fail> {
+    let alloc = rt.alloc();
+    let mut fabric = two_actors(&rt, alloc, NodeNo(1), NodeNo(1));
+    let attach = Event::Attach(Peer::Here(SECOND_OF_1));
+    open(&rt, alloc, &mut fabric, 1, b"p");
+    open(&rt, alloc, &mut fabric, 2, b"q");
+    let attached = ask(&rt, &mut fabric, 1, attach, Some(numbered(&rt, alloc, 4)));
+    assert!(rt; matches!(&attached, StepAnswer::Attached(AttRef(3))));
     ask(&rt, &mut fabric, 2, Event::Close, None);
-    let took = ask(&rt, &mut fabric, 1, Event::Look(Sigsel::Any), None);
+    let took = look(&rt, &mut fabric, 1);
     assert!(rt;
         matches!(&took, StepAnswer::Took(item) if item.signal.number() == 4
-            && item.kind == Kind::Notice(AttRef(5)))
+            && item.kind == Kind::Notice(AttRef(3)))
     );
-    let sent = ask(
-        &rt,
-        &mut fabric,
-        1,
-        Event::Send(to),
-        Some(numbered(&rt, alloc, 6)),
-    );
+    let sent = send(&rt, alloc, &mut fabric, 1, SECOND_OF_1, 6);
     assert!(rt; matches!(&sent, StepAnswer::Sent(SentTo::Dead)));
     Ok(())
 }
@@ -183,24 +185,12 @@ fn actors_of_one_node_reach_each_other(rt: HostRuntime) -> Result<(), Fail> {
 fn a_restart_closes_the_endpoints_of_its_node(rt: HostRuntime) -> Result<(), Fail> {
     let alloc = rt.alloc();
     let mut fabric = two_actors(&rt, alloc, NodeNo(1), NodeNo(2));
-    ask(
-        &rt,
-        &mut fabric,
-        1,
-        Event::Open(named(&rt, alloc, b"p")),
-        None,
-    );
-    ask(
-        &rt,
-        &mut fabric,
-        2,
-        Event::Open(named(&rt, alloc, b"q")),
-        None,
-    );
+    open(&rt, alloc, &mut fabric, 1, b"p");
+    open(&rt, alloc, &mut fabric, 2, b"q");
     let done = ask(&rt, &mut fabric, 1, Event::Restart(NodeNo(2)), None);
     assert!(rt; matches!(&done, StepAnswer::Done) && fabric.endpoint_of(2).is_none());
     assert!(rt; fabric.endpoint_of(1) == Some(FIRST_OF_1));
-    let refused = ask(&rt, &mut fabric, 2, Event::Look(Sigsel::Any), None);
+    let refused = look(&rt, &mut fabric, 2);
     assert!(rt; matches!(&refused, StepAnswer::Refused(Refusal::NotOpen { at: 3 })));
     ask(&rt, &mut fabric, 1, Event::Restart(NodeNo(1)), None);
     assert!(rt; fabric.endpoint_of(1).is_none());
@@ -213,34 +203,15 @@ fn a_restart_closes_the_endpoints_of_its_node(rt: HostRuntime) -> Result<(), Fai
 fn what_is_not_granted_is_refused(rt: HostRuntime) -> Result<(), Fail> {
     let alloc = rt.alloc();
     let mut fabric = two_actors(&rt, alloc, NodeNo(1), NodeNo(1));
-    let to = Peer::Here(FIRST_OF_1);
-    let refused = ask(
-        &rt,
-        &mut fabric,
-        1,
-        Event::Send(to),
-        Some(numbered(&rt, alloc, 7)),
-    );
+    let refused = send(&rt, alloc, &mut fabric, 1, FIRST_OF_1, 7);
     assert!(rt; matches!(&refused, StepAnswer::Refused(Refusal::NotOpen { at: 0 })));
-    ask(
-        &rt,
-        &mut fabric,
-        1,
-        Event::Open(named(&rt, alloc, b"p")),
-        None,
-    );
-    let refused = ask(
-        &rt,
-        &mut fabric,
-        1,
-        Event::Open(named(&rt, alloc, b"q")),
-        None,
-    );
+    open(&rt, alloc, &mut fabric, 1, b"p");
+    let refused = open(&rt, alloc, &mut fabric, 1, b"q");
     assert!(rt;
         matches!(&refused, StepAnswer::Refused(Refusal::IsOpen { inc }) if *inc == FIRST_OF_1)
     );
     ask(&rt, &mut fabric, 1, Event::Close, None);
-    let refused = ask(&rt, &mut fabric, 1, Event::Look(Sigsel::Any), None);
+    let refused = look(&rt, &mut fabric, 1);
     assert!(rt; matches!(&refused, StepAnswer::Refused(Refusal::NotOpen { at: 4 })));
     assert_eq!(rt; fabric.journal().len(), 5);
     Ok(())
