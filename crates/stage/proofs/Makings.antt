@@ -17,7 +17,7 @@ use Rattle.journal.specs.declared.head.Head.TheVariants as heads
 use Rattle.journal.specs.declared.head.Refusal.{Refusal}
 use Rattle.journal.specs.History.{closed_step, endpoint_of, is_by, last_opened}
 use Rattle.journal.specs.Laws.{effects_by, is_opening as opens_one}
-use Rattle.journal.specs.Rest.{queue_of, waits_in as filter_in, waits_with}
+use Rattle.journal.specs.Rest.{queue_of, waits_with}
 use Rattle.journal.specs.Shapes.{Shape, node_by}
 use Rattle.journal.proofs.Openings.{effects-open, last_in, last_opened-opens, next_on}
 use Rattle.node_kernel.specs.declared.answers.StepAnswer.{StepAnswer}
@@ -29,35 +29,6 @@ use Rattle.fabric.specs.Machine.{answer_to, answer_with, hands_over, head_of, is
 
 inner : {a b : Head} → Some a ≡ Some b → a ≡ b
 inner is = cc
-
--- WAITING. A step that says that it waits is told by its filter
-filter_of_waits : (head : Head) → is_some (filter_in head) ≡ is_waits head
-filter_of_waits (heads.Open name) = refl
-filter_of_waits heads.Close = refl
-filter_of_waits (heads.Send q note answer) = refl
-filter_of_waits (heads.Take filter position) = refl
-filter_of_waits (heads.TakeNone filter) = refl
-filter_of_waits (heads.Waits filter) = refl
-filter_of_waits (heads.Hunt path note) = refl
-filter_of_waits (heads.Attach q note) = refl
-filter_of_waits (heads.Detach r answer) = refl
-filter_of_waits (heads.Cut link) = refl
-filter_of_waits (heads.Mend link) = refl
-filter_of_waits (heads.Settle link) = refl
-filter_of_waits (heads.Restart n) = refl
-filter_of_waits (heads.Wire link from verdict) = refl
-filter_of_waits (heads.Tick link side) = refl
-filter_of_waits (heads.Refused reason) = refl
-filter_of_waits heads.Ended = refl
-
-pub last_waits-with : (P : List Step) (k : ℕ) → last_waits P k ≡ is_some (waits_with P k)
-last_waits-with [] k = refl
-last_waits-with (s ∷ P) k = go (is_by s.by k) refl (last_waits-with P k)
-  where
-    go : (b : Bool) → is_by s.by k ≡ b → last_waits P k ≡ is_some (waits_with P k)
-        → last_waits (s ∷ P) k ≡ is_some (waits_with (s ∷ P) k)
-    go true is before = rw is (sym (filter_of_waits s.head))
-    go false is before = rw is before
 
 -- THE HAND of what was asked
 none_is : (hand : Option SigNote) → is_some hand ≡ false → None ≡ hand
@@ -265,7 +236,7 @@ module _ (shape : Shape) (P : List Step) (k : ℕ) (ask : Ask)
         answered = refl;
         goes_on = ap is_end_event looks;
         keeps = ap is_sending looks;
-        waits = last_waits-with P k ∙ vain.waits;
+        waits = vain.waits;
       })
   made_with (Some head) made =
       inl (
@@ -280,7 +251,7 @@ module _ (shape : Shape) (P : List Step) (k : ℕ) (ask : Ask)
           names = made.names;
           answered = refl;
           opened = opened-answered P (node_by shape (Actor k)) (endpoint_of P k) head;
-          once = λ waits. last_waits-with P k ∙ made.once waits;
+          once = λ waits. made.once waits;
         },
       )
 
