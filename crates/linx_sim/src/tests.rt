@@ -1,4 +1,4 @@
-ghost use Rattle.std.specs.Prelude.{◌≡◌, ◌+◌, ◌≤◌, [], false, length};
+ghost use Rattle.std.specs.Prelude.{◌≡◌, ◌+◌, ◌<◌, ◌≤◌, [], false, length};
 ghost use Rattle.journal.specs.Logs.{is_full};
 ghost use Rattle.journal_text.specs.Text.{text_of};
 ghost use Rattle.script_lang.specs.Reading.{script_of};
@@ -110,7 +110,9 @@ fn scripts_without_actors_print_nothing(rt: HostRuntime) -> Result<(), Fail> {
 }
 
 // A script of so many actors, each of which opens an endpoint and sends itself signals.
-fn senders(alloc: Global, nodes: u32, actors: u32, sends: u32) -> Result<Vec<u8>, Fail> {
+fn senders(alloc: Global, nodes: u32, actors: u32, sends: u32) -> Result<Vec<u8>, Fail>
+    requires { 0 < nodes }
+{
     let mut script = Vec::new(alloc);
     let mut digits = Buffer::new();
     for node in 0..nodes {
