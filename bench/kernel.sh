@@ -140,4 +140,4 @@ fn main(rt: HostRuntime) -> anyhow::Result<()> {
 }
 PROGRAM
 cd "$work/crates/kernel_bench"
-rt "${1:-run}"
+rt "${@:-run}"
