@@ -1,9 +1,9 @@
 -- What an actor of a script without links may ask for.
-use Rattle.std.proofs.Common.{◌≡◌, ℕ, zero, suc, ◌<◌, ◌≤◌, Bool, true, false, cond, List, [], ◌∷◌, length, Option, ◌+◌, Some, None, refl, sym, ◌∙◌, ap, subst, arith}
+use Rattle.std.proofs.Common.{◌≡◌, ℕ, zero, suc, ◌<◌, ◌≤◌, Bool, true, false, List, [], ◌∷◌, length, Option, ◌+◌, Some, None, refl, sym, ◌∙◌, ap, arith}
 use Rattle.std.specs.Prelude.{◌&&◌, is_some, nat_le, slice_get}
 use Rattle.std.specs.List.{list_all}
 use Rattle.std.proofs.lemmas.List.{length-map}
-use Rattle.std.proofs.lemmas.Bool.{and_parts, true≢false}
+use Rattle.std.proofs.lemmas.Bool.{and_parts}
 use Rattle.std.proofs.lemmas.Bool.Decides.{nat_tests}
 use Rattle.linx_base.specs.declared.identity.AttRef.{AttRef}
 use Rattle.linx_base.specs.declared.identity.Inc.{Inc}
@@ -16,7 +16,7 @@ use Rattle.journal.specs.declared.head.Refusal.{Refusal}
 use Rattle.journal.specs.History.{has_ended, last_endpoint}
 use Rattle.script_words.specs.declared.command.Command.{Command}
 use Rattle.script_words.specs.declared.command.Command.TheVariants.{Open, Close, Send, Forward, Recv, Hunt, Attach, Detach, Keep, Cut, Mend, Restart, Settle}
-use Rattle.script_words.specs.Filling.{data_of, fits_data}
+use Rattle.script_words.specs.Filling.{data_of}
 use Rattle.script_words.specs.Numbers.{is_within}
 use Rattle.script_lang.specs.declared.actor_script.ActorScript.{ActorScript}
 use Rattle.script_lang.specs.Fits.{fits_actor, fits_command, is_node, IsScript}

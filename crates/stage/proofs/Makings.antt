@@ -1,5 +1,5 @@
 -- What the machine makes of what an actor asks for is what its mind expects.
-use Rattle.std.proofs.Common.{◌≡◌, ℕ, Bool, true, false, cond, List, [], ◌∷◌, length, Option, Some, None, refl, sym, ◌∙◌, ap, inl, inr}
+use Rattle.std.proofs.Common.{◌≡◌, ℕ, Bool, true, false, cond, List, [], ◌∷◌, Option, Some, None, refl, sym, ◌∙◌, ap, inl, inr}
 use Rattle.std.specs.Prelude.{is_some, if◌then◌else◌}
 use Rattle.std.proofs.lemmas.Bool.{true≢false}
 use Rattle.linx_base.specs.declared.identity.Inc.{Inc}
@@ -15,16 +15,15 @@ use Rattle.journal.specs.declared.event.Event.TheVariants as asks
 use Rattle.journal.specs.declared.head.Head.{Head}
 use Rattle.journal.specs.declared.head.Head.TheVariants as heads
 use Rattle.journal.specs.declared.head.Refusal.{Refusal}
-use Rattle.journal.specs.History.{closed_step, endpoint_of, is_by, last_opened}
+use Rattle.journal.specs.History.{closed_step, endpoint_of, last_opened}
 use Rattle.journal.specs.Laws.{effects_by, is_opening as opens_one}
 use Rattle.journal.specs.Rest.{queue_of, waits_with}
 use Rattle.journal.specs.Shapes.{Shape, node_by}
 use Rattle.journal.proofs.Openings.{effects-open, last_in, last_opened-opens, next_on}
-use Rattle.node_kernel.specs.declared.answers.StepAnswer.{StepAnswer}
 use Rattle.node_kernel.specs.declared.ask.Ask.{Ask}
 use Rattle.node_kernel.specs.Answers.{answer_of, event_of, granted, granted_by, is_end_event, is_opening, is_waits, named, needs_endpoint, opened_as, refused}
 use Rattle.actor_run.specs.Asking.{is_sending}
-use Rattle.actor_run.specs.Following.{endpoint_after, last_waits, IsMade, IsStill, Makes}
+use Rattle.actor_run.specs.Following.{endpoint_after, Makes}
 use Rattle.fabric.specs.Machine.{answer_to, answer_with, hands_over, head_of, is_at_rest, look, signal_in, step_with, steps_after, vain_look, with_step}
 
 inner : {a b : Head} → Some a ≡ Some b → a ≡ b

@@ -1,8 +1,8 @@
 -- A round in which an actor hasn't ended makes a step.
-use Rattle.std.proofs.Common.{◌≡◌, ◌≢◌, ℕ, zero, suc, ◌<◌, ◌≤◌, ◌⊎◌, Bool, true, false, cond, List, [], ◌∷◌, length, Option, Some, None, is_none, refl, sym, ◌∙◌, ap, subst, inl, inr, arith}
-use Rattle.std.specs.Prelude.{◌&&◌, ◌||◌, ◌==◌, is_some, nat_lt, slice_get, if◌then◌else◌}
+use Rattle.std.proofs.Common.{◌≡◌, ◌≢◌, ℕ, zero, suc, ◌<◌, ◌≤◌, ◌⊎◌, Bool, true, false, cond, List, length, Option, Some, None, is_none, refl, sym, ◌∙◌, ap, subst, inl, inr, arith}
+use Rattle.std.specs.Prelude.{◌==◌, is_some, slice_get}
 use Rattle.std.proofs.lemmas.List.{length-map}
-use Rattle.std.proofs.lemmas.Bool.{and_parts, cases_lt, cases_order, eq-eqb, false_from_ne_true, lt-ltb, true≢false}
+use Rattle.std.proofs.lemmas.Bool.{and_parts, cases_lt, cases_order, eq-eqb, lt-ltb, true≢false}
 use Rattle.linx_base.specs.declared.identity.Inc.{Inc}
 use Rattle.sigsel.specs.Selection.{first_selected}
 use Rattle.sigsel.specs.declared.sigsel.Sigsel.{Sigsel}
@@ -12,7 +12,7 @@ use Rattle.journal.specs.declared.event.Event.TheVariants as asks
 use Rattle.journal.specs.declared.head.Head.{Head}
 use Rattle.journal.specs.History.{closed_step, endpoint_of, has_ended, last_endpoint}
 use Rattle.journal.specs.Rest.{is_idle, leaves_at_rest, queue_of, waits_in_vain, waits_with}
-use Rattle.journal.specs.Shapes.{Shape, node_by}
+use Rattle.journal.specs.Shapes.{Shape}
 use Rattle.script_words.specs.declared.command.Command.{Command}
 use Rattle.script_words.specs.declared.command.Command.TheVariants.{Recv}
 use Rattle.script_lang.specs.Parts.{ScriptParts}
@@ -20,10 +20,10 @@ use Rattle.node_kernel.specs.declared.ask.Ask.{Ask}
 use Rattle.node_kernel.specs.Answers.{granted}
 use Rattle.actor_run.specs.Asking.{ask_of}
 use Rattle.actor_run.specs.Following.{knows, next_ask, Follows}
-use Rattle.fabric.specs.Machine.{all_leave_at_rest, hands_over, have_ended, head_of, is_at_rest, signal_in, step_of, step_with, steps_after, with_step}
+use Rattle.fabric.specs.Machine.{all_leave_at_rest, hands_over, have_ended, is_at_rest, step_of, step_with, steps_after, with_step}
 use Rattle.stage.specs.Plays.{AllFollow}
 use Rattle.stage.specs.Turns.{commands_of, is_over, round_of, shape_of, turn_of, turns_of}
-use Rattle.stage.proofs.Makings.{IsHeadOr, IsVain, granted_endpoint, granted_look, head-made, the_head, the_head-made}
+use Rattle.stage.proofs.Makings.{IsHeadOr, IsVain, granted_endpoint, granted_look, the_head, the_head-made}
 use Rattle.stage.proofs.Waiting.{waits_at}
 
 the_filter : (w : Option Sigsel) → is_some w ≡ true → (f : Sigsel) × (w ≡ Some f)

@@ -1,25 +1,26 @@
 -- The players of a stage, before and after a turn.
-use Rattle.std.proofs.Common.{◌≡◌, ◌≢◌, ℕ, zero, suc, ◌+◌, ◌-◌, ◌<◌, ◌≤◌, Bool, Result, Ok, Err, IsErr, OnOk, OnErr, inl, inr, length-set, true, false, cond, List, [], ◌∷◌, ◌++◌, All, length, map, Option, Some, None, refl, sym, ◌∙◌, ap, subst, arith}
-use Rattle.std.specs.Prelude.{◌==◌, nat_le, slice_get, slice_set, if◌then◌else◌}
+use Rattle.std.proofs.Common.{◌≡◌, ◌≢◌, ℕ, zero, suc, ◌-◌, ◌<◌, ◌≤◌, Bool, Result, Ok, Err, IsErr, OnOk, OnErr, inl, inr, length-set, true, false, List, [], ◌∷◌, length, Option, Some, None, refl, sym, ◌∙◌, ap, subst, arith}
+use Rattle.std.specs.Prelude.{◌==◌, nat_le, slice_get, slice_set}
 use Rattle.std.proofs.lemmas.Bool.{cases_lt, eqb-true, eq-eqb, le-leb, ne_eqb, or_left, true≢false}
 use Rattle.std.proofs.lemmas.List.{length-map}
 use Rattle.std.proofs.lemmas.List.Elements.{All-cons, All-nil}
-use Rattle.linx_base.specs.declared.identity.Inc.{Inc}
+use Rattle.linx_base.specs.declared.frame.LinkDecl.{LinkDecl}
+use Rattle.linx_base.specs.declared.identity.NodeNo.{NodeNo}
+use Rattle.linx_base.specs.declared.name.Names.{Names}
 use Rattle.journal.specs.declared.by.By.TheVariants.{Actor}
 use Rattle.journal.specs.declared.effect.Step.{Step}
 use Rattle.journal.specs.declared.head.Head.{Head}
 use Rattle.journal.specs.History.{endpoint_of, has_ended, is_by}
 use Rattle.journal.specs.Laws.{IsLegal}
-use Rattle.journal.specs.Logs.{Log, is_full}
+use Rattle.journal.specs.Logs.{is_full}
 use Rattle.journal.specs.Shapes.{Shape, node_by}
-use Rattle.script_words.specs.declared.command.Command.{Command}
 use Rattle.script_lang.specs.declared.actor_script.ActorScript.{ActorScript}
+use Rattle.script_lang.specs.Fits.{IsScript}
 use Rattle.script_lang.specs.Parts.{ScriptParts}
 use Rattle.node_kernel.specs.declared.ask.Ask.{Ask}
-use Rattle.node_kernel.specs.declared.answers.StepAnswer.{StepAnswer}
 use Rattle.node_kernel.specs.Answers.{granted}
-use Rattle.actor_run.specs.Following.{Follows, FollowsWhole, IsTurned, Playing}
-use Rattle.actor_run.specs.Knowing.{Knows, knows_nothing}
+use Rattle.actor_run.specs.Following.{Follows, IsTurned, Playing}
+use Rattle.actor_run.specs.Knowing.{knows_nothing}
 use Rattle.actor_run.proofs.Others.{GoesOn, has_ended_goes_on, playing_goes_on, whole_goes_on}
 use Rattle.actor_run.proofs.Turns.{playing_first}
 use Rattle.fabric.specs.Machine.{have_ended, head_of, signal_in, step_of, step_with, steps_after, with_step}
@@ -252,6 +253,38 @@ module _ (script : ScriptParts) (old now : Layout) (players : List Player) (k : 
       (none-goes_on old.log.steps m))
       (subst (λ (P : List Step). IsSeated script P k player) (sym same)
       (subst (λ (p : Player). IsSeated script old.log.steps k p) (sym stays) was))
+
+-- A STAGE BEFORE ITS FIRST TURN
+pub laid-same : (links others : List LinkDecl) (nodes places : List NodeNo) (names titles : Names)
+    → links ≡ others → nodes ≡ places → names ≡ titles
+    → (let l : Layout = record {
+      shape = record { links = links; actors = nodes };
+      log = record { names = names; steps = [] };
+    } in l) ≡ record {
+      shape = record { links = others; actors = places };
+      log = record { names = titles; steps = [] };
+    }
+laid-same links others nodes places names titles a b c = rw (a, b, c) refl
+
+pub staged-first : (script : ScriptParts) (fabric : Layout) (players : List Player) → IsScript script
+    → script.links ≡ []
+    → fabric ≡ record {
+      shape = shape_of script;
+      log = record { names = script.names; steps = [] };
+    }
+    → players ≡ unstarted script.actors → IsStaged script fabric players
+staged-first script fabric players declared unlinked is started =
+    let steps : fabric.log.steps ≡ [] = ap (λ (l : Layout). l.log.steps) is in record {
+      declared = declared;
+      unlinked = unlinked;
+      shape = ap (λ (l : Layout). l.shape) is;
+      names = ap (λ (l : Layout). l.log.names) is;
+      few = let none : length fabric.log.steps ≡ 0 = ap length steps in omega arith;
+      count = ap length started ∙ length-map script.actors _;
+      seated = subst (AreSeated script fabric.log.steps) (sym started)
+          (subst (λ (P : List Step). AreSeated script P (unstarted script.actors)) (sym steps)
+          (unstarted-seated script));
+    }
 
 -- WHAT A STAGE PROMISES of its journal
 module _ (script : ScriptParts) (fabric : Layout) (players : List Player)

@@ -1,14 +1,12 @@
-use Rattle.std.proofs.Common.{◌≡◌, ◌+◌, ◌<◌, ◌≤◌, false, length, List, sym, ◌∙◌, ap, subst, arith}
-use Rattle.linx_base.specs.declared.identity.Inc.{Inc}
+use Rattle.std.proofs.Common.{false, List, ◌∙◌, ap}
 use Rattle.journal.specs.declared.by.By.TheVariants.{Actor}
 use Rattle.journal.specs.Shapes.{Shape}
 use Rattle.script_words.specs.declared.command.Command.{Command}
-use Rattle.node_kernel.specs.declared.ask.Ask.{Ask}
 use Rattle.actor_run.specs.Asking.{asked_by, handed}
 use Rattle.actor_run.specs.Knowing.{Knows, told}
 use Rattle.fabric.specs.Machine.{answer_to, steps_after}
 use Rattle.stage.specs.Plays.{came_of}
-use Rattle.stage.specs.Turns.{commands_of, shape_of}
+use Rattle.stage.specs.Turns.{shape_of}
 use Rattle.stage.proofs.Turned.{ask-next, turn-asks, turn-seated}
 use Rattle.stage.proofs.player.turn_of.Goals as goal
 

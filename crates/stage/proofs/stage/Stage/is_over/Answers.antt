@@ -1,4 +1,4 @@
-use Rattle.std.proofs.Common.{◌≡◌, sym, ◌∙◌, ap}
+use Rattle.std.proofs.Common.{sym, ◌∙◌, ap}
 use Rattle.fabric.specs.Machine.{all_have_ended}
 use Rattle.journal.specs.Shapes.{Shape}
 use Rattle.stage.proofs.Seats.{staged-moves}

@@ -1,4 +1,4 @@
-use Rattle.std.proofs.Common.{◌≡◌, sym}
+use Rattle.std.proofs.Common.{sym}
 use Rattle.stage.proofs.Seats.{staged-so_far}
 use Rattle.stage.proofs.stage.Stage.journal.Goals as goal
 

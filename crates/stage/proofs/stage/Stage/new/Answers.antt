@@ -1,5 +1,8 @@
-use Rattle.std.proofs.Common.{◌≡◌, List, map, sym, ◌∙◌, ap}
+use Rattle.std.proofs.Common.{List, map, ◌∙◌, ap, subst}
 use Rattle.script_lang.specs.declared.actor_script.ActorScript.{ActorScript}
+use Rattle.script_lang.specs.Fits.{IsScript}
+use Rattle.stage.specs.Seats.{unstarted}
+use Rattle.stage.proofs.Seats.{laid-same, staged-first}
 use Rattle.stage.proofs.Whole.{laid_out-as}
 use Rattle.stage.proofs.stage.Stage.new.Goals as goal
 
@@ -10,3 +13,16 @@ new-requires c = record {
       (c.as_slice.ensures.value ∙ c.in_ok-nodes.ensures
       ∙ ap (λ (l : List ActorScript). map (λ a. a.node) l) c.actors.ensures.actors);
 }
+
+pub invariant_of-result : goal.invariant_of-result
+invariant_of-result c =
+    staged-first c.args.script c.in_ok-fabric.fabric c.in_ok-players.players.items
+    (subst IsScript c.script.view_is c.script.invariant) c.requires.unlinked
+    (c.in_ok-fabric.ensures.ok
+    ∙ laid-same c.links.result.now c.args.script.links c.as_slice.result.now
+    (map (λ a. a.node) c.args.script.actors) c.in_ok-names.names c.args.script.names
+    c.links.ensures.links
+    (c.as_slice.ensures.value ∙ c.in_ok-nodes.ensures
+    ∙ ap (λ (l : List ActorScript). map (λ a. a.node) l) c.actors.ensures.actors)
+    (c.in_ok-names.ensures ∙ c.names.ensures.names))
+    (c.in_ok-players.ensures ∙ ap unstarted c.actors-2.ensures.actors)

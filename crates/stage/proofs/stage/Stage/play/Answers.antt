@@ -1,4 +1,4 @@
-use Rattle.std.proofs.Common.{◌≡◌, sym, ◌∙◌}
+use Rattle.std.proofs.Common.{sym, ◌∙◌}
 use Rattle.stage.proofs.Whole.{fixed-more, rounds-more}
 use Rattle.stage.proofs.stage.Stage.play.Goals as goal
 

@@ -1,4 +1,3 @@
-use Rattle.std.proofs.Common.{◌≡◌}
 use Rattle.stage.proofs.Whole.{fixed-more, turns-more}
 use Rattle.stage.proofs.stage.Stage.round.Goals as goal
 

@@ -1,0 +1,15 @@
+use Rattle.std.proofs.Common.{sym}
+use Rattle.stage.proofs.Seats.{staged-so_far, staged-whole}
+use Rattle.stage.proofs.stage.Stage.into_journal.Goals as goal
+
+pub returns-clause-so_far : goal.returns-clause-so_far
+returns-clause-so_far c =
+    let s = c.self.inside in
+    rw (sym c.self.view_is)
+    (staged-so_far s.script s.fabric s.players.items c.self.invariant c.into_journal.ensures.legal)
+
+pub returns-clause-whole : goal.returns-clause-whole
+returns-clause-whole c =
+    let s = c.self.inside in
+    rw (sym c.self.view_is)
+    (staged-whole s.script s.fabric s.players.items c.self.invariant)
