@@ -3,6 +3,7 @@ use Rattle.std.specs.Prelude.{IfSome}
 use Rattle.linx_sim.specs.Runs.{Completes}
 use Rattle.linx_sim.specs.Causes.{IsUnread}
 use Rattle.linx_sim.specs.declared.outcome.Status.{Status}
+use Rattle.linx_sim.proofs.Answering.{legal-none}
 use Rattle.linx_sim.proofs.Causes.{caused_unread, completes_told}
 use Rattle.linx_sim.proofs.serving.serial.Goals as goal
 
@@ -17,3 +18,7 @@ returns-in-Err-clause-complete g c =
     (completes_told status left log
     (caused_unread status left log unread c.unstarted.ensures.no_steps)
     (λ usage. subst (λ (x : Status). IsUnread x left) usage unread))
+
+pub returns-in-Err-clause-legal : goal.returns-in-Err-clause-legal
+returns-in-Err-clause-legal g c =
+    legal-none c.unstarted.result.journal.log.steps c.unstarted.ensures.no_steps
