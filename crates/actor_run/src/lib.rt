@@ -18,6 +18,3 @@ pub use maker::Maker;
 pub use mind::Mind;
 pub use names::NameKind;
 pub use turning::turn;
-
-#[cfg(test)]
-mod tests;
