@@ -43,24 +43,8 @@ const MY_PIECE_1: &str = "02050064 0000000500000001 0000000900000004 04000000 00
 const MY_PIECE_2: &str = "02050064 0000000500000001 0000000900000004 04000000 00000000
     00010000 00000002";
 
-/// Pieces of one byte that come to the end: of a message of two or three bytes, or of none.
-const FIRST_OF_3: &str = "02050031 0000000900000004 0000000500000001 03000000 00000000
-    00010000 00000000 00000007 00000009 00000003 aa";
-
-const FIRST_OF_2: &str = "02050031 0000000900000004 0000000500000001 03000000 00000000
-    00010000 00000000 00000007 00000009 00000002 aa";
-
 const ONLY: &str = "02050031 0000000900000004 0000000500000001 03000000 00000000
     00000000 00000000 00000007 00000009 00000001 aa";
-
-const NEXT_1: &str = "02050025 0000000900000004 0000000500000001 04000000 00000000
-    00010000 00000001 bb";
-
-const LAST_1: &str = "02050025 0000000900000004 0000000500000001 04000000 00000000
-    00000000 00000001 bb";
-
-const LAST_2: &str = "02050025 0000000900000004 0000000500000001 04000000 00000000
-    00000000 00000002 cc";
 
 const LAST_0: &str = "02050025 0000000900000004 0000000500000001 04000000 00000000
     00000000 00000000 cc";
@@ -285,55 +269,6 @@ fn a_connecting_end_asks_at_each_tick_and_is_never_lost(rt: HostRuntime) -> Resu
     Ok(())
 }
 
-const IDLE: Row = (Event::Tick, "", [MY_CONN_ACK, ""]);
-
-/// At each packet from the peer the ticks begin anew.
-const LOST: [Row; 16] = [
-    IDLE,
-    IDLE,
-    (Event::Packet(CONNECT), "", [MY_CONN_ACK, ""]),
-    IDLE,
-    IDLE,
-    (Event::Packet(CONNECT_ACK), "", [MY_CONN_ACK, ""]),
-    IDLE,
-    IDLE,
-    (Event::Packet(CONN_ACK), "", ["", ""]),
-    IDLE,
-    IDLE,
-    (Event::Packet(ACK_0), "", ["", ""]),
-    IDLE,
-    IDLE,
-    (
-        Event::Tick,
-        "down",
-        ["02020018 0000000500000001 0000000900000004 00040000", ""],
-    ),
-    (
-        Event::Tick,
-        "",
-        ["02020018 0000000500000002 0000000000000000 00010000", ""],
-    ),
-];
-
-#[test]
-fn lost_at_the_third_tick_since_the_peer_was_heard(rt: HostRuntime) -> Result<(), Fail> {
-    let mut end = end(rt.alloc(), 32, true)?;
-    assert_eq!(rt; follows(rt.alloc(), &mut end, &LOST)?, 16);
-    Ok(())
-}
-
-#[test]
-fn data_confirms_and_connect_ack_does_not(rt: HostRuntime) -> Result<(), Fail> {
-    let mut end = end(rt.alloc(), 32, true)?;
-    let _ = happens(rt.alloc(), &mut end, &Event::Packet(CONNECT_ACK))?;
-    assert!(rt; end.has_work());
-    let _ = happens(rt.alloc(), &mut end, &Event::Packet(ACK_0))?;
-    assert!(rt; !end.has_work());
-    let _ = happens(rt.alloc(), &mut end, &Event::Offer(1))?;
-    assert!(rt; end.has_work());
-    Ok(())
-}
-
 /// With a window of two frames: a message of 300 bytes in five pieces.
 const WINDOW: [Row; 4] = [
     (Event::Offer(300), "", [MY_PIECE_0, MY_PIECE_1]),
@@ -361,109 +296,13 @@ fn a_nack_first_moves_the_window(rt: HostRuntime) -> Result<(), Fail> {
 
 const MY_ACK_1: &str = "0205001c 0000000500000001 0000000900000004 00000000 00000001";
 
-const MY_NACK_1: &str = "0206001c 0000000500000001 0000000900000004 00000001 00000001";
-
-const MY_NACK_0: &str = "0206001c 0000000500000001 0000000900000004 00000001 00000000";
-
 const REPEATED: [Row; 3] = [
     (Event::Packet(ONLY), "got", [MY_ACK_1, ""]),
     (Event::Packet(ONLY), "", [MY_ACK_1, ""]),
     (Event::Packet(LAST_0), "", [MY_ACK_1, ""]),
 ];
 
-/// Frame 2 comes, then 1, then 0: the missing are asked for once until a tick.
-const MISSING: [Row; 5] = [
-    (
-        Event::Packet(LAST_2),
-        "",
-        [
-            "0206001c 0000000500000001 0000000900000004 00000002 00000000",
-            "",
-        ],
-    ),
-    (Event::Packet(LAST_2), "", ["", ""]),
-    IDLE,
-    (Event::Packet(NEXT_1), "", [MY_NACK_0, ""]),
-    (
-        Event::Packet(FIRST_OF_3),
-        "got",
-        [
-            "0205001c 0000000500000001 0000000900000004 00000000 00000003",
-            "",
-        ],
-    ),
-];
-
 const BROKEN: [Row; 1] = [(Event::Packet(LAST_0), "down", ["", ""])];
-
-/// A message of three bytes begins and its last frame is kept; then the session ends.
-const RECONNECTED: [Row; 8] = [
-    (Event::Packet(FIRST_OF_3), "", [MY_ACK_1, ""]),
-    (Event::Packet(LAST_2), "", [MY_NACK_1, ""]),
-    (Event::Packet(RESET), "down", ["", ""]),
-    (
-        Event::Packet("02020018 0000000900000004 0000000500000002 00020000"),
-        "up",
-        ["02020018 0000000500000002 0000000900000004 00030000", ""],
-    ),
-    // To the session before.
-    (Event::Packet(NEXT_1), "", ["", ""]),
-    // A message of three bytes begins anew, and frame 2 isn't there.
-    (
-        Event::Packet(
-            "02050031 0000000900000004 0000000500000002 03000000 00000000
-                00010000 00000000 00000007 00000009 00000003 aa",
-        ),
-        "",
-        [
-            "0205001c 0000000500000002 0000000900000004 00000000 00000001",
-            "",
-        ],
-    ),
-    (
-        Event::Packet(
-            "02050025 0000000900000004 0000000500000002 04000000 00000000 00010000 00000001 bb",
-        ),
-        "",
-        [
-            "0205001c 0000000500000002 0000000900000004 00000000 00000002",
-            "",
-        ],
-    ),
-    (
-        Event::Packet(
-            "02050025 0000000900000004 0000000500000002 04000000 00000000 00000000 00000002 cc",
-        ),
-        "got",
-        [
-            "0205001c 0000000500000002 0000000900000004 00000000 00000003",
-            "",
-        ],
-    ),
-];
-
-const UNDONE: [Row; 6] = [
-    (Event::Packet(LAST_1), "", [MY_NACK_0, ""]),
-    (Event::Keep, "", ["", ""]),
-    (
-        Event::Packet(FIRST_OF_2),
-        "got",
-        [
-            "0205001c 0000000500000001 0000000900000004 00000000 00000002",
-            "",
-        ],
-    ),
-    (Event::Packet(RESET), "down", ["", ""]),
-    (Event::Undo, "", ["", ""]),
-    (
-        Event::Packet(FIRST_OF_2),
-        "got",
-        [
-            "0205001c 0000000500000001 0000000900000004 00000000 00000002",
-            "",
-        ],
-    ),
-];
 
 /// How many of the rows an end that is up follows.
 fn followed(alloc: Global, rows: &[Row]) -> Result<usize, Fail> {
@@ -478,162 +317,7 @@ fn a_repeated_frame_is_acknowledged_and_not_taken(rt: HostRuntime) -> Result<(),
 }
 
 #[test]
-fn missing_frames_are_asked_for_once(rt: HostRuntime) -> Result<(), Fail> {
-    assert_eq!(rt; followed(rt.alloc(), &MISSING)?, 5);
-    Ok(())
-}
-
-#[test]
 fn a_broken_frame_ends_the_session(rt: HostRuntime) -> Result<(), Fail> {
     assert_eq!(rt; followed(rt.alloc(), &BROKEN)?, 1);
-    Ok(())
-}
-
-#[test]
-fn what_was_kept_and_begun_is_gone_after_a_reconnection(rt: HostRuntime) -> Result<(), Fail> {
-    assert_eq!(rt; followed(rt.alloc(), &RECONNECTED)?, 8);
-    Ok(())
-}
-
-#[test]
-fn an_undone_event_leaves_the_end_as_the_kept_ones_did(rt: HostRuntime) -> Result<(), Fail> {
-    assert_eq!(rt; followed(rt.alloc(), &UNDONE)?, 6);
-    Ok(())
-}
-
-/// A packet with its two sessions exchanged.
-fn to_other(alloc: Global, packet: &Blob) -> Result<Blob, Fail> {
-    let bytes = packet.bytes();
-    if bytes.len() < 20 {
-        return Err(Fail::from("no packet"));
-    }
-    let mut other = Vec::from_slice(alloc, &bytes[..4])?;
-    other.extend_from_slice(&bytes[12..20])?;
-    other.extend_from_slice(&bytes[4..12])?;
-    other.extend_from_slice(&bytes[20..])?;
-    Ok(Blob::shared(other)?)
-}
-
-/// The next packets of one end come to the other, but for those that are lost. What the last one
-/// means is told in a word.
-fn carry(alloc: Global, from: &mut End, to: &mut End, lost: &[bool]) -> Result<&'static str, Fail> {
-    let mut told = "";
-    for is_lost in lost {
-        let Some(packet) = from.out()? else {
-            return Ok("nothing goes out");
-        };
-        if !*is_lost {
-            told = take(to, &to_other(alloc, &packet)?)?;
-        }
-    }
-    Ok(told)
-}
-
-/// With a window of 32 and pieces of 64 bytes, a body of 256 bytes, of which frame 1 is lost. Both
-/// ends have the same session, so the sessions are exchanged on the way.
-#[test]
-fn one_frame_is_missing_and_is_sent_again_alone(rt: HostRuntime) -> Result<(), Fail> {
-    let mut first = end(rt.alloc(), 32, true)?;
-    let mut second = end(rt.alloc(), 32, true)?;
-    let _ = offer(rt.alloc(), &mut first, 256)?;
-    let lost = [false, true, false, false];
-    assert_eq!(rt; carry(rt.alloc(), &mut first, &mut second, &lost)?, "");
-    for digits in [MY_ACK_1, MY_NACK_1, ""] {
-        assert!(rt; sends(rt.alloc(), &mut second, digits)?);
-    }
-    let nack = Event::Packet("0206001c 0000000900000004 0000000500000001 00000001 00000001");
-    let _ = happens(rt.alloc(), &mut first, &nack)?;
-    assert_eq!(rt;
-        carry(rt.alloc(), &mut first, &mut second, &[false])?,
-        "got"
-    );
-    assert!(rt; sends(rt.alloc(), &mut first, "")?);
-    let ack = "0205001c 0000000500000001 0000000900000004 00000000 00000004";
-    assert!(rt; sends(rt.alloc(), &mut second, ack)?);
-    Ok(())
-}
-
-/// Further pieces of one byte come, with more behind them: from one number up to another.
-fn take_pieces(alloc: Global, end: &mut End, from: u16, to: u16) -> Result<bool, Fail> {
-    for seq in from..to {
-        let [high, low] = seq.to_be_bytes();
-        let mut bytes = bytes_of(
-            alloc,
-            "02050025 0000000900000004 0000000500000001 04000000 00000000 00010000 0000",
-        )?;
-        bytes.extend_from_slice([high, low, 0xab].as_slice())?;
-        if take(end, &Blob::shared(bytes)?)? != "" {
-            return Ok(false);
-        }
-    }
-    Ok(true)
-}
-
-const FIRST_OF_257: &str = "02050031 0000000900000004 0000000500000001 03000000 00000000
-    00010000 00000001 00000007 00000009 00000101 aa";
-
-const LAST_257: &str = "02050025 0000000900000004 0000000500000001 04000000 00000000
-    00000000 00000101 cc";
-
-/// Frame 1 stays kept, since a message was made whole before it.
-const WHOLE: [Row; 1] = [(Event::Packet(ONLY), "got", [MY_NACK_0, MY_ACK_1])];
-
-const ALL_BUT_257: [Row; 3] = [
-    (Event::Packet(LAST_257), "", [MY_NACK_1, ""]),
-    (
-        Event::Packet(FIRST_OF_257),
-        "",
-        [
-            "0205001c 0000000500000001 0000000900000004 00000000 00000101",
-            "",
-        ],
-    ),
-    (
-        Event::Packet(LAST_257),
-        "got",
-        [
-            "0205001c 0000000500000001 0000000900000004 00000000 00000102",
-            "",
-        ],
-    ),
-];
-
-/// Frames 1 to 257 are a message of 257 bytes, and frame 0 is one before it.
-#[test]
-fn of_early_frames_256_are_kept_and_the_next_is_not(rt: HostRuntime) -> Result<(), Fail> {
-    let mut end = end(rt.alloc(), 256, true)?;
-    let _ = happens(rt.alloc(), &mut end, &Event::Packet(FIRST_OF_257))?;
-    assert!(rt; take_pieces(rt.alloc(), &mut end, 2, 256)?);
-    assert_eq!(rt; follows(rt.alloc(), &mut end, &WHOLE)?, 1);
-    assert!(rt; take_pieces(rt.alloc(), &mut end, 256, 257)?);
-    assert_eq!(rt; follows(rt.alloc(), &mut end, &ALL_BUT_257)?, 3);
-    Ok(())
-}
-
-#[test]
-fn what_was_to_go_out_comes_back_with_the_rest(rt: HostRuntime) -> Result<(), Fail> {
-    let mut end = end(rt.alloc(), 32, true)?;
-    let _ = happens(rt.alloc(), &mut end, &Event::Packet(LAST_1))?;
-    end.keep();
-    for _ in 0..2 {
-        assert!(rt; sends(rt.alloc(), &mut end, MY_NACK_0)?);
-        let _ = offer(rt.alloc(), &mut end, 1_000)?;
-        end.undo();
-    }
-    assert!(rt; sends(rt.alloc(), &mut end, MY_NACK_0)?);
-    assert!(rt; sends(rt.alloc(), &mut end, "")?);
-    assert_eq!(rt; end.frames_left(), u32::MAX);
-    Ok(())
-}
-
-#[test]
-fn a_restart_begins_the_first_session_of_the_boot(rt: HostRuntime) -> Result<(), Fail> {
-    let mut end = end(rt.alloc(), 32, true)?;
-    let _ = offer(rt.alloc(), &mut end, 1_000)?;
-    end.restart(6);
-    assert_eq!(rt; end.mine(), Session(0x0000_0006_0000_0001));
-    assert_eq!(rt; end.peer(), None);
-    assert_eq!(rt; end.frames_left(), u32::MAX);
-    assert!(rt; sends(rt.alloc(), &mut end, "")?);
     Ok(())
 }
