@@ -1,17 +1,22 @@
 -- What commands ask for: no step on a link, and a forward hands over what was held.
-use Rattle.std.proofs.Common.{◌≡◌, ℕ, zero, suc, ◌<◌, Bool, true, false, cond, ◌&&◌, List, [], ◌∷◌, length, Option, Some, None, refl, sym, ◌∙◌, ap, arith}
+use Rattle.std.proofs.Common.{◌≡◌, ℕ, zero, suc, ◌<◌, Bool, true, false, cond, ◌&&◌, List, [], ◌∷◌}
+use Rattle.std.proofs.Common.{length, Option, Some, None, refl, sym, ◌∙◌, ap, arith}
 use Rattle.std.specs.Prelude.{slice_get}
 use Rattle.linx_base.specs.declared.identity.AttRef.{AttRef}
 use Rattle.linx_base.specs.declared.identity.Inc.{Inc}
 use Rattle.linx_base.specs.declared.identity.Peer.{Peer}
 use Rattle.linx_base.specs.declared.signal.SigNote.{SigNote}
 use Rattle.script_words.specs.declared.command.Command.{Command}
-use Rattle.script_words.specs.declared.command.Command.TheVariants.{Open, Close, Send, Forward, Recv, Hunt, Attach, Detach, Keep, Cut, Mend, Restart, Settle}
+use Rattle.script_words.specs.declared.command.Command.TheVariants.{Open, Close, Send, Forward}
+use Rattle.script_words.specs.declared.command.Command.TheVariants.{Recv, Hunt, Attach, Detach}
+use Rattle.script_words.specs.declared.command.Command.TheVariants.{Keep, Cut, Mend, Restart}
+use Rattle.script_words.specs.declared.command.Command.TheVariants.{Settle}
 use Rattle.script_words.specs.Filling.{data_of}
 use Rattle.node_kernel.specs.Answers.{is_pump_event, is_end_event}
 use Rattle.node_kernel.specs.declared.ask.Ask.{Ask}
 use Rattle.actor_run.specs.Knowing.{Knows, stopped_with}
-use Rattle.actor_run.specs.Asking.{ask_of, ask_send, ask_forward, ask_attach, ask_detach, peer_of, signal_of, is_sending, is_forward, asked_by, hands_over, handed}
+use Rattle.actor_run.specs.Asking.{ask_of, ask_send, ask_forward, ask_attach, ask_detach, peer_of}
+use Rattle.actor_run.specs.Asking.{signal_of, is_sending, is_forward, asked_by, hands_over, handed}
 use Rattle.actor_run.specs.Bindings.{lookup}
 
 -- what holds of the ask of every command, by what was held

@@ -1,9 +1,13 @@
 -- The keeps that come next.
-use Rattle.std.proofs.Common.{◌≡◌, ℕ, zero, suc, ◌+◌, ◌≤◌, false, ◌&&◌, List, [], ◌∷◌, length, drop, Option, Some, None, refl, sym, ◌∙◌, ap, arith}
+use Rattle.std.proofs.Common.{◌≡◌, ℕ, zero, suc, ◌+◌, ◌≤◌, false, ◌&&◌, List, [], ◌∷◌, length, drop}
+use Rattle.std.proofs.Common.{Option, Some, None, refl, sym, ◌∙◌, ap, arith}
 use Rattle.std.specs.Prelude.{slice_get, is_some}
 use Rattle.linx_base.specs.declared.identity.Peer.{Peer}
 use Rattle.script_words.specs.declared.command.Command.{Command}
-use Rattle.script_words.specs.declared.command.Command.TheVariants.{Open, Close, Send, Forward, Recv, Hunt, Attach, Detach, Keep, Cut, Mend, Restart, Settle}
+use Rattle.script_words.specs.declared.command.Command.TheVariants.{Open, Close, Send, Forward}
+use Rattle.script_words.specs.declared.command.Command.TheVariants.{Recv, Hunt, Attach, Detach}
+use Rattle.script_words.specs.declared.command.Command.TheVariants.{Keep, Cut, Mend, Restart}
+use Rattle.script_words.specs.declared.command.Command.TheVariants.{Settle}
 use Rattle.actor_run.specs.Bindings.{remember}
 use Rattle.actor_run.specs.Knowing.{Knows, past_keeps, passed}
 use Rattle.actor_run.specs.Asking.{is_keep}

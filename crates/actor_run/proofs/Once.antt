@@ -1,10 +1,13 @@
 -- Where no name has two rows, a row of a name is the only one.
-use Rattle.std.proofs.Common.{◌≡◌, ℕ, zero, suc, ◌<◌, Bool, true, false, cond, not, ◌&&◌, ◌||◌, List, [], ◌∷◌, ◌++◌, length, Option, Some, None, refl, sym, ◌∙◌, ap, arith}
+use Rattle.std.proofs.Common.{◌≡◌, ℕ, zero, suc, ◌<◌, Bool, true, false, cond, not, ◌&&◌, ◌||◌}
+use Rattle.std.proofs.Common.{List, [], ◌∷◌, ◌++◌, length, Option, Some, None, refl, sym, ◌∙◌, ap}
+use Rattle.std.proofs.Common.{arith}
 use Rattle.std.specs.Prelude.{slice_set, slice_index_or}
 use Rattle.std.specs.Str.{bytes_eq}
 use Rattle.std.proofs.lemmas.Slice.Eq.{bytes_eq-Decides}
 use Rattle.actor_run.specs.declared.bindings.Binding.{Binding}
-use Rattle.actor_run.specs.Bindings.{lookup, remember, has_row, are_named_once, with_row, with_row_for}
+use Rattle.actor_run.specs.Bindings.{lookup, remember, has_row, are_named_once, with_row}
+use Rattle.actor_run.specs.Bindings.{with_row_for}
 use Rattle.actor_run.specs.declared.names.NameKind.{NameKind}
 use Rattle.actor_run.specs.Knowing.{rows_for, name_in}
 use Rattle.script_words.specs.declared.command.Command.{Command}

@@ -1,11 +1,15 @@
 -- The actors of a script can be run.
-use Rattle.std.proofs.Common.{◌≡◌, ℕ, zero, suc, ◌≤◌, Bool, true, false, ◌&&◌, List, [], ◌∷◌, Some, refl, sym, arith}
+use Rattle.std.proofs.Common.{◌≡◌, ℕ, zero, suc, ◌≤◌, Bool, true, false, ◌&&◌, List, [], ◌∷◌, Some}
+use Rattle.std.proofs.Common.{refl, sym, arith}
 use Rattle.std.specs.Prelude.{slice_get, nat_le, length}
 use Rattle.std.specs.List.{list_all}
 use Rattle.std.proofs.lemmas.Bool.Decides.{nat_tests}
 use Rattle.linx_base.specs.declared.identity.NodeNo.{NodeNo}
 use Rattle.script_words.specs.declared.command.Command.{Command}
-use Rattle.script_words.specs.declared.command.Command.TheVariants.{Open, Close, Send, Forward, Recv, Hunt, Attach, Detach, Keep, Cut, Mend, Restart, Settle}
+use Rattle.script_words.specs.declared.command.Command.TheVariants.{Open, Close, Send, Forward}
+use Rattle.script_words.specs.declared.command.Command.TheVariants.{Recv, Hunt, Attach, Detach}
+use Rattle.script_words.specs.declared.command.Command.TheVariants.{Keep, Cut, Mend, Restart}
+use Rattle.script_words.specs.declared.command.Command.TheVariants.{Settle}
 use Rattle.script_words.specs.declared.filling.Filling.{Filling}
 use Rattle.script_words.specs.Filling.{fits_data}
 use Rattle.script_lang.specs.declared.actor_script.ActorScript.{ActorScript}

@@ -1,21 +1,27 @@
 -- The turns of an actor: what holds between two turns holds after the next.
-use Rattle.std.proofs.Common.{◌≡◌, ℕ, ◌+◌, ◌<◌, ◌≤◌, arith, length-drop, Bool, true, false, List, [], ◌∷◌, length, Option, None, refl, sym, ◌∙◌, ap, eq-eqb, inl, inr}
+use Rattle.std.proofs.Common.{◌≡◌, ℕ, ◌+◌, ◌<◌, ◌≤◌, arith, length-drop, Bool, true, false, List}
+use Rattle.std.proofs.Common.{[], ◌∷◌, length, Option, None, refl, sym, ◌∙◌, ap, eq-eqb, inl, inr}
 use Rattle.std.specs.Prelude.{slice_get, drop}
 use Rattle.linx_base.specs.declared.identity.Inc.{Inc}
 use Rattle.journal.specs.declared.by.By.{By}
 use Rattle.journal.specs.declared.by.By.TheVariants.{Actor}
 use Rattle.journal.specs.declared.effect.Step.{Step}
-use Rattle.journal.specs.History.{is_by, is_end, last_opened, last_endpoint, endpoint_of, closed_step}
+use Rattle.journal.specs.History.{is_by, is_end, last_opened, last_endpoint, endpoint_of}
+use Rattle.journal.specs.History.{closed_step}
 use Rattle.script_words.specs.declared.command.Command.{Command}
-use Rattle.node_kernel.specs.Answers.{granted, is_pump_event, is_pumped, is_waits, is_not_yet, is_end_event}
+use Rattle.node_kernel.specs.Answers.{granted, is_pump_event, is_pumped, is_waits, is_not_yet}
+use Rattle.node_kernel.specs.Answers.{is_end_event}
 use Rattle.node_kernel.specs.declared.answers.StepAnswer.{StepAnswer}
 use Rattle.node_kernel.specs.declared.answers.StepAnswer.TheVariants.{NotYet}
 use Rattle.node_kernel.specs.declared.ask.Ask.{Ask}
 use Rattle.actor_run.specs.Knowing.{Knows, told, learned, moved_on, knows_nothing, stopped_with}
 use Rattle.actor_run.specs.Asking.{asked_by, handed, is_sending}
-use Rattle.actor_run.specs.Following.{is_own, knows, endpoint_after, Follows, FollowsWhole, Playing, IsMade, Makes, IsTurned}
+use Rattle.actor_run.specs.Following.{is_own, knows, endpoint_after, Follows, FollowsWhole, Playing}
+use Rattle.actor_run.specs.Following.{IsMade, Makes, IsTurned}
 use Rattle.actor_run.proofs.Keeps.{past}
-use Rattle.actor_run.proofs.Heads.{is_look, granted_end, granted_pump, granted_look, is_end_by_event, waits_look, waits_by_answer, waits_by_filter, pumped_waits, pumped_end}
+use Rattle.actor_run.proofs.Heads.{is_look, granted_end, granted_pump, granted_look}
+use Rattle.actor_run.proofs.Heads.{is_end_by_event, waits_look, waits_by_answer, waits_by_filter}
+use Rattle.actor_run.proofs.Heads.{pumped_waits, pumped_end}
 use Rattle.actor_run.proofs.Commands.{asks_well, some_left, handed_place, handed_back}
 
 by_itself : (by : By) (k : ℕ) → by ≡ Actor k → is_by by k ≡ true

@@ -1,10 +1,12 @@
 -- What an actor knows of its own steps, and what an answer tells it.
-use Rattle.std.specs.Prelude.{ℕ, ◌+◌, Bool, true, false, List, [], ◌∷◌, drop, slice_get, Option, Some, None, if◌then◌else◌}
+use Rattle.std.specs.Prelude.{ℕ, ◌+◌, Bool, true, false, List, [], ◌∷◌, drop, slice_get, Option}
+use Rattle.std.specs.Prelude.{Some, None, if◌then◌else◌}
 use Rattle.linx_base.specs.declared.identity.AttRef.{AttRef}
 use Rattle.linx_base.specs.declared.identity.Peer.{Peer}
 use Rattle.linx_base.specs.declared.signal.SigNote.{SigNote}
 use Rattle.script_words.specs.declared.command.Command.{Command}
-use Rattle.script_words.specs.declared.command.Command.TheVariants.{Send, Forward, Attach, Detach, Keep}
+use Rattle.script_words.specs.declared.command.Command.TheVariants.{Send, Forward, Attach, Detach}
+use Rattle.script_words.specs.declared.command.Command.TheVariants.{Keep}
 use Rattle.script_words.specs.declared.target.Target.{Target}
 use Rattle.script_words.specs.declared.target.Target.TheVariants.{Kept}
 use Rattle.node_kernel.specs.Answers.{is_not_yet}

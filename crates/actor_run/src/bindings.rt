@@ -2,7 +2,8 @@ ghost use Rattle.std.specs.Prelude.{◌≡◌, [], IfOk, OnOk, true};
 ghost use Rattle.std.specs.Option.{option_copied};
 ghost use Rattle.std.specs.Str.{bytes_eq};
 ghost use Rattle.actor_run.specs.Knowing.{rows_for};
-ghost use Rattle.actor_run.specs.Bindings.{lookup, remember, with_row, with_row_for, are_named_once, IsIndexed};
+ghost use Rattle.actor_run.specs.Bindings.{lookup, remember, with_row, with_row_for};
+ghost use Rattle.actor_run.specs.Bindings.{are_named_once, IsIndexed};
 
 use crate::names::{NameKind, name_in};
 use linx_base::{Name, NoMemory, TryCopy};

@@ -13,7 +13,8 @@ use Rattle.linx_base.specs.declared.pending.PendingAttach.{PendingAttach}
 use Rattle.attach_table.specs.Keys.{session_key, keys_of}
 
 -- keys of three parts
-pub same_three : (first second third : Ordering) {b c d : Bool} → is_eq first ≡ b → is_eq second ≡ c → is_eq third ≡ d → is_eq (ordering_then first (ordering_then second third)) ≡ (b && c && d)
+pub same_three : (first second third : Ordering) {b c d : Bool} → is_eq first ≡ b → is_eq second ≡ c
+    → is_eq third ≡ d → is_eq (ordering_then first (ordering_then second third)) ≡ (b && c && d)
 same_three Less second third one two three = λ i. one i && two i && three i
 same_three Equal Less third one two three = λ i. one i && two i && three i
 same_three Equal Equal third one two three = λ i. one i && two i && three i
@@ -21,7 +22,11 @@ same_three Equal Greater third one two three = λ i. one i && two i && three i
 same_three Greater second third one two three = λ i. one i && two i && three i
 
 -- what holds of attaches to both kinds of peers holds of every attach
-pub by_peer : (p q : PendingAttach → Bool) → ((a : PendingAttach) (inc : Inc) → p (record a { peer = Here inc }) ≡ q (record a { peer = Here inc })) → ((a : PendingAttach) (link : LinkNo) (session : Session) (inc : Inc) → p (record a { peer = There link session inc }) ≡ q (record a { peer = There link session inc })) → (a : PendingAttach) → p a ≡ q a
+pub by_peer : (p q : PendingAttach → Bool) → ((a : PendingAttach) (inc : Inc)
+    → p (record a { peer = Here inc }) ≡ q (record a { peer = Here inc }))
+    → ((a : PendingAttach) (link : LinkNo) (session : Session) (inc : Inc)
+    → p (record a { peer = There link session inc })
+    ≡ q (record a { peer = There link session inc })) → (a : PendingAttach) → p a ≡ q a
 by_peer p q here there a =
     elim a.peer as (λ peer. p (record a { peer = peer }) ≡ q (record a { peer = peer })) [
       | Here inc ↦ here a inc
@@ -47,4 +52,5 @@ four_at_most a =
     ]
 
 pub no_further_key : (a : PendingAttach) (at : ℕ) → 3 < at → slice_get (keys_of a) at ≡ None
-no_further_key a at past = let four : length (keys_of a) ≤ 4 = four_at_most a in slice_get_past (keys_of a) at (omega arith)
+no_further_key a at past = let four : length (keys_of a) ≤ 4 = four_at_most a in
+    slice_get_past (keys_of a) at (omega arith)

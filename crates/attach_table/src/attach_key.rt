@@ -31,7 +31,8 @@ pub(crate) enum AttachKey {
 /// The key of the attaches to a peer.
 pub(crate) fn peer_key(peer: Peer) -> AttachKey
     ensures key { result ≡ peer_key peer }
-    ensures finds { (attach : Attach) → is_under ⟦<AttachKey as Ord>⟧.cmp keys_of result attach ≡ is_to peer attach }
+    ensures finds { (attach : Attach) → is_under ⟦<AttachKey as Ord>⟧.cmp keys_of result attach
+        ≡ is_to peer attach }
 {
     match peer {
         Peer::Here(inc) => AttachKey::Here(inc),

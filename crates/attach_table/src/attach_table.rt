@@ -1,4 +1,5 @@
-ghost use Rattle.std.specs.Prelude.{◌≡◌, ◌<◌, [], ◌∷◌, ◌++◌, not, filter, length, slice_get, IfSome, OnOk, OnErr, IfErr};
+ghost use Rattle.std.specs.Prelude.{◌≡◌, ◌<◌, [], ◌∷◌, ◌++◌, not, filter, length, slice_get};
+ghost use Rattle.std.specs.Prelude.{IfSome, OnOk, OnErr, IfErr};
 ghost use Rattle.std.specs.Option.{option_copied, option_map};
 ghost use Rattle.linx_base.specs.Content.{data_limit};
 ghost use Rattle.linx_base.specs.FirstMatch.{first_match, without_match};
@@ -10,7 +11,8 @@ use linx_base::{AttRef, Inc, LinkNo, NoMemory, Peer, PendingAttach, Session, Sig
 use std::alloc::Global;
 use std::marker::Model;
 
-/// The attaches of a node that are owed a notification, which contracts see as their list in order of
+/// The attaches of a node that are owed a notification, which contracts see as their list in order
+/// of
 /// attaching. Each signal has room for the byte of a reason.
 #[derive(Drop)]
 pub struct AttachTable {
@@ -49,7 +51,8 @@ impl AttachTable {
         reference: AttRef,
     ) -> Result<(), (NoMemory, Signal)>
         requires { length signal.bytes < data_limit }
-        ensures ok { OnOk result (self.new ≡ self.old ++ record { at = at; peer = peer; signal = signal; reference = reference } ∷ []) }
+        ensures ok { OnOk result (self.new ≡ self.old
+            ++ record { at = at; peer = peer; signal = signal; reference = reference } ∷ []) }
         ensures err { OnErr result (self.new ≡ self.old) }
         ensures given_back { IfErr result (λ back. back.1 ≡ signal) }
     {
@@ -65,10 +68,12 @@ impl AttachTable {
         }
     }
 
-    /// Takes out an attach of a holder by its reference, and gives its signal. `None` exactly where the
+    /// Takes out an attach of a holder by its reference, and gives its signal. `None` exactly where
+    /// the
     /// holder has none of this reference. It takes no memory.
     pub fn detach(&mut self, at: Inc, reference: AttRef) -> Option<Signal>
-        ensures signal { result ≡ option_map (λ attach. attach.signal) (first_match (is_attach at reference) self.old) }
+        ensures signal { result ≡ option_map (λ attach. attach.signal)
+            (first_match (is_attach at reference) self.old) }
         ensures others { self.new ≡ without_match (is_attach at reference) self.old }
     {
         let attach = self
@@ -77,7 +82,8 @@ impl AttachTable {
         Some(attach.signal)
     }
 
-    /// Takes out the earliest attach to a peer. `None` exactly where there is none. It takes no memory.
+    /// Takes out the earliest attach to a peer. `None` exactly where there is none. It takes no
+    /// memory.
     pub fn next_ended(&mut self, peer: Peer) -> Option<PendingAttach>
         ensures earliest { result ≡ first_match (is_to peer) self.old }
         ensures others { self.new ≡ without_match (is_to peer) self.old }
@@ -85,7 +91,8 @@ impl AttachTable {
         self.attaches.take_first(peer_key(peer))
     }
 
-    /// Takes out the earliest attach to any peer of a session. `None` exactly where there is none. It
+    /// Takes out the earliest attach to any peer of a session. `None` exactly where there is none.
+    /// It
     /// takes no memory.
     pub fn next_lost(&mut self, link: LinkNo, session: Session) -> Option<PendingAttach>
         ensures earliest { result ≡ first_match (is_within link session) self.old }
@@ -105,7 +112,8 @@ impl AttachTable {
 
     /// The k-th attach to any peer of a session, from 0. `None` exactly where there are at most k.
     pub fn nth_lost(&self, link: LinkNo, session: Session, k: usize) -> Option<&PendingAttach>
-        ensures nth { option_copied result ≡ slice_get (filter (is_within link session) self.now) k }
+        ensures nth { option_copied result ≡ slice_get (filter (is_within link session) self.now)
+            k }
         ensures room { IfSome result (λ attach. length attach.now.signal.bytes < data_limit) }
     {
         self.attaches.nth(AttachKey::Within { link, session }, k)

@@ -1,5 +1,6 @@
 -- What holds of each rule's outcome holds of what a packet, or a tick, makes of an end.
-use Rattle.std.proofs.Common.{◌≡◌, if◌then◌else◌, ℕ, ◌+◌, ◌<◌, Bool, true, false, None, Some, List, [], ◌∷◌, refl, sym, ap, subst, ◌∙◌, arith, inl, inr}
+use Rattle.std.proofs.Common.{◌≡◌, if◌then◌else◌, ℕ, ◌+◌, ◌<◌, Bool, true, false, None, Some, List}
+use Rattle.std.proofs.Common.{[], ◌∷◌, refl, sym, ap, subst, ◌∙◌, arith, inl, inr}
 use Rattle.std.proofs.lemmas.Bool.{cases_lt, le-ltb, lt-ltb}
 use Rattle.std.proofs.lemmas.Bool.Decides.{eqb_tells}
 use Rattle.linx_base.specs.declared.identity.Session.{Session}
@@ -23,7 +24,9 @@ use Rattle.ethcm_end.specs.declared.answers.Input.TheVariants.{Nothing}
 use Rattle.ethcm_end.specs.declared.answers.Ticked.{Ticked}
 use Rattle.ethcm_end.specs.declared.answers.Ticked.TheVariants as ticks
 use Rattle.ethcm_end.specs.States.{EndState, Reaction, gives, peer_of}
-use Rattle.ethcm_end.specs.Rules.{ask, data_in, finished, framed_in, heard, input_of, kind_in, put, put_pieces, reacts, sent_or_ack, take_frames, tick_in, tick_of, tick_up, ticked, with_early, with_taken}
+use Rattle.ethcm_end.specs.Rules.{ask, data_in, finished, framed_in, heard, input_of, kind_in, put}
+use Rattle.ethcm_end.specs.Rules.{put_pieces, reacts, sent_or_ack, take_frames, tick_in, tick_of}
+use Rattle.ethcm_end.specs.Rules.{tick_up, ticked, with_early, with_taken}
 use Rattle.ethcm_end.specs.Rows.{IsBetween, Rows, TickRows, after_header, up}
 use Rattle.ethcm_end.proofs.Cases.{is_between, kind_is, peered, unpeered}
 

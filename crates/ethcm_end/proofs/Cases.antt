@@ -16,7 +16,8 @@ use Rattle.ethcm_session.proofs.Rows.{by_rows as by_table}
 use Rattle.ethcm_end.specs.declared.answers.Input.{Input}
 use Rattle.ethcm_end.specs.declared.answers.Input.TheVariants.{Nothing, WentUp, WentDown}
 use Rattle.ethcm_end.specs.States.{EndState, Reaction, gives, peer_of}
-use Rattle.ethcm_end.specs.Rules.{anew, data_in, early, framed_in, gone_down, heard, input_of, kind_in, old, reacts, replied, took}
+use Rattle.ethcm_end.specs.Rules.{anew, data_in, early, framed_in, gone_down, heard, input_of}
+use Rattle.ethcm_end.specs.Rules.{kind_in, old, reacts, replied, took}
 use Rattle.ethcm_end.specs.Rows.{IsBetween, up}
 
 -- ---- where an end stands, and what a packet is
@@ -85,7 +86,8 @@ module _ (P : Reaction Input → Type 0) (s : EndState) (p : Packet) where
       by_table (λ outcome. P (reacts s p.src p.part outcome)) s.talk p.src p.dst (kind_in p.part)
       (record {
         connecting_connect = λ e k. rows.asked (unpeered s e) (kind_is p kinds.Connect k);
-        connecting_connect_ack = λ e k d. rows.goes_up (unpeered s e) (kind_is p kinds.ConnectAck k) d;
+        connecting_connect_ack = λ e k d. rows.goes_up (unpeered s e) (kind_is p kinds.ConnectAck k)
+            d;
         connecting_ack = λ e k d. rows.goes_up_confirmed (unpeered s e) (kind_is p kinds.Ack k) d;
         connecting_other = λ e a b c. rows.ignored;
         up_lower = λ y c e l. rows.ignored;
@@ -94,7 +96,8 @@ module _ (P : Reaction Input → Type 0) (s : EndState) (p : Packet) where
         up_not_mine = λ c e k d. rows.ignored;
         up_reset = λ c e d k. rows.goes_down p.src (peered s p.src c e);
         up_connect_ack = λ c e d k. rows.answers (peered s p.src c e);
-        up_ack = λ c e d k. confirmed_row rows (is_between s p c e d) p.part refl (kind_is p kinds.Ack k);
+        up_ack = λ c e d k. confirmed_row rows (is_between s p c e d) p.part refl
+            (kind_is p kinds.Ack k);
         up_data = λ c e d k. rows.data_part (is_between s p c e d) k;
       })
 

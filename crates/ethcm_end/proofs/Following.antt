@@ -1,5 +1,6 @@
 -- What a packet, and what a tick, makes of an end is what its rule says.
-use Rattle.std.proofs.Common.{◌≡◌, ◌≢◌, ℕ, ◌+◌, ◌<◌, eqb, Bool, true, false, None, Some, List, [], ◌∷◌, refl, ap, ◌∙◌, arith}
+use Rattle.std.proofs.Common.{◌≡◌, ◌≢◌, ℕ, ◌+◌, ◌<◌, eqb, Bool, true, false, None, Some, List, []}
+use Rattle.std.proofs.Common.{◌∷◌, refl, ap, ◌∙◌, arith}
 use Rattle.std.proofs.lemmas.Bool.{eq-eqb, le-ltb, lt-ltb, ne_eqb}
 use Rattle.linx_base.specs.declared.identity.Session.{Session}
 use Rattle.linx_base.specs.declared.frame.ConnKind.TheVariants as kinds
@@ -18,7 +19,9 @@ use Rattle.link_supervisor.specs.Loss.{lost_at}
 use Rattle.ethcm_end.specs.declared.answers.Input.TheVariants.{Nothing, WentDown}
 use Rattle.ethcm_end.specs.declared.answers.Ticked.TheVariants as ticks
 use Rattle.ethcm_end.specs.States.{EndState, gives, peer_of}
-use Rattle.ethcm_end.specs.Rules.{ask, data_in, finished, framed_in, gone_down, input_of, kind_in, put_ack, put_pieces, reacts, sent_or_ack, take_frames, tick_of, tick_up, ticked, with_early, with_taken}
+use Rattle.ethcm_end.specs.Rules.{ask, data_in, finished, framed_in, gone_down, input_of, kind_in}
+use Rattle.ethcm_end.specs.Rules.{put_ack, put_pieces, reacts, sent_or_ack, take_frames, tick_of}
+use Rattle.ethcm_end.specs.Rules.{tick_up, ticked, with_early, with_taken}
 use Rattle.ethcm_end.specs.Rows.{InputFollowsRules, IsBetween, TickFollowsRules, after_header}
 
 -- ---- where an end stands

@@ -1,13 +1,16 @@
 -- Where the frames of a session stand in one list, those in a window, those that are kept and those
 -- that are taken are the frames of their numbers in it.
-use Rattle.std.proofs.Common.{◌≡◌, ◌+◌, ◌-◌, ◌≤◌, ℕ, zero, suc, Bool, true, false, ltb, Option, Some, List, [], ◌∷◌, ◌++◌, All, length, drop, refl, sym, ap, ◌∙◌, arith, if◌then◌else◌}
+use Rattle.std.proofs.Common.{◌≡◌, ◌+◌, ◌-◌, ◌≤◌, ℕ, zero, suc, Bool, true, false, ltb, Option}
+use Rattle.std.proofs.Common.{Some, List, [], ◌∷◌, ◌++◌, All, length, drop, refl, sym, ap, ◌∙◌}
+use Rattle.std.proofs.Common.{arith, if◌then◌else◌}
 use Rattle.std.specs.Prelude.{slice_get}
 use Rattle.std.proofs.lemmas.List.{drop-append-le, drop-drop, length-append, length-drop}
 use Rattle.std.proofs.lemmas.List.Elements.{All-append, All-cons, All-filter}
 use Rattle.linx_base.specs.declared.frame.Frame.{Frame}
 use Rattle.linx_base.specs.declared.frame.SentFrame.{SentFrame}
 use Rattle.ethcm_window.specs.Sending.{Sender, after_ack, with_offered}
-use Rattle.ethcm_window.specs.Receiving.{Receiver, after_taking, early_limit, keeps_number, kept_above, kept_below, kept_early}
+use Rattle.ethcm_window.specs.Receiving.{Receiver, after_taking, early_limit, keeps_number}
+use Rattle.ethcm_window.specs.Receiving.{kept_above, kept_below, kept_early}
 use Rattle.fragmenter.specs.Joining.{Begun}
 use Rattle.ethcm_end.specs.Rules.{take_behind}
 use Rattle.ethcm_end.specs.Taking.{AreFrames}

@@ -1,5 +1,7 @@
 -- A session never falls, and rises exactly where the end goes down.
-use Rattle.std.proofs.Common.{◌≡◌, ◌+◌, ◌-◌, ◌<◌, ◌≤◌, ◌&&◌, leb, ℕ, Bool, true, false, Option, Some, None, List, [], ◌∷◌, drop, refl, sym, ap, ◌∙◌, arith, inl, inr, if◌then◌else◌}
+use Rattle.std.proofs.Common.{◌≡◌, ◌+◌, ◌-◌, ◌<◌, ◌≤◌, ◌&&◌, leb, ℕ, Bool, true, false, Option}
+use Rattle.std.proofs.Common.{Some, None, List, [], ◌∷◌, drop, refl, sym, ap, ◌∙◌, arith, inl, inr}
+use Rattle.std.proofs.Common.{if◌then◌else◌}
 use Rattle.std.proofs.lemmas.Bool.{leb-true}
 use Rattle.std.proofs.lemmas.Bool.Decides.{eqb_tells}
 use Rattle.linx_base.specs.declared.identity.Session.{Session}
@@ -22,10 +24,12 @@ use Rattle.ethcm_end.specs.declared.answers.Input.TheVariants.{Nothing, WentUp, 
 use Rattle.ethcm_end.specs.declared.answers.Ticked.{Ticked}
 use Rattle.ethcm_end.specs.declared.answers.Ticked.TheVariants as ticks
 use Rattle.ethcm_end.specs.States.{EndState, peer_of}
-use Rattle.ethcm_end.specs.Rules.{Taken, input_of, offer_in, offer_of, restart_of, take_frames, take_kept, tick_of}
+use Rattle.ethcm_end.specs.Rules.{Taken, input_of, offer_in, offer_of, restart_of, take_frames}
+use Rattle.ethcm_end.specs.Rules.{take_kept, tick_of}
 use Rattle.ethcm_end.specs.Rows.{IsBetween}
 use Rattle.ethcm_end.proofs.ByRule.{by_rules, by_tick_rules}
-use Rattle.ethcm_end.specs.Sessions.{GoesBy, GoesByTick, GoesDown, GoesOn, GoesUp, IsAnew, KeepsSizes, Rises, SessionsRise}
+use Rattle.ethcm_end.specs.Sessions.{GoesBy, GoesByTick, GoesDown, GoesOn, GoesUp, IsAnew}
+use Rattle.ethcm_end.specs.Sessions.{KeepsSizes, Rises, SessionsRise}
 
 same_number : (n : ℕ) → n ≤ n
 same_number n = omega arith

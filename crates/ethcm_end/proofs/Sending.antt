@@ -1,9 +1,12 @@
 -- Each packet that an event sends names the end's session and its partner's, and a piece is the
 -- frame of its number.
-use Rattle.std.proofs.Common.{◌≡◌, ◌-◌, ◌≤◌, ℕ, zero, suc, leb, Option, Some, None, List, [], ◌∷◌, ◌++◌, All, take, drop, map, refl, sym, ap, subst, ◌∙◌, arith, inl, inr, append_assoc}
+use Rattle.std.proofs.Common.{◌≡◌, ◌-◌, ◌≤◌, ℕ, zero, suc, leb, Option, Some, None, List, [], ◌∷◌}
+use Rattle.std.proofs.Common.{◌++◌, All, take, drop, map, refl, sym, ap, subst, ◌∙◌, arith, inl}
+use Rattle.std.proofs.Common.{inr, append_assoc}
 use Rattle.std.specs.Prelude.{slice_get}
 use Rattle.std.proofs.lemmas.List.{append-nil, take-append-drop}
-use Rattle.std.proofs.lemmas.List.Elements.{All-nil, All-cons, All-append, All-filter, All-map, All-take, All-weaker}
+use Rattle.std.proofs.lemmas.List.Elements.{All-nil, All-cons, All-append, All-filter, All-map}
+use Rattle.std.proofs.lemmas.List.Elements.{All-take, All-weaker}
 use Rattle.linx_base.specs.declared.identity.Session.{Session}
 use Rattle.linx_base.specs.declared.frame.ConnKind.TheVariants as kinds
 use Rattle.linx_base.specs.declared.frame.Frame.{Frame}
@@ -15,7 +18,8 @@ use Rattle.ethcm_headers.specs.declared.packets.Part.TheVariants.{Conn, Ack, Nac
 use Rattle.ethcm_session.specs.declared.standing.Standing.{Standing}
 use Rattle.ethcm_session.specs.declared.standing.Standing.TheVariants.{Connecting, Up}
 use Rattle.ethcm_session.specs.Table.{peer_in}
-use Rattle.ethcm_window.specs.Sending.{Sender, after_ack, coming_in, from_number, numbered_from, sent_again, sent_end, sent_frame, unacknowledged}
+use Rattle.ethcm_window.specs.Sending.{Sender, after_ack, coming_in, from_number, numbered_from}
+use Rattle.ethcm_window.specs.Sending.{sent_again, sent_end, sent_frame, unacknowledged}
 use Rattle.ethcm_end.specs.States.{EndState, peer_of}
 use Rattle.ethcm_end.specs.Rules.{input_of, offer_in, offer_of, packet_of, piece_packet, tick_of}
 use Rattle.ethcm_end.proofs.ByRule.{by_rules, by_tick_rules}

@@ -1,10 +1,13 @@
 -- Each event leaves an end sound, and what it sends are packets.
-use Rattle.std.proofs.Common.{◌≡◌, ◌≢◌, if◌then◌else◌, ℕ, suc, ◌+◌, ◌-◌, ◌^◌, ◌<◌, ◌≤◌, Bool, true, false, ltb, leb, ◌&&◌, Option, List, [], ◌∷◌, ◌++◌, length, take, drop, map, All, refl, ap, sym, subst, arith, inl, inr}
+use Rattle.std.proofs.Common.{◌≡◌, ◌≢◌, if◌then◌else◌, ℕ, suc, ◌+◌, ◌-◌, ◌^◌, ◌<◌, ◌≤◌, Bool, true}
+use Rattle.std.proofs.Common.{false, ltb, leb, ◌&&◌, Option, List, [], ◌∷◌, ◌++◌, length, take}
+use Rattle.std.proofs.Common.{drop, map, All, refl, ap, sym, subst, arith, inl, inr}
 use Rattle.std.specs.Option.{ForSome}
 use Rattle.std.proofs.lemmas.Bool.{cases_lt, le-ltb, leb-true, lt-ltb, ltb-true}
 use Rattle.std.proofs.lemmas.Bool.Decides.{eqb_tells}
 use Rattle.std.proofs.lemmas.List.{length-append, length-take, length-drop}
-use Rattle.std.proofs.lemmas.List.Elements.{All-nil, All-cons, All-head, All-tail, All-append, All-take, All-drop, All-filter, All-map}
+use Rattle.std.proofs.lemmas.List.Elements.{All-nil, All-cons, All-head, All-tail, All-append}
+use Rattle.std.proofs.lemmas.List.Elements.{All-take, All-drop, All-filter, All-map}
 use Rattle.linx_base.specs.declared.identity.Session.{Session}
 use Rattle.linx_base.specs.declared.frame.ConnKind.{ConnKind}
 use Rattle.linx_base.specs.declared.frame.ConnKind.TheVariants as kinds
@@ -21,9 +24,13 @@ use Rattle.ethcm_session.specs.declared.standing.Standing.TheVariants.{Connectin
 use Rattle.ethcm_session.specs.declared.standing.TalkState.{TalkState}
 use Rattle.ethcm_session.specs.Table.{HasNext, after_down, peer_in, up_with}
 use Rattle.ethcm_session.proofs.Rows.{by_rows, next_numbered}
-use Rattle.ethcm_window.specs.Sending.{Sender, after_ack, coming_in, from_number, left_of, number_limit, numbered_from, sent_again, sent_end, unacknowledged, with_offered}
-use Rattle.ethcm_window.specs.Receiving.{KeepsInOrder, Receiver, early_limit, kept_above, kept_early, kept_with, missing_count}
-use Rattle.ethcm_window.proofs.Keeping.{counts_missing, front_kept, rises_early, rises_from_expected, rises_taken}
+use Rattle.ethcm_window.specs.Sending.{Sender, after_ack, coming_in, from_number, left_of}
+use Rattle.ethcm_window.specs.Sending.{number_limit, numbered_from, sent_again, sent_end}
+use Rattle.ethcm_window.specs.Sending.{unacknowledged, with_offered}
+use Rattle.ethcm_window.specs.Receiving.{KeepsInOrder, Receiver, early_limit, kept_above}
+use Rattle.ethcm_window.specs.Receiving.{kept_early, kept_with, missing_count}
+use Rattle.ethcm_window.proofs.Keeping.{counts_missing, front_kept, rises_early}
+use Rattle.ethcm_window.proofs.Keeping.{rises_from_expected, rises_taken}
 use Rattle.fragmenter.specs.declared.joiner.Joined.{Joined}
 use Rattle.fragmenter.specs.declared.joiner.Joined.TheVariants.{More, Whole, Broken}
 use Rattle.fragmenter.specs.Joining.{Begun, answer_of, held_after}
@@ -31,8 +38,13 @@ use Rattle.fragmenter.specs.Pieces.{cut, followers, framed, pieces_of}
 use Rattle.fragmenter.proofs.Cuts.{few_pieces, pieces_fit}
 use Rattle.link_supervisor.specs.Loss.{lost_at}
 use Rattle.ethcm_end.specs.States.{EndState, Reaction, gives}
-use Rattle.ethcm_end.specs.Sound.{FitsMessage, IsKnown, IsSound, IsSoundReceiver, IsSoundSender, IsSoundTalk}
-use Rattle.ethcm_end.specs.Rules.{acked, after_out, anew, data_in, finished, first_of, framed_in, gone_down, heard, input_of, kind_in, nacked, offer_in, offer_of, offered, packet_of, piece_packet, put, put_ack, put_pieces, reacts, sent_or_ack, take_frames, take_kept, tick_in, tick_of, tick_up, with_early, with_taken, ask}
+use Rattle.ethcm_end.specs.Sound.{FitsMessage, IsKnown, IsSound, IsSoundReceiver, IsSoundSender}
+use Rattle.ethcm_end.specs.Sound.{IsSoundTalk}
+use Rattle.ethcm_end.specs.Rules.{acked, after_out, anew, data_in, finished, first_of, framed_in}
+use Rattle.ethcm_end.specs.Rules.{gone_down, heard, input_of, kind_in, nacked, offer_in, offer_of}
+use Rattle.ethcm_end.specs.Rules.{offered, packet_of, piece_packet, put, put_ack, put_pieces}
+use Rattle.ethcm_end.specs.Rules.{reacts, sent_or_ack, take_frames, take_kept, tick_in, tick_of}
+use Rattle.ethcm_end.specs.Rules.{tick_up, with_early, with_taken, ask}
 
 -- ---- what goes out
 

@@ -1,8 +1,11 @@
 -- Each frame that is taken is the one of the expected number.
-use Rattle.std.proofs.Common.{◌≡◌, ◌≢◌, ◌⊎◌, ◌+◌, ◌<◌, ℕ, zero, suc, Option, Some, List, [], ◌∷◌, ◌++◌, All, length, drop, ltb, refl, sym, ap, subst, ◌∙◌, arith, inl, inr}
+use Rattle.std.proofs.Common.{◌≡◌, ◌≢◌, ◌⊎◌, ◌+◌, ◌<◌, ℕ, zero, suc, Option, Some, List, [], ◌∷◌}
+use Rattle.std.proofs.Common.{◌++◌, All, length, drop, ltb, refl, sym, ap, subst, ◌∙◌, arith, inl}
+use Rattle.std.proofs.Common.{inr}
 use Rattle.std.specs.Prelude.{slice_get}
 use Rattle.std.proofs.lemmas.Bool.Decides.{eqb_tells}
-use Rattle.std.proofs.lemmas.List.Elements.{All-nil, All-cons, All-head, All-tail, All-filter, All-same}
+use Rattle.std.proofs.lemmas.List.Elements.{All-nil, All-cons, All-head, All-tail, All-filter}
+use Rattle.std.proofs.lemmas.List.Elements.{All-same}
 use Rattle.linx_base.specs.declared.frame.Frame.{Frame}
 use Rattle.linx_base.specs.declared.frame.SentFrame.{SentFrame}
 use Rattle.linx_base.specs.declared.frame.Message.{Message}
@@ -16,11 +19,13 @@ use Rattle.fragmenter.specs.declared.joiner.Joined.{Joined}
 use Rattle.fragmenter.specs.declared.joiner.Joined.TheVariants.{More, Whole, Broken}
 use Rattle.fragmenter.specs.Joining.{Begun, answer_of, answers_to, held_after, held_after_all}
 use Rattle.ethcm_end.specs.States.{EndState}
-use Rattle.ethcm_end.specs.Rules.{Taken, input_of, offer_in, offer_of, take_behind, take_frames, take_kept, tick_of}
+use Rattle.ethcm_end.specs.Rules.{Taken, input_of, offer_in, offer_of, take_behind, take_frames}
+use Rattle.ethcm_end.specs.Rules.{take_kept, tick_of}
 use Rattle.ethcm_end.specs.Rows.{IsBetween}
 use Rattle.ethcm_end.proofs.ByRule.{by_rules, by_tick_rules}
 use Rattle.ethcm_end.specs.Sessions.{IsAnew}
-use Rattle.ethcm_end.specs.Taking.{AreFrames, FramesInTurn, Receives, ReceivesNothing, TakesInTurn, made_at_the_last}
+use Rattle.ethcm_end.specs.Taking.{AreFrames, FramesInTurn, Receives, ReceivesNothing, TakesInTurn}
+use Rattle.ethcm_end.specs.Taking.{made_at_the_last}
 use Rattle.ethcm_end.proofs.Rising.{begins}
 
 -- ---- kept frames

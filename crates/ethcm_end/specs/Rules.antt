@@ -1,6 +1,7 @@
 -- What a packet, a tick, an offered message and a restart make of an end: one small function for
 -- each rule, and their composition. What is sent goes behind the packets that are still to go out.
-use Rattle.std.specs.Prelude.{ℕ, ◌+◌, ◌==◌, nat_lt, if◌then◌else◌, Bool, true, false, Option, None, Some, List, [], ◌∷◌, ◌++◌, map, drop, option_map}
+use Rattle.std.specs.Prelude.{ℕ, ◌+◌, ◌==◌, nat_lt, if◌then◌else◌, Bool, true, false, Option, None}
+use Rattle.std.specs.Prelude.{Some, List, [], ◌∷◌, ◌++◌, map, drop, option_map}
 use Rattle.linx_base.specs.declared.identity.Session.{Session}
 use Rattle.linx_base.specs.declared.frame.ConnKind.{ConnKind}
 use Rattle.linx_base.specs.declared.frame.ConnKind.TheVariants as kinds
@@ -16,8 +17,10 @@ use Rattle.ethcm_session.specs.declared.standing.Standing.TheVariants.{Connectin
 use Rattle.ethcm_session.specs.declared.standing.Change.{Change}
 use Rattle.ethcm_session.specs.declared.standing.Change.TheVariants as changes
 use Rattle.ethcm_session.specs.Table.{Outcome, after_down, outcome_of}
-use Rattle.ethcm_window.specs.Sending.{Sender, after_ack, coming_in, empty_sender, sent_again, sent_frame, unacknowledged, with_offered}
-use Rattle.ethcm_window.specs.Receiving.{Receiver, after_taking, empty_receiver, kept_early, missing_count}
+use Rattle.ethcm_window.specs.Sending.{Sender, after_ack, coming_in, empty_sender, sent_again}
+use Rattle.ethcm_window.specs.Sending.{sent_frame, unacknowledged, with_offered}
+use Rattle.ethcm_window.specs.Receiving.{Receiver, after_taking, empty_receiver, kept_early}
+use Rattle.ethcm_window.specs.Receiving.{missing_count}
 use Rattle.fragmenter.specs.declared.joiner.Joined.{Joined}
 use Rattle.fragmenter.specs.declared.joiner.Joined.TheVariants.{More, Whole, Broken}
 use Rattle.fragmenter.specs.Joining.{Begun, answer_of, held_after}

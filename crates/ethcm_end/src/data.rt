@@ -6,7 +6,8 @@ ghost use Rattle.ethcm_session.specs.Table.{HasNext};
 ghost use Rattle.ethcm_window.specs.Sending.{number_limit, sent_frame};
 ghost use Rattle.ethcm_window.specs.Receiving.{missing_count};
 ghost use Rattle.ethcm_end.specs.States.{peer_of, gives};
-ghost use Rattle.ethcm_end.specs.Rules.{acked, nacked, ask, data_in, finished, framed_in, take_behind};
+ghost use Rattle.ethcm_end.specs.Rules.{acked, nacked, ask, data_in, finished, framed_in};
+ghost use Rattle.ethcm_end.specs.Rules.{take_behind};
 
 use crate::answers::Input;
 use crate::parts::Parts;

@@ -9,7 +9,8 @@ ghost use Rattle.ethcm_session.specs.Table.{HasNext};
 ghost use Rattle.ethcm_window.specs.Sending.{left_of};
 ghost use Rattle.ethcm_end.specs.States.{gives, has_work_in, new_end, peer_of};
 ghost use Rattle.ethcm_end.specs.Sound.{FitsMessage, IsPiece, IsSound};
-ghost use Rattle.ethcm_end.specs.Rules.{after_out, first_of, input_of, next_bytes, offer_of, restart_of, tick_of};
+ghost use Rattle.ethcm_end.specs.Rules.{after_out, first_of, input_of, next_bytes, offer_of};
+ghost use Rattle.ethcm_end.specs.Rules.{restart_of, tick_of};
 
 use crate::answers::{Input, Ticked};
 use crate::events::{take_offer, take_packet, take_tick};

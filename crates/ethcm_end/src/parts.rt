@@ -3,7 +3,8 @@ ghost use Rattle.linx_base.specs.Both.{still};
 ghost use Rattle.ethcm_headers.specs.Packets.{IsPacket};
 ghost use Rattle.ethcm_session.specs.Table.{HasNext};
 ghost use Rattle.ethcm_end.specs.States.{new_end, peer_of};
-ghost use Rattle.ethcm_end.specs.Rules.{after_out, anew, gone_down, heard, next_bytes, packet_of, put, put_ack, put_pieces, replied, restart_of};
+ghost use Rattle.ethcm_end.specs.Rules.{after_out, anew, gone_down, heard, next_bytes, packet_of};
+ghost use Rattle.ethcm_end.specs.Rules.{put, put_ack, put_pieces, replied, restart_of};
 
 use crate::outgoing::Outgoing;
 use ethcm_headers::{Packet, Part, write};

@@ -1,5 +1,6 @@
 -- What holds of every row of the table of sessions.
-use Rattle.std.proofs.Common.{◌≡◌, ◌≢◌, ℕ, ◌<◌, ◌≤◌, ◌↔◌, Bool, true, false, Option, None, Some, eqb, ltb, refl, sym, ap, subst, ◌⊎◌, inl, inr, arith}
+use Rattle.std.proofs.Common.{◌≡◌, ◌≢◌, ℕ, ◌<◌, ◌≤◌, ◌↔◌, Bool, true, false, Option, None, Some}
+use Rattle.std.proofs.Common.{eqb, ltb, refl, sym, ap, subst, ◌⊎◌, inl, inr, arith}
 use Rattle.std.proofs.lemmas.Bool.{ltb-true, ltb-false}
 use Rattle.std.proofs.lemmas.Bool.Decides.{eqb_tells}
 use Rattle.linx_base.specs.declared.identity.Session.{Session}
@@ -11,7 +12,8 @@ use Rattle.ethcm_session.specs.declared.standing.Standing.TheVariants.{Connectin
 use Rattle.ethcm_session.specs.declared.standing.TalkState.{TalkState}
 use Rattle.ethcm_session.specs.declared.standing.Change.{Change}
 use Rattle.ethcm_session.specs.declared.standing.Change.TheVariants.{WentDown}
-use Rattle.ethcm_session.specs.Table.{Outcome, Rows, HasNext, gives, while_connecting, from_peer, while_up, outcome_in, outcome_of}
+use Rattle.ethcm_session.specs.Table.{Outcome, Rows, HasNext, gives, while_connecting, from_peer}
+use Rattle.ethcm_session.specs.Table.{while_up, outcome_in, outcome_of}
 
 -- ---- what holds of each row holds of what a packet gives
 

@@ -1,5 +1,6 @@
 -- The table of sessions: what a packet means to an end.
-use Rattle.std.specs.Prelude.{◌≡◌, ◌≢◌, ℕ, ◌<◌, ◌==◌, nat_lt, if◌then◌else◌, Bool, true, false, Option, None, Some}
+use Rattle.std.specs.Prelude.{◌≡◌, ◌≢◌, ℕ, ◌<◌, ◌==◌, nat_lt, if◌then◌else◌, Bool, true, false}
+use Rattle.std.specs.Prelude.{Option, None, Some}
 use Rattle.linx_base.specs.declared.identity.Session.{Session}
 use Rattle.linx_base.specs.Numbers.{count_of, first_session, next_session}
 use Rattle.linx_base.specs.declared.frame.ConnKind.{ConnKind}
@@ -8,7 +9,8 @@ use Rattle.ethcm_session.specs.declared.standing.Standing.{Standing}
 use Rattle.ethcm_session.specs.declared.standing.Standing.TheVariants.{Connecting, Up}
 use Rattle.ethcm_session.specs.declared.standing.TalkState.{TalkState}
 use Rattle.ethcm_session.specs.declared.standing.Change.{Change}
-use Rattle.ethcm_session.specs.declared.standing.Change.TheVariants.{Ignored, Heard, HeardReply, Reply, WentUp, WentDown}
+use Rattle.ethcm_session.specs.declared.standing.Change.TheVariants.{Ignored, Heard, HeardReply}
+use Rattle.ethcm_session.specs.declared.standing.Change.TheVariants.{Reply, WentUp, WentDown}
 
 -- the session isn't the last one of its boot
 abbrev pub HasNext : Session → Type 0

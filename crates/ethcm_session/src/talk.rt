@@ -1,7 +1,9 @@
 ghost use Rattle.std.specs.Prelude.{◌≡◌, ◌<◌, ◌≤◌, ◌↔◌, IsSome};
 ghost use Rattle.linx_base.specs.Both.{still};
 ghost use Rattle.linx_base.specs.Numbers.{boot_of, next_session, IsNumbered};
-ghost use Rattle.ethcm_session.specs.Table.{asking_in, after_down, boot_state, from_peer, gives, is_confirmed_in, outcome_of, peer_in, up_with, while_connecting, FollowsTable, HasNext};
+ghost use Rattle.ethcm_session.specs.Table.{asking_in, after_down, boot_state, from_peer, gives};
+ghost use Rattle.ethcm_session.specs.Table.{is_confirmed_in, outcome_of, peer_in, up_with};
+ghost use Rattle.ethcm_session.specs.Table.{while_connecting, FollowsTable, HasNext};
 
 use crate::standing::{Change, Standing, TalkState};
 use linx_base::{ConnKind, Session};

@@ -1,13 +1,18 @@
 -- Frames that are kept in order of their numbers.
-use Rattle.std.proofs.Common.{◌≡◌, ◌≢◌, ℕ, zero, suc, ◌+◌, ◌<◌, ◌≤◌, min, Bool, true, false, List, [], ◌∷◌, ◌++◌, length, take, drop, get_or, refl, ap, sym, ◌∙◌, arith, ◌⊎◌, inl, inr, eqb, ltb, filter, find}
+use Rattle.std.proofs.Common.{◌≡◌, ◌≢◌, ℕ, zero, suc, ◌+◌, ◌<◌, ◌≤◌, min, Bool, true, false, List}
+use Rattle.std.proofs.Common.{[], ◌∷◌, ◌++◌, length, take, drop, get_or, refl, ap, sym, ◌∙◌, arith}
+use Rattle.std.proofs.Common.{◌⊎◌, inl, inr, eqb, ltb, filter, find}
 use Rattle.std.specs.Prelude.{◌-◌, None, insert, if◌then◌else◌}
 use Rattle.std.proofs.lemmas.Bool.{ltb-true, ltb-false, eq-eqb, lt-ltb}
-use Rattle.std.proofs.lemmas.List.{get_or_default, get_or-drop, drop_more, drop_all, drop-drop, length-drop}
+use Rattle.std.proofs.lemmas.List.{get_or_default, get_or-drop, drop_more, drop_all, drop-drop}
+use Rattle.std.proofs.lemmas.List.{length-drop}
 use Rattle.std.proofs.Math.Dec.{lit≤}
 use Rattle.std.proofs.lemmas.Bool.Decides.{nat_tests, eqb_tells}
 use Rattle.linx_base.specs.declared.frame.SentFrame.{SentFrame}
 use Rattle.ethcm_window.specs.Sending.{number_limit}
-use Rattle.ethcm_window.specs.Receiving.{RisesWithin, Rises, KeepsInOrder, early_limit, has_number, keeps_number, kept_at, kept_below, kept_above, kept_with, missing_count, distance_to, CountsMissing}
+use Rattle.ethcm_window.specs.Receiving.{RisesWithin, Rises, KeepsInOrder, early_limit, has_number}
+use Rattle.ethcm_window.specs.Receiving.{keeps_number, kept_at, kept_below, kept_above, kept_with}
+use Rattle.ethcm_window.specs.Receiving.{missing_count, distance_to, CountsMissing}
 use Rattle.ethcm_window.specs.WaysBack.{IsPlaceOf}
 
 -- ---- numbers

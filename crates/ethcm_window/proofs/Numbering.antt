@@ -1,11 +1,15 @@
 -- Which frames come into a window, and with which numbers.
-use Rattle.std.proofs.Common.{◌≡◌, ℕ, zero, suc, ◌+◌, ◌-◌, ◌<◌, ◌≤◌, min, List, [], ◌∷◌, ◌++◌, length, take, drop, get_or, refl, ap, sym, ◌∙◌, arith, ◌⊎◌, inl, inr, add-zero, leb, true, false, Result, Ok, Err, IfOk}
-use Rattle.std.proofs.lemmas.List.{take_more, take_all, take-take, take_min, drop_at, drop_all, drop-drop, length-take, length-drop, get_or-drop}
+use Rattle.std.proofs.Common.{◌≡◌, ℕ, zero, suc, ◌+◌, ◌-◌, ◌<◌, ◌≤◌, min, List, [], ◌∷◌, ◌++◌}
+use Rattle.std.proofs.Common.{length, take, drop, get_or, refl, ap, sym, ◌∙◌, arith, ◌⊎◌, inl, inr}
+use Rattle.std.proofs.Common.{add-zero, leb, true, false, Result, Ok, Err, IfOk}
+use Rattle.std.proofs.lemmas.List.{take_more, take_all, take-take, take_min, drop_at, drop_all}
+use Rattle.std.proofs.lemmas.List.{drop-drop, length-take, length-drop, get_or-drop}
 use Rattle.std.proofs.lemmas.Bool.Decides.{nat_tests}
 use Rattle.linx_base.specs.declared.memory.NoMemory.{NoMemory}
 use Rattle.linx_base.specs.declared.frame.Frame.{Frame}
 use Rattle.linx_base.specs.declared.frame.SentFrame.{SentFrame}
-use Rattle.ethcm_window.specs.Sending.{Sender, sent_frame, numbered_from, from_number, sent_of, coming_in, sent_again}
+use Rattle.ethcm_window.specs.Sending.{Sender, sent_frame, numbered_from, from_number, sent_of}
+use Rattle.ethcm_window.specs.Sending.{coming_in, sent_again}
 
 le_cases : (a b : ℕ) → (a ≤ b) ⊎ (b ≤ a)
 le_cases a b = grind arith

@@ -1,5 +1,6 @@
 -- How one queue holds what was when an event began and what is now.
-use Rattle.std.specs.Prelude.{◌≡◌, ℕ, ◌+◌, ◌-◌, ◌≤◌, nat_lt, true, false, List, [], ◌∷◌, length, drop, remove}
+use Rattle.std.specs.Prelude.{◌≡◌, ℕ, ◌+◌, ◌-◌, ◌≤◌, nat_lt, true, false, List, [], ◌∷◌, length}
+use Rattle.std.specs.Prelude.{drop, remove}
 use Rattle.std.specs.List.Sorted.{IsPartitionPoint}
 use Rattle.linx_base.specs.declared.frame.Frame.{Frame}
 use Rattle.linx_base.specs.declared.frame.SentFrame.{SentFrame}

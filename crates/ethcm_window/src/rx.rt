@@ -1,8 +1,12 @@
-ghost use Rattle.std.specs.Prelude.{◌≡◌, ◌+◌, ◌<◌, ◌≤◌, [], true, false, length, drop, remove, nat_lt, IfOk, IfErr, IfNone, IsSome, OnOk, OnErr, OnSome};
+ghost use Rattle.std.specs.Prelude.{◌≡◌, ◌+◌, ◌<◌, ◌≤◌, [], true, false, length, drop, remove};
+ghost use Rattle.std.specs.Prelude.{nat_lt, IfOk, IfErr, IfNone, IsSome, OnOk, OnErr, OnSome};
 ghost use Rattle.std.specs.Option.{option_copied};
 ghost use Rattle.linx_base.specs.Both.{still};
 ghost use Rattle.ethcm_window.specs.Sending.{number_limit, sent_frame};
-ghost use Rattle.ethcm_window.specs.Receiving.{empty_receiver, RisesWithin, Rises, KeepsInOrder, keeps_number, kept_at, kept_above, kept_with, kept_early, missing_count, after_taking, after_frame, acceptance_of, IsToKeep, CountsIfEarly};
+ghost use Rattle.ethcm_window.specs.Receiving.{empty_receiver, RisesWithin, Rises, KeepsInOrder};
+ghost use Rattle.ethcm_window.specs.Receiving.{keeps_number, kept_at, kept_above, kept_with};
+ghost use Rattle.ethcm_window.specs.Receiving.{kept_early, missing_count, after_taking};
+ghost use Rattle.ethcm_window.specs.Receiving.{after_frame, acceptance_of, IsToKeep, CountsIfEarly};
 ghost use Rattle.ethcm_window.specs.WaysBack.{without_put, IsPlaceOf};
 
 use crate::queue::drop_first;

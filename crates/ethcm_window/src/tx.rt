@@ -1,6 +1,9 @@
-ghost use Rattle.std.specs.Prelude.{◌≡◌, ◌+◌, ◌≤◌, ◌==◌, drop, length, take, IfOk, IfErr, OnOk, OnErr};
+ghost use Rattle.std.specs.Prelude.{◌≡◌, ◌+◌, ◌≤◌, ◌==◌, drop, length, take, IfOk, IfErr, OnOk};
+ghost use Rattle.std.specs.Prelude.{OnErr};
 ghost use Rattle.linx_base.specs.Both.{still};
-ghost use Rattle.ethcm_window.specs.Sending.{number_limit, empty_sender, HasNumbers, numbered_from, left_of, sent_of, unacknowledged, coming_in, with_offered, after_ack, sent_again};
+ghost use Rattle.ethcm_window.specs.Sending.{number_limit, empty_sender, HasNumbers, numbered_from};
+ghost use Rattle.ethcm_window.specs.Sending.{left_of, sent_of, unacknowledged, coming_in};
+ghost use Rattle.ethcm_window.specs.Sending.{with_offered, after_ack, sent_again};
 
 use crate::queue::drop_first;
 use linx_base::{Frame, Frames, NoMemory, SentFrame, SentFrames, TryCopy};

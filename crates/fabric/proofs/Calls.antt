@@ -1,5 +1,7 @@
--- What a step leaves of its node is what the kernel's call for it leaves: steps that only bring items.
-use Rattle.std.proofs.Common.{◌≡◌, ℕ, ◌<◌, Bool, true, false, cond, not, List, [], ◌∷◌, ◌++◌, filter, Option, Some, None, refl, ◌∙◌, ap, arith}
+-- What a step leaves of its node is what the kernel's call for it leaves: steps that only bring
+-- items.
+use Rattle.std.proofs.Common.{◌≡◌, ℕ, ◌<◌, Bool, true, false, cond, not, List, [], ◌∷◌, ◌++◌}
+use Rattle.std.proofs.Common.{filter, Option, Some, None, refl, ◌∙◌, ap, arith}
 use Rattle.std.specs.List.{AllByRecursion}
 use Rattle.std.specs.Prelude.{◌==◌}
 use Rattle.std.proofs.lemmas.Bool.Decides.{nat_tests}
@@ -16,14 +18,18 @@ use Rattle.journal.specs.declared.head.Head.{Head}
 use Rattle.journal.specs.declared.head.Head.TheVariants.{Send, Hunt, Attach}
 use Rattle.journal.specs.declared.head.SentTo.{SentTo}
 use Rattle.journal.specs.Effects.{arrivals_of, attached, found, hunted, notice}
-use Rattle.journal.specs.Pending.{attach_in, detaches, ends_hunt, hunt_in, hunts_past, owed_past, settles}
+use Rattle.journal.specs.Pending.{attach_in, detaches, ends_hunt, hunt_in, hunts_past, owed_past}
+use Rattle.journal.specs.Pending.{settles}
 use Rattle.journal.proofs.Lists.{filter-all, all-impl}
 use Rattle.journal.proofs.Openings.{same_inc-refl}
 use Rattle.node_kernel.specs.Nodes.{NodeState, find_at, is_living}
 use Rattle.node_kernel.specs.Calls.{after_attach, after_hunt, after_send, with_attach, with_hunt}
-use Rattle.fabric.proofs.Effects.{OnlyItems, arrivals-answer_none, arrivals-notify_none, attached-answer_none, hunted-notify_none, only-arrivals, only-attached, only-hunted, only-none}
+use Rattle.fabric.proofs.Effects.{OnlyItems, arrivals-answer_none, arrivals-notify_none}
+use Rattle.fabric.proofs.Effects.{attached-answer_none, hunted-notify_none, only-arrivals}
+use Rattle.fabric.proofs.Effects.{only-attached, only-hunted, only-none}
 use Rattle.fabric.proofs.Leaving.{after_step}
-use Rattle.fabric.proofs.Putting.{TakesNone, endpoints-put, hunts-kept, openings-kept, owed-kept, put-none, state_by_parts}
+use Rattle.fabric.proofs.Putting.{TakesNone, endpoints-put, hunts-kept, openings-kept, owed-kept}
+use Rattle.fabric.proofs.Putting.{put-none, state_by_parts}
 
 -- a step that does nothing to its node
 pub quiet-left : (k : ℕ) (me : Option Inc) (head : Head) (old : NodeState) → TakesNone head
@@ -52,7 +58,8 @@ send-left k j q note answer old =
     (openings-kept node k (Some j) head es only old.openings)
     (endpoints-put node k (Some j) head es only old.endpoints (λ x. refl))
     (hunts-kept node k (Some j) head es only old.hunts (arrivals-answer_none j note alive q) refl)
-    (owed-kept node k (Some j) head es only old.attaches (arrivals-notify_none j note alive q) (λ a. refl) refl)
+    (owed-kept node k (Some j) head es only old.attaches (arrivals-notify_none j note alive q)
+    (λ a. refl) refl)
     (only.meets_none node old.met)
 
 -- numbers of other steps
@@ -64,12 +71,15 @@ number-same k = grind (arith, nat_tests)
 
 filter-append : {X : Type 0} (p : X → Bool) (xs : List X) (y : X) (b : Bool)
     → filter p xs ≡ xs → p y ≡ b → filter p (xs ++ y ∷ []) ≡ xs ++ cond b (y ∷ []) []
-filter-append {X = X} p xs y b all last = appended xs y b last ∙ ap (λ l. l ++ cond b (y ∷ []) []) all
+filter-append {X = X} p xs y b all last = appended xs y b last
+    ∙ ap (λ l. l ++ cond b (y ∷ []) []) all
   where
-    appended : (zs : List X) (y : X) (b : Bool) → p y ≡ b → filter p (zs ++ y ∷ []) ≡ filter p zs ++ cond b (y ∷ []) []
+    appended : (zs : List X) (y : X) (b : Bool) → p y ≡ b
+        → filter p (zs ++ y ∷ []) ≡ filter p zs ++ cond b (y ∷ []) []
     appended [] y b is = rw is refl
     appended (z ∷ zs) y b is =
-        elim (p z) as (λ c. cond c (z ∷ filter p (zs ++ y ∷ [])) (filter p (zs ++ y ∷ [])) ≡ cond c (z ∷ filter p zs) (filter p zs) ++ cond b (y ∷ []) []) [
+        elim (p z) as (λ c. cond c (z ∷ filter p (zs ++ y ∷ [])) (filter p (zs ++ y ∷ []))
+        ≡ cond c (z ∷ filter p zs) (filter p zs) ++ cond b (y ∷ []) []) [
           | true ↦ ap (λ l. z ∷ l) (appended zs y b is)
           | false ↦ appended zs y b is
         ]
@@ -90,14 +100,17 @@ module _ (k : ℕ) (j : Inc) (path : Path) (note : SigNote) (old : NodeState)
       ≡ with_hunt q the_hunt old.hunts
   hunts_with None =
       ap (λ l. filter (λ h. not (ends_hunt [] h)) (old.hunts ++ l)) hunt_begun
-      ∙ filter-append (λ h. not (ends_hunt [] h)) old.hunts the_hunt true (filter-all (λ h. not (ends_hunt [] h)) old.hunts
-      (all-impl (λ h. h.number < k) (λ h. not (ends_hunt [] h) ≡ true) (λ h low. refl) old.hunts below)) refl
+      ∙ filter-append (λ h. not (ends_hunt [] h)) old.hunts the_hunt true
+      (filter-all (λ h. not (ends_hunt [] h)) old.hunts
+      (all-impl (λ h. h.number < k) (λ h. not (ends_hunt [] h) ≡ true) (λ h low. refl) old.hunts
+      below)) refl
   hunts_with (Some q) =
       let es : List Effect = found q the_hunt ∷ [] in
       ap (λ l. filter (λ h. not (ends_hunt es h)) (old.hunts ++ l)) hunt_begun
       ∙ filter-append (λ h. not (ends_hunt es h)) old.hunts the_hunt false
       (filter-all (λ h. not (ends_hunt es h)) old.hunts
-      (all-impl (λ h. h.number < k) (λ h. not (ends_hunt es h) ≡ true) (λ h low. rw (number-other h.number k low) refl) old.hunts below))
+      (all-impl (λ h. h.number < k) (λ h. not (ends_hunt es h) ≡ true)
+      (λ h low. rw (number-other h.number k low) refl) old.hunts below))
       (rw (number-same k, same_inc-refl j) refl)
       ∙ append-nil old.hunts
 
@@ -113,7 +126,8 @@ module _ (k : ℕ) (j : Inc) (path : Path) (note : SigNote) (old : NodeState)
       (openings-kept node k (Some j) head es only old.openings)
       (endpoints-put node k (Some j) head es only old.endpoints (λ x. refl))
       (hunts_with q)
-      (owed-kept node k (Some j) head es only old.attaches (hunted-notify_none q the_hunt) (λ a. refl) refl)
+      (owed-kept node k (Some j) head es only old.attaches (hunted-notify_none q the_hunt)
+      (λ a. refl) refl)
       (only.meets_none node old.met)
 
 -- an attach
@@ -135,16 +149,19 @@ module _ (k : ℕ) (j : Inc) (q : Peer) (note : SigNote) (old : NodeState)
       ∙ filter-append p old.attaches the_attach true (filter-all p old.attaches
       (all-impl (λ a. a.reference.0 < k) (λ a. p a ≡ true) (λ a low. refl) old.attaches below)) refl
   owed_with false =
-      let es : List Effect = notice Rattle.linx_base.specs.declared.signal.Reason.TheVariants.Dead the_attach ∷ [] in
+      let es : List Effect = notice Rattle.linx_base.specs.declared.signal.Reason.TheVariants.Dead
+      the_attach ∷ [] in
       let p : PendingAttach → Bool = λ a. not (settles (Some j) (Attach q note) es a) in
       ap (λ l. filter p (old.attaches ++ l)) attach_begun
       ∙ filter-append p old.attaches the_attach false
       (filter-all p old.attaches
-      (all-impl (λ a. a.reference.0 < k) (λ a. p a ≡ true) (λ a low. rw (number-other a.reference.0 k low) refl) old.attaches below))
+      (all-impl (λ a. a.reference.0 < k) (λ a. p a ≡ true)
+      (λ a low. rw (number-other a.reference.0 k low) refl) old.attaches below))
       (rw (number-same k, same_inc-refl j) refl)
       ∙ append-nil old.attaches
 
-  pub attach-left : after_step k (Some j) (Attach q note) (attached (is_living old q) the_attach) old
+  pub attach-left : after_step k (Some j) (Attach q note) (attached (is_living old q) the_attach)
+      old
       ≡ after_attach old the_attach
   attach-left =
       let node : ℕ = old.node.0 in
@@ -155,6 +172,7 @@ module _ (k : ℕ) (j : Inc) (q : Peer) (note : SigNote) (old : NodeState)
       state_by_parts old.node _ _ _ _ _ _ _ _ _ _
       (openings-kept node k (Some j) head es only old.openings)
       (endpoints-put node k (Some j) head es only old.endpoints (λ x. refl))
-      (hunts-kept node k (Some j) head es only old.hunts (attached-answer_none alive the_attach) refl)
+      (hunts-kept node k (Some j) head es only old.hunts (attached-answer_none alive the_attach)
+      refl)
       (owed_with alive)
       (only.meets_none node old.met)

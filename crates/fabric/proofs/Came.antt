@@ -1,5 +1,6 @@
 -- What stands in a queue is what came at its position.
-use Rattle.std.proofs.Common.{◌≡◌, ℕ, suc, ◌+◌, ◌-◌, ◌<◌, ◌≤◌, Bool, true, false, cond, not, List, [], ◌∷◌, length, Option, Some, refl, ◌∙◌, ap, arith}
+use Rattle.std.proofs.Common.{◌≡◌, ℕ, suc, ◌+◌, ◌-◌, ◌<◌, ◌≤◌, Bool, true, false, cond, not, List}
+use Rattle.std.proofs.Common.{[], ◌∷◌, length, Option, Some, refl, ◌∙◌, ap, arith}
 use Rattle.std.specs.Prelude.{◌==◌, slice_get}
 use Rattle.std.specs.List.{list_any, AllByRecursion}
 use Rattle.std.proofs.lemmas.Bool.Decides.{nat_tests}
@@ -9,12 +10,14 @@ use Rattle.linx_base.specs.declared.item.Item.{Item}
 use Rattle.sigsel.specs.Selection.{first_selected, is_selected}
 use Rattle.sigsel.specs.declared.sigsel.Sigsel.{Sigsel}
 use Rattle.journal.specs.declared.effect.Effect.{Effect}
-use Rattle.journal.specs.declared.effect.Effect.TheVariants.{Opened, Closed, Arrived, Found, Notified, Met, Gone, Up, Down}
+use Rattle.journal.specs.declared.effect.Effect.TheVariants.{Opened, Closed, Arrived, Found}
+use Rattle.journal.specs.declared.effect.Effect.TheVariants.{Notified, Met, Gone, Up, Down}
 use Rattle.journal.specs.declared.effect.Step.{Step}
 use Rattle.journal.specs.declared.head.Head.{Head}
 use Rattle.journal.specs.History.{endpoint_by, opens}
 use Rattle.journal.specs.Logs.{step_at}
-use Rattle.journal.specs.Queues.{is_item_of, items_from, items_in, left_by, queued, removes, unless_opened}
+use Rattle.journal.specs.Queues.{is_item_of, items_from, items_in, left_by, queued, removes}
+use Rattle.journal.specs.Queues.{unless_opened}
 use Rattle.journal.specs.Traffic.{is_endpoint}
 use Rattle.journal.proofs.Lists.{all-append, all-filter, all-first_match, all-impl}
 use Rattle.node_kernel.specs.Answers.{effect_in, item_at, item_or_none, items_by}

@@ -1,5 +1,7 @@
 -- A step changes one node: that of its maker, or the one that it restarts.
-use Rattle.std.proofs.Common.{◌≡◌, ◌≢◌, ℕ, suc, ◌+◌, Bool, true, false, not, List, [], ◌∷◌, ◌++◌, length, map, filter, Option, Some, None, refl, sym, ◌∙◌, ap, subst, arith}
+use Rattle.std.proofs.Common.{◌≡◌, ◌≢◌, ℕ, suc, ◌+◌, Bool, true, false, not, List, [], ◌∷◌, ◌++◌}
+use Rattle.std.proofs.Common.{length, map, filter, Option, Some, None, refl, sym, ◌∙◌, ap, subst}
+use Rattle.std.proofs.Common.{arith}
 use Rattle.std.specs.List.{fold, list_any, AllByRecursion}
 use Rattle.std.specs.Prelude.{◌&&◌, ◌==◌}
 use Rattle.std.proofs.lemmas.Bool.{eqb-true, ne_eqb, true≢false}
@@ -23,20 +25,27 @@ use Rattle.linx_base.specs.declared.signal.SigNote.{SigNote}
 use Rattle.journal.specs.declared.by.By.{By}
 use Rattle.journal.specs.declared.by.By.TheVariants.{Actor, Pump}
 use Rattle.journal.specs.declared.effect.Effect.{Effect}
-use Rattle.journal.specs.declared.effect.Effect.TheVariants.{Opened, Closed, Arrived, Found, Notified, Met, Gone, Up, Down}
+use Rattle.journal.specs.declared.effect.Effect.TheVariants.{Opened, Closed, Arrived, Found}
+use Rattle.journal.specs.declared.effect.Effect.TheVariants.{Notified, Met, Gone, Up, Down}
 use Rattle.journal.specs.declared.effect.Step.{Step}
 use Rattle.journal.specs.declared.head.Head.{Head}
-use Rattle.journal.specs.declared.head.Head.TheVariants.{Open, Close, Send, Take, TakeNone, Waits, Hunt, Attach, Detach, Cut, Mend, Settle, Restart, Wire, Tick, Refused, Ended}
-use Rattle.journal.specs.Effects.{arrivals_of, attached, ending, found, founds, held_elsewhere, hunted, hunts_for, notice, notices}
+use Rattle.journal.specs.declared.head.Head.TheVariants.{Open, Close, Send, Take, TakeNone, Waits}
+use Rattle.journal.specs.declared.head.Head.TheVariants.{Hunt, Attach, Detach, Cut, Mend, Settle}
+use Rattle.journal.specs.declared.head.Head.TheVariants.{Restart, Wire, Tick, Refused, Ended}
+use Rattle.journal.specs.Effects.{arrivals_of, attached, ending, found, founds, held_elsewhere}
+use Rattle.journal.specs.Effects.{hunted, hunts_for, notice, notices}
 use Rattle.journal.specs.History.{closes, endpoint_by, open_endpoints, opened_by, opens}
 use Rattle.journal.specs.Laws.{IsLegal, attaching, effects_by, hunting_by, sending}
 use Rattle.journal.specs.Living.{find, is_alive, living_after}
-use Rattle.journal.specs.Pending.{answers_hunt, attach_at, attach_in, cancels, detaches, ends_hunt, hunt_at, hunt_in, hunting, hunts_past, is_own_attach, notifies, owed, owed_past, settles}
+use Rattle.journal.specs.Pending.{answers_hunt, attach_at, attach_in, cancels, detaches, ends_hunt}
+use Rattle.journal.specs.Pending.{hunt_at, hunt_in, hunting, hunts_past, is_own_attach, notifies}
+use Rattle.journal.specs.Pending.{owed, owed_past, settles}
 use Rattle.journal.specs.Queues.{items_in, left_by}
 use Rattle.journal.specs.Shapes.{Shape, node_by}
 use Rattle.journal.specs.Traffic.{is_endpoint}
 use Rattle.journal.proofs.Lists.{all-filter, all-impl, filter-all}
-use Rattle.journal.proofs.Openings.{IsBelow, IsShort, all-among, endpoint-on, hunting-on, next_on, next_on-is_on, open-below, owed-on}
+use Rattle.journal.proofs.Openings.{IsBelow, IsShort, all-among, endpoint-on, hunting-on, next_on}
+use Rattle.journal.proofs.Openings.{next_on-is_on, open-below, owed-on}
 use Rattle.node_kernel.specs.Nodes.{NodeState, OpenEndpoint}
 use Rattle.fabric.specs.Remains.{endpoint_left, node_left}
 use Rattle.fabric.proofs.Leaving.{after_step, endpoint_past, new_endpoint, node_left-step, stays}

@@ -1,6 +1,8 @@
 -- What a step leaves of its node is what the kernel's call for it leaves: openings, closings and
 -- restarts.
-use Rattle.std.proofs.Common.{◌≡◌, ℕ, ◌+◌, ◌<◌, Bool, true, false, not, ◌||◌, ◌&&◌, List, [], ◌∷◌, ◌++◌, length, map, filter, Option, Some, None, refl, sym, ◌∙◌, ap, subst, arith}
+use Rattle.std.proofs.Common.{◌≡◌, ℕ, ◌+◌, ◌<◌, Bool, true, false, not, ◌||◌, ◌&&◌, List, [], ◌∷◌}
+use Rattle.std.proofs.Common.{◌++◌, length, map, filter, Option, Some, None, refl, sym, ◌∙◌, ap}
+use Rattle.std.proofs.Common.{subst, arith}
 use Rattle.std.specs.List.{fold, filter_map, list_any, AllByRecursion}
 use Rattle.std.proofs.Math.Bool.{or-false}
 use Rattle.std.proofs.lemmas.Bool.{or_left, or_right}
@@ -19,17 +21,21 @@ use Rattle.linx_base.specs.declared.signal.Reason.TheVariants as reasons
 use Rattle.journal.specs.declared.effect.Effect.{Effect}
 use Rattle.journal.specs.declared.head.Head.{Head}
 use Rattle.journal.specs.declared.head.Head.TheVariants.{Open, Restart}
-use Rattle.journal.specs.Effects.{closing, closings, founds, held_elsewhere, notice, notices, opening}
+use Rattle.journal.specs.Effects.{closing, closings, founds, held_elsewhere, notice, notices}
+use Rattle.journal.specs.Effects.{opening}
 use Rattle.journal.specs.History.{closes, opened_by, opened_in, opens}
 use Rattle.journal.specs.Living.{living_after}
-use Rattle.journal.specs.Pending.{answers_hunt, attach_in, detaches, ends_hunt, hunt_in, hunts_past, notifies, owed_past, settles}
+use Rattle.journal.specs.Pending.{answers_hunt, attach_in, detaches, ends_hunt, hunt_in, hunts_past}
+use Rattle.journal.specs.Pending.{notifies, owed_past, settles}
 use Rattle.journal.specs.Queues.{items_in}
 use Rattle.journal.specs.Traffic.{is_endpoint}
 use Rattle.journal.proofs.Lists.{all-impl, filter-every, filter-filter}
 use Rattle.journal.proofs.Openings.{Rising, same_inc-refl, same_inc-true}
-use Rattle.node_kernel.specs.Nodes.{NodeState, OpenEndpoint, is_at, next_of, put_all, put_into, without_endpoint}
+use Rattle.node_kernel.specs.Nodes.{NodeState, OpenEndpoint, is_at, next_of, put_all, put_into}
+use Rattle.node_kernel.specs.Nodes.{without_endpoint}
 use Rattle.node_kernel.specs.Calls.{after_close, after_open, after_restart, apart_from}
-use Rattle.fabric.proofs.Effects.{OnlyItems, founds-notify_none, notices-answer_none, only-founds, only-notices}
+use Rattle.fabric.proofs.Effects.{OnlyItems, founds-notify_none, notices-answer_none, only-founds}
+use Rattle.fabric.proofs.Effects.{only-notices}
 use Rattle.fabric.proofs.Leaving.{after_step, endpoint_past, endpoints_past, new_endpoint, stays}
 use Rattle.fabric.proofs.Pendings.{Rises, answered-each, filter-agree, notified-each}
 use Rattle.fabric.proofs.Putting.{TakesNone, left_by-none, state_by_parts}

@@ -1,5 +1,6 @@
 -- What a fabric keeps over one step.
-use Rattle.std.proofs.Common.{◌≡◌, ◌≢◌, ℕ, zero, suc, ◌<◌, Bool, true, false, ◌||◌, List, [], ◌∷◌, length, filter, Option, Some, None, refl, sym, ◌∙◌, ap, subst, arith}
+use Rattle.std.proofs.Common.{◌≡◌, ◌≢◌, ℕ, zero, suc, ◌<◌, Bool, true, false, ◌||◌, List, [], ◌∷◌}
+use Rattle.std.proofs.Common.{length, filter, Option, Some, None, refl, sym, ◌∙◌, ap, subst, arith}
 use Rattle.std.specs.Prelude.{◌==◌, slice_get, slice_set}
 use Rattle.std.specs.List.{fold, list_any}
 use Rattle.std.proofs.Math.Bool.{or-false}
@@ -16,9 +17,12 @@ use Rattle.journal.specs.declared.by.By.TheVariants.{Actor}
 use Rattle.journal.specs.declared.effect.Effect.{Effect}
 use Rattle.journal.specs.declared.effect.Step.{Step}
 use Rattle.journal.specs.declared.head.Head.{Head}
-use Rattle.journal.specs.declared.head.Head.TheVariants.{Open, Close, Send, Take, TakeNone, Waits, Hunt, Attach, Detach, Cut, Mend, Settle, Restart, Wire, Tick, Refused, Ended}
+use Rattle.journal.specs.declared.head.Head.TheVariants.{Open, Close, Send, Take, TakeNone, Waits}
+use Rattle.journal.specs.declared.head.Head.TheVariants.{Hunt, Attach, Detach, Cut, Mend, Settle}
+use Rattle.journal.specs.declared.head.Head.TheVariants.{Restart, Wire, Tick, Refused, Ended}
 use Rattle.journal.specs.Effects.{closing, closings, ending, held_elsewhere, hunts_for}
-use Rattle.journal.specs.History.{closes, endpoint_by, endpoint_of, is_by, is_lost, next_inc, open_endpoints, opened_on}
+use Rattle.journal.specs.History.{closes, endpoint_by, endpoint_of, is_by, is_lost, next_inc}
+use Rattle.journal.specs.History.{open_endpoints, opened_on}
 use Rattle.journal.specs.Laws.{IsLegal, IsLegalStep, effects_by}
 use Rattle.journal.specs.Living.{find, is_alive, living, living_after}
 use Rattle.journal.specs.Logs.{Log}
@@ -29,7 +33,8 @@ use Rattle.journal.proofs.Openings.{IsShort, same_inc-true}
 use Rattle.node_kernel.specs.Nodes.{NodeState}
 use Rattle.fabric.specs.declared.standing.Standing.{Standing}
 use Rattle.fabric.specs.Remains.{AreNodesLeft, AreStandingsLeft, IsKept, node_left, standing_left}
-use Rattle.fabric.proofs.Effects.{only-arrivals, only-attached, only-founds, only-hunted, only-notices}
+use Rattle.fabric.proofs.Effects.{only-arrivals, only-attached, only-founds, only-hunted}
+use Rattle.fabric.proofs.Effects.{only-notices}
 use Rattle.fabric.proofs.Elsewhere.{changed_node, node_left-elsewhere}
 use Rattle.fabric.proofs.Standings.{standing-other, standing_past}
 

@@ -1,5 +1,6 @@
 -- What one more step leaves of a node: its tables after the step are a function of those before it.
-use Rattle.std.proofs.Common.{◌≡◌, ℕ, suc, Bool, true, false, cond, if◌then◌else◌, ◌+◌, not, List, [], ◌∷◌, ◌++◌, length, map, filter, Option, refl, sym, ◌∙◌, ap, arith}
+use Rattle.std.proofs.Common.{◌≡◌, ℕ, suc, Bool, true, false, cond, if◌then◌else◌, ◌+◌, not, List}
+use Rattle.std.proofs.Common.{[], ◌∷◌, ◌++◌, length, map, filter, Option, refl, sym, ◌∙◌, ap, arith}
 use Rattle.std.proofs.lemmas.Bool.Decides.{nat_tests}
 use Rattle.std.specs.List.{fold, list_any, filter_map, AllByRecursion}
 use Rattle.std.proofs.lemmas.Bool.{or_left, or_right}
@@ -8,9 +9,11 @@ use Rattle.linx_base.specs.declared.identity.Inc.{Inc}
 use Rattle.linx_base.specs.declared.identity.NodeNo.{NodeNo}
 use Rattle.journal.specs.declared.head.Head.{Head}
 use Rattle.journal.specs.declared.effect.Effect.{Effect}
-use Rattle.journal.specs.declared.effect.Effect.TheVariants.{Opened, Closed, Arrived, Found, Notified, Met, Gone, Up, Down}
+use Rattle.journal.specs.declared.effect.Effect.TheVariants.{Opened, Closed, Arrived, Found}
+use Rattle.journal.specs.declared.effect.Effect.TheVariants.{Notified, Met, Gone, Up, Down}
 use Rattle.journal.specs.declared.effect.Step.{Step}
-use Rattle.journal.specs.History.{closes, endpoint_by, name_in, open_endpoints, opened_by, opened_in, opening_name, opens, name_or_none}
+use Rattle.journal.specs.History.{closes, endpoint_by, name_in, open_endpoints, opened_by}
+use Rattle.journal.specs.History.{opened_in, opening_name, opens, name_or_none}
 use Rattle.journal.specs.Living.{living_after}
 use Rattle.journal.specs.Pending.{hunts_past, owed_past}
 use Rattle.journal.specs.Queues.{items_in, left_by, queued}

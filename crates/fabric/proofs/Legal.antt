@@ -1,5 +1,7 @@
 -- The step that the machine makes is legal.
-use Rattle.std.proofs.Common.{◌≡◌, ◌≢◌, ℕ, zero, suc, ◌<◌, ◌≤◌, Bool, true, false, cond, ◌||◌, List, [], length, Option, Some, None, is_none, inl, inr, refl, sym, ◌∙◌, subst, arith}
+use Rattle.std.proofs.Common.{◌≡◌, ◌≢◌, ℕ, zero, suc, ◌<◌, ◌≤◌, Bool, true, false, cond, ◌||◌, List}
+use Rattle.std.proofs.Common.{[], length, Option, Some, None, is_none, inl, inr, refl, sym, ◌∙◌}
+use Rattle.std.proofs.Common.{subst, arith}
 use Rattle.std.specs.Prelude.{◌==◌, is_some}
 use Rattle.std.proofs.lemmas.Bool.{and_parts, eqb-true, ne_eqb, or_cases, true≢false}
 use Rattle.linx_base.specs.Content.{data_limit}
@@ -17,13 +19,15 @@ use Rattle.journal.specs.declared.head.Head.{Head}
 use Rattle.journal.specs.declared.head.Head.TheVariants as heads
 use Rattle.journal.specs.declared.head.Refusal.{Refusal}
 use Rattle.journal.specs.History.{closed_step, endpoint_of}
-use Rattle.journal.specs.Laws.{IsBounded, IsLegalStep, IsMaker, KeepsReceives, KeepsSends, detached_as, is_endpoints, is_on_link, is_opening}
+use Rattle.journal.specs.Laws.{IsBounded, IsLegalStep, IsMaker, KeepsReceives, KeepsSends}
+use Rattle.journal.specs.Laws.{detached_as, is_endpoints, is_on_link, is_opening}
 use Rattle.journal.specs.Living.{is_alive}
 use Rattle.journal.specs.Rest.{leaves_at_rest, queue_of, waits_with}
 use Rattle.journal.specs.Shapes.{Shape, node_by}
 use Rattle.node_kernel.specs.declared.ask.Ask.{Ask}
 use Rattle.node_kernel.specs.Answers.{granted_by, is_opening as opens, needs_endpoint, refused}
-use Rattle.fabric.specs.Machine.{FitsEvent, all_leave_at_rest, granted_step, head_of, is_at_rest, is_link_event, look, signal_in, step_of, step_with, vain_look}
+use Rattle.fabric.specs.Machine.{FitsEvent, all_leave_at_rest, granted_step, head_of, is_at_rest}
+use Rattle.fabric.specs.Machine.{is_link_event, look, signal_in, step_of, step_with, vain_look}
 
 -- what the types of an event tell: its name is one, and its signal has at most 65,532 bytes
 abbrev pub IsNamedEvent : Event → Type 0

@@ -1,5 +1,7 @@
 -- Each kind of step as the fabric's methods make it: what is kept, and that it is the machine's.
-use Rattle.std.proofs.Common.{◌≡◌, ℕ, suc, ◌+◌, ◌<◌, ◌≤◌, Bool, true, false, ◌||◌, List, [], ◌∷◌, length, Option, Some, None, get_or, refl, sym, ◌∙◌, ap, subst, add-one, arith, is_some, is_none}
+use Rattle.std.proofs.Common.{◌≡◌, ℕ, suc, ◌+◌, ◌<◌, ◌≤◌, Bool, true, false, ◌||◌, List, [], ◌∷◌}
+use Rattle.std.proofs.Common.{length, Option, Some, None, get_or, refl, sym, ◌∙◌, ap, subst}
+use Rattle.std.proofs.Common.{add-one, arith, is_some, is_none}
 use Rattle.std.specs.Prelude.{slice_set}
 use Rattle.std.specs.List.{filter}
 use Rattle.std.proofs.lemmas.Bool.{true≢false}
@@ -28,7 +30,8 @@ use Rattle.journal.specs.declared.head.Detached.{Detached}
 use Rattle.journal.specs.declared.head.Head.{Head}
 use Rattle.journal.specs.declared.head.Head.TheVariants as heads
 use Rattle.journal.specs.declared.head.Refusal.{Refusal}
-use Rattle.journal.specs.Effects.{arrivals_of, attached, closing, founds, held_elsewhere, hunted, hunts_for, opening, send_answer, ending, notices}
+use Rattle.journal.specs.Effects.{arrivals_of, attached, closing, founds, held_elsewhere, hunted}
+use Rattle.journal.specs.Effects.{hunts_for, opening, send_answer, ending, notices}
 use Rattle.journal.specs.History.{endpoint_of, is_end}
 use Rattle.journal.specs.Laws.{IsLegalStep, IsMaker, detached_as, effects_by}
 use Rattle.journal.specs.Living.{find, is_alive}
@@ -41,19 +44,25 @@ use Rattle.journal.proofs.Openings.{IsShort}
 use Rattle.node_kernel.specs.declared.answers.StepAnswer.{StepAnswer}
 use Rattle.node_kernel.specs.declared.answers.StepAnswer.TheVariants as answers
 use Rattle.node_kernel.specs.Answers.{answer_of, refused, opened_as, is_opening}
-use Rattle.node_kernel.specs.Calls.{after_attach, after_close, after_detach, after_hunt, after_open, after_send, detached, after_detach_of}
+use Rattle.node_kernel.specs.Calls.{after_attach, after_close, after_detach, after_hunt, after_open}
+use Rattle.node_kernel.specs.Calls.{after_send, detached, after_detach_of}
 use Rattle.node_kernel.specs.Nodes.{NodeState, find_at, is_living, items_at, next_of}
 use Rattle.fabric.specs.declared.standing.Standing.{Standing}
 use Rattle.fabric.specs.Looks.{after_take, with_take}
-use Rattle.fabric.specs.Machine.{FitsEvent, head_of, is_at_rest, look, signal_in, step_with, vain_look, is_link_event, answer_with, with_step}
+use Rattle.fabric.specs.Machine.{FitsEvent, head_of, is_at_rest, look, signal_in, step_with}
+use Rattle.fabric.specs.Machine.{vain_look, is_link_event, answer_with, with_step}
 use Rattle.fabric.specs.Remains.{IsWellKept, node_left, standing_left}
 use Rattle.fabric.specs.Standings.{Makes}
 use Rattle.fabric.proofs.Came.{item-came}
-use Rattle.fabric.proofs.Effects.{OnlyItems, only-arrivals, only-attached, only-founds, only-hunted, only-none, only-notices}
+use Rattle.fabric.proofs.Effects.{OnlyItems, only-arrivals, only-attached, only-founds, only-hunted}
+use Rattle.fabric.proofs.Effects.{only-none, only-notices}
 use Rattle.fabric.proofs.Elsewhere.{changed_node}
-use Rattle.fabric.proofs.Kept.{is_restart, kept-next, kernels-next, kernels-same, length-set, standings-next}
+use Rattle.fabric.proofs.Kept.{is_restart, kept-next, kernels-next, kernels-same, length-set}
+use Rattle.fabric.proofs.Kept.{standings-next}
 use Rattle.fabric.proofs.Legal.{IsGranted, LegalIf, granted-legal, refused-legal, IsNamedEvent}
-use Rattle.fabric.proofs.Nodes.{detached-left, find-left, living-left, node-attach, node-close, node-detach, node-end, node-hunt, node-open, node-quiet, node-send, node-take, own-items}
+use Rattle.fabric.proofs.Nodes.{detached-left, find-left, living-left, node-attach, node-close}
+use Rattle.fabric.proofs.Nodes.{node-detach, node-end, node-hunt, node-open, node-quiet, node-send}
+use Rattle.fabric.proofs.Nodes.{node-take, own-items}
 use Rattle.fabric.proofs.Own.{own-close, own-open, own-quiet, own-none, opens-same}
 use Rattle.fabric.proofs.Standings.{standing_past}
 use Rattle.fabric.proofs.Placed.{Acts, IsAt, kernel-is, standing-is, well_kept}

@@ -1,5 +1,6 @@
 -- THE NODE AFTER A STEP, head by head: what the kernel's call leaves of what the history left.
-use Rattle.std.proofs.Common.{◌≡◌, ℕ, suc, ◌<◌, Bool, true, false, cond, ◌||◌, List, [], ◌∷◌, length, map, Option, Some, None, refl, sym, ◌∙◌, ap, subst}
+use Rattle.std.proofs.Common.{◌≡◌, ℕ, suc, ◌<◌, Bool, true, false, cond, ◌||◌, List, [], ◌∷◌}
+use Rattle.std.proofs.Common.{length, map, Option, Some, None, refl, sym, ◌∙◌, ap, subst}
 use Rattle.std.specs.List.{list_any, AllByRecursion}
 use Rattle.std.specs.Str.{bytes_eq}
 use Rattle.linx_base.specs.FirstMatch.{first_match}
@@ -21,7 +22,8 @@ use Rattle.journal.specs.declared.by.By.TheVariants.{Actor}
 use Rattle.journal.specs.declared.effect.Step.{Step}
 use Rattle.journal.specs.declared.head.Detached.{Detached}
 use Rattle.journal.specs.declared.head.Head.{Head}
-use Rattle.journal.specs.declared.head.Head.TheVariants.{Open, Close, Send, Take, Hunt, Attach, Detach, Restart, Ended}
+use Rattle.journal.specs.declared.head.Head.TheVariants.{Open, Close, Send, Take, Hunt, Attach}
+use Rattle.journal.specs.declared.head.Head.TheVariants.{Detach, Restart, Ended}
 use Rattle.journal.specs.declared.head.SentTo.{SentTo}
 use Rattle.journal.specs.Effects.{arrivals_of, attached, closing, detach_answer, hunted}
 use Rattle.journal.specs.History.{endpoint_of, name_of, open_endpoints}
@@ -31,9 +33,12 @@ use Rattle.journal.specs.Pending.{attach_in, detaches, hunt_in, owed}
 use Rattle.journal.specs.Queues.{queued}
 use Rattle.journal.specs.Shapes.{Shape, node_by}
 use Rattle.journal.proofs.Holders.{hunters-open, holders-open}
-use Rattle.journal.proofs.Openings.{IsBelow, IsShort, endpoint-on, endpoint-open, next_on-is_on, open-below, open-rising}
-use Rattle.node_kernel.specs.Calls.{after_attach, after_close, after_detach_of, after_hunt, after_open, after_restart, after_send, detached}
-use Rattle.node_kernel.specs.Nodes.{NodeState, OpenEndpoint, find_at, first_named, inc_if, is_living, is_named, is_open, items_at, next_of, with_items}
+use Rattle.journal.proofs.Openings.{IsBelow, IsShort, endpoint-on, endpoint-open, next_on-is_on}
+use Rattle.journal.proofs.Openings.{open-below, open-rising}
+use Rattle.node_kernel.specs.Calls.{after_attach, after_close, after_detach_of, after_hunt}
+use Rattle.node_kernel.specs.Calls.{after_open, after_restart, after_send, detached}
+use Rattle.node_kernel.specs.Nodes.{NodeState, OpenEndpoint, find_at, first_named, inc_if}
+use Rattle.node_kernel.specs.Nodes.{is_living, is_named, is_open, items_at, next_of, with_items}
 use Rattle.fabric.specs.Remains.{endpoint_left, node_left}
 use Rattle.fabric.proofs.Calls.{attach-left, hunt-left, quiet-left, send-left}
 use Rattle.fabric.proofs.Endings.{close-left, open-left, restart-left}

@@ -1,5 +1,6 @@
 -- How the maker of a step stands past it, by its head.
-use Rattle.std.proofs.Common.{◌≡◌, ℕ, Bool, true, false, cond, ◌||◌, List, [], ◌∷◌, Option, Some, None, refl, ◌∙◌, ap}
+use Rattle.std.proofs.Common.{◌≡◌, ℕ, Bool, true, false, cond, ◌||◌, List, [], ◌∷◌, Option, Some}
+use Rattle.std.proofs.Common.{None, refl, ◌∙◌, ap}
 use Rattle.std.specs.List.{list_any}
 use Rattle.linx_base.specs.declared.identity.Inc.{Inc}
 use Rattle.sigsel.specs.declared.sigsel.Sigsel.{Sigsel}

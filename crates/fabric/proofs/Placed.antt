@@ -1,5 +1,7 @@
 -- Where the kernel and the standing of an actor stand, and what stands there.
-use Rattle.std.proofs.Common.{◌≡◌, ℕ, zero, suc, ◌+◌, ◌<◌, ◌≤◌, true, List, [], ◌∷◌, length, map, Option, Some, None, get_or, refl, sym, ◌∙◌, ap, subst, add-one, arith, is_none}
+use Rattle.std.proofs.Common.{◌≡◌, ℕ, zero, suc, ◌+◌, ◌<◌, ◌≤◌, true, List, [], ◌∷◌, length, map}
+use Rattle.std.proofs.Common.{Option, Some, None, get_or, refl, sym, ◌∙◌, ap, subst, add-one, arith}
+use Rattle.std.proofs.Common.{is_none}
 use Rattle.std.specs.Prelude.{◌-◌, slice_get}
 use Rattle.std.specs.List.{AllByRecursion}
 use Rattle.std.specs.Option.{IfSome}
@@ -21,7 +23,8 @@ use Rattle.node_kernel.specs.declared.answers.StepAnswer.{StepAnswer}
 use Rattle.node_kernel.specs.declared.ask.Ask.{Ask}
 use Rattle.node_kernel.specs.Nodes.{NodeState, endpoint_limit, is_open, items_at}
 use Rattle.fabric.specs.declared.standing.Standing.{Standing}
-use Rattle.fabric.specs.Remains.{IsKept, IsNode, IsWellKept, Layout, actor_limit, endpoint_left, node_left, standing_left}
+use Rattle.fabric.specs.Remains.{IsKept, IsNode, IsWellKept, Layout, actor_limit, endpoint_left}
+use Rattle.fabric.specs.Remains.{node_left, standing_left}
 use Rattle.fabric.specs.Standings.{Makes, vain_with}
 use Rattle.fabric.proofs.Nodes.{own-is_open, own-items}
 

@@ -1,5 +1,6 @@
 -- What a step that only brings items leaves of a node.
-use Rattle.std.proofs.Common.{◌≡◌, ℕ, ◌+◌, Bool, true, false, not, List, [], ◌∷◌, ◌++◌, length, map, filter, Option, refl, ◌∙◌, ap, arith}
+use Rattle.std.proofs.Common.{◌≡◌, ℕ, ◌+◌, Bool, true, false, not, List, [], ◌∷◌, ◌++◌, length, map}
+use Rattle.std.proofs.Common.{filter, Option, refl, ◌∙◌, ap, arith}
 use Rattle.std.proofs.lemmas.List.{append-nil}
 use Rattle.linx_base.specs.Numbers.{is_on}
 use Rattle.linx_base.specs.declared.identity.Inc.{Inc}
@@ -11,7 +12,8 @@ use Rattle.linx_base.specs.declared.pending.PendingHunt.{PendingHunt}
 use Rattle.journal.specs.declared.head.Head.{Head}
 use Rattle.journal.specs.declared.effect.Effect.{Effect}
 use Rattle.journal.specs.History.{opened_by}
-use Rattle.journal.specs.Pending.{attach_in, detaches, ends_hunt, hunt_in, hunts_past, owed_past, settles}
+use Rattle.journal.specs.Pending.{attach_in, detaches, ends_hunt, hunt_in, hunts_past, owed_past}
+use Rattle.journal.specs.Pending.{settles}
 use Rattle.journal.specs.Queues.{items_in, left_by, removes}
 use Rattle.journal.specs.Traffic.{is_endpoint}
 use Rattle.journal.proofs.Lists.{filter-every}

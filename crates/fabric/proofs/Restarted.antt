@@ -1,5 +1,7 @@
 -- A restart as the fabric's method makes it: its node may be another than its maker's.
-use Rattle.std.proofs.Common.{◌≡◌, ℕ, zero, suc, ◌+◌, ◌<◌, ◌≤◌, Bool, true, false, List, [], ◌∷◌, length, map, Option, Some, None, get_or, refl, sym, ◌∙◌, ap, subst, add-one, arith}
+use Rattle.std.proofs.Common.{◌≡◌, ℕ, zero, suc, ◌+◌, ◌<◌, ◌≤◌, Bool, true, false, List, [], ◌∷◌}
+use Rattle.std.proofs.Common.{length, map, Option, Some, None, get_or, refl, sym, ◌∙◌, ap, subst}
+use Rattle.std.proofs.Common.{add-one, arith}
 use Rattle.std.specs.Prelude.{◌==◌, ◌≢◌, slice_get, slice_set}
 use Rattle.std.proofs.lemmas.Bool.{eq-eqb, eqb-true, ne_eqb, true≢false}
 use Rattle.linx_base.specs.declared.identity.Inc.{Inc}
@@ -20,9 +22,11 @@ use Rattle.node_kernel.specs.Calls.{after_restart}
 use Rattle.node_kernel.specs.Nodes.{NodeState, OpenEndpoint}
 use Rattle.fabric.specs.declared.standing.Standing.{Standing}
 use Rattle.fabric.specs.Machine.{signal_in}
-use Rattle.fabric.specs.Remains.{AreStandingsLeft, IsKept, IsWellKept, endpoint_left, node_left, standing_left}
+use Rattle.fabric.specs.Remains.{AreStandingsLeft, IsKept, IsWellKept, endpoint_left, node_left}
+use Rattle.fabric.specs.Remains.{standing_left}
 use Rattle.fabric.specs.Standings.{Makes, past_effects}
-use Rattle.fabric.proofs.Kept.{get-set, get-set-other, kept-next, kernels-next, length-set, living-none}
+use Rattle.fabric.proofs.Kept.{get-set, get-set-other, kept-next, kernels-next, length-set}
+use Rattle.fabric.proofs.Kept.{living-none}
 use Rattle.fabric.proofs.Legal.{granted-legal}
 use Rattle.fabric.proofs.Nodes.{node-restart}
 use Rattle.fabric.proofs.Standings.{standing_past}

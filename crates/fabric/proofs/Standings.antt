@@ -1,5 +1,6 @@
 -- What one more step leaves of an actor.
-use Rattle.std.proofs.Common.{◌≡◌, ℕ, suc, Bool, false, if◌then◌else◌, ◌||◌, ◌&&◌, List, ◌∷◌, length, Option, Some, None, refl, sym, ◌∙◌, ap}
+use Rattle.std.proofs.Common.{◌≡◌, ℕ, suc, Bool, false, if◌then◌else◌, ◌||◌, ◌&&◌, List, ◌∷◌}
+use Rattle.std.proofs.Common.{length, Option, Some, None, refl, sym, ◌∙◌, ap}
 use Rattle.std.specs.List.{list_any}
 use Rattle.linx_base.specs.declared.identity.Inc.{Inc}
 use Rattle.journal.specs.declared.effect.Effect.{Effect}

@@ -1,5 +1,6 @@
 -- What a step leaves of its node is what the kernel's call for it leaves: receives and detaches.
-use Rattle.std.proofs.Common.{◌≡◌, ℕ, ◌<◌, Bool, true, false, not, ◌||◌, List, [], ◌∷◌, map, filter, Some, refl, sym, ◌∙◌, ap, subst, arith}
+use Rattle.std.proofs.Common.{◌≡◌, ℕ, ◌<◌, Bool, true, false, not, ◌||◌, List, [], ◌∷◌, map, filter}
+use Rattle.std.proofs.Common.{Some, refl, sym, ◌∙◌, ap, subst, arith}
 use Rattle.std.specs.List.{list_any, AllByRecursion}
 use Rattle.std.proofs.Math.Bool.{or-false}
 use Rattle.std.proofs.lemmas.Bool.Decides.{nat_tests}
@@ -27,7 +28,8 @@ use Rattle.fabric.specs.Remains.{endpoint_left}
 use Rattle.fabric.proofs.Effects.{only-none}
 use Rattle.fabric.proofs.Leaving.{after_step}
 use Rattle.fabric.proofs.Pendings.{filter-agree}
-use Rattle.fabric.proofs.Putting.{endpoints-kept, endpoints-put, hunts-kept, openings-kept, owed-kept, put-none, put_past, state_by_parts}
+use Rattle.fabric.proofs.Putting.{endpoints-kept, endpoints-put, hunts-kept, openings-kept}
+use Rattle.fabric.proofs.Putting.{owed-kept, put-none, put_past, state_by_parts}
 
 -- incarnations tell whether they are the same from either side
 pub same_inc-sym : (i j : Inc) → same_inc i j ≡ same_inc j i

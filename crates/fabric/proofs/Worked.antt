@@ -10,11 +10,13 @@ use Rattle.journal.specs.declared.effect.Effect.TheVariants.{Closed}
 use Rattle.journal.specs.declared.effect.Step.{Step}
 use Rattle.journal.specs.declared.event.Event.{Event}
 use Rattle.journal.specs.declared.event.Event.TheVariants as asks
-use Rattle.journal.specs.declared.head.Head.TheVariants.{Open, Refused, Restart, Send, TakeNone, Waits}
+use Rattle.journal.specs.declared.head.Head.TheVariants.{Open, Refused, Restart, Send, TakeNone}
+use Rattle.journal.specs.declared.head.Head.TheVariants.{Waits}
 use Rattle.journal.specs.declared.head.Refusal.TheVariants.{IsOpen, NotOpen}
 use Rattle.journal.specs.declared.head.SentTo.TheVariants.{Dead, Queued}
 use Rattle.journal.specs.History.{endpoint_of}
-use Rattle.journal.proofs.Playing.{at, ends, first, item, made, note, opens, second, sends, takes, third, two_actors}
+use Rattle.journal.proofs.Playing.{at, ends, first, item, made, note, opens, second, sends, takes}
+use Rattle.journal.proofs.Playing.{third, two_actors}
 use Rattle.node_kernel.specs.declared.answers.StepAnswer.TheVariants as answers
 use Rattle.node_kernel.specs.declared.ask.Ask.{Ask}
 use Rattle.fabric.specs.Machine.{all_have_ended, answer_to, is_at_rest, steps_after}

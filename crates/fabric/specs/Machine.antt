@@ -1,5 +1,6 @@
 -- The machine: the step that an event makes after a history, and its answer.
-use Rattle.std.specs.Prelude.{ℕ, zero, suc, ◌≡◌, ◌≤◌, ◌<◌, Bool, true, false, ◌&&◌, ◌||◌, ◌==◌, List, [], ◌∷◌, length, is_some, Option, Some, None}
+use Rattle.std.specs.Prelude.{ℕ, zero, suc, ◌≡◌, ◌≤◌, ◌<◌, Bool, true, false, ◌&&◌, ◌||◌, ◌==◌}
+use Rattle.std.specs.Prelude.{List, [], ◌∷◌, length, is_some, Option, Some, None}
 use Rattle.linx_base.specs.Content.{data_limit}
 use Rattle.linx_base.specs.declared.identity.Inc.{Inc}
 use Rattle.linx_base.specs.declared.item.Item.{Item}
@@ -130,7 +131,8 @@ FitsEvent nodes (asks.Restart n) note = (0 < n.0) × (n.0 ≤ nodes)
 FitsEvent nodes (asks.Attach q) note = length note.bytes < data_limit
 FitsEvent nodes _ note = Unit {0}
 
--- What a maker may ask for: it makes steps, the event has a signal in hand exactly where it hands one
+-- What a maker may ask for: it makes steps, the event has a signal in hand exactly where it hands
+-- one
 -- over, and what it speaks of is there. As yet nothing is asked of a link
 pub record MayAsk (nodes : ℕ) (shape : Shape) (P : List Step) (by : By) (ask : Ask) : Type 0 where
   pub maker : IsMaker shape P by

@@ -4,7 +4,8 @@ use Rattle.std.specs.List.{AllByRecursion}
 use Rattle.linx_base.specs.declared.identity.Inc.{Inc}
 use Rattle.linx_base.specs.declared.identity.NodeNo.{NodeNo}
 use Rattle.journal.specs.declared.effect.Step.{Step}
-use Rattle.journal.specs.History.{closed_step, endpoint_of, has_ended, name_of, open_endpoints, opened_on}
+use Rattle.journal.specs.History.{closed_step, endpoint_of, has_ended, name_of, open_endpoints}
+use Rattle.journal.specs.History.{opened_on}
 use Rattle.journal.specs.Laws.{IsLegal}
 use Rattle.journal.specs.Living.{living}
 use Rattle.journal.specs.Logs.{Log, step_limit}
@@ -72,9 +73,11 @@ pub record Layout : Type 0 where
   pub shape : Shape
   pub log : Log
 
--- What a fabric keeps: its journal is legal, its kernels are what the journal leaves of the nodes, and
+-- What a fabric keeps: its journal is legal, its kernels are what the journal leaves of the nodes,
+-- and
 -- its standings what it leaves of the actors
-pub record IsKept (shape : Shape) (log : Log) (kernels : List NodeState) (standings : List Standing) : Type 0 where
+pub record IsKept (shape : Shape) (log : Log) (kernels : List NodeState)
+    (standings : List Standing) : Type 0 where
   pub laid_out : IsLaidOut (length log.names.nodes) shape
   pub legal : IsLegal shape log.steps
   pub nodes : length kernels ≡ length log.names.nodes

@@ -1,4 +1,6 @@
-ghost use Rattle.std.specs.Prelude.{◌≡◌, ◌==◌, ◌||◌, ◌+◌, ◌<◌, ◌≤◌, Option, true, false, [], length, replicate, is_some, IfOk, IfErr, OnOk, IsSome, IsTrue, Some, None};
+ghost use Rattle.std.specs.Prelude.{◌≡◌, ◌==◌, ◌||◌, ◌+◌, ◌<◌, ◌≤◌, Option, true, false, []};
+ghost use Rattle.std.specs.Prelude.{length, replicate, is_some, IfOk, IfErr, OnOk, IsSome, IsTrue};
+ghost use Rattle.std.specs.Prelude.{Some, None};
 ghost use Rattle.linx_base.specs.declared.signal.SigNote.{SigNote};
 ghost use Rattle.sigsel.specs.Selection.{first_selected};
 ghost use Rattle.journal.specs.History.{endpoint_of, has_ended};
@@ -47,7 +49,8 @@ impl Model for Fabric {
       log = f.journal.log;
     } };
 
-    ghost invariant = { λ f. IsWellKept (record { links = f.links.items; actors = f.actors.items }) f.journal.log f.kernels.items f.standings.items };
+    ghost invariant = { λ f. IsWellKept (record { links = f.links.items; actors = f.actors.items })
+        f.journal.log f.kernels.items f.standings.items };
 }
 
 /// A kernel for each node.
@@ -84,7 +87,8 @@ impl Fabric {
         links: &[LinkDecl],
         actors: &[NodeNo],
     ) -> Result<Fabric, NoMemory>
-        requires laid_out { IsLaidOut (length names.nodes) (record { links = links.now; actors = actors.now }) }
+        requires laid_out { IsLaidOut (length names.nodes)
+            (record { links = links.now; actors = actors.now }) }
         ensures ok { IfOk result (λ fabric. fabric ≡ record {
           shape = record { links = links.now; actors = actors.now };
           log = record { names = names; steps = [] };
@@ -240,12 +244,20 @@ impl Fabric {
         event: Event,
         hand: Option<Signal>,
     ) -> Result<StepAnswer, StepStop>
-        requires asked { MayAsk (length self.old.log.names.nodes) self.old.shape self.old.log.steps by (record { event = event; hand = hand }) }
-        ensures answer { IfOk result (λ answer. answer ≡ answer_to self.old.shape self.old.log.steps by (record { event = event; hand = hand })) }
-        ensures ok { OnOk result (self.new.log.steps ≡ steps_after self.old.shape self.old.log.steps by (record { event = event; hand = hand })) }
-        ensures fixed { self.new ≡ record self.old { log = record self.old.log { steps = self.new.log.steps } } }
-        ensures full { is_full self.old.log.steps ≡ true → result ≡ Err (record { cause = StopCause.JournalFull; hand = hand }) }
-        ensures full_only { IfErr result (λ stop. stop.cause ≡ StopCause.JournalFull → is_full self.old.log.steps ≡ true) }
+        requires asked { MayAsk (length self.old.log.names.nodes) self.old.shape self.old.log.steps
+            by (record { event = event; hand = hand }) }
+        ensures answer { IfOk result (λ answer. answer
+            ≡ answer_to self.old.shape self.old.log.steps by
+            (record { event = event; hand = hand })) }
+        ensures ok { OnOk result (self.new.log.steps
+            ≡ steps_after self.old.shape self.old.log.steps by
+            (record { event = event; hand = hand })) }
+        ensures fixed { self.new ≡ record self.old
+            { log = record self.old.log { steps = self.new.log.steps } } }
+        ensures full { is_full self.old.log.steps ≡ true
+            → result ≡ Err (record { cause = StopCause.JournalFull; hand = hand }) }
+        ensures full_only { IfErr result (λ stop. stop.cause ≡ StopCause.JournalFull
+            → is_full self.old.log.steps ≡ true) }
         ensures err { IfErr result (λ stop. (stop.hand ≡ hand) × (self.new ≡ self.old)) }
     {
         if self.journal.full() {
@@ -264,7 +276,9 @@ impl Fabric {
     fn refusal_of(&self, actor: u32, event: &Event) -> Option<Refusal>
         requires above { 0 < actor }
         requires within { actor ≤ length self.now.shape.actors }
-        ensures { (hand : Option SigNote) → granted self.now.log.steps actor (record { event = event.now; hand = hand }) ≡ unless_refused result (record { event = event.now; hand = hand }) }
+        ensures { (hand : Option SigNote) → granted self.now.log.steps actor
+            (record { event = event.now; hand = hand })
+            ≡ unless_refused result (record { event = event.now; hand = hand }) }
     {
         let standing = &self.standings[(actor - 1) as usize];
         refusal_of(standing, event)
@@ -277,11 +291,18 @@ impl Fabric {
         event: Event,
         hand: Option<Signal>,
     ) -> Result<StepAnswer, StepStop>
-        requires asked { MayAsk (length self.old.log.names.nodes) self.old.shape self.old.log.steps (By.Actor actor) (record { event = event; hand = hand }) }
+        requires asked { MayAsk (length self.old.log.names.nodes) self.old.shape self.old.log.steps
+            (By.Actor actor) (record { event = event; hand = hand }) }
         requires short { length self.old.log.steps < 200000 }
-        ensures ok { IfOk result (λ answer. Makes self.old.shape self.old.log.steps actor (granted self.old.log.steps actor (record { event = event; hand = hand })) answer self.new.log.steps) }
-        ensures fixed { self.new ≡ record self.old { log = record self.old.log { steps = self.new.log.steps } } }
-        ensures err { IfErr result (λ stop. (stop ≡ record { cause = StopCause.NoMemory; hand = hand }) × (self.new ≡ self.old)) }
+        ensures ok { IfOk result (λ answer. Makes self.old.shape self.old.log.steps actor
+            (granted self.old.log.steps actor (record { event = event; hand = hand })) answer
+            self.new.log.steps) }
+        ensures fixed { self.new ≡ record self.old
+            { log = record self.old.log { steps = self.new.log.steps } } }
+        ensures err { IfErr result (λ stop. (stop ≡ record {
+          cause = StopCause.NoMemory;
+          hand = hand;
+        }) × (self.new ≡ self.old)) }
     {
         match self.refusal_of(actor, &event) {
             Some(reason) => self.refuse(actor, reason, hand),
@@ -296,12 +317,19 @@ impl Fabric {
         event: Event,
         hand: Option<Signal>,
     ) -> Result<StepAnswer, StepStop>
-        requires asked { MayAsk (length self.old.log.names.nodes) self.old.shape self.old.log.steps (By.Actor actor) (record { event = event; hand = hand }) }
-        requires granted { granted self.old.log.steps actor (record { event = event; hand = hand }) ≡ record { event = event; hand = hand } }
+        requires asked { MayAsk (length self.old.log.names.nodes) self.old.shape self.old.log.steps
+            (By.Actor actor) (record { event = event; hand = hand }) }
+        requires granted { granted self.old.log.steps actor (record { event = event; hand = hand })
+            ≡ record { event = event; hand = hand } }
         requires short { length self.old.log.steps < 200000 }
-        ensures ok { IfOk result (λ answer. Makes self.old.shape self.old.log.steps actor (record { event = event; hand = hand }) answer self.new.log.steps) }
-        ensures fixed { self.new ≡ record self.old { log = record self.old.log { steps = self.new.log.steps } } }
-        ensures err { IfErr result (λ stop. (stop ≡ record { cause = StopCause.NoMemory; hand = hand }) × (self.new ≡ self.old)) }
+        ensures ok { IfOk result (λ answer. Makes self.old.shape self.old.log.steps actor
+            (record { event = event; hand = hand }) answer self.new.log.steps) }
+        ensures fixed { self.new ≡ record self.old
+            { log = record self.old.log { steps = self.new.log.steps } } }
+        ensures err { IfErr result (λ stop. (stop ≡ record {
+          cause = StopCause.NoMemory;
+          hand = hand;
+        }) × (self.new ≡ self.old)) }
     {
         match event {
             Event::Open(name) => self.open(actor, name),
@@ -329,12 +357,18 @@ impl Fabric {
 
     /// An opening.
     fn open(&mut self, actor: u32, name: Name) -> Result<StepAnswer, StepStop>
-        requires asked { MayAsk (length self.old.log.names.nodes) self.old.shape self.old.log.steps (By.Actor actor) (record { event = Event.Open name; hand = None }) }
+        requires asked { MayAsk (length self.old.log.names.nodes) self.old.shape self.old.log.steps
+            (By.Actor actor) (record { event = Event.Open name; hand = None }) }
         requires granted { endpoint_of self.old.log.steps actor ≡ None }
         requires short { length self.old.log.steps < 200000 }
-        ensures ok { IfOk result (λ answer. Makes self.old.shape self.old.log.steps actor (record { event = Event.Open name; hand = None }) answer self.new.log.steps) }
-        ensures fixed { self.new ≡ record self.old { log = record self.old.log { steps = self.new.log.steps } } }
-        ensures err { IfErr result (λ stop. (stop ≡ record { cause = StopCause.NoMemory; hand = None }) × (self.new ≡ self.old)) }
+        ensures ok { IfOk result (λ answer. Makes self.old.shape self.old.log.steps actor
+            (record { event = Event.Open name; hand = None }) answer self.new.log.steps) }
+        ensures fixed { self.new ≡ record self.old
+            { log = record self.old.log { steps = self.new.log.steps } } }
+        ensures err { IfErr result (λ stop. (stop ≡ record {
+          cause = StopCause.NoMemory;
+          hand = None;
+        }) × (self.new ≡ self.old)) }
     {
         let place = self.kernel_of(actor);
         let by = By::Actor(actor);
@@ -349,12 +383,18 @@ impl Fabric {
 
     /// A closing.
     fn close(&mut self, actor: u32) -> Result<StepAnswer, StepStop>
-        requires asked { MayAsk (length self.old.log.names.nodes) self.old.shape self.old.log.steps (By.Actor actor) (record { event = Event.Close; hand = None }) }
+        requires asked { MayAsk (length self.old.log.names.nodes) self.old.shape self.old.log.steps
+            (By.Actor actor) (record { event = Event.Close; hand = None }) }
         requires granted { IsSome (endpoint_of self.old.log.steps actor) }
         requires short { length self.old.log.steps < 200000 }
-        ensures ok { IfOk result (λ answer. Makes self.old.shape self.old.log.steps actor (record { event = Event.Close; hand = None }) answer self.new.log.steps) }
-        ensures fixed { self.new ≡ record self.old { log = record self.old.log { steps = self.new.log.steps } } }
-        ensures err { IfErr result (λ stop. (stop ≡ record { cause = StopCause.NoMemory; hand = None }) × (self.new ≡ self.old)) }
+        ensures ok { IfOk result (λ answer. Makes self.old.shape self.old.log.steps actor
+            (record { event = Event.Close; hand = None }) answer self.new.log.steps) }
+        ensures fixed { self.new ≡ record self.old
+            { log = record self.old.log { steps = self.new.log.steps } } }
+        ensures err { IfErr result (λ stop. (stop ≡ record {
+          cause = StopCause.NoMemory;
+          hand = None;
+        }) × (self.new ≡ self.old)) }
     {
         let Some(at) = self.endpoint_of(actor) else {
             unreachable!()
@@ -379,12 +419,18 @@ impl Fabric {
 
     /// A send.
     fn send(&mut self, actor: u32, to: Peer, signal: Signal) -> Result<StepAnswer, StepStop>
-        requires asked { MayAsk (length self.old.log.names.nodes) self.old.shape self.old.log.steps (By.Actor actor) (record { event = Event.Send to; hand = Some signal }) }
+        requires asked { MayAsk (length self.old.log.names.nodes) self.old.shape self.old.log.steps
+            (By.Actor actor) (record { event = Event.Send to; hand = Some signal }) }
         requires granted { IsSome (endpoint_of self.old.log.steps actor) }
         requires short { length self.old.log.steps < 200000 }
-        ensures ok { IfOk result (λ answer. Makes self.old.shape self.old.log.steps actor (record { event = Event.Send to; hand = Some signal }) answer self.new.log.steps) }
-        ensures fixed { self.new ≡ record self.old { log = record self.old.log { steps = self.new.log.steps } } }
-        ensures err { IfErr result (λ stop. (stop ≡ record { cause = StopCause.NoMemory; hand = Some signal }) × (self.new ≡ self.old)) }
+        ensures ok { IfOk result (λ answer. Makes self.old.shape self.old.log.steps actor
+            (record { event = Event.Send to; hand = Some signal }) answer self.new.log.steps) }
+        ensures fixed { self.new ≡ record self.old
+            { log = record self.old.log { steps = self.new.log.steps } } }
+        ensures err { IfErr result (λ stop. (stop ≡ record {
+          cause = StopCause.NoMemory;
+          hand = Some signal;
+        }) × (self.new ≡ self.old)) }
     {
         let Some(at) = self.endpoint_of(actor) else {
             unreachable!()
@@ -410,12 +456,18 @@ impl Fabric {
 
     /// A look.
     fn look(&mut self, actor: u32, filter: Sigsel) -> Result<StepAnswer, StepStop>
-        requires asked { MayAsk (length self.old.log.names.nodes) self.old.shape self.old.log.steps (By.Actor actor) (record { event = Event.Look filter; hand = None }) }
+        requires asked { MayAsk (length self.old.log.names.nodes) self.old.shape self.old.log.steps
+            (By.Actor actor) (record { event = Event.Look filter; hand = None }) }
         requires granted { IsSome (endpoint_of self.old.log.steps actor) }
         requires short { length self.old.log.steps < 200000 }
-        ensures ok { IfOk result (λ answer. Makes self.old.shape self.old.log.steps actor (record { event = Event.Look filter; hand = None }) answer self.new.log.steps) }
-        ensures fixed { self.new ≡ record self.old { log = record self.old.log { steps = self.new.log.steps } } }
-        ensures err { IfErr result (λ stop. (stop ≡ record { cause = StopCause.NoMemory; hand = None }) × (self.new ≡ self.old)) }
+        ensures ok { IfOk result (λ answer. Makes self.old.shape self.old.log.steps actor
+            (record { event = Event.Look filter; hand = None }) answer self.new.log.steps) }
+        ensures fixed { self.new ≡ record self.old
+            { log = record self.old.log { steps = self.new.log.steps } } }
+        ensures err { IfErr result (λ stop. (stop ≡ record {
+          cause = StopCause.NoMemory;
+          hand = None;
+        }) × (self.new ≡ self.old)) }
     {
         let Some(at) = self.endpoint_of(actor) else {
             unreachable!()
@@ -441,13 +493,20 @@ impl Fabric {
 
     /// A look with nothing selected.
     fn look_in_vain(&mut self, actor: u32, filter: Sigsel) -> Result<StepAnswer, StepStop>
-        requires asked { MayAsk (length self.old.log.names.nodes) self.old.shape self.old.log.steps (By.Actor actor) (record { event = Event.Look filter; hand = None }) }
+        requires asked { MayAsk (length self.old.log.names.nodes) self.old.shape self.old.log.steps
+            (By.Actor actor) (record { event = Event.Look filter; hand = None }) }
         requires granted { IsSome (endpoint_of self.old.log.steps actor) }
-        requires vain { first_selected filter (queue_of self.old.log.steps (endpoint_of self.old.log.steps actor)) ≡ None }
+        requires vain { first_selected filter (queue_of self.old.log.steps
+            (endpoint_of self.old.log.steps actor)) ≡ None }
         requires short { length self.old.log.steps < 200000 }
-        ensures ok { IfOk result (λ answer. Makes self.old.shape self.old.log.steps actor (record { event = Event.Look filter; hand = None }) answer self.new.log.steps) }
-        ensures fixed { self.new ≡ record self.old { log = record self.old.log { steps = self.new.log.steps } } }
-        ensures err { IfErr result (λ stop. (stop ≡ record { cause = StopCause.NoMemory; hand = None }) × (self.new ≡ self.old)) }
+        ensures ok { IfOk result (λ answer. Makes self.old.shape self.old.log.steps actor
+            (record { event = Event.Look filter; hand = None }) answer self.new.log.steps) }
+        ensures fixed { self.new ≡ record self.old
+            { log = record self.old.log { steps = self.new.log.steps } } }
+        ensures err { IfErr result (λ stop. (stop ≡ record {
+          cause = StopCause.NoMemory;
+          hand = None;
+        }) × (self.new ≡ self.old)) }
     {
         if self.is_rest(actor) {
             return self.find_none(actor, filter);
@@ -460,14 +519,21 @@ impl Fabric {
 
     /// A look with nothing selected, at rest.
     fn find_none(&mut self, actor: u32, filter: Sigsel) -> Result<StepAnswer, StepStop>
-        requires asked { MayAsk (length self.old.log.names.nodes) self.old.shape self.old.log.steps (By.Actor actor) (record { event = Event.Look filter; hand = None }) }
+        requires asked { MayAsk (length self.old.log.names.nodes) self.old.shape self.old.log.steps
+            (By.Actor actor) (record { event = Event.Look filter; hand = None }) }
         requires granted { IsSome (endpoint_of self.old.log.steps actor) }
-        requires vain { first_selected filter (queue_of self.old.log.steps (endpoint_of self.old.log.steps actor)) ≡ None }
+        requires vain { first_selected filter (queue_of self.old.log.steps
+            (endpoint_of self.old.log.steps actor)) ≡ None }
         requires rest { is_at_rest self.old.shape self.old.log.steps actor ≡ true }
         requires short { length self.old.log.steps < 200000 }
-        ensures ok { IfOk result (λ answer. Makes self.old.shape self.old.log.steps actor (record { event = Event.Look filter; hand = None }) answer self.new.log.steps) }
-        ensures fixed { self.new ≡ record self.old { log = record self.old.log { steps = self.new.log.steps } } }
-        ensures err { IfErr result (λ stop. (stop ≡ record { cause = StopCause.NoMemory; hand = None }) × (self.new ≡ self.old)) }
+        ensures ok { IfOk result (λ answer. Makes self.old.shape self.old.log.steps actor
+            (record { event = Event.Look filter; hand = None }) answer self.new.log.steps) }
+        ensures fixed { self.new ≡ record self.old
+            { log = record self.old.log { steps = self.new.log.steps } } }
+        ensures err { IfErr result (λ stop. (stop ≡ record {
+          cause = StopCause.NoMemory;
+          hand = None;
+        }) × (self.new ≡ self.old)) }
     {
         let by = By::Actor(actor);
         match make_quiet(self.alloc, &mut self.journal, by, Head::TakeNone(filter)) {
@@ -481,15 +547,22 @@ impl Fabric {
 
     /// The first look with nothing selected, not at rest.
     fn wait(&mut self, actor: u32, filter: Sigsel) -> Result<StepAnswer, StepStop>
-        requires asked { MayAsk (length self.old.log.names.nodes) self.old.shape self.old.log.steps (By.Actor actor) (record { event = Event.Look filter; hand = None }) }
+        requires asked { MayAsk (length self.old.log.names.nodes) self.old.shape self.old.log.steps
+            (By.Actor actor) (record { event = Event.Look filter; hand = None }) }
         requires granted { IsSome (endpoint_of self.old.log.steps actor) }
-        requires vain { first_selected filter (queue_of self.old.log.steps (endpoint_of self.old.log.steps actor)) ≡ None }
+        requires vain { first_selected filter (queue_of self.old.log.steps
+            (endpoint_of self.old.log.steps actor)) ≡ None }
         requires busy { is_at_rest self.old.shape self.old.log.steps actor ≡ false }
         requires first { waits_with self.old.log.steps actor ≡ None }
         requires short { length self.old.log.steps < 200000 }
-        ensures ok { IfOk result (λ answer. Makes self.old.shape self.old.log.steps actor (record { event = Event.Look filter; hand = None }) answer self.new.log.steps) }
-        ensures fixed { self.new ≡ record self.old { log = record self.old.log { steps = self.new.log.steps } } }
-        ensures err { IfErr result (λ stop. (stop ≡ record { cause = StopCause.NoMemory; hand = None }) × (self.new ≡ self.old)) }
+        ensures ok { IfOk result (λ answer. Makes self.old.shape self.old.log.steps actor
+            (record { event = Event.Look filter; hand = None }) answer self.new.log.steps) }
+        ensures fixed { self.new ≡ record self.old
+            { log = record self.old.log { steps = self.new.log.steps } } }
+        ensures err { IfErr result (λ stop. (stop ≡ record {
+          cause = StopCause.NoMemory;
+          hand = None;
+        }) × (self.new ≡ self.old)) }
     {
         let by = By::Actor(actor);
         match make_wait(self.alloc, &mut self.journal, by, filter) {
@@ -503,12 +576,18 @@ impl Fabric {
 
     /// A hunt.
     fn hunt(&mut self, actor: u32, path: Path, signal: Signal) -> Result<StepAnswer, StepStop>
-        requires asked { MayAsk (length self.old.log.names.nodes) self.old.shape self.old.log.steps (By.Actor actor) (record { event = Event.Hunt path; hand = Some signal }) }
+        requires asked { MayAsk (length self.old.log.names.nodes) self.old.shape self.old.log.steps
+            (By.Actor actor) (record { event = Event.Hunt path; hand = Some signal }) }
         requires granted { IsSome (endpoint_of self.old.log.steps actor) }
         requires short { length self.old.log.steps < 200000 }
-        ensures ok { IfOk result (λ answer. Makes self.old.shape self.old.log.steps actor (record { event = Event.Hunt path; hand = Some signal }) answer self.new.log.steps) }
-        ensures fixed { self.new ≡ record self.old { log = record self.old.log { steps = self.new.log.steps } } }
-        ensures err { IfErr result (λ stop. (stop ≡ record { cause = StopCause.NoMemory; hand = Some signal }) × (self.new ≡ self.old)) }
+        ensures ok { IfOk result (λ answer. Makes self.old.shape self.old.log.steps actor
+            (record { event = Event.Hunt path; hand = Some signal }) answer self.new.log.steps) }
+        ensures fixed { self.new ≡ record self.old
+            { log = record self.old.log { steps = self.new.log.steps } } }
+        ensures err { IfErr result (λ stop. (stop ≡ record {
+          cause = StopCause.NoMemory;
+          hand = Some signal;
+        }) × (self.new ≡ self.old)) }
     {
         let Some(at) = self.endpoint_of(actor) else {
             unreachable!()
@@ -533,12 +612,18 @@ impl Fabric {
 
     /// An attach.
     fn attach(&mut self, actor: u32, peer: Peer, signal: Signal) -> Result<StepAnswer, StepStop>
-        requires asked { MayAsk (length self.old.log.names.nodes) self.old.shape self.old.log.steps (By.Actor actor) (record { event = Event.Attach peer; hand = Some signal }) }
+        requires asked { MayAsk (length self.old.log.names.nodes) self.old.shape self.old.log.steps
+            (By.Actor actor) (record { event = Event.Attach peer; hand = Some signal }) }
         requires granted { IsSome (endpoint_of self.old.log.steps actor) }
         requires short { length self.old.log.steps < 200000 }
-        ensures ok { IfOk result (λ answer. Makes self.old.shape self.old.log.steps actor (record { event = Event.Attach peer; hand = Some signal }) answer self.new.log.steps) }
-        ensures fixed { self.new ≡ record self.old { log = record self.old.log { steps = self.new.log.steps } } }
-        ensures err { IfErr result (λ stop. (stop ≡ record { cause = StopCause.NoMemory; hand = Some signal }) × (self.new ≡ self.old)) }
+        ensures ok { IfOk result (λ answer. Makes self.old.shape self.old.log.steps actor
+            (record { event = Event.Attach peer; hand = Some signal }) answer self.new.log.steps) }
+        ensures fixed { self.new ≡ record self.old
+            { log = record self.old.log { steps = self.new.log.steps } } }
+        ensures err { IfErr result (λ stop. (stop ≡ record {
+          cause = StopCause.NoMemory;
+          hand = Some signal;
+        }) × (self.new ≡ self.old)) }
     {
         let Some(at) = self.endpoint_of(actor) else {
             unreachable!()
@@ -563,12 +648,18 @@ impl Fabric {
 
     /// A detach.
     fn detach(&mut self, actor: u32, r: AttRef) -> Result<StepAnswer, StepStop>
-        requires asked { MayAsk (length self.old.log.names.nodes) self.old.shape self.old.log.steps (By.Actor actor) (record { event = Event.Detach r; hand = None }) }
+        requires asked { MayAsk (length self.old.log.names.nodes) self.old.shape self.old.log.steps
+            (By.Actor actor) (record { event = Event.Detach r; hand = None }) }
         requires granted { IsSome (endpoint_of self.old.log.steps actor) }
         requires short { length self.old.log.steps < 200000 }
-        ensures ok { IfOk result (λ answer. Makes self.old.shape self.old.log.steps actor (record { event = Event.Detach r; hand = None }) answer self.new.log.steps) }
-        ensures fixed { self.new ≡ record self.old { log = record self.old.log { steps = self.new.log.steps } } }
-        ensures err { IfErr result (λ stop. (stop ≡ record { cause = StopCause.NoMemory; hand = None }) × (self.new ≡ self.old)) }
+        ensures ok { IfOk result (λ answer. Makes self.old.shape self.old.log.steps actor
+            (record { event = Event.Detach r; hand = None }) answer self.new.log.steps) }
+        ensures fixed { self.new ≡ record self.old
+            { log = record self.old.log { steps = self.new.log.steps } } }
+        ensures err { IfErr result (λ stop. (stop ≡ record {
+          cause = StopCause.NoMemory;
+          hand = None;
+        }) × (self.new ≡ self.old)) }
     {
         let Some(at) = self.endpoint_of(actor) else {
             unreachable!()
@@ -593,11 +684,17 @@ impl Fabric {
 
     /// A restart of a node, which may be another than the actor's.
     fn restart(&mut self, actor: u32, node: NodeNo) -> Result<StepAnswer, StepStop>
-        requires asked { MayAsk (length self.old.log.names.nodes) self.old.shape self.old.log.steps (By.Actor actor) (record { event = Event.Restart node; hand = None }) }
+        requires asked { MayAsk (length self.old.log.names.nodes) self.old.shape self.old.log.steps
+            (By.Actor actor) (record { event = Event.Restart node; hand = None }) }
         requires short { length self.old.log.steps < 200000 }
-        ensures ok { IfOk result (λ answer. Makes self.old.shape self.old.log.steps actor (record { event = Event.Restart node; hand = None }) answer self.new.log.steps) }
-        ensures fixed { self.new ≡ record self.old { log = record self.old.log { steps = self.new.log.steps } } }
-        ensures err { IfErr result (λ stop. (stop ≡ record { cause = StopCause.NoMemory; hand = None }) × (self.new ≡ self.old)) }
+        ensures ok { IfOk result (λ answer. Makes self.old.shape self.old.log.steps actor
+            (record { event = Event.Restart node; hand = None }) answer self.new.log.steps) }
+        ensures fixed { self.new ≡ record self.old
+            { log = record self.old.log { steps = self.new.log.steps } } }
+        ensures err { IfErr result (λ stop. (stop ≡ record {
+          cause = StopCause.NoMemory;
+          hand = None;
+        }) × (self.new ≡ self.old)) }
     {
         let made = make_restart(
             &mut self.journal,
@@ -624,9 +721,14 @@ impl Fabric {
     ) -> Result<StepAnswer, StepStop>
         requires maker { IsMaker self.old.shape self.old.log.steps (By.Actor actor) }
         requires short { length self.old.log.steps < 200000 }
-        ensures ok { IfOk result (λ answer. Makes self.old.shape self.old.log.steps actor (refused reason) answer self.new.log.steps) }
-        ensures fixed { self.new ≡ record self.old { log = record self.old.log { steps = self.new.log.steps } } }
-        ensures err { IfErr result (λ stop. (stop ≡ record { cause = StopCause.NoMemory; hand = hand }) × (self.new ≡ self.old)) }
+        ensures ok { IfOk result (λ answer. Makes self.old.shape self.old.log.steps actor
+            (refused reason) answer self.new.log.steps) }
+        ensures fixed { self.new ≡ record self.old
+            { log = record self.old.log { steps = self.new.log.steps } } }
+        ensures err { IfErr result (λ stop. (stop ≡ record {
+          cause = StopCause.NoMemory;
+          hand = hand;
+        }) × (self.new ≡ self.old)) }
     {
         let by = By::Actor(actor);
         match make_quiet(self.alloc, &mut self.journal, by, Head::Refused(reason)) {
@@ -640,11 +742,17 @@ impl Fabric {
 
     /// The end of an actor.
     fn end(&mut self, actor: u32) -> Result<StepAnswer, StepStop>
-        requires asked { MayAsk (length self.old.log.names.nodes) self.old.shape self.old.log.steps (By.Actor actor) (record { event = Event.End; hand = None }) }
+        requires asked { MayAsk (length self.old.log.names.nodes) self.old.shape self.old.log.steps
+            (By.Actor actor) (record { event = Event.End; hand = None }) }
         requires short { length self.old.log.steps < 200000 }
-        ensures ok { IfOk result (λ answer. Makes self.old.shape self.old.log.steps actor (record { event = Event.End; hand = None }) answer self.new.log.steps) }
-        ensures fixed { self.new ≡ record self.old { log = record self.old.log { steps = self.new.log.steps } } }
-        ensures err { IfErr result (λ stop. (stop ≡ record { cause = StopCause.NoMemory; hand = None }) × (self.new ≡ self.old)) }
+        ensures ok { IfOk result (λ answer. Makes self.old.shape self.old.log.steps actor
+            (record { event = Event.End; hand = None }) answer self.new.log.steps) }
+        ensures fixed { self.new ≡ record self.old
+            { log = record self.old.log { steps = self.new.log.steps } } }
+        ensures err { IfErr result (λ stop. (stop ≡ record {
+          cause = StopCause.NoMemory;
+          hand = None;
+        }) × (self.new ≡ self.old)) }
     {
         match self.endpoint_of(actor) {
             Some(at) => self.end_open(actor, at),
@@ -654,12 +762,18 @@ impl Fabric {
 
     /// The end of an actor whose endpoint is open.
     fn end_open(&mut self, actor: u32, at: Inc) -> Result<StepAnswer, StepStop>
-        requires asked { MayAsk (length self.old.log.names.nodes) self.old.shape self.old.log.steps (By.Actor actor) (record { event = Event.End; hand = None }) }
+        requires asked { MayAsk (length self.old.log.names.nodes) self.old.shape self.old.log.steps
+            (By.Actor actor) (record { event = Event.End; hand = None }) }
         requires granted { endpoint_of self.old.log.steps actor ≡ Some at }
         requires short { length self.old.log.steps < 200000 }
-        ensures ok { IfOk result (λ answer. Makes self.old.shape self.old.log.steps actor (record { event = Event.End; hand = None }) answer self.new.log.steps) }
-        ensures fixed { self.new ≡ record self.old { log = record self.old.log { steps = self.new.log.steps } } }
-        ensures err { IfErr result (λ stop. (stop ≡ record { cause = StopCause.NoMemory; hand = None }) × (self.new ≡ self.old)) }
+        ensures ok { IfOk result (λ answer. Makes self.old.shape self.old.log.steps actor
+            (record { event = Event.End; hand = None }) answer self.new.log.steps) }
+        ensures fixed { self.new ≡ record self.old
+            { log = record self.old.log { steps = self.new.log.steps } } }
+        ensures err { IfErr result (λ stop. (stop ≡ record {
+          cause = StopCause.NoMemory;
+          hand = None;
+        }) × (self.new ≡ self.old)) }
     {
         let place = self.kernel_of(actor);
         let made = make_close(
@@ -683,12 +797,18 @@ impl Fabric {
 
     /// The end of an actor that has no endpoint.
     fn end_closed(&mut self, actor: u32) -> Result<StepAnswer, StepStop>
-        requires asked { MayAsk (length self.old.log.names.nodes) self.old.shape self.old.log.steps (By.Actor actor) (record { event = Event.End; hand = None }) }
+        requires asked { MayAsk (length self.old.log.names.nodes) self.old.shape self.old.log.steps
+            (By.Actor actor) (record { event = Event.End; hand = None }) }
         requires granted { endpoint_of self.old.log.steps actor ≡ None }
         requires short { length self.old.log.steps < 200000 }
-        ensures ok { IfOk result (λ answer. Makes self.old.shape self.old.log.steps actor (record { event = Event.End; hand = None }) answer self.new.log.steps) }
-        ensures fixed { self.new ≡ record self.old { log = record self.old.log { steps = self.new.log.steps } } }
-        ensures err { IfErr result (λ stop. (stop ≡ record { cause = StopCause.NoMemory; hand = None }) × (self.new ≡ self.old)) }
+        ensures ok { IfOk result (λ answer. Makes self.old.shape self.old.log.steps actor
+            (record { event = Event.End; hand = None }) answer self.new.log.steps) }
+        ensures fixed { self.new ≡ record self.old
+            { log = record self.old.log { steps = self.new.log.steps } } }
+        ensures err { IfErr result (λ stop. (stop ≡ record {
+          cause = StopCause.NoMemory;
+          hand = None;
+        }) × (self.new ≡ self.old)) }
     {
         let by = By::Actor(actor);
         match make_quiet(self.alloc, &mut self.journal, by, Head::Ended) {

@@ -33,7 +33,9 @@ fn needs_endpoint(event: &Event) -> bool
 
 /// Why an event of an actor that stands so is refused, if it is.
 pub(crate) fn refusal_of(standing: &Standing, event: &Event) -> Option<Refusal>
-    ensures { (hand : Option SigNote) → granted_by standing.now.endpoint standing.now.closed (record { event = event.now; hand = hand }) ≡ unless_refused result (record { event = event.now; hand = hand }) }
+    ensures { (hand : Option SigNote) → granted_by standing.now.endpoint standing.now.closed
+        (record { event = event.now; hand = hand })
+        ≡ unless_refused result (record { event = event.now; hand = hand }) }
 {
     match standing.endpoint {
         Some(inc) => {

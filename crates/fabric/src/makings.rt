@@ -1,14 +1,18 @@
 //! One step made on a journal and the kernel of one node: all memory is taken first, the kernel
 //! changes last, and then the step is noted.
 
-ghost use Rattle.std.specs.Prelude.{◌≡◌, ◌+◌, ◌<◌, ◌≤◌, [], ◌∷◌, length, map, IfOk, IfErr, OnOk, OnErr, IsTrue};
+ghost use Rattle.std.specs.Prelude.{◌≡◌, ◌+◌, ◌<◌, ◌≤◌, [], ◌∷◌, length, map, IfOk, IfErr, OnOk};
+ghost use Rattle.std.specs.Prelude.{OnErr, IsTrue};
 ghost use Rattle.linx_base.specs.Content.{data_limit};
 ghost use Rattle.linx_base.specs.NameText.{is_name};
-ghost use Rattle.journal.specs.Effects.{arrivals_of, attached, closing, closings, hunted, opening, send_answer};
+ghost use Rattle.journal.specs.Effects.{arrivals_of, attached, closing, closings, hunted, opening};
+ghost use Rattle.journal.specs.Effects.{send_answer};
 ghost use Rattle.journal.specs.declared.head.Head.TheVariants as heads;
 ghost use Rattle.sigsel.specs.Selection.{first_selected};
-ghost use Rattle.node_kernel.specs.Calls.{after_attach, after_close, after_detach, after_hunt, after_open, after_restart, after_send, detached};
-ghost use Rattle.node_kernel.specs.Nodes.{endpoint_limit, find_at, is_living, is_open, items_at, next_of};
+ghost use Rattle.node_kernel.specs.Calls.{after_attach, after_close, after_detach, after_hunt};
+ghost use Rattle.node_kernel.specs.Calls.{after_open, after_restart, after_send, detached};
+ghost use Rattle.node_kernel.specs.Nodes.{endpoint_limit, find_at, is_living, is_open, items_at};
+ghost use Rattle.node_kernel.specs.Nodes.{next_of};
 ghost use Rattle.fabric.specs.Standings.{past_effects};
 ghost use Rattle.fabric.specs.Looks.{after_take, looked_at, with_take};
 
@@ -26,7 +30,8 @@ pub(crate) fn make_quiet(
     by: By,
     head: Head,
 ) -> Result<(), NoMemory>
-    ensures log { OnOk result (journal.new.log ≡ record journal.old.log { steps = record { by = by; head = head; effects = [] } ∷ journal.old.log.steps }) }
+    ensures log { OnOk result (journal.new.log ≡ record journal.old.log
+        { steps = record { by = by; head = head; effects = [] } ∷ journal.old.log.steps }) }
     ensures err { OnErr result (journal.new.log ≡ journal.old.log) }
 {
     journal.reserve(1)?;
@@ -50,9 +55,14 @@ pub(crate) fn make_open(
     requires short { length journal.old.log.steps < 200000 }
     ensures inc { IfOk result (λ inc. inc ≡ next_of kernel.old) }
     ensures name { IsTrue (is_name name) }
-    ensures kernel { OnOk result (kernel.new ≡ after_open kernel.old name (length journal.old.log.steps + 1)) }
+    ensures kernel { OnOk result (kernel.new ≡ after_open kernel.old name
+        (length journal.old.log.steps + 1)) }
     ensures log { OnOk result (journal.new.log ≡ record journal.old.log {
-      steps = record { by = by; head = heads.Open name; effects = opening (next_of kernel.old) name kernel.old.hunts } ∷ journal.old.log.steps;
+      steps = record {
+        by = by;
+        head = heads.Open name;
+        effects = opening (next_of kernel.old) name kernel.old.hunts;
+      } ∷ journal.old.log.steps;
     }) }
     ensures err { OnErr result ((journal.new.log ≡ journal.old.log) × (kernel.new ≡ kernel.old)) }
 {
@@ -83,9 +93,11 @@ pub(crate) fn make_close(
 ) -> Result<(), NoMemory>
     requires is_open { IsTrue (is_open kernel.old.endpoints at) }
     requires short { length journal.old.log.steps < 200000 }
-    ensures kernel { OnOk result (kernel.new ≡ after_close kernel.old at (length journal.old.log.steps + 1)) }
+    ensures kernel { OnOk result (kernel.new ≡ after_close kernel.old at
+        (length journal.old.log.steps + 1)) }
     ensures log { OnOk result (journal.new.log ≡ record journal.old.log {
-      steps = record { by = by; head = head; effects = closing at kernel.old.attaches } ∷ journal.old.log.steps;
+      steps = record { by = by; head = head; effects = closing at kernel.old.attaches }
+          ∷ journal.old.log.steps;
     }) }
     ensures err { OnErr result ((journal.new.log ≡ journal.old.log) × (kernel.new ≡ kernel.old)) }
 {
@@ -112,10 +124,12 @@ pub(crate) fn make_take(
     filter: Sigsel,
 ) -> Result<Looked, NoMemory>
     requires { IsTrue (is_open kernel.old.endpoints at) }
-    ensures looked { IfOk result (λ looked. looked ≡ looked_at filter (first_selected filter (items_at kernel.old.endpoints at))) }
+    ensures looked { IfOk result (λ looked. looked
+        ≡ looked_at filter (first_selected filter (items_at kernel.old.endpoints at))) }
     ensures kernel { OnOk result (kernel.new ≡ after_take kernel.old at filter) }
     ensures log { OnOk result (journal.new.log ≡ record journal.old.log {
-      steps = with_take by filter (first_selected filter (items_at kernel.old.endpoints at)) journal.old.log.steps;
+      steps = with_take by filter (first_selected filter (items_at kernel.old.endpoints at))
+          journal.old.log.steps;
     }) }
     ensures err { OnErr result ((journal.new.log ≡ journal.old.log) × (kernel.new ≡ kernel.old)) }
 {
@@ -141,7 +155,10 @@ pub(crate) fn make_wait(
     filter: Sigsel,
 ) -> Result<Sigsel, NoMemory>
     ensures filter { IfOk result (λ back. back ≡ filter) }
-    ensures log { OnOk result (journal.new.log ≡ record journal.old.log { steps = record { by = by; head = heads.Waits filter; effects = [] } ∷ journal.old.log.steps }) }
+    ensures log { OnOk result (journal.new.log ≡ record journal.old.log {
+      steps = record { by = by; head = heads.Waits filter; effects = [] }
+          ∷ journal.old.log.steps;
+    }) }
     ensures err { OnErr result (journal.new.log ≡ journal.old.log) }
 {
     let copy = filter.copy()?;
@@ -208,7 +225,8 @@ fn prepare_send(
 ) -> Result<(SigNote, Effects), NoMemory>
     ensures room { OnOk result (0 < journal.new.spare) }
     ensures log { journal.new.log ≡ journal.old.log }
-    ensures ok { IfOk result (λ made. (made.0 ≡ signal.now) × (made.1 ≡ arrivals_of from signal.now living to)) }
+    ensures ok { IfOk result (λ made. (made.0 ≡ signal.now)
+        × (made.1 ≡ arrivals_of from signal.now living to)) }
     ensures bounded { length signal.now.bytes ≤ data_limit }
 {
     let note = prepare(journal, signal)?;
@@ -230,7 +248,8 @@ pub(crate) fn make_send(
     requires short { length journal.old.log.steps < 200000 }
     ensures sent { IfOk result (λ sent. sent ≡ send_answer (is_living kernel.old to) to) }
     ensures bounded { length signal.bytes ≤ data_limit }
-    ensures kernel { OnOk result (kernel.new ≡ after_send kernel.old from to signal (length journal.old.log.steps + 1)) }
+    ensures kernel { OnOk result (kernel.new ≡ after_send kernel.old from to signal
+        (length journal.old.log.steps + 1)) }
     ensures log { OnOk result (journal.new.log ≡ record journal.old.log {
       steps = record {
         by = by;
@@ -238,7 +257,8 @@ pub(crate) fn make_send(
         effects = arrivals_of from signal (is_living kernel.old to) to;
       } ∷ journal.old.log.steps;
     }) }
-    ensures err { IfErr result (λ back. (back.1 ≡ signal) × (journal.new.log ≡ journal.old.log) × (kernel.new ≡ kernel.old)) }
+    ensures err { IfErr result (λ back. (back.1 ≡ signal) × (journal.new.log ≡ journal.old.log)
+        × (kernel.new ≡ kernel.old)) }
 {
     let living = kernel.is_living(to);
     let Ok((note, effects)) = prepare_send(alloc, journal, from, &signal, living, to) else {
@@ -286,15 +306,28 @@ pub(crate) fn make_hunt(
     requires short { length journal.old.log.steps < 200000 }
     ensures number { IfOk result (λ number. number ≡ length journal.old.log.steps + 1) }
     ensures bounded { length signal.bytes ≤ data_limit }
-    ensures kernel { OnOk result (kernel.new ≡ after_hunt kernel.old (record { at = at; path = path; signal = signal; number = length journal.old.log.steps + 1 })) }
+    ensures kernel { OnOk result (kernel.new ≡ after_hunt kernel.old
+        (record {
+          at = at;
+          path = path;
+          signal = signal;
+          number = length journal.old.log.steps + 1;
+        })) }
     ensures log { OnOk result (journal.new.log ≡ record journal.old.log {
       steps = record {
         by = by;
         head = heads.Hunt path signal;
-        effects = hunted (find_at kernel.old path) (record { at = at; path = path; signal = signal; number = length journal.old.log.steps + 1 });
+        effects = hunted (find_at kernel.old path)
+            (record {
+              at = at;
+              path = path;
+              signal = signal;
+              number = length journal.old.log.steps + 1;
+            });
       } ∷ journal.old.log.steps;
     }) }
-    ensures err { IfErr result (λ back. (back.1 ≡ signal) × (journal.new.log ≡ journal.old.log) × (kernel.new ≡ kernel.old)) }
+    ensures err { IfErr result (λ back. (back.1 ≡ signal) × (journal.new.log ≡ journal.old.log)
+        × (kernel.new ≡ kernel.old)) }
 {
     let Ok((note, copy)) = prepare_hunt(journal, &signal, &path) else {
         return Err((NoMemory, signal));
@@ -326,15 +359,28 @@ pub(crate) fn make_attach(
     requires room { length signal.bytes < data_limit }
     requires short { length journal.old.log.steps < 200000 }
     ensures reference { IfOk result (λ r. r ≡ record { 0 = length journal.old.log.steps + 1 }) }
-    ensures kernel { OnOk result (kernel.new ≡ after_attach kernel.old (record { at = at; peer = peer; signal = signal; reference = record { 0 = length journal.old.log.steps + 1 } })) }
+    ensures kernel { OnOk result (kernel.new ≡ after_attach kernel.old
+        (record {
+          at = at;
+          peer = peer;
+          signal = signal;
+          reference = record { 0 = length journal.old.log.steps + 1 };
+        })) }
     ensures log { OnOk result (journal.new.log ≡ record journal.old.log {
       steps = record {
         by = by;
         head = heads.Attach peer signal;
-        effects = attached (is_living kernel.old peer) (record { at = at; peer = peer; signal = signal; reference = record { 0 = length journal.old.log.steps + 1 } });
+        effects = attached (is_living kernel.old peer)
+            (record {
+              at = at;
+              peer = peer;
+              signal = signal;
+              reference = record { 0 = length journal.old.log.steps + 1 };
+            });
       } ∷ journal.old.log.steps;
     }) }
-    ensures err { IfErr result (λ back. (back.1 ≡ signal) × (journal.new.log ≡ journal.old.log) × (kernel.new ≡ kernel.old)) }
+    ensures err { IfErr result (λ back. (back.1 ≡ signal) × (journal.new.log ≡ journal.old.log)
+        × (kernel.new ≡ kernel.old)) }
 {
     let Ok(note) = prepare(journal, &signal) else {
         return Err((NoMemory, signal));
@@ -366,7 +412,8 @@ pub(crate) fn make_detach(
     ensures answer { IfOk result (λ answer. answer ≡ detached kernel.old at r) }
     ensures kernel { OnOk result (kernel.new ≡ after_detach kernel.old at r) }
     ensures log { OnOk result (journal.new.log ≡ record journal.old.log {
-      steps = record { by = by; head = heads.Detach r (detached kernel.old at r); effects = [] } ∷ journal.old.log.steps;
+      steps = record { by = by; head = heads.Detach r (detached kernel.old at r); effects = [] }
+          ∷ journal.old.log.steps;
     }) }
     ensures err { OnErr result ((journal.new.log ≡ journal.old.log) × (kernel.new ≡ kernel.old)) }
 {
@@ -391,10 +438,17 @@ pub(crate) fn make_restart(
     requires { length journal.old.log.steps < 200000 }
     ensures kernel { OnOk result (kernel.new ≡ after_restart kernel.old) }
     ensures log { OnOk result (journal.new.log ≡ record journal.old.log {
-      steps = record { by = by; head = heads.Restart node; effects = closings (map (λ e. e.inc) kernel.old.endpoints) } ∷ journal.old.log.steps;
+      steps = record {
+        by = by;
+        head = heads.Restart node;
+        effects = closings (map (λ e. e.inc) kernel.old.endpoints);
+      } ∷ journal.old.log.steps;
     }) }
-    ensures standings { OnOk result (standings.new ≡ map (past_effects (length journal.old.log.steps + 1) (closings (map (λ e. e.inc) kernel.old.endpoints))) standings.old) }
-    ensures err { OnErr result ((journal.new.log ≡ journal.old.log) × (kernel.new ≡ kernel.old) × (standings.new ≡ standings.old)) }
+    ensures standings { OnOk result (standings.new
+        ≡ map (past_effects (length journal.old.log.steps + 1)
+        (closings (map (λ e. e.inc) kernel.old.endpoints))) standings.old) }
+    ensures err { OnErr result ((journal.new.log ≡ journal.old.log) × (kernel.new ≡ kernel.old)
+        × (standings.new ≡ standings.old)) }
 {
     journal.reserve(1)?;
     let effects = kernel.restart()?;

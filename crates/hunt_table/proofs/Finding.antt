@@ -5,7 +5,11 @@ use Rattle.linx_base.specs.declared.name.Path.TheVariants.{Local, Over}
 use Rattle.linx_base.specs.declared.pending.PendingHunt.{PendingHunt}
 
 -- what holds of hunts on both kinds of paths holds of every hunt
-pub by_path : (p q : PendingHunt → Bool) → ((h : PendingHunt) (name : List ℕ) → p (record h { path = Local name }) ≡ q (record h { path = Local name })) → ((h : PendingHunt) (link : LinkNo) (name : List ℕ) → p (record h { path = Over link name }) ≡ q (record h { path = Over link name })) → (h : PendingHunt) → p h ≡ q h
+pub by_path : (p q : PendingHunt → Bool) → ((h : PendingHunt) (name : List ℕ)
+    → p (record h { path = Local name }) ≡ q (record h { path = Local name }))
+    → ((h : PendingHunt) (link : LinkNo) (name : List ℕ)
+    → p (record h { path = Over link name }) ≡ q (record h { path = Over link name }))
+    → (h : PendingHunt) → p h ≡ q h
 by_path p q local over h =
     elim h.path as (λ path. p (record h { path = path }) ≡ q (record h { path = path })) [
       | Local name ↦ local h name

@@ -5,7 +5,8 @@ use Rattle.linx_base.specs.declared.name.Path.{Path}
 use Rattle.linx_base.specs.declared.name.Path.TheVariants.{Local, Over}
 use Rattle.linx_base.specs.declared.pending.PendingHunt.{PendingHunt}
 use Rattle.hunt_table.specs.declared.hunt_key.HuntKey.{HuntKey}
-use Rattle.hunt_table.specs.declared.hunt_key.HuntKey.TheVariants.{Local as LocalKey, Over as OverKey, Link, Hunter}
+use Rattle.hunt_table.specs.declared.hunt_key.HuntKey.TheVariants.{Local as LocalKey}
+use Rattle.hunt_table.specs.declared.hunt_key.HuntKey.TheVariants.{Over as OverKey, Link, Hunter}
 
 -- the key of the hunts for a path
 abbrev pub path_key : Path → HuntKey

@@ -20,7 +20,8 @@ pub(crate) enum HuntKey {
 /// The key of the hunts for a path.
 pub(crate) fn path_key(path: &Path) -> HuntKey
     ensures key { result ≡ path_key path.now }
-    ensures finds { (hunt : Hunt) → is_under ⟦<HuntKey as Ord>⟧.cmp keys_of result hunt ≡ is_for path.now hunt }
+    ensures finds { (hunt : Hunt) → is_under ⟦<HuntKey as Ord>⟧.cmp keys_of result hunt
+        ≡ is_for path.now hunt }
 {
     match path {
         Path::Local(name) => HuntKey::Local(NameKey::of(name)),

@@ -53,7 +53,8 @@ impl HuntTable {
         self.hunts.push(hunt)
     }
 
-    /// Takes out the earliest hunt for a path. `None` exactly where there is none. It takes no memory.
+    /// Takes out the earliest hunt for a path. `None` exactly where there is none. It takes no
+    /// memory.
     pub fn next_for(&mut self, path: &Path) -> Option<PendingHunt>
         ensures earliest { result ≡ first_match (is_for path.now) self.old }
         ensures others { self.new ≡ without_match (is_for path.now) self.old }
@@ -68,7 +69,8 @@ impl HuntTable {
         self.hunts.nth(path_key(path), k)
     }
 
-    /// The name of the k-th hunt, from 0, whose path goes over a link. `None` exactly where there are
+    /// The name of the k-th hunt, from 0, whose path goes over a link. `None` exactly where there
+    /// are
     /// at most k.
     pub fn nth_over(&self, link: LinkNo, k: usize) -> Option<&Name>
         ensures { option_copied result ≡ slice_get (names_over link self.now) k }

@@ -1,8 +1,12 @@
 -- The endpoints that a legal history opened and closed.
-use Rattle.std.proofs.Common.{◌≡◌, ℕ, zero, suc, ◌<◌, ◌≤◌, Bool, true, false, not, cond, ◌⊎◌, inl, inr, List, [], ◌∷◌, ◌++◌, append-nil, length, map, Option, Some, None, is_none, refl, sym, ap, ◌∙◌, subst, arith}
+use Rattle.std.proofs.Common.{◌≡◌, ℕ, zero, suc, ◌<◌, ◌≤◌, Bool, true, false, not, cond, ◌⊎◌, inl}
+use Rattle.std.proofs.Common.{inr, List, [], ◌∷◌, ◌++◌, append-nil, length, map, Option, Some, None}
+use Rattle.std.proofs.Common.{is_none, refl, sym, ap, ◌∙◌, subst, arith}
 use Rattle.std.specs.Prelude.{if◌then◌else◌}
 use Rattle.std.specs.List.{list_any, filter, filter_map, AllByRecursion}
-use Rattle.std.proofs.lemmas.Bool.{cond_both, not-true, false_from_ne_true, true_from_ne_false, eqb-true, eq-eqb, cases_eq, ne_eqb, or_cases, or_left, or_right, true≢false}
+use Rattle.std.proofs.lemmas.Bool.{cond_both, not-true, false_from_ne_true, true_from_ne_false}
+use Rattle.std.proofs.lemmas.Bool.{eqb-true, eq-eqb, cases_eq, ne_eqb, or_cases, or_left, or_right}
+use Rattle.std.proofs.lemmas.Bool.{true≢false}
 use Rattle.std.proofs.lemmas.List.Folds.{list_any-append}
 use Rattle.linx_base.specs.Numbers.{is_on, node_of}
 use Rattle.linx_base.specs.Peers.{same_inc, same_peer}
@@ -20,18 +24,24 @@ use Rattle.linx_base.specs.declared.signal.SigNote.{SigNote}
 use Rattle.journal.specs.declared.by.By.{By}
 use Rattle.journal.specs.declared.by.By.TheVariants.{Actor, Pump}
 use Rattle.journal.specs.declared.head.Head.{Head}
-use Rattle.journal.specs.declared.head.Head.TheVariants.{Open, Close, Send, Take, TakeNone, Waits, Hunt, Attach, Detach, Cut, Mend, Settle, Restart, Wire, Tick, Refused, Ended}
+use Rattle.journal.specs.declared.head.Head.TheVariants.{Open, Close, Send, Take, TakeNone, Waits}
+use Rattle.journal.specs.declared.head.Head.TheVariants.{Hunt, Attach, Detach, Cut, Mend, Settle}
+use Rattle.journal.specs.declared.head.Head.TheVariants.{Restart, Wire, Tick, Refused, Ended}
 use Rattle.journal.specs.declared.effect.Effect.{Effect}
 use Rattle.journal.specs.declared.effect.Effect.TheVariants.{Opened, Closed}
 use Rattle.journal.specs.declared.effect.Step.{Step}
-use Rattle.journal.specs.Effects.{hunts_for, found, founds, notice, notices, held_elsewhere, ending, closings, arrivals_of, hunted, attached}
-use Rattle.journal.specs.History.{is_by, opened_in, closes, last_opened, unless_closed, endpoint_of, endpoint_by, opened_by, open_endpoints, opened_on, next_inc}
+use Rattle.journal.specs.Effects.{hunts_for, found, founds, notice, notices, held_elsewhere, ending}
+use Rattle.journal.specs.Effects.{closings, arrivals_of, hunted, attached}
+use Rattle.journal.specs.History.{is_by, opened_in, closes, last_opened, unless_closed, endpoint_of}
+use Rattle.journal.specs.History.{endpoint_by, opened_by, open_endpoints, opened_on, next_inc}
 use Rattle.journal.specs.Living.{find, is_alive}
 use Rattle.journal.specs.Pending.{attach_at, attach_in, hunt_at, hunt_in, hunting, owed}
 use Rattle.journal.specs.Traffic.{is_endpoint}
 use Rattle.journal.specs.Shapes.{Shape, node_by}
-use Rattle.journal.specs.Laws.{IsLegal, IsLegalStep, KeepsMakers, KeepsEndpoints, may_make, is_opening, effects_by, sending, hunting_by, attaching}
-use Rattle.journal.proofs.Lists.{all-append, all-filter, all-impl, filter-all, list_any-filter, list_any-one}
+use Rattle.journal.specs.Laws.{IsLegal, IsLegalStep, KeepsMakers, KeepsEndpoints, may_make}
+use Rattle.journal.specs.Laws.{is_opening, effects_by, sending, hunting_by, attaching}
+use Rattle.journal.proofs.Lists.{all-append, all-filter, all-impl, filter-all, list_any-filter}
+use Rattle.journal.proofs.Lists.{list_any-one}
 
 -- the test of incarnations is their equality
 pub same_inc-refl : (i : Inc) → same_inc i i ≡ true

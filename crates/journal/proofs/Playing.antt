@@ -1,6 +1,9 @@
 -- The words of worked runs, and how one is shown to be legal, step by step, by tests that compute.
-use Rattle.std.proofs.Common.{◌≡◌, ◌≢◌, ℕ, zero, suc, ◌<◌, ◌≤◌, nat_lt, nat_le, ◌==◌, Bool, true, false, not, ◌&&◌, ◌||◌, List, [], ◌∷◌, length, Option, is_none, is_some, inl, inr, refl, sym, ap, ◌∙◌, arith}
-use Rattle.std.proofs.lemmas.Bool.{and_parts, cases_eq, eqb-true, or_cases, not-true, leb-true, ltb-true, true≢false}
+use Rattle.std.proofs.Common.{◌≡◌, ◌≢◌, ℕ, zero, suc, ◌<◌, ◌≤◌, nat_lt, nat_le, ◌==◌, Bool, true}
+use Rattle.std.proofs.Common.{false, not, ◌&&◌, ◌||◌, List, [], ◌∷◌, length, Option, is_none}
+use Rattle.std.proofs.Common.{is_some, inl, inr, refl, sym, ap, ◌∙◌, arith}
+use Rattle.std.proofs.lemmas.Bool.{and_parts, cases_eq, eqb-true, or_cases, not-true, leb-true}
+use Rattle.std.proofs.lemmas.Bool.{ltb-true, true≢false}
 use Rattle.linx_base.specs.Numbers.{inc_of}
 use Rattle.linx_base.specs.declared.identity.AttRef.{AttRef}
 use Rattle.linx_base.specs.declared.identity.Inc.{Inc}
@@ -21,7 +24,9 @@ use Rattle.journal.specs.declared.head.SentTo.TheVariants.{Queued}
 use Rattle.journal.specs.History.{endpoint_of, has_ended}
 use Rattle.journal.specs.Shapes.{Shape, node_by}
 use Rattle.journal.specs.Rest.{IsAtRest, leaves_at_rest}
-use Rattle.journal.specs.Laws.{KeepsMakers, KeepsEndpoints, IsBounded, KeepsSends, KeepsReceives, IsLegalStep, IsLegal, is_opening, is_endpoints, is_on_link, effects_by}
+use Rattle.journal.specs.Laws.{KeepsMakers, KeepsEndpoints, IsBounded, KeepsSends, KeepsReceives}
+use Rattle.journal.specs.Laws.{IsLegalStep, IsLegal, is_opening, is_endpoints, is_on_link}
+use Rattle.journal.specs.Laws.{effects_by}
 
 -- the test of an actor as a maker: it is one of the shape, and hasn't ended
 abbrev is_actor : Shape → List Step → ℕ → Bool

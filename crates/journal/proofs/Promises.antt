@@ -1,5 +1,7 @@
 -- A legal journal keeps its promises.
-use Rattle.std.proofs.Common.{◌≡◌, ℕ, suc, Bool, true, false, cond, ◌&&◌, List, [], ◌∷◌, ◌++◌, length, map, append-nil, Option, Some, None, refl, sym, ap, ◌∙◌, subst, arith}
+use Rattle.std.proofs.Common.{◌≡◌, ℕ, suc, Bool, true, false, cond, ◌&&◌, List, [], ◌∷◌, ◌++◌}
+use Rattle.std.proofs.Common.{length, map, append-nil, Option, Some, None, refl, sym, ap, ◌∙◌}
+use Rattle.std.proofs.Common.{subst, arith}
 use Rattle.std.specs.Prelude.{if◌then◌else◌}
 use Rattle.std.specs.List.{filter, filter_map, AllByRecursion}
 use Rattle.std.proofs.lemmas.Bool.Decides.{nat_tests}
@@ -19,10 +21,14 @@ use Rattle.journal.specs.declared.by.By.TheVariants.{Actor, Pump}
 use Rattle.journal.specs.declared.effect.Effect.{Effect}
 use Rattle.journal.specs.declared.effect.Step.{Step}
 use Rattle.journal.specs.declared.head.Head.{Head}
-use Rattle.journal.specs.declared.head.Head.TheVariants.{Open, Close, Send, Take, TakeNone, Waits, Hunt, Attach, Detach, Cut, Mend, Settle, Restart, Wire, Tick, Refused, Ended}
+use Rattle.journal.specs.declared.head.Head.TheVariants.{Open, Close, Send, Take, TakeNone, Waits}
+use Rattle.journal.specs.declared.head.Head.TheVariants.{Hunt, Attach, Detach, Cut, Mend, Settle}
+use Rattle.journal.specs.declared.head.Head.TheVariants.{Restart, Wire, Tick, Refused, Ended}
 use Rattle.journal.specs.declared.head.SentTo.{SentTo}
-use Rattle.journal.specs.Effects.{arrivals_of, attached, closings, ending, found, held_elsewhere, hunted, hunts_for, notice, send_answer}
-use Rattle.journal.specs.History.{effects_of, endpoint_by, endpoint_of, next_inc, open_endpoints, opened_on}
+use Rattle.journal.specs.Effects.{arrivals_of, attached, closings, ending, found, held_elsewhere}
+use Rattle.journal.specs.Effects.{hunted, hunts_for, notice, send_answer}
+use Rattle.journal.specs.History.{effects_of, endpoint_by, endpoint_of, next_inc, open_endpoints}
+use Rattle.journal.specs.History.{opened_on}
 use Rattle.journal.specs.Laws.{IsLegal, IsLegalStep, KeepsSends, effects_by}
 use Rattle.journal.specs.Living.{find, is_alive}
 use Rattle.journal.specs.Pending.{hunting, owed}

@@ -1,5 +1,6 @@
 -- Runs that the laws refuse: after a legal history stands a step that breaks one law alone.
-use Rattle.std.proofs.Common.{◌≡◌, ℕ, ◌≤◌, ◌==◌, Bool, true, false, List, [], ◌∷◌, length, replicate, Some, None, refl, ap, arith}
+use Rattle.std.proofs.Common.{◌≡◌, ℕ, ◌≤◌, ◌==◌, Bool, true, false, List, [], ◌∷◌, length}
+use Rattle.std.proofs.Common.{replicate, Some, None, refl, ap, arith}
 use Rattle.std.specs.Prelude.{codes}
 use Rattle.std.specs.Prelude.{sum_by}
 use Rattle.std.proofs.lemmas.Bool.{eqb-false}
@@ -18,17 +19,22 @@ use Rattle.sigsel.specs.Selection.{first_selected}
 use Rattle.sigsel.specs.declared.sigsel.Sigsel.TheVariants.{Any}
 use Rattle.journal.specs.declared.by.By.TheVariants.{Pump}
 use Rattle.journal.specs.declared.head.Detached.TheVariants.{Pending, None as Neither}
-use Rattle.journal.specs.declared.head.Head.TheVariants.{Open, Close, Send, TakeNone, Waits, Hunt, Attach, Detach, Cut, Restart, Tick}
+use Rattle.journal.specs.declared.head.Head.TheVariants.{Open, Close, Send, TakeNone, Waits, Hunt}
+use Rattle.journal.specs.declared.head.Head.TheVariants.{Attach, Detach, Cut, Restart, Tick}
 use Rattle.journal.specs.declared.head.SentTo.TheVariants.{Queued, Dead}
 use Rattle.journal.specs.declared.effect.Effect.{Effect}
-use Rattle.journal.specs.declared.effect.Effect.TheVariants.{Opened, Closed, Arrived, Found, Notified}
+use Rattle.journal.specs.declared.effect.Effect.TheVariants.{Opened, Closed, Arrived, Found}
+use Rattle.journal.specs.declared.effect.Effect.TheVariants.{Notified}
 use Rattle.journal.specs.declared.effect.Step.{Step}
 use Rattle.journal.specs.History.{endpoint_by}
 use Rattle.journal.specs.Logs.{effect_bytes}
 use Rattle.journal.specs.Queues.{queued}
 use Rattle.journal.specs.Shapes.{Shape, node_by}
-use Rattle.journal.specs.Laws.{KeepsMakers, KeepsEndpoints, IsBounded, KeepsSends, KeepsReceives, IsLegal, effects_by, is_on_link}
-use Rattle.journal.proofs.Playing.{acts, at_rest, made_by, endpoint_kept, ◌▸◌, one_actor, two_actors, three_actors, first, second, third, made, note, at, ref, opens, closes, sends, takes, ends}
+use Rattle.journal.specs.Laws.{KeepsMakers, KeepsEndpoints, IsBounded, KeepsSends, KeepsReceives}
+use Rattle.journal.specs.Laws.{IsLegal, effects_by, is_on_link}
+use Rattle.journal.proofs.Playing.{acts, at_rest, made_by, endpoint_kept, ◌▸◌, one_actor}
+use Rattle.journal.proofs.Playing.{two_actors, three_actors, first, second, third, made, note, at}
+use Rattle.journal.proofs.Playing.{ref, opens, closes, sends, takes, ends}
 use Rattle.journal.proofs.Worked.{told_dead, told_dead_is_legal, two_holders, two_holders_is_legal}
 
 -- the laws of a step

@@ -17,13 +17,17 @@ use Rattle.linx_base.specs.declared.signal.Reason.TheVariants as reasons
 use Rattle.linx_base.specs.declared.signal.SigNote.{SigNote}
 use Rattle.sigsel.specs.Selection.{first_selected}
 use Rattle.sigsel.specs.declared.sigsel.Sigsel.TheVariants.{Any, Only, Not}
-use Rattle.journal.specs.declared.head.Detached.TheVariants.{Pending, Queued as WasQueued, None as Neither}
-use Rattle.journal.specs.declared.head.Head.TheVariants.{Open, Close, TakeNone, Waits, Hunt, Attach, Detach, Restart}
+use Rattle.journal.specs.declared.head.Detached.TheVariants.{Pending, Queued as WasQueued}
+use Rattle.journal.specs.declared.head.Detached.TheVariants.{None as Neither}
+use Rattle.journal.specs.declared.head.Head.TheVariants.{Open, Close, TakeNone, Waits, Hunt, Attach}
+use Rattle.journal.specs.declared.head.Head.TheVariants.{Detach, Restart}
 use Rattle.journal.specs.declared.effect.Effect.{Effect}
-use Rattle.journal.specs.declared.effect.Effect.TheVariants.{Opened, Closed, Found, Notified, Met, Gone, Down}
+use Rattle.journal.specs.declared.effect.Effect.TheVariants.{Opened, Closed, Found, Notified, Met}
+use Rattle.journal.specs.declared.effect.Effect.TheVariants.{Gone, Down}
 use Rattle.journal.specs.declared.effect.Step.{Step}
 use Rattle.journal.specs.Effects.{losing, meeting, parting}
-use Rattle.journal.specs.History.{closed_step, endpoint_of, next_inc, open_endpoints, opened_on, opening_name}
+use Rattle.journal.specs.History.{closed_step, endpoint_of, next_inc, open_endpoints, opened_on}
+use Rattle.journal.specs.History.{opening_name}
 use Rattle.journal.specs.Living.{find, is_alive}
 use Rattle.journal.specs.Logs.{step_at, signal_bytes_of}
 use Rattle.journal.specs.Pending.{hunting, owed}
@@ -31,7 +35,9 @@ use Rattle.journal.specs.Queues.{queued}
 use Rattle.journal.specs.Rest.{is_idle}
 use Rattle.journal.specs.Traffic.{sent_to, arrived_from}
 use Rattle.journal.specs.Laws.{IsLegal}
-use Rattle.journal.proofs.Playing.{acts, at_rest, ◌▸◌, one_actor, two_actors, three_actors, first, second, third, made, note, at, ref, opens, closes, sends, takes, ends, item}
+use Rattle.journal.proofs.Playing.{acts, at_rest, ◌▸◌, one_actor, two_actors, three_actors, first}
+use Rattle.journal.proofs.Playing.{second, third, made, note, at, ref, opens, closes, sends, takes}
+use Rattle.journal.proofs.Playing.{ends, item}
 
 -- SELF SEND AND RECEIVE
 abbrev self_send : List Step

@@ -1,5 +1,6 @@
 -- The effects that heads have, by what is pending at the node.
-use Rattle.std.specs.Prelude.{ℕ, Bool, true, false, not, List, [], ◌∷◌, map, filter, Option, Some, None}
+use Rattle.std.specs.Prelude.{ℕ, Bool, true, false, not, List, [], ◌∷◌, map, filter, Option, Some}
+use Rattle.std.specs.Prelude.{None}
 use Rattle.linx_base.specs.Content.{with_reason}
 use Rattle.linx_base.specs.Peers.{same_inc, same_path, same_peer}
 use Rattle.linx_base.specs.declared.identity.Inc.{Inc}
@@ -20,7 +21,8 @@ use Rattle.journal.specs.declared.head.Detached.TheVariants.{Pending, Queued, No
 use Rattle.journal.specs.declared.head.SentTo.{SentTo}
 use Rattle.journal.specs.declared.head.SentTo.TheVariants as sent_to
 use Rattle.journal.specs.declared.effect.Effect.{Effect}
-use Rattle.journal.specs.declared.effect.Effect.TheVariants.{Opened, Closed, Arrived, Found, Notified, Met, Gone, Down}
+use Rattle.journal.specs.declared.effect.Effect.TheVariants.{Opened, Closed, Arrived, Found}
+use Rattle.journal.specs.declared.effect.Effect.TheVariants.{Notified, Met, Gone, Down}
 use Rattle.journal.specs.Living.{is_of_session}
 
 -- the hunts for a path

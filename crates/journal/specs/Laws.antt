@@ -1,5 +1,6 @@
 -- When a step is legal after the steps before it, and a journal is.
-use Rattle.std.specs.Prelude.{ℕ, suc, ◌≡◌, ◌≤◌, ◌<◌, Bool, true, false, ◌==◌, List, [], ◌∷◌, length, is_none, is_some, IsSomeAnd, Option, Some, None}
+use Rattle.std.specs.Prelude.{ℕ, suc, ◌≡◌, ◌≤◌, ◌<◌, Bool, true, false, ◌==◌, List, [], ◌∷◌, length}
+use Rattle.std.specs.Prelude.{is_none, is_some, IsSomeAnd, Option, Some, None}
 use Rattle.std.specs.List.{list_any}
 use Rattle.linx_base.specs.Content.{data_limit}
 use Rattle.linx_base.specs.NameText.{is_name}
@@ -13,10 +14,13 @@ use Rattle.journal.specs.declared.by.By.{By}
 use Rattle.journal.specs.declared.by.By.TheVariants.{Actor, Pump}
 use Rattle.journal.specs.declared.head.Detached.{Detached}
 use Rattle.journal.specs.declared.head.Head.{Head}
-use Rattle.journal.specs.declared.head.Head.TheVariants.{Open, Close, Send, Take, TakeNone, Waits, Hunt, Attach, Detach, Cut, Mend, Settle, Restart, Wire, Tick, Refused, Ended}
+use Rattle.journal.specs.declared.head.Head.TheVariants.{Open, Close, Send, Take, TakeNone, Waits}
+use Rattle.journal.specs.declared.head.Head.TheVariants.{Hunt, Attach, Detach, Cut, Mend, Settle}
+use Rattle.journal.specs.declared.head.Head.TheVariants.{Restart, Wire, Tick, Refused, Ended}
 use Rattle.journal.specs.declared.effect.Effect.{Effect}
 use Rattle.journal.specs.declared.effect.Step.{Step}
-use Rattle.journal.specs.Effects.{opening, ending, arrivals_of, hunted, attached, closings, send_answer, detach_answer}
+use Rattle.journal.specs.Effects.{opening, ending, arrivals_of, hunted, attached, closings}
+use Rattle.journal.specs.Effects.{send_answer, detach_answer}
 use Rattle.journal.specs.History.{endpoint_by, has_ended, next_inc, open_endpoints, opened_on}
 use Rattle.journal.specs.Living.{find, is_alive}
 use Rattle.journal.specs.Pending.{hunting, is_attach, owed}

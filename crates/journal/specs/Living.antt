@@ -1,5 +1,6 @@
 -- Whom a node can reach: its own open endpoints, and the peers that it met over its links.
-use Rattle.std.specs.Prelude.{ℕ, Bool, false, not, ◌&&◌, ◌==◌, List, [], ◌∷◌, ◌++◌, filter, Option, Some, None, if◌then◌else◌}
+use Rattle.std.specs.Prelude.{ℕ, Bool, false, not, ◌&&◌, ◌==◌, List, [], ◌∷◌, ◌++◌, filter, Option}
+use Rattle.std.specs.Prelude.{Some, None, if◌then◌else◌}
 use Rattle.std.specs.List.{list_any, fold}
 use Rattle.std.specs.Str.{bytes_eq}
 use Rattle.linx_base.specs.FirstMatch.{first_match}

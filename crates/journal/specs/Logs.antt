@@ -1,4 +1,5 @@
-use Rattle.std.specs.Prelude.{ℕ, suc, ◌+◌, Bool, ◌||◌, ◌==◌, nat_le, List, [], ◌∷◌, length, Option, Some, None, if◌then◌else◌, sum_by}
+use Rattle.std.specs.Prelude.{ℕ, suc, ◌+◌, Bool, ◌||◌, ◌==◌, nat_le, List, [], ◌∷◌, length, Option}
+use Rattle.std.specs.Prelude.{Some, None, if◌then◌else◌, sum_by}
 use Rattle.linx_base.specs.Content.{size_of}
 use Rattle.linx_base.specs.declared.name.Names.{Names}
 use Rattle.journal.specs.declared.head.Head.{Head}

@@ -1,6 +1,7 @@
 -- What is pending at a node, cut out of the history: hunts without an answer, and attaches that are
 -- owed a notification. Each is the list of records that the node's kernel is seen as.
-use Rattle.std.specs.Prelude.{ℕ, suc, Bool, true, false, not, ◌&&◌, ◌||◌, ◌==◌, List, [], ◌∷◌, ◌++◌, length, filter, Option, Some, None, if◌then◌else◌}
+use Rattle.std.specs.Prelude.{ℕ, suc, Bool, true, false, not, ◌&&◌, ◌||◌, ◌==◌, List, [], ◌∷◌, ◌++◌}
+use Rattle.std.specs.Prelude.{length, filter, Option, Some, None, if◌then◌else◌}
 use Rattle.std.specs.List.{list_any}
 use Rattle.linx_base.specs.Numbers.{is_on}
 use Rattle.linx_base.specs.Peers.{same_inc}

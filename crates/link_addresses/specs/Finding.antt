@@ -1,5 +1,7 @@
 -- What is kept beside the meanings, so that nothing is searched for.
-use Rattle.std.specs.Prelude.{◌≡◌, ◌≢◌, ℕ, suc, ◌<◌, ◌≤◌, ◌*◌, ◌/◌, ◌==◌, if◌then◌else◌, Bool, true, false, List, [], ◌∷◌, ◌++◌, length, slice_index_or, slice_set, Option, Some}
+use Rattle.std.specs.Prelude.{◌≡◌, ◌≢◌, ℕ, suc, ◌<◌, ◌≤◌, ◌*◌, ◌/◌, ◌==◌, if◌then◌else◌, Bool, true}
+use Rattle.std.specs.Prelude.{false, List, [], ◌∷◌, ◌++◌, length, slice_index_or, slice_set, Option}
+use Rattle.std.specs.Prelude.{Some}
 use Rattle.linx_base.specs.declared.identity.Inc.{Inc}
 use Rattle.link_addresses.specs.declared.meaning.Meaning.{Meaning}
 use Rattle.link_addresses.specs.declared.meaning.Meaning.TheVariants.{Free, Live}
@@ -31,10 +33,11 @@ pub record IsFirstFree (meanings : List Meaning) (place : ℕ) : Type 0 where
   pub free : meaning_of meanings (suc place) ≡ Free
 
 -- the meanings after one was put at a place, which may be the one past the end
-pub record IsPut (old : List Meaning) (place : ℕ) (meaning : Meaning) (new : List Meaning) : Type 0 where
-  pub within : place ≤ length old
-  pub inside : place < length old → new ≡ slice_set old place meaning
-  pub past : place ≡ length old → new ≡ old ++ meaning ∷ []
+pub record IsPut (old : List Meaning) (place : ℕ) (meaning : Meaning) (new : List Meaning) : Type 0
+  where
+    pub within : place ≤ length old
+    pub inside : place < length old → new ≡ slice_set old place meaning
+    pub past : place ≡ length old → new ≡ old ++ meaning ∷ []
 
 -- the most groups that the addresses need
 abbrev pub group_limit : ℕ
@@ -45,4 +48,5 @@ pub record AreGroups (full : List Bool) (meanings : List Meaning) : Type 0 where
   pub few : length full ≤ group_limit
   pub grouped : length meanings ≤ group_size * length full
   pub taken : (place : ℕ) → place < length meanings
-      → slice_index_or full (place / group_size) false ≡ true → meaning_of meanings (suc place) ≢ Free
+      → slice_index_or full (place / group_size) false ≡ true
+      → meaning_of meanings (suc place) ≢ Free

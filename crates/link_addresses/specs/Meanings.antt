@@ -1,5 +1,7 @@
 -- The meanings of link addresses, as a list from address 1 on.
-use Rattle.std.specs.Prelude.{◌≡◌, ◌≢◌, ℕ, zero, suc, ◌-◌, ◌<◌, Bool, true, false, ◌==◌, if◌then◌else◌, List, [], ◌∷◌, count_by, slice_index_or, slice_set, Option, Some, None, option_map}
+use Rattle.std.specs.Prelude.{◌≡◌, ◌≢◌, ℕ, zero, suc, ◌-◌, ◌<◌, Bool, true, false, ◌==◌}
+use Rattle.std.specs.Prelude.{if◌then◌else◌, List, [], ◌∷◌, count_by, slice_index_or, slice_set}
+use Rattle.std.specs.Prelude.{Option, Some, None, option_map}
 use Rattle.linx_base.specs.declared.identity.Inc.{Inc}
 use Rattle.link_addresses.specs.declared.meaning.Meaning.{Meaning}
 use Rattle.link_addresses.specs.declared.meaning.Meaning.TheVariants.{Free, Live, Closing}
@@ -56,7 +58,8 @@ means_live inc (Closing other) = false
 -- the address at which an incarnation is live
 unfoldable pub address_of : List Meaning → Inc → Option ℕ
 address_of [] inc = None
-address_of (meaning ∷ meanings) inc = (if means_live inc meaning then Some 1 else option_map suc (address_of meanings inc))
+address_of (meaning ∷ meanings) inc = (if means_live inc meaning then Some 1
+    else option_map suc (address_of meanings inc))
 
 -- one address has this meaning, and every other keeps its own
 pub record ChangesMeaning (old new : List Meaning) (addr : ℕ) (meaning : Meaning) : Type 0 where

@@ -1,5 +1,6 @@
 -- How a list of meanings goes back to what it was when an event began.
-use Rattle.std.specs.Prelude.{◌≡◌, ℕ, Bool, ◌+◌, ◌≤◌, ◌<◌, List, [], ◌∷◌, length, take, slice_set, Option, Some, None, sum_by, IsSome, ⊤}
+use Rattle.std.specs.Prelude.{◌≡◌, ℕ, Bool, ◌+◌, ◌≤◌, ◌<◌, List, [], ◌∷◌, length, take, slice_set}
+use Rattle.std.specs.Prelude.{Option, Some, None, sum_by, IsSome, ⊤}
 use Rattle.linx_base.specs.Both.{Both}
 use Rattle.linx_base.specs.declared.identity.Inc.{Inc}
 use Rattle.link_addresses.specs.declared.meaning.Meaning.{Meaning}
@@ -20,7 +21,8 @@ with_former meanings place None = take place meanings
 -- the meanings before these changes, oldest first
 abbrev pub undone : List Change → List Meaning → List Meaning
 undone [] meanings = meanings
-undone (change ∷ changes) meanings = with_former (undone changes meanings) change.place change.former
+undone (change ∷ changes) meanings = with_former (undone changes meanings) change.place
+    change.former
 
 -- what a place had can come back: an incarnation that was live isn't live elsewhere, and the index
 -- has an entry for it
@@ -28,14 +30,16 @@ abbrev pub CanReturn : (ℕ → Option ℕ) → List Meaning → ℕ → Option 
 CanReturn index meanings place None = ⊤
 CanReturn index meanings place (Some Free) = place < length meanings
 CanReturn index meanings place (Some (Live inc)) =
-    (place < length meanings) × (place < 4294967295) × (¬ (IsLive meanings inc)) × IsSome (index inc.0)
+    (place < length meanings) × (place < 4294967295) × (¬ (IsLive meanings inc))
+    × IsSome (index inc.0)
 CanReturn index meanings place (Some (Closing inc)) = place < length meanings
 
 -- the changes can be undone, the last one first
 abbrev pub CanUndo : (ℕ → Option ℕ) → List Change → List Meaning → Type 0
 CanUndo index [] meanings = ⊤
 CanUndo index (change ∷ changes) meanings =
-    CanReturn index (undone changes meanings) change.place change.former × CanUndo index changes meanings
+    CanReturn index (undone changes meanings) change.place change.former
+    × CanUndo index changes meanings
 
 -- how often an address still changes until it is free
 abbrev pub changes_left : Meaning → ℕ
@@ -53,7 +57,8 @@ pub record HasRoom (capacity : ℕ) (changes : List Change) (was is : List Meani
   pub before : changes_left_in was ≤ capacity
 
 -- all that is kept beside the meanings
-pub record IsTable (index : ℕ → Option ℕ) (meanings : List Meaning) (full : List Bool) (changes : List Change) (capacity used old_used : ℕ) : Type 0 where
+pub record IsTable (index : ℕ → Option ℕ) (meanings : List Meaning) (full : List Bool)
+    (changes : List Change) (capacity used old_used : ℕ) : Type 0 where
   pub indexed : IsIndexOf index meanings
   pub groups : AreGroups full meanings
   pub can_undo : CanUndo index changes meanings

@@ -1,8 +1,11 @@
-ghost use Rattle.std.specs.Prelude.{◌≡◌, ◌≢◌, ◌<◌, [], ℕ, IfSome, IfNone, OnSome, IfOk, OnOk, OnErr};
+ghost use Rattle.std.specs.Prelude.{◌≡◌, ◌≢◌, ◌<◌, [], ℕ, IfSome, IfNone, OnSome, IfOk, OnOk};
+ghost use Rattle.std.specs.Prelude.{OnErr};
 ghost use Rattle.linx_base.specs.Both.{still};
 ghost use Rattle.linx_base.specs.declared.identity.Inc.{Inc as AnyInc};
 ghost use Rattle.link_addresses.specs.declared.meaning.Meaning.TheVariants.{Free, Live, Closing};
-ghost use Rattle.link_addresses.specs.Meanings.{meaning_of, with_meaning, IsLive, used_in, lowest_free, with_lowest, IsLowestFree, address_of, ChangesMeaning, KeepsUsed};
+ghost use Rattle.link_addresses.specs.Meanings.{meaning_of, with_meaning, IsLive, used_in};
+ghost use Rattle.link_addresses.specs.Meanings.{lowest_free, with_lowest, IsLowestFree, address_of};
+ghost use Rattle.link_addresses.specs.Meanings.{ChangesMeaning, KeepsUsed};
 
 use crate::meaning::Meaning;
 use crate::table::Table;

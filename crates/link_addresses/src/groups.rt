@@ -1,9 +1,11 @@
 //! Groups of neighbouring addresses, which tell where none is free.
-ghost use Rattle.std.specs.Prelude.{◌≡◌, ◌<◌, ◌≤◌, ◌*◌, ◌/◌, List, suc, false, length, OnOk, IfSome, IfNone, slice_set};
+ghost use Rattle.std.specs.Prelude.{◌≡◌, ◌<◌, ◌≤◌, ◌*◌, ◌/◌, List, suc, false, length, OnOk};
+ghost use Rattle.std.specs.Prelude.{IfSome, IfNone, slice_set};
 ghost use Rattle.link_addresses.specs.declared.meaning.Meaning.{Meaning as AnyMeaning};
 ghost use Rattle.link_addresses.specs.declared.meaning.Meaning.TheVariants.{Free};
 ghost use Rattle.link_addresses.specs.Meanings.{meaning_of};
-ghost use Rattle.link_addresses.specs.Finding.{group_size, group_limit, AreGroups, IsFirstFree, NoneFree};
+ghost use Rattle.link_addresses.specs.Finding.{group_size, group_limit, AreGroups, IsFirstFree};
+ghost use Rattle.link_addresses.specs.Finding.{NoneFree};
 
 use crate::meaning::Meaning;
 use linx_base::NoMemory;

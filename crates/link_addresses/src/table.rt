@@ -1,10 +1,12 @@
-ghost use Rattle.std.specs.Prelude.{◌≡◌, ◌≢◌, ◌-◌, ◌<◌, ◌≤◌, ◌++◌, [], ◌∷◌, ℕ, length, OnOk, OnErr, IfOk, IfSome, IfNone, slice_get, vec_len, vec_capacity};
+ghost use Rattle.std.specs.Prelude.{◌≡◌, ◌≢◌, ◌-◌, ◌<◌, ◌≤◌, ◌++◌, [], ◌∷◌, ℕ, length, OnOk, OnErr};
+ghost use Rattle.std.specs.Prelude.{IfOk, IfSome, IfNone, slice_get, vec_len, vec_capacity};
 ghost use Rattle.linx_base.specs.Both.{still};
 ghost use Rattle.linx_base.specs.declared.identity.Inc.{Inc as AnyInc};
 ghost use Rattle.link_addresses.specs.declared.meaning.Meaning.TheVariants.{Free, Live, Closing};
 ghost use Rattle.link_addresses.specs.Finding.{IsPut};
 ghost use Rattle.link_addresses.specs.WayBack.{change_of};
-ghost use Rattle.link_addresses.specs.Meanings.{meaning_of, with_meaning, IsLive, used_in, lowest_free, with_lowest, address_of};
+ghost use Rattle.link_addresses.specs.Meanings.{meaning_of, with_meaning, IsLive, used_in};
+ghost use Rattle.link_addresses.specs.Meanings.{lowest_free, with_lowest, address_of};
 
 use crate::change::Change;
 use crate::meaning::Meaning;

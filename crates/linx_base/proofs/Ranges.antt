@@ -1,19 +1,25 @@
 -- A part of a part.
-use Rattle.std.proofs.Common.{◌≡◌, ℕ, ◌+◌, ◌-◌, ◌≤◌, List, length, take, drop, slice_range, ap, sym, ◌∙◌, arith}
+use Rattle.std.proofs.Common.{◌≡◌, ℕ, ◌+◌, ◌-◌, ◌≤◌, List, length, take, drop, slice_range, ap, sym}
+use Rattle.std.proofs.Common.{◌∙◌, arith}
 use Rattle.std.proofs.lemmas.List.{drop-take, take-take, drop-drop, length-take}
 
-cut : (n k from : ℕ) (ys : List ℕ) → from + k ≤ n → take k (drop from (take n ys)) ≡ take k (drop from ys)
+cut : (n k from : ℕ) (ys : List ℕ) → from + k ≤ n
+    → take k (drop from (take n ys)) ≡ take k (drop from ys)
 cut n k from ys h =
     let whole : from + (n - from) ≡ n = omega arith in
-    let shift : drop from (take n ys) ≡ take (n - from) (drop from ys) = ap (λ m. drop from (take m ys)) (sym whole) ∙ drop-take from (n - from) ys in
+    let shift : drop from (take n ys) ≡ take (n - from) (drop from ys) =
+    ap (λ m. drop from (take m ys)) (sym whole) ∙ drop-take from (n - from) ys in
     rw shift (take-take k (n - from) (drop from ys) (omega arith))
 
-pub part_of_part : (xs : List ℕ) (a b from to : ℕ) → from ≤ to → to ≤ length (slice_range xs a b) → slice_range xs (a + from) (a + to) ≡ slice_range (slice_range xs a b) from to
+pub part_of_part : (xs : List ℕ) (a b from to : ℕ) → from ≤ to → to ≤ length (slice_range xs a b)
+    → slice_range xs (a + from) (a + to) ≡ slice_range (slice_range xs a b) from to
 part_of_part xs a b from to order within =
     let n : a + to - (a + from) ≡ to - from = omega arith in
     let fits : from + (to - from) ≤ b - a = omega (arith, length-take (b - a) (drop a xs)) in
     let rest : drop (a + from) xs ≡ drop from (drop a xs) = sym (drop-drop from a xs) in
     rw (n, rest) (sym (cut (b - a) (to - from) from (drop a xs) fits))
 
-pub part_of_shared : (xs ys : List ℕ) (a b from to : ℕ) → ys ≡ xs → from ≤ to → to ≤ length (slice_range xs a b) → slice_range ys (a + from) (a + to) ≡ slice_range (slice_range xs a b) from to
+pub part_of_shared : (xs ys : List ℕ) (a b from to : ℕ) → ys ≡ xs → from ≤ to
+    → to ≤ length (slice_range xs a b) → slice_range ys (a + from) (a + to)
+    ≡ slice_range (slice_range xs a b) from to
 part_of_shared xs ys a b from to e order within = rw e (part_of_part xs a b from to order within)

@@ -19,10 +19,11 @@ without_beside p (x ∷ xs) [] = []
 without_beside p (x ∷ xs) (y ∷ ys) = if p x then ys else y ∷ without_beside p xs ys
 
 -- x passes, all that stands before it in xs fails, and ys is xs without it
-pub record TakesEarliest {X : Type 0} (p : X → Bool) (xs : List X) (x : X) (ys : List X) : Type 0 where
-  pub front : List X
-  pub back : List X
-  pub was : xs ≡ front ++ x ∷ back
-  pub earlier : All (λ y. p y ≡ false) front
-  pub passes : p x ≡ true
-  pub left : ys ≡ front ++ back
+pub record TakesEarliest {X : Type 0} (p : X → Bool) (xs : List X) (x : X) (ys : List X) : Type 0
+  where
+    pub front : List X
+    pub back : List X
+    pub was : xs ≡ front ++ x ∷ back
+    pub earlier : All (λ y. p y ≡ false) front
+    pub passes : p x ≡ true
+    pub left : ys ≡ front ++ back

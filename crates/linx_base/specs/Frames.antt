@@ -19,10 +19,12 @@ IsPayload payload = (1 ≤ length payload) × (length payload ≤ payload_limit)
 abbrev pub IsMessage : Message → Type 0
 IsMessage m = (1 ≤ length m.body) × (length m.body ≤ body_limit)
 
--- a first piece is shorter than the whole body, of 1 to 65,536 bytes, where more follow, and else is the whole body
+-- a first piece is shorter than the whole body, of 1 to 65,536 bytes, where more follow, and else
+-- is the whole body
 abbrev pub IsFrame : Frame → Type 0
 IsFrame (First more from to size payload) =
-    IsPayload payload × (1 ≤ size) × (size ≤ body_limit) × MatchBool more (length payload < size) (length payload ≡ size)
+    IsPayload payload × (1 ≤ size) × (size ≤ body_limit)
+    × MatchBool more (length payload < size) (length payload ≡ size)
 IsFrame (Next more payload) = IsPayload payload
 
 -- the numbers of a frame fit their fields

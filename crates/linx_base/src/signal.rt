@@ -1,4 +1,6 @@
-ghost use Rattle.std.specs.Prelude.{◌≡◌, [], ◌∷◌, ◌++◌, ◌+◌, ◌-◌, ◌*◌, ◌<◌, ◌≤◌, ◌^◌, ◌↔◌, false, true, length, replicate, take, IsTrue, IfOk, IfErr, OnOk, OnErr};
+ghost use Rattle.std.specs.Prelude.{◌≡◌, [], ◌∷◌, ◌++◌, ◌+◌, ◌-◌, ◌*◌, ◌<◌, ◌≤◌, ◌^◌, ◌↔◌, false};
+ghost use Rattle.std.specs.Prelude.{true, length, replicate, take, IsTrue, IfOk, IfErr, OnOk};
+ghost use Rattle.std.specs.Prelude.{OnErr};
 ghost use Rattle.linx_base.specs.Content.{data_limit, resized};
 ghost use Rattle.linx_base.specs.declared.signal.BufferError.TheVariants.{NoMemory as OutOfMemory};
 
@@ -132,9 +134,11 @@ impl Signal {
 
     /// A signal with this number and these data bytes, copied once.
     pub fn alloc(alloc: Global, number: u32, bytes: &[u8]) -> Result<Signal, BufferError>
-        ensures ok { IfOk result (λ signal. signal ≡ record { number = number; bytes = bytes.now }) }
+        ensures ok { IfOk result (λ signal. signal
+            ≡ record { number = number; bytes = bytes.now }) }
         ensures too_large { data_limit < length bytes.now → result ≡ Err BufferError.TooLarge }
-        ensures too_large_only { IfErr result (λ e. e ≡ BufferError.TooLarge → data_limit < length bytes.now) }
+        ensures too_large_only { IfErr result (λ e. e ≡ BufferError.TooLarge
+            → data_limit < length bytes.now) }
     {
         if bytes.len() > DATA_MOST {
             return Err(BufferError::TooLarge);
@@ -153,7 +157,8 @@ impl Signal {
         Signal { number, bytes }
     }
 
-    /// Keeps the first n data bytes, and adds zeros where there are fewer. A refusal changes nothing.
+    /// Keeps the first n data bytes, and adds zeros where there are fewer. A refusal changes
+    /// nothing.
     pub fn resize(&mut self, n: usize) -> Result<(), BufferError>
         ensures ok { OnOk result (self.new ≡ record self.old { bytes = resized self.old.bytes n }) }
         ensures too_large { data_limit < n → result ≡ Err BufferError.TooLarge }

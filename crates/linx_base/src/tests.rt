@@ -116,7 +116,10 @@ fn copies_equal_their_originals(rt: HostRuntime) -> Result<(), Fail> {
         name: Name::of(alloc, b"v")?,
     };
     assert!(rt;
-        matches!(&path.copy()?, Path::Over { link: LinkNo(4), name } if name.bytes() == b"v".as_slice())
+        matches!(
+            &path.copy()?,
+            Path::Over { link: LinkNo(4), name } if name.bytes() == b"v".as_slice()
+        )
     );
     let message = Message {
         from: 1,

@@ -184,7 +184,8 @@ none_dashed name words plain dashed = (
 )
 
 -- at the one word clap fails for want of memory alone
-pub only_memory : (name : Text) (line : App) (words : List Text) (e : Error) → is_dashed name ≡ false
+pub only_memory : (name : Text) (line : App) (words : List Text) (e : Error)
+    → is_dashed name ≡ false
     → line ≡ one_word → (is_simple_and_free line ≡ true → HasKind (fault_of line words) e)
     → words ≡ name ∷ [] → kind_of e ≡ OutOfMemory
 only_memory name line words e plain same fails is =

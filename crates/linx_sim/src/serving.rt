@@ -11,7 +11,8 @@ ghost use Rattle.linx_sim.specs.Statuses.{IsUsageOrRefused};
 ghost use Rattle.linx_sim.specs.Streams.{Reads, Writes, TakesAtMost, read_most};
 ghost use Rattle.linx_sim.specs.Runs.{is_built, IsAnswerTo, IsCaused, IsLegalSomehow, Completes};
 ghost use Rattle.stage.specs.Plays.{Play};
-ghost use Rattle.linx_sim.specs.Causes.{IsUnread, is_of_writing, read_status, script_status, stop_status};
+ghost use Rattle.linx_sim.specs.Causes.{IsUnread, is_of_writing, read_status, script_status};
+ghost use Rattle.linx_sim.specs.Causes.{stop_status};
 
 use crate::building::is_built;
 use crate::outcome::{Outcome, Status};

@@ -93,7 +93,8 @@ fn reads(alloc: Global, words: &[String], name: &str) -> Result<bool, Error>
     requires plain { list_any (λ word. is_dashed (string_bytes word)) words.now ≡ false }
     requires named { is_dashed name.now ≡ false }
     ensures ok { IfOk result (λ asked. IsTrue asked ↔ IsWord name.now words.now) }
-    ensures err { IfErr result (λ error. IsWord name.now words.now → kind_of error ≡ ErrorKind.OutOfMemory) }
+    ensures err { IfErr result (λ error. IsWord name.now words.now
+        → kind_of error ≡ ErrorKind.OutOfMemory) }
 {
     let matches = command_line(alloc)?.try_get_matches_from(words)?;
     Ok(matches.get_str("command") == Some(name))

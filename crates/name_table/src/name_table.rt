@@ -58,7 +58,8 @@ impl NameTable {
 
     /// The name of an endpoint. `None` exactly where it isn't there.
     pub fn name_of(&self, inc: Inc) -> Option<&Name>
-        ensures { option_copied result ≡ option_map (λ e. e.name) (first_match (is_endpoint inc) self.now) }
+        ensures { option_copied result ≡ option_map (λ e. e.name)
+            (first_match (is_endpoint inc) self.now) }
     {
         let endpoint = self.endpoints.nth(NamedKey::Inc(inc), 0)?;
         Some(&endpoint.name)

@@ -1,5 +1,6 @@
 -- What a roster keeps, after each change.
-use Rattle.std.proofs.Common.{◌≡◌, ℕ, ◌+◌, ◌<◌, Bool, true, false, cond, List, [], ◌∷◌, ◌++◌, map, refl, ap, sym, subst, ◌∙◌, arith}
+use Rattle.std.proofs.Common.{◌≡◌, ℕ, ◌+◌, ◌<◌, Bool, true, false, cond, List, [], ◌∷◌, ◌++◌, map}
+use Rattle.std.proofs.Common.{refl, ap, sym, subst, ◌∙◌, arith}
 use Rattle.std.specs.Prelude.{Option, Some, None, Result, Ok, Err, OnOk, OnErr, IfOk, IfErr}
 use Rattle.std.specs.Result.{is_err}
 use Rattle.std.specs.List.{AllByRecursion}
@@ -18,79 +19,106 @@ use Rattle.journal.specs.History.{next_inc}
 use Rattle.journal.proofs.Lists.{all-append, all-impl}
 use Rattle.name_table.specs.declared.named.NamedEndpoint.{NamedEndpoint}
 use Rattle.name_table.specs.Naming.{has_name, is_endpoint}
-use Rattle.node_kernel.specs.Nodes.{OpenEndpoint, first_named, inc_if, is_at, is_named, put_all, put_into, with_items, without_endpoint}
+use Rattle.node_kernel.specs.Nodes.{OpenEndpoint, first_named, inc_if, is_at, is_named, put_all}
+use Rattle.node_kernel.specs.Nodes.{put_into, with_items, without_endpoint}
 use Rattle.node_kernel.specs.Kept.{AreKept, AreRising, bring_into, change_items, named, put_item}
 use Rattle.node_kernel.proofs.Bringing.{map_both}
 use Rattle.node_kernel.proofs.Rising.{all_without}
 
 -- THE SAME ENDPOINTS, with other queues
-pub same_endpoints : (f : OpenEndpoint → OpenEndpoint) → ((e : OpenEndpoint) → named (f e) ≡ named e) → (es : List OpenEndpoint) → map named (map f es) ≡ map named es
+pub same_endpoints : (f : OpenEndpoint → OpenEndpoint)
+    → ((e : OpenEndpoint) → named (f e) ≡ named e) → (es : List OpenEndpoint)
+    → map named (map f es) ≡ map named es
 same_endpoints f same es = map_both named f named same es
 
-named_changed : (i : Inc) (f : List Item → List Item) (e : OpenEndpoint) → named (change_items i f e) ≡ named e
+named_changed : (i : Inc) (f : List Item → List Item) (e : OpenEndpoint)
+    → named (change_items i f e) ≡ named e
 named_changed i f e =
-    elim (same_inc i e.inc) as (λ b. named (cond b (record e { items = f e.items }) e) ≡ named e) [ true ↦ refl | false ↦ refl ]
+    elim (same_inc i e.inc) as (λ b. named (cond b (record e { items = f e.items }) e) ≡ named e)
+    [ true ↦ refl | false ↦ refl ]
 
-pub same_put_all : (step : ℕ) (effects : List Effect) (es : List OpenEndpoint) → map named (put_all step effects es) ≡ map named es
+pub same_put_all : (step : ℕ) (effects : List Effect) (es : List OpenEndpoint)
+    → map named (put_all step effects es) ≡ map named es
 same_put_all step effects es = same_endpoints (put_into step effects) (λ e. refl) es
 
-pub same_put : (i : Inc) (item : Item) (es : List OpenEndpoint) → map named (map (put_item i item) es) ≡ map named es
+pub same_put : (i : Inc) (item : Item) (es : List OpenEndpoint)
+    → map named (map (put_item i item) es) ≡ map named es
 same_put i item es = same_endpoints (put_item i item) (λ e. refl) es
 
-pub same_changed : (i : Inc) (f : List Item → List Item) (es : List OpenEndpoint) → map named (map (change_items i f) es) ≡ map named es
+pub same_changed : (i : Inc) (f : List Item → List Item) (es : List OpenEndpoint)
+    → map named (map (change_items i f) es) ≡ map named es
 same_changed i f es = same_endpoints (change_items i f) (named_changed i f) es
 
-pub same_with_items : (es : List OpenEndpoint) (i : Inc) (items : List Item) → map named (with_items es i items) ≡ map named es
+pub same_with_items : (es : List OpenEndpoint) (i : Inc) (items : List Item)
+    → map named (with_items es i items) ≡ map named es
 same_with_items [] i items = refl
 same_with_items (e ∷ es) i items =
-    elim (is_at i e) as (λ b. map named (cond b (record e { items = items } ∷ es) (e ∷ with_items es i items)) ≡ map named (e ∷ es)) [
+    elim (is_at i e) as (λ b. map named (cond b (record e { items = items } ∷ es) (e
+    ∷ with_items es i items)) ≡ map named (e ∷ es)) [
       | true ↦ refl
       | false ↦ ap (λ l. named e ∷ l) (same_with_items es i items)
     ]
 
-all_alike : (P : NamedEndpoint → Type 0) (xs ys : List OpenEndpoint) → map named xs ≡ map named ys → AllByRecursion (λ e. P (named e)) ys → AllByRecursion (λ e. P (named e)) xs
+all_alike : (P : NamedEndpoint → Type 0) (xs ys : List OpenEndpoint) → map named xs ≡ map named ys
+    → AllByRecursion (λ e. P (named e)) ys → AllByRecursion (λ e. P (named e)) xs
 all_alike P [] ys is all = tt
 all_alike P (x ∷ xs) [] is all = cc
 all_alike P (x ∷ xs) (y ∷ ys) is all =
     let head : named y ≡ named x = cc in
-    let tail : map named xs ≡ map named ys = cc in (subst P head all.0, all_alike P xs ys tail all.1)
+    let tail : map named xs ≡ map named ys = cc in
+    (subst P head all.0, all_alike P xs ys tail all.1)
 
-pub rising_alike : (xs ys : List OpenEndpoint) → map named xs ≡ map named ys → AreRising ys → AreRising xs
+pub rising_alike : (xs ys : List OpenEndpoint) → map named xs ≡ map named ys → AreRising ys
+    → AreRising xs
 rising_alike [] ys is rising = tt
 rising_alike (x ∷ xs) [] is rising = cc
 rising_alike (x ∷ xs) (y ∷ ys) is rising =
     let head : named y ≡ named x = cc in
     let tail : map named xs ≡ map named ys = cc in
     let number : y.inc.0 ≡ x.inc.0 = ap (λ (n : NamedEndpoint). n.inc.0) head in
-    let above : AllByRecursion (λ e. y.inc.0 < (named e).inc.0) xs = all_alike (λ n. y.inc.0 < n.inc.0) xs ys tail rising.0 in
-    (subst (λ k. AllByRecursion (λ (e : OpenEndpoint). k < e.inc.0) xs) number above, rising_alike xs ys tail rising.1)
+    let above : AllByRecursion (λ e. y.inc.0 < (named e).inc.0) xs =
+    all_alike (λ n. y.inc.0 < n.inc.0) xs ys tail rising.0 in (
+      subst (λ k. AllByRecursion (λ (e : OpenEndpoint). k < e.inc.0) xs) number above,
+      rising_alike xs ys tail rising.1,
+    )
 
-pub kept_alike_of : {node : NodeNo} {openings : ℕ} {es : List OpenEndpoint} {names : List NamedEndpoint} → AreKept node openings es names → (xs : List OpenEndpoint) → map named xs ≡ map named es → AreKept node openings xs names
+pub kept_alike_of : {node : NodeNo} {openings : ℕ} {es : List OpenEndpoint}
+    {names : List NamedEndpoint} → AreKept node openings es names → (xs : List OpenEndpoint)
+    → map named xs ≡ map named es → AreKept node openings xs names
 kept_alike_of {node = node} {openings = openings} {es = es} kept xs is = record {
   rising = rising_alike xs es is kept.rising;
   below = all_alike (λ n. n.inc.0 < (next_inc node.0 openings).0) xs es is kept.below;
   named = kept.named ∙ sym is;
 }
 
-module _ (node : NodeNo) (openings : ℕ) (es : List OpenEndpoint) (names : List NamedEndpoint) (kept : AreKept node openings es names) where
+module _ (node : NodeNo) (openings : ℕ) (es : List OpenEndpoint) (names : List NamedEndpoint)
+    (kept : AreKept node openings es names) where
   -- ONE LESS
-  rising_without : (i : Inc) (xs : List OpenEndpoint) → AreRising xs → AreRising (without_endpoint xs i)
+  rising_without : (i : Inc) (xs : List OpenEndpoint) → AreRising xs
+      → AreRising (without_endpoint xs i)
   rising_without i [] rising = tt
   rising_without i (x ∷ xs) rising =
       elim (is_at i x) as (λ b. AreRising (cond b xs (x ∷ without_endpoint xs i))) [
         | true ↦ rising.1
-        | false ↦ (all_without (λ f. x.inc.0 < f.inc.0) (is_at i) xs rising.0, rising_without i xs rising.1)
+        | false ↦ (
+          all_without (λ f. x.inc.0 < f.inc.0) (is_at i) xs rising.0,
+          rising_without i xs rising.1,
+        )
       ]
 
-  without_named : (i : Inc) (xs : List OpenEndpoint) → without_match (is_endpoint i) (map named xs) ≡ map named (without_endpoint xs i)
+  without_named : (i : Inc) (xs : List OpenEndpoint)
+      → without_match (is_endpoint i) (map named xs) ≡ map named (without_endpoint xs i)
   without_named i [] = refl
   without_named i (x ∷ xs) =
-      elim (same_inc i x.inc) as (λ b. cond b (map named xs) (named x ∷ without_match (is_endpoint i) (map named xs)) ≡ map named (cond b xs (x ∷ without_endpoint xs i))) [
+      elim (same_inc i x.inc) as (λ b. cond b (map named xs) (named x
+      ∷ without_match (is_endpoint i) (map named xs))
+      ≡ map named (cond b xs (x ∷ without_endpoint xs i))) [
         | true ↦ refl
         | false ↦ ap (λ l. named x ∷ l) (without_named i xs)
       ]
 
-  pub kept_without : (i : Inc) → AreKept node openings (without_endpoint es i) (without_match (is_endpoint i) names)
+  pub kept_without : (i : Inc) → AreKept node openings (without_endpoint es i)
+      (without_match (is_endpoint i) names)
   kept_without i = record {
     rising = rising_without i es kept.rising;
     below = all_without (λ e. e.inc.0 < (next_inc node.0 openings).0) (is_at i) es kept.below;
@@ -98,10 +126,13 @@ module _ (node : NodeNo) (openings : ℕ) (es : List OpenEndpoint) (names : List
   }
 
   -- ONE MORE
-  rising_more : (e : OpenEndpoint) (xs : List OpenEndpoint) → AreRising xs → AllByRecursion (λ f. f.inc.0 < e.inc.0) xs → AreRising (xs ++ e ∷ [])
+  rising_more : (e : OpenEndpoint) (xs : List OpenEndpoint) → AreRising xs
+      → AllByRecursion (λ f. f.inc.0 < e.inc.0) xs → AreRising (xs ++ e ∷ [])
   rising_more e [] rising below = (tt, tt)
-  rising_more e (x ∷ xs) rising below =
-      (all-append (λ f. x.inc.0 < f.inc.0) xs (e ∷ []) rising.0 (below.0, tt), rising_more e xs rising.1 below.1)
+  rising_more e (x ∷ xs) rising below = (
+    all-append (λ f. x.inc.0 < f.inc.0) xs (e ∷ []) rising.0 (below.0, tt),
+    rising_more e xs rising.1 below.1,
+  )
 
   abbrev new_one : List ℕ → OpenEndpoint
   new_one name = record { inc = next_inc node.0 openings; name = name; items = [] }
@@ -109,17 +140,23 @@ module _ (node : NodeNo) (openings : ℕ) (es : List OpenEndpoint) (names : List
   pub rising_opened : (name : List ℕ) → AreRising (es ++ new_one name ∷ [])
   rising_opened name = rising_more (new_one name) es kept.rising kept.below
 
-  pub kept_opened : (name : List ℕ) → AreKept node (openings + 1) (es ++ new_one name ∷ []) (names ++ record { name = name; inc = next_inc node.0 openings } ∷ [])
+  pub kept_opened : (name : List ℕ) → AreKept node (openings + 1) (es ++ new_one name ∷ []) (names
+      ++ record { name = name; inc = next_inc node.0 openings } ∷ [])
   kept_opened name = record {
     rising = rising_opened name;
     below = all-append (λ e. e.inc.0 < (next_inc node.0 (openings + 1)).0) es (new_one name ∷ [])
-        (all-impl (λ e. e.inc.0 < (next_inc node.0 openings).0) (λ e. e.inc.0 < (next_inc node.0 (openings + 1)).0) (λ e (less : e.inc.0 < (next_inc node.0 openings).0). omega arith) es kept.below)
+        (all-impl (λ e. e.inc.0 < (next_inc node.0 openings).0) (λ e. e.inc.0
+        < (next_inc node.0 (openings + 1)).0) (λ e (less : e.inc.0
+        < (next_inc node.0 openings).0). omega arith) es kept.below)
         (omega arith, tt);
-    named = ap (λ l. l ++ record { name = name; inc = next_inc node.0 openings } ∷ []) kept.named ∙ sym (map_push named es (new_one name));
+    named = ap (λ l. l ++ record { name = name; inc = next_inc node.0 openings } ∷ []) kept.named
+        ∙ sym (map_push named es (new_one name));
   }
 
   -- and its name taken out again
-  none_named : (i : Inc) (xs : List OpenEndpoint) → AllByRecursion (λ e. e.inc.0 < i.0) xs → (name : List ℕ) → without_match (is_endpoint i) (map named xs ++ record { name = name; inc = i } ∷ []) ≡ map named xs
+  none_named : (i : Inc) (xs : List OpenEndpoint) → AllByRecursion (λ e. e.inc.0 < i.0) xs
+      → (name : List ℕ) → without_match (is_endpoint i) (map named xs
+      ++ record { name = name; inc = i } ∷ []) ≡ map named xs
   none_named i [] below name = rw (itself i) refl
     where
       itself : (j : Inc) → same_inc j j ≡ true
@@ -129,32 +166,53 @@ module _ (node : NodeNo) (openings : ℕ) (es : List OpenEndpoint) (names : List
       let other : same_inc i x.inc ≡ false = grind (arith, nat_tests) in
       rw other (ap (λ l. named x ∷ l) (none_named i xs below.1 name))
 
-  pub name_out : (name : List ℕ) → without_match (is_endpoint (next_inc node.0 openings)) (names ++ record { name = name; inc = next_inc node.0 openings } ∷ []) ≡ names
+  pub name_out : (name : List ℕ) → without_match (is_endpoint (next_inc node.0 openings)) (names
+      ++ record { name = name; inc = next_inc node.0 openings } ∷ []) ≡ names
   name_out name =
-      ap (λ l. without_match (is_endpoint (next_inc node.0 openings)) (l ++ record { name = name; inc = next_inc node.0 openings } ∷ [])) kept.named
+      ap (λ l. without_match (is_endpoint (next_inc node.0 openings)) (l
+      ++ record { name = name; inc = next_inc node.0 openings } ∷ [])) kept.named
       ∙ none_named (next_inc node.0 openings) es kept.below name ∙ sym kept.named
 
   -- THE FIRST OF A NAME
-  first_of : (name : List ℕ) (xs : List OpenEndpoint) → option_map (λ (e : NamedEndpoint). e.inc) (first_match (has_name name) (map named xs)) ≡ first_named xs name
+  first_of : (name : List ℕ) (xs : List OpenEndpoint)
+      → option_map (λ (e : NamedEndpoint). e.inc) (first_match (has_name name) (map named xs))
+      ≡ first_named xs name
   first_of name [] = refl
   first_of name (x ∷ xs) =
-      elim (bytes_eq name x.name) as (λ b. option_map (λ (e : NamedEndpoint). e.inc) (cond b (Some (named x)) (first_match (has_name name) (map named xs))) ≡ inc_if (cond b (Some x) (first_match (is_named name) xs))) [
+      elim (bytes_eq name x.name) as (λ b. option_map (λ (e : NamedEndpoint). e.inc)
+      (cond b (Some (named x)) (first_match (has_name name) (map named xs)))
+      ≡ inc_if (cond b (Some x) (first_match (is_named name) xs))) [
         | true ↦ refl
         | false ↦ first_of name xs
       ]
 
-  pub first_found : (name : List ℕ) → option_map (λ (e : NamedEndpoint). e.inc) (first_match (has_name name) names) ≡ first_named es name
-  first_found name = ap (λ l. option_map (λ (e : NamedEndpoint). e.inc) (first_match (has_name name) l)) kept.named ∙ first_of name es
+  pub first_found : (name : List ℕ) → option_map (λ (e : NamedEndpoint). e.inc)
+      (first_match (has_name name) names) ≡ first_named es name
+  first_found name = ap (λ l. option_map (λ (e : NamedEndpoint). e.inc)
+      (first_match (has_name name) l)) kept.named ∙ first_of name es
 
   -- THE SAME by what came out
-  pub opened_kept : (name copy : List ℕ) (inc : Inc) (new : OpenEndpoint) (step : ℕ) (effects : List Effect) (items : List OpenEndpoint) (after : List NamedEndpoint) → inc ≡ next_inc node.0 openings → copy ≡ name → new ≡ record { inc = inc; name = name; items = [] } → items ≡ put_all step effects (es ++ new ∷ []) → after ≡ names ++ record { name = copy; inc = inc } ∷ [] → AreKept node (openings + 1) items after
+  pub opened_kept : (name copy : List ℕ) (inc : Inc) (new : OpenEndpoint) (step : ℕ)
+      (effects : List Effect) (items : List OpenEndpoint) (after : List NamedEndpoint)
+      → inc ≡ next_inc node.0 openings → copy ≡ name
+      → new ≡ record { inc = inc; name = name; items = [] }
+      → items ≡ put_all step effects (es ++ new ∷ [])
+      → after ≡ names ++ record { name = copy; inc = inc } ∷ []
+      → AreKept node (openings + 1) items after
   opened_kept name copy inc new step effects items after inc_is copy_is new_is items_is after_is =
       rw (items_is, after_is, new_is, copy_is, inc_is) (all_put name step effects)
     where
-      all_put : (name : List ℕ) (step : ℕ) (effects : List Effect) → AreKept node (openings + 1) (put_all step effects (es ++ new_one name ∷ [])) (names ++ record { name = name; inc = next_inc node.0 openings } ∷ [])
-      all_put name step effects = kept_alike_of (kept_opened name) (put_all step effects (es ++ new_one name ∷ [])) (same_put_all step effects (es ++ new_one name ∷ []))
+      all_put : (name : List ℕ) (step : ℕ) (effects : List Effect)
+          → AreKept node (openings + 1) (put_all step effects (es ++ new_one name ∷ [])) (names
+          ++ record { name = name; inc = next_inc node.0 openings } ∷ [])
+      all_put name step effects = kept_alike_of (kept_opened name)
+          (put_all step effects (es ++ new_one name ∷ []))
+          (same_put_all step effects (es ++ new_one name ∷ []))
 
-  pub refused_kept : (copy : List ℕ) (inc : Inc) (items : List OpenEndpoint) (after left : List NamedEndpoint) → inc ≡ next_inc node.0 openings → items ≡ es → after ≡ names ++ record { name = copy; inc = inc } ∷ [] → left ≡ without_match (is_endpoint inc) after → AreKept node openings items left
+  pub refused_kept : (copy : List ℕ) (inc : Inc) (items : List OpenEndpoint)
+      (after left : List NamedEndpoint) → inc ≡ next_inc node.0 openings → items ≡ es
+      → after ≡ names ++ record { name = copy; inc = inc } ∷ []
+      → left ≡ without_match (is_endpoint inc) after → AreKept node openings items left
   refused_kept copy inc items after left inc_is items_is after_is left_is =
       rw (left_is, after_is, items_is, inc_is) (rw (name_out copy) kept)
 
@@ -171,14 +229,20 @@ pub on_ok : {A B : Type 0} {P Q : Type 0} (r : Result A B) → OnOk r P → (P �
 on_ok (Ok a) said f = f said
 on_ok (Err b) said f = tt
 
-pub if_ok : {A B : Type 0} {P Q : A → Type 0} (r : Result A B) → IfOk r P → ((a : A) → P a → Q a) → IfOk r Q
+pub if_ok : {A B : Type 0} {P Q : A → Type 0} (r : Result A B) → IfOk r P → ((a : A) → P a → Q a)
+    → IfOk r Q
 if_ok (Ok a) said f = f a said
 if_ok (Err b) said f = tt
 
-pub same_delivered : (i : Inc) (item : Item) (old new : List OpenEndpoint) (r : Result Bool Item) → OnOk r (new ≡ map (put_item i item) old) → IfErr r (λ back. (back ≡ item) × (new ≡ old)) → map named new ≡ map named old
+pub same_delivered : (i : Inc) (item : Item) (old new : List OpenEndpoint) (r : Result Bool Item)
+    → OnOk r (new ≡ map (put_item i item) old) → IfErr r (λ back. (back ≡ item) × (new ≡ old))
+    → map named new ≡ map named old
 same_delivered i item old new (Ok found) put back = ap (map named) put ∙ same_put i item old
 same_delivered i item old new (Err other) put back = ap (map named) back.1
 
-pub same_brought : {A B : Type 0} (step : ℕ) (effects : List Effect) (old new : List OpenEndpoint) (r : Result A B) → OnOk r (new ≡ put_all step effects old) → OnErr r (new ≡ old) → map named new ≡ map named old
-same_brought step effects old new (Ok a) put back = ap (map named) put ∙ same_put_all step effects old
+pub same_brought : {A B : Type 0} (step : ℕ) (effects : List Effect) (old new : List OpenEndpoint)
+    (r : Result A B) → OnOk r (new ≡ put_all step effects old) → OnErr r (new ≡ old)
+    → map named new ≡ map named old
+same_brought step effects old new (Ok a) put back = ap (map named) put
+    ∙ same_put_all step effects old
 same_brought step effects old new (Err b) put back = ap (map named) back

@@ -1,5 +1,6 @@
 -- What heads name, and what steps answer.
-use Rattle.std.specs.Prelude.{ℕ, ◌≡◌, ◌+◌, ◌-◌, Bool, true, false, List, [], ◌∷◌, length, slice_get, Option, Some, None, if◌then◌else◌}
+use Rattle.std.specs.Prelude.{ℕ, ◌≡◌, ◌+◌, ◌-◌, Bool, true, false, List, [], ◌∷◌, length, slice_get}
+use Rattle.std.specs.Prelude.{Option, Some, None, if◌then◌else◌}
 use Rattle.linx_base.specs.declared.identity.Inc.{Inc}
 use Rattle.linx_base.specs.declared.identity.ItemAt.{ItemAt}
 use Rattle.linx_base.specs.declared.identity.Peer.TheVariants.{Here}
@@ -106,7 +107,12 @@ granted P k ask = granted_by (endpoint_of P k) (closed_step P k) ask
 -- the item that stands first in a list; a plain one of no bytes where there is none
 abbrev pub item_or_none : ItemAt → List Item → Item
 item_or_none at [] =
-    record { signal = record { number = 0; bytes = [] }; from = Here (record { 0 = 0 }); kind = Plain; pos = at }
+    record {
+      signal = record { number = 0; bytes = [] };
+      from = Here (record { 0 = 0 });
+      kind = Plain;
+      pos = at;
+    }
 item_or_none at (item ∷ items) = item
 
 -- the effect at a place, from 1, of a step

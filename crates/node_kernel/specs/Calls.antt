@@ -1,5 +1,6 @@
 -- What the calls of a kernel leave. The effects that they have are words of the journal.
-use Rattle.std.specs.Prelude.{ℕ, ◌+◌, ◌≡◌, Bool, true, false, not, ◌&&◌, ◌==◌, List, [], ◌∷◌, ◌++◌, length, filter, Option, Some, None, if◌then◌else◌}
+use Rattle.std.specs.Prelude.{ℕ, ◌+◌, ◌≡◌, Bool, true, false, not, ◌&&◌, ◌==◌, List, [], ◌∷◌, ◌++◌}
+use Rattle.std.specs.Prelude.{length, filter, Option, Some, None, if◌then◌else◌}
 use Rattle.std.specs.List.{list_any}
 use Rattle.linx_base.specs.Peers.{same_inc, same_path, same_peer}
 use Rattle.linx_base.specs.declared.identity.AttRef.{AttRef}
@@ -14,16 +15,20 @@ use Rattle.linx_base.specs.declared.pending.PendingHunt.{PendingHunt}
 use Rattle.linx_base.specs.declared.signal.SigNote.{SigNote}
 use Rattle.sigsel.specs.Selection.{is_notice_of}
 use Rattle.journal.specs.declared.head.Detached.{Detached}
-use Rattle.journal.specs.declared.head.Detached.TheVariants.{Pending, Queued as FromQueue, None as Neither}
+use Rattle.journal.specs.declared.head.Detached.TheVariants.{Pending, Queued as FromQueue}
+use Rattle.journal.specs.declared.head.Detached.TheVariants.{None as Neither}
 use Rattle.journal.specs.declared.effect.Effect.TheVariants.{Arrived}
-use Rattle.journal.specs.Effects.{opening, closing, arrivals_of, hunted, attached, detach_answer, held_elsewhere, meeting, parting, losing}
+use Rattle.journal.specs.Effects.{opening, closing, arrivals_of, hunted, attached, detach_answer}
+use Rattle.journal.specs.Effects.{held_elsewhere, meeting, parting, losing}
 use Rattle.journal.specs.Living.{is_of_session}
 use Rattle.journal.specs.Pending.{is_attach}
 use Rattle.node_kernel.specs.declared.answers.OpenError.{OpenError}
 use Rattle.node_kernel.specs.declared.answers.OpenError.TheVariants.{Full, NoMemory}
 use Rattle.node_kernel.specs.declared.answers.Sent.{Sent}
 use Rattle.node_kernel.specs.declared.answers.Sent.TheVariants.{Queued, Link, Dead}
-use Rattle.node_kernel.specs.Nodes.{OpenEndpoint, NodeState, endpoint_limit, is_open, items_at, with_items, without_endpoint, put_all, find_at, is_living, next_of}
+use Rattle.node_kernel.specs.Nodes.{OpenEndpoint, NodeState, endpoint_limit, is_open, items_at}
+use Rattle.node_kernel.specs.Nodes.{with_items, without_endpoint, put_all, find_at, is_living}
+use Rattle.node_kernel.specs.Nodes.{next_of}
 
 -- OPENING. The node after it: one more endpoint at the end, whose queue is empty; what was found is
 -- put, and no hunt for the name is pending
@@ -44,7 +49,8 @@ RefusesOpening endpoints name (NoMemory back) = back ≡ name
 abbrev pub apart_from : Inc → List PendingAttach → List PendingAttach
 apart_from j attaches = filter (λ a. not (same_peer (Here j) a.peer)) (held_elsewhere j attaches)
 
--- the node after a closing: the endpoint is gone with its queue, its hunts and its attaches, and who
+-- the node after a closing: the endpoint is gone with its queue, its hunts and its attaches, and
+-- who
 -- was attached to it is notified
 abbrev pub after_close : NodeState → Inc → ℕ → NodeState
 after_close k j step = record k {
@@ -94,13 +100,18 @@ after_attach k a = record k {
 -- DETACHING. The answer to a detach at a node
 abbrev pub detached : NodeState → Inc → AttRef → Detached
 detached k j r =
-    detach_answer (list_any (is_attach j r) k.attaches) (list_any (is_notice_of r) (items_at k.endpoints j))
+    detach_answer (list_any (is_attach j r) k.attaches)
+    (list_any (is_notice_of r) (items_at k.endpoints j))
 
 -- the node after a detach: the attach is cancelled, or its notification is taken out of the queue
 abbrev pub after_detach_of : Detached → NodeState → Inc → AttRef → NodeState
-after_detach_of Pending k j r = record k { attaches = filter (λ a. not (is_attach j r a)) k.attaches }
+after_detach_of Pending k j r = record k {
+  attaches =
+      filter (λ a. not (is_attach j r a)) k.attaches;
+}
 after_detach_of FromQueue k j r = record k {
-  endpoints = with_items k.endpoints j (filter (λ item. not (is_notice_of r item)) (items_at k.endpoints j));
+  endpoints = with_items k.endpoints j (filter (λ item. not (is_notice_of r item))
+      (items_at k.endpoints j));
 }
 after_detach_of Neither k j r = k
 

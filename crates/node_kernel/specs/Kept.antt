@@ -1,5 +1,6 @@
 -- What a kernel keeps of its open endpoints.
-use Rattle.std.specs.Prelude.{◌≡◌, ℕ, ◌<◌, ◌-◌, List, [], ◌∷◌, ◌++◌, ⊤, length, map, take, Option, Some, None, if◌then◌else◌}
+use Rattle.std.specs.Prelude.{◌≡◌, ℕ, ◌<◌, ◌-◌, List, [], ◌∷◌, ◌++◌, ⊤, length, map, take, Option}
+use Rattle.std.specs.Prelude.{Some, None, if◌then◌else◌}
 use Rattle.std.specs.List.{AllByRecursion}
 use Rattle.linx_base.specs.declared.identity.Inc.{Inc}
 use Rattle.linx_base.specs.declared.identity.ItemAt.{ItemAt}
@@ -24,15 +25,18 @@ AreRising (e ∷ es) = AllByRecursion (λ f. e.inc.0 < f.inc.0) es × AreRising 
 abbrev pub named : OpenEndpoint → NamedEndpoint
 named e = record { name = e.name; inc = e.inc }
 
--- what the endpoints of a node are seen as: the node, how many were opened so far, and those that are
+-- what the endpoints of a node are seen as: the node, how many were opened so far, and those that
+-- are
 -- open, in order of opening
 pub record NodeEndpoints : Type 0 where
   pub node : NodeNo
   pub openings : ℕ
   pub endpoints : List OpenEndpoint
 
--- the open endpoints are in order of incarnation, all below the next one, and the table has their names
-pub record AreKept (node : NodeNo) (openings : ℕ) (endpoints : List OpenEndpoint) (names : List NamedEndpoint) : Type 0 where
+-- the open endpoints are in order of incarnation, all below the next one, and the table has their
+-- names
+pub record AreKept (node : NodeNo) (openings : ℕ) (endpoints : List OpenEndpoint)
+    (names : List NamedEndpoint) : Type 0 where
   pub rising : AreRising endpoints
   pub below : AllByRecursion (λ e. e.inc.0 < (next_inc node.0 openings).0) endpoints
   pub named : names ≡ map named endpoints
@@ -59,9 +63,25 @@ abbrev pub delivery_at : ItemAt → Effect → Option Delivery
 delivery_at at (Arrived i from note) =
     Some (record { to = i; item = record { signal = note; from = from; kind = Plain; pos = at } })
 delivery_at at (Found i from note hunt) =
-    Some (record { to = i; item = record { signal = note; from = from; kind = FoundBy hunt; pos = at } })
+    Some (record {
+      to = i;
+      item = record {
+        signal = note;
+        from = from;
+        kind = FoundBy hunt;
+        pos = at;
+      };
+    })
 delivery_at at (Notified i from note reference reason) =
-    Some (record { to = i; item = record { signal = note; from = from; kind = Notice reference; pos = at } })
+    Some (record {
+      to = i;
+      item = record {
+        signal = note;
+        from = from;
+        kind = Notice reference;
+        pos = at;
+      };
+    })
 delivery_at at _ = None
 
 -- the endpoint that an effect delivers to, if any

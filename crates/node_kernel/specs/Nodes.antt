@@ -1,4 +1,5 @@
-use Rattle.std.specs.Prelude.{ℕ, ◌+◌, ◌==◌, Bool, false, List, [], ◌∷◌, ◌++◌, length, map, filter, Option, Some, None, if◌then◌else◌}
+use Rattle.std.specs.Prelude.{ℕ, ◌+◌, ◌==◌, Bool, false, List, [], ◌∷◌, ◌++◌, length, map, filter}
+use Rattle.std.specs.Prelude.{Option, Some, None, if◌then◌else◌}
 use Rattle.std.specs.List.{list_any, flat_map}
 use Rattle.std.specs.Str.{bytes_eq}
 use Rattle.linx_base.specs.FirstMatch.{first_match, without_match}
@@ -29,7 +30,8 @@ pub record OpenEndpoint : Type 0 where
   pub name : List ℕ
   pub items : List Item
 
--- what a kernel is seen as: its node, how many endpoints were opened so far, those that are open, in
+-- what a kernel is seen as: its node, how many endpoints were opened so far, those that are open,
+-- in
 -- order of opening, its pending hunts, the attaches that are owed a notification, and the living
 -- peers that it met, each in order
 pub record NodeState : Type 0 where
@@ -70,7 +72,8 @@ items_at endpoints i = items_of (first_match (is_at i) endpoints)
 -- the endpoints with another queue at this incarnation
 abbrev pub with_items : List OpenEndpoint → Inc → List Item → List OpenEndpoint
 with_items [] i items = []
-with_items (e ∷ es) i items = if is_at i e then (record e { items = items }) ∷ es else e ∷ with_items es i items
+with_items (e ∷ es) i items = if is_at i e then (record e { items = items }) ∷ es else e
+    ∷ with_items es i items
 
 -- the endpoints without this incarnation
 abbrev pub without_endpoint : List OpenEndpoint → Inc → List OpenEndpoint

@@ -1,4 +1,5 @@
-ghost use Rattle.std.specs.Prelude.{◌≡◌, ◌<◌, [], ◌∷◌, ◌++◌, filter, length, not, slice_get, OnOk, OnErr, IfErr, IfSome};
+ghost use Rattle.std.specs.Prelude.{◌≡◌, ◌<◌, [], ◌∷◌, ◌++◌, filter, length, not, slice_get, OnOk};
+ghost use Rattle.std.specs.Prelude.{OnErr, IfErr, IfSome};
 ghost use Rattle.std.specs.List.{list_any};
 ghost use Rattle.std.specs.Option.{option_copied};
 ghost use Rattle.linx_base.specs.Content.{data_limit};
@@ -11,7 +12,8 @@ use linx_base::{AttRef, Inc, LinkNo, NoMemory, Peer, PendingAttach, Session, Sig
 use std::alloc::Global;
 use std::marker::Model;
 
-/// The attaches that are owed a notification, in the words of the journal's laws. Contracts see them
+/// The attaches that are owed a notification, in the words of the journal's laws. Contracts see
+/// them
 /// as their list in order of attaching.
 #[derive(Drop)]
 pub(crate) struct Attaches {
@@ -71,7 +73,8 @@ impl Attaches {
 
     /// The k-th attach, from 0, to a peer. `None` exactly where there are at most k.
     pub(crate) fn nth_to(&self, peer: Peer, k: usize) -> Option<&PendingAttach>
-        ensures nth { option_copied result ≡ slice_get (filter (λ a. same_peer peer a.peer) self.now) k }
+        ensures nth { option_copied result ≡ slice_get
+            (filter (λ a. same_peer peer a.peer) self.now) k }
         ensures room { IfSome result (λ attach. length attach.now.signal.bytes < data_limit) }
     {
         self.table.nth_ended(peer, k)
@@ -84,13 +87,15 @@ impl Attaches {
         session: Session,
         k: usize,
     ) -> Option<&PendingAttach>
-        ensures nth { option_copied result ≡ slice_get (filter (λ a. is_of_session link session a.peer) self.now) k }
+        ensures nth { option_copied result ≡ slice_get
+            (filter (λ a. is_of_session link session a.peer) self.now) k }
         ensures room { IfSome result (λ attach. length attach.now.signal.bytes < data_limit) }
     {
         self.table.nth_lost(link, session, k)
     }
 
-    /// Frees the attaches of a holder with this reference, and says whether there was one. It takes no
+    /// Frees the attaches of a holder with this reference, and says whether there was one. It takes
+    /// no
     /// memory.
     pub(crate) fn detach(&mut self, holder: Inc, reference: AttRef) -> bool
         ensures any { result ≡ list_any (is_attach holder reference) self.old }

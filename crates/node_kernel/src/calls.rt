@@ -47,7 +47,10 @@ pub(crate) fn send_here(
     step: u64,
 ) -> Result<Sent, (NoMemory, Signal)>
     ensures sent { IfOk result (IsSent (is_open roster.old.endpoints to) (Here to) signal) }
-    ensures ok { OnOk result (roster.new ≡ record roster.old { endpoints = put_all step (arrivals_of from signal (is_open roster.old.endpoints to) (Here to)) roster.old.endpoints }) }
+    ensures ok { OnOk result (roster.new ≡ record roster.old {
+      endpoints = put_all step (arrivals_of from signal (is_open roster.old.endpoints to)
+          (Here to)) roster.old.endpoints;
+    }) }
     ensures err { IfErr result (λ back. (back.1 ≡ signal) × (roster.new ≡ roster.old)) }
 {
     let item = Item {
@@ -80,7 +83,8 @@ pub(crate) fn arrive(
     step: u64,
 ) -> Result<Effects, (NoMemory, Signal)>
     ensures effects { IfOk result (λ effects. effects ≡ Arrived at from signal ∷ []) }
-    ensures ok { OnOk result (roster.new ≡ record roster.old { endpoints = put_all step (Arrived at from signal ∷ []) roster.old.endpoints }) }
+    ensures ok { OnOk result (roster.new ≡ record roster.old
+        { endpoints = put_all step (Arrived at from signal ∷ []) roster.old.endpoints }) }
     ensures err { IfErr result (λ back. (back.1 ≡ signal) × (roster.new ≡ roster.old)) }
 {
     let effects = match arrival(roster.allocator(), at, from, &signal) {
@@ -107,7 +111,13 @@ fn found_at_once(
     signal: &Signal,
     number: u64,
 ) -> Result<Effects, NoMemory>
-    ensures { IfOk result (λ effects. (path : Path) → effects ≡ found peer (record { at = at; path = path; signal = signal.now; number = number }) ∷ []) }
+    ensures { IfOk result (λ effects. (path : Path)
+        → effects ≡ found peer (record {
+          at = at;
+          path = path;
+          signal = signal.now;
+          number = number;
+        }) ∷ []) }
 {
     let note = signal.note()?;
     one(alloc, Effect::Found(at, peer, note, number))
@@ -121,8 +131,15 @@ pub(crate) fn answer(
     signal: Signal,
     number: u64,
 ) -> Result<Effects, (NoMemory, Signal)>
-    ensures effects { IfOk result (λ effects. (path : Path) → effects ≡ found peer (record { at = at; path = path; signal = signal; number = number }) ∷ []) }
-    ensures ok { OnOk result ((path : Path) → roster.new ≡ record roster.old { endpoints = put_all number (found peer (record { at = at; path = path; signal = signal; number = number }) ∷ []) roster.old.endpoints }) }
+    ensures effects { IfOk result (λ effects. (path : Path)
+        → effects ≡ found peer (record { at = at; path = path; signal = signal; number = number })
+        ∷ []) }
+    ensures ok { OnOk result ((path : Path) → roster.new
+        ≡ record roster.old {
+          endpoints = put_all number
+              (found peer (record { at = at; path = path; signal = signal; number = number }) ∷ [])
+              roster.old.endpoints;
+        }) }
     ensures err { IfErr result (λ back. (back.1 ≡ signal) × (roster.new ≡ roster.old)) }
 {
     let effects = match found_at_once(roster.allocator(), at, peer, &signal, number) {
@@ -186,7 +203,13 @@ fn dead_notice(
     r: AttRef,
 ) -> Result<(Signal, Effects), NoMemory>
     requires { length signal.now.bytes < data_limit }
-    ensures { IfOk result (λ made. (made.0 ≡ with_reason Dead signal.now) × (made.1 ≡ notice Dead (record { at = at; peer = peer; signal = signal.now; reference = r }) ∷ [])) }
+    ensures { IfOk result (λ made. (made.0 ≡ with_reason Dead signal.now)
+        × (made.1 ≡ notice Dead (record {
+          at = at;
+          peer = peer;
+          signal = signal.now;
+          reference = r;
+        }) ∷ [])) }
 {
     let told = signal.with_reason(Reason::Dead)?;
     let note = told.note()?;
@@ -203,8 +226,16 @@ pub(crate) fn notify_dead(
     r: AttRef,
 ) -> Result<Effects, (NoMemory, Signal)>
     requires { length signal.bytes < data_limit }
-    ensures effects { IfOk result (λ effects. effects ≡ notice Dead (record { at = at; peer = peer; signal = signal; reference = r }) ∷ []) }
-    ensures ok { OnOk result (roster.new ≡ record roster.old { endpoints = put_all r.0 (notice Dead (record { at = at; peer = peer; signal = signal; reference = r }) ∷ []) roster.old.endpoints }) }
+    ensures effects { IfOk result (λ effects. effects
+        ≡ notice Dead (record { at = at; peer = peer; signal = signal; reference = r }) ∷ []) }
+    ensures ok { OnOk result (roster.new ≡ record roster.old {
+      endpoints = put_all r.0 (notice Dead (record {
+        at = at;
+        peer = peer;
+        signal = signal;
+        reference = r;
+      }) ∷ []) roster.old.endpoints;
+    }) }
     ensures err { IfErr result (λ back. (back.1 ≡ signal) × (roster.new ≡ roster.old)) }
 {
     let (told, effects) = match dead_notice(roster.allocator(), at, peer, &signal, r) {

@@ -36,7 +36,10 @@ fn make_delivery(
     kind: Kind,
     pos: ItemAt,
 ) -> Result<Delivery, NoMemory>
-    ensures { IfOk result (λ made. made ≡ record { to = to; item = record { signal = note.now; from = from; kind = kind; pos = pos } }) }
+    ensures { IfOk result (λ made. made ≡ record {
+      to = to;
+      item = record { signal = note.now; from = from; kind = kind; pos = pos };
+    }) }
 {
     let signal = signal_of(note)?;
     Ok(Delivery {
@@ -111,7 +114,8 @@ fn bring(endpoints: &mut [Endpoint], effect: &Effect, pos: ItemAt) -> Result<(),
 fn take_back(endpoints: &mut [Endpoint], effect: &Effect)
     requires { AreRising endpoints.old }
     ensures same { map named endpoints.new ≡ map named endpoints.old }
-    ensures back { (pos : ItemAt) (before : List OpenEndpoint) → endpoints.old ≡ map (bring_into pos effect.now) before → endpoints.new ≡ before }
+    ensures back { (pos : ItemAt) (before : List OpenEndpoint)
+        → endpoints.old ≡ map (bring_into pos effect.now) before → endpoints.new ≡ before }
 {
     if let Some(to) = receiver_of(effect) {
         take_last(endpoints, to);
@@ -122,7 +126,8 @@ fn take_back(endpoints: &mut [Endpoint], effect: &Effect)
 pub(crate) fn take_back_all(endpoints: &mut [Endpoint], effects: &[Effect])
     requires { AreRising endpoints.old }
     ensures same { map named endpoints.new ≡ map named endpoints.old }
-    ensures back { (step : ℕ) (before : List OpenEndpoint) → endpoints.old ≡ put_all step effects.now before → endpoints.new ≡ before }
+    ensures back { (step : ℕ) (before : List OpenEndpoint)
+        → endpoints.old ≡ put_all step effects.now before → endpoints.new ≡ before }
 {
     let mut left = effects.len();
     while left > 0 {
@@ -131,7 +136,8 @@ pub(crate) fn take_back_all(endpoints: &mut [Endpoint], effects: &[Effect])
     }
 }
 
-/// Puts what a step's effects deliver into the queues of their endpoints. A refusal changes nothing.
+/// Puts what a step's effects deliver into the queues of their endpoints. A refusal changes
+/// nothing.
 pub(crate) fn bring_all(
     endpoints: &mut [Endpoint],
     effects: &[Effect],

@@ -1,4 +1,5 @@
-ghost use Rattle.std.specs.Prelude.{◌≡◌, ◌∷◌, ◌++◌, [], filter, is_some, length, nat_lt, not, OnOk, IfErr};
+ghost use Rattle.std.specs.Prelude.{◌≡◌, ◌∷◌, ◌++◌, [], filter, is_some, length, nat_lt, not, OnOk};
+ghost use Rattle.std.specs.Prelude.{IfErr};
 ghost use Rattle.std.specs.List.{list_any};
 ghost use Rattle.sigsel.specs.Selection.{first_selected, is_notice_of, without_first};
 ghost use Rattle.node_kernel.specs.Nodes.{is_at};
@@ -59,7 +60,8 @@ impl Endpoint {
 
     /// Puts an item last. A refusal gives it back and changes nothing.
     pub(crate) fn put(&mut self, item: Item) -> Result<(), Item>
-        ensures ok { OnOk result (self.new ≡ record self.old { items = self.old.items ++ item ∷ [] }) }
+        ensures ok { OnOk result (self.new ≡ record self.old
+            { items = self.old.items ++ item ∷ [] }) }
         ensures err { IfErr result (λ back. (back ≡ item) × (self.new ≡ self.old)) }
     {
         if self.queue.reserve(1).is_err() {
@@ -72,7 +74,8 @@ impl Endpoint {
     /// Takes out the first item that the filter selects.
     pub(crate) fn take(&mut self, filter: &Sigsel) -> Option<Item>
         ensures item { result ≡ first_selected filter.now self.old.items }
-        ensures others { self.new ≡ record self.old { items = without_first filter.now self.old.items } }
+        ensures others { self.new ≡ record self.old
+            { items = without_first filter.now self.old.items } }
     {
         self.queue.take(filter)
     }
@@ -112,7 +115,8 @@ impl Endpoint {
     /// Frees the notices of an attach, and says whether there was one.
     pub(crate) fn drop_notices(&mut self, attach: AttRef) -> bool
         ensures any { result ≡ list_any (is_notice_of attach) self.old.items }
-        ensures others { self.new ≡ record self.old { items = filter (λ item. not (is_notice_of attach item)) self.old.items } }
+        ensures others { self.new ≡ record self.old
+            { items = filter (λ item. not (is_notice_of attach item)) self.old.items } }
     {
         match self.queue.remove_ref(attach) {
             None => false,

@@ -9,7 +9,8 @@ use linx_base::{Inc, LinkNo, Name, NoMemory, Path, PendingHunt};
 use std::alloc::Global;
 use std::marker::Model;
 
-/// The hunts that are pending, in the words of the journal's laws. Contracts see them as their list in
+/// The hunts that are pending, in the words of the journal's laws. Contracts see them as their list
+/// in
 /// order of hunting.
 #[derive(Drop)]
 pub(crate) struct Hunts {

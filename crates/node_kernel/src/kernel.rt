@@ -1,10 +1,12 @@
-ghost use Rattle.std.specs.Prelude.{◌≡◌, ◌<◌, [], ◌∷◌, length, filter, map, slice_get, is_some, IfOk, IfErr, OnOk, OnErr, IsTrue};
+ghost use Rattle.std.specs.Prelude.{◌≡◌, ◌<◌, [], ◌∷◌, length, filter, map, slice_get, is_some};
+ghost use Rattle.std.specs.Prelude.{IfOk, IfErr, OnOk, OnErr, IsTrue};
 ghost use Rattle.std.specs.Option.{option_copied, option_map};
 ghost use Rattle.linx_base.specs.Content.{data_limit};
 ghost use Rattle.linx_base.specs.declared.identity.Peer.TheVariants.{Here, There};
 ghost use Rattle.sigsel.specs.Selection.{first_selected, without_first};
 ghost use Rattle.journal.specs.declared.effect.Effect.TheVariants.{Arrived};
-ghost use Rattle.journal.specs.Effects.{opening, closing, closings, hunted, attached, meeting, parting, losing};
+ghost use Rattle.journal.specs.Effects.{opening, closing, closings, hunted, attached, meeting};
+ghost use Rattle.journal.specs.Effects.{parting, losing};
 
 use crate::answers::{OpenError, OpenedAs, Sent};
 use crate::attaches::Attaches;
@@ -36,12 +38,24 @@ impl Model for Kernel {
 
     ghost Value = { NodeState };
 
-    ghost view = { λ k. record { node = k.roster.node; openings = k.roster.openings; endpoints = k.roster.endpoints; hunts = k.hunts; attaches = k.attaches; met = k.met } };
+    ghost view = { λ k. record {
+      node = k.roster.node;
+      openings = k.roster.openings;
+      endpoints = k.roster.endpoints;
+      hunts = k.hunts;
+      attaches = k.attaches;
+      met = k.met;
+    } };
 }
 
 impl Kernel {
-    ghost use Rattle.node_kernel.specs.Nodes.{empty_node, is_open, items_at, with_items, is_living, endpoint_limit, next_of, first_named, name_at, find_at, names_over};
-    ghost use Rattle.node_kernel.specs.Calls.{after_open, RefusesOpening, after_close, after_send, IsSent, after_arrival, after_hunt, after_attach, detached, after_detach, after_restart, after_met, after_gone, after_down};
+    ghost use Rattle.node_kernel.specs.Nodes.{empty_node, is_open, items_at, with_items, is_living};
+    ghost use Rattle.node_kernel.specs.Nodes.{endpoint_limit, next_of, first_named, name_at};
+    ghost use Rattle.node_kernel.specs.Nodes.{find_at, names_over};
+    ghost use Rattle.node_kernel.specs.Calls.{after_open, RefusesOpening, after_close, after_send};
+    ghost use Rattle.node_kernel.specs.Calls.{IsSent, after_arrival, after_hunt, after_attach};
+    ghost use Rattle.node_kernel.specs.Calls.{detached, after_detach, after_restart, after_met};
+    ghost use Rattle.node_kernel.specs.Calls.{after_gone, after_down};
 
     /// A node that opened no endpoint yet. It takes no memory.
     pub fn new(alloc: Global, node: NodeNo) -> Kernel
@@ -82,7 +96,8 @@ impl Kernel {
         self.roster.name_of(inc)
     }
 
-    /// The name of the k-th pending hunt, from 0, whose path goes over the link. `None` exactly where
+    /// The name of the k-th pending hunt, from 0, whose path goes over the link. `None` exactly
+    /// where
     /// there are at most k.
     pub fn nth_over(&self, link: LinkNo, k: usize) -> Option<&Name>
         ensures { option_copied result ≡ slice_get (names_over link self.now.hunts) k }
@@ -113,14 +128,17 @@ impl Kernel {
         }
     }
 
-    /// Opens an endpoint with the next incarnation, and answers the hunts for its name. `Full` comes
+    /// Opens an endpoint with the next incarnation, and answers the hunts for its name. `Full`
+    /// comes
     /// exactly where 4,096 are open.
     pub fn open(&mut self, name: Name, step: u64) -> Result<OpenedAs, OpenError>
         requires { self.old.openings < 4294967295 }
         ensures opened { IfOk result (λ opened. opened.inc ≡ next_of self.old) }
-        ensures effects { IfOk result (λ opened. opened.effects ≡ opening (next_of self.old) name self.old.hunts) }
+        ensures effects { IfOk result (λ opened. opened.effects
+            ≡ opening (next_of self.old) name self.old.hunts) }
         ensures ok { OnOk result (self.new ≡ after_open self.old name step) }
-        ensures full { length self.old.endpoints ≡ endpoint_limit → result ≡ Err (OpenError.Full name) }
+        ensures full { length self.old.endpoints ≡ endpoint_limit
+            → result ≡ Err (OpenError.Full name) }
         ensures refused { IfErr result (RefusesOpening self.old.endpoints name) }
         ensures err { OnErr result (self.new ≡ self.old) }
     {
@@ -185,12 +203,16 @@ impl Kernel {
         }
     }
 
-    /// Takes the earliest item at an endpoint that the filter selects, `None` exactly where it selects
+    /// Takes the earliest item at an endpoint that the filter selects, `None` exactly where it
+    /// selects
     /// none. It takes no memory.
     pub fn receive(&mut self, at: Inc, filter: &Sigsel) -> Option<Item>
         requires { IsTrue (is_open self.old.endpoints at) }
         ensures item { result ≡ first_selected filter.now (items_at self.old.endpoints at) }
-        ensures others { self.new ≡ record self.old { endpoints = with_items self.old.endpoints at (without_first filter.now (items_at self.old.endpoints at)) } }
+        ensures others { self.new ≡ record self.old {
+          endpoints = with_items self.old.endpoints at
+              (without_first filter.now (items_at self.old.endpoints at));
+        } }
     {
         self.roster.take(at, filter)
     }
@@ -213,8 +235,15 @@ impl Kernel {
         number: u64,
     ) -> Result<Effects, (NoMemory, Signal)>
         requires { IsTrue (is_open self.old.endpoints at) }
-        ensures effects { IfOk result (λ effects. effects ≡ hunted (find_at self.old path) (record { at = at; path = path; signal = signal; number = number })) }
-        ensures ok { OnOk result (self.new ≡ after_hunt self.old (record { at = at; path = path; signal = signal; number = number })) }
+        ensures effects { IfOk result (λ effects. effects
+            ≡ hunted (find_at self.old path) (record {
+              at = at;
+              path = path;
+              signal = signal;
+              number = number;
+            })) }
+        ensures ok { OnOk result (self.new ≡ after_hunt self.old
+            (record { at = at; path = path; signal = signal; number = number })) }
         ensures err { IfErr result (λ back. (back.1 ≡ signal) × (self.new ≡ self.old)) }
     {
         match self.find(&path) {
@@ -232,7 +261,8 @@ impl Kernel {
         }
     }
 
-    /// Attaches an endpoint to a peer: the holder is owed a notification with the signal, or gets it
+    /// Attaches an endpoint to a peer: the holder is owed a notification with the signal, or gets
+    /// it
     /// at once where the peer isn't alive. A refusal gives the signal back and changes nothing.
     pub fn attach(
         &mut self,
@@ -243,8 +273,15 @@ impl Kernel {
     ) -> Result<Effects, (NoMemory, Signal)>
         requires holder { IsTrue (is_open self.old.endpoints at) }
         requires room { length signal.bytes < data_limit }
-        ensures effects { IfOk result (λ effects. effects ≡ attached (is_living self.old peer) (record { at = at; peer = peer; signal = signal; reference = r })) }
-        ensures ok { OnOk result (self.new ≡ after_attach self.old (record { at = at; peer = peer; signal = signal; reference = r })) }
+        ensures effects { IfOk result (λ effects. effects
+            ≡ attached (is_living self.old peer) (record {
+              at = at;
+              peer = peer;
+              signal = signal;
+              reference = r;
+            })) }
+        ensures ok { OnOk result (self.new ≡ after_attach self.old
+            (record { at = at; peer = peer; signal = signal; reference = r })) }
         ensures err { IfErr result (λ back. (back.1 ≡ signal) × (self.new ≡ self.old)) }
     {
         if self.is_living(peer) {
@@ -260,7 +297,8 @@ impl Kernel {
         }
     }
 
-    /// Cancels an attach of an endpoint, or takes its notification out of the queue. It takes no memory.
+    /// Cancels an attach of an endpoint, or takes its notification out of the queue. It takes no
+    /// memory.
     pub fn detach(&mut self, at: Inc, r: AttRef) -> Detached
         requires { IsTrue (is_open self.old.endpoints at) }
         ensures answer { result ≡ detached self.old at r }
@@ -277,7 +315,8 @@ impl Kernel {
 
     /// Closes all open endpoints. Nobody is notified, and nothing is pending afterwards.
     pub fn restart(&mut self) -> Result<Effects, NoMemory>
-        ensures effects { IfOk result (λ effects. effects ≡ closings (map (λ e. e.inc) self.old.endpoints)) }
+        ensures effects { IfOk result (λ effects. effects
+            ≡ closings (map (λ e. e.inc) self.old.endpoints)) }
         ensures ok { OnOk result (self.new ≡ after_restart self.old) }
         ensures err { OnErr result (self.new ≡ self.old) }
     {
@@ -315,8 +354,10 @@ impl Kernel {
         name: Name,
         step: u64,
     ) -> Result<Effects, NoMemory>
-        ensures effects { IfOk result (λ effects. effects ≡ meeting self.old.node link (There link session inc) name self.old.hunts) }
-        ensures ok { OnOk result (self.new ≡ after_met self.old link (There link session inc) name step) }
+        ensures effects { IfOk result (λ effects. effects
+            ≡ meeting self.old.node link (There link session inc) name self.old.hunts) }
+        ensures ok { OnOk result (self.new ≡ after_met self.old link (There link session inc) name
+            step) }
         ensures err { OnErr result (self.new ≡ self.old) }
     {
         let peer = Peer::There { link, session, inc };
@@ -341,7 +382,8 @@ impl Kernel {
 
     /// A peer over a link is gone: those attached to it are notified.
     pub fn gone(&mut self, peer: Peer, step: u64) -> Result<Effects, NoMemory>
-        ensures effects { IfOk result (λ effects. effects ≡ parting self.old.node peer self.old.attaches) }
+        ensures effects { IfOk result (λ effects. effects
+            ≡ parting self.old.node peer self.old.attaches) }
         ensures ok { OnOk result (self.new ≡ after_gone self.old peer step) }
         ensures err { OnErr result (self.new ≡ self.old) }
     {
@@ -355,7 +397,8 @@ impl Kernel {
 
     /// A session of a link is lost with its peers: those attached to them are notified.
     pub fn down(&mut self, link: LinkNo, session: Session, step: u64) -> Result<Effects, NoMemory>
-        ensures effects { IfOk result (λ effects. effects ≡ losing self.old.node link session self.old.attaches) }
+        ensures effects { IfOk result (λ effects. effects
+            ≡ losing self.old.node link session self.old.attaches) }
         ensures ok { OnOk result (self.new ≡ after_down self.old link session step) }
         ensures err { OnErr result (self.new ≡ self.old) }
     {

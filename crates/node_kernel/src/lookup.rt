@@ -1,10 +1,13 @@
-//! The open endpoints of a node, in order of incarnation, so that one is found without a look at all.
-ghost use Rattle.std.specs.Prelude.{◌≡◌, ◌≤◌, ◌∷◌, ◌++◌, [], filter, is_some, length, map, nat_lt, not, true, false, OnOk, Some, IfOk, IfErr};
+//! The open endpoints of a node, in order of incarnation, so that one is found without a look at
+//! all.
+ghost use Rattle.std.specs.Prelude.{◌≡◌, ◌≤◌, ◌∷◌, ◌++◌, [], filter, is_some, length, map, nat_lt};
+ghost use Rattle.std.specs.Prelude.{not, true, false, OnOk, Some, IfOk, IfErr};
 ghost use Rattle.std.specs.List.{list_any, position};
 ghost use Rattle.std.specs.List.Sorted.{IsPartitionPoint};
 ghost use Rattle.std.specs.Option.{option_copied};
 ghost use Rattle.sigsel.specs.Selection.{first_selected, is_notice_of, without_first};
-ghost use Rattle.node_kernel.specs.Nodes.{is_at, is_open, items_at, name_at, with_items, without_endpoint};
+ghost use Rattle.node_kernel.specs.Nodes.{is_at, is_open, items_at, name_at, with_items};
+ghost use Rattle.node_kernel.specs.Nodes.{without_endpoint};
 ghost use Rattle.node_kernel.specs.Kept.{AreRising, change_items, put_item, without_last};
 
 use crate::endpoint::Endpoint;
@@ -15,7 +18,8 @@ use sigsel::Sigsel;
 fn count_earlier(endpoints: &[Endpoint], inc: Inc) -> usize
     requires { AreRising endpoints.now }
     ensures bound { result ≤ length endpoints.now }
-    ensures between { IsPartitionPoint (λ e. nat_lt e.inc.0 inc.0 ≡ true) (λ e. nat_lt e.inc.0 inc.0 ≡ false) endpoints.now result }
+    ensures between { IsPartitionPoint (λ e. nat_lt e.inc.0 inc.0 ≡ true) (λ e. nat_lt e.inc.0 inc.0
+        ≡ false) endpoints.now result }
 {
     endpoints.partition_point(|endpoint| endpoint.is_earlier(inc))
 }
@@ -41,7 +45,8 @@ pub(crate) fn has_endpoint(endpoints: &[Endpoint], inc: Inc) -> bool
 /// Puts an item into the queue at a place.
 fn put_at(endpoints: &mut [Endpoint], place: usize, inc: Inc, item: Item) -> Result<(), Item>
     requires { position (is_at inc) endpoints.old ≡ Some place }
-    ensures ok { OnOk result (endpoints.new ≡ with_items endpoints.old inc (items_at endpoints.old inc ++ item ∷ [])) }
+    ensures ok { OnOk result (endpoints.new ≡ with_items endpoints.old inc
+        (items_at endpoints.old inc ++ item ∷ [])) }
     ensures err { IfErr result (λ back. (back ≡ item) × (endpoints.new ≡ endpoints.old)) }
 {
     let endpoint = &mut endpoints[place];
@@ -69,7 +74,8 @@ pub(crate) fn deliver(endpoints: &mut [Endpoint], inc: Inc, item: Item) -> Resul
 fn take_at(endpoints: &mut [Endpoint], place: usize, inc: Inc, filter: &Sigsel) -> Option<Item>
     requires { position (is_at inc) endpoints.old ≡ Some place }
     ensures item { result ≡ first_selected filter.now (items_at endpoints.old inc) }
-    ensures others { endpoints.new ≡ with_items endpoints.old inc (without_first filter.now (items_at endpoints.old inc)) }
+    ensures others { endpoints.new ≡ with_items endpoints.old inc
+        (without_first filter.now (items_at endpoints.old inc)) }
 {
     let endpoint = &mut endpoints[place];
     endpoint.take(filter)
@@ -79,7 +85,8 @@ fn take_at(endpoints: &mut [Endpoint], place: usize, inc: Inc, filter: &Sigsel) 
 pub(crate) fn take(endpoints: &mut [Endpoint], inc: Inc, filter: &Sigsel) -> Option<Item>
     requires { AreRising endpoints.old }
     ensures item { result ≡ first_selected filter.now (items_at endpoints.old inc) }
-    ensures others { endpoints.new ≡ with_items endpoints.old inc (without_first filter.now (items_at endpoints.old inc)) }
+    ensures others { endpoints.new ≡ with_items endpoints.old inc
+        (without_first filter.now (items_at endpoints.old inc)) }
 {
     match place_of(endpoints, inc) {
         None => None,
@@ -132,7 +139,8 @@ pub(crate) fn name_of(endpoints: &[Endpoint], inc: Inc) -> Option<&Name>
 /// Takes the last item back out of the queue at a place.
 fn take_last_at(endpoints: &mut [Endpoint], place: usize, inc: Inc)
     requires { position (is_at inc) endpoints.old ≡ Some place }
-    ensures { endpoints.new ≡ with_items endpoints.old inc (without_last (items_at endpoints.old inc)) }
+    ensures { endpoints.new ≡ with_items endpoints.old inc
+        (without_last (items_at endpoints.old inc)) }
 {
     let endpoint = &mut endpoints[place];
     endpoint.take_last();
@@ -152,7 +160,8 @@ pub(crate) fn take_last(endpoints: &mut [Endpoint], inc: Inc)
 fn drop_notices_at(endpoints: &mut [Endpoint], place: usize, inc: Inc, attach: AttRef) -> bool
     requires { position (is_at inc) endpoints.old ≡ Some place }
     ensures any { result ≡ list_any (is_notice_of attach) (items_at endpoints.old inc) }
-    ensures others { endpoints.new ≡ with_items endpoints.old inc (filter (λ item. not (is_notice_of attach item)) (items_at endpoints.old inc)) }
+    ensures others { endpoints.new ≡ with_items endpoints.old inc
+        (filter (λ item. not (is_notice_of attach item)) (items_at endpoints.old inc)) }
 {
     let endpoint = &mut endpoints[place];
     endpoint.drop_notices(attach)
@@ -162,7 +171,8 @@ fn drop_notices_at(endpoints: &mut [Endpoint], place: usize, inc: Inc, attach: A
 pub(crate) fn drop_notices(endpoints: &mut [Endpoint], inc: Inc, attach: AttRef) -> bool
     requires { AreRising endpoints.old }
     ensures any { result ≡ list_any (is_notice_of attach) (items_at endpoints.old inc) }
-    ensures others { endpoints.new ≡ with_items endpoints.old inc (filter (λ item. not (is_notice_of attach item)) (items_at endpoints.old inc)) }
+    ensures others { endpoints.new ≡ with_items endpoints.old inc
+        (filter (λ item. not (is_notice_of attach item)) (items_at endpoints.old inc)) }
 {
     match place_of(endpoints, inc) {
         None => false,

@@ -24,7 +24,8 @@ enum MetKey {
 /// The key of a peer.
 fn peer_key(peer: Peer) -> MetKey
     ensures key { result ≡ met_key peer }
-    ensures finds { (m : Met) → is_under ⟦<MetKey as Ord>⟧.cmp met_keys result m ≡ same_peer peer m.peer }
+    ensures finds { (m : Met) → is_under ⟦<MetKey as Ord>⟧.cmp met_keys result m
+        ≡ same_peer peer m.peer }
 {
     match peer {
         Peer::Here(inc) => MetKey::Here(inc),
@@ -34,14 +35,16 @@ fn peer_key(peer: Peer) -> MetKey
 
 /// The key of a session.
 fn session_key(link: LinkNo, session: Session) -> MetKey
-    ensures { (m : Met) → is_under ⟦<MetKey as Ord>⟧.cmp met_keys result m ≡ is_of_session link session m.peer }
+    ensures { (m : Met) → is_under ⟦<MetKey as Ord>⟧.cmp met_keys result m
+        ≡ is_of_session link session m.peer }
 {
     MetKey::Session(link, session)
 }
 
 /// The key of a name behind a link.
 fn name_key(link: LinkNo, name: NameKey) -> MetKey
-    ensures { (m : Met) → is_under ⟦<MetKey as Ord>⟧.cmp met_keys result m ≡ is_named_over link name m }
+    ensures { (m : Met) → is_under ⟦<MetKey as Ord>⟧.cmp met_keys result m
+        ≡ is_named_over link name m }
 {
     MetKey::Named(link, name)
 }

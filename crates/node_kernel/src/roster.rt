@@ -1,9 +1,11 @@
-ghost use Rattle.std.specs.Prelude.{ℕ, ◌≡◌, ◌==◌, ◌+◌, ◌<◌, ◌∷◌, ◌++◌, [], filter, is_some, length, map, not, slice_get, IfErr, IfOk, OnErr, OnOk};
+ghost use Rattle.std.specs.Prelude.{ℕ, ◌≡◌, ◌==◌, ◌+◌, ◌<◌, ◌∷◌, ◌++◌, [], filter, is_some, length};
+ghost use Rattle.std.specs.Prelude.{map, not, slice_get, IfErr, IfOk, OnErr, OnOk};
 ghost use Rattle.std.specs.List.{list_any};
 ghost use Rattle.std.specs.Option.{option_copied, option_map};
 ghost use Rattle.sigsel.specs.Selection.{first_selected, is_notice_of, without_first};
 ghost use Rattle.journal.specs.History.{next_inc};
-ghost use Rattle.node_kernel.specs.Nodes.{endpoint_limit, first_named, is_open, items_at, name_at, put_all, with_items, without_endpoint};
+ghost use Rattle.node_kernel.specs.Nodes.{endpoint_limit, first_named, is_open, items_at, name_at};
+ghost use Rattle.node_kernel.specs.Nodes.{put_all, with_items, without_endpoint};
 ghost use Rattle.node_kernel.specs.Kept.{AreRising, NodeEndpoints, put_item};
 
 use crate::delivery::{bring_all, take_back_all};
@@ -19,7 +21,8 @@ use std::marker::Model;
 /// The most endpoints that are open at once on a node.
 const ENDPOINTS_MOST: usize = 4_096;
 
-/// The endpoints of a node: how many were opened so far, and those that are open, in order of opening,
+/// The endpoints of a node: how many were opened so far, and those that are open, in order of
+/// opening,
 /// which are found by incarnation and by name.
 #[derive(Drop)]
 pub(crate) struct Roster {
@@ -34,12 +37,17 @@ impl Model for Roster {
 
     ghost Value = { NodeEndpoints };
 
-    ghost view = { λ r. record { node = r.node; openings = r.openings; endpoints = r.endpoints.items } };
+    ghost view = { λ r. record {
+      node = r.node;
+      openings = r.openings;
+      endpoints = r.endpoints.items;
+    } };
 
     ghost invariant = { λ r. AreKept r.node r.openings r.endpoints.items r.names };
 }
 
-/// Adds an endpoint at the end, and puts what a step's effects deliver. A refusal gives its name back
+/// Adds an endpoint at the end, and puts what a step's effects deliver. A refusal gives its name
+/// back
 /// and changes nothing.
 fn open_with(
     endpoints: &mut Vec<Endpoint>,
@@ -48,8 +56,10 @@ fn open_with(
     step: u64,
 ) -> Result<(), Name>
     requires { AreRising (endpoints.old.items ++ endpoint ∷ []) }
-    ensures ok { OnOk result (endpoints.new.items ≡ put_all step effects.now (endpoints.old.items ++ endpoint ∷ [])) }
-    ensures err { IfErr result (λ name. (name ≡ endpoint.name) × (endpoints.new.items ≡ endpoints.old.items)) }
+    ensures ok { OnOk result (endpoints.new.items
+        ≡ put_all step effects.now (endpoints.old.items ++ endpoint ∷ [])) }
+    ensures err { IfErr result (λ name. (name ≡ endpoint.name)
+        × (endpoints.new.items ≡ endpoints.old.items)) }
 {
     if endpoints.reserve(1).is_err() {
         return Err(endpoint.into_name());
@@ -132,11 +142,19 @@ impl Roster {
         self.names.first(name)
     }
 
-    /// Opens an endpoint with the next incarnation, and puts what the step's effects deliver. A refusal
+    /// Opens an endpoint with the next incarnation, and puts what the step's effects deliver. A
+    /// refusal
     /// gives the name back and changes nothing.
     pub(crate) fn open(&mut self, name: Name, effects: &[Effect], step: u64) -> Result<(), Name>
         requires { self.old.openings < 4294967295 }
-        ensures ok { OnOk result (self.new ≡ record self.old { openings = self.old.openings + 1; endpoints = put_all step effects.now (self.old.endpoints ++ record { inc = next_inc self.old.node.0 self.old.openings; name = name; items = [] } ∷ []) }) }
+        ensures ok { OnOk result (self.new ≡ record self.old {
+          openings = self.old.openings + 1;
+          endpoints = put_all step effects.now (self.old.endpoints ++ record {
+            inc = next_inc self.old.node.0 self.old.openings;
+            name = name;
+            items = [];
+          } ∷ []);
+        }) }
         ensures err { IfErr result (λ back. (back ≡ name) × (self.new ≡ self.old)) }
     {
         let inc = Inc::of(self.node, self.openings + 1);
@@ -162,7 +180,8 @@ impl Roster {
     /// Frees an endpoint with its queue, and puts what the step's effects deliver to the others. A
     /// refusal changes nothing.
     pub(crate) fn close(&mut self, inc: Inc, effects: &[Effect], step: u64) -> Result<(), NoMemory>
-        ensures ok { OnOk result (self.new ≡ record self.old { endpoints = put_all step effects.now (without_endpoint self.old.endpoints inc) }) }
+        ensures ok { OnOk result (self.new ≡ record self.old
+            { endpoints = put_all step effects.now (without_endpoint self.old.endpoints inc) }) }
         ensures err { OnErr result (self.new ≡ self.old) }
     {
         bring_all(&mut self.endpoints, effects, step)?;
@@ -172,7 +191,10 @@ impl Roster {
 
     /// Frees an endpoint with its queue. It takes no memory.
     pub(crate) fn remove(&mut self, inc: Inc)
-        ensures { self.new ≡ record self.old { endpoints = without_endpoint self.old.endpoints inc } }
+        ensures { self.new ≡ record self.old {
+          endpoints =
+              without_endpoint self.old.endpoints inc;
+        } }
     {
         lookup::remove(&mut self.endpoints, inc);
         let _was_named = self.names.remove(inc);
@@ -188,7 +210,8 @@ impl Roster {
 
     /// Puts what a step's effects deliver. A refusal changes nothing.
     pub(crate) fn bring_all(&mut self, effects: &[Effect], step: u64) -> Result<(), NoMemory>
-        ensures ok { OnOk result (self.new ≡ record self.old { endpoints = put_all step effects.now self.old.endpoints }) }
+        ensures ok { OnOk result (self.new ≡ record self.old
+            { endpoints = put_all step effects.now self.old.endpoints }) }
         ensures err { OnErr result (self.new ≡ self.old) }
     {
         bring_all(&mut self.endpoints, effects, step)
@@ -196,16 +219,20 @@ impl Roster {
 
     /// Takes back what a step's effects delivered.
     pub(crate) fn take_back_all(&mut self, effects: &[Effect])
-        ensures { (step : ℕ) (before : NodeEndpoints) → self.old ≡ record before { endpoints = put_all step effects.now before.endpoints } → self.new ≡ before }
+        ensures { (step : ℕ) (before : NodeEndpoints)
+            → self.old ≡ record before { endpoints = put_all step effects.now before.endpoints }
+            → self.new ≡ before }
     {
         take_back_all(&mut self.endpoints, effects);
     }
 
-    /// Puts an item into the queue of an endpoint, and tells whether that is open. A refusal gives the
+    /// Puts an item into the queue of an endpoint, and tells whether that is open. A refusal gives
+    /// the
     /// item back and changes nothing.
     pub(crate) fn deliver(&mut self, inc: Inc, item: Item) -> Result<bool, Item>
         ensures answer { IfOk result (λ found. found ≡ is_open self.old.endpoints inc) }
-        ensures queued { OnOk result (self.new ≡ record self.old { endpoints = map (put_item inc item) self.old.endpoints }) }
+        ensures queued { OnOk result (self.new ≡ record self.old
+            { endpoints = map (put_item inc item) self.old.endpoints }) }
         ensures err { IfErr result (λ back. (back ≡ item) × (self.new ≡ self.old)) }
     {
         lookup::deliver(&mut self.endpoints, inc, item)
@@ -214,7 +241,10 @@ impl Roster {
     /// Takes the first selected item out of the queue of an endpoint.
     pub(crate) fn take(&mut self, inc: Inc, filter: &Sigsel) -> Option<Item>
         ensures item { result ≡ first_selected filter.now (items_at self.old.endpoints inc) }
-        ensures others { self.new ≡ record self.old { endpoints = with_items self.old.endpoints inc (without_first filter.now (items_at self.old.endpoints inc)) } }
+        ensures others { self.new ≡ record self.old {
+          endpoints = with_items self.old.endpoints inc
+              (without_first filter.now (items_at self.old.endpoints inc));
+        } }
     {
         lookup::take(&mut self.endpoints, inc, filter)
     }
@@ -229,7 +259,10 @@ impl Roster {
     /// Frees the notices of an attach in the queue of an endpoint, and says whether there was one.
     pub(crate) fn drop_notices(&mut self, inc: Inc, attach: AttRef) -> bool
         ensures any { result ≡ list_any (is_notice_of attach) (items_at self.old.endpoints inc) }
-        ensures others { self.new ≡ record self.old { endpoints = with_items self.old.endpoints inc (filter (λ item. not (is_notice_of attach item)) (items_at self.old.endpoints inc)) } }
+        ensures others { self.new ≡ record self.old {
+          endpoints = with_items self.old.endpoints inc
+              (filter (λ item. not (is_notice_of attach item)) (items_at self.old.endpoints inc));
+        } }
     {
         lookup::drop_notices(&mut self.endpoints, inc, attach)
     }

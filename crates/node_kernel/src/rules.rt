@@ -5,7 +5,8 @@ ghost use Rattle.linx_base.specs.Peers.{same_peer};
 ghost use Rattle.linx_base.specs.declared.identity.Peer.TheVariants.{Here};
 ghost use Rattle.linx_base.specs.declared.name.Path.TheVariants.{Local, Over};
 ghost use Rattle.linx_base.specs.declared.signal.Reason.TheVariants.{Closed, Lost};
-ghost use Rattle.journal.specs.Effects.{opening, closing, closings, found, founds, held_elsewhere, losing, meeting, notice, notices, parting};
+ghost use Rattle.journal.specs.Effects.{opening, closing, closings, found, founds, held_elsewhere};
+ghost use Rattle.journal.specs.Effects.{losing, meeting, notice, notices, parting};
 ghost use Rattle.journal.specs.Living.{is_of_session};
 
 use crate::attaches::Attaches;
@@ -63,7 +64,8 @@ fn add_notices_elsewhere(
     attaches: &Attaches,
     inc: Inc,
 ) -> Result<(), NoMemory>
-    ensures { OnOk result (effects.new ≡ effects.old ++ notices Closed (same_peer (Here inc)) (held_elsewhere inc attaches.now)) }
+    ensures { OnOk result (effects.new ≡ effects.old
+        ++ notices Closed (same_peer (Here inc)) (held_elsewhere inc attaches.now)) }
 {
     for k in 0..usize::MAX {
         let Some(attach) = attaches.nth_to(Peer::Here(inc), k) else {
@@ -78,7 +80,8 @@ fn add_notices_elsewhere(
 
 /// Adds the notifications of the attaches to a peer.
 fn add_notices(effects: &mut Effects, attaches: &Attaches, peer: Peer) -> Result<(), NoMemory>
-    ensures { OnOk result (effects.new ≡ effects.old ++ notices Closed (same_peer peer) attaches.now) }
+    ensures { OnOk result (effects.new ≡ effects.old
+        ++ notices Closed (same_peer peer) attaches.now) }
 {
     for k in 0..usize::MAX {
         let Some(attach) = attaches.nth_to(peer, k) else {
@@ -96,7 +99,8 @@ fn add_losses(
     link: LinkNo,
     session: Session,
 ) -> Result<(), NoMemory>
-    ensures { OnOk result (effects.new ≡ effects.old ++ notices Lost (is_of_session link session) attaches.now) }
+    ensures { OnOk result (effects.new ≡ effects.old
+        ++ notices Lost (is_of_session link session) attaches.now) }
 {
     for k in 0..usize::MAX {
         let Some(attach) = attaches.nth_over(link, session, k) else {
@@ -114,7 +118,8 @@ pub(crate) fn opening(
     path: &Path,
     hunts: &Hunts,
 ) -> Result<Effects, NoMemory>
-    ensures { IfOk result (λ effects. (name : List ℕ) → path.now ≡ Local name → effects ≡ opening inc name hunts.now) }
+    ensures { IfOk result (λ effects. (name : List ℕ) → path.now ≡ Local name
+        → effects ≡ opening inc name hunts.now) }
 {
     let mut effects = one(alloc, Effect::Opened(inc))?;
     add_founds(&mut effects, hunts, path, Peer::Here(inc))?;
@@ -153,7 +158,8 @@ pub(crate) fn meeting(
     path: &Path,
     hunts: &Hunts,
 ) -> Result<Effects, NoMemory>
-    ensures { IfOk result (λ effects. (link : LinkNo) → path.now ≡ Over link name.now → effects ≡ meeting node link peer name.now hunts.now) }
+    ensures { IfOk result (λ effects. (link : LinkNo) → path.now ≡ Over link name.now
+        → effects ≡ meeting node link peer name.now hunts.now) }
 {
     let mut effects = one(alloc, Effect::Met(node, peer, name.copy()?))?;
     add_founds(&mut effects, hunts, path, peer)?;

@@ -126,7 +126,8 @@ impl Node {
         Some((item.signal.number(), item.signal.bytes().len()))
     }
 
-    /// Whether the next item at an endpoint comes from this peer, is of this kind, carries these bytes
+    /// Whether the next item at an endpoint comes from this peer, is of this kind, carries these
+    /// bytes
     /// and stands at this place of a step.
     fn takes(
         &mut self,
@@ -198,7 +199,10 @@ fn a_full_kernel_hands_the_name_back(rt: HostRuntime) -> Result<(), Fail> {
     }
     assert!(rt; n.kernel.openings() == 4_096);
     assert!(rt;
-        matches!(&n.kernel.open(named(&rt, n.alloc, b"b"), 9), Err(OpenError::Full(name)) if name.bytes() == b"b".as_slice())
+        matches!(
+            &n.kernel.open(named(&rt, n.alloc, b"b"), 9),
+            Err(OpenError::Full(name)) if name.bytes() == b"b".as_slice()
+        )
     );
     assert!(rt; n.kernel.is_open(first));
     let _ = n.close(&rt, first, 9);
@@ -500,7 +504,11 @@ fn an_arrival_is_queued_from_its_peer(rt: HostRuntime) -> Result<(), Fail> {
     let effects = effects.expect(&rt, "an arrival");
     assert!(rt; effects.len() == 1);
     assert!(rt;
-        matches!(effects.get(0), Some(Effect::Arrived(at, from, note)) if *at == a && *from == there(1, 77) && note.number == 9)
+        matches!(
+            effects.get(0),
+            Some(Effect::Arrived(at, from, note))
+                if *at == a && *from == there(1, 77) && note.number == 9
+        )
     );
     assert!(rt; n.takes(&rt, a, there(1, 77), Kind::Plain, &[4], 3, 1));
     Ok(())

@@ -1,5 +1,6 @@
 -- What an actor of a script without links may ask for.
-use Rattle.std.proofs.Common.{◌≡◌, ℕ, zero, suc, ◌<◌, ◌≤◌, Bool, true, false, List, [], ◌∷◌, length, Option, ◌+◌, Some, None, refl, sym, ◌∙◌, ap, arith}
+use Rattle.std.proofs.Common.{◌≡◌, ℕ, zero, suc, ◌<◌, ◌≤◌, Bool, true, false, List, [], ◌∷◌, length}
+use Rattle.std.proofs.Common.{Option, ◌+◌, Some, None, refl, sym, ◌∙◌, ap, arith}
 use Rattle.std.specs.Prelude.{◌&&◌, is_some, nat_le, slice_get}
 use Rattle.std.specs.List.{list_all}
 use Rattle.std.proofs.lemmas.List.{length-map}
@@ -15,7 +16,10 @@ use Rattle.journal.specs.declared.effect.Step.{Step}
 use Rattle.journal.specs.declared.head.Refusal.{Refusal}
 use Rattle.journal.specs.History.{has_ended, last_endpoint}
 use Rattle.script_words.specs.declared.command.Command.{Command}
-use Rattle.script_words.specs.declared.command.Command.TheVariants.{Open, Close, Send, Forward, Recv, Hunt, Attach, Detach, Keep, Cut, Mend, Restart, Settle}
+use Rattle.script_words.specs.declared.command.Command.TheVariants.{Open, Close, Send, Forward}
+use Rattle.script_words.specs.declared.command.Command.TheVariants.{Recv, Hunt, Attach, Detach}
+use Rattle.script_words.specs.declared.command.Command.TheVariants.{Keep, Cut, Mend, Restart}
+use Rattle.script_words.specs.declared.command.Command.TheVariants.{Settle}
 use Rattle.script_words.specs.Filling.{data_of}
 use Rattle.script_words.specs.Numbers.{is_within}
 use Rattle.script_lang.specs.declared.actor_script.ActorScript.{ActorScript}
@@ -23,7 +27,8 @@ use Rattle.script_lang.specs.Fits.{fits_actor, fits_command, is_node, IsScript}
 use Rattle.script_lang.specs.Parts.{ScriptParts}
 use Rattle.node_kernel.specs.declared.ask.Ask.{Ask}
 use Rattle.node_kernel.specs.Answers.{refused}
-use Rattle.actor_run.specs.Asking.{ask_attach, ask_detach, ask_forward, ask_of, ask_send, peer_of, signal_of}
+use Rattle.actor_run.specs.Asking.{ask_attach, ask_detach, ask_forward, ask_of, ask_send, peer_of}
+use Rattle.actor_run.specs.Asking.{signal_of}
 use Rattle.actor_run.specs.Bindings.{lookup}
 use Rattle.actor_run.specs.Following.{knows, next_ask}
 use Rattle.actor_run.specs.Knowing.{Knows}

@@ -1,5 +1,6 @@
 -- What the machine makes of what an actor asks for is what its mind expects.
-use Rattle.std.proofs.Common.{◌≡◌, ℕ, Bool, true, false, cond, List, [], ◌∷◌, Option, Some, None, refl, sym, ◌∙◌, ap, inl, inr}
+use Rattle.std.proofs.Common.{◌≡◌, ℕ, Bool, true, false, cond, List, [], ◌∷◌, Option, Some, None}
+use Rattle.std.proofs.Common.{refl, sym, ◌∙◌, ap, inl, inr}
 use Rattle.std.specs.Prelude.{is_some, if◌then◌else◌}
 use Rattle.std.proofs.lemmas.Bool.{true≢false}
 use Rattle.linx_base.specs.declared.identity.Inc.{Inc}
@@ -21,10 +22,13 @@ use Rattle.journal.specs.Rest.{queue_of, waits_with}
 use Rattle.journal.specs.Shapes.{Shape, node_by}
 use Rattle.journal.proofs.Openings.{effects-open, last_in, last_opened-opens, next_on}
 use Rattle.node_kernel.specs.declared.ask.Ask.{Ask}
-use Rattle.node_kernel.specs.Answers.{answer_of, event_of, granted, granted_by, is_end_event, is_opening, is_waits, named, needs_endpoint, opened_as, refused}
+use Rattle.node_kernel.specs.Answers.{answer_of, event_of, granted, granted_by, is_end_event}
+use Rattle.node_kernel.specs.Answers.{is_opening, is_waits, named, needs_endpoint, opened_as}
+use Rattle.node_kernel.specs.Answers.{refused}
 use Rattle.actor_run.specs.Asking.{is_sending}
 use Rattle.actor_run.specs.Following.{endpoint_after, Makes}
-use Rattle.fabric.specs.Machine.{answer_to, answer_with, hands_over, head_of, is_at_rest, look, signal_in, step_with, steps_after, vain_look, with_step}
+use Rattle.fabric.specs.Machine.{answer_to, answer_with, hands_over, head_of, is_at_rest, look}
+use Rattle.fabric.specs.Machine.{signal_in, step_with, steps_after, vain_look, with_step}
 
 inner : {a b : Head} → Some a ≡ Some b → a ≡ b
 inner is = cc
@@ -54,7 +58,8 @@ pub record IsVain (shape : Shape) (P : List Step) (k : ℕ) (me : Option Inc) (e
   pub waits : is_some (waits_with P k) ≡ true
 
 -- the head, or its want
-abbrev pub IsHeadOr : Shape → List Step → ℕ → Option Inc → Event → Option SigNote → Option Head → Type 0
+abbrev pub IsHeadOr : Shape → List Step → ℕ → Option Inc → Event → Option SigNote → Option Head
+    → Type 0
 IsHeadOr shape P k me event hand None = IsVain shape P k me event
 IsHeadOr shape P k me event hand (Some head) = IsHeadOf P k event hand head
 
@@ -101,16 +106,20 @@ module _ (shape : Shape) (P : List Step) (k : ℕ) (me : Option Inc) where
   pub head-made : (node : ℕ) (event : Event) (hand : Option SigNote)
       → is_some hand ≡ hands_over event
       → IsHeadOr shape P k me event hand (head_of shape P k node me event (signal_in hand))
-  head-made node (asks.Open name) hand e = bare (asks.Open name) hand (heads.Open name) e refl refl refl
+  head-made node (asks.Open name) hand e = bare (asks.Open name) hand (heads.Open name) e refl refl
+      refl
   head-made node asks.Close hand e = bare asks.Close hand heads.Close e refl refl refl
   head-made node (asks.Send q) hand e = handing (asks.Send q) hand _ e refl refl
   head-made node (asks.Look f) hand e = looks f hand e (first_selected f (queue_of P me)) refl
   head-made node (asks.Hunt path) hand e = handing (asks.Hunt path) hand _ e refl refl
   head-made node (asks.Attach q) hand e = handing (asks.Attach q) hand _ e refl refl
   head-made node (asks.Detach r) hand e = bare (asks.Detach r) hand _ e refl refl refl
-  head-made node (asks.Cut link) hand e = bare (asks.Cut link) hand (heads.Cut link) e refl refl refl
-  head-made node (asks.Mend link) hand e = bare (asks.Mend link) hand (heads.Mend link) e refl refl refl
-  head-made node (asks.Restart n) hand e = bare (asks.Restart n) hand (heads.Restart n) e refl refl refl
+  head-made node (asks.Cut link) hand e = bare (asks.Cut link) hand (heads.Cut link) e refl refl
+      refl
+  head-made node (asks.Mend link) hand e = bare (asks.Mend link) hand (heads.Mend link) e refl refl
+      refl
+  head-made node (asks.Restart n) hand e = bare (asks.Restart n) hand (heads.Restart n) e refl refl
+      refl
   head-made node (asks.Settle link) hand e =
       bare (asks.Settle link) hand (heads.Settle link) e refl refl refl
   head-made node (asks.Refuse reason) hand e =

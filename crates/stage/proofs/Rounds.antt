@@ -1,5 +1,7 @@
 -- A round in which an actor hasn't ended makes a step.
-use Rattle.std.proofs.Common.{◌≡◌, ◌≢◌, ℕ, zero, suc, ◌<◌, ◌≤◌, ◌⊎◌, Bool, true, false, cond, List, length, Option, Some, None, is_none, refl, sym, ◌∙◌, ap, subst, inl, inr, arith}
+use Rattle.std.proofs.Common.{◌≡◌, ◌≢◌, ℕ, zero, suc, ◌<◌, ◌≤◌, ◌⊎◌, Bool, true, false, cond, List}
+use Rattle.std.proofs.Common.{length, Option, Some, None, is_none, refl, sym, ◌∙◌, ap, subst, inl}
+use Rattle.std.proofs.Common.{inr, arith}
 use Rattle.std.specs.Prelude.{◌==◌, is_some, slice_get}
 use Rattle.std.proofs.lemmas.List.{length-map}
 use Rattle.std.proofs.lemmas.Bool.{and_parts, cases_lt, cases_order, eq-eqb, lt-ltb, true≢false}
@@ -20,10 +22,12 @@ use Rattle.node_kernel.specs.declared.ask.Ask.{Ask}
 use Rattle.node_kernel.specs.Answers.{granted}
 use Rattle.actor_run.specs.Asking.{ask_of}
 use Rattle.actor_run.specs.Following.{knows, next_ask, Follows}
-use Rattle.fabric.specs.Machine.{all_leave_at_rest, hands_over, have_ended, is_at_rest, step_of, step_with, steps_after, with_step}
+use Rattle.fabric.specs.Machine.{all_leave_at_rest, hands_over, have_ended, is_at_rest, step_of}
+use Rattle.fabric.specs.Machine.{step_with, steps_after, with_step}
 use Rattle.stage.specs.Plays.{AllFollow}
 use Rattle.stage.specs.Turns.{commands_of, is_over, round_of, shape_of, turn_of, turns_of}
-use Rattle.stage.proofs.Makings.{IsHeadOr, IsVain, granted_endpoint, granted_look, the_head, the_head-made}
+use Rattle.stage.proofs.Makings.{IsHeadOr, IsVain, granted_endpoint, granted_look, the_head}
+use Rattle.stage.proofs.Makings.{the_head-made}
 use Rattle.stage.proofs.Waiting.{waits_at}
 
 the_filter : (w : Option Sigsel) → is_some w ≡ true → (f : Sigsel) × (w ≡ Some f)

@@ -1,5 +1,7 @@
 -- The players of a stage, before and after a turn.
-use Rattle.std.proofs.Common.{◌≡◌, ◌≢◌, ℕ, zero, suc, ◌-◌, ◌<◌, ◌≤◌, Bool, Result, Ok, Err, IsErr, OnOk, OnErr, inl, inr, length-set, true, false, List, [], ◌∷◌, length, Option, Some, None, refl, sym, ◌∙◌, ap, subst, arith}
+use Rattle.std.proofs.Common.{◌≡◌, ◌≢◌, ℕ, zero, suc, ◌-◌, ◌<◌, ◌≤◌, Bool, Result, Ok, Err, IsErr}
+use Rattle.std.proofs.Common.{OnOk, OnErr, inl, inr, length-set, true, false, List, [], ◌∷◌, length}
+use Rattle.std.proofs.Common.{Option, Some, None, refl, sym, ◌∙◌, ap, subst, arith}
 use Rattle.std.specs.Prelude.{◌==◌, nat_le, slice_get, slice_set}
 use Rattle.std.proofs.lemmas.Bool.{cases_lt, eqb-true, eq-eqb, le-leb, ne_eqb, or_left, true≢false}
 use Rattle.std.proofs.lemmas.List.{length-map}
@@ -23,7 +25,8 @@ use Rattle.actor_run.specs.Following.{Follows, IsTurned, Playing}
 use Rattle.actor_run.specs.Knowing.{knows_nothing}
 use Rattle.actor_run.proofs.Others.{GoesOn, has_ended_goes_on, playing_goes_on, whole_goes_on}
 use Rattle.actor_run.proofs.Turns.{playing_first}
-use Rattle.fabric.specs.Machine.{have_ended, head_of, signal_in, step_of, step_with, steps_after, with_step}
+use Rattle.fabric.specs.Machine.{have_ended, head_of, signal_in, step_of, step_with, steps_after}
+use Rattle.fabric.specs.Machine.{with_step}
 use Rattle.fabric.specs.Remains.{Layout}
 use Rattle.fabric.proofs.Kept.{get-set, get-set-other}
 use Rattle.stage.specs.declared.player.Player.{Player}
@@ -70,8 +73,12 @@ unstarted-seated script n player is = first_seated script.actors n player is
 pub step-goes_on : (P : List Step) (a k : ℕ) → a ≢ k → (s : Step) → s.by ≡ Actor a
     → GoesOn k (s ∷ P) P
 step-goes_on P a k other s by =
-    let off : is_by s.by k ≡ false = ap (λ b. is_by b k) by ∙ ne_eqb a k other in
-    (s ∷ [], refl, All-cons (λ (x : Step). is_by x.by k ≡ false) s [] off (All-nil (λ (x : Step). is_by x.by k ≡ false)))
+    let off : is_by s.by k ≡ false = ap (λ b. is_by b k) by ∙ ne_eqb a k other in (
+      s ∷ [],
+      refl,
+      All-cons (λ (x : Step). is_by x.by k ≡ false) s [] off
+          (All-nil (λ (x : Step). is_by x.by k ≡ false)),
+    )
 
 pub none-goes_on : (P : List Step) (k : ℕ) → GoesOn k P P
 none-goes_on P k = ([], refl, All-nil (λ (x : Step). is_by x.by k ≡ false))
@@ -266,7 +273,8 @@ pub laid-same : (links others : List LinkDecl) (nodes places : List NodeNo) (nam
     }
 laid-same links others nodes places names titles a b c = rw (a, b, c) refl
 
-pub staged-first : (script : ScriptParts) (fabric : Layout) (players : List Player) → IsScript script
+pub staged-first : (script : ScriptParts) (fabric : Layout) (players : List Player)
+    → IsScript script
     → script.links ≡ []
     → fabric ≡ record {
       shape = shape_of script;

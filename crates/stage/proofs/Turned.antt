@@ -1,5 +1,6 @@
 -- A turn of an actor that hasn't ended.
-use Rattle.std.proofs.Common.{◌≡◌, ℕ, ◌<◌, ◌≤◌, Bool, true, false, cond, List, [], length, Option, None, refl, ◌∙◌, subst}
+use Rattle.std.proofs.Common.{◌≡◌, ℕ, ◌<◌, ◌≤◌, Bool, true, false, cond, List, [], length, Option}
+use Rattle.std.proofs.Common.{None, refl, ◌∙◌, subst}
 use Rattle.std.specs.Prelude.{is_some}
 use Rattle.linx_base.specs.declared.identity.Inc.{Inc}
 use Rattle.journal.specs.declared.by.By.TheVariants.{Actor}
@@ -51,7 +52,8 @@ module _ (script : ScriptParts) (declared : IsScript script) (unlinked : script.
       → fabric.log.names ≡ script.names
       → MayAsk (length fabric.log.names.nodes) fabric.shape P (Actor k) ask
   turn-asks fabric shape names =
-      rw (shape, names, ask-next) (may_ask script declared unlinked P k above within playing.running)
+      rw (shape, names, ask-next) (may_ask script declared unlinked P k above within
+      playing.running)
 
   -- WHAT IT LEAVES
   pub turn-seated : (answer : StepAnswer) → answer ≡ answer_to (shape_of script) P (Actor k) ask

@@ -1,5 +1,6 @@
 -- An actor that waits asks for the same look again.
-use Rattle.std.proofs.Common.{◌≡◌, ℕ, Bool, true, false, cond, not, List, [], ◌∷◌, Option, Some, None, refl, sym, ◌∙◌, ap, subst}
+use Rattle.std.proofs.Common.{◌≡◌, ℕ, Bool, true, false, cond, not, List, [], ◌∷◌, Option, Some}
+use Rattle.std.proofs.Common.{None, refl, sym, ◌∙◌, ap, subst}
 use Rattle.std.specs.Prelude.{◌&&◌, slice_get, if◌then◌else◌}
 use Rattle.linx_base.specs.declared.identity.AttRef.{AttRef}
 use Rattle.linx_base.specs.declared.identity.Inc.{Inc}
@@ -13,11 +14,15 @@ use Rattle.journal.specs.declared.head.Head.TheVariants as heads
 use Rattle.journal.specs.History.{closed_step, endpoint_of, is_by, last_endpoint}
 use Rattle.journal.specs.Rest.{waits_in, waits_with}
 use Rattle.script_words.specs.declared.command.Command.{Command}
-use Rattle.script_words.specs.declared.command.Command.TheVariants.{Open, Close, Send, Forward, Recv, Hunt, Attach, Detach, Keep, Cut, Mend, Restart, Settle}
+use Rattle.script_words.specs.declared.command.Command.TheVariants.{Open, Close, Send, Forward}
+use Rattle.script_words.specs.declared.command.Command.TheVariants.{Recv, Hunt, Attach, Detach}
+use Rattle.script_words.specs.declared.command.Command.TheVariants.{Keep, Cut, Mend, Restart}
+use Rattle.script_words.specs.declared.command.Command.TheVariants.{Settle}
 use Rattle.script_words.specs.Filling.{data_of}
 use Rattle.node_kernel.specs.declared.ask.Ask.{Ask}
 use Rattle.node_kernel.specs.Answers.{answer_of, event_of, granted, is_pumped}
-use Rattle.actor_run.specs.Asking.{ask_attach, ask_detach, ask_forward, ask_of, ask_send, handed, hands_over, peer_of, signal_of}
+use Rattle.actor_run.specs.Asking.{ask_attach, ask_detach, ask_forward, ask_of, ask_send, handed}
+use Rattle.actor_run.specs.Asking.{hands_over, peer_of, signal_of}
 use Rattle.actor_run.specs.Bindings.{lookup}
 use Rattle.actor_run.specs.Following.{is_own, knows, next_ask, Follows}
 use Rattle.actor_run.specs.Knowing.{Knows, told}

@@ -1,4 +1,5 @@
-use Rattle.std.proofs.Common.{ℕ, ◌≡◌, ◌++◌, sym, ◌∙◌, ap, add-one, set, get_or, List, map, take, drop}
+use Rattle.std.proofs.Common.{ℕ, ◌≡◌, ◌++◌, sym, ◌∙◌, ap, add-one, set, get_or, List, map, take}
+use Rattle.std.proofs.Common.{drop}
 use Rattle.fabric.specs.Standings.{past_effects}
 use Rattle.fabric.specs.declared.standing.Standing.{Standing}
 use Rattle.fabric.proofs.Counting.{map-turn}

@@ -9,4 +9,5 @@ abbrev pub invariant-loop-group : goal.invariant-loop-group
 invariant-loop-group l =
     AreGroups l.full.items l.meanings
     × (length l.full.items ≡ length l.fn.full.items)
-    × ((place : ℕ) → place < length l.meanings → place < l.group * group_size → meaning_of l.meanings (suc place) ≢ Free)
+    × ((place : ℕ) → place < length l.meanings → place < l.group * group_size
+    → meaning_of l.meanings (suc place) ≢ Free)

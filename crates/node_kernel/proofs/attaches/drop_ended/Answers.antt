@@ -5,18 +5,22 @@ use Rattle.linx_base.specs.declared.pending.PendingAttach.{PendingAttach}
 use Rattle.journal.specs.Living.{is_of_session}
 use Rattle.journal.specs.Pending.{is_attach as is_own}
 use Rattle.attach_table.specs.Attaches.{is_to}
-use Rattle.keyed_list.proofs.Entries.{others, others_after, others_none, shorter, without_none_first}
+use Rattle.keyed_list.proofs.Entries.{others, others_after, others_none, shorter}
+use Rattle.keyed_list.proofs.Entries.{without_none_first}
 use Rattle.node_kernel.proofs.Owing.{less_read, none_read, others_same, own_same, within_same}
 use Rattle.node_kernel.proofs.attaches.drop_ended.Goals as goal
 
 pub loop-attach-smaller : goal.loop-attach-smaller
 loop-attach-smaller c =
-    let less : length (without_match (is_to c.args.peer) c.loop-attach.table) < length c.loop-attach.table = shorter (is_to c.args.peer) c.loop-attach.table c.in-Some._attach (sym c.in-Some.ensures.earliest) in
+    let less : length (without_match (is_to c.args.peer) c.loop-attach.table)
+    < length c.loop-attach.table = shorter (is_to c.args.peer) c.loop-attach.table
+    c.in-Some._attach (sym c.in-Some.ensures.earliest) in
     omega (arith, less, ap length c.next_ended.ensures.others)
 
 pub loop-attach-preserved : goal.loop-attach-preserved
 loop-attach-preserved c =
-    ap (others (is_to c.args.peer)) c.next_ended.ensures.others ∙ others_after (is_to c.args.peer) c.loop-attach.table ∙ c.loop-attach.invariant
+    ap (others (is_to c.args.peer)) c.next_ended.ensures.others
+    ∙ others_after (is_to c.args.peer) c.loop-attach.table ∙ c.loop-attach.invariant
 
 pub returns : goal.returns
 returns c =

@@ -1,4 +1,5 @@
-use Rattle.std.proofs.Common.{◌≡◌, ◌∙◌, ◌+◌, ◌-◌, ◌<◌, ℕ, length, map, take, sym, ap, subst, get_or, arith}
+use Rattle.std.proofs.Common.{◌≡◌, ◌∙◌, ◌+◌, ◌-◌, ◌<◌, ℕ, length, map, take, sym, ap, subst, get_or}
+use Rattle.std.proofs.Common.{arith}
 use Rattle.std.proofs.lemmas.List.{take_all}
 use Rattle.journal.specs.declared.effect.Effect.{Effect}
 use Rattle.node_kernel.specs.Nodes.{OpenEndpoint, put_all}
@@ -16,13 +17,17 @@ loop-left-preserved c =
     let n : left - 1 + 1 ≡ left = omega arith in
     record {
       within = omega (arith, c.loop-left.invariant.within);
-      rising = rising_alike c.take_back.new.endpoints c.loop-left.endpoints c.take_back.ensures.same c.loop-left.invariant.rising;
+      rising = rising_alike c.take_back.new.endpoints c.loop-left.endpoints c.take_back.ensures.same
+          c.loop-left.invariant.rising;
       same = c.take_back.ensures.same ∙ c.loop-left.invariant.same;
       back = λ step before is.
-          c.take_back.ensures.back (record { step = step; place = left - 1 + 1 }) (put_all step (take (left - 1) effects) before)
-          (c.loop-left.invariant.back step before is ∙ ap (λ m. put_all step (take m effects) before) (sym n)
+          c.take_back.ensures.back (record { step = step; place = left - 1 + 1 })
+          (put_all step (take (left - 1) effects) before)
+          (c.loop-left.invariant.back step before is
+          ∙ ap (λ m. put_all step (take m effects) before) (sym n)
           ∙ sym (put_more step (left - 1) effects one within before)
-          ∙ ap (λ e. map (bring_into (record { step = step; place = left - 1 + 1 }) e) (put_all step (take (left - 1) effects) before)) (sym c.index-effects-left.is));
+          ∙ ap (λ e. map (bring_into (record { step = step; place = left - 1 + 1 }) e)
+          (put_all step (take (left - 1) effects) before)) (sym c.index-effects-left.is));
     }
 
 pub returns-clause-back : goal.returns-clause-back

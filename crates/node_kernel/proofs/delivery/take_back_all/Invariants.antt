@@ -9,7 +9,8 @@ invariant-loop-left l = record {
   within : l.left ≤ length l.effects;
   rising : AreRising l.endpoints;
   same : map named l.endpoints ≡ map named l.fn.endpoints;
-  back : (step : ℕ) (before : List OpenEndpoint) → l.fn.endpoints ≡ put_all step l.effects before → l.endpoints ≡ put_all step (take l.left l.effects) before;
+  back : (step : ℕ) (before : List OpenEndpoint) → l.fn.endpoints ≡ put_all step l.effects before
+      → l.endpoints ≡ put_all step (take l.left l.effects) before;
 }
 
 abbrev pub decreases-loop-left : goal.decreases-loop-left

@@ -1,12 +1,15 @@
 use Rattle.std.proofs.Common.{◌≡◌, ◌∙◌, ◌<◌, sym, ap, length, arith}
 use Rattle.linx_base.specs.FirstMatch.{without_match}
 use Rattle.hunt_table.specs.Hunts.{is_for}
-use Rattle.keyed_list.proofs.Entries.{others, others_after, others_none, shorter, without_none_first}
+use Rattle.keyed_list.proofs.Entries.{others, others_after, others_none, shorter}
+use Rattle.keyed_list.proofs.Entries.{without_none_first}
 use Rattle.node_kernel.proofs.hunts.drop_all.Goals as goal
 
 pub loop-hunt-smaller : goal.loop-hunt-smaller
 loop-hunt-smaller c =
-    let less : length (without_match (is_for c.args.path.now) c.loop-hunt.table) < length c.loop-hunt.table = shorter (is_for c.args.path.now) c.loop-hunt.table c.in-Some._hunt (sym c.in-Some.ensures.earliest) in
+    let less : length (without_match (is_for c.args.path.now) c.loop-hunt.table)
+    < length c.loop-hunt.table = shorter (is_for c.args.path.now) c.loop-hunt.table
+    c.in-Some._hunt (sym c.in-Some.ensures.earliest) in
     omega (arith, less, ap length c.next_for.ensures.others)
 
 pub loop-hunt-preserved : goal.loop-hunt-preserved

@@ -11,5 +11,6 @@ returns-in-Some c = let e = changed c.args.endpoints.now c.args.inc without_last
 pub returns-in_default : goal.returns-in_default
 returns-in_default c =
     let es = c.args.endpoints.now in
-    sym (with_items-no_place es c.args.inc (without_last (items_at es c.args.inc)) (sym c.in_default.ensures))
+    sym (with_items-no_place es c.args.inc (without_last (items_at es c.args.inc))
+    (sym c.in_default.ensures))
     ∙ changed es c.args.inc without_last c.requires

@@ -11,4 +11,7 @@ returns-in-Here-clause-finds c =
 pub returns-in-There-clause-finds : goal.returns-in-There-clause-finds
 returns-in-There-clause-finds c =
     let there = c.in-There in
-    rw c.in-There.is (by_peer _ _ (λ m j. refl) (λ m l x j. alone (same_parts _ _ (same_number there.link.0 l.0) (same_parts _ _ (same_number there.session.0 x.0) (same_number there.inc.0 j.0)) ∙ and_nested (there.link.0 == l.0) (there.session.0 == x.0) (there.inc.0 == j.0))))
+    rw c.in-There.is (by_peer _ _ (λ m j. refl) (λ m l x j. alone
+    (same_parts _ _ (same_number there.link.0 l.0)
+    (same_parts _ _ (same_number there.session.0 x.0) (same_number there.inc.0 j.0))
+    ∙ and_nested (there.link.0 == l.0) (there.session.0 == x.0) (there.inc.0 == j.0))))

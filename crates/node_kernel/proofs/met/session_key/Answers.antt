@@ -5,4 +5,6 @@ use Rattle.node_kernel.proofs.met.session_key.Goals as goal
 
 pub returns : goal.returns
 returns c =
-    by_peer _ _ (λ m j. refl) (λ m l x j. alone (same_parts _ _ (same_number c.args.link.0 l.0 ∙ flipped c.args.link.0 l.0) (same_number c.args.session.0 x.0 ∙ flipped c.args.session.0 x.0)))
+    by_peer _ _ (λ m j. refl) (λ m l x j. alone (same_parts _ _ (same_number c.args.link.0 l.0
+    ∙ flipped c.args.link.0 l.0) (same_number c.args.session.0 x.0
+    ∙ flipped c.args.session.0 x.0)))

@@ -7,4 +7,5 @@ use Rattle.node_kernel.proofs.rules.add_losses.Given as goal
 
 -- the attaches so far are notified
 abbrev pub invariant-loop-k : goal.invariant-loop-k
-invariant-loop-k l = l.effects ≡ l.fn.effects ++ map (notice Lost) (take l.k (filter (λ a. is_of_session l.link l.session a.peer) l.attaches))
+invariant-loop-k l = l.effects ≡ l.fn.effects
+    ++ map (notice Lost) (take l.k (filter (λ a. is_of_session l.link l.session a.peer) l.attaches))

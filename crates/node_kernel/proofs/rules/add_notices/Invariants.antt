@@ -7,4 +7,5 @@ use Rattle.node_kernel.proofs.rules.add_notices.Given as goal
 
 -- the attaches so far are notified
 abbrev pub invariant-loop-k : goal.invariant-loop-k
-invariant-loop-k l = l.effects ≡ l.fn.effects ++ map (notice Closed) (take l.k (filter (λ a. same_peer l.peer a.peer) l.attaches))
+invariant-loop-k l = l.effects ≡ l.fn.effects
+    ++ map (notice Closed) (take l.k (filter (λ a. same_peer l.peer a.peer) l.attaches))

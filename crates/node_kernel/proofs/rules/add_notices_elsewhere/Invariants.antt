@@ -9,4 +9,6 @@ use Rattle.node_kernel.proofs.rules.add_notices_elsewhere.Given as goal
 -- the attaches so far are notified, but those that the endpoint holds itself
 abbrev pub invariant-loop-k : goal.invariant-loop-k
 invariant-loop-k l =
-    l.effects ≡ l.fn.effects ++ map (notice Closed) (filter (λ a. not (same_inc l.inc a.at)) (take l.k (filter (λ a. same_peer (Here l.inc) a.peer) l.attaches)))
+    l.effects ≡ l.fn.effects ++ map (notice Closed)
+    (filter (λ a. not (same_inc l.inc a.at)) (take l.k
+    (filter (λ a. same_peer (Here l.inc) a.peer) l.attaches)))

@@ -1,4 +1,5 @@
-use Rattle.std.proofs.Common.{ℕ, ◌≡◌, ◌&&◌, Bool, false, suc, ◌∙◌, sym, ap, refl, add-one, arith, length, List}
+use Rattle.std.proofs.Common.{ℕ, ◌≡◌, ◌&&◌, Bool, false, suc, ◌∙◌, sym, ap, refl, add-one, arith}
+use Rattle.std.proofs.Common.{length, List}
 use Rattle.std.specs.Prelude.{◌==◌, ◌||◌}
 use Rattle.journal.specs.declared.effect.Step.{Step}
 use Rattle.journal.specs.Rest.{leaves_at_rest}

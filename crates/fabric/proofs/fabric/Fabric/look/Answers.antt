@@ -1,7 +1,8 @@
 use Rattle.std.proofs.Common.{sym, ◌∙◌}
 use Rattle.journal.specs.declared.by.By.TheVariants.{Actor}
 use Rattle.fabric.proofs.Placed.{acting, endpoint-seen, makes-seen, node-seen, own_open, sees}
-use Rattle.fabric.proofs.Unchanged.{after_take-none, found-is, kept-same, still-vain, take-none_log, vain-filter, vain-is}
+use Rattle.fabric.proofs.Unchanged.{after_take-none, found-is, kept-same, still-vain, take-none_log}
+use Rattle.fabric.proofs.Unchanged.{vain-filter, vain-is}
 use Rattle.fabric.proofs.Made.{made-take, vain-queue}
 use Rattle.fabric.proofs.fabric.Fabric.look.Goals as goal
 

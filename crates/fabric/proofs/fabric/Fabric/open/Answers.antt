@@ -1,6 +1,7 @@
 use Rattle.std.proofs.Common.{◌∙◌, ap}
 use Rattle.fabric.proofs.Own.{as_opened}
-use Rattle.fabric.proofs.Placed.{acting, endpoint-seen, endpoints_fit, makes-seen, openings_fit, sees}
+use Rattle.fabric.proofs.Placed.{acting, endpoint-seen, endpoints_fit, makes-seen, openings_fit}
+use Rattle.fabric.proofs.Placed.{sees}
 use Rattle.fabric.proofs.Made.{made-open}
 use Rattle.fabric.proofs.fabric.Fabric.open.Goals as goal
 

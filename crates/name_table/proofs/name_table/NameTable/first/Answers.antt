@@ -8,10 +8,12 @@ pub returns-in_err-first : goal.returns-in_err-first
 returns-in_err-first c =
     let name = c.args.name.now in
     let none = rw c.of.ensures at c.in_err-first.ensures in
-    c.from_residual.ensures ∙ ap (option_map (λ e. e.inc)) (found_first none c.self.view_is (has_name name) (λ e. alone (same_text name e.name)))
+    c.from_residual.ensures ∙ ap (option_map (λ e. e.inc))
+    (found_first none c.self.view_is (has_name name) (λ e. alone (same_text name e.name)))
 
 pub returns : goal.returns
 returns c =
     let name = c.args.name.now in
     let found = rw c.of.ensures at c.in_ok-first.ensures in
-    ap (option_map (λ e. e.inc)) (found_first found c.self.view_is (has_name name) (λ e. alone (same_text name e.name)))
+    ap (option_map (λ e. e.inc)) (found_first found c.self.view_is (has_name name)
+    (λ e. alone (same_text name e.name)))

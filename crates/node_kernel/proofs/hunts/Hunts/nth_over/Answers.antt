@@ -5,4 +5,5 @@ use Rattle.node_kernel.proofs.hunts.Hunts.nth_over.Goals as goal
 
 pub returns : goal.returns
 returns c =
-    rw (← c.self.view_is) (c.nth_over.ensures ∙ ap (λ names. slice_get names c.args.k) (names_same c.args.link c.self.inside.table))
+    rw (← c.self.view_is) (c.nth_over.ensures ∙ ap (λ names. slice_get names c.args.k)
+    (names_same c.args.link c.self.inside.table))

@@ -13,7 +13,9 @@ returns-then-drop_notices-clause-after c =
       met = c.self.inside.met;
     }
     in
-    rw (← c.self.view_is) (queued_node n c.args.at c.args.r c.drop_notices.new.self c.detach.new.self c.detach.ensures.others c.drop_notices.ensures.others c.if-detach.ensures.any c.if-drop_notices.ensures.any)
+    rw (← c.self.view_is) (queued_node n c.args.at c.args.r c.drop_notices.new.self
+    c.detach.new.self c.detach.ensures.others c.drop_notices.ensures.others
+    c.if-detach.ensures.any c.if-drop_notices.ensures.any)
 
 pub returns-clause-after : goal.returns-clause-after
 returns-clause-after c =
@@ -26,4 +28,6 @@ returns-clause-after c =
       met = c.self.inside.met;
     }
     in
-    rw (← c.self.view_is) (neither_node n c.args.at c.args.r c.drop_notices.new.self c.detach.new.self c.detach.ensures.others c.drop_notices.ensures.others c.if-detach.ensures.any c.if-drop_notices.ensures.any)
+    rw (← c.self.view_is) (neither_node n c.args.at c.args.r c.drop_notices.new.self
+    c.detach.new.self c.detach.ensures.others c.drop_notices.ensures.others
+    c.if-detach.ensures.any c.if-drop_notices.ensures.any)

@@ -13,4 +13,8 @@ returns-clause-ok c =
       met = c.self.inside.met;
     }
     in
-    rw (← c.self.view_is) (lost_node n c.args.step c.bring_all.new.self c.in_ok-effects.effects c.as_slice.result.now c.args.link c.args.session c.node-node.result c.drop_over.new.self c.drop_session.new.self c.node-node.ensures c.in_ok-effects.ensures c.as_slice.ensures c.in_ok-bring_all.ensures.ok c.drop_over.ensures c.drop_session.ensures)
+    rw (← c.self.view_is) (lost_node n c.args.step c.bring_all.new.self c.in_ok-effects.effects
+    c.as_slice.result.now c.args.link c.args.session c.node-node.result c.drop_over.new.self
+    c.drop_session.new.self
+    c.node-node.ensures c.in_ok-effects.ensures c.as_slice.ensures c.in_ok-bring_all.ensures.ok
+    c.drop_over.ensures c.drop_session.ensures)

@@ -13,4 +13,9 @@ returns-clause-ok c =
       met = c.self.inside.met;
     }
     in
-    rw (← c.self.view_is) (met_node n c.args.step c.bring_all.new.self c.in_ok-effects.effects c.as_slice.result.now c.args.link _ c.args.name c.in_ok-path.path c.node-node.result c.drop_for.new.self c.add.new.self c.in_ok-path.ensures c.node-node.ensures (c.in_ok-effects.ensures c.args.link c.in_ok-path.ensures) c.as_slice.ensures c.in_ok-bring_all.ensures.ok c.drop_for.ensures c.in_default.ensures.ok)
+    rw (← c.self.view_is) (met_node n c.args.step c.bring_all.new.self c.in_ok-effects.effects
+    c.as_slice.result.now c.args.link _ c.args.name c.in_ok-path.path c.node-node.result
+    c.drop_for.new.self c.add.new.self
+    c.in_ok-path.ensures c.node-node.ensures (c.in_ok-effects.ensures c.args.link
+    c.in_ok-path.ensures) c.as_slice.ensures c.in_ok-bring_all.ensures.ok
+    c.drop_for.ensures c.in_default.ensures.ok)

@@ -13,4 +13,7 @@ returns-in-Ok-open-clause-ok c =
       met = c.self.inside.met;
     }
     in
-    rw (← c.self.view_is) (opened_node n c.args.step c.open.new.self c.in-Ok-opening.effects c.as_slice.result.now c.args.name c.in-Ok.path c.next-inc.result c.drop_for.new.self c.in-Ok.ensures c.next-inc.ensures (c.in-Ok-opening.ensures c.args.name c.in-Ok.ensures) c.as_slice.ensures c.in-Ok-open.ensures.ok c.drop_for.ensures)
+    rw (← c.self.view_is) (opened_node n c.args.step c.open.new.self c.in-Ok-opening.effects
+    c.as_slice.result.now c.args.name c.in-Ok.path c.next-inc.result c.drop_for.new.self
+    c.in-Ok.ensures c.next-inc.ensures (c.in-Ok-opening.ensures c.args.name c.in-Ok.ensures)
+    c.as_slice.ensures c.in-Ok-open.ensures.ok c.drop_for.ensures)

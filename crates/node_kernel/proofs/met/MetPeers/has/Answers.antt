@@ -6,4 +6,6 @@ use Rattle.node_kernel.proofs.met.MetPeers.has.Goals as goal
 
 pub returns : goal.returns
 returns c =
-    rw (← c.self.view_is) (c.is_some.ensures ∙ sym (copied_some c.nth.result) ∙ ap is_some c.nth.ensures ∙ some_first _ (λ m. same_peer c.args.peer m.peer) c.peer_key.ensures.finds c.self.inside.peers)
+    rw (← c.self.view_is) (c.is_some.ensures ∙ sym (copied_some c.nth.result)
+    ∙ ap is_some c.nth.ensures ∙ some_first _ (λ m. same_peer c.args.peer m.peer)
+    c.peer_key.ensures.finds c.self.inside.peers)

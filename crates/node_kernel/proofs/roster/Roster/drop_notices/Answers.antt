@@ -11,5 +11,9 @@ invariant_of-self c =
     let new = c.drop_notices.new.endpoints in
     let old = c.self.inside.endpoints in
     let len : length new ≡ old.len = omega arith in
-    let same : map named new ≡ map named c.deref_mut.result.now = ap (map named) c.drop_notices.ensures.others ∙ same_with_items c.deref_mut.result.now c.args.inc _ in
-    kept_alike_of c.self.invariant (take old.len (new ++ drop (length new) old.items)) (ap (map named) (take_at new (drop (length new) old.items) old.len len) ∙ same ∙ ap (map named) c.deref_mut.ensures.value)
+    let same : map named new ≡ map named c.deref_mut.result.now =
+    ap (map named) c.drop_notices.ensures.others
+    ∙ same_with_items c.deref_mut.result.now c.args.inc _ in
+    kept_alike_of c.self.invariant (take old.len (new ++ drop (length new) old.items))
+    (ap (map named) (take_at new (drop (length new) old.items) old.len len) ∙ same
+    ∙ ap (map named) c.deref_mut.ensures.value)

@@ -12,4 +12,6 @@ invariant_of-self c =
     let old = c.self.inside.endpoints in
     let len : length new ≡ old.len = omega arith in
     let same : map named new ≡ map named c.deref_mut.result.now = c.take_back_all.ensures.same in
-    kept_alike_of c.self.invariant (take old.len (new ++ drop (length new) old.items)) (ap (map named) (take_at new (drop (length new) old.items) old.len len) ∙ same ∙ ap (map named) c.deref_mut.ensures.value)
+    kept_alike_of c.self.invariant (take old.len (new ++ drop (length new) old.items))
+    (ap (map named) (take_at new (drop (length new) old.items) old.len len) ∙ same
+    ∙ ap (map named) c.deref_mut.ensures.value)

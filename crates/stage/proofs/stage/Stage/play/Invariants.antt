@@ -6,7 +6,8 @@ use Rattle.stage.proofs.stage.Stage.play.Given as goal
 abbrev pub invariant-rounds : goal.invariant-rounds
 invariant-rounds l = record {
   rounds : (n : ℕ) × (l.self.log.steps ≡ rounds_of l.initial.self.script n)
-      × ((m : ℕ) → m < n → is_over l.initial.self.script (rounds_of l.initial.self.script m) ≡ false);
+      × ((m : ℕ) → m < n → is_over l.initial.self.script (rounds_of l.initial.self.script m)
+      ≡ false);
   fixed : l.self ≡ record l.initial.self {
     log = record l.initial.self.log { steps = l.self.log.steps };
   };

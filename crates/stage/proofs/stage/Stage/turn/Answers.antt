@@ -10,7 +10,8 @@ pub turn_of-requires-clause-playing : goal.turn_of-requires-clause-playing
 turn_of-requires-clause-playing c =
     let s = c.self.inside in
     let within : c.args.actor ≤ length s.script.actors =
-    subst (λ (p : Play). c.args.actor ≤ length p.script.actors) (sym c.self.view_is) c.requires.within in
+    subst (λ (p : Play). c.args.actor ≤ length p.script.actors) (sym c.self.view_is)
+    c.requires.within in
     let count = c.self.invariant.count in
     let above = c.requires.above in
     seat-playing s.script s.fabric.log.steps s.players.items c.self.invariant.seated c.args.actor
@@ -24,7 +25,8 @@ pub invariant_of-self : goal.invariant_of-self
 invariant_of-self c =
     let s = c.self.inside in
     let within : c.args.actor ≤ length s.script.actors =
-    subst (λ (p : Play). c.args.actor ≤ length p.script.actors) (sym c.self.view_is) c.requires.within in
+    subst (λ (p : Play). c.args.actor ≤ length p.script.actors) (sym c.self.view_is)
+    c.requires.within in
     let count = c.self.invariant.count in
     let above = c.requires.above in
     let running = sym c.has_ended.ensures ∙ c.if-has_ended.false in
