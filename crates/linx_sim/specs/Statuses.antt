@@ -17,25 +17,25 @@ exit_of NoMemory = 6
 exit_of NotBuilt = 10
 
 -- what is said of a status, but for the number of a bad line
-abbrev pub words_of : Status → List ℕ
-words_of Done = []
-words_of Usage = codes "usage: linx_sim run or serial"
-words_of (Script line) = codes "script line "
-words_of ReadFault = codes "read fault"
-words_of WriteFault = codes "write fault"
-words_of JournalFull = codes "journal full"
-words_of NoMemory = codes "out of memory"
-words_of NotBuilt = codes "not built"
+abbrev pub phrase_of : Status → List ℕ
+phrase_of Done = []
+phrase_of Usage = codes "usage: linx_sim run or serial"
+phrase_of (Script line) = codes "script line "
+phrase_of ReadFault = codes "read fault"
+phrase_of WriteFault = codes "write fault"
+phrase_of JournalFull = codes "journal full"
+phrase_of NoMemory = codes "out of memory"
+phrase_of NotBuilt = codes "not built"
 
 -- that number
-abbrev pub number_of : Status → List ℕ
-number_of (Script line) = decimal line
-number_of _ = []
+abbrev pub line_number_of : Status → List ℕ
+line_number_of (Script line) = decimal line
+line_number_of _ = []
 
 -- the program's line on standard error; there is none at Done
 abbrev pub line_of : Status → List ℕ
 line_of Done = []
-line_of status = codes "linx_sim: " ++ words_of status ++ number_of status ++ codes "\n"
+line_of status = codes "linx_sim: " ++ phrase_of status ++ line_number_of status ++ codes "\n"
 
 -- the whole text was written, or memory was refused
 abbrev pub IsDoneOrRefused : Status → Type 0

@@ -27,11 +27,11 @@ pub enum Status {
 }
 
 impl Status {
-    ghost use Rattle.linx_sim.specs.Statuses.{words_of, line_of};
+    ghost use Rattle.linx_sim.specs.Statuses.{phrase_of, line_of};
 
     // What is said of it, but for the number of a bad line.
     fn words(self) -> &'static str
-        ensures { result.now ≡ words_of self }
+        ensures { result.now ≡ phrase_of self }
     {
         match self {
             Status::Done => "",

@@ -329,7 +329,7 @@ fn the_whole_program(rt: HostRuntime) -> Result<(), Fail> {
     Ok(())
 }
 
-fn words_of(alloc: Global, words: &[&[u8]]) -> Result<Vec<String>, Status> {
+fn words_given(alloc: Global, words: &[&[u8]]) -> Result<Vec<String>, Status> {
     words_behind_name(&Given { words }, alloc)
 }
 
@@ -338,17 +338,17 @@ fn the_name_of_the_program_is_not_looked_at(rt: HostRuntime) {
     let alloc = rt.alloc();
     let given: [&[u8]; 3] = [b"\xff\xfe", b"run", b"fast"];
     assert!(rt;
-        matches!(&words_of(alloc, &given), Ok(words)
+        matches!(&words_given(alloc, &given), Ok(words)
         if words.len() == 2 && words[0].as_str() == "run" && words[1].as_str() == "fast")
     );
-    assert!(rt; matches!(&words_of(alloc, &[]), Ok(words) if words.is_empty()));
+    assert!(rt; matches!(&words_given(alloc, &[]), Ok(words) if words.is_empty()));
 }
 
 #[test]
 fn words_that_no_command_has(rt: HostRuntime) {
     let alloc = rt.alloc();
     let not_utf8: [&[u8]; 2] = [b"linx_sim", b"\xff"];
-    assert!(rt; matches!(&words_of(alloc, &not_utf8), Err(Status::Usage)));
+    assert!(rt; matches!(&words_given(alloc, &not_utf8), Err(Status::Usage)));
     let long: [&[u8]; 2] = [b"linx_sim", &[b'x'; 65]];
-    assert!(rt; matches!(&words_of(alloc, &long), Err(Status::Usage)));
+    assert!(rt; matches!(&words_given(alloc, &long), Err(Status::Usage)));
 }

@@ -23,7 +23,8 @@ use Rattle.script_lang.specs.Limits.{all_commands_limit, verdict_limit}
 use Rattle.script_words.specs.Verdicts.{fits_verdict}
 use Rattle.script_words.proofs.Lists.{list_all_push}
 use Rattle.script_lang.specs.declared.actor_script.ActorScript.{ActorScript}
-use Rattle.script_lang.specs.Parts.{ScriptParts, plan_of, with_node, with_link, with_verdict}
+use Rattle.script_lang.specs.Parts.{ScriptParts, planned_verdicts, with_node, with_link}
+use Rattle.script_lang.specs.Parts.{with_verdict}
 use Rattle.script_lang.specs.Parts.{with_actor, planned_at}
 use Rattle.script_lang.specs.declared.plans.Plans.{Plans}
 use Rattle.script_lang.specs.Fits.{is_numbered, is_node, joins, has_end, fits_link, fits_plans}
@@ -208,7 +209,7 @@ module _ (s : ScriptParts) (link : LinkNo) (from : Side) (verdict : Verdict) whe
   verdict_grows : Grows s (with_verdict s link from verdict)
   verdict_grows = record { nodes = omega arith; links = omega arith; ends = λ l n h. h }
 
-  pub verdict_kept : IsScript s → length (plan_of s link from) < verdict_limit
+  pub verdict_kept : IsScript s → length (planned_verdicts s link from) < verdict_limit
       → fits_verdict verdict ≡ true → IsScript (with_verdict s link from verdict)
   unfolding with_others
   verdict_kept h room fits =

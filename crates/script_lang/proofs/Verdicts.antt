@@ -13,7 +13,8 @@ use Rattle.script_lang.specs.Limits.{verdict_limit}
 use Rattle.script_words.specs.Verdicts.{fits_verdict}
 use Rattle.script_words.proofs.Lists.{list_all_push}
 use Rattle.script_lang.specs.declared.plans.Plans.{Plans}
-use Rattle.script_lang.specs.Parts.{ScriptParts, side_of, plan_in, plan_of, planned, planned_at}
+use Rattle.script_lang.specs.Parts.{ScriptParts, side_of, plan_in, planned_verdicts, planned}
+use Rattle.script_lang.specs.Parts.{planned_at}
 use Rattle.script_lang.specs.Parts.{with_verdict}
 use Rattle.script_lang.specs.Fits.{fits_plan, fits_plans}
 use Rattle.script_lang.specs.Declaring.{with_verdicts}
@@ -90,8 +91,8 @@ planned_longer (p ∷ plans) (suc place) from verdict h =
 module _ (s : ScriptParts) (link : LinkNo) (from : Side) (verdict : Verdict) where
   -- a plan with one verdict more
   pub plan_longer : link.0 - 1 < length s.plans
-      → length (plan_of (with_verdict s link from verdict) link from)
-      ≡ length (plan_of s link from) + 1
+      → length (planned_verdicts (with_verdict s link from verdict) link from)
+      ≡ length (planned_verdicts s link from) + 1
   plan_longer h = planned_longer s.plans (link.0 - 1) from verdict h
 
   -- a link keeps its place
@@ -100,8 +101,9 @@ module _ (s : ScriptParts) (link : LinkNo) (from : Side) (verdict : Verdict) whe
   plans_stay h = rw (length-planned_at from verdict s.plans (link.0 - 1)) h
 
   -- one verdict more than so many
-  pub room_more : (n i : ℕ) → link.0 - 1 < length s.plans → length (plan_of s link from) ≡ n + i
-      → length (plan_of (with_verdict s link from verdict) link from) ≡ n + (i + 1)
+  pub room_more : (n i : ℕ) → link.0 - 1 < length s.plans
+      → length (planned_verdicts s link from) ≡ n + i
+      → length (planned_verdicts (with_verdict s link from verdict) link from) ≡ n + (i + 1)
   room_more n i within so_far =
       let more : n + i + 1 ≡ n + (i + 1) = omega arith in
       plan_longer within ∙ ap (λ k. k + 1) so_far ∙ more

@@ -13,7 +13,8 @@ use Rattle.script_words.specs.Gives.{◌>>=◌, made}
 use Rattle.script_lang.specs.Limits.{node_limit, link_limit, actor_limit, verdict_limit}
 use Rattle.script_lang.specs.declared.reading.Reading.{Reading}
 use Rattle.script_lang.specs.declared.reading.Place.TheVariants.{Outside, InActor}
-use Rattle.script_lang.specs.Parts.{ScriptParts, plan_of, with_node, with_link, with_verdict}
+use Rattle.script_lang.specs.Parts.{ScriptParts, planned_verdicts, with_node, with_link}
+use Rattle.script_lang.specs.Parts.{with_verdict}
 use Rattle.script_lang.specs.Fits.{is_among}
 use Rattle.script_lang.specs.Naming.{node_named, link_named}
 
@@ -41,7 +42,7 @@ with_verdicts s link from verdicts = fold (λ t verdict. with_verdict t link fro
 unfoldable pub plan_added : ScriptParts → List ℕ → Side → List Verdict → Result ScriptParts BadKind
 plan_added s name from verdicts = do
   link ← link_named s name
-  if nat_le (length (plan_of s link from) + length verdicts) verdict_limit
+  if nat_le (length (planned_verdicts s link from) + length verdicts) verdict_limit
       then Ok (with_verdicts s link from verdicts)
       else Err OverLimit
 

@@ -38,8 +38,8 @@ plan_in (Some plans) from = side_of plans from
 plan_in None from = []
 
 -- the plan of a direction of a link
-abbrev pub plan_of : ScriptParts → LinkNo → Side → List Verdict
-plan_of s link from = plan_in (slice_get s.plans (link.0 - 1)) from
+abbrev pub planned_verdicts : ScriptParts → LinkNo → Side → List Verdict
+planned_verdicts s link from = plan_in (slice_get s.plans (link.0 - 1)) from
 
 -- the plans of a link with one verdict more
 abbrev pub planned : Plans → Side → Verdict → Plans

@@ -6,7 +6,7 @@ ghost use Rattle.script_lang.specs.Limits.{verdict_limit};
 ghost use Rattle.script_words.specs.Gives.{Gives};
 ghost use Rattle.script_words.specs.Verdicts.{fits_verdict};
 ghost use Rattle.script_words.specs.Declaration.{has_link_size, is_in_range};
-ghost use Rattle.script_lang.specs.Parts.{plan_of};
+ghost use Rattle.script_lang.specs.Parts.{planned_verdicts};
 ghost use Rattle.script_lang.specs.Fits.{is_link};
 ghost use Rattle.script_lang.specs.Block.{IsReading};
 ghost use Rattle.script_lang.specs.Declaring.{node_added, link_added, with_verdicts, plan_added};
@@ -99,7 +99,8 @@ fn add_verdicts(
 ) -> Result<Script, NoMemory>
     requires link { IsTrue (is_link script link) }
     requires place { link.0 - 1 < length script.plans }
-    requires room { length (plan_of script link from) + length verdicts.now ≤ verdict_limit }
+    requires room { length (planned_verdicts script link from) + length verdicts.now
+        ≤ verdict_limit }
     requires fits { IsTrue (list_all fits_verdict verdicts.now) }
     ensures { IfOk result (λ s. s ≡ with_verdicts script link from verdicts.now) }
 {

@@ -3,7 +3,7 @@ ghost use Rattle.std.specs.List.{list_all};
 ghost use Rattle.script_lang.specs.Limits.{actor_limit, all_commands_limit, command_limit};
 ghost use Rattle.script_lang.specs.Limits.{link_limit, node_limit, verdict_limit};
 ghost use Rattle.script_words.specs.Verdicts.{fits_verdict};
-ghost use Rattle.script_lang.specs.Parts.{empty_script, plan_of, with_node, with_link};
+ghost use Rattle.script_lang.specs.Parts.{empty_script, planned_verdicts, with_node, with_link};
 ghost use Rattle.script_lang.specs.Parts.{with_verdict, with_actor};
 ghost use Rattle.script_lang.specs.Fits.{is_node, is_link, is_among, fits_link, fits_command};
 ghost use Rattle.script_lang.specs.Fits.{commands_of, IsScript};
@@ -80,7 +80,7 @@ impl Script {
     /// The verdicts of one direction of a declared link, in order.
     pub fn plan(&self, link: LinkNo, from: Side) -> &[Verdict]
         requires { IsTrue (is_link self.now link) }
-        ensures plan { result.now ≡ plan_of self.now link from }
+        ensures plan { result.now ≡ planned_verdicts self.now link from }
         ensures script { IsScript self.now }
     {
         plan_at(self.plans.as_slice(), link.0 as usize - 1, from)
@@ -125,7 +125,7 @@ impl Script {
         verdict: Verdict,
     ) -> Result<(), NoMemory>
         requires link { IsTrue (is_link self.old link) }
-        requires room { length (plan_of self.old link from) < verdict_limit }
+        requires room { length (planned_verdicts self.old link from) < verdict_limit }
         requires fits { IsTrue (fits_verdict verdict) }
         ensures ok { OnOk result (self.new ≡ with_verdict self.old link from verdict) }
         ensures err { OnErr result (self.new ≡ self.old) }

@@ -69,13 +69,13 @@ hunt_of (path ∷ words) = do
 hunt_of _ = Err BadShape
 
 -- `attach TO REF`, then perhaps NUM, then perhaps DATA
-unfoldable pub attach_of : List (List ℕ) → Result NamedCommand BadKind
-attach_of (to ∷ r ∷ words) = do
+unfoldable pub attach_command_of : List (List ℕ) → Result NamedCommand BadKind
+attach_command_of (to ∷ r ∷ words) = do
   target ← target_of to
   reference ← name_of r
   bytes ← data_in attach_data_limit (number_or attach_signal words).1
   Ok (Plain (Attach target reference (number_or attach_signal words).0 bytes))
-attach_of _ = Err BadShape
+attach_command_of _ = Err BadShape
 
 -- `recv any`, `recv NUM ..NUM` or `recv not NUM ..NUM`
 abbrev pub recv_of : List (List ℕ) → Result NamedCommand BadKind
@@ -108,5 +108,5 @@ command_of first words =
     if bytes_eq first (codes "send") then send_of words
     else if bytes_eq first (codes "recv") then recv_of words
     else if bytes_eq first (codes "hunt") then hunt_of words
-    else if bytes_eq first (codes "attach") then attach_of words
+    else if bytes_eq first (codes "attach") then attach_command_of words
     else short_of first words

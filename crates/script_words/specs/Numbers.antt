@@ -19,8 +19,8 @@ is_number word =
     && nat_le (decimal_of word) number_limit
 
 -- the number that a word spells
-unfoldable pub number_of : List ℕ → Option ℕ
-number_of word = if is_number word then Some (decimal_of word) else None
+unfoldable pub number_spelled : List ℕ → Option ℕ
+number_spelled word = if is_number word then Some (decimal_of word) else None
 
 -- the number is in the range
 abbrev pub is_within : ℕ → ℕ → ℕ → Bool
@@ -32,7 +32,7 @@ in_range low high (Some n) = if is_within low high n then Ok n else Err BadShape
 
 -- the word as a number in a range
 abbrev pub within : ℕ → ℕ → List ℕ → Result ℕ BadKind
-within low high word = in_range low high (number_of word)
+within low high word = in_range low high (number_spelled word)
 
 -- the word as a number
 abbrev pub any_number : List ℕ → Result ℕ BadKind
@@ -45,7 +45,7 @@ number_before unsaid words rest None = (unsaid, words)
 -- a number, where the first word is one, and the words behind it
 abbrev pub number_or : ℕ → List (List ℕ) → ℕ × List (List ℕ)
 number_or unsaid [] = (unsaid, [])
-number_or unsaid (word ∷ words) = number_before unsaid (word ∷ words) words (number_of word)
+number_or unsaid (word ∷ words) = number_before unsaid (word ∷ words) words (number_spelled word)
 
 -- the words as numbers
 abbrev pub numbers_of : List (List ℕ) → Result (List ℕ) BadKind

@@ -1,6 +1,6 @@
 ghost use Rattle.std.specs.Prelude.{◌≡◌, true, map, IfOk};
 ghost use Rattle.script_words.specs.Gives.{Gives};
-ghost use Rattle.script_words.specs.NamedCommand.{send_of, hunt_of, attach_of, distant_of};
+ghost use Rattle.script_words.specs.NamedCommand.{send_of, hunt_of, attach_command_of, distant_of};
 ghost use Rattle.script_words.specs.NamedCommand.{short_of, command_of, is_sized};
 
 use crate::command::Command;
@@ -75,9 +75,9 @@ fn hunt(alloc: Global, words: &[&[u8]]) -> Result<NamedCommand, LineError>
     })
 }
 
-#[tactic(auto, unfolding(crate::specs::NamedCommand::attach_of))]
+#[tactic(auto, unfolding(crate::specs::NamedCommand::attach_command_of))]
 fn attach(alloc: Global, words: &[&[u8]]) -> Result<NamedCommand, LineError>
-    ensures gives { Gives (λ c. c) result (attach_of (map (λ w. w.now) words.now)) }
+    ensures gives { Gives (λ c. c) result (attach_command_of (map (λ w. w.now) words.now)) }
     ensures sized { IfOk result (λ c. is_sized c ≡ true) }
 {
     let [to, reference, rest @ ..] = words else {

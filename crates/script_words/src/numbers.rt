@@ -5,7 +5,8 @@ ghost use Rattle.std.specs.Char.{is_ascii_digit};
 ghost use Rattle.std.specs.List.{list_all};
 ghost use Rattle.script_words.specs.Limits.{digit_limit};
 ghost use Rattle.script_words.specs.Gives.{Gives};
-ghost use Rattle.script_words.specs.Numbers.{decimal_of, number_of, is_within, within, any_number};
+ghost use Rattle.script_words.specs.Numbers.{decimal_of, number_spelled, is_within, within};
+ghost use Rattle.script_words.specs.Numbers.{any_number};
 ghost use Rattle.script_words.specs.Numbers.{numbers_of, number_or};
 
 use crate::line_error::{BAD_SHAPE, LineError};
@@ -35,9 +36,9 @@ fn decimal(digits: &[u8]) -> u64
 }
 
 /// The number of a word of one to ten digits, if it is below 2^32.
-#[tactic(auto, unfolding(crate::specs::Numbers::number_of))]
+#[tactic(auto, unfolding(crate::specs::Numbers::number_spelled))]
 pub(crate) fn number(word: &[u8]) -> Option<u32>
-    ensures { result ≡ number_of word.now }
+    ensures { result ≡ number_spelled word.now }
 {
     let some = 1 <= word.len();
     let few = word.len() <= DIGITS_MOST;

@@ -1,5 +1,5 @@
 use Rattle.std.proofs.Common.{◌≡◌, ◌+◌, ◌-◌, ◌<◌, true, length, take}
-use Rattle.script_lang.specs.Parts.{plan_of}
+use Rattle.script_lang.specs.Parts.{planned_verdicts}
 use Rattle.script_lang.specs.Fits.{is_link}
 use Rattle.script_lang.specs.Declaring.{with_verdicts}
 use Rattle.script_lang.proofs.declaring.add_verdicts.Given as goal
@@ -11,6 +11,6 @@ invariant-loop-verdict l = record {
   link : is_link l.script l.link ≡ true;
   place : l.link.0 - 1 < length l.script.plans;
   room :
-      length (plan_of l.script l.link l.from)
-      ≡ length (plan_of l.initial.script l.link l.from) + l.verdict-index;
+      length (planned_verdicts l.script l.link l.from)
+      ≡ length (planned_verdicts l.initial.script l.link l.from) + l.verdict-index;
 }

@@ -1,6 +1,6 @@
 use Rattle.std.proofs.Common.{◌<◌, length, subst, sym}
 use Rattle.script_lang.specs.Limits.{verdict_limit}
-use Rattle.script_lang.specs.Parts.{ScriptParts, parts_of, plan_of}
+use Rattle.script_lang.specs.Parts.{ScriptParts, parts_of, planned_verdicts}
 use Rattle.script_lang.proofs.Keeps.{verdict_kept}
 use Rattle.script_lang.proofs.script.Script.add_verdict.Goals as goal
 
@@ -15,6 +15,7 @@ invariant_of-self-2 c =
     rw c.in_ok-plan_more.ensures.ok
     (verdict_kept (parts_of s.names s.links.items s.plans.items s.actors.items) link from
     c.args.verdict c.self.invariant
-    (subst (λ (t : ScriptParts). length (plan_of t link from) < verdict_limit) (sym c.self.view_is)
+    (subst (λ (t : ScriptParts). length (planned_verdicts t link from) < verdict_limit)
+    (sym c.self.view_is)
     c.requires.room)
     c.requires.fits)
