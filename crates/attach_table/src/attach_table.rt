@@ -12,8 +12,7 @@ use std::alloc::Global;
 use std::marker::Model;
 
 /// The attaches of a node that are owed a notification, which contracts see as their list in order
-/// of
-/// attaching. Each signal has room for the byte of a reason.
+/// of attaching. Each signal has room for the byte of a reason.
 #[derive(Drop)]
 pub struct AttachTable {
     attaches: KeyedList<PendingAttach, AttachKey>,
@@ -69,8 +68,7 @@ impl AttachTable {
     }
 
     /// Takes out an attach of a holder by its reference, and gives its signal. `None` exactly where
-    /// the
-    /// holder has none of this reference. It takes no memory.
+    /// the holder has none of this reference. It takes no memory.
     pub fn detach(&mut self, at: Inc, reference: AttRef) -> Option<Signal>
         ensures signal { result ≡ option_map (λ attach. attach.signal)
             (first_match (is_attach at reference) self.old) }
@@ -92,8 +90,7 @@ impl AttachTable {
     }
 
     /// Takes out the earliest attach to any peer of a session. `None` exactly where there is none.
-    /// It
-    /// takes no memory.
+    /// It takes no memory.
     pub fn next_lost(&mut self, link: LinkNo, session: Session) -> Option<PendingAttach>
         ensures earliest { result ≡ first_match (is_within link session) self.old }
         ensures others { self.new ≡ without_match (is_within link session) self.old }

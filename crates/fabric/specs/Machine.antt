@@ -132,8 +132,7 @@ FitsEvent nodes (asks.Attach q) note = length note.bytes < data_limit
 FitsEvent nodes _ note = Unit {0}
 
 -- What a maker may ask for: it makes steps, the event has a signal in hand exactly where it hands
--- one
--- over, and what it speaks of is there. As yet nothing is asked of a link
+-- one over, and what it speaks of is there. As yet nothing is asked of a link
 pub record MayAsk (nodes : ℕ) (shape : Shape) (P : List Step) (by : By) (ask : Ask) : Type 0 where
   pub maker : IsMaker shape P by
   pub handed : is_some ask.hand ≡ hands_over ask.event

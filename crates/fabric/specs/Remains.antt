@@ -74,8 +74,7 @@ pub record Layout : Type 0 where
   pub log : Log
 
 -- What a fabric keeps: its journal is legal, its kernels are what the journal leaves of the nodes,
--- and
--- its standings what it leaves of the actors
+-- and its standings what it leaves of the actors
 pub record IsKept (shape : Shape) (log : Log) (kernels : List NodeState)
     (standings : List Standing) : Type 0 where
   pub laid_out : IsLaidOut (length log.names.nodes) shape

@@ -70,8 +70,7 @@ impl HuntTable {
     }
 
     /// The name of the k-th hunt, from 0, whose path goes over a link. `None` exactly where there
-    /// are
-    /// at most k.
+    /// are at most k.
     pub fn nth_over(&self, link: LinkNo, k: usize) -> Option<&Name>
         ensures { option_copied result ≡ slice_get (names_over link self.now) k }
     {

@@ -50,8 +50,7 @@ abbrev pub apart_from : Inc → List PendingAttach → List PendingAttach
 apart_from j attaches = filter (λ a. not (same_peer (Here j) a.peer)) (held_elsewhere j attaches)
 
 -- the node after a closing: the endpoint is gone with its queue, its hunts and its attaches, and
--- who
--- was attached to it is notified
+-- who was attached to it is notified
 abbrev pub after_close : NodeState → Inc → ℕ → NodeState
 after_close k j step = record k {
   endpoints = put_all step (closing j k.attaches) (without_endpoint k.endpoints j);

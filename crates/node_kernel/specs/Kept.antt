@@ -26,8 +26,7 @@ abbrev pub named : OpenEndpoint → NamedEndpoint
 named e = record { name = e.name; inc = e.inc }
 
 -- what the endpoints of a node are seen as: the node, how many were opened so far, and those that
--- are
--- open, in order of opening
+-- are open, in order of opening
 pub record NodeEndpoints : Type 0 where
   pub node : NodeNo
   pub openings : ℕ

@@ -31,8 +31,7 @@ pub record OpenEndpoint : Type 0 where
   pub items : List Item
 
 -- what a kernel is seen as: its node, how many endpoints were opened so far, those that are open,
--- in
--- order of opening, its pending hunts, the attaches that are owed a notification, and the living
+-- in order of opening, its pending hunts, the attaches that are owed a notification, and the living
 -- peers that it met, each in order
 pub record NodeState : Type 0 where
   pub node : NodeNo

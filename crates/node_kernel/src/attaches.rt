@@ -13,8 +13,7 @@ use std::alloc::Global;
 use std::marker::Model;
 
 /// The attaches that are owed a notification, in the words of the journal's laws. Contracts see
-/// them
-/// as their list in order of attaching.
+/// them as their list in order of attaching.
 #[derive(Drop)]
 pub(crate) struct Attaches {
     table: AttachTable,
@@ -95,8 +94,7 @@ impl Attaches {
     }
 
     /// Frees the attaches of a holder with this reference, and says whether there was one. It takes
-    /// no
-    /// memory.
+    /// no memory.
     pub(crate) fn detach(&mut self, holder: Inc, reference: AttRef) -> bool
         ensures any { result ≡ list_any (is_attach holder reference) self.old }
         ensures others { self.new ≡ filter (λ a. not (is_attach holder reference a)) self.old }

@@ -10,8 +10,7 @@ use std::alloc::Global;
 use std::marker::Model;
 
 /// The hunts that are pending, in the words of the journal's laws. Contracts see them as their list
-/// in
-/// order of hunting.
+/// in order of hunting.
 #[derive(Drop)]
 pub(crate) struct Hunts {
     table: HuntTable,

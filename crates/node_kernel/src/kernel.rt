@@ -97,8 +97,7 @@ impl Kernel {
     }
 
     /// The name of the k-th pending hunt, from 0, whose path goes over the link. `None` exactly
-    /// where
-    /// there are at most k.
+    /// where there are at most k.
     pub fn nth_over(&self, link: LinkNo, k: usize) -> Option<&Name>
         ensures { option_copied result ≡ slice_get (names_over link self.now.hunts) k }
     {
@@ -129,8 +128,7 @@ impl Kernel {
     }
 
     /// Opens an endpoint with the next incarnation, and answers the hunts for its name. `Full`
-    /// comes
-    /// exactly where 4,096 are open.
+    /// comes exactly where 4,096 are open.
     pub fn open(&mut self, name: Name, step: u64) -> Result<OpenedAs, OpenError>
         requires { self.old.openings < 4294967295 }
         ensures opened { IfOk result (λ opened. opened.inc ≡ next_of self.old) }
@@ -204,8 +202,7 @@ impl Kernel {
     }
 
     /// Takes the earliest item at an endpoint that the filter selects, `None` exactly where it
-    /// selects
-    /// none. It takes no memory.
+    /// selects none. It takes no memory.
     pub fn receive(&mut self, at: Inc, filter: &Sigsel) -> Option<Item>
         requires { IsTrue (is_open self.old.endpoints at) }
         ensures item { result ≡ first_selected filter.now (items_at self.old.endpoints at) }
@@ -262,8 +259,7 @@ impl Kernel {
     }
 
     /// Attaches an endpoint to a peer: the holder is owed a notification with the signal, or gets
-    /// it
-    /// at once where the peer isn't alive. A refusal gives the signal back and changes nothing.
+    /// it at once where the peer isn't alive. A refusal gives the signal back and changes nothing.
     pub fn attach(
         &mut self,
         at: Inc,

@@ -1,7 +1,6 @@
 //! The kernel of one node: its open endpoints, each with its name and its queue. Each call does
-//! what
-//! the rules of LINX say for one event on this node, and gives the effects of its step in order. A
-//! refusal changes nothing and gives back what the call was handed.
+//! what the rules of LINX say for one event on this node, and gives the effects of its step in
+//! order. A refusal changes nothing and gives back what the call was handed.
 #![tactic(auto)]
 
 mod answers;

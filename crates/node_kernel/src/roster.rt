@@ -22,8 +22,7 @@ use std::marker::Model;
 const ENDPOINTS_MOST: usize = 4_096;
 
 /// The endpoints of a node: how many were opened so far, and those that are open, in order of
-/// opening,
-/// which are found by incarnation and by name.
+/// opening, which are found by incarnation and by name.
 #[derive(Drop)]
 pub(crate) struct Roster {
     node: NodeNo,
@@ -47,8 +46,7 @@ impl Model for Roster {
 }
 
 /// Adds an endpoint at the end, and puts what a step's effects deliver. A refusal gives its name
-/// back
-/// and changes nothing.
+/// back and changes nothing.
 fn open_with(
     endpoints: &mut Vec<Endpoint>,
     endpoint: Endpoint,
@@ -143,8 +141,7 @@ impl Roster {
     }
 
     /// Opens an endpoint with the next incarnation, and puts what the step's effects deliver. A
-    /// refusal
-    /// gives the name back and changes nothing.
+    /// refusal gives the name back and changes nothing.
     pub(crate) fn open(&mut self, name: Name, effects: &[Effect], step: u64) -> Result<(), Name>
         requires { self.old.openings < 4294967295 }
         ensures ok { OnOk result (self.new ≡ record self.old {
@@ -227,8 +224,7 @@ impl Roster {
     }
 
     /// Puts an item into the queue of an endpoint, and tells whether that is open. A refusal gives
-    /// the
-    /// item back and changes nothing.
+    /// the item back and changes nothing.
     pub(crate) fn deliver(&mut self, inc: Inc, item: Item) -> Result<bool, Item>
         ensures answer { IfOk result (λ found. found ≡ is_open self.old.endpoints inc) }
         ensures queued { OnOk result (self.new ≡ record self.old

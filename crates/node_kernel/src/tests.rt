@@ -127,8 +127,7 @@ impl Node {
     }
 
     /// Whether the next item at an endpoint comes from this peer, is of this kind, carries these
-    /// bytes
-    /// and stands at this place of a step.
+    /// bytes and stands at this place of a step.
     fn takes(
         &mut self,
         rt: &impl Abort,

@@ -31,8 +31,7 @@ AllFollowWhole script P =
     (k : ℕ) → 0 < k → k ≤ length script.actors → FollowsWhole (commands_of script k) k P
 
 -- A journal of the script so far: it has its names, is legal, keeps what is promised, and each
--- actor
--- follows its commands
+-- actor follows its commands
 pub record IsSoFar (script : ScriptParts) (log : Log) : Type 0 where
   pub names : log.names ≡ script.names
   pub legal : IsLegal (shape_of script) log.steps

@@ -27,8 +27,7 @@ AreSeated script P players =
     → IsSeated script P (suc n) player
 
 -- What a stage keeps: its script is one without links, its fabric is laid out as the script says,
--- has its names and no more steps than
--- a journal takes, and each actor has its player
+-- has its names and no more steps than a journal takes, and each actor has its player
 pub record IsStaged (script : ScriptParts) (fabric : Layout) (players : List Player) : Type 0 where
   pub declared : IsScript script
   pub unlinked : script.links ≡ []
