@@ -1,10 +1,9 @@
 -- The machine computed: the step that each event makes after a small history, and its answer.
-use Rattle.std.proofs.Common.{◌≡◌, ℕ, List, [], ◌∷◌, Some, None, true, false, refl}
+use Rattle.std.proofs.Common.{◌≡◌, List, [], ◌∷◌, Some, None, true, false, refl}
 use Rattle.std.specs.Prelude.{codes}
-use Rattle.linx_base.specs.declared.identity.Inc.{Inc}
 use Rattle.linx_base.specs.declared.identity.Peer.TheVariants.{Here}
 use Rattle.linx_base.specs.declared.item.Kind.TheVariants.{Plain}
-use Rattle.sigsel.specs.declared.sigsel.Sigsel.TheVariants.{Any, Only}
+use Rattle.sigsel.specs.declared.sigsel.Sigsel.TheVariants.{Any}
 use Rattle.journal.specs.declared.by.By.TheVariants.{Actor}
 use Rattle.journal.specs.declared.effect.Effect.TheVariants.{Closed}
 use Rattle.journal.specs.declared.effect.Step.{Step}
@@ -13,8 +12,7 @@ use Rattle.journal.specs.declared.event.Event.TheVariants as asks
 use Rattle.journal.specs.declared.head.Head.TheVariants.{Open, Refused, Restart, Send, TakeNone}
 use Rattle.journal.specs.declared.head.Head.TheVariants.{Waits}
 use Rattle.journal.specs.declared.head.Refusal.TheVariants.{IsOpen, NotOpen}
-use Rattle.journal.specs.declared.head.SentTo.TheVariants.{Dead, Queued}
-use Rattle.journal.specs.History.{endpoint_of}
+use Rattle.journal.specs.declared.head.SentTo.TheVariants.{Dead}
 use Rattle.journal.proofs.Playing.{at, ends, first, item, made, note, opens, second, sends, takes}
 use Rattle.journal.proofs.Playing.{third, two_actors}
 use Rattle.node_kernel.specs.declared.answers.StepAnswer.TheVariants as answers

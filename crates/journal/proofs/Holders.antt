@@ -1,12 +1,12 @@
 -- Who holds what in a legal history: no two actors one endpoint, and hunts and attaches belong to
 -- open
 -- endpoints.
-use Rattle.std.proofs.Common.{◌≡◌, ◌≢◌, ℕ, suc, ◌<◌, ◌≤◌, Bool, true, false, not, cond, ◌⊎◌, inl}
+use Rattle.std.proofs.Common.{◌≡◌, ℕ, suc, Bool, true, false, not, ◌⊎◌, inl}
 use Rattle.std.proofs.Common.{inr, List, [], ◌∷◌, ◌++◌, length, Option, Some, None, refl, sym, ap}
 use Rattle.std.proofs.Common.{◌∙◌, subst, arith, ◌||◌}
-use Rattle.std.specs.List.{fold, list_any, filter, AllByRecursion}
-use Rattle.std.proofs.lemmas.Bool.{cond_both, not-true, false_from_ne_true, true_from_ne_false}
-use Rattle.std.proofs.lemmas.Bool.{or_cases, or_left, or_right, or_parts, eqb-true, true≢false}
+use Rattle.std.specs.List.{list_any, filter, AllByRecursion}
+use Rattle.std.proofs.lemmas.Bool.{cond_both, not-true}
+use Rattle.std.proofs.lemmas.Bool.{or_parts, eqb-true}
 use Rattle.linx_base.specs.Numbers.{is_on, node_of}
 use Rattle.linx_base.specs.Peers.{same_inc}
 use Rattle.linx_base.specs.declared.identity.Inc.{Inc}
@@ -17,18 +17,15 @@ use Rattle.linx_base.specs.declared.pending.PendingHunt.{PendingHunt}
 use Rattle.linx_base.specs.declared.signal.SigNote.{SigNote}
 use Rattle.journal.specs.declared.by.By.{By}
 use Rattle.journal.specs.declared.by.By.TheVariants.{Actor, Pump}
-use Rattle.journal.specs.declared.effect.Effect.{Effect}
 use Rattle.journal.specs.declared.effect.Step.{Step}
 use Rattle.journal.specs.declared.head.Head.{Head}
-use Rattle.journal.specs.declared.head.Head.TheVariants.{Open, Close, Send, Take, TakeNone, Waits}
-use Rattle.journal.specs.declared.head.Head.TheVariants.{Hunt, Attach, Detach, Cut, Mend, Settle}
-use Rattle.journal.specs.declared.head.Head.TheVariants.{Restart, Wire, Tick, Refused, Ended}
-use Rattle.journal.specs.History.{closes, endpoint_by, endpoint_of, open_endpoints, opened_by}
+use Rattle.journal.specs.declared.head.Head.TheVariants.{Hunt, Attach}
+use Rattle.journal.specs.History.{closes, endpoint_by, endpoint_of, open_endpoints}
 use Rattle.journal.specs.Laws.{IsLegal}
 use Rattle.journal.specs.Pending.{answers_hunt, attach_at, attach_in, detaches, ends_hunt, hunt_at}
 use Rattle.journal.specs.Pending.{hunt_in, hunting, notifies, owed, settles}
 use Rattle.journal.specs.Shapes.{Shape, node_by}
-use Rattle.journal.proofs.Lists.{all-append, all-filter, all-impl}
+use Rattle.journal.proofs.Lists.{all-append}
 use Rattle.journal.proofs.Openings.{IsBelow, IsShort, OpensBy, all-among, endpoint-on}
 use Rattle.journal.proofs.Openings.{endpoint-open, endpoint_opened-from, endpoint_opened, next_on}
 use Rattle.journal.proofs.Openings.{open-after, open-below, unless_closed-some}

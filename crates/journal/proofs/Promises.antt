@@ -1,6 +1,6 @@
 -- A legal journal keeps its promises.
 use Rattle.std.proofs.Common.{◌≡◌, ℕ, suc, Bool, true, false, cond, ◌&&◌, List, [], ◌∷◌, ◌++◌}
-use Rattle.std.proofs.Common.{length, map, append-nil, Option, Some, None, refl, sym, ap, ◌∙◌}
+use Rattle.std.proofs.Common.{length, map, Option, Some, None, refl, sym, ap, ◌∙◌}
 use Rattle.std.proofs.Common.{subst, arith}
 use Rattle.std.specs.Prelude.{if◌then◌else◌}
 use Rattle.std.specs.List.{filter, filter_map, AllByRecursion}
@@ -27,14 +27,14 @@ use Rattle.journal.specs.declared.head.Head.TheVariants.{Restart, Wire, Tick, Re
 use Rattle.journal.specs.declared.head.SentTo.{SentTo}
 use Rattle.journal.specs.Effects.{arrivals_of, attached, closings, ending, found, held_elsewhere}
 use Rattle.journal.specs.Effects.{hunted, hunts_for, notice, send_answer}
-use Rattle.journal.specs.History.{effects_of, endpoint_by, endpoint_of, next_inc, open_endpoints}
+use Rattle.journal.specs.History.{effects_of, endpoint_by, next_inc, open_endpoints}
 use Rattle.journal.specs.History.{opened_on}
-use Rattle.journal.specs.Laws.{IsLegal, IsLegalStep, KeepsSends, effects_by}
+use Rattle.journal.specs.Laws.{IsLegal, KeepsSends, effects_by}
 use Rattle.journal.specs.Living.{find, is_alive}
 use Rattle.journal.specs.Pending.{hunting, owed}
 use Rattle.journal.specs.Promises.{IsFromLiving, KeepsPromises, NeverFromTheDead}
 use Rattle.journal.specs.Shapes.{Shape, node_by}
-use Rattle.journal.specs.Traffic.{arrival_in, arrived_from, is_endpoint, sent_by, sent_to, was_sent}
+use Rattle.journal.specs.Traffic.{arrival_in, arrived_from, is_endpoint, sent_by, sent_to}
 use Rattle.journal.proofs.Openings.{IsShort, endpoint-open}
 
 -- NO EFFECT BUT AN ARRIVAL brings a plain signal

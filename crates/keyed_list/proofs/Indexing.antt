@@ -1,7 +1,7 @@
 -- What the index has under a key, before and after a place is added or removed.
-use Rattle.std.proofs.Common.{◌≡◌, ℕ, zero, suc, ◌+◌, ◌<◌, ◌≤◌, Bool, true, false, cond, not, ◌||◌}
+use Rattle.std.proofs.Common.{◌≡◌, ℕ, zero, suc, ◌+◌, ◌<◌, Bool, true, false, cond, ◌||◌}
 use Rattle.std.proofs.Common.{◌==◌, List, [], ◌∷◌, ◌++◌, length, take, refl, ap, sym, subst, ◌∙◌}
-use Rattle.std.proofs.Common.{arith, map, add-one, length-append, append-nil, ◌⊎◌, inl, inr}
+use Rattle.std.proofs.Common.{arith, length-append, append-nil, ◌⊎◌, inl, inr}
 use mathlib.Core.Bool.{true≢false}
 use Rattle.std.specs.Prelude.{Option, Some, None, slice_get, filter}
 use Rattle.std.specs.List.{AllByRecursion, list_any}
@@ -18,7 +18,7 @@ use Rattle.std.proofs.lemmas.Option.{slice_get_within}
 use Rattle.std.proofs.lemmas.Cmp.{ranked, tied_itself, alike_right, on_total, then_total}
 use Rattle.std.proofs.lemmas.Cmp.{nat_cmp_total}
 use Rattle.sorted_set.specs.Sorted.{Ascends, AreAbove, elements_from}
-use Rattle.sorted_set.proofs.Placing.{all-map, elements_from-above}
+use Rattle.sorted_set.proofs.Placing.{all-map}
 use Rattle.keyed_list.specs.declared.place.Place.{Place}
 use Rattle.keyed_list.specs.Places.{place_cmp, tickets_at, without_ticket}
 

@@ -1,5 +1,5 @@
 -- From what a play and the writing of its text say to the answer of a status.
-use Rattle.std.proofs.Common.{◌≡◌, Bool, true, false, List, [], refl, sym, ap, subst, ◌∙◌}
+use Rattle.std.proofs.Common.{◌≡◌, true, List, [], refl, sym, ap, subst, ◌∙◌}
 use Rattle.journal.specs.declared.effect.Step.{Step}
 use Rattle.journal.specs.Laws.{IsLegal}
 use Rattle.journal.specs.Logs.{Log, is_full}

@@ -1,5 +1,5 @@
 -- What each part of a run says to the status that it ends with.
-use Rattle.std.specs.Prelude.{ℕ, ◌≡◌, Bool, true, false, List, Option, IfSome}
+use Rattle.std.specs.Prelude.{ℕ, Bool, true, false, List, Option, IfSome}
 use Rattle.fabric.specs.declared.stop.StopCause.{StopCause}
 use Rattle.fabric.specs.declared.stop.StopCause.TheVariants as stops
 use Rattle.linx_outside.specs.declared.whole_reads.ReadStop.{ReadStop}

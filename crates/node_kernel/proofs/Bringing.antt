@@ -1,13 +1,12 @@
 -- What effects bring to endpoints, one after another, and taken back.
-use Rattle.std.proofs.Common.{◌≡◌, ℕ, zero, suc, ◌+◌, ◌-◌, ◌<◌, Bool, true, false, cond, List, []}
-use Rattle.std.proofs.Common.{◌∷◌, ◌++◌, length, map, take, get_or, refl, ap, sym, subst, ◌∙◌}
+use Rattle.std.proofs.Common.{◌≡◌, ℕ, ◌+◌, ◌-◌, ◌<◌, Bool, true, false, cond, List, []}
+use Rattle.std.proofs.Common.{◌∷◌, ◌++◌, length, map, take, get_or, refl, ap, sym, ◌∙◌}
 use Rattle.std.proofs.Common.{arith}
-use Rattle.std.specs.Prelude.{Option, Some, None}
-use Rattle.std.specs.List.{AllByRecursion, list_any}
+use Rattle.std.specs.Prelude.{Some, None}
+use Rattle.std.specs.List.{AllByRecursion}
 use Rattle.std.proofs.lemmas.Bool.Decides.{nat_tests}
 use Rattle.std.proofs.lemmas.List.{append-nil, append_assoc, take_more, take_at, length-append}
 use Rattle.std.proofs.lemmas.List.{length-take-le}
-use Rattle.linx_base.specs.FirstMatch.{first_match, without_match}
 use Rattle.linx_base.specs.Peers.{same_inc}
 use Rattle.linx_base.specs.declared.identity.Inc.{Inc}
 use Rattle.linx_base.specs.declared.identity.ItemAt.{ItemAt}
@@ -18,7 +17,7 @@ use Rattle.journal.specs.declared.effect.Effect.TheVariants.{Notified, Met, Gone
 use Rattle.journal.specs.Queues.{is_item_of, items_from, items_in}
 use Rattle.journal.proofs.Lists.{all-impl}
 use Rattle.node_kernel.specs.declared.delivery.Delivery.{Delivery}
-use Rattle.node_kernel.specs.Nodes.{OpenEndpoint, is_at, is_open, items_at, items_of, put_all}
+use Rattle.node_kernel.specs.Nodes.{OpenEndpoint, is_open, items_at, put_all}
 use Rattle.node_kernel.specs.Nodes.{put_into, with_items}
 use Rattle.node_kernel.specs.Kept.{AreRising, bring_into, change_items, delivery_at, put_item}
 use Rattle.node_kernel.specs.Kept.{receiver_of, without_last}

@@ -1,7 +1,7 @@
 -- What a roster keeps, after each change.
 use Rattle.std.proofs.Common.{◌≡◌, ℕ, ◌+◌, ◌<◌, Bool, true, false, cond, List, [], ◌∷◌, ◌++◌, map}
 use Rattle.std.proofs.Common.{refl, ap, sym, subst, ◌∙◌, arith}
-use Rattle.std.specs.Prelude.{Option, Some, None, Result, Ok, Err, OnOk, OnErr, IfOk, IfErr}
+use Rattle.std.specs.Prelude.{Some, Result, Ok, Err, OnOk, OnErr, IfOk, IfErr}
 use Rattle.std.specs.Result.{is_err}
 use Rattle.std.specs.List.{AllByRecursion}
 use Rattle.std.specs.Option.{option_map}
@@ -13,7 +13,6 @@ use Rattle.linx_base.specs.Peers.{same_inc}
 use Rattle.linx_base.specs.declared.identity.Inc.{Inc}
 use Rattle.linx_base.specs.declared.identity.NodeNo.{NodeNo}
 use Rattle.linx_base.specs.declared.item.Item.{Item}
-use Rattle.linx_base.proofs.FirstMatches.{without_match-append}
 use Rattle.journal.specs.declared.effect.Effect.{Effect}
 use Rattle.journal.specs.History.{next_inc}
 use Rattle.journal.proofs.Lists.{all-append, all-impl}
@@ -21,7 +20,7 @@ use Rattle.name_table.specs.declared.named.NamedEndpoint.{NamedEndpoint}
 use Rattle.name_table.specs.Naming.{has_name, is_endpoint}
 use Rattle.node_kernel.specs.Nodes.{OpenEndpoint, first_named, inc_if, is_at, is_named, put_all}
 use Rattle.node_kernel.specs.Nodes.{put_into, with_items, without_endpoint}
-use Rattle.node_kernel.specs.Kept.{AreKept, AreRising, bring_into, change_items, named, put_item}
+use Rattle.node_kernel.specs.Kept.{AreKept, AreRising, change_items, named, put_item}
 use Rattle.node_kernel.proofs.Bringing.{map_both}
 use Rattle.node_kernel.proofs.Rising.{all_without}
 

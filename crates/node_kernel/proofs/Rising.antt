@@ -1,14 +1,13 @@
 -- Open endpoints in order of incarnation.
 use Rattle.std.proofs.Common.{◌≡◌, ℕ, zero, suc, ◌<◌, ◌≤◌, ◌⊎◌, inl, inr, Bool, true, false, cond}
-use Rattle.std.proofs.Common.{List, [], ◌∷◌, ◌++◌, length, map, get_or, ltb, refl, ap, sym, subst}
-use Rattle.std.proofs.Common.{◌∙◌, arith}
-use Rattle.std.specs.Prelude.{Option, Some, None, nat_lt}
-use Rattle.std.specs.List.{All, AllByRecursion, position}
+use Rattle.std.proofs.Common.{List, [], ◌∷◌, length, map, get_or}
+use Rattle.std.proofs.Common.{arith}
+use Rattle.std.specs.Prelude.{Some, None, nat_lt}
+use Rattle.std.specs.List.{AllByRecursion, position}
 use Rattle.std.specs.List.Sorted.{IsNonDecreasingBy, IsPartitionedBy, IsPartitionPoint}
 use Rattle.std.proofs.lemmas.Bool.Decides.{nat_tests}
 use Rattle.std.proofs.lemmas.List.{get_or_default}
 use Rattle.std.proofs.lemmas.List.Sorted.{IsPartitionedBy-ltb}
-use Rattle.linx_base.specs.Peers.{same_inc}
 use Rattle.linx_base.specs.FirstMatch.{without_match}
 use Rattle.linx_base.specs.declared.identity.Inc.{Inc}
 use Rattle.linx_base.proofs.FirstMatches.{position_at, position_none}

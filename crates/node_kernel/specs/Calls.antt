@@ -1,6 +1,6 @@
 -- What the calls of a kernel leave. The effects that they have are words of the journal.
-use Rattle.std.specs.Prelude.{ℕ, ◌+◌, ◌≡◌, Bool, true, false, not, ◌&&◌, ◌==◌, List, [], ◌∷◌, ◌++◌}
-use Rattle.std.specs.Prelude.{length, filter, Option, Some, None, if◌then◌else◌}
+use Rattle.std.specs.Prelude.{ℕ, ◌+◌, ◌≡◌, Bool, true, false, not, List, [], ◌∷◌, ◌++◌}
+use Rattle.std.specs.Prelude.{length, filter, Option, Some, None}
 use Rattle.std.specs.List.{list_any}
 use Rattle.linx_base.specs.Peers.{same_inc, same_path, same_peer}
 use Rattle.linx_base.specs.declared.identity.AttRef.{AttRef}
@@ -26,7 +26,7 @@ use Rattle.node_kernel.specs.declared.answers.OpenError.{OpenError}
 use Rattle.node_kernel.specs.declared.answers.OpenError.TheVariants.{Full, NoMemory}
 use Rattle.node_kernel.specs.declared.answers.Sent.{Sent}
 use Rattle.node_kernel.specs.declared.answers.Sent.TheVariants.{Queued, Link, Dead}
-use Rattle.node_kernel.specs.Nodes.{OpenEndpoint, NodeState, endpoint_limit, is_open, items_at}
+use Rattle.node_kernel.specs.Nodes.{OpenEndpoint, NodeState, endpoint_limit, items_at}
 use Rattle.node_kernel.specs.Nodes.{with_items, without_endpoint, put_all, find_at, is_living}
 use Rattle.node_kernel.specs.Nodes.{next_of}
 

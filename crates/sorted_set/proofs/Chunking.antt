@@ -1,10 +1,10 @@
 -- What a call on one chunk does to the elements of all.
-use Rattle.std.proofs.Common.{◌≡◌, ℕ, zero, suc, ◌+◌, ◌-◌, ◌<◌, ◌≤◌, Bool, true, false, cond, List}
+use Rattle.std.proofs.Common.{◌≡◌, ℕ, zero, suc, ◌+◌, ◌-◌, ◌<◌, ◌≤◌, Bool, true, false, List}
 use Rattle.std.proofs.Common.{[], ◌∷◌, ◌++◌, length, get_or, set, take, drop, refl, ap, sym, subst}
 use Rattle.std.proofs.Common.{◌∙◌, ◌==◌, arith, add-one, ◌⊎◌, inl, inr, append_assoc}
 use mathlib.Core.Bool.{true≢false}
-use Rattle.std.specs.Prelude.{Option, Some, None, slice_get}
-use Rattle.std.specs.List.{AllByRecursion, insert, remove, All}
+use Rattle.std.specs.Prelude.{slice_get}
+use Rattle.std.specs.List.{AllByRecursion, insert, remove}
 use Rattle.std.specs.List.Sorted.{IsPartitionPoint, IsPartitionedBy}
 use Rattle.std.specs.declared.cmp.Ordering.{Ordering}
 use Rattle.std.specs.declared.cmp.Ordering.TheVariants.{Less, Equal, Greater}
@@ -21,9 +21,9 @@ use Rattle.sorted_set.specs.Sorted.{Ascends, elements_from, AreBelow, AreAbove}
 use Rattle.sorted_set.specs.Chunks.{joined, AreFilled, AreChunks, begins_by, IsPlaceFor}
 use Rattle.sorted_set.proofs.Placing.{insert_key-below, insert_key-middle, remove_key-below}
 use Rattle.sorted_set.proofs.Placing.{remove_key-middle, elements_from-below, elements_from-above}
-use Rattle.sorted_set.proofs.Placing.{all-append, all-both, all-map, ascends-front, ascends-back}
+use Rattle.sorted_set.proofs.Placing.{all-append, all-map, ascends-front, ascends-back}
 use Rattle.sorted_set.proofs.Placing.{ascends-before, split_at, turned_less, turned_greater}
-use Rattle.sorted_set.proofs.Placing.{below_equal, above_equal, ascends-insert_key}
+use Rattle.sorted_set.proofs.Placing.{below_equal, ascends-insert_key}
 use Rattle.sorted_set.proofs.Placing.{ascends-remove_key}
 
 -- CHUNKS IN PARTS: those before a place, the one there, and those after it

@@ -1,9 +1,9 @@
-use Rattle.std.specs.Prelude.{◌≡◌, ℕ, suc, ◌<◌, Bool, true, List, [], ◌∷◌, length, filter, take}
-use Rattle.std.specs.Prelude.{drop, ⊤}
-use Rattle.std.specs.List.{AllByRecursion, flat_map}
+use Rattle.std.specs.Prelude.{◌≡◌, List, [], ◌∷◌, filter}
+use Rattle.std.specs.Prelude.{⊤}
+use Rattle.std.specs.List.{AllByRecursion}
 use Rattle.std.specs.declared.cmp.Ordering.{Ordering}
 use Rattle.std.specs.declared.cmp.Ordering.TheVariants.{Less, Greater}
-use Rattle.std.specs.Ordering.{is_le, is_ge}
+use Rattle.std.specs.Ordering.{is_le}
 
 -- each element is below those after it
 abbrev pub Ascends : {X : Type 0} → (X → X → Ordering) → List X → Type 0

@@ -1,4 +1,4 @@
-use Rattle.std.proofs.Common.{◌≡◌, ◌∙◌, ap}
+use Rattle.std.proofs.Common.{◌∙◌, ap}
 use Rattle.journal.specs.Logs.{Book}
 use Rattle.stage.specs.Plays.{Play}
 use Rattle.linx_sim.proofs.Answering.{answers-played}

@@ -1,13 +1,11 @@
-use Rattle.std.proofs.Common.{◌≡◌, ◌∙◌, ◌<◌, sym, ap, length, refl, arith}
+use Rattle.std.proofs.Common.{◌∙◌, ◌<◌, sym, ap, length, arith}
 use Rattle.linx_base.specs.FirstMatch.{without_match}
-use Rattle.linx_base.specs.Peers.{same_peer}
 use Rattle.linx_base.specs.declared.pending.PendingAttach.{PendingAttach}
-use Rattle.journal.specs.Living.{is_of_session}
 use Rattle.journal.specs.Pending.{is_attach as is_own}
 use Rattle.attach_table.specs.Attaches.{is_attach}
-use Rattle.keyed_list.proofs.Entries.{others, others_after, others_none, shorter}
+use Rattle.keyed_list.proofs.Entries.{others, others_after, others_none}
 use Rattle.keyed_list.proofs.Entries.{without_none_first}
-use Rattle.node_kernel.proofs.Owing.{less_read, none_read, others_same, own_same, within_same}
+use Rattle.node_kernel.proofs.Owing.{less_read, none_read, others_same, own_same}
 use Rattle.node_kernel.proofs.attaches.drop_own.Goals as goal
 
 pub loop-signal-smaller : goal.loop-signal-smaller

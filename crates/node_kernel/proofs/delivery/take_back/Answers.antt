@@ -1,5 +1,4 @@
 use Rattle.std.proofs.Common.{◌∙◌, sym, ap, map}
-use Rattle.node_kernel.specs.Nodes.{OpenEndpoint}
 use Rattle.node_kernel.specs.Kept.{change_items, named, without_last}
 use Rattle.node_kernel.proofs.Bringing.{none_taken_back, taken_back}
 use Rattle.node_kernel.proofs.Keeping.{same_changed}

@@ -1,8 +1,6 @@
-use Rattle.std.proofs.Common.{◌≡◌, ◌∙◌, ◌+◌, ◌-◌, ◌<◌, ℕ, length, map, take, sym, ap, subst, get_or}
+use Rattle.std.proofs.Common.{◌≡◌, ◌∙◌, ◌+◌, ◌-◌, ◌<◌, length, map, take, sym, ap}
 use Rattle.std.proofs.Common.{arith}
-use Rattle.std.proofs.lemmas.List.{take_all}
-use Rattle.journal.specs.declared.effect.Effect.{Effect}
-use Rattle.node_kernel.specs.Nodes.{OpenEndpoint, put_all}
+use Rattle.node_kernel.specs.Nodes.{put_all}
 use Rattle.node_kernel.specs.Kept.{bring_into}
 use Rattle.node_kernel.proofs.Bringing.{put_more, put_none}
 use Rattle.node_kernel.proofs.Keeping.{rising_alike}

@@ -1,4 +1,4 @@
-use Rattle.std.proofs.Common.{◌≡◌, ◌∙◌, ◌<◌, sym, ap, length, arith}
+use Rattle.std.proofs.Common.{◌∙◌, ◌<◌, sym, ap, length, arith}
 use Rattle.linx_base.specs.FirstMatch.{without_match}
 use Rattle.hunt_table.specs.Hunts.{is_for}
 use Rattle.keyed_list.proofs.Entries.{others, others_after, others_none, shorter}

@@ -1,6 +1,5 @@
-use Rattle.std.proofs.Common.{◌≡◌, ◌∙◌, ap, sym, ◌++◌, ◌+◌, length, drop, get_or, arith}
+use Rattle.std.proofs.Common.{◌∙◌, ap, sym, ◌+◌, drop, arith}
 use Rattle.std.specs.Prelude.{slice_get}
-use Rattle.std.proofs.lemmas.List.{drop_more}
 use Rattle.sorted_set.specs.Chunks.{joined}
 use Rattle.sorted_set.proofs.Chunking.{slice_get-front, slice_get-back, joined_drop}
 use Rattle.sorted_set.proofs.chunks.nth.Goals as goal

@@ -1,4 +1,4 @@
-use Rattle.std.proofs.Common.{◌≡◌, ◌<◌, length, arith}
+use Rattle.std.proofs.Common.{◌<◌, length, arith}
 use Rattle.std.proofs.lemmas.Grind.{common_steps}
 use Rattle.sorted_set.proofs.Chunking.{split_in}
 use Rattle.sorted_set.proofs.chunks.split_full.Goals as goal

@@ -1,11 +1,9 @@
-use Rattle.std.proofs.Common.{◌≡◌, ◌∙◌, sym, ap, not, List}
-use Rattle.std.specs.Prelude.{filter, is_some, None}
-use Rattle.std.specs.List.{list_any}
+use Rattle.std.proofs.Common.{◌∙◌, sym, ap, List}
+use Rattle.std.specs.Prelude.{is_some}
 use Rattle.linx_base.specs.declared.item.Item.{Item}
 use Rattle.linx_base.proofs.FirstMatches.{is_some-first_match}
 use Rattle.sigsel.specs.Selection.{is_notice_of}
 use Rattle.keyed_list.proofs.Entries.{others_none, without_none_first}
-use Rattle.node_kernel.specs.Nodes.{OpenEndpoint}
 use Rattle.node_kernel.proofs.endpoint.Endpoint.drop_notices.Goals as goal
 
 pub returns-in-None-clause-any : goal.returns-in-None-clause-any

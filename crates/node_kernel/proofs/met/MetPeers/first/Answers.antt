@@ -1,4 +1,4 @@
-use Rattle.std.proofs.Common.{◌∙◌, ap, refl}
+use Rattle.std.proofs.Common.{◌∙◌, ap}
 use Rattle.linx_base.specs.FirstMatch.{first_match}
 use Rattle.journal.specs.Living.{is_named_over, met_peer}
 use Rattle.keyed_list.proofs.Finding.{found_first}

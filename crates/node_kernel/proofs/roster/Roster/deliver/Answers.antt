@@ -1,9 +1,7 @@
 use Rattle.std.proofs.Common.{◌≡◌, ◌∙◌, ◌++◌, ap, arith, drop, length, map, take}
 use Rattle.std.proofs.lemmas.List.{take_at}
-use Rattle.sigsel.specs.Selection.{is_notice_of, without_first}
-use Rattle.node_kernel.specs.Nodes.{items_at}
 use Rattle.node_kernel.specs.Kept.{named}
-use Rattle.node_kernel.proofs.Keeping.{kept_alike_of, same_brought, same_delivered, same_with_items}
+use Rattle.node_kernel.proofs.Keeping.{kept_alike_of, same_delivered}
 use Rattle.node_kernel.proofs.roster.Roster.deliver.Goals as goal
 
 pub invariant_of-self : goal.invariant_of-self
