@@ -9,6 +9,7 @@ use Rattle.script_words.specs.declared.block_line.ActorLine.{ActorLine}
 use Rattle.script_words.specs.declared.block_line.ActorLine.TheVariants as actor_lines
 use Rattle.script_words.specs.declared.block_line.RepeatLine.{RepeatLine}
 use Rattle.script_words.specs.declared.block_line.RepeatLine.TheVariants as repeat_lines
+use Rattle.script_words.specs.Gives.{◌>>=◌}
 use Rattle.script_lang.specs.Limits.{actor_limit, command_limit, all_commands_limit}
 use Rattle.script_lang.specs.declared.actor_script.ActorScript.{ActorScript}
 use Rattle.script_lang.specs.declared.reading.Place.{Place}

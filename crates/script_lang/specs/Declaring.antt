@@ -9,7 +9,7 @@ use Rattle.script_words.specs.declared.bad_kind.BadKind.{BadKind}
 use Rattle.script_words.specs.declared.bad_kind.BadKind.TheVariants.{TwiceNamed, OverLimit}
 use Rattle.script_words.specs.declared.declaration.Declaration.{Declaration}
 use Rattle.script_words.specs.declared.declaration.Declaration.TheVariants.{Node, Link, Plan, Actor}
-use Rattle.script_words.specs.Gives.{made}
+use Rattle.script_words.specs.Gives.{◌>>=◌, made}
 use Rattle.script_lang.specs.Limits.{node_limit, link_limit, actor_limit, verdict_limit}
 use Rattle.script_lang.specs.declared.reading.Reading.{Reading}
 use Rattle.script_lang.specs.declared.reading.Place.TheVariants.{Outside, InActor}

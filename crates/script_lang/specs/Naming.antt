@@ -5,6 +5,7 @@ use Rattle.linx_base.specs.declared.identity.LinkNo.{LinkNo}
 use Rattle.linx_base.specs.declared.identity.NodeNo.{NodeNo}
 use Rattle.script_words.specs.declared.bad_kind.BadKind.{BadKind}
 use Rattle.script_words.specs.declared.bad_kind.BadKind.TheVariants.{UnknownName}
+use Rattle.script_words.specs.Gives.{◌>>=◌}
 use Rattle.script_lang.specs.Parts.{ScriptParts}
 
 -- the number, from 1, of what stands in a place

@@ -13,7 +13,7 @@ use Rattle.script_words.specs.declared.named_command.NamedCommand.{NamedCommand}
 use Rattle.script_words.specs.declared.named_command.NamedCommand.TheVariants.{Plain, Hunt, Cut}
 use Rattle.script_words.specs.declared.named_command.NamedCommand.TheVariants.{Mend, Settle}
 use Rattle.script_words.specs.declared.named_command.NamedCommand.TheVariants.{Restart}
-use Rattle.script_words.specs.Gives.{made}
+use Rattle.script_words.specs.Gives.{◌>>=◌, made}
 use Rattle.script_lang.specs.Parts.{ScriptParts}
 use Rattle.script_lang.specs.Fits.{has_end}
 use Rattle.script_lang.specs.Naming.{node_named, link_named}

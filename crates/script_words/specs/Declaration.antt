@@ -7,7 +7,7 @@ use Rattle.script_words.specs.declared.bad_kind.BadKind.{BadKind}
 use Rattle.script_words.specs.declared.bad_kind.BadKind.TheVariants.{BadShape, UnknownWord}
 use Rattle.script_words.specs.declared.declaration.Declaration.{Declaration}
 use Rattle.script_words.specs.declared.declaration.Declaration.TheVariants.{Node, Link, Plan, Actor}
-use Rattle.script_words.specs.Gives.{made}
+use Rattle.script_words.specs.Gives.{◌>>=◌, made}
 use Rattle.script_words.specs.Limits.{window_limit, window_unsaid, piece_least, piece_limit}
 use Rattle.script_words.specs.Limits.{piece_unsaid}
 use Rattle.script_words.specs.Words.{alone}

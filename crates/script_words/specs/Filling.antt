@@ -7,6 +7,7 @@ use Rattle.script_words.specs.declared.bad_kind.BadKind.{BadKind}
 use Rattle.script_words.specs.declared.bad_kind.BadKind.TheVariants.{BadShape}
 use Rattle.script_words.specs.declared.filling.Filling.{Filling}
 use Rattle.script_words.specs.declared.filling.Filling.TheVariants.{Bytes, Repeat}
+use Rattle.script_words.specs.Gives.{◌>>=◌}
 use Rattle.script_words.specs.Words.{cut_at, only}
 use Rattle.script_words.specs.Numbers.{any_number}
 

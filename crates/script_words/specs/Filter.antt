@@ -6,7 +6,7 @@ use Rattle.sigsel.specs.declared.sigsel.Sigsel.{Sigsel}
 use Rattle.sigsel.specs.declared.sigsel.Sigsel.TheVariants.{Any, Only, Not}
 use Rattle.script_words.specs.declared.bad_kind.BadKind.{BadKind}
 use Rattle.script_words.specs.declared.bad_kind.BadKind.TheVariants.{BadShape}
-use Rattle.script_words.specs.Gives.{made}
+use Rattle.script_words.specs.Gives.{◌>>=◌, made}
 use Rattle.script_words.specs.Limits.{filter_limit}
 use Rattle.script_words.specs.Words.{alone}
 use Rattle.script_words.specs.Numbers.{is_within, numbers_of}

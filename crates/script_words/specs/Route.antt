@@ -2,7 +2,7 @@ use Rattle.std.specs.Prelude.{ℕ, Option, Some, None, Result, Ok, List}
 use Rattle.script_words.specs.declared.bad_kind.BadKind.{BadKind}
 use Rattle.script_words.specs.declared.route.Route.{Route}
 use Rattle.script_words.specs.declared.route.Route.TheVariants.{Local, Over}
-use Rattle.script_words.specs.Gives.{made}
+use Rattle.script_words.specs.Gives.{◌>>=◌, made}
 use Rattle.script_words.specs.Words.{cut_at}
 use Rattle.script_words.specs.Names.{name_of}
 

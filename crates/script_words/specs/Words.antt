@@ -3,6 +3,7 @@ use Rattle.std.specs.Prelude.{ℕ, ◌+◌, ◌==◌, Option, option_map, Result
 use Rattle.std.specs.Prelude.{take, drop, position}
 use Rattle.script_words.specs.declared.bad_kind.BadKind.{BadKind}
 use Rattle.script_words.specs.declared.bad_kind.BadKind.TheVariants.{BadShape}
+use Rattle.script_words.specs.Gives.{◌>>=◌}
 
 -- what stands before the first such byte, and what behind it
 abbrev pub cut_at : ℕ → List ℕ → Option (List ℕ × List ℕ)
