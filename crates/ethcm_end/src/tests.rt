@@ -1,53 +1,7 @@
 use crate::{End, Input, Ticked};
-use linx_base::{Blob, Message, NoMemory, Session};
+use linx_base::{Blob, Message};
 use std::alloc::Global;
 use std::test::Fail;
-
-/// What happens to an end.
-#[derive(Clone, Copy)]
-enum Event {
-    /// A packet comes, in hexadecimal digits: MAIN's first four bytes, the sender's session, the
-    /// receiver's session, and what stands behind them. The end has session 5.1, its peer 9.4.
-    Packet(&'static str),
-    Tick,
-    /// A message with a body of so many bytes is offered.
-    Offer(usize),
-    Keep,
-    Undo,
-}
-
-/// An event, what it means in a word, and how the next two packets that go out begin: with no
-/// digits where none goes out. Behind these none goes out.
-type Row = (Event, &'static str, [&'static str; 2]);
-
-const CONNECT: &str = "02020018 0000000900000004 0000000000000000 00010000";
-
-const CONNECT_ACK: &str = "02020018 0000000900000004 0000000500000001 00020000";
-
-const CONN_ACK: &str = "02020018 0000000900000004 0000000500000001 00030000";
-
-const RESET: &str = "02020018 0000000900000004 0000000500000001 00040000";
-
-const ACK_0: &str = "0205001c 0000000900000004 0000000500000001 00000000 00000000";
-
-/// What the end replies, and what it sends at an idle tick.
-const MY_CONN_ACK: &str = "02020018 0000000500000001 0000000900000004 00030000";
-
-/// The pieces 0 and 1 that the end sends of a message of 300 bytes, with nothing taken.
-const MY_PIECE_0: &str = "02050070 0000000500000001 0000000900000004 03000000 00000000
-    00010000 00000000 00000007 00000009 0000012c";
-
-const MY_PIECE_1: &str = "02050064 0000000500000001 0000000900000004 04000000 00000000
-    00010000 00000001";
-
-const MY_PIECE_2: &str = "02050064 0000000500000001 0000000900000004 04000000 00000000
-    00010000 00000002";
-
-const ONLY: &str = "02050031 0000000900000004 0000000500000001 03000000 00000000
-    00000000 00000000 00000007 00000009 00000001 aa";
-
-const LAST_0: &str = "02050025 0000000900000004 0000000500000001 04000000 00000000
-    00000000 00000000 cc";
 
 fn digit(byte: u8) -> Option<u8> {
     match byte {
@@ -57,13 +11,12 @@ fn digit(byte: u8) -> Option<u8> {
     }
 }
 
-/// The bytes that these digits are, two a byte; what is no digit stands between them.
-fn bytes_of(alloc: Global, text: &str) -> Result<Vec<u8>, NoMemory> {
-    let mut bytes = Vec::new(alloc);
+/// Adds the bytes that these hexadecimal digits are, two a byte.
+fn add_digits(bytes: &mut Vec<u8>, digits: &str) -> Result<(), Fail> {
     let mut high = None;
-    for byte in text.as_bytes() {
+    for byte in digits.as_bytes() {
         match (digit(*byte), high) {
-            (None, _) => {}
+            (None, _) => return Err(Fail::from("no digit")),
             (Some(value), None) => high = Some(value),
             (Some(value), Some(first)) => {
                 let first: u8 = first;
@@ -72,252 +25,473 @@ fn bytes_of(alloc: Global, text: &str) -> Result<Vec<u8>, NoMemory> {
             }
         }
     }
+    Ok(())
+}
+
+/// Adds the bytes of these digits so many times.
+fn add_times(bytes: &mut Vec<u8>, digits: &str, times: &str) -> Result<(), Fail> {
+    let times: u32 = times.parse()?;
+    for _ in 0..times {
+        add_digits(bytes, digits)?;
+    }
+    Ok(())
+}
+
+fn add_session(bytes: &mut Vec<u8>, boot: &str, count: &str) -> Result<(), Fail> {
+    let (boot, count): (u32, u32) = (boot.parse()?, count.parse()?);
+    bytes.extend_from_slice(boot.to_be_bytes().as_slice())?;
+    bytes.extend_from_slice(count.to_be_bytes().as_slice())?;
+    Ok(())
+}
+
+/// Adds the bytes of a word: of a session, as `5.1`, of digits, or of digits so many times, as
+/// `5a*64`.
+fn add_word(bytes: &mut Vec<u8>, word: &str) -> Result<(), Fail> {
+    if let Some((boot, count)) = word.split_once('.') {
+        return add_session(bytes, boot, count);
+    }
+    match word.split_once('*') {
+        None => add_digits(bytes, word),
+        Some((digits, times)) => add_times(bytes, digits, times),
+    }
+}
+
+/// The bytes that a text spells.
+fn bytes_of(alloc: Global, text: &str) -> Result<Vec<u8>, Fail> {
+    let mut bytes = Vec::new(alloc);
+    for word in text.split_whitespace() {
+        add_word(&mut bytes, word)?;
+    }
     Ok(bytes)
 }
 
-/// These bytes come. What they mean is told in a word.
-fn take(end: &mut End, bytes: &Blob) -> Result<&'static str, Fail> {
+/// A packet of these bytes comes. The answer is what it means in a word.
+fn take(end: &mut End, bytes: Vec<u8>) -> Result<&'static str, Fail> {
+    let packet = Blob::shared(bytes)?;
     if end.mine().count() == u32::MAX {
         return Err(Fail::from("no session follows"));
     }
-    Ok(match end.input(bytes)? {
-        Input::Nothing => "",
+    Ok(match end.input(&packet)? {
+        Input::Nothing => "none",
         Input::WentUp => "up",
         Input::WentDown => "down",
         Input::Got(_) => "got",
     })
 }
 
-fn tick(end: &mut End) -> Result<&'static str, Fail> {
-    if end.mine().count() == u32::MAX {
-        return Err(Fail::from("no session follows"));
-    }
-    Ok(match end.tick()? {
-        Ticked::Stays => "",
-        Ticked::WentDown => "down",
-    })
-}
-
-fn offer(alloc: Global, end: &mut End, count: usize) -> Result<&'static str, Fail> {
-    let message = Message {
-        from: 7,
-        to: 9,
-        body: Blob::shared(vec![in alloc; 0x5a; count]?)?,
-    };
-    if message.body.is_empty() || message.body.len() > 65_536 || end.frames_left() < 1_024 {
-        return Err(Fail::from("this can't be offered"));
-    }
-    end.offer(&message)?;
-    Ok("")
-}
-
-fn happens(alloc: Global, end: &mut End, event: &Event) -> Result<&'static str, Fail> {
-    match event {
-        Event::Packet(digits) => {
-            let bytes = Blob::shared(bytes_of(alloc, digits)?)?;
-            take(end, &bytes)
-        }
-        Event::Tick => tick(end),
-        Event::Offer(count) => offer(alloc, end, *count),
-        Event::Keep => {
-            end.keep();
-            Ok("")
-        }
-        Event::Undo => {
-            end.undo();
-            Ok("")
-        }
-    }
-}
-
-/// Whether the next packet that goes out begins so; with no digits, whether none goes out.
-fn sends(alloc: Global, end: &mut End, digits: &str) -> Result<bool, Fail> {
-    let bytes = bytes_of(alloc, digits)?;
-    Ok(match end.out()? {
-        None => bytes.is_empty(),
-        Some(out) => !bytes.is_empty() && out.bytes().starts_with(&bytes),
-    })
-}
-
-fn follows_row(alloc: Global, end: &mut End, row: &Row) -> Result<bool, Fail> {
-    if happens(alloc, end, &row.0)? != row.1 {
-        return Ok(false);
-    }
-    for digits in [row.2[0], row.2[1], ""] {
-        if !sends(alloc, end, digits)? {
+/// Further pieces of one byte come, with more behind each: with the numbers from this one up to
+/// that one.
+fn take_pieces(alloc: Global, end: &mut End, from: &str, to: &str) -> Result<bool, Fail> {
+    let (from, to): (u32, u32) = (from.parse()?, to.parse()?);
+    for seq in from..to {
+        let mut bytes = bytes_of(alloc, "02050025 9.4 5.1 04000000 00000000 00010000")?;
+        bytes.extend_from_slice(seq.to_be_bytes().as_slice())?;
+        bytes.push(0xbb)?;
+        if take(end, bytes)? != "none" {
             return Ok(false);
         }
     }
     Ok(true)
 }
 
-/// How many rows come out as they say, before the first that doesn't.
-fn follows(alloc: Global, end: &mut End, rows: &[Row]) -> Result<usize, Fail> {
-    let mut followed: usize = 0;
-    for row in rows {
-        if !follows_row(alloc, end, row)? {
-            return Ok(followed);
-        }
-        followed = followed.saturating_add(1);
+/// A tick comes. The answer is what it means in a word.
+fn tick(end: &mut End) -> Result<&'static str, Fail> {
+    if end.mine().count() == u32::MAX {
+        return Err(Fail::from("no session follows"));
     }
-    Ok(followed)
+    Ok(match end.tick()? {
+        Ticked::Stays => "tick",
+        Ticked::WentDown => "lost",
+    })
 }
 
-/// An end of session 5.1 with pieces of 64 bytes, connecting or up with session 9.4.
-fn end(alloc: Global, window: u32, up: bool) -> Result<End, Fail> {
+/// A message with a body of these bytes is offered.
+fn offer(end: &mut End, body: Vec<u8>) -> Result<bool, Fail> {
+    let message = Message {
+        from: 7,
+        to: 9,
+        body: Blob::shared(body)?,
+    };
+    if message.body.is_empty() || message.body.len() > 65_536 || end.frames_left() < 1_024 {
+        return Ok(false);
+    }
+    end.offer(&message)?;
+    Ok(true)
+}
+
+/// Whether exactly these bytes go out next; where they are none, whether nothing goes out.
+fn sends(end: &mut End, bytes: &[u8]) -> Result<bool, Fail> {
+    Ok(match end.out()? {
+        None => bytes.is_empty(),
+        Some(out) => out.bytes() == bytes,
+    })
+}
+
+/// Whether nothing was left to go out, and what happens then comes out as the word says.
+fn happens(alloc: Global, end: &mut End, word: &str, rest: &str) -> Result<bool, Fail> {
+    if !sends(end, &[])? {
+        return Ok(false);
+    }
+    match word {
+        "tick" | "lost" => Ok(tick(end)? == word),
+        "offer" => offer(end, bytes_of(alloc, rest)?),
+        "pieces" => {
+            let (from, to) = rest.split_once(' ').ok_or("two numbers")?;
+            take_pieces(alloc, end, from, to)
+        }
+        _ => Ok(take(end, bytes_of(alloc, rest)?)? == word),
+    }
+}
+
+/// Whether the line comes out as it says: `none`, `up`, `down` and `got` what a packet means, of
+/// which the bytes stand behind the word; `tick` and `lost` what a tick means; `sends` the packet
+/// that goes out next, all of it; `work` and `rest` whether the end has work.
+fn follows_line(alloc: Global, end: &mut End, line: &str) -> Result<bool, Fail> {
+    let (word, rest) = line.split_once(' ').unwrap_or((line, ""));
+    match word {
+        "sends" => return sends(end, &bytes_of(alloc, rest)?),
+        "work" => return Ok(end.has_work()),
+        "rest" => return Ok(!end.has_work()),
+        "keep" => end.keep(),
+        "undo" => end.undo(),
+        "restart" => end.restart(6),
+        _ => return happens(alloc, end, word, rest),
+    }
+    Ok(true)
+}
+
+/// An end of session 5.1 with pieces of 64 bytes, which is connecting, goes through the story, and
+/// then nothing is left to go out. It fails at the first line that comes out otherwise.
+fn follows(alloc: Global, window: u32, story: &'static str) -> Result<(), Fail> {
     let mut end = End::new(alloc, 5, window, 64);
-    if up {
-        let _ = happens(alloc, &mut end, &Event::Packet(CONNECT_ACK))?;
-        let _ = end.out()?;
-    }
-    end.keep();
-    Ok(end)
-}
-
-/// Whether the row comes out as it says for an end that is connecting or up; so that it then is up
-/// and in its session as the row tells, and stands as before once that is undone.
-fn holds_alone(alloc: Global, up: bool, row: &Row) -> Result<bool, Fail> {
-    let mut end = end(alloc, 32, up)?;
-    let before = end.mine();
-    let follows = follows_row(alloc, &mut end, row)?;
-    let is_up = row.1 == "up" || (up && row.1 != "down");
-    let stands = end.peer().is_some() == is_up && (end.mine() == before) == (row.1 != "down");
-    end.undo();
-    Ok(follows && stands && end.peer().is_some() == up && end.mine() == before)
-}
-
-/// How many rows do so, before the first that doesn't.
-fn hold_alone(alloc: Global, up: bool, rows: &[Row]) -> Result<usize, Fail> {
-    let mut held: usize = 0;
-    for row in rows {
-        if !holds_alone(alloc, up, row)? {
-            return Ok(held);
+    for line in story.lines() {
+        if !follows_line(alloc, &mut end, line.trim())? {
+            return Err(Fail::from(line));
         }
-        held = held.saturating_add(1);
     }
-    Ok(held)
-}
-
-const CONNECTING: [Row; 6] = [
-    (
-        Event::Packet(CONNECT),
-        "",
-        ["02020018 0000000500000001 0000000900000004 00020000", ""],
-    ),
-    (Event::Packet(CONNECT_ACK), "up", [MY_CONN_ACK, ""]),
-    (Event::Packet(CONN_ACK), "up", ["", ""]),
-    (Event::Packet(RESET), "", ["", ""]),
-    (Event::Packet(ACK_0), "", ["", ""]),
-    (
-        Event::Packet("02020018 0000000900000004 0000000500000002 00020000"),
-        "",
-        ["", ""],
-    ),
-];
-
-const UP: [Row; 9] = [
-    (
-        Event::Packet("02020018 0000000900000003 0000000500000001 00040000"),
-        "",
-        ["", ""],
-    ),
-    (
-        Event::Packet("02020018 0000000900000005 0000000000000000 00010000"),
-        "down",
-        ["", ""],
-    ),
-    (Event::Packet(CONNECT), "", [MY_CONN_ACK, ""]),
-    (
-        Event::Packet("0205001c 0000000900000004 0000000500000002 00000000 00000000"),
-        "",
-        ["", ""],
-    ),
-    (Event::Packet(RESET), "down", ["", ""]),
-    (Event::Packet(CONNECT_ACK), "", [MY_CONN_ACK, ""]),
-    (Event::Packet(CONN_ACK), "", ["", ""]),
-    (Event::Packet(ACK_0), "", ["", ""]),
-    // A packet of version 1 is none.
-    (
-        Event::Packet("01020018 0000000900000004 0000000500000001 00040000"),
-        "",
-        ["", ""],
-    ),
-];
-
-#[test]
-fn every_row_of_the_table_of_sessions(rt: HostRuntime) -> Result<(), Fail> {
-    assert_eq!(rt; hold_alone(rt.alloc(), false, &CONNECTING)?, 6);
-    assert_eq!(rt; hold_alone(rt.alloc(), true, &UP)?, 9);
+    if !sends(&mut end, &[])? {
+        return Err(Fail::from("more goes out"));
+    }
     Ok(())
 }
 
-const ASKS: Row = (
-    Event::Tick,
-    "",
-    ["02020018 0000000500000001 0000000000000000 00010000", ""],
-);
+/// What a row did is undone before the next one. A tick shows the session and the peer.
+#[test]
+fn a_connecting_end_follows_each_row_of_the_table_of_sessions(rt: HostRuntime) -> Result<(), Fail> {
+    follows(
+        rt.alloc(),
+        32,
+        "none 02020018 9.4 0.0 00010000
+        sends 02020018 5.1 9.4 00020000
+        tick
+        sends 02020018 5.1 0.0 00010000
+        up 02020018 9.4 5.1 00020000
+        sends 02020018 5.1 9.4 00030000
+        work
+        tick
+        sends 02020018 5.1 9.4 00030000
+        undo
+        up 02020018 9.4 5.1 00030000
+        rest
+        tick
+        sends 02020018 5.1 9.4 00030000
+        undo
+        none 02020018 9.4 5.2 00020000
+        none 02020018 9.4 5.2 00030000
+        none 02020018 9.4 5.1 00040000
+        none 0205001c 9.4 5.1 00000000 00000000
+        work
+        tick
+        sends 02020018 5.1 0.0 00010000",
+    )
+}
 
-/// Nothing is offered to an end that is connecting: this does nothing.
-const NEVER_LOST: [Row; 5] = [ASKS, ASKS, ASKS, ASKS, (Event::Offer(100), "", ["", ""])];
+/// The last packet is one of version 1, which is none.
+#[test]
+fn an_end_that_is_up_follows_each_row_of_the_table_of_sessions(
+    rt: HostRuntime,
+) -> Result<(), Fail> {
+    follows(
+        rt.alloc(),
+        32,
+        "up 02020018 9.4 5.1 00020000
+        sends 02020018 5.1 9.4 00030000
+        keep
+        none 02020018 9.3 5.1 00040000
+        none 0205001c 9.3 5.1 00000000 00000000
+        down 02020018 9.5 0.0 00010000
+        tick
+        sends 02020018 5.2 0.0 00010000
+        undo
+        none 02020018 9.4 0.0 00010000
+        sends 02020018 5.1 9.4 00030000
+        none 0205001c 9.4 5.2 00000000 00000000
+        none 02020018 9.4 5.2 00040000
+        work
+        down 02020018 9.4 5.1 00040000
+        tick
+        sends 02020018 5.2 0.0 00010000
+        undo
+        none 02020018 9.4 5.1 00020000
+        sends 02020018 5.1 9.4 00030000
+        work
+        none 02020018 9.4 5.1 00030000
+        rest
+        undo
+        none 0205001c 9.4 5.1 00000000 00000000
+        rest
+        undo
+        none 0206001c 9.4 5.1 00000001 00000000
+        rest
+        undo
+        none 01020018 9.4 5.1 00040000
+        work
+        tick
+        sends 02020018 5.1 9.4 00030000",
+    )
+}
 
+/// What is offered to it does nothing.
 #[test]
 fn a_connecting_end_asks_at_each_tick_and_is_never_lost(rt: HostRuntime) -> Result<(), Fail> {
-    let mut end = end(rt.alloc(), 32, false)?;
-    assert_eq!(rt; follows(rt.alloc(), &mut end, &NEVER_LOST)?, 5);
-    assert!(rt; end.has_work());
-    assert_eq!(rt; end.frames_left(), u32::MAX);
-    Ok(())
+    follows(
+        rt.alloc(),
+        32,
+        "tick
+        sends 02020018 5.1 0.0 00010000
+        tick
+        sends 02020018 5.1 0.0 00010000
+        tick
+        sends 02020018 5.1 0.0 00010000
+        tick
+        sends 02020018 5.1 0.0 00010000
+        offer 5a*100
+        work",
+    )
 }
-
-/// With a window of two frames: a message of 300 bytes in five pieces.
-const WINDOW: [Row; 4] = [
-    (Event::Offer(300), "", [MY_PIECE_0, MY_PIECE_1]),
-    // Beyond what was sent.
-    (
-        Event::Packet("0205001c 0000000900000004 0000000500000001 00000000 00000003"),
-        "",
-        ["", ""],
-    ),
-    // Frame 0 has come, and one frame from 1 on is asked for.
-    (
-        Event::Packet("0206001c 0000000900000004 0000000500000001 00000001 00000001"),
-        "",
-        [MY_PIECE_2, MY_PIECE_1],
-    ),
-    (Event::Tick, "", [MY_PIECE_1, MY_PIECE_2]),
-];
 
 #[test]
-fn a_nack_first_moves_the_window(rt: HostRuntime) -> Result<(), Fail> {
-    let mut end = end(rt.alloc(), 2, true)?;
-    assert_eq!(rt; follows(rt.alloc(), &mut end, &WINDOW)?, 4);
-    Ok(())
+fn lost_at_the_third_tick_since_the_peer_was_heard(rt: HostRuntime) -> Result<(), Fail> {
+    follows(
+        rt.alloc(),
+        32,
+        "up 02020018 9.4 5.1 00030000
+        tick
+        sends 02020018 5.1 9.4 00030000
+        tick
+        sends 02020018 5.1 9.4 00030000
+        none 02020018 9.4 0.0 00010000
+        sends 02020018 5.1 9.4 00030000
+        tick
+        sends 02020018 5.1 9.4 00030000
+        tick
+        sends 02020018 5.1 9.4 00030000
+        none 02020018 9.4 5.1 00020000
+        sends 02020018 5.1 9.4 00030000
+        tick
+        sends 02020018 5.1 9.4 00030000
+        tick
+        sends 02020018 5.1 9.4 00030000
+        none 02020018 9.4 5.1 00030000
+        tick
+        sends 02020018 5.1 9.4 00030000
+        tick
+        sends 02020018 5.1 9.4 00030000
+        none 0205001c 9.4 5.1 00000000 00000000
+        tick
+        sends 02020018 5.1 9.4 00030000
+        tick
+        sends 02020018 5.1 9.4 00030000
+        lost
+        sends 02020018 5.1 9.4 00040000
+        tick
+        sends 02020018 5.2 0.0 00010000",
+    )
 }
 
-const MY_ACK_1: &str = "0205001c 0000000500000001 0000000900000004 00000000 00000001";
+/// A message of five pieces, and at first an ACK beyond what was sent.
+#[test]
+fn a_nack_first_moves_the_window(rt: HostRuntime) -> Result<(), Fail> {
+    follows(
+        rt.alloc(),
+        2,
+        "up 02020018 9.4 5.1 00030000
+        offer 5a*300
+        sends 02050070 5.1 9.4 03000000 00000000 00010000 00000000 00000007 00000009 0000012c 5a*64
+        sends 02050064 5.1 9.4 04000000 00000000 00010000 00000001 5a*64
+        work
+        none 0205001c 9.4 5.1 00000000 00000003
+        none 0206001c 9.4 5.1 00000001 00000001
+        sends 02050064 5.1 9.4 04000000 00000000 00010000 00000002 5a*64
+        sends 02050064 5.1 9.4 04000000 00000000 00010000 00000001 5a*64
+        tick
+        sends 02050064 5.1 9.4 04000000 00000000 00010000 00000001 5a*64
+        sends 02050064 5.1 9.4 04000000 00000000 00010000 00000002 5a*64
+        none 0205001c 9.4 5.1 00000000 00000003
+        sends 02050064 5.1 9.4 04000000 00000000 00010000 00000003 5a*64
+        sends 02050050 5.1 9.4 04000000 00000000 00000000 00000004 5a*44
+        none 0205001c 9.4 5.1 00000000 00000005
+        rest",
+    )
+}
 
-const REPEATED: [Row; 3] = [
-    (Event::Packet(ONLY), "got", [MY_ACK_1, ""]),
-    (Event::Packet(ONLY), "", [MY_ACK_1, ""]),
-    (Event::Packet(LAST_0), "", [MY_ACK_1, ""]),
-];
+#[test]
+fn of_four_pieces_the_missing_one_is_sent_again_alone(rt: HostRuntime) -> Result<(), Fail> {
+    follows(
+        rt.alloc(),
+        32,
+        "up 02020018 9.4 5.1 00030000
+        offer 5a*64 5b*64 5c*64 5d*64
+        sends 02050070 5.1 9.4 03000000 00000000 00010000 00000000 00000007 00000009 00000100 5a*64
+        sends 02050064 5.1 9.4 04000000 00000000 00010000 00000001 5b*64
+        sends 02050064 5.1 9.4 04000000 00000000 00010000 00000002 5c*64
+        sends 02050064 5.1 9.4 04000000 00000000 00000000 00000003 5d*64
+        none 0206001c 9.4 5.1 00000001 00000001
+        sends 02050064 5.1 9.4 04000000 00000000 00010000 00000001 5b*64",
+    )
+}
 
-const BROKEN: [Row; 1] = [(Event::Packet(LAST_0), "down", ["", ""])];
+#[test]
+fn of_four_pieces_the_missing_one_is_asked_for_once(rt: HostRuntime) -> Result<(), Fail> {
+    follows(
+        rt.alloc(),
+        32,
+        "up 02020018 9.4 5.1 00030000
+        none 02050070 9.4 5.1 03000000 00000000 00010000 00000000 00000007 00000009 00000100 5a*64
+        sends 0205001c 5.1 9.4 00000000 00000001
+        none 02050064 9.4 5.1 04000000 00000000 00010000 00000002 5c*64
+        sends 0206001c 5.1 9.4 00000001 00000001
+        none 02050064 9.4 5.1 04000000 00000000 00000000 00000003 5d*64
+        got 02050064 9.4 5.1 04000000 00000000 00010000 00000001 5b*64
+        sends 0205001c 5.1 9.4 00000000 00000004",
+    )
+}
 
-/// How many of the rows an end that is up follows.
-fn followed(alloc: Global, rows: &[Row]) -> Result<usize, Fail> {
-    let mut end = end(alloc, 32, true)?;
-    follows(alloc, &mut end, rows)
+#[test]
+fn missing_frames_are_asked_for_again_after_a_tick(rt: HostRuntime) -> Result<(), Fail> {
+    follows(
+        rt.alloc(),
+        32,
+        "up 02020018 9.4 5.1 00030000
+        none 02050025 9.4 5.1 04000000 00000000 00000000 00000002 cc
+        sends 0206001c 5.1 9.4 00000002 00000000
+        none 02050025 9.4 5.1 04000000 00000000 00000000 00000002 cc
+        tick
+        sends 02020018 5.1 9.4 00030000
+        none 02050025 9.4 5.1 04000000 00000000 00010000 00000001 bb
+        sends 0206001c 5.1 9.4 00000001 00000000
+        got 02050031 9.4 5.1 03000000 00000000 00010000 00000000 00000007 00000009 00000003 aa
+        sends 0205001c 5.1 9.4 00000000 00000003",
+    )
 }
 
 #[test]
 fn a_repeated_frame_is_acknowledged_and_not_taken(rt: HostRuntime) -> Result<(), Fail> {
-    assert_eq!(rt; followed(rt.alloc(), &REPEATED)?, 3);
-    Ok(())
+    follows(
+        rt.alloc(),
+        32,
+        "up 02020018 9.4 5.1 00030000
+        got 02050031 9.4 5.1 03000000 00000000 00000000 00000000 00000007 00000009 00000001 aa
+        sends 0205001c 5.1 9.4 00000000 00000001
+        none 02050031 9.4 5.1 03000000 00000000 00000000 00000000 00000007 00000009 00000001 aa
+        sends 0205001c 5.1 9.4 00000000 00000001
+        none 02050025 9.4 5.1 04000000 00000000 00000000 00000000 cc
+        sends 0205001c 5.1 9.4 00000000 00000001",
+    )
 }
 
 #[test]
 fn a_broken_frame_ends_the_session(rt: HostRuntime) -> Result<(), Fail> {
-    assert_eq!(rt; followed(rt.alloc(), &BROKEN)?, 1);
-    Ok(())
+    follows(
+        rt.alloc(),
+        32,
+        "up 02020018 9.4 5.1 00030000
+        down 02050025 9.4 5.1 04000000 00000000 00000000 00000000 cc
+        tick
+        sends 02020018 5.2 0.0 00010000",
+    )
+}
+
+/// In the next session frames 0 and 1 come, and the kept frame 2 is not there.
+#[test]
+fn what_was_kept_and_begun_is_gone_after_a_reconnection(rt: HostRuntime) -> Result<(), Fail> {
+    follows(
+        rt.alloc(),
+        32,
+        "up 02020018 9.4 5.1 00030000
+        none 02050031 9.4 5.1 03000000 00000000 00010000 00000000 00000007 00000009 00000003 aa
+        sends 0205001c 5.1 9.4 00000000 00000001
+        none 02050025 9.4 5.1 04000000 00000000 00000000 00000002 cc
+        sends 0206001c 5.1 9.4 00000001 00000001
+        down 02020018 9.4 5.1 00040000
+        up 02020018 9.4 5.2 00020000
+        sends 02020018 5.2 9.4 00030000
+        none 02050025 9.4 5.1 04000000 00000000 00010000 00000001 bb
+        none 02050031 9.4 5.2 03000000 00000000 00010000 00000000 00000007 00000009 00000003 aa
+        sends 0205001c 5.2 9.4 00000000 00000001
+        none 02050025 9.4 5.2 04000000 00000000 00010000 00000001 bb
+        sends 0205001c 5.2 9.4 00000000 00000002
+        got 02050025 9.4 5.2 04000000 00000000 00000000 00000002 cc
+        sends 0205001c 5.2 9.4 00000000 00000003",
+    )
+}
+
+/// Frames 1 to 257 are a message of 257 bytes. Once frame 0, a message before it, has come, the
+/// frames 1 to 256 are kept, and 257 is not.
+#[test]
+fn of_early_frames_256_are_kept_and_the_next_is_not(rt: HostRuntime) -> Result<(), Fail> {
+    follows(
+        rt.alloc(),
+        32,
+        "up 02020018 9.4 5.1 00030000
+        none 02050031 9.4 5.1 03000000 00000000 00010000 00000001 00000007 00000009 00000101 aa
+        sends 0206001c 5.1 9.4 00000001 00000000
+        pieces 2 256
+        got 02050031 9.4 5.1 03000000 00000000 00000000 00000000 00000007 00000009 00000001 aa
+        sends 0205001c 5.1 9.4 00000000 00000001
+        pieces 256 257
+        sends 0206001c 5.1 9.4 00000001 00000001
+        none 02050025 9.4 5.1 04000000 00000000 00000000 00000101 cc
+        none 02050031 9.4 5.1 03000000 00000000 00010000 00000001 00000007 00000009 00000101 aa
+        sends 0205001c 5.1 9.4 00000000 00000101
+        got 02050025 9.4 5.1 04000000 00000000 00000000 00000101 cc
+        sends 0205001c 5.1 9.4 00000000 00000102",
+    )
+}
+
+/// What was to go out then goes out again.
+#[test]
+fn an_undone_event_leaves_the_end_as_it_was(rt: HostRuntime) -> Result<(), Fail> {
+    follows(
+        rt.alloc(),
+        32,
+        "up 02020018 9.4 5.1 00030000
+        none 02050025 9.4 5.1 04000000 00000000 00000000 00000001 bb
+        keep
+        sends 0206001c 5.1 9.4 00000001 00000000
+        got 02050031 9.4 5.1 03000000 00000000 00010000 00000000 00000007 00000009 00000002 aa
+        sends 0205001c 5.1 9.4 00000000 00000002
+        down 02020018 9.4 5.1 00040000
+        undo
+        sends 0206001c 5.1 9.4 00000001 00000000
+        offer 5a*1000
+        undo
+        sends 0206001c 5.1 9.4 00000001 00000000
+        got 02050031 9.4 5.1 03000000 00000000 00010000 00000000 00000007 00000009 00000002 aa
+        sends 0205001c 5.1 9.4 00000000 00000002",
+    )
+}
+
+#[test]
+fn a_restart_begins_the_first_session_of_the_boot(rt: HostRuntime) -> Result<(), Fail> {
+    follows(
+        rt.alloc(),
+        32,
+        "up 02020018 9.4 5.1 00030000
+        offer 5a*1000
+        restart
+        work
+        tick
+        sends 02020018 6.1 0.0 00010000",
+    )
 }
