@@ -160,11 +160,11 @@ fn follows_line(alloc: Global, end: &mut End, line: &str) -> Result<bool, Fail> 
     Ok(true)
 }
 
-/// An end of session 5.1 with pieces of 64 bytes, which is connecting, goes through the story, and
-/// then nothing is left to go out. It fails at the first line that comes out otherwise.
-fn follows(alloc: Global, window: u32, story: &'static str) -> Result<(), Fail> {
+/// An end of session 5.1 with pieces of 64 bytes, which is connecting, goes through the exchange,
+/// and then nothing is left to go out. It fails at the first line that comes out otherwise.
+fn follows(alloc: Global, window: u32, exchange: &'static str) -> Result<(), Fail> {
     let mut end = End::new(alloc, 5, window, 64);
-    for line in story.lines() {
+    for line in exchange.lines() {
         if !follows_line(alloc, &mut end, line.trim())? {
             return Err(Fail::from(line));
         }
@@ -331,6 +331,23 @@ fn a_nack_first_moves_the_window(rt: HostRuntime) -> Result<(), Fail> {
         sends 02050064 5.1 9.4 04000000 00000000 00010000 00000003 5a*64
         sends 02050050 5.1 9.4 04000000 00000000 00000000 00000004 5a*44
         none 0205001c 9.4 5.1 00000000 00000005
+        rest",
+    )
+}
+
+/// With a window of one frame. The piece that comes into it goes out with nothing taken.
+#[test]
+fn a_piece_acknowledges_before_it_is_taken(rt: HostRuntime) -> Result<(), Fail> {
+    follows(
+        rt.alloc(),
+        1,
+        "up 02020018 9.4 5.1 00030000
+        offer 5a*64 5b
+        sends 02050070 5.1 9.4 03000000 00000000 00010000 00000000 00000007 00000009 00000041 5a*64
+        got 02050031 9.4 5.1 03000000 00000001 00000000 00000000 00000007 00000009 00000001 aa
+        sends 02050025 5.1 9.4 04000000 00000000 00000000 00000001 5b
+        sends 0205001c 5.1 9.4 00000000 00000001
+        none 0205001c 9.4 5.1 00000000 00000002
         rest",
     )
 }
