@@ -70,48 +70,81 @@ fn take(end: &mut End, from: &mut VecDeque<Blob>, to: &mut VecDeque<Blob>) -> an
     }
 }
 
-fn offer(end: &mut End, message: &Message, to: &mut VecDeque<Blob>) -> anyhow::Result<()> {
-    if end.frames_left() < 1_024 || message.body.is_empty() || message.body.len() > 65_536 {
-        return Ok(());
-    }
-    end.offer(message).context("offer")?;
-    put_all(end, to)
+/// Two ends, and what is on the way to each.
+#[derive(Drop)]
+struct Link {
+    first: End,
+    second: End,
+    to_first: VecDeque<Blob>,
+    to_second: VecDeque<Blob>,
 }
 
-fn tick(end: &mut End, to: &mut VecDeque<Blob>) -> anyhow::Result<()> {
-    if end.mine().count() == u32::MAX {
-        return Ok(());
-    }
-    let _ = end.tick().context("tick")?;
-    put_all(end, to)
+/// The next packet of each wire comes. The answer is whether a message is whole at the second end.
+fn exchange(link: &mut Link) -> anyhow::Result<bool> {
+    let whole = take(&mut link.second, &mut link.to_second, &mut link.to_first)?;
+    let _ = take(&mut link.first, &mut link.to_first, &mut link.to_second)?;
+    Ok(whole)
 }
 
-fn measured(rt: &HostRuntime, window: u32, pieces: u64) -> anyhow::Result<()> {
-    let alloc = rt.alloc();
-    let message = message(alloc)?;
-    let mut first = End::new(alloc, 1, window, 1_400);
-    let mut second = End::new(alloc, 1, window, 1_400);
-    let mut to_first = VecDeque::new(alloc);
-    let mut to_second = VecDeque::new(alloc);
-    tick(&mut first, &mut to_second)?;
-    let _ = take(&mut second, &mut to_second, &mut to_first)?;
-    let _ = take(&mut first, &mut to_first, &mut to_second)?;
-    let _ = take(&mut second, &mut to_second, &mut to_first)?;
-    let start = Instant::now(rt).context("clock")?;
+fn tick(link: &mut Link) -> anyhow::Result<()> {
+    if link.first.mine().count() == u32::MAX {
+        return Ok(());
+    }
+    let _ = link.first.tick().context("tick")?;
+    put_all(&mut link.first, &mut link.to_second)
+}
+
+fn offer(link: &mut Link, message: &Message) -> anyhow::Result<()> {
+    let fits = !message.body.is_empty() && message.body.len() <= 65_536;
+    if !fits || link.first.frames_left() < 1_024 {
+        return Ok(());
+    }
+    link.first.offer(message).context("offer")?;
+    put_all(&mut link.first, &mut link.to_second)
+}
+
+/// The first end asks, and both go up.
+fn connect(link: &mut Link) -> anyhow::Result<()> {
+    tick(link)?;
+    for _ in 0..2 {
+        let _ = exchange(link)?;
+    }
+    Ok(())
+}
+
+/// So many pieces go to the second end. The answer is how many messages are whole there.
+fn send(link: &mut Link, message: &Message, window: u32, pieces: u64) -> anyhow::Result<u64> {
     let mut offered: u64 = 0;
     let mut whole: u64 = 0;
     for taken in 0..pieces {
         if offered < pieces && offered < taken.saturating_add(2 * window as u64) {
-            offer(&mut first, &message, &mut to_second)?;
+            offer(link, message)?;
             offered = offered.saturating_add(PIECES);
         }
-        if take(&mut second, &mut to_second, &mut to_first)? {
+        if exchange(link)? {
             whole = whole.saturating_add(1);
         }
-        let _ = take(&mut first, &mut to_first, &mut to_second)?;
     }
-    let spent = start.elapsed(rt).context("clock")?.as_nanos();
-    println!(rt; "window {window}, {pieces} pieces: {} ns a piece, {whole} messages", spent / (pieces as u128).max(1))?;
+    Ok(whole)
+}
+
+fn link(alloc: Global, window: u32) -> Link {
+    Link {
+        first: End::new(alloc, 1, window, 1_400),
+        second: End::new(alloc, 1, window, 1_400),
+        to_first: VecDeque::new(alloc),
+        to_second: VecDeque::new(alloc),
+    }
+}
+
+fn measured(rt: &HostRuntime, window: u32, pieces: u64) -> anyhow::Result<()> {
+    let message = message(rt.alloc())?;
+    let mut link = link(rt.alloc(), window);
+    connect(&mut link)?;
+    let start = Instant::now(rt).context("clock")?;
+    let whole = send(&mut link, &message, window, pieces)?;
+    let spent = start.elapsed(rt).context("clock")?.as_nanos() / (pieces as u128).max(1);
+    println!(rt; "window {window}, {pieces} pieces: {spent} ns a piece, {whole} messages")?;
     Ok(())
 }
 

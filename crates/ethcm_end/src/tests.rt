@@ -206,7 +206,30 @@ fn a_connecting_end_follows_each_row_of_the_table_of_sessions(rt: HostRuntime) -
     )
 }
 
-/// The last packet is one of version 1, which is none.
+/// Each is a CONNECT with one change, and the last is the CONNECT.
+#[test]
+fn bytes_that_are_no_packet_change_nothing(rt: HostRuntime) -> Result<(), Fail> {
+    follows(
+        rt.alloc(),
+        32,
+        "none 01020018 9.4 0.0 00010000
+        none 02000018 9.4 0.0 00010000
+        none 02070018 9.4 0.0 00010000
+        none 02020017 9.4 0.0 00010000
+        none 02020019 9.4 0.0 00010000
+        none 02020018 0.0 0.0 00010000
+        none 02020018 9.4 0.1 00010000
+        none 02020018 9.4 0.0 02010000
+        none 02020018 9.4 0.0 00000000
+        none 02020018 9.4 0.0 00050000
+        none 02020018 9.4 0.0 00010100
+        none 02020018 9.4 0.0 00010000 00
+        none
+        none 02020018 9.4 0.0 00010000
+        sends 02020018 5.1 9.4 00020000",
+    )
+}
+
 #[test]
 fn an_end_that_is_up_follows_each_row_of_the_table_of_sessions(
     rt: HostRuntime,
@@ -244,7 +267,6 @@ fn an_end_that_is_up_follows_each_row_of_the_table_of_sessions(
         none 0206001c 9.4 5.1 00000001 00000000
         rest
         undo
-        none 01020018 9.4 5.1 00040000
         work
         tick
         sends 02020018 5.1 9.4 00030000",
