@@ -1,6 +1,7 @@
 #!/usr/bin/env bash
-# How long the text of a full journal takes, by the number of incarnations in it. The program that
-# measures it is built in a copy of the crates, so that the gate knows nothing of it.
+# How long the text of a full journal takes, by the number of incarnations in it, and that of large
+# signals, of which digests are printed. The program that measures it is built in a copy of the
+# crates, so that the gate knows nothing of it.
 set -euo pipefail
 top="$(cd "$(dirname "$0")/.." && pwd)"
 work="$(mktemp -d)"
@@ -23,15 +24,27 @@ ghost use Rattle.std.specs.Prelude.{◌<◌, ◌≤◌};
 
 use anyhow::Context;
 use journal::{By, Effect, Effects, Head, Journal, SentTo, Step};
-use linx_base::{Blob, Inc, ItemAt, Name, NameList, Names, NoMemory, Peer, SigNote};
+use linx_base::{Blob, Inc, ItemAt, Name, NameList, Names, NoMemory, Peer, SigNote, TryCopy};
 use sigsel::Sigsel;
 use std::alloc::Global;
 use std::time::Instant;
 
-fn note(alloc: Global) -> Result<SigNote, NoMemory> {
+/// A small signal.
+fn small(alloc: Global) -> Result<SigNote, NoMemory> {
     Ok(SigNote {
         number: 5,
         bytes: Blob::of(alloc, b"8 bytes.")?,
+    })
+}
+
+/// A signal of the largest size, unlike the others.
+fn large(alloc: Global, number: u32) -> anyhow::Result<SigNote> {
+    let mut bytes = Vec::new(alloc);
+    bytes.extend_from_slice(&number.to_be_bytes())?;
+    bytes.resize(65_532, 0x5a)?;
+    Ok(SigNote {
+        number,
+        bytes: Blob::shared(bytes).context("large signal")?,
     })
 }
 
@@ -56,12 +69,12 @@ fn open(alloc: Global, journal: &mut Journal, actor: u32) -> anyhow::Result<()> 
     push(journal, actor, Head::Open(name), Effects::of(effects))
 }
 
-fn send(alloc: Global, journal: &mut Journal, actor: u32) -> anyhow::Result<()> {
+fn send(alloc: Global, journal: &mut Journal, actor: u32, note: SigNote) -> anyhow::Result<()> {
     let me = Peer::Here(inc_of(actor));
+    let arrived = note.copy().context("note")?;
     let mut effects = Vec::new(alloc);
-    effects.push(Effect::Arrived(inc_of(actor), me, note(alloc).context("note")?))?;
-    let head = Head::Send(me, note(alloc).context("note")?, SentTo::Queued);
-    push(journal, actor, head, Effects::of(effects))
+    effects.push(Effect::Arrived(inc_of(actor), me, arrived))?;
+    push(journal, actor, Head::Send(me, note, SentTo::Queued), Effects::of(effects))
 }
 
 fn take(alloc: Global, journal: &mut Journal, actor: u32) -> anyhow::Result<()> {
@@ -72,36 +85,60 @@ fn take(alloc: Global, journal: &mut Journal, actor: u32) -> anyhow::Result<()> 
     push(journal, actor, Head::Take(Sigsel::Any, position), Effects::new(alloc))
 }
 
-/// A journal of 200,000 steps: each incarnation is opened, and then sends to itself and receives.
-fn full_journal(alloc: Global, incarnations: u32) -> anyhow::Result<Journal>
-    requires some { 0 < incarnations }
-    requires bounded { incarnations ≤ 1000 }
-{
+fn empty_journal(alloc: Global) -> anyhow::Result<Journal> {
     let mut nodes = NameList::new(alloc);
     nodes.push(Name::of(alloc, b"node").context("name")?).context("names")?;
     let names = Names {
         nodes,
         links: NameList::new(alloc),
     };
-    let mut journal = Journal::new(alloc, names);
+    Ok(Journal::new(alloc, names))
+}
+
+/// A journal of 200,000 steps: each incarnation is opened, and then sends to itself and receives.
+fn full_journal(alloc: Global, incarnations: u32) -> anyhow::Result<Journal>
+    requires some { 0 < incarnations }
+    requires bounded { incarnations ≤ 1000 }
+{
+    let mut journal = empty_journal(alloc)?;
     for actor in 1..incarnations + 1 {
         open(alloc, &mut journal, actor)?;
     }
     for pair in 0..(200_000 - incarnations) / 2 {
         let actor = pair % incarnations + 1;
-        send(alloc, &mut journal, actor)?;
+        send(alloc, &mut journal, actor, small(alloc).context("note")?)?;
         take(alloc, &mut journal, actor)?;
     }
     Ok(journal)
 }
 
+/// A journal of so many large signals, each sent to oneself and received.
+fn large_journal(alloc: Global, count: u32) -> anyhow::Result<Journal> {
+    let mut journal = empty_journal(alloc)?;
+    open(alloc, &mut journal, 1)?;
+    for number in 0..count {
+        send(alloc, &mut journal, 1, large(alloc, number)?)?;
+        take(alloc, &mut journal, 1)?;
+    }
+    Ok(journal)
+}
+
+/// The milliseconds that the text of a journal takes.
+fn measure(rt: &HostRuntime, journal: &Journal) -> anyhow::Result<u128> {
+    let start = Instant::now(rt).context("clock")?;
+    journal_text::text(rt.alloc(), journal).context("text")?;
+    Ok(start.elapsed(rt).context("clock")?.as_millis())
+}
+
 fn main(rt: HostRuntime) -> anyhow::Result<()> {
     for incarnations in [1, 10, 100, 1_000] {
         let journal = full_journal(rt.alloc(), incarnations)?;
-        let start = Instant::now(&rt).context("clock")?;
-        let text = journal_text::text(rt.alloc(), &journal).context("text")?;
-        let spent = start.elapsed(&rt).context("clock")?.as_millis();
-        println!(rt; "{} steps, {incarnations} incarnations: {spent} ms, {} bytes", journal.len(), text.len())?;
+        let spent = measure(&rt, &journal)?;
+        println!(rt; "{} steps, {incarnations} incarnations: {spent} ms", journal.len())?;
+    }
+    for signals in [255, 511] {
+        let spent = measure(&rt, &large_journal(rt.alloc(), signals)?)?;
+        println!(rt; "{signals} signals of 65532 bytes: {spent} ms")?;
     }
     Ok(())
 }

@@ -6,6 +6,7 @@ ghost use Rattle.journal_text.specs.Blocks.{log_text, logs_text};
 ghost use Rattle.journal_text.specs.Collected.{Collects, opened_log};
 
 use crate::collecting::Logs;
+use crate::digests::Digests;
 use crate::digits::write_bytes;
 use crate::entries::write_title;
 use crate::owners::Owners;
@@ -14,7 +15,7 @@ use journal::{Effect, Journal};
 use linx_base::{Inc, NoMemory};
 use std::alloc::Global;
 
-fn collect(alloc: Global, journal: &Journal) -> Result<Logs, NoMemory>
+fn collect(alloc: Global, journal: &Journal, digests: &Digests) -> Result<Logs, NoMemory>
     ensures { IfOk result (λ logs.
         Collects journal.now.log.names journal.now.log.steps journal.now.log.steps logs) }
 {
@@ -22,7 +23,8 @@ fn collect(alloc: Global, journal: &Journal) -> Result<Logs, NoMemory>
     let mut logs = Logs::new(alloc);
     for done in 0..journal.len() {
         let step = step_after(journal, done);
-        logs.note(alloc, journal, owners.endpoint(step.by), step)?;
+        let owner = owners.endpoint(step.by);
+        logs.note(alloc, journal, digests, owner, done + 1, step)?;
         owners.note(step)?;
     }
     Ok(logs)
@@ -83,16 +85,29 @@ fn write_blocks(out: &mut Vec<u8>, journal: &Journal, logs: &Logs) -> Result<(),
     Ok(())
 }
 
+/// The logs, with these digests at hand.
+pub(crate) fn write_logs_with(
+    out: &mut Vec<u8>,
+    journal: &Journal,
+    digests: &Digests,
+) -> Result<(), NoMemory>
+    ensures ok { OnOk result (out.new.items ≡ out.old.items ++ logs_text journal.now.log) }
+    ensures err { OnErr result (out.new.items ≡ out.old.items) }
+{
+    let alloc = *out.allocator();
+    let logs = collect(alloc, journal, digests)?;
+    let mut blocks = Vec::new(alloc);
+    write_blocks(&mut blocks, journal, &logs)?;
+    out.extend_from_slice(&blocks)?;
+    Ok(())
+}
+
 /// Appends the logs of all opened incarnations in order of opening. A refusal leaves the buffer as
 /// it was.
 pub fn write_logs(out: &mut Vec<u8>, journal: &Journal) -> Result<(), NoMemory>
     ensures ok { OnOk result (out.new.items ≡ out.old.items ++ logs_text journal.now.log) }
     ensures err { OnErr result (out.new.items ≡ out.old.items) }
 {
-    let alloc = *out.allocator();
-    let logs = collect(alloc, journal)?;
-    let mut blocks = Vec::new(alloc);
-    write_blocks(&mut blocks, journal, &logs)?;
-    out.extend_from_slice(&blocks)?;
-    Ok(())
+    let digests = Digests::of(*out.allocator(), journal)?;
+    write_logs_with(out, journal, &digests)
 }

@@ -11,6 +11,7 @@ ghost use Rattle.journal.specs.History.{opens, name_in};
 ghost use Rattle.journal_text.specs.Blocks.{if_for, head_log, concerned, effect_log, effect_logs};
 ghost use Rattle.journal_text.specs.Collected.{Collects};
 
+use crate::digests::{Digested, Digests};
 use crate::entries::{concerns, write_effect_log, write_head_log};
 use crate::logs::name_of;
 use crate::texts::{Texts, append_at, kept_at};
@@ -73,12 +74,14 @@ fn keep_opened(
     Ok(())
 }
 
-/// Adds the line of a head to the log of its maker's endpoint.
+/// Adds the line of the head of the step at a position to the log of its maker's endpoint.
 fn add_head(
     alloc: Global,
     lines: &mut Texts,
     journal: &Journal,
+    digests: &Digests,
     owner: Option<Inc>,
+    position: u64,
     head: &Head,
 ) -> Result<(), NoMemory>
     ensures { OnOk result ((q : ℕ) → kept lines.new q ≡ kept lines.old q
@@ -88,7 +91,7 @@ fn add_head(
     match owner {
         Some(inc) => {
             let mut line = Vec::new(alloc);
-            write_head_log(&mut line, journal, head)?;
+            write_head_log(&mut line, journal, digests, position, head)?;
             append_at(alloc, lines, inc.0, &line)
         }
         None => Ok(()),
@@ -101,6 +104,7 @@ fn add_effect(
     lines: &mut Texts,
     names: &Names,
     effect: &Effect,
+    known: Option<&Digested>,
 ) -> Result<(), NoMemory>
     ensures { OnOk result ((q : ℕ) → kept lines.new q ≡ kept lines.old q
         ++ if_for (record { 0 = q }) (concerned effect.now) (effect_log names.now effect.now)) }
@@ -108,24 +112,28 @@ fn add_effect(
     match concerns(effect) {
         Some(inc) => {
             let mut line = Vec::new(alloc);
-            write_effect_log(&mut line, names, effect)?;
+            write_effect_log(&mut line, names, effect, known)?;
             append_at(alloc, lines, inc.0, &line)
         }
         None => Ok(()),
     }
 }
 
+/// Adds the lines of the effects of the step at a position.
 fn add_effects(
     alloc: Global,
     lines: &mut Texts,
     names: &Names,
+    digests: &Digests,
+    position: u64,
     effects: &[Effect],
 ) -> Result<(), NoMemory>
     ensures { OnOk result ((q : ℕ) → kept lines.new q ≡ kept lines.old q
         ++ effect_logs names.now (record { 0 = q }) effects.now) }
 {
-    for effect in effects {
-        add_effect(alloc, lines, names, effect)?;
+    for (index, effect) in effects.iter().enumerate() {
+        let known = digests.of_effect(position, index);
+        add_effect(alloc, lines, names, effect, known)?;
     }
     Ok(())
 }
@@ -142,13 +150,15 @@ impl Logs {
         }
     }
 
-    /// Takes in the next step; `owner` is the endpoint of its maker.
+    /// Takes in the next step, at this position; `owner` is the endpoint of its maker.
     #[tactic(auto, unfolding(crate::specs::Blocks::log_lines))]
     pub(crate) fn note(
         &mut self,
         alloc: Global,
         journal: &Journal,
+        digests: &Digests,
         owner: Option<Inc>,
+        position: u64,
         step: &Step,
     ) -> Result<(), NoMemory>
         ensures { (P : List StepOf) → owner ≡ owner_by P step.now.by
@@ -158,8 +168,9 @@ impl Logs {
     {
         let effects = step.effects.as_slice();
         keep_opened(&mut self.opened, &step.head, effects)?;
-        add_head(alloc, &mut self.lines, journal, owner, &step.head)?;
-        add_effects(alloc, &mut self.lines, journal.names(), effects)
+        let lines = &mut self.lines;
+        add_head(alloc, lines, journal, digests, owner, position, &step.head)?;
+        add_effects(alloc, lines, journal.names(), digests, position, effects)
     }
 
     /// The name that the incarnation was opened with.

@@ -1,17 +1,13 @@
-//! Bytes, numbers, hexadecimal and digests, each written through one call of the crate that makes
-//! them. What is written goes to the end of a buffer; after a refusal the buffer holds some front
-//! of it, which the callers throw away.
+//! Bytes, numbers, hexadecimal and digests, each written through one call of what makes them. What
+//! is written goes to the end of a buffer; after a refusal the buffer holds some front of it, which
+//! the callers throw away.
 ghost use Rattle.std.specs.Prelude.{◌≡◌, ◌++◌, decimal, length, codes, OnOk};
 ghost use Rattle.hex.specs.Hex.{encode_lower};
-ghost use Rattle.sha2.specs.Sha256.{sha256};
 ghost use Rattle.journal_text.specs.Values.{digest_text, data_text};
 
+use crate::digests::{Digested, SPELLED_MOST, digest_with};
 use itoa::Buffer;
-use linx_base::NoMemory;
-use sha2::{Digest, Sha256};
-
-/// The most data bytes that are spelled one by one.
-pub const SPELLED_MOST: usize = 32;
+use linx_base::{Blob, NoMemory};
 
 pub(crate) fn write_bytes(out: &mut Vec<u8>, text: &[u8]) -> Result<(), NoMemory>
     ensures { OnOk result (out.new.items ≡ out.old.items ++ text.now) }
@@ -37,33 +33,31 @@ fn write_hexadecimal(out: &mut Vec<u8>, bytes: &[u8]) -> Result<(), NoMemory>
     Ok(())
 }
 
-fn digest_of(bytes: &[u8]) -> [u8; 32]
-    ensures { result ≡ sha256 bytes.now }
-{
-    Sha256::digest(bytes)
-}
-
 /// The number of bytes, and their digest.
 #[tactic(auto, unfolding(crate::specs::Values::digest_text))]
-fn write_digest(out: &mut Vec<u8>, bytes: &[u8]) -> Result<(), NoMemory>
+fn write_digest(out: &mut Vec<u8>, bytes: &Blob, known: Option<&Digested>) -> Result<(), NoMemory>
     ensures { OnOk result (out.new.items ≡ out.old.items ++ digest_text bytes.now) }
 {
     write_number(out, bytes.len() as u64)?;
     write_bytes(out, b":")?;
-    let digest = digest_of(bytes);
+    let digest = digest_with(known, bytes);
     write_hexadecimal(out, &digest)?;
     Ok(())
 }
 
 #[tactic(auto, unfolding(crate::specs::Values::data_text))]
-pub(crate) fn write_data(out: &mut Vec<u8>, bytes: &[u8]) -> Result<(), NoMemory>
+pub(crate) fn write_data(
+    out: &mut Vec<u8>,
+    bytes: &Blob,
+    known: Option<&Digested>,
+) -> Result<(), NoMemory>
     ensures { OnOk result (out.new.items ≡ out.old.items ++ data_text bytes.now) }
 {
     if bytes.is_empty() {
         write_bytes(out, b"-")
     } else if bytes.len() <= SPELLED_MOST {
-        write_hexadecimal(out, bytes)
+        write_hexadecimal(out, bytes.bytes())
     } else {
-        write_digest(out, bytes)
+        write_digest(out, bytes, known)
     }
 }

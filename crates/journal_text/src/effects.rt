@@ -4,6 +4,7 @@ ghost use Rattle.journal_text.specs.Values.{halves_text, node_text, link_text, p
 ghost use Rattle.journal_text.specs.Values.{peer_signal_text, reference_text, reason_text};
 ghost use Rattle.journal_text.specs.Steps.{effect_text, effect_line};
 
+use crate::digests::{Digested, Digests};
 use crate::digits::write_bytes;
 use crate::peers::{write_halves, write_link, write_node, write_peer, write_peer_signal};
 use crate::words::{write_reason, write_reference};
@@ -26,6 +27,7 @@ fn write_item(
     inc: Inc,
     peer: &Peer,
     note: &SigNote,
+    known: Option<&Digested>,
 ) -> Result<(), NoMemory>
     ensures { OnOk result (out.new.items ≡ out.old.items
         ++ (word.now ++ halves_text inc.0 ++ codes " "
@@ -33,7 +35,7 @@ fn write_item(
 {
     write_word_and_inc(out, word, inc)?;
     write_bytes(out, b" ")?;
-    write_peer_signal(out, names, peer, note)
+    write_peer_signal(out, names, peer, note, known)
 }
 
 /// The end of a notification: its reference and its reason.
@@ -86,20 +88,27 @@ fn write_session(
 }
 
 #[tactic(auto, unfolding(crate::specs::Steps::effect_text))]
-fn write_effect(out: &mut Vec<u8>, names: &Names, effect: &Effect) -> Result<(), NoMemory>
+fn write_effect(
+    out: &mut Vec<u8>,
+    names: &Names,
+    effect: &Effect,
+    known: Option<&Digested>,
+) -> Result<(), NoMemory>
     ensures { OnOk result (out.new.items ≡ out.old.items ++ effect_text names.now effect.now) }
 {
     match effect {
         Effect::Opened(inc) => write_word_and_inc(out, b"opened ", *inc),
         Effect::Closed(inc) => write_word_and_inc(out, b"closed ", *inc),
-        Effect::Arrived(inc, peer, note) => write_item(out, names, b"arrived ", *inc, peer, note),
+        Effect::Arrived(inc, peer, note) => {
+            write_item(out, names, b"arrived ", *inc, peer, note, known)
+        }
         Effect::Found(inc, peer, note, hunt) => {
-            write_item(out, names, b"found ", *inc, peer, note)?;
+            write_item(out, names, b"found ", *inc, peer, note, known)?;
             write_bytes(out, b" ")?;
             write_reference(out, *hunt)
         }
         Effect::Notified(inc, peer, note, reference, reason) => {
-            write_item(out, names, b"notified ", *inc, peer, note)?;
+            write_item(out, names, b"notified ", *inc, peer, note, known)?;
             write_cause(out, reference.0, *reason)
         }
         Effect::Met(node, peer, name) => {
@@ -120,25 +129,32 @@ fn write_effect(out: &mut Vec<u8>, names: &Names, effect: &Effect) -> Result<(),
 }
 
 #[tactic(auto, unfolding(crate::specs::Steps::effect_line))]
-fn write_effect_line(out: &mut Vec<u8>, names: &Names, effect: &Effect) -> Result<(), NoMemory>
+fn write_effect_line(
+    out: &mut Vec<u8>,
+    names: &Names,
+    effect: &Effect,
+    known: Option<&Digested>,
+) -> Result<(), NoMemory>
     ensures { OnOk result (out.new.items ≡ out.old.items ++ effect_line names.now effect.now) }
 {
     write_bytes(out, b"+ ")?;
-    write_effect(out, names, effect)?;
+    write_effect(out, names, effect, known)?;
     write_bytes(out, b"\n")
 }
 
-/// A line for each effect.
+/// A line for each effect of the step at a position.
 pub(crate) fn write_effects(
     out: &mut Vec<u8>,
     names: &Names,
+    digests: &Digests,
+    position: u64,
     effects: &[Effect],
 ) -> Result<(), NoMemory>
     ensures { OnOk result (out.new.items
         ≡ out.old.items ++ flat_map (effect_line names.now) effects.now) }
 {
-    for effect in effects {
-        write_effect_line(out, names, effect)?;
+    for (index, effect) in effects.iter().enumerate() {
+        write_effect_line(out, names, effect, digests.of_effect(position, index))?;
     }
     Ok(())
 }

@@ -5,6 +5,7 @@ ghost use Rattle.journal_text.specs.Values.{peer_signal_text, reason_text};
 ghost use Rattle.journal_text.specs.Blocks.{title_text, concerned, effect_log, effect_at};
 ghost use Rattle.journal_text.specs.Blocks.{item_text, head_log};
 
+use crate::digests::{Digested, Digests};
 use crate::digits::write_bytes;
 use crate::heads::{write_hunt, write_sending, write_word_and_signal};
 use crate::peers::{write_halves, write_name_or_mark, write_node, write_peer_signal};
@@ -53,11 +54,12 @@ fn write_item_line(
     word: &[u8],
     peer: &Peer,
     note: &SigNote,
+    known: Option<&Digested>,
 ) -> Result<(), NoMemory>
     ensures { OnOk result (out.new.items ≡ out.old.items
         ++ (word.now ++ peer_signal_text names.now peer.now note.now ++ codes "\n")) }
 {
-    write_word_and_signal(out, names, word, peer, note)?;
+    write_word_and_signal(out, names, word, peer, note, known)?;
     write_bytes(out, b"\n")
 }
 
@@ -66,13 +68,14 @@ fn write_notified(
     names: &Names,
     peer: &Peer,
     note: &SigNote,
+    known: Option<&Digested>,
     reason: Reason,
 ) -> Result<(), NoMemory>
     ensures { OnOk result (out.new.items ≡ out.old.items
         ++ (codes "notified " ++ peer_signal_text names.now peer.now note.now ++ codes " "
         ++ reason_text reason ++ codes "\n")) }
 {
-    write_word_and_signal(out, names, b"notified ", peer, note)?;
+    write_word_and_signal(out, names, b"notified ", peer, note, known)?;
     write_bytes(out, b" ")?;
     write_reason(out, reason)?;
     write_bytes(out, b"\n")
@@ -84,15 +87,20 @@ pub(crate) fn write_effect_log(
     out: &mut Vec<u8>,
     names: &Names,
     effect: &Effect,
+    known: Option<&Digested>,
 ) -> Result<(), NoMemory>
     ensures { OnOk result (out.new.items ≡ out.old.items ++ effect_log names.now effect.now) }
 {
     match effect {
         Effect::Closed(_) => write_bytes(out, b"closed\n"),
-        Effect::Arrived(_, peer, note) => write_item_line(out, names, b"arrived ", peer, note),
-        Effect::Found(_, peer, note, _) => write_item_line(out, names, b"found ", peer, note),
+        Effect::Arrived(_, peer, note) => {
+            write_item_line(out, names, b"arrived ", peer, note, known)
+        }
+        Effect::Found(_, peer, note, _) => {
+            write_item_line(out, names, b"found ", peer, note, known)
+        }
         Effect::Notified(_, peer, note, _, reason) => {
-            write_notified(out, names, peer, note, *reason)
+            write_notified(out, names, peer, note, known, *reason)
         }
         _ => Ok(()),
     }
@@ -100,50 +108,67 @@ pub(crate) fn write_effect_log(
 
 /// The sender and the content of an item, `?` where there is none.
 #[tactic(auto, unfolding(crate::specs::Blocks::item_text))]
-fn write_item(out: &mut Vec<u8>, names: &Names, item: Option<&Effect>) -> Result<(), NoMemory>
+fn write_item(
+    out: &mut Vec<u8>,
+    names: &Names,
+    item: Option<&Effect>,
+    known: Option<&Digested>,
+) -> Result<(), NoMemory>
     ensures { OnOk result (out.new.items
         ≡ out.old.items ++ item_text names.now (option_copied item.entry)) }
 {
     match item {
-        Some(Effect::Arrived(_, peer, note)) => write_peer_signal(out, names, peer, note),
-        Some(Effect::Found(_, peer, note, _)) => write_peer_signal(out, names, peer, note),
-        Some(Effect::Notified(_, peer, note, _, _)) => write_peer_signal(out, names, peer, note),
+        Some(Effect::Arrived(_, peer, note)) => { write_peer_signal(out, names, peer, note, known) }
+        Some(Effect::Found(_, peer, note, _)) => {
+            write_peer_signal(out, names, peer, note, known)
+        }
+        Some(Effect::Notified(_, peer, note, _, _)) => {
+            write_peer_signal(out, names, peer, note, known)
+        }
         _ => write_bytes(out, b"?"),
     }
 }
 
-fn write_took(out: &mut Vec<u8>, names: &Names, item: Option<&Effect>) -> Result<(), NoMemory>
+fn write_took(
+    out: &mut Vec<u8>,
+    names: &Names,
+    item: Option<&Effect>,
+    known: Option<&Digested>,
+) -> Result<(), NoMemory>
     ensures { OnOk result (out.new.items ≡ out.old.items
         ++ (codes "took " ++ item_text names.now (option_copied item.entry) ++ codes "\n")) }
 {
     write_bytes(out, b"took ")?;
-    write_item(out, names, item)?;
+    write_item(out, names, item, known)?;
     write_bytes(out, b"\n")
 }
 
-/// The line that a head makes in the log of its maker's endpoint.
+/// The line that the head of the step at a position makes in the log of its maker's endpoint.
 #[tactic(auto, unfolding(crate::specs::Blocks::head_log))]
 pub(crate) fn write_head_log(
     out: &mut Vec<u8>,
     journal: &Journal,
+    digests: &Digests,
+    position: u64,
     head: &Head,
 ) -> Result<(), NoMemory>
     ensures { OnOk result (out.new.items ≡ out.old.items
         ++ head_log journal.now.log.names journal.now.log.steps head.now) }
 {
     let names = journal.names();
+    let known = digests.of_head(position);
     match head {
         Head::Send(peer, note, answer) => {
-            write_sending(out, names, b"sent ", peer, note, *answer)?;
+            write_sending(out, names, b"sent ", peer, note, known, *answer)?;
             write_bytes(out, b"\n")
         }
-        Head::Take(_, at) => write_took(out, names, item_at(journal, *at)),
+        Head::Take(_, at) => { write_took(out, names, item_at(journal, *at), digests.of_item(*at)) }
         Head::TakeNone(_) => write_bytes(out, b"none\n"),
         Head::Hunt(path, note) => {
-            write_hunt(out, names, path, note)?;
+            write_hunt(out, names, path, note, known)?;
             write_bytes(out, b"\n")
         }
-        Head::Attach(peer, note) => write_item_line(out, names, b"attach ", peer, note),
+        Head::Attach(peer, note) => { write_item_line(out, names, b"attach ", peer, note, known) }
         Head::Detach(_, answer) => {
             write_bytes(out, b"detach ")?;
             write_detached(out, *answer)?;

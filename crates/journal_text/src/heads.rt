@@ -5,6 +5,7 @@ ghost use Rattle.journal_text.specs.Values.{position_text, path_text, signal_tex
 ghost use Rattle.journal_text.specs.Values.{side_text, verdict_text, sent_text, detached_text};
 ghost use Rattle.journal_text.specs.Steps.{head_text};
 
+use crate::digests::Digested;
 use crate::digits::write_bytes;
 use crate::peers::{write_link, write_node, write_peer_signal, write_signal};
 use crate::words::{
@@ -22,6 +23,7 @@ pub(crate) fn write_sending(
     word: &[u8],
     peer: &Peer,
     note: &SigNote,
+    known: Option<&Digested>,
     answer: SentTo,
 ) -> Result<(), NoMemory>
     ensures { OnOk result (out.new.items ≡ out.old.items
@@ -29,7 +31,7 @@ pub(crate) fn write_sending(
         ++ sent_text answer)) }
 {
     write_bytes(out, word)?;
-    write_peer_signal(out, names, peer, note)?;
+    write_peer_signal(out, names, peer, note, known)?;
     write_bytes(out, b" ")?;
     write_sent(out, answer)
 }
@@ -58,6 +60,7 @@ pub(crate) fn write_hunt(
     names: &Names,
     path: &Path,
     note: &SigNote,
+    known: Option<&Digested>,
 ) -> Result<(), NoMemory>
     ensures { OnOk result (out.new.items ≡ out.old.items
         ++ (codes "hunt " ++ path_text names.now path.now ++ codes " " ++ signal_text note.now)) }
@@ -65,7 +68,7 @@ pub(crate) fn write_hunt(
     write_bytes(out, b"hunt ")?;
     write_path(out, names, path)?;
     write_bytes(out, b" ")?;
-    write_signal(out, note)
+    write_signal(out, note, known)
 }
 
 /// A word, a peer and a signal.
@@ -75,12 +78,13 @@ pub(crate) fn write_word_and_signal(
     word: &[u8],
     peer: &Peer,
     note: &SigNote,
+    known: Option<&Digested>,
 ) -> Result<(), NoMemory>
     ensures { OnOk result (out.new.items ≡ out.old.items
         ++ (word.now ++ peer_signal_text names.now peer.now note.now)) }
 {
     write_bytes(out, word)?;
-    write_peer_signal(out, names, peer, note)
+    write_peer_signal(out, names, peer, note, known)
 }
 
 fn write_detach(out: &mut Vec<u8>, reference: AttRef, answer: Detached) -> Result<(), NoMemory>
@@ -140,7 +144,12 @@ fn write_wire(
 }
 
 #[tactic(auto, unfolding(crate::specs::Steps::head_text))]
-pub(crate) fn write_head(out: &mut Vec<u8>, names: &Names, head: &Head) -> Result<(), NoMemory>
+pub(crate) fn write_head(
+    out: &mut Vec<u8>,
+    names: &Names,
+    head: &Head,
+    known: Option<&Digested>,
+) -> Result<(), NoMemory>
     ensures { OnOk result (out.new.items ≡ out.old.items ++ head_text names.now head.now) }
 {
     match head {
@@ -149,12 +158,16 @@ pub(crate) fn write_head(out: &mut Vec<u8>, names: &Names, head: &Head) -> Resul
             write_bytes(out, name.bytes())
         }
         Head::Close => write_bytes(out, b"close"),
-        Head::Send(peer, note, answer) => write_sending(out, names, b"send ", peer, note, *answer),
+        Head::Send(peer, note, answer) => {
+            write_sending(out, names, b"send ", peer, note, known, *answer)
+        }
         Head::Take(filter, at) => write_take(out, filter, *at),
         Head::TakeNone(filter) => write_look(out, b"none ", filter),
         Head::Waits(filter) => write_look(out, b"waits ", filter),
-        Head::Hunt(path, note) => write_hunt(out, names, path, note),
-        Head::Attach(peer, note) => write_word_and_signal(out, names, b"attach ", peer, note),
+        Head::Hunt(path, note) => write_hunt(out, names, path, note, known),
+        Head::Attach(peer, note) => {
+            write_word_and_signal(out, names, b"attach ", peer, note, known)
+        }
         Head::Detach(reference, answer) => write_detach(out, *reference, *answer),
         Head::Cut(link) => write_word_and_link(out, names, b"cut ", *link),
         Head::Mend(link) => write_word_and_link(out, names, b"mend ", *link),

@@ -6,6 +6,7 @@
 
 mod all_logs;
 mod collecting;
+mod digests;
 mod digits;
 mod effects;
 mod entries;

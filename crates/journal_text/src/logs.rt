@@ -6,6 +6,7 @@ ghost use Rattle.journal.specs.History.{opens, name_in, opening_name};
 ghost use Rattle.journal_text.specs.Blocks.{if_for, effect_logs, head_log, concerned, effect_log};
 ghost use Rattle.journal_text.specs.Blocks.{log_lines, log_text};
 
+use crate::digests::Digests;
 use crate::entries::{concerns, write_effect_log, write_head_log, write_title};
 use crate::owners::Owners;
 use crate::reading::step_after;
@@ -64,7 +65,7 @@ fn write_if_concerned(
         ++ if_for inc (concerned effect.now) (effect_log names.now effect.now)) }
 {
     match concerns(effect) {
-        Some(at) if inc.0 == at.0 => write_effect_log(out, names, effect),
+        Some(at) if inc.0 == at.0 => write_effect_log(out, names, effect, None),
         _ => Ok(()),
     }
 }
@@ -83,12 +84,15 @@ fn write_effect_logs(
     Ok(())
 }
 
-/// The lines of a step in the log of the incarnation; `owner` is the endpoint of the step's maker.
+/// The lines of the step at a position in the log of the incarnation; `owner` is the endpoint of
+/// its maker.
 fn write_step_log(
     out: &mut Vec<u8>,
     journal: &Journal,
+    digests: &Digests,
     inc: Inc,
     owner: Option<Inc>,
+    position: u64,
     step: &Step,
 ) -> Result<(), NoMemory>
     ensures { OnOk result (out.new.items ≡ out.old.items
@@ -96,7 +100,7 @@ fn write_step_log(
         ++ effect_logs journal.now.log.names inc step.now.effects)) }
 {
     if owner.is_some_and(|at| inc.0 == at.0) {
-        write_head_log(out, journal, &step.head)?;
+        write_head_log(out, journal, digests, position, &step.head)?;
     }
     write_effect_logs(out, journal.names(), inc, step.effects.as_slice())
 }
@@ -110,10 +114,12 @@ fn write_log_lines(
     ensures { OnOk result (out.new.items ≡ out.old.items
         ++ log_lines journal.now.log.names journal.now.log.steps journal.now.log.steps inc) }
 {
+    let digests = Digests::none(alloc);
     let mut owners = Owners::new(alloc);
     for done in 0..journal.len() {
         let step = step_after(journal, done);
-        write_step_log(out, journal, inc, owners.endpoint(step.by), step)?;
+        let owner = owners.endpoint(step.by);
+        write_step_log(out, journal, &digests, inc, owner, done + 1, step)?;
         owners.note(step)?;
     }
     Ok(())

@@ -4,6 +4,7 @@ ghost use Rattle.std.specs.Option.{option_copied};
 ghost use Rattle.journal_text.specs.Values.{halves_text, nth_name, name_or_mark, node_text};
 ghost use Rattle.journal_text.specs.Values.{link_text, peer_text, signal_text, peer_signal_text};
 
+use crate::digests::Digested;
 use crate::digits::{write_bytes, write_data, write_number};
 use linx_base::{LinkNo, Name, NameList, Names, NoMemory, NodeNo, Peer, SigNote};
 
@@ -69,12 +70,16 @@ pub(crate) fn write_peer(out: &mut Vec<u8>, names: &Names, peer: &Peer) -> Resul
 }
 
 #[tactic(auto, unfolding(crate::specs::Values::signal_text))]
-pub(crate) fn write_signal(out: &mut Vec<u8>, note: &SigNote) -> Result<(), NoMemory>
+pub(crate) fn write_signal(
+    out: &mut Vec<u8>,
+    note: &SigNote,
+    known: Option<&Digested>,
+) -> Result<(), NoMemory>
     ensures { OnOk result (out.new.items ≡ out.old.items ++ signal_text note.now) }
 {
     write_number(out, note.number as u64)?;
     write_bytes(out, b" ")?;
-    write_data(out, note.bytes.bytes())
+    write_data(out, &note.bytes, known)
 }
 
 #[tactic(auto, unfolding(crate::specs::Values::peer_signal_text))]
@@ -83,11 +88,12 @@ pub(crate) fn write_peer_signal(
     names: &Names,
     peer: &Peer,
     note: &SigNote,
+    known: Option<&Digested>,
 ) -> Result<(), NoMemory>
     ensures { OnOk result (out.new.items
         ≡ out.old.items ++ peer_signal_text names.now peer.now note.now) }
 {
     write_peer(out, names, peer)?;
     write_bytes(out, b" ")?;
-    write_signal(out, note)
+    write_signal(out, note, known)
 }

@@ -4,6 +4,7 @@ ghost use Rattle.journal_text.specs.Values.{maker_text};
 ghost use Rattle.journal_text.specs.Steps.{head_text, step_text, step_text_at};
 ghost use Rattle.journal_text.specs.Text.{count_text};
 
+use crate::digests::{Digested, Digests};
 use crate::digits::{write_bytes, write_number};
 use crate::effects::write_effects;
 use crate::heads::write_head;
@@ -21,6 +22,7 @@ fn write_first_line(
     position: u64,
     by: By,
     head: &Head,
+    known: Option<&Digested>,
 ) -> Result<(), NoMemory>
     ensures { OnOk result (out.new.items ≡ out.old.items
         ++ (decimal position ++ codes " " ++ maker_text by ++ codes " "
@@ -31,7 +33,7 @@ fn write_first_line(
     write_bytes(out, b" ")?;
     write_maker(out, by)?;
     write_bytes(out, b" ")?;
-    write_head(out, names, head)?;
+    write_head(out, names, head, known)?;
     write_bytes(out, b"\n")
 }
 
@@ -39,13 +41,15 @@ fn write_first_line(
 pub(crate) fn write_lines(
     out: &mut Vec<u8>,
     names: &Names,
+    digests: &Digests,
     position: u64,
     step: &Step,
 ) -> Result<(), NoMemory>
     ensures { OnOk result (out.new.items ≡ out.old.items ++ step_text names.now position step.now) }
 {
-    write_first_line(out, names, position, step.by, &step.head)?;
-    write_effects(out, names, step.effects.as_slice())
+    let known = digests.of_head(position);
+    write_first_line(out, names, position, step.by, &step.head, known)?;
+    write_effects(out, names, digests, position, step.effects.as_slice())
 }
 
 /// Appends the lines of the step at position k, from 1; nothing where k is no position. A refusal
@@ -57,8 +61,9 @@ pub fn write_step(out: &mut Vec<u8>, journal: &Journal, k: u64) -> Result<(), No
     let Some(step) = journal.step(k) else {
         return Ok(());
     };
-    let mut lines = Vec::with_capacity(*out.allocator(), LINES_ROOM)?;
-    write_lines(&mut lines, journal.names(), k, step)?;
+    let alloc = *out.allocator();
+    let mut lines = Vec::with_capacity(alloc, LINES_ROOM)?;
+    write_lines(&mut lines, journal.names(), &Digests::none(alloc), k, step)?;
     out.extend_from_slice(&lines)?;
     Ok(())
 }

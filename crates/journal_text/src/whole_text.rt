@@ -2,20 +2,21 @@
 ghost use Rattle.std.specs.Prelude.{◌≡◌, ◌++◌, OnOk, IfOk};
 ghost use Rattle.journal_text.specs.Text.{steps_text, text_of};
 
-use crate::all_logs::write_logs;
+use crate::all_logs::write_logs_with;
+use crate::digests::Digests;
 use crate::reading::step_after;
 use crate::steps::{write_count, write_lines};
 use journal::Journal;
 use linx_base::NoMemory;
 use std::alloc::Global;
 
-fn write_steps(out: &mut Vec<u8>, journal: &Journal) -> Result<(), NoMemory>
+fn write_steps(out: &mut Vec<u8>, journal: &Journal, digests: &Digests) -> Result<(), NoMemory>
     ensures { OnOk result (out.new.items ≡ out.old.items
         ++ steps_text journal.now.log.names journal.now.log.steps) }
 {
     for done in 0..journal.len() {
         let step = step_after(journal, done);
-        write_lines(out, journal.names(), done + 1, step)?;
+        write_lines(out, journal.names(), digests, done + 1, step)?;
     }
     Ok(())
 }
@@ -29,8 +30,9 @@ pub fn text(alloc: Global, journal: &Journal) -> Result<Vec<u8>, NoMemory>
     if journal.is_empty() {
         return Ok(printed);
     }
-    write_logs(&mut printed, journal)?;
+    let digests = Digests::of(alloc, journal)?;
+    write_logs_with(&mut printed, journal, &digests)?;
     write_count(&mut printed, journal)?;
-    write_steps(&mut printed, journal)?;
+    write_steps(&mut printed, journal, &digests)?;
     Ok(printed)
 }

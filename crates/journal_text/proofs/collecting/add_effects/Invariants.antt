@@ -4,7 +4,7 @@ use Rattle.journal_text.specs.Blocks.{effect_logs}
 use Rattle.journal_text.proofs.collecting.add_effects.Given as goal
 
 -- the effects so far have their lines
-abbrev pub invariant-loop-effect : goal.invariant-loop-effect
-invariant-loop-effect l = (q : ℕ) → kept l.lines q
+abbrev pub invariant-loop-index : goal.invariant-loop-index
+invariant-loop-index l = (q : ℕ) → kept l.lines q
     ≡ kept l.initial.lines q ++ effect_logs l.names (record { 0 = q })
-    (take l.effect-index l.effects)
+    (take l.index l.effects)

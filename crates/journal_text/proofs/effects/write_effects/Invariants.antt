@@ -3,7 +3,7 @@ use Rattle.journal_text.specs.Steps.{effect_line}
 use Rattle.journal_text.proofs.effects.write_effects.Given as goal
 
 -- the effects so far have their lines
-abbrev pub invariant-loop-effect : goal.invariant-loop-effect
-invariant-loop-effect l =
+abbrev pub invariant-loop-index : goal.invariant-loop-index
+invariant-loop-index l =
     l.out.items ≡ l.initial.out.items
-    ++ flat_map (effect_line l.names) (take l.effect-index l.effects)
+    ++ flat_map (effect_line l.names) (take l.index l.effects)

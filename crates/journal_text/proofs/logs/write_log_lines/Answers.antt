@@ -22,9 +22,9 @@ loop-done-preserved c =
     let s : Step = c.step_after-step.result.now in (
       subst (λ (R : List Step). Tracks R c.note.new.self) (sym c.step_after-step.ensures.next)
           (c.in_ok-note.ensures P c.loop-done.invariant.0),
-      log_lines_more c.args.journal.now.log.names S P Q c.args.inc s c.endpoint.result
+      log_lines_more c.args.journal.now.log.names S P Q c.args.inc s c.endpoint-owner.result
           c.args.out.now.items
           c.loop-done.out.items c.write_step_log.new.out.items c.step_after-step.ensures.next
-          (c.endpoint.ensures P c.loop-done.invariant.0) c.loop-done.invariant.1
+          (c.endpoint-owner.ensures P c.loop-done.invariant.0) c.loop-done.invariant.1
           c.in_ok-write_step_log.ensures,
     )
