@@ -1,0 +1,4 @@
+pub mod Lists
+pub mod Sayings
+pub mod Lookups
+pub mod Changes

@@ -1,0 +1,4 @@
+pub mod Sayings
+pub mod Records
+pub mod Changes
+pub mod Trunks

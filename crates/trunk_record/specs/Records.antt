@@ -1,0 +1,59 @@
+-- The record of a side of a link, session by session, and how a session is looked up in it.
+use Rattle.std.specs.Prelude.{Bool, ◌==◌, List, [], ◌∷◌, Option, Some, None}
+use Rattle.linx_base.specs.FirstMatch.{first_match}
+use Rattle.linx_base.specs.declared.identity.Session.{Session}
+use Rattle.trunk_record.specs.Sayings.{Given, Said}
+
+-- one session of a side: its number, the session of the other side that it went up with, if it did,
+-- and what the side said and was given in it, the newest first
+pub record SessionRecord : Type 0 where
+  pub session : Session
+  pub peer : Option Session
+  pub said : List Said
+  pub given : List Given
+
+-- a side: its present session, and the earlier ones, the newest first
+pub record SideRecord : Type 0 where
+  pub now : SessionRecord
+  pub earlier : List SessionRecord
+
+-- all its sessions
+abbrev pub all : SideRecord → List SessionRecord
+all A = A.now ∷ A.earlier
+
+-- the entry is that of this session
+abbrev pub has_session : Session → SessionRecord → Bool
+has_session x e = e.session.0 == x.0
+
+-- what stands in an entry, and nothing where there is none
+abbrev pub peer_of : Option SessionRecord → Option Session
+peer_of None = None
+peer_of (Some e) = e.peer
+
+abbrev pub said_of : Option SessionRecord → List Said
+said_of None = []
+said_of (Some e) = e.said
+
+abbrev pub given_of : Option SessionRecord → List Given
+given_of None = []
+given_of (Some e) = e.given
+
+-- the peer of a side in a session, what it said and what it was given there; nothing in a session
+-- that it never had
+abbrev pub peer_in : SideRecord → Session → Option Session
+peer_in A x = peer_of (first_match (has_session x) (all A))
+
+abbrev pub said_in : SideRecord → Session → List Said
+said_in A x = said_of (first_match (has_session x) (all A))
+
+abbrev pub given_in : SideRecord → Session → List Given
+given_in A x = given_of (first_match (has_session x) (all A))
+
+-- a session, if it has a peer
+abbrev pub session_if : Option Session → Session → Option Session
+session_if None x = None
+session_if (Some y) x = Some x
+
+-- the session of a side that is up
+abbrev pub up_in : SideRecord → Option Session
+up_in A = session_if A.now.peer A.now.session
