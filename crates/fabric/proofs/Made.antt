@@ -52,7 +52,7 @@ use Rattle.fabric.specs.Looks.{after_take, with_take}
 use Rattle.fabric.specs.Machine.{FitsEvent, head_of, is_at_rest, look, signal_in, step_with}
 use Rattle.fabric.specs.Machine.{vain_look, is_link_event, answer_with, with_step}
 use Rattle.fabric.specs.Remains.{IsWellKept, node_left, standing_left}
-use Rattle.fabric.specs.Standings.{Makes}
+use Rattle.fabric.specs.Standings.{GrantIsMade}
 use Rattle.fabric.proofs.Came.{item-came}
 use Rattle.fabric.proofs.Effects.{OnlyItems, only-arrivals, only-attached, only-founds, only-hunted}
 use Rattle.fabric.proofs.Effects.{only-none, only-notices}
@@ -192,7 +192,7 @@ module _ {shape : Shape} {log : Log} {kernels : List NodeState} {standings : Lis
         } ∷ P;
       }
       → IsWellKept shape new (slice_set kernels home next) (slice_set standings place then)
-      × Makes shape P actor (record { event = asks.Open name; hand = None })
+      × GrantIsMade shape P actor (record { event = asks.Open name; hand = None })
       (answers.Opened (next_of kernel)) new.steps
   made-open name none named kernel next is next_eq standing then stands then_eq new new_eq =
       let k_is : kernel ≡ old = kernel-is at kernel is in
@@ -307,7 +307,8 @@ module _ {shape : Shape} {log : Log} {kernels : List NodeState} {standings : Lis
             { by = Actor actor; head = heads.Close; effects = closing j kernel.attaches } ∷ P;
       }
       → IsWellKept shape new (slice_set kernels home next) (slice_set standings place then)
-      × Makes shape P actor (record { event = asks.Close; hand = None }) answers.Closed new.steps
+      × GrantIsMade shape P actor (record { event = asks.Close; hand = None }) answers.Closed
+      new.steps
   made-close j mine kernel next is next_eq standing then step stands then_eq new counted new_eq =
       let legal : IsLegalStep shape P (step_by heads.Close) =
       legal-of asks.Close (signal_in None) 0
@@ -330,7 +331,7 @@ module _ {shape : Shape} {log : Log} {kernels : List NodeState} {standings : Lis
             { by = Actor actor; head = heads.Ended; effects = closing j kernel.attaches } ∷ P;
       }
       → IsWellKept shape new (slice_set kernels home next) (slice_set standings place then)
-      × Makes shape P actor (record { event = asks.End; hand = None }) answers.Done new.steps
+      × GrantIsMade shape P actor (record { event = asks.End; hand = None }) answers.Done new.steps
   made-end_open j mine kernel next is next_eq standing then step stands then_eq new counted new_eq =
       let legal : IsLegalStep shape P (step_by heads.Ended) =
       legal-of asks.End (signal_in None) 0
@@ -393,7 +394,7 @@ module _ {shape : Shape} {log : Log} {kernels : List NodeState} {standings : Lis
             P;
       }
       → IsWellKept shape new (slice_set kernels home next) (slice_set standings place then)
-      × Makes shape P actor (record { event = asks.Send q; hand = Some note })
+      × GrantIsMade shape P actor (record { event = asks.Send q; hand = Some note })
       (answers.Sent (send_answer (is_living kernel q) q)) new.steps
   made-send j q note mine bounded kernel next is next_eq standing then stands then_eq new new_eq =
       let k_is : kernel ≡ old = kernel-is at kernel is in
@@ -446,7 +447,7 @@ module _ {shape : Shape} {log : Log} {kernels : List NodeState} {standings : Lis
         } ∷ P;
       }
       → IsWellKept shape new (slice_set kernels home next) (slice_set standings place then)
-      × Makes shape P actor (record { event = asks.Hunt path; hand = Some note })
+      × GrantIsMade shape P actor (record { event = asks.Hunt path; hand = Some note })
       (answers.Hunted number) new.steps
   made-hunt j path note number mine bounded counted kernel next is next_eq standing then stands
       then_eq new new_eq =
@@ -502,7 +503,7 @@ module _ {shape : Shape} {log : Log} {kernels : List NodeState} {standings : Lis
         } ∷ P;
       }
       → IsWellKept shape new (slice_set kernels home next) (slice_set standings place then)
-      × Makes shape P actor (record { event = asks.Attach q; hand = Some note })
+      × GrantIsMade shape P actor (record { event = asks.Attach q; hand = Some note })
       (answers.Attached r) new.steps
   made-attach j q note r mine bounded counted kernel next is next_eq standing then stands then_eq
       new new_eq =
@@ -561,7 +562,7 @@ module _ {shape : Shape} {log : Log} {kernels : List NodeState} {standings : Lis
             { by = Actor actor; head = heads.Detach r (detached kernel j r); effects = [] } ∷ P;
       }
       → IsWellKept shape new (slice_set kernels home next) (slice_set standings place then)
-      × Makes shape P actor (record { event = asks.Detach r; hand = None })
+      × GrantIsMade shape P actor (record { event = asks.Detach r; hand = None })
       (answers.Detached (detached kernel j r)) new.steps
   made-detach j r mine kernel next is next_eq standing then stands then_eq new new_eq =
       let k_is : kernel ≡ old = kernel-is at kernel is in
@@ -609,7 +610,7 @@ module _ {shape : Shape} {log : Log} {kernels : List NodeState} {standings : Lis
       → (new : Log) → new ≡ record log
       { steps = with_take (Actor actor) f (first_selected f (items_at kernel.endpoints j)) P }
       → IsWellKept shape new (slice_set kernels home next) (slice_set standings place then)
-      × Makes shape P actor (record { event = asks.Look f; hand = None })
+      × GrantIsMade shape P actor (record { event = asks.Look f; hand = None })
       (answers.Took item) new.steps
   made-take j f item mine kernel next is selected next_eq standing then stands then_eq new new_eq =
       let k_is : kernel ≡ old = kernel-is at kernel is in
@@ -695,7 +696,7 @@ module _ {shape : Shape} {log : Log} {kernels : List NodeState} {standings : Lis
       → first_selected f (queue_of P me) ≡ None
       → new ≡ with_step P (step_with shape P (Actor actor) (vain_look rest waits f))
       → answer ≡ answer_with P (step_with shape P (Actor actor) (vain_look rest waits f))
-      → Makes shape P actor (record { event = asks.Look f; hand = None }) answer new
+      → GrantIsMade shape P actor (record { event = asks.Look f; hand = None }) answer new
   vain-made f answer new rest waits rest_is waits_is none new_eq answer_eq =
       let looked : look shape P actor f
       (first_selected f (queue_of P me)) ≡ vain_look rest waits f =
@@ -717,7 +718,8 @@ module _ {shape : Shape} {log : Log} {kernels : List NodeState} {standings : Lis
       → (new : Log) → new ≡ record log
       { steps = record { by = Actor actor; head = heads.TakeNone f; effects = [] } ∷ P }
       → IsWellKept shape new kernels (slice_set standings place then)
-      × Makes shape P actor (record { event = asks.Look f; hand = None }) answers.Nothing new.steps
+      × GrantIsMade shape P actor (record { event = asks.Look f; hand = None }) answers.Nothing
+      new.steps
   made-find_none f owns none rest standing then stands then_eq new new_eq =
       let both = quiet-kept (heads.TakeNone f) refl at.home_is refl
       (vain-legal f owns true (is_some (waits_with P actor)) rest refl none)
@@ -737,7 +739,8 @@ module _ {shape : Shape} {log : Log} {kernels : List NodeState} {standings : Lis
       → (new : Log) → new ≡ record log
       { steps = record { by = Actor actor; head = heads.Waits f; effects = [] } ∷ P }
       → IsWellKept shape new kernels (slice_set standings place then)
-      × Makes shape P actor (record { event = asks.Look f; hand = None }) answers.NotYet new.steps
+      × GrantIsMade shape P actor (record { event = asks.Look f; hand = None }) answers.NotYet
+      new.steps
   made-wait f owns none busy first standing then stands then_eq new new_eq =
       let waits_not : is_some (waits_with P actor) ≡ false = ap is_some first in
       let both = quiet-kept (heads.Waits f) refl at.home_is refl
@@ -755,7 +758,7 @@ module _ {shape : Shape} {log : Log} {kernels : List NodeState} {standings : Lis
       → (new : Log) → new ≡ record log
       { steps = record { by = Actor actor; head = heads.Refused reason; effects = [] } ∷ P }
       → IsWellKept shape new kernels (slice_set standings place then)
-      × Makes shape P actor (refused reason) (answers.Refused reason) new.steps
+      × GrantIsMade shape P actor (refused reason) (answers.Refused reason) new.steps
   made-refuse reason standing then stands then_eq new new_eq =
       let both = quiet-kept (heads.Refused reason) refl at.home_is refl
       (refused-legal shape P actor maker unlinked reason)
@@ -772,7 +775,7 @@ module _ {shape : Shape} {log : Log} {kernels : List NodeState} {standings : Lis
       → (new : Log) → new ≡ record log
       { steps = record { by = Actor actor; head = heads.Ended; effects = [] } ∷ P }
       → IsWellKept shape new kernels (slice_set standings place then)
-      × Makes shape P actor (record { event = asks.End; hand = None }) answers.Done new.steps
+      × GrantIsMade shape P actor (record { event = asks.End; hand = None }) answers.Done new.steps
   made-end_closed none standing then stands then_eq new new_eq =
       let legal : IsLegalStep shape P (step_by heads.Ended) =
       legal-of asks.End (signal_in None) 0

@@ -25,7 +25,7 @@ use Rattle.node_kernel.specs.Nodes.{NodeState, endpoint_limit, is_open, items_at
 use Rattle.fabric.specs.declared.standing.Standing.{Standing}
 use Rattle.fabric.specs.Remains.{IsKept, IsNode, IsWellKept, Layout, actor_limit, endpoint_left}
 use Rattle.fabric.specs.Remains.{node_left, standing_left}
-use Rattle.fabric.specs.Standings.{Makes, vain_with}
+use Rattle.fabric.specs.Standings.{GrantIsMade, vain_with}
 use Rattle.fabric.proofs.Nodes.{own-is_open, own-items}
 
 -- a list read at a place
@@ -168,10 +168,10 @@ module _ {shape : Shape} {log : Log} {kernels : List NodeState} {standings : Lis
     back F x = subst F (sym seen.view) x
 
     pub makes-seen : {k : ℕ} {ask : Ask} {answer : StepAnswer} {after : List Step}
-        → Makes shape log.steps k ask answer after
-        → Makes value.shape value.log.steps k ask answer after
+        → GrantIsMade shape log.steps k ask answer after
+        → GrantIsMade value.shape value.log.steps k ask answer after
     makes-seen {k = k} {ask = ask} {answer = answer} {after = after} made =
-        subst (λ (l : Layout). Makes l.shape l.log.steps k ask answer after) seen.view made
+        subst (λ (l : Layout). GrantIsMade l.shape l.log.steps k ask answer after) seen.view made
 
     pub endpoint-seen : (k : ℕ) (e : Option Inc) → endpoint_of value.log.steps k ≡ e
         → endpoint_of log.steps k ≡ e

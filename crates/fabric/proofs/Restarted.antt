@@ -24,7 +24,7 @@ use Rattle.fabric.specs.declared.standing.Standing.{Standing}
 use Rattle.fabric.specs.Machine.{signal_in}
 use Rattle.fabric.specs.Remains.{AreStandingsLeft, IsKept, IsWellKept, endpoint_left, node_left}
 use Rattle.fabric.specs.Remains.{standing_left}
-use Rattle.fabric.specs.Standings.{Makes, past_effects}
+use Rattle.fabric.specs.Standings.{GrantIsMade, past_effects}
 use Rattle.fabric.proofs.Kept.{get-set, get-set-other, kept-next, kernels-next, length-set}
 use Rattle.fabric.proofs.Kept.{living-none}
 use Rattle.fabric.proofs.Legal.{granted-legal}
@@ -171,7 +171,8 @@ module _ {shape : Shape} {log : Log} {kernels : List NodeState} {standings : Lis
         } ∷ Q;
       }
       → IsWellKept shape new (slice_set kernels home next) (slice_set lost place then)
-      × Makes shape Q actor (record { event = asks.Restart n; hand = None }) answers.Done new.steps
+      × GrantIsMade shape Q actor (record { event = asks.Restart n; hand = None }) answers.Done
+      new.steps
   made-restart kernel next is next_eq lost lost_eq standing then stands then_eq new new_eq =
       let past : Standing → Standing = past_effects (suc (length Q)) restarted.effects in
       let es_are = effects_are kernel is in

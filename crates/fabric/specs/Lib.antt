@@ -1,4 +1,5 @@
 pub mod Remains
 pub mod Machine
 pub mod Standings
+pub mod Actings
 pub mod Looks

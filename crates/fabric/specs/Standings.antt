@@ -39,7 +39,7 @@ vain_with k (Some filter) None = false
 vain_with k None me = false
 
 -- what is granted to actor k is made: its step, if there is one, and the answer
-pub record Makes (shape : Shape) (P : List Step) (k : ℕ) (ask : Ask) (answer : StepAnswer)
+pub record GrantIsMade (shape : Shape) (P : List Step) (k : ℕ) (ask : Ask) (answer : StepAnswer)
     (after : List Step) : Type 0 where
   pub steps : after ≡ with_step P (granted_step shape P k ask)
   pub answered : answer ≡ answer_with P (granted_step shape P k ask)

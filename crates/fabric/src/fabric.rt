@@ -10,6 +10,7 @@ ghost use Rattle.journal.specs.Rest.{is_idle, leaves_at_rest, queue_of, waits_wi
 ghost use Rattle.journal.specs.Shapes.{node_by};
 ghost use Rattle.node_kernel.specs.Answers.{granted, refused};
 ghost use Rattle.fabric.specs.Standings.{empty_nodes, fresh, unless_refused};
+ghost use Rattle.fabric.specs.Actings.{HasMade, LeavesAll, MayAct, OnlySteps, asking};
 ghost use Rattle.fabric.specs.Machine.{MayAsk, all_have_ended, answer_to, is_at_rest, steps_after};
 
 use crate::granting::refusal_of;
@@ -77,7 +78,6 @@ fn standings_of(alloc: Global, count: usize) -> Result<Vec<Standing>, NoMemory>
 
 impl Fabric {
     ghost use Rattle.fabric.specs.Remains.{IsLaidOut};
-    ghost use Rattle.fabric.specs.Standings.{Makes};
 
     /// A fabric without steps: its nodes and links have these names, and each actor is on one of
     /// the nodes. As yet there is no link.
@@ -252,8 +252,7 @@ impl Fabric {
         ensures ok { OnOk result (self.new.log.steps
             ≡ steps_after self.old.shape self.old.log.steps by
             (record { event = event; hand = hand })) }
-        ensures fixed { self.new ≡ record self.old
-            { log = record self.old.log { steps = self.new.log.steps } } }
+        ensures fixed { OnlySteps self.old self.new }
         ensures full { is_full self.old.log.steps ≡ true
             → result ≡ Err (record { cause = StopCause.JournalFull; hand = hand }) }
         ensures full_only { IfErr result (λ stop. stop.cause ≡ StopCause.JournalFull
@@ -291,18 +290,12 @@ impl Fabric {
         event: Event,
         hand: Option<Signal>,
     ) -> Result<StepAnswer, StepStop>
-        requires asked { MayAsk (length self.old.log.names.nodes) self.old.shape self.old.log.steps
-            (By.Actor actor) (record { event = event; hand = hand }) }
+        requires asked { MayAct self.old actor (asking event hand) }
         requires short { length self.old.log.steps < 200000 }
-        ensures ok { IfOk result (λ answer. Makes self.old.shape self.old.log.steps actor
-            (granted self.old.log.steps actor (record { event = event; hand = hand })) answer
-            self.new.log.steps) }
-        ensures fixed { self.new ≡ record self.old
-            { log = record self.old.log { steps = self.new.log.steps } } }
-        ensures err { IfErr result (λ stop. (stop ≡ record {
-          cause = StopCause.NoMemory;
-          hand = hand;
-        }) × (self.new ≡ self.old)) }
+        ensures ok { IfOk result (HasMade self.old self.new actor
+            (granted self.old.log.steps actor (asking event hand))) }
+        ensures fixed { OnlySteps self.old self.new }
+        ensures err { IfErr result (LeavesAll self.old self.new hand) }
     {
         match self.refusal_of(actor, &event) {
             Some(reason) => self.refuse(actor, reason, hand),
@@ -317,19 +310,13 @@ impl Fabric {
         event: Event,
         hand: Option<Signal>,
     ) -> Result<StepAnswer, StepStop>
-        requires asked { MayAsk (length self.old.log.names.nodes) self.old.shape self.old.log.steps
-            (By.Actor actor) (record { event = event; hand = hand }) }
+        requires asked { MayAct self.old actor (asking event hand) }
         requires granted { granted self.old.log.steps actor (record { event = event; hand = hand })
             ≡ record { event = event; hand = hand } }
         requires short { length self.old.log.steps < 200000 }
-        ensures ok { IfOk result (λ answer. Makes self.old.shape self.old.log.steps actor
-            (record { event = event; hand = hand }) answer self.new.log.steps) }
-        ensures fixed { self.new ≡ record self.old
-            { log = record self.old.log { steps = self.new.log.steps } } }
-        ensures err { IfErr result (λ stop. (stop ≡ record {
-          cause = StopCause.NoMemory;
-          hand = hand;
-        }) × (self.new ≡ self.old)) }
+        ensures ok { IfOk result (HasMade self.old self.new actor (asking event hand)) }
+        ensures fixed { OnlySteps self.old self.new }
+        ensures err { IfErr result (LeavesAll self.old self.new hand) }
     {
         match event {
             Event::Open(name) => self.open(actor, name),
@@ -357,18 +344,12 @@ impl Fabric {
 
     /// An opening.
     fn open(&mut self, actor: u32, name: Name) -> Result<StepAnswer, StepStop>
-        requires asked { MayAsk (length self.old.log.names.nodes) self.old.shape self.old.log.steps
-            (By.Actor actor) (record { event = Event.Open name; hand = None }) }
+        requires asked { MayAct self.old actor (asking (Event.Open name) None) }
         requires granted { endpoint_of self.old.log.steps actor ≡ None }
         requires short { length self.old.log.steps < 200000 }
-        ensures ok { IfOk result (λ answer. Makes self.old.shape self.old.log.steps actor
-            (record { event = Event.Open name; hand = None }) answer self.new.log.steps) }
-        ensures fixed { self.new ≡ record self.old
-            { log = record self.old.log { steps = self.new.log.steps } } }
-        ensures err { IfErr result (λ stop. (stop ≡ record {
-          cause = StopCause.NoMemory;
-          hand = None;
-        }) × (self.new ≡ self.old)) }
+        ensures ok { IfOk result (HasMade self.old self.new actor (asking (Event.Open name) None)) }
+        ensures fixed { OnlySteps self.old self.new }
+        ensures err { IfErr result (LeavesAll self.old self.new None) }
     {
         let place = self.kernel_of(actor);
         let by = By::Actor(actor);
@@ -383,18 +364,12 @@ impl Fabric {
 
     /// A closing.
     fn close(&mut self, actor: u32) -> Result<StepAnswer, StepStop>
-        requires asked { MayAsk (length self.old.log.names.nodes) self.old.shape self.old.log.steps
-            (By.Actor actor) (record { event = Event.Close; hand = None }) }
+        requires asked { MayAct self.old actor (asking Event.Close None) }
         requires granted { IsSome (endpoint_of self.old.log.steps actor) }
         requires short { length self.old.log.steps < 200000 }
-        ensures ok { IfOk result (λ answer. Makes self.old.shape self.old.log.steps actor
-            (record { event = Event.Close; hand = None }) answer self.new.log.steps) }
-        ensures fixed { self.new ≡ record self.old
-            { log = record self.old.log { steps = self.new.log.steps } } }
-        ensures err { IfErr result (λ stop. (stop ≡ record {
-          cause = StopCause.NoMemory;
-          hand = None;
-        }) × (self.new ≡ self.old)) }
+        ensures ok { IfOk result (HasMade self.old self.new actor (asking Event.Close None)) }
+        ensures fixed { OnlySteps self.old self.new }
+        ensures err { IfErr result (LeavesAll self.old self.new None) }
     {
         let Some(at) = self.endpoint_of(actor) else {
             unreachable!()
@@ -419,18 +394,13 @@ impl Fabric {
 
     /// A send.
     fn send(&mut self, actor: u32, to: Peer, signal: Signal) -> Result<StepAnswer, StepStop>
-        requires asked { MayAsk (length self.old.log.names.nodes) self.old.shape self.old.log.steps
-            (By.Actor actor) (record { event = Event.Send to; hand = Some signal }) }
+        requires asked { MayAct self.old actor (asking (Event.Send to) (Some signal)) }
         requires granted { IsSome (endpoint_of self.old.log.steps actor) }
         requires short { length self.old.log.steps < 200000 }
-        ensures ok { IfOk result (λ answer. Makes self.old.shape self.old.log.steps actor
-            (record { event = Event.Send to; hand = Some signal }) answer self.new.log.steps) }
-        ensures fixed { self.new ≡ record self.old
-            { log = record self.old.log { steps = self.new.log.steps } } }
-        ensures err { IfErr result (λ stop. (stop ≡ record {
-          cause = StopCause.NoMemory;
-          hand = Some signal;
-        }) × (self.new ≡ self.old)) }
+        ensures ok { IfOk result (HasMade self.old self.new actor
+            (asking (Event.Send to) (Some signal))) }
+        ensures fixed { OnlySteps self.old self.new }
+        ensures err { IfErr result (LeavesAll self.old self.new (Some signal)) }
     {
         let Some(at) = self.endpoint_of(actor) else {
             unreachable!()
@@ -456,18 +426,13 @@ impl Fabric {
 
     /// A look.
     fn look(&mut self, actor: u32, filter: Sigsel) -> Result<StepAnswer, StepStop>
-        requires asked { MayAsk (length self.old.log.names.nodes) self.old.shape self.old.log.steps
-            (By.Actor actor) (record { event = Event.Look filter; hand = None }) }
+        requires asked { MayAct self.old actor (asking (Event.Look filter) None) }
         requires granted { IsSome (endpoint_of self.old.log.steps actor) }
         requires short { length self.old.log.steps < 200000 }
-        ensures ok { IfOk result (λ answer. Makes self.old.shape self.old.log.steps actor
-            (record { event = Event.Look filter; hand = None }) answer self.new.log.steps) }
-        ensures fixed { self.new ≡ record self.old
-            { log = record self.old.log { steps = self.new.log.steps } } }
-        ensures err { IfErr result (λ stop. (stop ≡ record {
-          cause = StopCause.NoMemory;
-          hand = None;
-        }) × (self.new ≡ self.old)) }
+        ensures ok { IfOk result (HasMade self.old self.new actor
+            (asking (Event.Look filter) None)) }
+        ensures fixed { OnlySteps self.old self.new }
+        ensures err { IfErr result (LeavesAll self.old self.new None) }
     {
         let Some(at) = self.endpoint_of(actor) else {
             unreachable!()
@@ -493,20 +458,15 @@ impl Fabric {
 
     /// A look with nothing selected.
     fn look_in_vain(&mut self, actor: u32, filter: Sigsel) -> Result<StepAnswer, StepStop>
-        requires asked { MayAsk (length self.old.log.names.nodes) self.old.shape self.old.log.steps
-            (By.Actor actor) (record { event = Event.Look filter; hand = None }) }
+        requires asked { MayAct self.old actor (asking (Event.Look filter) None) }
         requires granted { IsSome (endpoint_of self.old.log.steps actor) }
         requires vain { first_selected filter (queue_of self.old.log.steps
             (endpoint_of self.old.log.steps actor)) ≡ None }
         requires short { length self.old.log.steps < 200000 }
-        ensures ok { IfOk result (λ answer. Makes self.old.shape self.old.log.steps actor
-            (record { event = Event.Look filter; hand = None }) answer self.new.log.steps) }
-        ensures fixed { self.new ≡ record self.old
-            { log = record self.old.log { steps = self.new.log.steps } } }
-        ensures err { IfErr result (λ stop. (stop ≡ record {
-          cause = StopCause.NoMemory;
-          hand = None;
-        }) × (self.new ≡ self.old)) }
+        ensures ok { IfOk result (HasMade self.old self.new actor
+            (asking (Event.Look filter) None)) }
+        ensures fixed { OnlySteps self.old self.new }
+        ensures err { IfErr result (LeavesAll self.old self.new None) }
     {
         if self.is_rest(actor) {
             return self.find_none(actor, filter);
@@ -519,21 +479,16 @@ impl Fabric {
 
     /// A look with nothing selected, at rest.
     fn find_none(&mut self, actor: u32, filter: Sigsel) -> Result<StepAnswer, StepStop>
-        requires asked { MayAsk (length self.old.log.names.nodes) self.old.shape self.old.log.steps
-            (By.Actor actor) (record { event = Event.Look filter; hand = None }) }
+        requires asked { MayAct self.old actor (asking (Event.Look filter) None) }
         requires granted { IsSome (endpoint_of self.old.log.steps actor) }
         requires vain { first_selected filter (queue_of self.old.log.steps
             (endpoint_of self.old.log.steps actor)) ≡ None }
         requires rest { is_at_rest self.old.shape self.old.log.steps actor ≡ true }
         requires short { length self.old.log.steps < 200000 }
-        ensures ok { IfOk result (λ answer. Makes self.old.shape self.old.log.steps actor
-            (record { event = Event.Look filter; hand = None }) answer self.new.log.steps) }
-        ensures fixed { self.new ≡ record self.old
-            { log = record self.old.log { steps = self.new.log.steps } } }
-        ensures err { IfErr result (λ stop. (stop ≡ record {
-          cause = StopCause.NoMemory;
-          hand = None;
-        }) × (self.new ≡ self.old)) }
+        ensures ok { IfOk result (HasMade self.old self.new actor
+            (asking (Event.Look filter) None)) }
+        ensures fixed { OnlySteps self.old self.new }
+        ensures err { IfErr result (LeavesAll self.old self.new None) }
     {
         let by = By::Actor(actor);
         match make_quiet(self.alloc, &mut self.journal, by, Head::TakeNone(filter)) {
@@ -547,22 +502,17 @@ impl Fabric {
 
     /// The first look with nothing selected, not at rest.
     fn wait(&mut self, actor: u32, filter: Sigsel) -> Result<StepAnswer, StepStop>
-        requires asked { MayAsk (length self.old.log.names.nodes) self.old.shape self.old.log.steps
-            (By.Actor actor) (record { event = Event.Look filter; hand = None }) }
+        requires asked { MayAct self.old actor (asking (Event.Look filter) None) }
         requires granted { IsSome (endpoint_of self.old.log.steps actor) }
         requires vain { first_selected filter (queue_of self.old.log.steps
             (endpoint_of self.old.log.steps actor)) ≡ None }
         requires busy { is_at_rest self.old.shape self.old.log.steps actor ≡ false }
         requires first { waits_with self.old.log.steps actor ≡ None }
         requires short { length self.old.log.steps < 200000 }
-        ensures ok { IfOk result (λ answer. Makes self.old.shape self.old.log.steps actor
-            (record { event = Event.Look filter; hand = None }) answer self.new.log.steps) }
-        ensures fixed { self.new ≡ record self.old
-            { log = record self.old.log { steps = self.new.log.steps } } }
-        ensures err { IfErr result (λ stop. (stop ≡ record {
-          cause = StopCause.NoMemory;
-          hand = None;
-        }) × (self.new ≡ self.old)) }
+        ensures ok { IfOk result (HasMade self.old self.new actor
+            (asking (Event.Look filter) None)) }
+        ensures fixed { OnlySteps self.old self.new }
+        ensures err { IfErr result (LeavesAll self.old self.new None) }
     {
         let by = By::Actor(actor);
         match make_wait(self.alloc, &mut self.journal, by, filter) {
@@ -576,18 +526,13 @@ impl Fabric {
 
     /// A hunt.
     fn hunt(&mut self, actor: u32, path: Path, signal: Signal) -> Result<StepAnswer, StepStop>
-        requires asked { MayAsk (length self.old.log.names.nodes) self.old.shape self.old.log.steps
-            (By.Actor actor) (record { event = Event.Hunt path; hand = Some signal }) }
+        requires asked { MayAct self.old actor (asking (Event.Hunt path) (Some signal)) }
         requires granted { IsSome (endpoint_of self.old.log.steps actor) }
         requires short { length self.old.log.steps < 200000 }
-        ensures ok { IfOk result (λ answer. Makes self.old.shape self.old.log.steps actor
-            (record { event = Event.Hunt path; hand = Some signal }) answer self.new.log.steps) }
-        ensures fixed { self.new ≡ record self.old
-            { log = record self.old.log { steps = self.new.log.steps } } }
-        ensures err { IfErr result (λ stop. (stop ≡ record {
-          cause = StopCause.NoMemory;
-          hand = Some signal;
-        }) × (self.new ≡ self.old)) }
+        ensures ok { IfOk result (HasMade self.old self.new actor
+            (asking (Event.Hunt path) (Some signal))) }
+        ensures fixed { OnlySteps self.old self.new }
+        ensures err { IfErr result (LeavesAll self.old self.new (Some signal)) }
     {
         let Some(at) = self.endpoint_of(actor) else {
             unreachable!()
@@ -612,18 +557,13 @@ impl Fabric {
 
     /// An attach.
     fn attach(&mut self, actor: u32, peer: Peer, signal: Signal) -> Result<StepAnswer, StepStop>
-        requires asked { MayAsk (length self.old.log.names.nodes) self.old.shape self.old.log.steps
-            (By.Actor actor) (record { event = Event.Attach peer; hand = Some signal }) }
+        requires asked { MayAct self.old actor (asking (Event.Attach peer) (Some signal)) }
         requires granted { IsSome (endpoint_of self.old.log.steps actor) }
         requires short { length self.old.log.steps < 200000 }
-        ensures ok { IfOk result (λ answer. Makes self.old.shape self.old.log.steps actor
-            (record { event = Event.Attach peer; hand = Some signal }) answer self.new.log.steps) }
-        ensures fixed { self.new ≡ record self.old
-            { log = record self.old.log { steps = self.new.log.steps } } }
-        ensures err { IfErr result (λ stop. (stop ≡ record {
-          cause = StopCause.NoMemory;
-          hand = Some signal;
-        }) × (self.new ≡ self.old)) }
+        ensures ok { IfOk result (HasMade self.old self.new actor
+            (asking (Event.Attach peer) (Some signal))) }
+        ensures fixed { OnlySteps self.old self.new }
+        ensures err { IfErr result (LeavesAll self.old self.new (Some signal)) }
     {
         let Some(at) = self.endpoint_of(actor) else {
             unreachable!()
@@ -648,18 +588,12 @@ impl Fabric {
 
     /// A detach.
     fn detach(&mut self, actor: u32, r: AttRef) -> Result<StepAnswer, StepStop>
-        requires asked { MayAsk (length self.old.log.names.nodes) self.old.shape self.old.log.steps
-            (By.Actor actor) (record { event = Event.Detach r; hand = None }) }
+        requires asked { MayAct self.old actor (asking (Event.Detach r) None) }
         requires granted { IsSome (endpoint_of self.old.log.steps actor) }
         requires short { length self.old.log.steps < 200000 }
-        ensures ok { IfOk result (λ answer. Makes self.old.shape self.old.log.steps actor
-            (record { event = Event.Detach r; hand = None }) answer self.new.log.steps) }
-        ensures fixed { self.new ≡ record self.old
-            { log = record self.old.log { steps = self.new.log.steps } } }
-        ensures err { IfErr result (λ stop. (stop ≡ record {
-          cause = StopCause.NoMemory;
-          hand = None;
-        }) × (self.new ≡ self.old)) }
+        ensures ok { IfOk result (HasMade self.old self.new actor (asking (Event.Detach r) None)) }
+        ensures fixed { OnlySteps self.old self.new }
+        ensures err { IfErr result (LeavesAll self.old self.new None) }
     {
         let Some(at) = self.endpoint_of(actor) else {
             unreachable!()
@@ -684,17 +618,12 @@ impl Fabric {
 
     /// A restart of a node, which may be another than the actor's.
     fn restart(&mut self, actor: u32, node: NodeNo) -> Result<StepAnswer, StepStop>
-        requires asked { MayAsk (length self.old.log.names.nodes) self.old.shape self.old.log.steps
-            (By.Actor actor) (record { event = Event.Restart node; hand = None }) }
+        requires asked { MayAct self.old actor (asking (Event.Restart node) None) }
         requires short { length self.old.log.steps < 200000 }
-        ensures ok { IfOk result (λ answer. Makes self.old.shape self.old.log.steps actor
-            (record { event = Event.Restart node; hand = None }) answer self.new.log.steps) }
-        ensures fixed { self.new ≡ record self.old
-            { log = record self.old.log { steps = self.new.log.steps } } }
-        ensures err { IfErr result (λ stop. (stop ≡ record {
-          cause = StopCause.NoMemory;
-          hand = None;
-        }) × (self.new ≡ self.old)) }
+        ensures ok { IfOk result (HasMade self.old self.new actor
+            (asking (Event.Restart node) None)) }
+        ensures fixed { OnlySteps self.old self.new }
+        ensures err { IfErr result (LeavesAll self.old self.new None) }
     {
         let made = make_restart(
             &mut self.journal,
@@ -721,14 +650,9 @@ impl Fabric {
     ) -> Result<StepAnswer, StepStop>
         requires maker { IsMaker self.old.shape self.old.log.steps (By.Actor actor) }
         requires short { length self.old.log.steps < 200000 }
-        ensures ok { IfOk result (λ answer. Makes self.old.shape self.old.log.steps actor
-            (refused reason) answer self.new.log.steps) }
-        ensures fixed { self.new ≡ record self.old
-            { log = record self.old.log { steps = self.new.log.steps } } }
-        ensures err { IfErr result (λ stop. (stop ≡ record {
-          cause = StopCause.NoMemory;
-          hand = hand;
-        }) × (self.new ≡ self.old)) }
+        ensures ok { IfOk result (HasMade self.old self.new actor (refused reason)) }
+        ensures fixed { OnlySteps self.old self.new }
+        ensures err { IfErr result (LeavesAll self.old self.new hand) }
     {
         let by = By::Actor(actor);
         match make_quiet(self.alloc, &mut self.journal, by, Head::Refused(reason)) {
@@ -742,17 +666,11 @@ impl Fabric {
 
     /// The end of an actor.
     fn end(&mut self, actor: u32) -> Result<StepAnswer, StepStop>
-        requires asked { MayAsk (length self.old.log.names.nodes) self.old.shape self.old.log.steps
-            (By.Actor actor) (record { event = Event.End; hand = None }) }
+        requires asked { MayAct self.old actor (asking Event.End None) }
         requires short { length self.old.log.steps < 200000 }
-        ensures ok { IfOk result (λ answer. Makes self.old.shape self.old.log.steps actor
-            (record { event = Event.End; hand = None }) answer self.new.log.steps) }
-        ensures fixed { self.new ≡ record self.old
-            { log = record self.old.log { steps = self.new.log.steps } } }
-        ensures err { IfErr result (λ stop. (stop ≡ record {
-          cause = StopCause.NoMemory;
-          hand = None;
-        }) × (self.new ≡ self.old)) }
+        ensures ok { IfOk result (HasMade self.old self.new actor (asking Event.End None)) }
+        ensures fixed { OnlySteps self.old self.new }
+        ensures err { IfErr result (LeavesAll self.old self.new None) }
     {
         match self.endpoint_of(actor) {
             Some(at) => self.end_open(actor, at),
@@ -762,18 +680,12 @@ impl Fabric {
 
     /// The end of an actor whose endpoint is open.
     fn end_open(&mut self, actor: u32, at: Inc) -> Result<StepAnswer, StepStop>
-        requires asked { MayAsk (length self.old.log.names.nodes) self.old.shape self.old.log.steps
-            (By.Actor actor) (record { event = Event.End; hand = None }) }
+        requires asked { MayAct self.old actor (asking Event.End None) }
         requires granted { endpoint_of self.old.log.steps actor ≡ Some at }
         requires short { length self.old.log.steps < 200000 }
-        ensures ok { IfOk result (λ answer. Makes self.old.shape self.old.log.steps actor
-            (record { event = Event.End; hand = None }) answer self.new.log.steps) }
-        ensures fixed { self.new ≡ record self.old
-            { log = record self.old.log { steps = self.new.log.steps } } }
-        ensures err { IfErr result (λ stop. (stop ≡ record {
-          cause = StopCause.NoMemory;
-          hand = None;
-        }) × (self.new ≡ self.old)) }
+        ensures ok { IfOk result (HasMade self.old self.new actor (asking Event.End None)) }
+        ensures fixed { OnlySteps self.old self.new }
+        ensures err { IfErr result (LeavesAll self.old self.new None) }
     {
         let place = self.kernel_of(actor);
         let made = make_close(
@@ -797,18 +709,12 @@ impl Fabric {
 
     /// The end of an actor that has no endpoint.
     fn end_closed(&mut self, actor: u32) -> Result<StepAnswer, StepStop>
-        requires asked { MayAsk (length self.old.log.names.nodes) self.old.shape self.old.log.steps
-            (By.Actor actor) (record { event = Event.End; hand = None }) }
+        requires asked { MayAct self.old actor (asking Event.End None) }
         requires granted { endpoint_of self.old.log.steps actor ≡ None }
         requires short { length self.old.log.steps < 200000 }
-        ensures ok { IfOk result (λ answer. Makes self.old.shape self.old.log.steps actor
-            (record { event = Event.End; hand = None }) answer self.new.log.steps) }
-        ensures fixed { self.new ≡ record self.old
-            { log = record self.old.log { steps = self.new.log.steps } } }
-        ensures err { IfErr result (λ stop. (stop ≡ record {
-          cause = StopCause.NoMemory;
-          hand = None;
-        }) × (self.new ≡ self.old)) }
+        ensures ok { IfOk result (HasMade self.old self.new actor (asking Event.End None)) }
+        ensures fixed { OnlySteps self.old self.new }
+        ensures err { IfErr result (LeavesAll self.old self.new None) }
     {
         let by = By::Actor(actor);
         match make_quiet(self.alloc, &mut self.journal, by, Head::Ended) {
