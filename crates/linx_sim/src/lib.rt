@@ -18,6 +18,8 @@ pub use serving::{run, serial};
 pub use told::Told;
 
 #[cfg(test)]
+mod ring;
+#[cfg(test)]
 mod rows;
 #[cfg(test)]
 mod tests;

@@ -7,18 +7,16 @@ ghost use Rattle.linx_sim.specs.Runs.{IsBuilt};
 
 use crate::outcome::{Outcome, Status};
 use crate::program::program;
+use crate::rows::{SELF_SEND, outcome_under};
 use crate::serving;
 use crate::told::tell;
 use crate::words::words_behind_name;
-use itoa::Buffer;
 use linx_outside::{MemSink, MemSource, OpenGate, PlainSource};
 use std::alloc::Global;
 use std::env::{Env, FillError};
 use std::process::{ExitCode, Termination};
 use std::sync::Wait;
 use std::test::Fail;
-
-const SCRIPT: &[u8] = b"node n\nactor p n\nopen a\nsend self 5\nrecv any\nclose\nend\n";
 
 const A_LINK: &[u8] = b"node n\nnode m\nlink l n m\nactor p n\nopen a\nclose\nend\n";
 
@@ -30,10 +28,6 @@ const LARGE_SENDS: &[u8] =
 
 const MOST_COMMANDS: &[u8] =
     b"node n\nactor p n\nopen a\nrepeat 9998\nsend self 5\nrecv any\nend\nclose\nend\n";
-
-const TEXT: &str = "log 1.1 a n\nsent 1.1 5 - queued\narrived 1.1 5 -\ntook 1.1 5 -\nclosed\n\
-    journal 5\n1 A1 open a\n+ opened 1.1\n2 A1 send 1.1 5 - queued\n+ arrived 1.1 1.1 5 -\n\
-    3 A1 take any 2.1\n4 A1 close\n+ closed 1.1\n5 A1 ended\n";
 
 // A run over memory ends as it should, whatever the script that can be run.
 fn run_in_memory(alloc: Global, source: &mut PlainSource, sink: &mut MemSink) -> Outcome
@@ -51,20 +45,11 @@ fn outcome_of(alloc: Global, script: &[u8], sink: &mut MemSink) -> Result<Outcom
 }
 
 #[test]
-fn self_send_and_receive(rt: HostRuntime) -> Result<(), Fail> {
-    let alloc = rt.alloc();
-    let mut sink = MemSink::new(alloc, 10, 4096, Vec::new(alloc))?;
-    assert_eq!(rt; outcome_of(alloc, SCRIPT, &mut sink)?.status, Status::Done);
-    assert!(rt; sink.held() == TEXT.as_bytes());
-    Ok(())
-}
-
-#[test]
 fn write_that_fails(rt: HostRuntime) -> Result<(), Fail> {
     let alloc = rt.alloc();
     let mut sink = MemSink::new(alloc, 10, 4096, Vec::from_slice(alloc, &[2u64])?)?;
     assert_eq!(rt;
-        outcome_of(alloc, SCRIPT, &mut sink)?.status,
+        outcome_of(alloc, SELF_SEND.0.as_bytes(), &mut sink)?.status,
         Status::WriteFault
     );
     assert!(rt; sink.held() == b"log 1.1 a ".as_slice());
@@ -74,7 +59,7 @@ fn write_that_fails(rt: HostRuntime) -> Result<(), Fail> {
 #[test]
 fn read_that_fails(rt: HostRuntime) -> Result<(), Fail> {
     let alloc = rt.alloc();
-    let bytes = Vec::from_slice(alloc, SCRIPT)?;
+    let bytes = Vec::from_slice(alloc, SELF_SEND.0.as_bytes())?;
     let mut source = MemSource::new(bytes, 4, Vec::from_slice(alloc, &[2u64])?);
     let mut sink = MemSink::new(alloc, 10, 4096, Vec::new(alloc))?;
     let outcome = serving::serial(alloc, &mut source, &mut sink);
@@ -97,71 +82,48 @@ fn scripts_with_links_are_not_run(rt: HostRuntime) -> Result<(), Fail> {
     Ok(())
 }
 
-#[test]
-fn scripts_without_actors_print_nothing(rt: HostRuntime) -> Result<(), Fail> {
-    let alloc = rt.alloc();
-    for script in [b"".as_slice(), b"node n"] {
-        let mut sink = MemSink::new(alloc, 10, 4096, Vec::new(alloc))?;
-        let outcome = outcome_of(alloc, script, &mut sink)?;
-        assert_eq!(rt; outcome.status, Status::Done);
-        assert!(rt; outcome.journal.is_empty() && sink.held().is_empty());
-    }
-    Ok(())
-}
-
-// A script of so many actors, each of which opens an endpoint and sends itself signals.
-fn senders(alloc: Global, nodes: u32, actors: u32, sends: u32) -> Result<Vec<u8>, Fail>
-    requires { 0 < nodes }
-{
-    let mut script = Vec::new(alloc);
-    let mut digits = Buffer::new();
-    for node in 0..nodes {
-        script.extend_from_slice(b"node n")?;
-        script.extend_from_slice(digits.format(node).as_bytes())?;
-        script.push(b'\n')?;
-    }
-    for actor in 0..actors {
-        script.extend_from_slice(b"actor p")?;
-        script.extend_from_slice(digits.format(actor).as_bytes())?;
-        script.extend_from_slice(b" n")?;
-        script.extend_from_slice(digits.format(actor % nodes).as_bytes())?;
-        script.extend_from_slice(b"\nopen a\nrepeat ")?;
-        script.extend_from_slice(digits.format(sends).as_bytes())?;
-        script.extend_from_slice(b"\nsend self 1\nend\nend\n")?;
+// One node, and eleven actors that send themselves more signals than a journal takes.
+fn eleven_senders(alloc: Global) -> Result<Vec<u8>, Fail> {
+    let mut script = Vec::from_slice(alloc, b"node n\n")?;
+    for name in b"abcdefghijk" {
+        script.extend_from_slice(b"actor ")?;
+        script.push(*name)?;
+        script.extend_from_slice(b" n\nopen a\nrepeat 19990\nsend self 1\nend\nend\n")?;
     }
     Ok(script)
 }
 
+// Whether eleven senders fill the journal under a word, so that nothing is written.
+fn fill_the_journal<R: Wait>(rt: &R, alloc: Global, word: &str) -> Result<bool, Fail> {
+    let script = eleven_senders(alloc)?;
+    let mut sink = MemSink::new(alloc, 10, 4096, Vec::new(alloc))?;
+    let outcome = outcome_under(rt, alloc, &[word], &script, &mut sink)?;
+    let full = outcome.status == Status::JournalFull && outcome.journal.len() == 200_000;
+    Ok(full && sink.held().is_empty())
+}
+
 #[test]
 fn eleven_actors_fill_the_journal(rt: HostRuntime) -> Result<(), Fail> {
-    let alloc = rt.alloc();
-    let script = senders(alloc, 1, 11, 19_990)?;
-    let mut sink = MemSink::new(alloc, 10, 4096, Vec::new(alloc))?;
-    let outcome = outcome_of(alloc, &script, &mut sink)?;
-    assert_eq!(rt; outcome.status, Status::JournalFull);
-    assert_eq!(rt; outcome.journal.len(), 200_000);
-    assert!(rt; sink.held().is_empty());
+    assert!(rt; fill_the_journal(&rt, rt.alloc(), "run")?);
     Ok(())
 }
 
 #[test]
-fn as_many_nodes_and_actors_as_a_script_may_have(rt: HostRuntime) -> Result<(), Fail> {
-    let alloc = rt.alloc();
-    let script = senders(alloc, 16, 64, 3)?;
-    let mut sink = MemSink::new(alloc, 4096, 65_536, Vec::new(alloc))?;
-    let outcome = outcome_of(alloc, &script, &mut sink)?;
-    assert_eq!(rt; outcome.status, Status::Done);
-    assert_eq!(rt; outcome.journal.len(), 320);
+fn eleven_actors_fill_the_journal_in_the_fixed_order(rt: HostRuntime) -> Result<(), Fail> {
+    assert!(rt; fill_the_journal(&rt, rt.alloc(), "serial")?);
     Ok(())
 }
 
 #[test]
 fn bad_line_is_told(rt: HostRuntime) -> Result<(), Fail> {
     let alloc = rt.alloc();
-    let mut sink = MemSink::new(alloc, 10, 4096, Vec::new(alloc))?;
-    let outcome = outcome_of(alloc, b"node n\nnod m\n", &mut sink)?;
-    assert_eq!(rt; outcome.status, Status::Script { line: 2 });
-    assert!(rt; outcome.journal.is_empty() && sink.held().is_empty());
+    let rows: [(&[u8], u32); 2] = [(b"node n\nnod m\n", 2), (b"node n\nactor p n\nopen a", 3)];
+    for (script, line) in rows {
+        let mut sink = MemSink::new(alloc, 10, 4096, Vec::new(alloc))?;
+        let outcome = outcome_of(alloc, script, &mut sink)?;
+        assert_eq!(rt; outcome.status, Status::Script { line });
+        assert!(rt; outcome.journal.is_empty() && sink.held().is_empty());
+    }
     Ok(())
 }
 
@@ -190,24 +152,9 @@ fn as_many_commands_as_an_actor_may_have(rt: HostRuntime) -> Result<(), Fail> {
     Ok(())
 }
 
-fn status_for(rt: &impl Wait, alloc: Global, words: &[&str]) -> Result<Status, Fail> {
-    let mut owned = Vec::new(alloc);
-    for word in words {
-        owned.push(String::from_str(alloc, word)?)?;
-    }
-    let mut source = PlainSource::new(Vec::from_slice(alloc, SCRIPT)?);
+fn status_for<R: Wait>(rt: &R, alloc: Global, words: &[&str]) -> Result<Status, Fail> {
     let mut sink = MemSink::new(alloc, 10, 4096, Vec::new(alloc))?;
-    Ok(
-        serving::run(
-            rt,
-            alloc,
-            owned.as_slice(),
-            &mut source,
-            &mut sink,
-            &OpenGate,
-        )
-        .status,
-    )
+    Ok(outcome_under(rt, alloc, words, SELF_SEND.0.as_bytes(), &mut sink)?.status)
 }
 
 #[test]
@@ -319,9 +266,10 @@ fn the_whole_program(rt: HostRuntime) -> Result<(), Fail> {
     let alloc = rt.alloc();
     let run: [&[u8]; 2] = [b"linx_sim", b"run"];
     let usage = "linx_sim: usage: linx_sim run or serial\n";
-    assert!(rt; is_all(&rt, alloc, &run, SCRIPT, (0, TEXT, ""))?);
-    assert!(rt; is_all(&rt, alloc, &[b"linx_sim"], SCRIPT, (1, "", usage))?);
-    assert!(rt; is_all(&rt, alloc, &[b"linx_sim", b"\xff"], SCRIPT, (1, "", usage))?);
+    let script = SELF_SEND.0.as_bytes();
+    assert!(rt; is_all(&rt, alloc, &run, script, (0, SELF_SEND.1, ""))?);
+    assert!(rt; is_all(&rt, alloc, &[b"linx_sim"], script, (1, "", usage))?);
+    assert!(rt; is_all(&rt, alloc, &[b"linx_sim", b"\xff"], script, (1, "", usage))?);
     let bad_line = "linx_sim: script line 2\n";
     assert!(rt; is_all(&rt, alloc, &run, b"node n\nnode n\n", (2, "", bad_line))?);
     let not_built = "linx_sim: not built\n";
