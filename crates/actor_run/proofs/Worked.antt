@@ -9,7 +9,9 @@ use Rattle.linx_base.specs.declared.identity.Peer.{Peer}
 use Rattle.linx_base.specs.declared.identity.Peer.TheVariants.{Here, There}
 use Rattle.linx_base.specs.declared.item.Kind.TheVariants.{Plain}
 use Rattle.linx_base.specs.declared.signal.SigNote.{SigNote}
-use Rattle.sigsel.specs.declared.sigsel.Sigsel.TheVariants.{Any}
+use Rattle.linx_base.specs.declared.identity.LinkNo.{LinkNo}
+use Rattle.linx_base.specs.declared.name.Path.TheVariants.{Over}
+use Rattle.sigsel.specs.declared.sigsel.Sigsel.TheVariants.{Any, Not}
 use Rattle.journal.specs.declared.by.By.TheVariants.{Actor}
 use Rattle.journal.specs.declared.event.Event.{Event}
 use Rattle.journal.specs.declared.event.Event.TheVariants as asks
@@ -25,6 +27,9 @@ use Rattle.journal.specs.History.{has_ended}
 use Rattle.script_words.specs.declared.command.Command.{Command}
 use Rattle.script_words.specs.declared.command.Command.TheVariants.{Open, Close, Send, Forward}
 use Rattle.script_words.specs.declared.command.Command.TheVariants.{Recv, Attach, Detach, Keep}
+use Rattle.script_words.specs.declared.command.Command.TheVariants.{Hunt, Cut, Mend, Restart}
+use Rattle.script_words.specs.declared.command.Command.TheVariants.{Settle}
+use Rattle.script_words.specs.declared.filling.Filling.TheVariants.{Repeat}
 use Rattle.script_words.specs.declared.target.Target.TheVariants.{Me, Last, Kept}
 use Rattle.script_words.specs.Filling.{no_data}
 use Rattle.node_kernel.specs.Answers.{named, granted, is_end_event, is_waits, refused}
@@ -60,7 +65,49 @@ v = codes "v"
 abbrev r : List ℕ
 r = codes "r"
 
--- WHAT IS ASKED FOR. A forward without a buffer is refused for the buffer, whoever it is to
+-- WHAT EACH COMMAND ASKS FOR, of an actor that has an endpoint and made no other step
+abbrev asks_for : Command → Ask
+asks_for command = asked_by (command ∷ []) (knows_nothing (command ∷ [])) (Some one)
+
+abbrev link : LinkNo
+link = record { 0 = 1 }
+
+open_asks : asks_for (Open (codes "a")) ≡ bare (asks.Open (codes "a"))
+open_asks = refl
+
+close_asks : asks_for Close ≡ bare asks.Close
+close_asks = refl
+
+-- a fill stands for so many bytes
+send_asks : asks_for (Send Me 5 (Repeat 2 7)) ≡ with_hand (asks.Send (Here one)) (record {
+  number = 5;
+  bytes = 7 ∷ 7 ∷ [];
+})
+send_asks = refl
+
+receive_asks : asks_for (Recv (Not (8 ∷ []))) ≡ bare (asks.Look (Not (8 ∷ [])))
+receive_asks = refl
+
+hunt_asks : asks_for (Hunt (Over link (codes "b")) 5 no_data)
+    ≡ with_hand (asks.Hunt (Over link (codes "b"))) five
+hunt_asks = refl
+
+attach_asks : asks_for (Attach Me r 5 no_data) ≡ with_hand (asks.Attach (Here one)) five
+attach_asks = refl
+
+links_ask : (asks_for (Cut link) ≡ bare (asks.Cut link))
+    × ((asks_for (Mend link) ≡ bare (asks.Mend link))
+    × (asks_for (Settle link) ≡ bare (asks.Settle link)))
+links_ask = (refl, (refl, refl))
+
+restart_asks : asks_for (Restart (record { 0 = 2 })) ≡ bare (asks.Restart (record { 0 = 2 }))
+restart_asks = refl
+
+-- and after the last command comes the end
+end_asked : asked_by [] (knows_nothing []) (Some one) ≡ bare asks.End
+end_asked = refl
+
+-- WHAT IT LACKS. A forward without a buffer is refused for the buffer, whoever it is to
 abbrev forwards : List Command
 forwards = Forward (Kept v) ∷ Recv Any ∷ Forward (Kept v) ∷ Forward Last ∷ Forward Last ∷ []
 

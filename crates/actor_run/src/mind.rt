@@ -4,6 +4,7 @@ ghost use Rattle.std.specs.Option.{option_copied};
 ghost use Rattle.actor_run.specs.Asking.{ask_of, peer_of, ask_forward, asked_by, handed};
 ghost use Rattle.actor_run.specs.Asking.{is_forward, is_sending, fits_signal, AreRunnable};
 ghost use Rattle.actor_run.specs.Knowing.{knows_nothing, told, stopped_with, learned, passed};
+ghost use Rattle.actor_run.specs.Following.{endpoint_after};
 
 use crate::asks::{empty_handed, holding, refuse};
 use crate::bindings::Bindings;
@@ -15,6 +16,16 @@ use node_kernel::{Ask, StepAnswer};
 use script_lang::{ActorScript, Command, Target};
 use std::alloc::Global;
 use std::marker::Model;
+
+/// The endpoint that an actor opened last, after an answer.
+pub fn endpoint_after(me: Option<Inc>, answer: &StepAnswer) -> Option<Inc>
+    ensures { result ≡ endpoint_after me answer.now }
+{
+    match answer {
+        StepAnswer::Opened(inc) => Some(*inc),
+        _ => me,
+    }
+}
 
 /// What an actor knows of its own steps, and its place in its script.
 #[derive(Drop)]

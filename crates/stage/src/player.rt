@@ -2,7 +2,7 @@ ghost use Rattle.std.specs.Prelude.{◌≡◌, ◌<◌, ◌≤◌, true, false, 
 ghost use Rattle.std.specs.Prelude.{OnErr, IsErr};
 ghost use Rattle.journal.specs.Logs.{is_full};
 ghost use Rattle.actor_run.specs.Asking.{AreRunnable};
-ghost use Rattle.actor_run.specs.Following.{endpoint_after, next_ask, Playing};
+ghost use Rattle.actor_run.specs.Following.{next_ask, Playing};
 ghost use Rattle.fabric.specs.Machine.{answer_to, steps_after};
 ghost use Rattle.script_lang.specs.Fits.{IsScript};
 ghost use Rattle.stage.specs.Plays.{came_of};
@@ -10,7 +10,7 @@ ghost use Rattle.stage.specs.Turns.{commands_of, shape_of};
 ghost use Rattle.stage.specs.Seats.{IsSeated};
 
 use crate::stage::Turn;
-use actor_run::Mind;
+use actor_run::{Mind, endpoint_after};
 use fabric::{Fabric, StepStop, StopCause};
 use journal::By;
 use linx_base::Inc;
@@ -23,16 +23,6 @@ use std::alloc::Global;
 pub struct Player {
     pub(crate) mind: Mind,
     pub(crate) me: Option<Inc>,
-}
-
-/// The endpoint that an actor opened last, after an answer.
-fn endpoint_after(me: Option<Inc>, answer: &StepAnswer) -> Option<Inc>
-    ensures { result ≡ endpoint_after me answer.now }
-{
-    match answer {
-        StepAnswer::Opened(inc) => Some(*inc),
-        _ => me,
-    }
 }
 
 /// What came of a turn that was answered so.
