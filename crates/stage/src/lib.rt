@@ -10,3 +10,6 @@ mod stage;
 
 pub use player::Player;
 pub use stage::{Stage, Turn};
+
+#[cfg(test)]
+mod tests;
