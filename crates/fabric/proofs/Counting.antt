@@ -93,6 +93,7 @@ kept-new shape log kernels standings names laid_out log_is kernels_are standings
       kept = record {
         laid_out = laid_out;
         legal = tt;
+        reached = tt;
         nodes = length-empty_nodes (length names.nodes);
         actors = length-replicate (length shape.actors);
         kernels_left = nodes-left (length names.nodes);

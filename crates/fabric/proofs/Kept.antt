@@ -23,7 +23,7 @@ use Rattle.journal.specs.declared.head.Head.TheVariants.{Restart, Wire, Tick, Re
 use Rattle.journal.specs.Effects.{closing, closings, ending, held_elsewhere, hunts_for}
 use Rattle.journal.specs.History.{closes, endpoint_by, endpoint_of, is_by, is_lost, next_inc}
 use Rattle.journal.specs.History.{open_endpoints, opened_on}
-use Rattle.journal.specs.Laws.{IsLegal, IsLegalStep, effects_by}
+use Rattle.journal.specs.Laws.{IsLegal, effects_by}
 use Rattle.journal.specs.Living.{find, is_alive, living, living_after}
 use Rattle.journal.specs.Logs.{Log}
 use Rattle.journal.specs.Pending.{hunting, owed}
@@ -36,6 +36,7 @@ use Rattle.fabric.specs.Remains.{AreNodesLeft, AreStandingsLeft, IsKept, node_le
 use Rattle.fabric.proofs.Effects.{only-arrivals, only-attached, only-founds, only-hunted}
 use Rattle.fabric.proofs.Effects.{only-notices}
 use Rattle.fabric.proofs.Elsewhere.{changed_node, node_left-elsewhere}
+use Rattle.fabric.proofs.Legal.{IsNext}
 use Rattle.fabric.proofs.Standings.{standing-other, standing_past}
 
 -- the head restarts a node
@@ -281,17 +282,18 @@ module _ (shape : Shape) (P : List Step) (legal : IsLegal shape P) (short : IsSh
           ∙ standing-other (suc (length P)) s.head s.effects (standing_left P (suc n))
           (other-not_lost calm (suc n) apart (endpoint_of P (suc n)) refl)))
 
--- WHAT A FABRIC KEEPS over a legal step
+-- WHAT A FABRIC KEEPS over a step of the machine's
 pub kept-next : (shape : Shape) (log : Log) (kernels next_kernels : List NodeState)
     (standings next_standings : List Standing)
-    (s : Step) → IsKept shape log kernels standings → IsLegalStep shape log.steps s
+    (s : Step) → IsKept shape log kernels standings → IsNext shape log.steps s
     → length next_kernels ≡ length kernels → length next_standings ≡ length standings
     → AreNodesLeft (s ∷ log.steps) next_kernels → AreStandingsLeft (s ∷ log.steps) next_standings
     → IsKept shape (record log { steps = s ∷ log.steps }) next_kernels next_standings
-kept-next shape log kernels next_kernels standings next_standings s kept legal nodes actors left
+kept-next shape log kernels next_kernels standings next_standings s kept next nodes actors left
     stand = record {
       laid_out = kept.laid_out;
-      legal = (kept.legal, legal);
+      legal = (kept.legal, next.legal);
+      reached = (kept.reached, next.made);
       nodes = nodes ∙ kept.nodes;
       actors = actors ∙ kept.actors;
       kernels_left = left;

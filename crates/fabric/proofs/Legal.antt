@@ -1,7 +1,7 @@
--- The step that the machine makes is legal.
+-- The step that the machine makes is legal, and is the one that it makes of what the step names.
 use Rattle.std.proofs.Common.{◌≡◌, ◌≢◌, ℕ, zero, suc, ◌<◌, ◌≤◌, Bool, true, false, cond, ◌||◌, List}
 use Rattle.std.proofs.Common.{[], length, Option, Some, None, is_none, inl, inr, refl, sym, ◌∙◌}
-use Rattle.std.proofs.Common.{subst, arith}
+use Rattle.std.proofs.Common.{ap, subst, arith}
 use Rattle.std.specs.Prelude.{◌==◌, is_some}
 use Rattle.std.proofs.lemmas.Bool.{and_parts, eqb-true, or_cases, true≢false}
 use Rattle.linx_base.specs.Content.{data_limit}
@@ -25,9 +25,11 @@ use Rattle.journal.specs.Living.{is_alive}
 use Rattle.journal.specs.Rest.{leaves_at_rest, queue_of, waits_with}
 use Rattle.journal.specs.Shapes.{Shape, node_by}
 use Rattle.node_kernel.specs.declared.ask.Ask.{Ask}
-use Rattle.node_kernel.specs.Answers.{granted_by, is_opening as opens, needs_endpoint, refused}
-use Rattle.fabric.specs.Machine.{FitsEvent, all_leave_at_rest, granted_step, head_of, is_at_rest}
-use Rattle.fabric.specs.Machine.{is_link_event, look, signal_in, step_of, step_with, vain_look}
+use Rattle.node_kernel.specs.Answers.{event_of, granted_by, hand_of, is_opening as opens, named}
+use Rattle.node_kernel.specs.Answers.{needs_endpoint, refused}
+use Rattle.fabric.specs.Machine.{FitsEvent, IsMade, all_leave_at_rest, granted_step, head_of}
+use Rattle.fabric.specs.Machine.{is_at_rest, is_link_event, look, signal_in, step_of, step_with}
+use Rattle.fabric.specs.Machine.{vain_look}
 
 -- what the types of an event tell: its name is one, and its signal has at most 65,532 bytes
 abbrev pub IsNamedEvent : Event → Type 0
@@ -64,15 +66,74 @@ rest-others P k (suc n) other all above within different =
     in
     go (other == suc n) refl
 
--- a step, if there is one, is legal
+-- A STEP OF THE MACHINE'S is legal, and made of what it names
+pub record IsNext (shape : Shape) (P : List Step) (s : Step) : Type 0 where
+  pub legal : IsLegalStep shape P s
+  pub made : IsMade shape P s
+
+-- a step, if there is one, is such
 abbrev pub LegalIf : Shape → List Step → Option Step → Type 0
 LegalIf shape P None = Unit {0}
-LegalIf shape P (Some s) = IsLegalStep shape P s
+LegalIf shape P (Some s) = IsNext shape P s
 
 -- the event is one for an actor with this endpoint, or none
 pub record IsGranted (me : Option Inc) (event : Event) : Type 0 where
   pub opening : opens event ≡ true → is_none me ≡ true
   pub needing : needs_endpoint event ≡ true → is_some me ≡ true
+
+-- what such an event asks is done
+granted-is : (me : Option Inc) (at : ℕ) (ask : Ask) → IsGranted me ask.event
+    → granted_by me at ask ≡ ask
+granted-is None at ask g = go (needs_endpoint ask.event) refl
+  where
+    go : (b : Bool) → needs_endpoint ask.event ≡ b → cond b (refused (Refusal.NotOpen at)) ask ≡ ask
+    go true needs = absurd (true≢false (sym (g.needing needs)))
+    go false needs = refl
+granted-is (Some i) at ask g = go (opens ask.event) refl
+  where
+    go : (b : Bool) → opens ask.event ≡ b → cond b (refused (Refusal.IsOpen i)) ask ≡ ask
+    go true is = absurd (true≢false (sym (g.opening is)))
+    go false is = refl
+
+-- a head opens, and needs an endpoint, exactly where what it names does
+named-alike : (head : Head) → (opens (event_of head) ≡ is_opening head)
+    × (needs_endpoint (event_of head) ≡ is_endpoints head)
+named-alike (heads.Open name) = (refl, refl)
+named-alike heads.Close = (refl, refl)
+named-alike (heads.Send q note answer) = (refl, refl)
+named-alike (heads.Take f position) = (refl, refl)
+named-alike (heads.TakeNone f) = (refl, refl)
+named-alike (heads.Waits f) = (refl, refl)
+named-alike (heads.Hunt path note) = (refl, refl)
+named-alike (heads.Attach q note) = (refl, refl)
+named-alike (heads.Detach r answer) = (refl, refl)
+named-alike (heads.Cut link) = (refl, refl)
+named-alike (heads.Mend link) = (refl, refl)
+named-alike (heads.Settle link) = (refl, refl)
+named-alike (heads.Restart n) = (refl, refl)
+named-alike (heads.Wire link from verdict) = (refl, refl)
+named-alike (heads.Tick link side) = (refl, refl)
+named-alike (heads.Refused reason) = (refl, refl)
+named-alike heads.Ended = (refl, refl)
+
+-- the head is the one that the machine gives to what it names
+abbrev pub IsOfNamed : Shape → List Step → ℕ → Head → Type 0
+IsOfNamed shape P k head =
+    head_of shape P k (node_by shape (Actor k)) (endpoint_of P k) (event_of head)
+    (signal_in (hand_of head)) ≡ Some head
+
+-- so is its step
+pub made-of_named : (shape : Shape) (P : List Step) (k : ℕ) (head : Head)
+    → (is_opening head ≡ true → is_none (endpoint_of P k) ≡ true)
+    → (is_endpoints head ≡ true → is_some (endpoint_of P k) ≡ true) → IsOfNamed shape P k head
+    → step_of shape P (Actor k) (named head) ≡ step_with shape P (Actor k) (Some head)
+made-of_named shape P k head opens_one needs_one of_named =
+    ap (granted_step shape P k) (granted-is (endpoint_of P k) (closed_step P k) (named head)
+    (record {
+      opening = λ is. opens_one (sym (named-alike head).0 ∙ is);
+      needing = λ is. needs_one (sym (named-alike head).1 ∙ is);
+    }))
+    ∙ ap (step_with shape P (Actor k)) of_named
 
 module _ (shape : Shape) (P : List Step) (k : ℕ) (maker : IsMaker shape P (Actor k))
     (unlinked : shape.links ≡ []) where
@@ -93,16 +154,20 @@ module _ (shape : Shape) (P : List Step) (k : ℕ) (maker : IsMaker shape P (Act
     pub sends : KeepsSends P home head
     pub receives : KeepsReceives shape P home (Actor k) me head
     pub off_links : is_on_link head ≡ false
+    pub of_named : IsOfNamed shape P k head
 
   pub legal-made : (head : Head) → Keeps head → LegalIf shape P (made head)
   legal-made head keeps = record {
-    makers = record { maker = maker; may = refl };
-    endpoints = record { opens = keeps.opens_one; needs = keeps.needs_one };
-    bounds = keeps.bounds;
-    effects = refl;
-    sends = keeps.sends;
-    receives = keeps.receives;
-    unlinked = keeps.off_links;
+    legal = record {
+      makers = record { maker = maker; may = refl };
+      endpoints = record { opens = keeps.opens_one; needs = keeps.needs_one };
+      bounds = keeps.bounds;
+      effects = refl;
+      sends = keeps.sends;
+      receives = keeps.receives;
+      unlinked = keeps.off_links;
+    };
+    made = made-of_named shape P k head keeps.opens_one keeps.needs_one keeps.of_named;
   }
 
   vain : (f : Sigsel) → is_some me ≡ true → first_selected f (queue_of P me) ≡ None
@@ -123,6 +188,7 @@ module _ (shape : Shape) (P : List Step) (k : ℕ) (maker : IsMaker shape P (Act
           },
         );
         off_links = refl;
+        of_named = rw (none, at_rest) refl;
       })
   vain f mine none false true at_rest has = tt
   vain f mine none false false at_rest has =
@@ -133,6 +199,7 @@ module _ (shape : Shape) (P : List Step) (k : ℕ) (maker : IsMaker shape P (Act
         sends = tt;
         receives = (none, no_filter (waits_with P k) has);
         off_links = refl;
+        of_named = rw (none, at_rest, has) refl;
       })
     where
       no_filter : (w : Option Sigsel) → is_some w ≡ false → w ≡ None
@@ -151,14 +218,16 @@ module _ (shape : Shape) (P : List Step) (k : ℕ) (maker : IsMaker shape P (Act
         sends = tt;
         receives = rw is refl;
         off_links = refl;
+        of_named = rw is refl;
       })
 
   -- a head of no endpoint
   plain : (head : Head) → is_opening head ≡ false → is_endpoints head ≡ false → IsBounded head
       → KeepsSends P home head
       → KeepsReceives shape P home (Actor k) me head → is_on_link head ≡ false
+      → IsOfNamed shape P k head
       → LegalIf shape P (made head)
-  plain head opens_not needs_not bounds sends receives off_links =
+  plain head opens_not needs_not bounds sends receives off_links of_named =
       legal-made head (record {
         opens_one = λ is. absurd (true≢false (sym is ∙ opens_not));
         needs_one = λ is. absurd (true≢false (sym is ∙ needs_not));
@@ -166,14 +235,16 @@ module _ (shape : Shape) (P : List Step) (k : ℕ) (maker : IsMaker shape P (Act
         sends = sends;
         receives = receives;
         off_links = off_links;
+        of_named = of_named;
       })
 
   -- a head of the endpoint's
   owned : (head : Head) → is_some me ≡ true → is_opening head ≡ false → IsBounded head
       → KeepsSends P home head
       → KeepsReceives shape P home (Actor k) me head → is_on_link head ≡ false
+      → IsOfNamed shape P k head
       → LegalIf shape P (made head)
-  owned head mine opens_not bounds sends receives off_links =
+  owned head mine opens_not bounds sends receives off_links of_named =
       legal-made head (record {
         opens_one = λ is. absurd (true≢false (sym is ∙ opens_not));
         needs_one = λ is. mine;
@@ -181,6 +252,7 @@ module _ (shape : Shape) (P : List Step) (k : ℕ) (maker : IsMaker shape P (Act
         sends = sends;
         receives = receives;
         off_links = off_links;
+        of_named = of_named;
       })
 
   -- WHAT IS GRANTED makes a legal step
@@ -196,36 +268,37 @@ module _ (shape : Shape) (P : List Step) (k : ℕ) (maker : IsMaker shape P (Act
         sends = tt;
         receives = tt;
         off_links = refl;
+        of_named = refl;
       })
   granted-legal nodes asks.Close note g named short fits off =
-      owned heads.Close (g.needing refl) refl tt tt tt refl
+      owned heads.Close (g.needing refl) refl tt tt tt refl refl
   granted-legal nodes (asks.Send q) note g named short fits off =
       owned (heads.Send q note (Rattle.journal.specs.Effects.send_answer (is_alive P home q) q))
-      (g.needing refl) refl short refl tt refl
+      (g.needing refl) refl short refl tt refl refl
   granted-legal nodes (asks.Look f) note g named short fits off =
       looks f (g.needing refl) (first_selected f (queue_of P me)) refl
   granted-legal nodes (asks.Hunt path) note g named short fits off =
-      owned (heads.Hunt path note) (g.needing refl) refl short tt tt refl
+      owned (heads.Hunt path note) (g.needing refl) refl short tt tt refl refl
   granted-legal nodes (asks.Attach q) note g named short fits off =
-      owned (heads.Attach q note) (g.needing refl) refl fits tt tt refl
+      owned (heads.Attach q note) (g.needing refl) refl fits tt tt refl refl
   granted-legal nodes (asks.Detach r) note g named short fits off =
-      owned (heads.Detach r (detached_as P home me r)) (g.needing refl) refl tt tt refl refl
+      owned (heads.Detach r (detached_as P home me r)) (g.needing refl) refl tt tt refl refl refl
   granted-legal nodes (asks.Cut link) note g named short fits off = absurd (true≢false off)
   granted-legal nodes (asks.Mend link) note g named short fits off = absurd (true≢false off)
   granted-legal nodes (asks.Restart n) note g named short fits off =
-      plain (heads.Restart n) refl refl tt tt tt refl
+      plain (heads.Restart n) refl refl tt tt tt refl refl
   granted-legal nodes (asks.Settle link) note g named short fits off = absurd (true≢false off)
   granted-legal nodes (asks.Refuse reason) note g named short fits off =
-      plain (heads.Refused reason) refl refl tt tt tt refl
+      plain (heads.Refused reason) refl refl tt tt tt refl refl
   granted-legal nodes asks.End note g named short fits off =
-      plain heads.Ended refl refl tt tt tt refl
+      plain heads.Ended refl refl tt tt tt refl refl
   granted-legal nodes (asks.Wire link from verdict) note g named short fits off =
       absurd (true≢false off)
   granted-legal nodes (asks.Tick link side) note g named short fits off = absurd (true≢false off)
 
   -- a refusal
   pub refused-legal : (reason : Refusal) → LegalIf shape P (granted_step shape P k (refused reason))
-  refused-legal reason = plain (heads.Refused reason) refl refl tt tt tt refl
+  refused-legal reason = plain (heads.Refused reason) refl refl tt tt tt refl refl
 
   -- THE STEP OF AN ASK
   pub step-legal : (nodes : ℕ) (ask : Ask) → IsTyped ask

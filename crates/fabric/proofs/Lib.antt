@@ -17,4 +17,6 @@ pub mod Unchanged
 pub mod Made
 pub mod Restarted
 pub mod Counting
+pub mod Reached
+pub mod Replayed
 pub mod Worked

@@ -33,7 +33,7 @@ use Rattle.journal.specs.declared.head.Refusal.{Refusal}
 use Rattle.journal.specs.Effects.{arrivals_of, attached, closing, founds, held_elsewhere, hunted}
 use Rattle.journal.specs.Effects.{hunts_for, opening, send_answer, ending, notices}
 use Rattle.journal.specs.History.{endpoint_of, is_end}
-use Rattle.journal.specs.Laws.{IsLegalStep, IsMaker, detached_as, effects_by}
+use Rattle.journal.specs.Laws.{IsMaker, detached_as, effects_by}
 use Rattle.journal.specs.Living.{find, is_alive}
 use Rattle.journal.specs.Logs.{Log}
 use Rattle.journal.specs.Pending.{hunting, owed}
@@ -59,7 +59,8 @@ use Rattle.fabric.proofs.Effects.{only-none, only-notices}
 use Rattle.fabric.proofs.Elsewhere.{changed_node}
 use Rattle.fabric.proofs.Kept.{is_restart, kept-next, kernels-next, kernels-same, length-set}
 use Rattle.fabric.proofs.Kept.{standings-next}
-use Rattle.fabric.proofs.Legal.{IsGranted, LegalIf, granted-legal, refused-legal, IsNamedEvent}
+use Rattle.fabric.proofs.Legal.{IsGranted, IsNamedEvent, IsNext, LegalIf, granted-legal}
+use Rattle.fabric.proofs.Legal.{refused-legal}
 use Rattle.fabric.proofs.Nodes.{detached-left, find-left, living-left, node-attach, node-close}
 use Rattle.fabric.proofs.Nodes.{node-detach, node-end, node-hunt, node-open, node-quiet, node-send}
 use Rattle.fabric.proofs.Nodes.{node-take, own-items}
@@ -125,7 +126,7 @@ module _ {shape : Shape} {log : Log} {kernels : List NodeState} {standings : Lis
 
   -- WHAT IS KEPT where the kernel and the standing of the maker change alone
   calm : (head : Head) → is_restart head ≡ false → changed_node shape (Actor actor) head ≡ suc home
-      → IsLegalStep shape P (step_by head)
+      → IsNext shape P (step_by head)
       → (kernel : NodeState) → kernel ≡ node_left (step_by head ∷ P) node
       → (standing : Standing) → standing ≡ standing_past true now head (step_by head).effects stood
       → (new : Log) → new ≡ record log { steps = step_by head ∷ P }
@@ -148,7 +149,7 @@ module _ {shape : Shape} {log : Log} {kernels : List NodeState} {standings : Lis
 
   -- or the standing alone
   still : (head : Head) → is_restart head ≡ false → changed_node shape (Actor actor) head ≡ suc home
-      → IsLegalStep shape P (step_by head) → node_left (step_by head ∷ P) node ≡ old
+      → IsNext shape P (step_by head) → node_left (step_by head ∷ P) node ≡ old
       → (standing : Standing) → standing ≡ standing_past true now head (step_by head).effects stood
       → (new : Log) → new ≡ record log { steps = step_by head ∷ P }
       → IsWellKept shape new kernels (slice_set standings place standing)
@@ -208,7 +209,7 @@ module _ {shape : Shape} {log : Log} {kernels : List NodeState} {standings : Lis
       let logged : new ≡ record log { steps = step_by (heads.Open name) ∷ P } = log-is new _
       (step_by (heads.Open name)) new_eq
       (step-is (heads.Open name) (opening (next_of kernel) name kernel.hunts) es_is) in
-      let legal : IsLegalStep shape P (step_by (heads.Open name)) =
+      let legal : IsNext shape P (step_by (heads.Open name)) =
       legal-of (asks.Open name) (signal_in None) 0
       (record { opening = λ o. ap is_none none; needing = λ n. absurd (true≢false (sym n)) })
       named (omega arith) tt refl
@@ -237,7 +238,7 @@ module _ {shape : Shape} {log : Log} {kernels : List NodeState} {standings : Lis
   closing-kept : (head : Head) → is_restart head ≡ false
       → changed_node shape (Actor actor) head ≡ suc home
       → (ends : (n : ℕ) (e : Option Inc) → effects_by P n e head ≡ ending e (owed P n))
-      → (j : Inc) → me ≡ Some j → IsLegalStep shape P (step_by head)
+      → (j : Inc) → me ≡ Some j → IsNext shape P (step_by head)
       → node_left (step_by head ∷ P) node ≡ after_close old j now
       → (kernel next : NodeState) → kernel ≡ get_or kernels home kernel
       → next ≡ after_close kernel j (length P + 1)
@@ -310,7 +311,7 @@ module _ {shape : Shape} {log : Log} {kernels : List NodeState} {standings : Lis
       × GrantIsMade shape P actor (record { event = asks.Close; hand = None }) answers.Closed
       new.steps
   made-close j mine kernel next is next_eq standing then step stands then_eq new counted new_eq =
-      let legal : IsLegalStep shape P (step_by heads.Close) =
+      let legal : IsNext shape P (step_by heads.Close) =
       legal-of asks.Close (signal_in None) 0
       (record { opening = λ o. absurd (true≢false (sym o)); needing = λ n. ap is_some mine }) tt
       (omega arith) tt refl
@@ -333,7 +334,7 @@ module _ {shape : Shape} {log : Log} {kernels : List NodeState} {standings : Lis
       → IsWellKept shape new (slice_set kernels home next) (slice_set standings place then)
       × GrantIsMade shape P actor (record { event = asks.End; hand = None }) answers.Done new.steps
   made-end_open j mine kernel next is next_eq standing then step stands then_eq new counted new_eq =
-      let legal : IsLegalStep shape P (step_by heads.Ended) =
+      let legal : IsNext shape P (step_by heads.Ended) =
       legal-of asks.End (signal_in None) 0
       (record {
         opening = λ o. absurd (true≢false (sym o));
@@ -349,7 +350,7 @@ module _ {shape : Shape} {log : Log} {kernels : List NodeState} {standings : Lis
   -- A STEP THAT ONLY BRINGS ITEMS, and after which its maker doesn't wait
   items-kept : (head : Head) → is_restart head ≡ false
       → changed_node shape (Actor actor) head ≡ suc home
-      → is_end head ≡ false → waits_in head ≡ None → IsLegalStep shape P (step_by head)
+      → is_end head ≡ false → waits_in head ≡ None → IsNext shape P (step_by head)
       → OnlyItems (step_by head).effects
       → (next : NodeState) → next ≡ node_left (step_by head ∷ P) node
       → (standing then : Standing) → standing ≡ get_or standings place standing
@@ -404,7 +405,7 @@ module _ {shape : Shape} {log : Log} {kernels : List NodeState} {standings : Lis
       let head : Head = heads.Send q note (send_answer alive q) in
       let own_es : (step_by head).effects ≡ arrivals_of j note alive q = ap
       (λ (e : Option Inc). effects_by P (node_by shape (Actor actor)) e head) mine in
-      let legal : IsLegalStep shape P (step_by head) = legal-of (asks.Send q) note 0
+      let legal : IsNext shape P (step_by head) = legal-of (asks.Send q) note 0
       (granted-own (asks.Send q) refl j mine) tt bounded tt refl in
       let both = items-kept head refl at.home_is refl refl legal
       (subst OnlyItems (sym own_es) (only-arrivals j note alive q))
@@ -459,7 +460,7 @@ module _ {shape : Shape} {log : Log} {kernels : List NodeState} {standings : Lis
       let own_es : (step_by head).effects ≡ hunted q
       (record { at = j; path = path; signal = note; number = now }) = ap
       (λ (e : Option Inc). effects_by P (node_by shape (Actor actor)) e head) mine in
-      let legal : IsLegalStep shape P (step_by head) = legal-of (asks.Hunt path) note 0
+      let legal : IsNext shape P (step_by head) = legal-of (asks.Hunt path) note 0
       (granted-own (asks.Hunt path) refl j mine) tt bounded tt refl in
       let both = items-kept head refl at.home_is refl refl legal
       (subst OnlyItems (sym own_es) (only-hunted q
@@ -515,7 +516,7 @@ module _ {shape : Shape} {log : Log} {kernels : List NodeState} {standings : Lis
       let own_es : (step_by head).effects ≡ attached alive
       (record { at = j; peer = q; signal = note; reference = record { 0 = now } }) = ap
       (λ (e : Option Inc). effects_by P (node_by shape (Actor actor)) e head) mine in
-      let legal : IsLegalStep shape P (step_by head) = legal-of (asks.Attach q) note 0
+      let legal : IsNext shape P (step_by head) = legal-of (asks.Attach q) note 0
       (granted-own (asks.Attach q) refl j mine) tt (omega arith) bounded refl in
       let both = items-kept head refl at.home_is refl refl legal
       (subst OnlyItems (sym own_es) (only-attached alive
@@ -572,7 +573,7 @@ module _ {shape : Shape} {log : Log} {kernels : List NodeState} {standings : Lis
       let answer_is : detached kernel j r ≡ answer = ap (λ (k : NodeState). detached k j r) k_is
       ∙ old_answer in
       let head : Head = heads.Detach r answer in
-      let legal : IsLegalStep shape P (step_by head) = legal-of (asks.Detach r) (signal_in None) 0
+      let legal : IsNext shape P (step_by head) = legal-of (asks.Detach r) (signal_in None) 0
       (granted-own (asks.Detach r) refl j mine) tt (omega arith) tt refl in
       let both = items-kept head refl at.home_is refl refl legal only-none
       next (next_eq ∙ ap (λ (k : NodeState). after_detach k j r) k_is
@@ -621,7 +622,7 @@ module _ {shape : Shape} {log : Log} {kernels : List NodeState} {standings : Lis
       let logged : new ≡ record log { steps = step_by head ∷ P } = new_eq
       ∙ ap (λ (o : Option Item). let l : Log = record log
       { steps = with_take (Actor actor) f o P } in l) selected in
-      let legal : IsLegalStep shape P (step_by head) =
+      let legal : IsNext shape P (step_by head) =
       subst (λ (o : Option Item). LegalIf shape P
       (step_with shape P (Actor actor) (look shape P actor f o))) of_me
       (legal-of (asks.Look f) (signal_in None) 0 (granted-own (asks.Look f) refl j mine) tt
@@ -653,7 +654,7 @@ module _ {shape : Shape} {log : Log} {kernels : List NodeState} {standings : Lis
   -- A STEP OF NO EFFECTS that leaves its node
   quiet-kept : (head : Head) → is_restart head ≡ false
       → changed_node shape (Actor actor) head ≡ suc home
-      → (step_by head).effects ≡ [] → IsLegalStep shape P (step_by head)
+      → (step_by head).effects ≡ [] → IsNext shape P (step_by head)
       → node_left (step_by head ∷ P) node ≡ old
       → (standing then : Standing) → standing ≡ get_or standings place standing
       → then ≡ record standing { waits = waits_in head; ended = is_end head || standing.ended }
@@ -777,7 +778,7 @@ module _ {shape : Shape} {log : Log} {kernels : List NodeState} {standings : Lis
       → IsWellKept shape new kernels (slice_set standings place then)
       × GrantIsMade shape P actor (record { event = asks.End; hand = None }) answers.Done new.steps
   made-end_closed none standing then stands then_eq new new_eq =
-      let legal : IsLegalStep shape P (step_by heads.Ended) =
+      let legal : IsNext shape P (step_by heads.Ended) =
       legal-of asks.End (signal_in None) 0
       (record {
         opening = λ o. absurd (true≢false (sym o));

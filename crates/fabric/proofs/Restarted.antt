@@ -13,7 +13,7 @@ use Rattle.journal.specs.declared.event.Event.TheVariants as asks
 use Rattle.journal.specs.declared.head.Head.TheVariants as heads
 use Rattle.journal.specs.Effects.{closings}
 use Rattle.journal.specs.History.{endpoint_of, is_by, last_opened, open_endpoints, unless_closed}
-use Rattle.journal.specs.Laws.{IsLegalStep, IsMaker}
+use Rattle.journal.specs.Laws.{IsMaker}
 use Rattle.journal.specs.Logs.{Log}
 use Rattle.journal.specs.Shapes.{Shape}
 use Rattle.journal.proofs.Openings.{IsShort}
@@ -27,7 +27,7 @@ use Rattle.fabric.specs.Remains.{standing_left}
 use Rattle.fabric.specs.Standings.{GrantIsMade, past_effects}
 use Rattle.fabric.proofs.Kept.{get-set, get-set-other, kept-next, kernels-next, length-set}
 use Rattle.fabric.proofs.Kept.{living-none}
-use Rattle.fabric.proofs.Legal.{granted-legal}
+use Rattle.fabric.proofs.Legal.{IsNext, granted-legal}
 use Rattle.fabric.proofs.Nodes.{node-restart}
 use Rattle.fabric.proofs.Standings.{standing_past}
 use Rattle.fabric.proofs.Placed.{Acts, get-is, length-mapped, well_kept}
@@ -92,7 +92,7 @@ module _ {shape : Shape} {log : Log} {kernels : List NodeState} {standings : Lis
       (was-left kernel is)
       ∙ ap closings (incs-left Q (open_endpoints Q n.0))
 
-  legal_restart : IsLegalStep shape Q restarted
+  legal_restart : IsNext shape Q restarted
   legal_restart =
       granted-legal shape Q actor maker kept.laid_out.unlinked (length log.names.nodes)
       (asks.Restart n) (signal_in None)

@@ -17,7 +17,7 @@ use Rattle.journal.proofs.Playing.{at, ends, first, item, made, note, opens, sec
 use Rattle.journal.proofs.Playing.{third, two_actors}
 use Rattle.node_kernel.specs.declared.answers.StepAnswer.TheVariants as answers
 use Rattle.node_kernel.specs.declared.ask.Ask.{Ask}
-use Rattle.fabric.specs.Machine.{all_have_ended, answer_to, is_at_rest, steps_after}
+use Rattle.fabric.specs.Machine.{all_have_ended, answer_to, is_at_rest, replayed, steps_after}
 use Rattle.fabric.specs.Remains.{standing_left}
 use Rattle.fabric.specs.Standings.{fresh, past_effects}
 
@@ -112,6 +112,27 @@ then_not_open = refl
 then_dead : answer_to two_actors (opens 1 (codes "c") third ∷ restarted) (Actor 1)
     (record { event = asks.Send (Here second); hand = Some (note 5 []) }) ≡ answers.Sent Dead
 then_dead = refl
+
+-- REPLAYED: what these runs name makes them anew
+taken_again : replayed two_actors (takes 2 Any (at 3 1) ∷ sent_over)
+    ≡ takes 2 Any (at 3 1) ∷ sent_over
+taken_again = refl
+
+none_found_again : replayed two_actors (made 1 (TakeNone Any) [] ∷ both_waiting)
+    ≡ made 1 (TakeNone Any) [] ∷ both_waiting
+none_found_again = refl
+
+refused_again : replayed two_actors (made 2 (Refused (NotOpen 3)) [] ∷ restarted)
+    ≡ made 2 (Refused (NotOpen 3)) [] ∷ restarted
+refused_again = refl
+
+-- not so the one that says that it waits at rest
+abbrev second_waiting : List Step
+second_waiting = made 2 (Waits Any) [] ∷ both_open
+
+none_found_instead : replayed two_actors (made 1 (Waits Any) [] ∷ second_waiting)
+    ≡ made 1 (TakeNone Any) [] ∷ second_waiting
+none_found_instead = refl
 
 -- BEFORE the first steps, and once all have ended
 nobody : standing_left [] 2 ≡ fresh

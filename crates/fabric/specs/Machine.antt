@@ -23,7 +23,7 @@ use Rattle.journal.specs.Shapes.{Shape, node_by}
 use Rattle.node_kernel.specs.declared.answers.StepAnswer.{StepAnswer}
 use Rattle.node_kernel.specs.declared.answers.StepAnswer.TheVariants.{NotYet}
 use Rattle.node_kernel.specs.declared.ask.Ask.{Ask}
-use Rattle.node_kernel.specs.Answers.{answer_of, granted}
+use Rattle.node_kernel.specs.Answers.{answer_of, granted, named}
 
 -- the signal in hand; a bare one where there is none
 abbrev pub signal_in : Option SigNote → SigNote
@@ -100,6 +100,21 @@ with_step P (Some s) = s ∷ P
 
 abbrev pub steps_after : Shape → List Step → By → Ask → List Step
 steps_after shape P by ask = with_step P (step_of shape P by ask)
+
+-- A STEP IS MADE where the machine makes it of what its head names, after the steps before it
+abbrev pub IsMade : Shape → List Step → Step → Type 0
+IsMade shape P s = step_of shape P s.by (named s.head) ≡ Some s
+
+-- A JOURNAL IS REACHED where each of its steps is made. Not every legal one is: the laws alone let
+-- an actor say that it waits while it is at rest, where the machine finds none
+abbrev pub IsReached : Shape → List Step → Type 0
+IsReached shape [] = Unit {0}
+IsReached shape (s ∷ P) = IsReached shape P × IsMade shape P s
+
+-- the history that the machine makes of what the steps of a journal name, in order
+abbrev pub replayed : Shape → List Step → List Step
+replayed shape [] = []
+replayed shape (s ∷ P) = steps_after shape (replayed shape P) s.by (named s.head)
 
 -- the answer to an event: that of its step, and NotYet where there is none
 abbrev pub answer_with : List Step → Option Step → StepAnswer

@@ -14,6 +14,7 @@ use Rattle.journal.specs.Queues.{queued}
 use Rattle.journal.specs.Rest.{waits_with}
 use Rattle.journal.specs.Shapes.{Shape}
 use Rattle.node_kernel.specs.Nodes.{NodeState, OpenEndpoint}
+use Rattle.fabric.specs.Machine.{IsReached}
 use Rattle.fabric.specs.declared.standing.Standing.{Standing}
 
 -- an open endpoint as the history leaves it
@@ -73,12 +74,13 @@ pub record Layout : Type 0 where
   pub shape : Shape
   pub log : Log
 
--- What a fabric keeps: its journal is legal, its kernels are what the journal leaves of the nodes,
--- and its standings what it leaves of the actors
+-- What a fabric keeps: its journal is legal, and reached; its kernels are what the journal leaves
+-- of the nodes, and its standings what it leaves of the actors
 pub record IsKept (shape : Shape) (log : Log) (kernels : List NodeState)
     (standings : List Standing) : Type 0 where
   pub laid_out : IsLaidOut (length log.names.nodes) shape
   pub legal : IsLegal shape log.steps
+  pub reached : IsReached shape log.steps
   pub nodes : length kernels ≡ length log.names.nodes
   pub actors : length standings ≡ length shape.actors
   pub kernels_left : AreNodesLeft log.steps kernels

@@ -11,7 +11,8 @@ ghost use Rattle.journal.specs.Shapes.{node_by};
 ghost use Rattle.node_kernel.specs.Answers.{granted, refused};
 ghost use Rattle.fabric.specs.Standings.{empty_nodes, fresh, unless_refused};
 ghost use Rattle.fabric.specs.Actings.{HasMade, LeavesAll, MayAct, OnlySteps, asking};
-ghost use Rattle.fabric.specs.Machine.{MayAsk, all_have_ended, answer_to, is_at_rest, steps_after};
+ghost use Rattle.fabric.specs.Machine.{IsReached, MayAsk, all_have_ended, answer_to, is_at_rest};
+ghost use Rattle.fabric.specs.Machine.{steps_after};
 
 use crate::granting::refusal_of;
 use crate::makings::{
@@ -110,18 +111,20 @@ impl Fabric {
         })
     }
 
-    /// The journal so far, which is legal.
+    /// The journal so far, which is legal, and whose steps are the machine's.
     pub fn journal(&self) -> &Journal
         ensures log { result.now.log ≡ self.now.log }
         ensures legal { IsLegal self.now.shape self.now.log.steps }
+        ensures reached { IsReached self.now.shape self.now.log.steps }
     {
         &self.journal
     }
 
-    /// The journal, which is legal.
+    /// The journal, which is legal, and whose steps are the machine's.
     pub fn into_journal(self) -> Journal
         ensures log { result.log ≡ self.log }
         ensures legal { IsLegal self.shape self.log.steps }
+        ensures reached { IsReached self.shape self.log.steps }
     {
         self.journal
     }
