@@ -79,6 +79,17 @@ struct Link {
     to_second: VecDeque<Blob>,
 }
 
+impl Link {
+    fn new(alloc: Global, window: u32) -> Link {
+        Link {
+            first: End::new(alloc, 1, window, 1_400),
+            second: End::new(alloc, 1, window, 1_400),
+            to_first: VecDeque::new(alloc),
+            to_second: VecDeque::new(alloc),
+        }
+    }
+}
+
 /// The next packet of each wire comes. The answer is whether a message is whole at the second end.
 fn exchange(link: &mut Link) -> anyhow::Result<bool> {
     let whole = take(&mut link.second, &mut link.to_second, &mut link.to_first)?;
@@ -95,8 +106,7 @@ fn tick(link: &mut Link) -> anyhow::Result<()> {
 }
 
 fn offer(link: &mut Link, message: &Message) -> anyhow::Result<()> {
-    let fits = !message.body.is_empty() && message.body.len() <= 65_536;
-    if !fits || link.first.frames_left() < 1_024 {
+    if message.body.is_empty() || message.body.len() > 65_536 || link.first.frames_left() < 1_024 {
         return Ok(());
     }
     link.first.offer(message).context("offer")?;
@@ -128,18 +138,9 @@ fn send(link: &mut Link, message: &Message, window: u32, pieces: u64) -> anyhow:
     Ok(whole)
 }
 
-fn link(alloc: Global, window: u32) -> Link {
-    Link {
-        first: End::new(alloc, 1, window, 1_400),
-        second: End::new(alloc, 1, window, 1_400),
-        to_first: VecDeque::new(alloc),
-        to_second: VecDeque::new(alloc),
-    }
-}
-
 fn measured(rt: &HostRuntime, window: u32, pieces: u64) -> anyhow::Result<()> {
     let message = message(rt.alloc())?;
-    let mut link = link(rt.alloc(), window);
+    let mut link = Link::new(rt.alloc(), window);
     connect(&mut link)?;
     let start = Instant::now(rt).context("clock")?;
     let whole = send(&mut link, &message, window, pieces)?;

@@ -1,4 +1,4 @@
-ghost use Rattle.std.specs.Prelude.{◌≡◌, [], ◌∷◌, ◌++◌, drop, OnOk};
+ghost use Rattle.std.specs.Prelude.{◌≡◌, [], ◌∷◌, ◌++◌, drop, OnOk, OnErr};
 ghost use Rattle.std.specs.Option.{option_copied};
 ghost use Rattle.linx_base.specs.Both.{still};
 ghost use Rattle.ethcm_end.specs.Rules.{first_of};
@@ -51,6 +51,7 @@ impl Outgoing {
     pub fn push(&mut self, packet: Packet) -> Result<(), NoMemory>
         ensures is { OnOk result (self.new.is ≡ self.old.is ++ packet ∷ []) }
         ensures was { self.new.was ≡ self.old.was }
+        ensures err { OnErr result (self.new ≡ self.old) }
     {
         self.packets.push(packet)?;
         Ok(())
