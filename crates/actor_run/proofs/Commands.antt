@@ -16,7 +16,7 @@ use Rattle.node_kernel.specs.Answers.{is_pump_event, is_end_event}
 use Rattle.node_kernel.specs.declared.ask.Ask.{Ask}
 use Rattle.actor_run.specs.Knowing.{Knows, stopped_with}
 use Rattle.actor_run.specs.Asking.{ask_of, ask_send, ask_forward, ask_attach, ask_detach, peer_of}
-use Rattle.actor_run.specs.Asking.{signal_of, is_sending, is_forward, asked_by, hands_over, handed}
+use Rattle.actor_run.specs.Asking.{signal_of, is_sending, is_forward, asked_by, lends, handed}
 use Rattle.actor_run.specs.Bindings.{lookup}
 
 -- what holds of the ask of every command, by what was held
@@ -105,9 +105,9 @@ some_left (c ∷ commands) (suc place) k me h =
 -- what is lent comes back at a stop
 pub handed_back : (commands : List Command) (k : Knows) (me : Option Inc) → k.lent ≡ false
     → stopped_with (handed commands k me) (asked_by commands k me).hand ≡ k
-handed_back commands k me home = go (hands_over commands k me) refl
+handed_back commands k me home = go (lends commands k me) refl
   where
-    go : (b : Bool) → hands_over commands k me ≡ b
+    go : (b : Bool) → lends commands k me ≡ b
         → stopped_with (cond b (record k { held = None; lent = true }) k)
         (asked_by commands k me).hand
         ≡ k
@@ -120,7 +120,7 @@ handed_back commands k me home = go (hands_over commands k me) refl
 pub handed_place : (commands : List Command) (k : Knows) (me : Option Inc)
     → (handed commands k me).place ≡ k.place
 handed_place commands k me =
-    elim (hands_over commands k me) as
+    elim (lends commands k me) as
     (λ b. (cond b (record k { held = None; lent = true }) k).place ≡ k.place) [
       | true ↦ refl
       | false ↦ refl

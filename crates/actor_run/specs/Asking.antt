@@ -100,14 +100,14 @@ is_sending (asks.Send peer) = true
 is_sending _ = false
 
 -- what it asks for next hands over the buffer that it holds
-abbrev pub hands_over : List Command → Knows → Option Inc → Bool
-hands_over commands k me =
+abbrev pub lends : List Command → Knows → Option Inc → Bool
+lends commands k me =
     is_sending (asked_by commands k me).event && is_forward (slice_get commands k.place)
 
 -- what an actor knows once it has asked: a forward lends the buffer
 abbrev pub handed : List Command → Knows → Option Inc → Knows
 handed commands k me =
-    if hands_over commands k me then record k { held = None; lent = true } else k
+    if lends commands k me then record k { held = None; lent = true } else k
 
 -- the data of the command's signal, if it has one, are not too many for a signal
 abbrev pub fits_signal : Option Command → Bool

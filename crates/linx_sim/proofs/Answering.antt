@@ -5,7 +5,7 @@ use Rattle.journal.specs.Laws.{IsLegal}
 use Rattle.journal.specs.Logs.{Log, is_full}
 use Rattle.journal.specs.Shapes.{Shape}
 use Rattle.stage.specs.Plays.{AllFollowWhole, IsSoFar, Play}
-use Rattle.stage.specs.Turns.{IsWhole, is_over, shape_of}
+use Rattle.stage.specs.Turns.{IsWhole, all_is_over, shape_of}
 use Rattle.script_lang.specs.Parts.{ScriptParts}
 use Rattle.fabric.specs.declared.stop.StopCause.{StopCause}
 use Rattle.fabric.specs.declared.stop.StopCause.TheVariants as stops
@@ -43,11 +43,12 @@ answers-stopped stops.NoMemory script log so_far full = so_far
 pub answers-played : (status : Status) (before after : Play) (log : Log)
     → is_built before.script ≡ true → after.script ≡ before.script
     → IsWhole before.script after.log.steps → IsSoFar after.script after.log
-    → (is_over after.script after.log.steps ≡ true → AllFollowWhole after.script after.log.steps)
+    → (all_is_over after.script after.log.steps ≡ true
+    → AllFollowWhole after.script after.log.steps)
     → log ≡ after.log → is_of_writing status ≡ true → IsAnswerTo status before.script log
 answers-played status before after log built same whole so_far follows is writes =
-    let over : is_over after.script after.log.steps ≡ true =
-    ap (λ (s : ScriptParts). is_over s after.log.steps) same ∙ whole.over in
+    let over : all_is_over after.script after.log.steps ≡ true =
+    ap (λ (s : ScriptParts). all_is_over s after.log.steps) same ∙ whole.over in
     let run : IsRunOf before.script after.log = record {
       so_far = record {
         built = built;

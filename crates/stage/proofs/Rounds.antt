@@ -25,7 +25,7 @@ use Rattle.actor_run.specs.Following.{knows, next_ask, Follows}
 use Rattle.fabric.specs.Machine.{all_leave_at_rest, hands_over, have_ended, is_at_rest, step_of}
 use Rattle.fabric.specs.Machine.{step_with, steps_after, with_step}
 use Rattle.stage.specs.Plays.{AllFollow}
-use Rattle.stage.specs.Turns.{commands_of, is_over, round_of, shape_of, turn_of, turns_of}
+use Rattle.stage.specs.Turns.{commands_of, all_is_over, round_of, shape_of, turn_of, turns_of}
 use Rattle.stage.proofs.Makings.{IsHeadOr, IsVain, granted_endpoint, granted_look, the_head}
 use Rattle.stage.proofs.Makings.{the_head-made}
 use Rattle.stage.proofs.Waiting.{waits_at}
@@ -261,13 +261,13 @@ module _ (script : ScriptParts) where
             (sym (length-map script.actors (λ a. a.node))) all
 
     -- A ROUND MAKES A STEP until all is over
-    pub round-moves : is_over script P ≡ false → length P < length (round_of script P)
+    pub round-moves : all_is_over script P ≡ false → length P < length (round_of script P)
     round-moves running =
         elim (cases_lt (length P) (length (round_of script P))) [
           | inl less ↦ less
           | inr within ↦
               let all : have_ended P count ≡ true = still-over (turns-still count P within) in
-              let over : is_over script P ≡ true =
+              let over : all_is_over script P ≡ true =
               subst (λ (n : ℕ). have_ended P n ≡ true)
               (sym (length-map script.actors (λ a. a.node))) all in
               absurd (true≢false (sym over ∙ running))

@@ -34,7 +34,7 @@ use Rattle.stage.specs.declared.stage.Turn.{Turn}
 use Rattle.journal.proofs.Promises.{keeps-promises}
 use Rattle.stage.specs.Plays.{AllFollow, AllFollowWhole, IsSoFar}
 use Rattle.stage.specs.Seats.{AreSeated, IsSeated, IsStaged, unstarted}
-use Rattle.stage.specs.Turns.{commands_in, commands_of, is_over, round_of, shape_of}
+use Rattle.stage.specs.Turns.{commands_in, commands_of, all_is_over, round_of, shape_of}
 use Rattle.stage.proofs.Asking.{next-fit}
 use Rattle.stage.proofs.Rounds.{ended-each, round-moves}
 
@@ -311,13 +311,13 @@ module _ (script : ScriptParts) (fabric : Layout) (players : List Player)
         promises = keeps-promises (shape_of script) fabric.log.steps laid (omega arith);
       }
 
-  pub staged-moves : is_over script fabric.log.steps ≡ false
+  pub staged-moves : all_is_over script fabric.log.steps ≡ false
       → length fabric.log.steps < length (round_of script fabric.log.steps)
   staged-moves running =
       round-moves script fabric.log.steps staged-follows
       (λ k. (next-fit script staged.declared staged.unlinked fabric.log.steps k).handed) running
 
-  pub staged-whole : is_over script fabric.log.steps ≡ true
+  pub staged-whole : all_is_over script fabric.log.steps ≡ true
       → AllFollowWhole script fabric.log.steps
   staged-whole over =
       all-whole script fabric.log.steps players staged.count staged.seated

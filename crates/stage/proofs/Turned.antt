@@ -11,7 +11,7 @@ use Rattle.script_lang.specs.Parts.{ScriptParts}
 use Rattle.node_kernel.specs.declared.answers.StepAnswer.{StepAnswer}
 use Rattle.node_kernel.specs.declared.ask.Ask.{Ask}
 use Rattle.node_kernel.specs.Answers.{is_end_event}
-use Rattle.actor_run.specs.Asking.{asked_by, handed, hands_over as lends}
+use Rattle.actor_run.specs.Asking.{asked_by, handed, lends}
 use Rattle.actor_run.specs.Following.{endpoint_after, next_ask, Makes, Playing}
 use Rattle.actor_run.specs.Knowing.{Knows, told}
 use Rattle.actor_run.proofs.Turns.{turned}

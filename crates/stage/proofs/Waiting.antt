@@ -22,7 +22,7 @@ use Rattle.script_words.specs.Filling.{data_of}
 use Rattle.node_kernel.specs.declared.ask.Ask.{Ask}
 use Rattle.node_kernel.specs.Answers.{answer_of, event_of, granted, is_pumped}
 use Rattle.actor_run.specs.Asking.{ask_attach, ask_detach, ask_forward, ask_of, ask_send, handed}
-use Rattle.actor_run.specs.Asking.{hands_over, peer_of, signal_of}
+use Rattle.actor_run.specs.Asking.{lends, peer_of, signal_of}
 use Rattle.actor_run.specs.Bindings.{lookup}
 use Rattle.actor_run.specs.Following.{is_own, knows, next_ask, Follows}
 use Rattle.actor_run.specs.Knowing.{Knows, told}
@@ -96,7 +96,7 @@ asks_look k me (Some (Settle link)) f is = cc
 -- what is handed over changes no place
 handed_place : (commands : List Command) (mind : Knows) (me : Option Inc)
     → (handed commands mind me).place ≡ mind.place
-handed_place commands mind me = go (hands_over commands mind me)
+handed_place commands mind me = go (lends commands mind me)
   where
     go : (b : Bool) → (cond b (record mind { held = None; lent = true }) mind).place ≡ mind.place
     go true = refl

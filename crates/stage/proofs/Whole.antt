@@ -14,7 +14,7 @@ use Rattle.script_lang.specs.Fits.{fits_actor, fits_command, is_node, IsScript}
 use Rattle.script_lang.specs.Parts.{ScriptParts}
 use Rattle.fabric.specs.Remains.{IsLaidOut, IsNode}
 use Rattle.stage.specs.Plays.{Play}
-use Rattle.stage.specs.Turns.{is_over, round_of, rounds_of, shape_of, turn_of, turns_of}
+use Rattle.stage.specs.Turns.{all_is_over, round_of, rounds_of, shape_of, turn_of, turns_of}
 use Rattle.stage.proofs.Asking.{within_bounds}
 
 -- one turn more
@@ -43,20 +43,20 @@ fixed-more start before now fixed further =
 abbrev pub AreRounds : ScriptParts → List Step → Type 0
 AreRounds script P =
     (n : ℕ) × (P ≡ rounds_of script n)
-    × ((m : ℕ) → m < n → is_over script (rounds_of script m) ≡ false)
+    × ((m : ℕ) → m < n → all_is_over script (rounds_of script m) ≡ false)
 
 -- one round more
 pub rounds-more : (start before now : Play)
     → before ≡ record start { log = record start.log { steps = before.log.steps } }
     → AreRounds start.script before.log.steps
     → now.log.steps ≡ round_of before.script before.log.steps
-    → is_over before.script before.log.steps ≡ false
+    → all_is_over before.script before.log.steps ≡ false
     → AreRounds start.script now.log.steps
 rounds-more start before now fixed rounds made running =
     let script : before.script ≡ start.script = ap (λ (p : Play). p.script) fixed in
-    let last : is_over start.script (rounds_of start.script rounds.0) ≡ false =
-    sym (ap (λ (s : ScriptParts). is_over s before.log.steps) script
-    ∙ ap (is_over start.script) rounds.1) ∙ running in (
+    let last : all_is_over start.script (rounds_of start.script rounds.0) ≡ false =
+    sym (ap (λ (s : ScriptParts). all_is_over s before.log.steps) script
+    ∙ ap (all_is_over start.script) rounds.1) ∙ running in (
       suc rounds.0,
       made ∙ ap (λ (s : ScriptParts). round_of s before.log.steps) script
           ∙ ap (round_of start.script) rounds.1,
@@ -64,7 +64,7 @@ rounds-more start before now fixed rounds made running =
         | inl under ↦ rounds.2 m under
         | inr over ↦
             let same : rounds.0 ≡ m = omega arith in
-            subst (λ (k : ℕ). is_over start.script (rounds_of start.script k) ≡ false) same last
+            subst (λ (k : ℕ). all_is_over start.script (rounds_of start.script k) ≡ false) same last
       ],
     )
 

@@ -46,12 +46,12 @@ rounds_of script zero = []
 rounds_of script (suc n) = round_of script (rounds_of script n)
 
 -- all is over: every actor has ended
-abbrev pub is_over : ScriptParts → List Step → Bool
-is_over script P = all_have_ended (shape_of script) P
+abbrev pub all_is_over : ScriptParts → List Step → Bool
+all_is_over script P = all_have_ended (shape_of script) P
 
 -- the whole run in the fixed order: the history after the first round behind which all is over
 pub record IsWhole (script : ScriptParts) (P : List Step) : Type 0 where
   pub rounds : ℕ
   pub made : P ≡ rounds_of script rounds
-  pub over : is_over script P ≡ true
-  pub first : (n : ℕ) → n < rounds → is_over script (rounds_of script n) ≡ false
+  pub over : all_is_over script P ≡ true
+  pub first : (n : ℕ) → n < rounds → all_is_over script (rounds_of script n) ≡ false

@@ -4,7 +4,7 @@ ghost use Rattle.journal.specs.Logs.{is_full};
 ghost use Rattle.journal.specs.History.{has_ended};
 ghost use Rattle.stage.specs.Plays.{turn_answer, AllFollowWhole, IsSoFar};
 ghost use Rattle.stage.specs.Seats.{unstarted};
-ghost use Rattle.stage.specs.Turns.{is_over, round_of, turn_of, turns_of, IsWhole};
+ghost use Rattle.stage.specs.Turns.{all_is_over, round_of, turn_of, turns_of, IsWhole};
 
 use crate::player::{Player, turn_of};
 use actor_run::Mind;
@@ -105,7 +105,7 @@ impl Stage {
     pub fn into_journal(self) -> Journal
         ensures log { result.log ≡ self.log }
         ensures so_far { IsSoFar self.script self.log }
-        ensures whole { is_over self.script self.log.steps ≡ true
+        ensures whole { all_is_over self.script self.log.steps ≡ true
             → AllFollowWhole self.script self.log.steps }
     {
         self.fabric.into_journal()
@@ -113,7 +113,7 @@ impl Stage {
 
     /// Whether every actor has ended. Until then the next round makes a step.
     pub fn is_over(&self) -> bool
-        ensures over { result ≡ is_over self.now.script self.now.log.steps }
+        ensures over { result ≡ all_is_over self.now.script self.now.log.steps }
         ensures moves { result ≡ false → length self.now.log.steps
             < length (round_of self.now.script self.now.log.steps) }
     {
@@ -151,7 +151,7 @@ impl Stage {
     pub fn round(&mut self) -> Result<bool, StepStop>
         ensures ok { OnOk result
             (self.new.log.steps ≡ round_of self.old.script self.old.log.steps) }
-        ensures over { IfOk result (λ over. over ≡ is_over self.old.script self.new.log.steps) }
+        ensures over { IfOk result (λ over. over ≡ all_is_over self.old.script self.new.log.steps) }
         ensures fixed { self.new ≡
             record self.old { log = record self.old.log { steps = self.new.log.steps } } }
         ensures front { OnErr result ((n : ℕ) × (n < length self.old.script.actors)
