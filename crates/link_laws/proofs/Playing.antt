@@ -1,0 +1,227 @@
+-- The words of worked runs over a link, and how one is shown to be legal, step by step.
+use Rattle.std.proofs.Common.{◌≡◌, ℕ, Bool, true, false, List, [], ◌∷◌, refl, sym, ◌∙◌, ◌≤◌, ◌<◌}
+use Rattle.std.proofs.Common.{ap, arith, subst}
+use Rattle.std.proofs.lemmas.Bool.{true≢false}
+use Rattle.linx_base.specs.Numbers.{inc_of, session_of}
+use Rattle.linx_base.specs.Sides.{other_of}
+use Rattle.linx_base.specs.declared.frame.Verdict.{Verdict}
+use Rattle.linx_base.specs.declared.frame.Verdict.TheVariants.{Deliver, Lose}
+use Rattle.linx_base.specs.declared.identity.Inc.{Inc}
+use Rattle.linx_base.specs.declared.identity.LinkNo.{LinkNo}
+use Rattle.linx_base.specs.declared.identity.Peer.TheVariants.{There}
+use Rattle.linx_base.specs.declared.identity.Session.{Session}
+use Rattle.linx_base.specs.declared.identity.Side.{Side}
+use Rattle.linx_base.specs.declared.identity.Side.TheVariants.{First, Second}
+use Rattle.linx_base.specs.declared.signal.SigNote.{SigNote}
+use Rattle.sigsel.specs.declared.sigsel.Sigsel.{Sigsel}
+use Rattle.journal.specs.History.{endpoint_of}
+use Rattle.journal.specs.Laws.{IsBounded, KeepsEndpoints, KeepsMakers, KeepsReceives, KeepsSends}
+use Rattle.journal.specs.Laws.{may_make}
+use Rattle.journal.specs.Shapes.{Shape, node_by}
+use Rattle.journal.specs.declared.by.By.TheVariants.{Actor, Pump}
+use Rattle.journal.specs.declared.effect.Effect.{Effect}
+use Rattle.journal.specs.declared.effect.Effect.TheVariants.{Up, Down, Met, Gone}
+use Rattle.journal.specs.declared.effect.Step.{Step}
+use Rattle.journal.specs.declared.head.Head.{Head}
+use Rattle.journal.specs.declared.head.Head.TheVariants.{Send, TakeNone, Wire, Tick}
+use Rattle.journal.specs.declared.head.SentTo.TheVariants.{Link}
+use Rattle.link_laws.specs.Brought.{Brought, brought_at}
+use Rattle.link_laws.specs.Ends.{node_at}
+use Rattle.link_laws.specs.Laws.{KeepsCuts, KeepsPackets, KeepsRest, KeepsTicks, HasEffects}
+use Rattle.link_laws.specs.Laws.{IsHandedOver, IsLegal, IsLegalStep, IsTick, actors_alone, delivers}
+use Rattle.link_laws.specs.Sessions.{is_cut}
+use Rattle.link_laws.specs.Still.{AllStill, IsStill}
+use Rattle.link_laws.proofs.Legal.{MayBring, is_packet, no_endpoint}
+
+-- the head is that of a step of an actor off the links, which doesn't ask for rest
+abbrev is_plain : Head → Bool
+is_plain (TakeNone filter) = false
+is_plain (Wire l from verdict) = false
+is_plain (Tick l side) = false
+is_plain _ = true
+
+-- so the laws of rest, packets, cuts and ticks ask nothing of it
+record AsksNothing (shape : Shape) (P : List Step) (head : Head) (effects : List Effect) : Type 0
+  where
+    rest : KeepsRest shape P head
+    packets : KeepsPackets shape P head effects
+    cuts : KeepsCuts P head
+    ticks : KeepsTicks shape P head effects
+
+asks-nothing : (shape : Shape) (P : List Step) (head : Head) (effects : List Effect)
+    → is_plain head ≡ true → AsksNothing shape P head effects
+asks-nothing shape P (TakeNone filter) effects plain = absurd (true≢false (sym plain))
+asks-nothing shape P (Wire k from verdict) effects plain = absurd (true≢false (sym plain))
+asks-nothing shape P (Tick k side) effects plain = absurd (true≢false (sym plain))
+asks-nothing shape P _ effects plain =
+    record { rest = tt; packets = tt; cuts = tt; ticks = tt }
+
+-- a step of an actor is legal where what is said of its head computes
+pub acts : {shape : Shape} {P : List Step} {k : ℕ} {head : Head} {effects : List Effect}
+    → KeepsMakers shape P (Actor k) head → KeepsEndpoints (endpoint_of P k) head
+    → is_plain head ≡ true → IsBounded head
+    → HasEffects shape P (node_by shape (Actor k)) (endpoint_of P k) head effects
+    → KeepsSends P (node_by shape (Actor k)) head
+    → KeepsReceives (actors_alone shape) P (node_by shape (Actor k)) (Actor k) (endpoint_of P k)
+    head
+    → IsLegalStep shape P (record { by = Actor k; head = head; effects = effects })
+acts {shape} {P} {k} {head} {effects} makers endpoints plain bounds same sends receives =
+    let others = asks-nothing shape P head effects plain in
+    record {
+      makers = makers;
+      endpoints = endpoints;
+      bounds = bounds;
+      effects = same;
+      sends = sends;
+      receives = receives;
+      rest = others.rest;
+      packets = others.packets;
+      cuts = others.cuts;
+      ticks = others.ticks;
+    }
+
+-- a step of an actor that finds none, where the links are still
+pub finds_none : {shape : Shape} {P : List Step} {k : ℕ} {filter : Sigsel}
+    → KeepsMakers shape P (Actor k) (TakeNone filter)
+    → KeepsEndpoints (endpoint_of P k) (TakeNone filter)
+    → KeepsReceives (actors_alone shape) P (node_by shape (Actor k)) (Actor k) (endpoint_of P k)
+    (TakeNone filter) → AllStill shape P → IsLegalStep shape P
+    (record { by = Actor k; head = TakeNone filter; effects = [] })
+finds_none {shape} {P} {k} {filter} makers endpoints receives still =
+    record {
+      makers = makers;
+      endpoints = endpoints;
+      bounds = tt;
+      effects = refl;
+      sends = tt;
+      receives = receives;
+      rest = still;
+      packets = tt;
+      cuts = tt;
+      ticks = tt;
+    }
+
+-- the one link of these runs, between nodes 1 and 2, with an actor on each
+abbrev pub l : LinkNo
+l = record { 0 = 1 }
+
+abbrev pub two_ends : Shape
+two_ends = record {
+  links = record { first = record { 0 = 1 }; second = record { 0 = 2 }; window = 32; piece = 1400 }
+      ∷ [];
+  actors = record { 0 = 1 } ∷ record { 0 = 2 } ∷ [];
+}
+
+-- its pump may make what is on it
+pub pumped : {P : List Step} {head : Head} → may_make (Pump l) head ≡ true
+    → KeepsMakers two_ends P (Pump l) head
+pumped {P} {head} may = record { maker = (omega arith, omega arith); may = may }
+
+-- a step of the pump: a packet that meets a verdict
+pub passes : {P : List Step} {from : Side} {verdict : Verdict} {es : List Effect}
+    → (is_cut P 1 ≡ true → verdict ≡ Lose) → IsHandedOver (delivers verdict) P
+    (node_at two_ends l (other_of from)) (node_at two_ends l from) l es
+    → IsLegalStep two_ends P (record { by = Pump l; head = Wire l from verdict; effects = es })
+passes {P} {from} {verdict} {es} cuts handed = record {
+  makers = pumped refl;
+  endpoints = no_endpoint refl refl;
+  bounds = tt;
+  effects = tt;
+  sends = tt;
+  receives = tt;
+  rest = tt;
+  packets = handed;
+  cuts = cuts;
+  ticks = tt;
+}
+
+-- the same, while the link is whole
+pub goes_through : {P : List Step} {from : Side} {verdict : Verdict} {es : List Effect}
+    → is_cut P 1 ≡ false → IsHandedOver (delivers verdict) P (node_at two_ends l (other_of from))
+    (node_at two_ends l from) l es → IsLegalStep two_ends P
+    (record { by = Pump l; head = Wire l from verdict; effects = es })
+goes_through uncut handed = passes (λ cut. absurd (true≢false (sym cut ∙ uncut))) handed
+
+-- a packet that is handed over while the link is whole
+pub brings : {P : List Step} {from : Side} {es : List Effect} → (what : Brought)
+    → is_cut P 1 ≡ false → es ≡ brought_at P (node_at two_ends l (other_of from)) l what
+    → MayBring P (node_at two_ends l (other_of from)) (node_at two_ends l from) l what
+    → IsLegalStep two_ends P (record { by = Pump l; head = Wire l from Deliver; effects = es })
+brings what uncut same may = goes_through uncut (is_packet what same may)
+
+-- a tick of a side
+pub ticked : {P : List Step} {side : Side} {es : List Effect}
+    → IsTick P (node_at two_ends l side) l side es
+    → IsLegalStep two_ends P (record { by = Pump l; head = Tick l side; effects = es })
+ticked {P} {side} {es} tick = record {
+  makers = pumped refl;
+  endpoints = no_endpoint refl refl;
+  bounds = tt;
+  effects = tt;
+  sends = tt;
+  receives = tt;
+  rest = tt;
+  packets = tt;
+  cuts = tt;
+  ticks = tick;
+}
+
+-- a legal run goes on with a legal step
+infixl 1 ◌▸◌
+pub ◌▸◌ : {P : List Step} {s : Step} → IsLegal two_ends P → IsLegalStep two_ends P s
+    → IsLegal two_ends (s ∷ P)
+before ▸ step = (before, step)
+
+-- the first sessions of two boots, and the second of the first
+abbrev pub x11 : Session
+x11 = session_of 1 1
+
+abbrev pub x12 : Session
+x12 = session_of 1 2
+
+abbrev pub x21 : Session
+x21 = session_of 2 1
+
+-- the first endpoints of the two nodes, and the second of node 2
+abbrev pub a : Inc
+a = inc_of 1 1
+
+abbrev pub b : Inc
+b = inc_of 2 1
+
+abbrev pub c : Inc
+c = inc_of 2 2
+
+-- a step of the pump, and the words of its steps: from the first side to the second, and back
+abbrev pub pump : Head → List Effect → Step
+pump head effects = record { by = Pump l; head = head; effects = effects }
+
+abbrev pub there : List Effect → Step
+there effects = pump (Wire l First Deliver) effects
+
+abbrev pub back : List Effect → Step
+back effects = pump (Wire l Second Deliver) effects
+
+-- what node 1 sends over the link
+abbrev pub posts : Session → Inc → SigNote → Step
+posts x to note = record { by = Actor 1; head = Send (There l x to) note Link; effects = [] }
+
+-- effects at the two nodes
+abbrev pub up : ℕ → Session → Session → Effect
+up n x y = Up (record { 0 = n }) l x y
+
+abbrev pub down : ℕ → Session → Effect
+down n x = Down (record { 0 = n }) l x
+
+abbrev pub met_at : ℕ → Session → Inc → List ℕ → Effect
+met_at n x i name = Met (record { 0 = n }) (There l x i) name
+
+abbrev pub gone_at : ℕ → Session → Inc → Effect
+gone_at n x i = Gone (record { 0 = n }) (There l x i)
+
+-- where the one link is still, all are
+pub one_still : {P : List Step} → IsStill two_ends P l → AllStill two_ends P
+one_still {P} still k of_shape = let low : 0 < k.0 = of_shape.0 in
+    let high : k.0 ≤ 1 = of_shape.1 in
+    let same : l ≡ k = ap (λ (n : ℕ). let m : LinkNo = record { 0 = n } in m) (omega arith) in
+    subst (IsStill two_ends P) same still

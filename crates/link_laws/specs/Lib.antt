@@ -1,0 +1,9 @@
+pub mod Ends
+pub mod Sessions
+pub mod Came
+pub mod Brought
+pub mod Still
+pub mod Laws
+pub mod Linked
+pub mod Promises
+pub mod Fabric

@@ -1,0 +1,7 @@
+//! The laws of a run with links. `specs/` says when a step is legal after the steps before it, on
+//! nodes and links, when a link is still, how a history hangs together with the records of its
+//! links, and what is promised over a link; no packet is named. `proofs/` computes the laws on
+//! worked runs, has for each law steps that it refuses, and shows that each kind of step is legal
+//! and keeps every side of every link, and that the promises follow. It stands on the journal and
+//! on the record of a trunk alone.
+#![tactic(auto)]
