@@ -88,7 +88,7 @@ living-items node z (Notified i q note reference reason) is = refl
 living-items node z _ is = absurd (true≢false (sym is))
 
 -- tests that don't heed items
-any-items : (p : Effect → Bool) → ((e : Effect) → is_item e ≡ true → p e ≡ false)
+pub any-items : (p : Effect → Bool) → ((e : Effect) → is_item e ≡ true → p e ≡ false)
     → (items : List Effect) → AreItems items → list_any p items ≡ false
 any-items p heeds_not [] are = refl
 any-items p heeds_not (e ∷ items) are = ap (λ t. t || list_any p items) (heeds_not e are.0)
@@ -101,7 +101,7 @@ any-done p heeds_not s es items done =
     ∙ ap (λ t. list_any p es || t) (any-items p heeds_not items done.items_only)
     ∙ or-false (list_any p es)
 
-closes-items : (i : Inc) (e : Effect) → is_item e ≡ true → closes i e ≡ false
+pub closes-items : (i : Inc) (e : Effect) → is_item e ≡ true → closes i e ≡ false
 closes-items i (Found j q note number) is = refl
 closes-items i (Notified j q note reference reason) is = refl
 closes-items i _ is = absurd (true≢false (sym is))

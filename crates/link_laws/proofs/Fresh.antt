@@ -26,7 +26,7 @@ use Rattle.journal.specs.Pending.{hunting, owed}
 use Rattle.journal.specs.Sessions.{up_session}
 use Rattle.journal.specs.Shapes.{Shape, node_by}
 use Rattle.journal.specs.declared.effect.Effect.{Effect}
-use Rattle.journal.specs.declared.effect.Effect.TheVariants.{Closed, Opened}
+use Rattle.journal.specs.declared.effect.Effect.TheVariants.{Opened}
 use Rattle.journal.specs.declared.effect.Step.{Step}
 use Rattle.journal.specs.declared.head.Head.{Head}
 use Rattle.journal.specs.declared.head.Head.TheVariants.{Restart, Tick, Wire}

@@ -5,6 +5,7 @@ use Rattle.std.proofs.Common.{subst}
 use Rattle.std.proofs.lemmas.Bool.{true≢false}
 use Rattle.linx_base.specs.Sides.{other_of}
 use Rattle.linx_base.specs.declared.frame.Verdict.{Verdict}
+use Rattle.linx_base.specs.declared.frame.Verdict.TheVariants.{Lose}
 use Rattle.linx_base.specs.declared.identity.Inc.{Inc}
 use Rattle.linx_base.specs.declared.identity.LinkNo.{LinkNo}
 use Rattle.linx_base.specs.declared.identity.Session.{Session}
@@ -19,11 +20,10 @@ use Rattle.journal.specs.declared.effect.Effect.{Effect}
 use Rattle.journal.specs.declared.effect.Step.{Step}
 use Rattle.journal.specs.declared.head.Head.{Head}
 use Rattle.journal.specs.declared.head.Head.TheVariants.{Restart, Tick, Wire}
-use Rattle.link_laws.specs.Brought.{Brought, IsArrival, IsGoingDown, IsGoingUp, IsMeeting}
-use Rattle.link_laws.specs.Brought.{IsParting, arrives, brought_at, goes_down, goes_up, meets}
-use Rattle.link_laws.specs.Brought.{nothing, parts}
+use Rattle.link_laws.specs.Brought.{Brought, MayBring, brought_at}
 use Rattle.link_laws.specs.Ends.{node_at}
-use Rattle.link_laws.specs.Laws.{IsHandedOver, IsLegalStep, IsPacket, delivers, loses, restarting}
+use Rattle.link_laws.specs.Laws.{IsTick, IsHandedOver, IsLegalStep, IsPacket, delivers, loses}
+use Rattle.link_laws.specs.Laws.{restarting}
 use Rattle.link_laws.specs.Sessions.{is_cut, silent_ticks}
 
 -- no endpoint is needed for what is no opening and no step of an endpoint
@@ -34,64 +34,24 @@ no_endpoint {me} {head} opens needs = record {
   needs = λ is. absurd (true≢false (sym is ∙ needs));
 }
 
--- what a packet brings may come
-abbrev pub MayBring : List Step → (n m : ℕ) → LinkNo → Brought → Type 0
-MayBring P n m l nothing = Unit {0}
-MayBring P n m l (goes_up x y) = IsGoingUp P n m l x y
-MayBring P n m l (goes_down x) = IsGoingDown P n m l x
-MayBring P n m l (arrives x a b note) = IsArrival P n m l x a b note
-MayBring P n m l (meets x a name) = IsMeeting P n m l x a name
-MayBring P n m l (parts x a) = IsParting P n m l x a
-
-pub is_packet : {P : List Step} {n m : ℕ} {l : LinkNo} {es : List Effect} → (what : Brought)
-    → es ≡ brought_at P n l what → MayBring P n m l what → IsPacket P n m l es
-is_packet nothing same may = record {
-  what = nothing;
-  effects = same;
-  arrivals = tt;
-  meetings = tt;
-  partings = tt;
-  sessions = tt;
-}
-is_packet (goes_up x y) same may = record {
-  what = goes_up x y;
-  effects = same;
-  arrivals = tt;
-  meetings = tt;
-  partings = tt;
-  sessions = may;
-}
-is_packet (goes_down x) same may = record {
-  what = goes_down x;
-  effects = same;
-  arrivals = tt;
-  meetings = tt;
-  partings = tt;
-  sessions = may;
-}
-is_packet (arrives x a b note) same may = record {
-  what = arrives x a b note;
-  effects = same;
-  arrivals = may;
-  meetings = tt;
-  partings = tt;
-  sessions = tt;
-}
-is_packet (meets x a name) same may = record {
-  what = meets x a name;
-  effects = same;
-  arrivals = tt;
-  meetings = may;
-  partings = tt;
-  sessions = tt;
-}
-is_packet (parts x a) same may = record {
-  what = parts x a;
-  effects = same;
-  arrivals = tt;
-  meetings = tt;
-  partings = may;
-  sessions = tt;
+-- a packet that meets a verdict
+pub legal_passing : (shape : Shape) (P : List Step) (by : By) (l : LinkNo) (from : Side)
+    (verdict : Verdict) (es : List Effect) → KeepsMakers shape P by (Wire l from verdict)
+    → (is_cut P l.0 ≡ true → verdict ≡ Lose)
+    → IsHandedOver (delivers verdict) P (node_at shape l (other_of from)) (node_at shape l from) l
+    es
+    → IsLegalStep shape P (record { by = by; head = Wire l from verdict; effects = es })
+legal_passing shape P by l from verdict es maker cuts handed = record {
+  makers = maker;
+  endpoints = no_endpoint refl refl;
+  bounds = tt;
+  effects = tt;
+  sends = tt;
+  receives = tt;
+  rest = tt;
+  packets = handed;
+  cuts = cuts;
+  ticks = tt;
 }
 
 -- the step of a packet that brings this
@@ -107,7 +67,21 @@ pub legal_wire : (shape : Shape) (P : List Step) (by : By) (l : LinkNo) (from : 
     → delivers verdict ≡ true → is_cut P l.0 ≡ false
     → MayBring P (node_at shape l (other_of from)) (node_at shape l from) l what
     → IsLegalStep shape P (wire_step shape P by l from verdict what)
-legal_wire shape P by l from verdict what maker hands whole may = record {
+legal_wire shape P by l from verdict what maker hands whole may =
+    let n : ℕ = node_at shape l (other_of from) in
+    let m : ℕ = node_at shape l from in
+    let packet : IsPacket P n m l (brought_at P n l what) =
+    record { what = what; effects = refl; may = may } in
+    legal_passing shape P by l from verdict (brought_at P n l what) maker
+    (λ cut. absurd (true≢false (sym cut ∙ whole)))
+    (subst (λ (t : Bool). IsHandedOver t P n m l (brought_at P n l what)) (sym hands) packet)
+
+-- a tick
+pub legal_tick : (shape : Shape) (P : List Step) (by : By) (l : LinkNo) (side : Side)
+    (es : List Effect) → KeepsMakers shape P by (Tick l side)
+    → IsTick P (node_at shape l side) l side es
+    → IsLegalStep shape P (record { by = by; head = Tick l side; effects = es })
+legal_tick shape P by l side es maker tick = record {
   makers = maker;
   endpoints = no_endpoint refl refl;
   bounds = tt;
@@ -115,11 +89,9 @@ legal_wire shape P by l from verdict what maker hands whole may = record {
   sends = tt;
   receives = tt;
   rest = tt;
-  packets = subst (λ (t : Bool). IsHandedOver t P (node_at shape l (other_of from))
-      (node_at shape l from) l (brought_at P (node_at shape l (other_of from)) l what)) (sym hands)
-      (is_packet what refl may);
-  cuts = λ cut. absurd (true≢false (sym cut ∙ whole));
-  ticks = tt;
+  packets = tt;
+  cuts = tt;
+  ticks = tick;
 }
 
 -- the step of a tick at which a session is lost
@@ -134,18 +106,9 @@ pub legal_lost : (shape : Shape) (P : List Step) (by : By) (l : LinkNo) (side : 
     → KeepsMakers shape P by (Tick l side) → up_session P (node_at shape l side) l.0 ≡ Some x
     → 2 ≤ silent_ticks P (node_at shape l side) l.0 side
     → IsLegalStep shape P (lost_step shape P by l side x)
-legal_lost shape P by l side x maker up silent = record {
-  makers = maker;
-  endpoints = no_endpoint refl refl;
-  bounds = tt;
-  effects = tt;
-  sends = tt;
-  receives = tt;
-  rest = tt;
-  packets = tt;
-  cuts = tt;
-  ticks = loses x up silent refl;
-}
+legal_lost shape P by l side x maker up silent =
+    legal_tick shape P by l side (lost_step shape P by l side x).effects maker
+    (loses x up silent refl)
 
 -- the step of a restart
 abbrev pub restart_step : Shape → List Step → By → ℕ → Step

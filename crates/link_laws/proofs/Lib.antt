@@ -31,3 +31,5 @@ pub mod Fresh
 pub mod Promising
 pub mod New
 pub mod Published
+pub mod Closings
+pub mod Answers

@@ -66,7 +66,7 @@ kept-passes p i (x ∷ xs) is = by_test (p x) refl is (kept-passes p i xs)
     by_test false fails e rest = rest e
 
 -- where an open endpoint of a node comes from: it was open, or the step opens it
-was_open_or_opened : (P : List Step) (s : Step) (n : ℕ) (i : Inc)
+pub was_open_or_opened : (P : List Step) (s : Step) (n : ℕ) (i : Inc)
     → is_alive (s ∷ P) n (Here i) ≡ true → (is_alive P n (Here i) ≡ true)
     ⊎ (list_any (same_inc i) (opened_by n s.effects) ≡ true)
 was_open_or_opened P s n i is =
@@ -96,6 +96,13 @@ closed-dead P s n i closed = false_from_ne_true (is_alive (s ∷ P) n (Here i)) 
     not_true : (t : Bool) → not t ≡ true → t ≡ false
     not_true true e = absurd (true≢false (sym e))
     not_true false e = refl
+
+-- what is open after a step, the step doesn't close
+pub stays-unclosed : (P : List Step) (s : Step) (n : ℕ) (i : Inc)
+    → is_alive (s ∷ P) n (Here i) ≡ true → list_any (closes i) s.effects ≡ false
+stays-unclosed P s n i is =
+    false_from_ne_true (list_any (closes i) s.effects) (λ closed.
+    true≢false (sym is ∙ closed-dead P s n i closed))
 
 -- what effects open, one of them opens
 pub opened-any : (i : Inc) (es : List Effect)

@@ -26,10 +26,10 @@ use Rattle.journal.specs.Pending.{hunting, owed}
 use Rattle.journal.specs.Shapes.{Shape}
 use Rattle.journal.specs.declared.by.By.{By}
 use Rattle.journal.specs.declared.effect.Effect.{Effect}
-use Rattle.journal.specs.declared.effect.Effect.TheVariants.{Met, Gone, Arrived, Closed}
+use Rattle.journal.specs.declared.effect.Effect.TheVariants.{Met, Gone, Arrived}
 use Rattle.journal.specs.declared.effect.Step.{Step}
 use Rattle.journal.specs.declared.head.Head.TheVariants.{Wire}
-use Rattle.link_laws.specs.Brought.{Brought, nothing, arrives, meets, parts, brought_at}
+use Rattle.link_laws.specs.Brought.{MayBring, Brought, nothing, arrives, meets, parts, brought_at}
 use Rattle.link_laws.specs.Ends.{node_at, IsLinkOf, HasTwoEnds}
 use Rattle.link_laws.specs.Fabric.{Trunks, with_side, AllLinked}
 use Rattle.link_laws.specs.Laws.{delivers, IsLegalStep}
@@ -39,7 +39,7 @@ use Rattle.link_laws.proofs.Acts.{keeps_quiet}
 use Rattle.link_laws.proofs.Brings.{told, legal_arrival, legal_meeting, legal_parting}
 use Rattle.link_laws.proofs.Done.{IsDone}
 use Rattle.link_laws.proofs.Keeps.{keeps_giving}
-use Rattle.link_laws.proofs.Legal.{MayBring, legal_wire}
+use Rattle.link_laws.proofs.Legal.{legal_wire}
 use Rattle.link_laws.proofs.Opened.{open-on}
 use Rattle.link_laws.proofs.Sides.{shown-away, founds-items, notices-items, no_signal, one_side}
 use Rattle.linx_base.specs.declared.signal.Reason.TheVariants as reasons

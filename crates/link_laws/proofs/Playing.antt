@@ -25,13 +25,13 @@ use Rattle.journal.specs.declared.effect.Step.{Step}
 use Rattle.journal.specs.declared.head.Head.{Head}
 use Rattle.journal.specs.declared.head.Head.TheVariants.{Send, TakeNone, Wire, Tick}
 use Rattle.journal.specs.declared.head.SentTo.TheVariants.{Link}
-use Rattle.link_laws.specs.Brought.{Brought, brought_at}
+use Rattle.link_laws.specs.Brought.{MayBring, Brought, brought_at}
 use Rattle.link_laws.specs.Ends.{node_at}
 use Rattle.link_laws.specs.Laws.{KeepsCuts, KeepsPackets, KeepsRest, KeepsTicks, HasEffects}
 use Rattle.link_laws.specs.Laws.{IsHandedOver, IsLegal, IsLegalStep, IsTick, actors_alone, delivers}
 use Rattle.link_laws.specs.Sessions.{is_cut}
 use Rattle.link_laws.specs.Still.{AllStill, IsStill}
-use Rattle.link_laws.proofs.Legal.{MayBring, is_packet, no_endpoint}
+use Rattle.link_laws.proofs.Legal.{legal_passing, legal_tick}
 
 -- the head is that of a step of an actor off the links, which doesn't ask for rest
 abbrev is_plain : Head → Bool
@@ -119,21 +119,12 @@ pumped {P} {head} may = record { maker = (omega arith, omega arith); may = may }
 
 -- a step of the pump: a packet that meets a verdict
 pub passes : {P : List Step} {from : Side} {verdict : Verdict} {es : List Effect}
-    → (is_cut P 1 ≡ true → verdict ≡ Lose) → IsHandedOver (delivers verdict) P
-    (node_at two_ends l (other_of from)) (node_at two_ends l from) l es
+    → (is_cut P 1 ≡ true → verdict ≡ Lose)
+    → IsHandedOver (delivers verdict) P (node_at two_ends l (other_of from))
+    (node_at two_ends l from) l es
     → IsLegalStep two_ends P (record { by = Pump l; head = Wire l from verdict; effects = es })
-passes {P} {from} {verdict} {es} cuts handed = record {
-  makers = pumped refl;
-  endpoints = no_endpoint refl refl;
-  bounds = tt;
-  effects = tt;
-  sends = tt;
-  receives = tt;
-  rest = tt;
-  packets = handed;
-  cuts = cuts;
-  ticks = tt;
-}
+passes {P} {from} {verdict} {es} cuts handed =
+    legal_passing two_ends P (Pump l) l from verdict es (pumped refl) cuts handed
 
 -- the same, while the link is whole
 pub goes_through : {P : List Step} {from : Side} {verdict : Verdict} {es : List Effect}
@@ -147,24 +138,13 @@ pub brings : {P : List Step} {from : Side} {es : List Effect} → (what : Brough
     → is_cut P 1 ≡ false → es ≡ brought_at P (node_at two_ends l (other_of from)) l what
     → MayBring P (node_at two_ends l (other_of from)) (node_at two_ends l from) l what
     → IsLegalStep two_ends P (record { by = Pump l; head = Wire l from Deliver; effects = es })
-brings what uncut same may = goes_through uncut (is_packet what same may)
+brings what uncut same may = goes_through uncut (record { what = what; effects = same; may = may })
 
 -- a tick of a side
 pub ticked : {P : List Step} {side : Side} {es : List Effect}
     → IsTick P (node_at two_ends l side) l side es
     → IsLegalStep two_ends P (record { by = Pump l; head = Tick l side; effects = es })
-ticked {P} {side} {es} tick = record {
-  makers = pumped refl;
-  endpoints = no_endpoint refl refl;
-  bounds = tt;
-  effects = tt;
-  sends = tt;
-  receives = tt;
-  rest = tt;
-  packets = tt;
-  cuts = tt;
-  ticks = tick;
-}
+ticked {P} {side} {es} tick = legal_tick two_ends P (Pump l) l side es (pumped refl) tick
 
 -- a legal run goes on with a legal step
 infixl 1 ◌▸◌

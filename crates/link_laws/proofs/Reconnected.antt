@@ -20,7 +20,8 @@ use Rattle.link_laws.specs.Laws.{IsLegal, loses, stays}
 use Rattle.link_laws.specs.Sessions.{own_session, paired_session, silent_ticks}
 use Rattle.link_laws.proofs.Playing.{acts, a, b, back, brings, down, l, met_at, passes, posts, pump}
 use Rattle.link_laws.proofs.Playing.{there, ticked, two_ends, up, x11, x12, x21, ◌▸◌}
-use Rattle.link_laws.proofs.Worked.{found_over, found_over_is_legal}
+use Rattle.link_laws.proofs.Worked.{found_over, found_over_is_legal, one_answered}
+use Rattle.link_laws.proofs.Worked.{one_answered_is_legal}
 use Rattle.linx_base.specs.declared.signal.Reason.TheVariants as reasons
 
 -- A CUT ENDS THE SESSION at both ends, each at its third tick in silence; mended, the link goes up
@@ -136,18 +137,10 @@ the_old_peer_is_dead = refl
 
 -- A RESTART IN THE MIDDLE OF A SIGNAL, of any bytes: the other side learns it from the greater
 -- session, and its holder is told that the link was lost
-abbrev pub attached_once : List Step
-attached_once =
-    takes 1 (Only (2 ∷ [])) (at 14 1) ∷ back (Arrived a (There l x11 b) (note 2 []) ∷ [])
-    ∷ made 2 (Send (There l x11 a) (note 2 []) Link) []
-    ∷ made 2 (Attach (There l x11 a) (note 252 [])) [] ∷ takes 2 (Only (1 ∷ [])) (at 10 1)
-    ∷ there (Arrived b (There l x11 a) (note 1 []) ∷ []) ∷ there (met_at 2 x11 a (codes "a") ∷ [])
-    ∷ posts x11 b (note 1 []) ∷ found_over
-
 abbrev restarted : List ℕ → List Step
 restarted bytes =
     made 1 (Restart (record { 0 = 1 })) (down 1 x11 ∷ Closed a ∷ []) ∷ posts x11 b (note 9 bytes)
-    ∷ attached_once
+    ∷ one_answered
 
 abbrev reconnected : List ℕ → List Step
 reconnected bytes =
@@ -155,25 +148,10 @@ reconnected bytes =
     ∷ there (down 2 x11 ∷ Notified b (There l x11 a) (note 252 (1 ∷ [])) (ref 12) reasons.Lost ∷ [])
     ∷ ends 1 [] ∷ restarted bytes
 
-pub attached_once_is_legal : IsLegal two_ends attached_once
-attached_once_is_legal =
-    found_over_is_legal
-    ▸ acts (made_by refl) (endpoint_kept refl) refl (omega arith) refl refl tt
-    ▸ brings (meets x11 a (codes "a")) refl refl
-    (record { up = refl; opened = refl; named = refl; new = refl })
-    ▸ brings (arrives x11 a b (note 1 [])) refl refl
-    (record { receiver = refl; sender = refl; alive = refl; front = ([], refl) })
-    ▸ acts (made_by refl) (endpoint_kept refl) refl tt refl tt refl
-    ▸ acts (made_by refl) (endpoint_kept refl) refl (omega arith) refl tt tt
-    ▸ acts (made_by refl) (endpoint_kept refl) refl (omega arith) refl refl tt
-    ▸ brings (arrives x11 b a (note 2 [])) refl refl
-    (record { receiver = refl; sender = refl; alive = refl; front = ([], refl) })
-    ▸ acts (made_by refl) (endpoint_kept refl) refl tt refl tt refl
-
 reconnected_is_legal : (bytes : List ℕ) → length bytes ≤ data_limit
     → IsLegal two_ends (reconnected bytes)
 reconnected_is_legal bytes bounded =
-    attached_once_is_legal
+    one_answered_is_legal
     ▸ acts (made_by refl) (endpoint_kept refl) refl bounded refl refl tt
     ▸ acts (made_by refl) (endpoint_kept refl) refl tt refl tt tt
     ▸ acts (made_by refl) (endpoint_kept refl) refl tt refl tt tt

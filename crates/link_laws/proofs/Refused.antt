@@ -20,9 +20,10 @@ use Rattle.link_laws.specs.Laws.{stays}
 use Rattle.link_laws.specs.Still.{IsStill, cut, whole as whole_link}
 use Rattle.link_laws.proofs.Playing.{acts, a, b, brings, down, l, met_at, posts, there, two_ends}
 use Rattle.link_laws.proofs.Playing.{x11, x21, ◌▸◌, pump}
-use Rattle.link_laws.proofs.Reconnected.{attached_once, cut_off}
-use Rattle.link_laws.proofs.Told.{arrivals_told, meetings_told, partings_told, sessions_told}
-use Rattle.link_laws.proofs.Worked.{closed_behind_data, found_over, found_over_is_legal}
+use Rattle.link_laws.proofs.Reconnected.{cut_off}
+use Rattle.link_laws.proofs.Told.{may_told}
+use Rattle.link_laws.proofs.Worked.{one_answered, closed_behind_data, found_over}
+use Rattle.link_laws.proofs.Worked.{found_over_is_legal}
 
 -- the numbers of the first signal, of the first byte
 abbrev first_number : List SigNote → ℕ
@@ -63,13 +64,13 @@ two_coming_is_legal =
 -- ARRIVALS. The second signal comes first
 second_comes_first : ¬ (IsPacket two_coming 2 1 l (Arrived b (There l x11 a) (note 2 []) ∷ []))
 second_comes_first packet =
-    let law : IsArrival two_coming 2 1 l x11 a b (note 2 []) = arrivals_told packet in
+    let law : IsArrival two_coming 2 1 l x11 a b (note 2 []) = may_told packet in
     unequal 1 2 refl (ap first_number law.front.1)
 
 -- a signal comes from one that wasn't met
 comes_from_a_stranger : ¬ (IsPacket two_sent 2 1 l (Arrived b (There l x11 a) (note 1 []) ∷ []))
 comes_from_a_stranger packet =
-    let law : IsArrival two_sent 2 1 l x11 a b (note 1 []) = arrivals_told packet in
+    let law : IsArrival two_sent 2 1 l x11 a b (note 1 []) = may_told packet in
     let wrong : false ≡ true = law.alive in
     cc
 
@@ -78,53 +79,53 @@ comes_again : ¬ (IsPacket (there (Arrived b (There l x11 a) (note 1 []) ∷ [])
     (Arrived b (There l x11 a) (note 1 []) ∷ []))
 comes_again packet =
     let law : IsArrival (there (Arrived b (There l x11 a) (note 1 []) ∷ []) ∷ two_coming) 2 1 l x11
-    a b (note 1 []) = arrivals_told packet in
+    a b (note 1 []) = may_told packet in
     unequal 2 1 refl (ap second_number law.front.1)
 
 -- MEETINGS. A peer is met twice
 met_twice : ¬ (IsPacket two_coming 2 1 l (met_at 2 x11 a (codes "a") ∷ []))
 met_twice packet =
-    let law : IsMeeting two_coming 2 1 l x11 a (codes "a") = meetings_told packet in
+    let law : IsMeeting two_coming 2 1 l x11 a (codes "a") = may_told packet in
     let wrong : true ≡ false = law.new in
     cc
 
 -- by a name that it wasn't opened with
 met_by_another_name : ¬ (IsPacket two_sent 2 1 l (met_at 2 x11 a (codes "c") ∷ []))
 met_by_another_name packet =
-    let law : IsMeeting two_sent 2 1 l x11 a (codes "c") = meetings_told packet in
+    let law : IsMeeting two_sent 2 1 l x11 a (codes "c") = may_told packet in
     unequal 97 99 refl (ap first_byte law.named)
 
 -- PARTINGS. A peer goes before all that it sent has come
 overtakes_data : ¬ (IsPacket closed_behind_data 2 1 l (Gone (record { 0 = 2 }) (There l x11 a)
     ∷ []))
 overtakes_data packet =
-    let law : IsParting closed_behind_data 2 1 l x11 a = partings_told packet in
+    let law : IsParting closed_behind_data 2 1 l x11 a = may_told packet in
     unequal 1 4 refl (ap length law.all_got.0)
 
 -- one goes that is open
 goes_while_open : ¬ (IsPacket two_coming 2 1 l (Gone (record { 0 = 2 }) (There l x11 a) ∷ []))
 goes_while_open packet =
-    let law : IsParting two_coming 2 1 l x11 a = partings_told packet in
+    let law : IsParting two_coming 2 1 l x11 a = may_told packet in
     let wrong : false ≡ true = law.closed in
     cc
 
 -- SESSIONS. A side goes up in a session that isn't its own
 up_in_another_session : ¬ (IsPacket [] 2 1 l (Up (record { 0 = 2 }) l x21 x11 ∷ []))
 up_in_another_session packet =
-    let law : IsGoingUp [] 2 1 l x21 x11 = sessions_told packet in
+    let law : IsGoingUp [] 2 1 l x21 x11 = may_told packet in
     unequal 8589934593 4294967297 refl (ap (λ (x : Session). x.0) law.own)
 
 -- with one that the other side never had
 up_with_no_session : ¬ (IsPacket [] 2 1 l (Up (record { 0 = 2 }) l x11 x21 ∷ []))
 up_with_no_session packet =
-    let law : IsGoingUp [] 2 1 l x11 x21 = sessions_told packet in
+    let law : IsGoingUp [] 2 1 l x11 x21 = may_told packet in
     let wrong : false ≡ true = law.other_had in
     cc
 
 -- a side goes down while the other one has the session still
 down_for_nothing : ¬ (IsPacket found_over 2 1 l (Down (record { 0 = 2 }) l x11 ∷ []))
 down_for_nothing packet =
-    let law : IsGoingDown found_over 2 1 l x11 = sessions_told packet in
+    let law : IsGoingDown found_over 2 1 l x11 = may_told packet in
     let wrong : 4294967297 < 4294967297 = law.passed in
     omega arith
 
@@ -138,7 +139,7 @@ lost_too_early (stays none) = absurd cc
 lost_too_early (loses x up silent same) = let wrong : 2 ≤ 1 = silent in omega arith
 
 -- EFFECTS. A restart closes the endpoints of its node alone
-forgets_the_session : ¬ (HasEffects two_ends attached_once 1 (Some a) (Restart (record { 0 = 1 }))
+forgets_the_session : ¬ (HasEffects two_ends one_answered 1 (Some a) (Restart (record { 0 = 1 }))
     (Closed a ∷ []))
 forgets_the_session same = absurd cc
 

@@ -3,8 +3,7 @@ use Rattle.std.proofs.Common.{◌≡◌, ℕ, List, refl, sym, ap, ◌∙◌, su
 use Rattle.linx_base.specs.declared.identity.LinkNo.{LinkNo}
 use Rattle.journal.specs.declared.effect.Effect.{Effect}
 use Rattle.journal.specs.declared.effect.Step.{Step}
-use Rattle.link_laws.specs.Brought.{Brought, KeepsArrivals, KeepsMeetings, KeepsPartings}
-use Rattle.link_laws.specs.Brought.{KeepsSessions, brought_at, brought_by, arrives, goes_down}
+use Rattle.link_laws.specs.Brought.{Brought, MayBring, arrives, brought_at, brought_by, goes_down}
 use Rattle.link_laws.specs.Brought.{goes_up, meets, nothing, parts}
 use Rattle.link_laws.specs.Laws.{IsPacket}
 
@@ -18,20 +17,11 @@ told_back P n l (arrives x a b note) = refl
 told_back P n l (meets x a name) = refl
 told_back P n l (parts x a) = refl
 
--- so the laws of what it brought are those of what is told
+-- so the law of what it brought is that of what is told
 module _ {P : List Step} {n m : ℕ} {l : LinkNo} {es : List Effect} (packet : IsPacket P n m l es)
   where
     pub tells : packet.what ≡ brought_by es
     tells = sym (ap brought_by packet.effects ∙ told_back P n l packet.what)
 
-    pub arrivals_told : KeepsArrivals P n m l (brought_by es)
-    arrivals_told = subst (KeepsArrivals P n m l) tells packet.arrivals
-
-    pub meetings_told : KeepsMeetings P n m l (brought_by es)
-    meetings_told = subst (KeepsMeetings P n m l) tells packet.meetings
-
-    pub partings_told : KeepsPartings P n m l (brought_by es)
-    partings_told = subst (KeepsPartings P n m l) tells packet.partings
-
-    pub sessions_told : KeepsSessions P n m l (brought_by es)
-    sessions_told = subst (KeepsSessions P n m l) tells packet.sessions
+    pub may_told : MayBring P n m l (brought_by es)
+    may_told = subst (MayBring P n m l) tells packet.may

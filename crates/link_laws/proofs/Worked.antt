@@ -19,11 +19,9 @@ use Rattle.journal.proofs.Playing.{closes, takes, ends}
 use Rattle.link_laws.specs.Brought.{nothing, goes_up, arrives, meets, parts}
 use Rattle.link_laws.specs.Laws.{IsLegal}
 use Rattle.link_laws.specs.Still.{whole as whole_link, IsStill}
-use Rattle.link_laws.proofs.Legal.{is_packet}
-use Rattle.link_laws.proofs.Playing.{acts, l, a, b, c, pump, there, back, posts, up, down, brings}
+use Rattle.link_laws.proofs.Playing.{acts, l, a, b, c, pump, there, back, posts, up, brings}
 use Rattle.link_laws.proofs.Playing.{passes, goes_through, finds_none, two_ends, x11, met_at}
-use Rattle.link_laws.proofs.Playing.{gone_at}
-use Rattle.link_laws.proofs.Playing.{one_still, ◌▸◌}
+use Rattle.link_laws.proofs.Playing.{gone_at, one_still, ◌▸◌}
 use Rattle.linx_base.specs.declared.signal.Reason.TheVariants as reasons
 
 -- A HUNT OVER A LINK: the link goes up, the hunted name is met, and the hunt is answered
@@ -124,13 +122,16 @@ five_arrived_is_legal =
       front = (note 2 [] ∷ note 3 [] ∷ note 4 [] ∷ note 5 [] ∷ [], refl);
     })
     ▸ passes (λ cut. refl) refl
-    ▸ goes_through refl (is_packet (arrives x11 a b (note 2 [])) refl
-    (record {
-      receiver = refl;
-      sender = refl;
-      alive = refl;
-      front = (note 3 [] ∷ note 4 [] ∷ note 5 [] ∷ [], refl);
-    }))
+    ▸ goes_through refl (record {
+      what = arrives x11 a b (note 2 []);
+      effects = refl;
+      may = record {
+        receiver = refl;
+        sender = refl;
+        alive = refl;
+        front = (note 3 [] ∷ note 4 [] ∷ note 5 [] ∷ [], refl);
+      };
+    })
     ▸ brings nothing refl refl tt
     ▸ goes_through refl refl
     ▸ brings (arrives x11 a b (note 3 [])) refl refl

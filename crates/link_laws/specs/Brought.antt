@@ -1,7 +1,6 @@
 -- What a packet brings to a node over a link, and when it may.
 use Rattle.std.specs.Prelude.{ℕ, ◌==◌, ◌≡◌, ◌<◌, Bool, true, false, ◌&&◌, List, [], ◌∷◌, ◌++◌, Some}
-use Rattle.std.specs.Prelude.{None}
-use Rattle.std.specs.Prelude.{IsSomeAnd}
+use Rattle.std.specs.Prelude.{None, IsSomeAnd}
 use Rattle.std.specs.List.{list_any, AllByRecursion}
 use Rattle.linx_base.specs.Numbers.{is_on}
 use Rattle.linx_base.specs.Peers.{same_inc, same_peer}
@@ -79,11 +78,6 @@ pub record IsArrival (P : List Step) (n m : ℕ) (l : LinkNo) (x : Session) (a b
   pub front : IsSomeAnd (paired_session P n l.0 x)
       (λ y. IsFront (arrived_from P b (There l x a) ++ note ∷ []) (sent_to P a (There l y b)))
 
--- what a packet brings keeps it
-abbrev pub KeepsArrivals : List Step → ℕ → ℕ → LinkNo → Brought → Type 0
-KeepsArrivals P n m l (arrives x a b note) = IsArrival P n m l x a b note
-KeepsArrivals P n m l _ = Unit {0}
-
 -- LAW OF MEETINGS. In the session that is up a node meets a peer once, by the name that it was
 -- opened with on the other node
 pub record IsMeeting (P : List Step) (n m : ℕ) (l : LinkNo) (x : Session) (a : Inc)
@@ -93,11 +87,6 @@ pub record IsMeeting (P : List Step) (n m : ℕ) (l : LinkNo) (x : Session) (a :
   pub named : name_of P a ≡ name
   pub new : was_met P n (There l x a) ≡ false
 
--- what a packet brings keeps it
-abbrev pub KeepsMeetings : List Step → ℕ → ℕ → LinkNo → Brought → Type 0
-KeepsMeetings P n m l (meets x a name) = IsMeeting P n m l x a name
-KeepsMeetings P n m l _ = Unit {0}
-
 -- LAW OF PARTINGS. A peer that goes was alive and is closed, and each open endpoint has got all
 -- that it sent
 pub record IsParting (P : List Step) (n m : ℕ) (l : LinkNo) (x : Session) (a : Inc) : Type 0 where
@@ -106,11 +95,6 @@ pub record IsParting (P : List Step) (n m : ℕ) (l : LinkNo) (x : Session) (a :
   pub all_got : IsSomeAnd (paired_session P n l.0 x)
       (λ y. AllByRecursion (λ b. arrived_from P b (There l x a) ≡ sent_to P a (There l y b))
       (open_endpoints P n))
-
--- what a packet brings keeps it
-abbrev pub KeepsPartings : List Step → ℕ → ℕ → LinkNo → Brought → Type 0
-KeepsPartings P n m l (parts x a) = IsParting P n m l x a
-KeepsPartings P n m l _ = Unit {0}
 
 -- LAW OF SESSIONS. A side that is down goes up in its own session, with one that the other side has
 -- or had
@@ -124,8 +108,11 @@ pub record IsGoingDown (P : List Step) (n m : ℕ) (l : LinkNo) (x : Session) : 
   pub up : up_session P n l.0 ≡ Some x
   pub passed : IsSomeAnd (paired_session P n l.0 x) (λ y. y.0 < (own_session P m l.0).0)
 
--- what a packet brings keeps it
-abbrev pub KeepsSessions : List Step → ℕ → ℕ → LinkNo → Brought → Type 0
-KeepsSessions P n m l (goes_up x y) = IsGoingUp P n m l x y
-KeepsSessions P n m l (goes_down x) = IsGoingDown P n m l x
-KeepsSessions P n m l _ = Unit {0}
+-- what a packet brings to node n from node m may come: the law of what it is holds
+abbrev pub MayBring : List Step → (n m : ℕ) → LinkNo → Brought → Type 0
+MayBring P n m l nothing = Unit {0}
+MayBring P n m l (goes_up x y) = IsGoingUp P n m l x y
+MayBring P n m l (goes_down x) = IsGoingDown P n m l x
+MayBring P n m l (arrives x a b note) = IsArrival P n m l x a b note
+MayBring P n m l (meets x a name) = IsMeeting P n m l x a name
+MayBring P n m l (parts x a) = IsParting P n m l x a

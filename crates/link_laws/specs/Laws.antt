@@ -20,8 +20,7 @@ use Rattle.journal.specs.declared.effect.Effect.TheVariants.{Down}
 use Rattle.journal.specs.declared.effect.Step.{Step}
 use Rattle.journal.specs.declared.head.Head.{Head}
 use Rattle.journal.specs.declared.head.Head.TheVariants.{TakeNone, Restart, Wire, Tick}
-use Rattle.link_laws.specs.Brought.{Brought, KeepsArrivals, KeepsMeetings, KeepsPartings}
-use Rattle.link_laws.specs.Brought.{KeepsSessions, brought_at}
+use Rattle.link_laws.specs.Brought.{Brought, MayBring, brought_at}
 use Rattle.link_laws.specs.Ends.{node_at}
 use Rattle.link_laws.specs.Sessions.{is_cut, silent_ticks}
 use Rattle.link_laws.specs.Still.{AllStill}
@@ -66,10 +65,7 @@ delivers (Swap k) = false
 pub record IsPacket (P : List Step) (n m : ℕ) (l : LinkNo) (es : List Effect) : Type 0 where
   pub what : Brought
   pub effects : es ≡ brought_at P n l what
-  pub arrivals : KeepsArrivals P n m l what
-  pub meetings : KeepsMeetings P n m l what
-  pub partings : KeepsPartings P n m l what
-  pub sessions : KeepsSessions P n m l what
+  pub may : MayBring P n m l what
 
 -- one that isn't handed over brings nothing
 abbrev pub IsHandedOver : Bool → List Step → (n m : ℕ) → LinkNo → List Effect → Type 0
