@@ -41,7 +41,6 @@ use Rattle.link_laws.proofs.Opened.{open-on}
 use Rattle.link_laws.proofs.Restarts.{keeps_restart}
 use Rattle.link_laws.proofs.Sides.{no_signal}
 use Rattle.link_laws.proofs.Turns.{keeps_beginning}
-use Rattle.linx_base.specs.declared.signal.Reason.TheVariants as reasons
 
 -- THE RESTART of a node, over all links
 abbrev pub restarted : Shape → Trunks → ℕ → Session → Trunks

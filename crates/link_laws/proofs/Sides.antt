@@ -30,7 +30,6 @@ use Rattle.link_laws.specs.Linked.{IsLinked, shown_by, IsAt}
 use Rattle.link_laws.specs.Sessions.{same_side}
 use Rattle.link_laws.proofs.Away.{touches}
 use Rattle.link_laws.proofs.Done.{AreItems}
-use Rattle.linx_base.specs.declared.signal.Reason.TheVariants as reasons
 
 pub founds-items : (path : Path) (q : Peer) (hunts : List PendingHunt)
     → AreItems (founds path q hunts)
