@@ -118,9 +118,9 @@ fn rounds_leave_nobody_out(rt: HostRuntime) -> Result<(), Fail> {
     for over in [false, false, true] {
         assert!(rt; matches!(stage.round(), Ok(is) if is == over));
     }
-    let mut position = 0;
+    let mut position: u64 = 0;
     for (actor, word) in STEPS {
-        position += 1;
+        position = position.saturating_add(1);
         assert!(rt; is_step(stage.journal(), position, actor, word));
     }
     assert_eq!(rt; stage.journal().len(), position);
