@@ -1,0 +1,13 @@
+pub mod Fronts
+pub mod Lookups
+pub mod Joining
+pub mod Growing
+pub mod Ends
+pub mod Flying
+pub mod Stepping
+pub mod Reacting
+pub mod Promising
+pub mod Links
+pub mod Telling
+pub mod Delivering
+pub mod Worked

@@ -1,0 +1,9 @@
+//! Two ends of a link, the packets in flight between them, and the record of all their sessions:
+//! what each event makes of them, what holds of them whatever happened, and what is promised.
+#![tactic(auto)]
+
+mod handed;
+mod laws;
+
+pub use handed::{Handed, TickedSide};
+pub use laws::{events_keep, events_tell, links_keep_promises, quiet_is_complete};
