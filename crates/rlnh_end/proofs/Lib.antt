@@ -1,0 +1,5 @@
+pub mod Saying
+mod Worked
+mod ByRule
+mod Reading
+mod Listing

@@ -1,0 +1,7 @@
+pub mod States
+pub mod Words
+pub mod Calls
+pub mod Hearing
+pub mod Reactions
+pub mod BadList
+pub mod Rows

@@ -1,0 +1,16 @@
+//! One end of a link as RLNH has it: which endpoints the two nodes of a link have told each other
+//! of. It gives link addresses to endpoints of its own node, knows the peers that it has met by
+//! theirs, and notes the names that the other side asked for. What a call or a message makes of
+//! these tables, and what the end says thereby, is a function of the tables and of what came, one
+//! small function a rule, in `specs/`.
+#![tactic(auto)]
+
+mod heard;
+mod laws;
+mod met_at;
+mod up;
+
+pub use heard::Heard;
+pub use laws::{calls_follow_rules, hearing_follows_rules};
+pub use met_at::MetAt;
+pub use up::Up;
