@@ -88,48 +88,77 @@ fn tell(rt: &HostRuntime, start: Instant, pending: u64, what: &str) -> anyhow::R
     Ok(())
 }
 
-fn measured(rt: &HostRuntime, pending: u64) -> anyhow::Result<()> {
-    let alloc = rt.alloc();
-    let mut kernel = Kernel::new(alloc, NodeNo(1));
-    let a = opened(alloc, &mut kernel, 0)?;
-    let b = opened(alloc, &mut kernel, 1)?;
+/// Leaves so many hunts and attaches pending at an endpoint.
+fn leave(alloc: Global, kernel: &mut Kernel, a: Inc, b: Inc, pending: u64) -> anyhow::Result<()> {
     for k in 0..pending {
-        hunt(alloc, &mut kernel, a, k.saturating_add(1_000_000))?;
-        attach(alloc, &mut kernel, a, b, k)?;
+        hunt(alloc, kernel, a, k.saturating_add(1_000_000))?;
+        attach(alloc, kernel, a, b, k)?;
     }
+    Ok(())
+}
+
+fn hunts(rt: &HostRuntime, kernel: &mut Kernel, b: Inc, pending: u64) -> anyhow::Result<()> {
     let start = Instant::now(rt).context("clock")?;
     for k in 0..ROUNDS {
-        hunt(alloc, &mut kernel, b, k.saturating_add(2_000_000))?;
+        hunt(rt.alloc(), kernel, b, k.saturating_add(2_000_000))?;
     }
-    tell(rt, start, pending, "a hunt")?;
+    tell(rt, start, pending, "a hunt")
+}
+
+fn attaches(rt: &HostRuntime, kernel: &mut Kernel, a: Inc, b: Inc, pending: u64) -> anyhow::Result<()> {
     let start = Instant::now(rt).context("clock")?;
     for k in 0..ROUNDS {
-        attach(alloc, &mut kernel, b, a, k.saturating_add(2_000_000))?;
+        attach(rt.alloc(), kernel, b, a, k.saturating_add(2_000_000))?;
     }
-    tell(rt, start, pending, "an attach")?;
+    tell(rt, start, pending, "an attach")
+}
+
+fn detaches(rt: &HostRuntime, kernel: &mut Kernel, b: Inc, pending: u64) -> anyhow::Result<()> {
     let start = Instant::now(rt).context("clock")?;
     for k in 0..ROUNDS {
-        detach(&mut kernel, b, k.saturating_add(2_000_000))?;
+        detach(kernel, b, k.saturating_add(2_000_000))?;
     }
-    tell(rt, start, pending, "a detach")?;
+    tell(rt, start, pending, "a detach")
+}
+
+fn answers(rt: &HostRuntime, kernel: &mut Kernel, pending: u64) -> anyhow::Result<()> {
     let start = Instant::now(rt).context("clock")?;
     for k in 0..ROUNDS {
-        let found = opened(alloc, &mut kernel, k.saturating_add(2_000_000))?;
-        closed(&mut kernel, found)?;
+        let found = opened(rt.alloc(), kernel, k.saturating_add(2_000_000))?;
+        closed(kernel, found)?;
     }
-    tell(rt, start, pending, "an opening that answers a hunt, and its closing")?;
+    tell(rt, start, pending, "an opening that answers a hunt, and its closing")
+}
+
+fn notices(rt: &HostRuntime, kernel: &mut Kernel, b: Inc, pending: u64) -> anyhow::Result<()> {
     let start = Instant::now(rt).context("clock")?;
     for k in 0..ROUNDS {
-        let c = opened(alloc, &mut kernel, 2)?;
-        attach(alloc, &mut kernel, b, c, k.saturating_add(3_000_000))?;
-        closed(&mut kernel, c)?;
+        let c = opened(rt.alloc(), kernel, 2)?;
+        attach(rt.alloc(), kernel, b, c, k.saturating_add(3_000_000))?;
+        closed(kernel, c)?;
     }
-    tell(rt, start, pending, "an opening, an attach and a closing that notifies")?;
+    tell(rt, start, pending, "an opening, an attach and a closing that notifies")
+}
+
+fn all_notices(rt: &HostRuntime, kernel: &mut Kernel, b: Inc, pending: u64) -> anyhow::Result<()> {
     let start = Instant::now(rt).context("clock")?;
-    closed(&mut kernel, b)?;
+    closed(kernel, b)?;
     let spent = start.elapsed(rt).context("clock")?.as_nanos();
     println!(rt; "{pending} pending: {} ns a notification of all", spent / u128::from(pending.max(1)))?;
     Ok(())
+}
+
+fn measured(rt: &HostRuntime, pending: u64) -> anyhow::Result<()> {
+    let mut kernel = Kernel::new(rt.alloc(), NodeNo(1));
+    let a = opened(rt.alloc(), &mut kernel, 0)?;
+    let b = opened(rt.alloc(), &mut kernel, 1)?;
+    leave(rt.alloc(), &mut kernel, a, b, pending)?;
+    hunts(rt, &mut kernel, b, pending)?;
+    attaches(rt, &mut kernel, a, b, pending)?;
+    detaches(rt, &mut kernel, b, pending)?;
+    answers(rt, &mut kernel, pending)?;
+    notices(rt, &mut kernel, b, pending)?;
+    all_notices(rt, &mut kernel, b, pending)
 }
 
 fn main(rt: HostRuntime) -> anyhow::Result<()> {
