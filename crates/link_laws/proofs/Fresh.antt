@@ -133,7 +133,7 @@ opened-few shape (s ∷ P) legal node =
     in
     omega arith
 
-node_of-next : (node opened : ℕ) → opened < 4294967295 → node_of (next_inc node opened) ≡ node
+pub node_of-next : (node opened : ℕ) → opened < 4294967295 → node_of (next_inc node opened) ≡ node
 node_of-next node opened fits = omega arith
 
 -- each incarnation that was opened is below the next one of its node

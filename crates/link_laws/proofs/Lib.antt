@@ -33,3 +33,5 @@ pub mod New
 pub mod Published
 pub mod Closings
 pub mod Answers
+pub mod Meetings
+pub mod Unfound
