@@ -60,7 +60,7 @@ talks A B near far pair back =
 
 -- MORE IS SAID on either side, hunts and names being as before
 pub hunts_more : (P Q : List Step) (n m : ℕ) (l : LinkNo) (A B : SideRecord) (noted : List (List ℕ))
-    (wa wb : List Said) → IsSameHere P Q n m → AreHunted P n m l A B noted
+    (wa wb : List Said) → IsSameHere P Q n m l → AreHunted P n m l A B noted
     → (A.now.peer ≡ Some B.now.session → B.now.peer ≡ Some A.now.session → IsTalking A B)
     → AreHunted Q n m l (saying wa A) (saying wb B) noted
 hunts_more P Q n m l A B noted wa wb same hunts were = record {
@@ -82,7 +82,7 @@ hunts_more P Q n m l A B noted wa wb same hunts were = record {
   where
     was : (v : List ℕ) → list_any (is_hunt_over l v) (hunting Q n) ≡ true
         → list_any (is_hunt_over l v) (hunting P n) ≡ true
-    was v is = same.hunts l v is
+    was v is = same.hunts v is
 
     more : (far near old_far old_near : List Said) (v : List ℕ) → far ≡ wa ++ old_far
         → near ≡ wb ++ old_near → Stands P m noted v old_far old_near → Stands Q m noted v far near
@@ -247,6 +247,14 @@ pub hunts_down_near : (Q : List Step) (n m : ℕ) (l : LinkNo) (A B : SideRecord
 hunts_down_near Q n m l A B noted x = record {
   asked_all = λ v up is. absurd (up refl);
   stand = λ talk v is. let pair = talk.pair in absurd cc;
+}
+
+pub hunts_down_far : (P Q : List Step) (n m : ℕ) (l : LinkNo) (A B : SideRecord)
+    (noted noted' : List (List ℕ)) (x : Session) → IsSameHere P Q n m l
+    → AreHunted P n m l A B noted → AreHunted Q n m l A (beginning x B) noted'
+hunts_down_far P Q n m l A B noted noted' x same hunts = record {
+  asked_all = λ v up is. hunts.asked_all v up (same.hunts v is);
+  stand = λ talk v is. let back = talk.back in absurd cc;
 }
 
 -- A NAME IS OPENED on the far node: where it was noted it is published

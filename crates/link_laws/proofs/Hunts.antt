@@ -55,9 +55,9 @@ live-parts P m i (unpublished j ∷ later) before truly is =
     second true e = absurd (true≢false (sym e))
     second false e = e
 
--- a step after which no hunt and no open name is new
-pub record IsSameHere (P Q : List Step) (n m : ℕ) : Type 0 where
-  pub hunts : (l : LinkNo) (w : List ℕ) → list_any (is_hunt_over l w) (hunting Q n) ≡ true
+-- a step after which no hunt over a link and no open name is new
+pub record IsSameHere (P Q : List Step) (n m : ℕ) (l : LinkNo) : Type 0 where
+  pub hunts : (w : List ℕ) → list_any (is_hunt_over l w) (hunting Q n) ≡ true
       → list_any (is_hunt_over l w) (hunting P n) ≡ true
   pub none : (v : List ℕ) → HasNone P m v → HasNone Q m v
 
@@ -72,10 +72,10 @@ end-parts p later w is =
     ]
 
 module _ (P Q : List Step) (n m : ℕ) (l : LinkNo) (A B : SideRecord) (noted : List (List ℕ))
-    (v : List ℕ) (same : IsSameHere P Q n m) (hunts : AreHunted P n m l A B noted) where
+    (v : List ℕ) (same : IsSameHere P Q n m l) (hunts : AreHunted P n m l A B noted) where
   hunts_were : (w : List ℕ) → list_any (is_hunt_over l w) (hunting Q n) ≡ true
       → list_any (is_hunt_over l w) (hunting P n) ≡ true
-  hunts_were w is = same.hunts l w is
+  hunts_were w is = same.hunts w is
 
   -- before the question was heard it was on its way
   abbrev before_asked : (ws : List Said) → (talk : IsTalking A (saying ws (giving (asked_for v) B)))

@@ -35,3 +35,4 @@ pub mod Closings
 pub mod Answers
 pub mod Meetings
 pub mod Unfound
+pub mod Hunted

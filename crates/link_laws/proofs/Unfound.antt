@@ -37,6 +37,7 @@ use Rattle.journal.specs.declared.effect.Step.{Step}
 use Rattle.journal.specs.declared.head.Head.{Head}
 use Rattle.journal.specs.declared.head.Head.TheVariants.{Hunt}
 use Rattle.journal.proofs.Lists.{all-append, all-filter, all-impl, list_any-filter}
+use Rattle.journal.proofs.Lists.{list_any-wider}
 use Rattle.journal.proofs.Openings.{IsShort, last_in, last_opened-opens, next_on, unless_closed-some}
 use Rattle.link_laws.specs.Laws.{HasEffects, IsLegal, IsLegalStep}
 use Rattle.link_laws.specs.Linked.{IsTrueOf, IsUnfound, is_hunted}
@@ -238,7 +239,7 @@ path-same l x a name (Over k v) is =
 none-met : (n : ℕ) (path : Path) (es : List Effect) → MeetsNone es
     → list_any (meets_at n path) es ≡ true → ⊥
 none-met n path es none is =
-    true≢false (sym (Rattle.journal.proofs.Lists.list_any-wider (meets_at n path) is_meeting wider es is) ∙ none)
+    true≢false (sym (list_any-wider (meets_at n path) is_meeting wider es is) ∙ none)
   where
     wider : (e : Effect) → meets_at n path e ≡ true → is_meeting e ≡ true
     wider (Met k q name) is = refl

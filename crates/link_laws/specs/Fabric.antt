@@ -42,6 +42,11 @@ pub record SideState : Type 0 where
 abbrev pub Links : Type 0
 Links = ℕ → Side → SideState
 
+-- one side is in another state now
+abbrev pub with_state : Links → ℕ → Side → SideState → Links
+with_state links link side C k at =
+    if k == link && same_side side at then C else links k at
+
 -- their records
 abbrev pub records_of : Links → Trunks
 records_of links k at = (links k at).side
