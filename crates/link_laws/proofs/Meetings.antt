@@ -51,7 +51,8 @@ pub items-meet_none : (e : Effect) → is_item e ≡ true → is_meeting e ≡ f
 items-meet_none (Met n q name) is = absurd (true≢false (sym is))
 items-meet_none _ is = refl
 
-ending-meets_none : (me : Option Inc) (attaches : List PendingAttach) → MeetsNone (ending me attaches)
+ending-meets_none : (me : Option Inc) (attaches : List PendingAttach)
+    → MeetsNone (ending me attaches)
 ending-meets_none None attaches = refl
 ending-meets_none (Some j) attaches = any-items is_meeting items-meet_none _
     (notices-items reasons.Closed (same_peer (Here j)) (held_elsewhere j attaches))

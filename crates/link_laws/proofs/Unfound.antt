@@ -38,7 +38,8 @@ use Rattle.journal.specs.declared.head.Head.{Head}
 use Rattle.journal.specs.declared.head.Head.TheVariants.{Hunt}
 use Rattle.journal.proofs.Lists.{all-append, all-filter, all-impl, list_any-filter}
 use Rattle.journal.proofs.Lists.{list_any-wider}
-use Rattle.journal.proofs.Openings.{IsShort, last_in, last_opened-opens, next_on, unless_closed-some}
+use Rattle.journal.proofs.Openings.{IsShort, last_in, last_opened-opens, next_on}
+use Rattle.journal.proofs.Openings.{unless_closed-some}
 use Rattle.link_laws.specs.Laws.{HasEffects, IsLegal, IsLegalStep}
 use Rattle.link_laws.specs.Linked.{IsTrueOf, IsUnfound, is_hunted}
 use Rattle.link_laws.specs.Still.{is_hunt_over, is_path_over}
@@ -423,7 +424,8 @@ living-named P n z [] was new = was
 living-named P n z (e ∷ es) was new =
     living-named P n (living_after n z e) es (one e new.0) new.1
   where
-    fewer : (t : Bool) (p : MetPeer → Bool) → AllByRecursion (IsTrulyNamed P) (cond t (filter p z) z)
+    fewer : (t : Bool) (p : MetPeer → Bool) → AllByRecursion (IsTrulyNamed P)
+        (cond t (filter p z) z)
     fewer true p = all-filter (IsTrulyNamed P) p z was
     fewer false p = was
 
@@ -503,7 +505,8 @@ unfound shape P legal short n l v hunted_for x a lives =
     passes (Over k u) on q name named is same =
         let peer : q ≡ There l x a = same_peer-is l x a q is in
         let both = both_true (k.0 == l.0) (bytes_eq u v) on in
-        let there : IsNamed P (There l x a) name = subst (λ (p : Peer). IsNamed P p name) peer named in
+        let there : IsNamed P (There l x a) name =
+        subst (λ (p : Peer). IsNamed P p name) peer named in
         let name_is : u ≡ name = bytes_eq-is u v both.1 ∙ bytes_eq-is v (name_of P a) same
         ∙ there.1.1 in
         ap (λ p. is_over k p && bytes_eq u name) peer
