@@ -1,5 +1,5 @@
 ghost use Rattle.std.specs.Prelude.{◌≡◌, ◌≤◌, IfOk, OnOk, OnErr, None, true, false, length};
-ghost use Rattle.std.specs.Prelude.{slice_get, if◌then◌else◌};
+ghost use Rattle.std.specs.Prelude.{if◌then◌else◌};
 ghost use Rattle.std.specs.Option.{option_copied};
 ghost use Rattle.actor_run.specs.Asking.{ask_of, peer_of, ask_forward, asked_by, handed};
 ghost use Rattle.actor_run.specs.Asking.{is_forward, is_sending, fits_signal, AreRunnable};

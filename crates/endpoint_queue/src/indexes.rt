@@ -1,4 +1,4 @@
-ghost use Rattle.std.specs.Prelude.{◌≡◌, ◌+◌, ◌≤◌, [], length, OnOk, Some, None};
+ghost use Rattle.std.specs.Prelude.{◌≡◌, ◌+◌, ◌≤◌, [], length, OnOk};
 ghost use Rattle.endpoint_queue.specs.Places.{attach_of, number_key, notice_key};
 ghost use Rattle.endpoint_queue.specs.IndexChanges.{AddsKey, CanTake, HasKey, TakesOutKey};
 

@@ -1,5 +1,5 @@
-ghost use Rattle.std.specs.Prelude.{◌≡◌, ◌+◌, ◌<◌, ◌≤◌, [], true, false, length, drop, remove};
-ghost use Rattle.std.specs.Prelude.{nat_lt, IfOk, IfErr, IfNone, IsSome, OnOk, OnErr, OnSome};
+ghost use Rattle.std.specs.Prelude.{◌≡◌, ◌+◌, ◌<◌, ◌≤◌, [], false, length, drop, remove};
+ghost use Rattle.std.specs.Prelude.{IfOk, IfErr, IfNone, IsSome, OnOk, OnErr, OnSome};
 ghost use Rattle.std.specs.Option.{option_copied};
 ghost use Rattle.linx_base.specs.Both.{still};
 ghost use Rattle.ethcm_window.specs.Sending.{number_limit, sent_frame};

@@ -1,5 +1,5 @@
 ghost use Rattle.std.specs.Prelude.{◌≡◌, ◌==◌, ◌||◌, ◌+◌, ◌<◌, ◌≤◌, Option, true, false, []};
-ghost use Rattle.std.specs.Prelude.{length, replicate, is_some, IfOk, IfErr, OnOk, IsSome, IsTrue};
+ghost use Rattle.std.specs.Prelude.{length, replicate, is_some, IfOk, IfErr, OnOk, IsSome};
 ghost use Rattle.std.specs.Prelude.{Some, None};
 ghost use Rattle.linx_base.specs.declared.signal.SigNote.{SigNote};
 ghost use Rattle.sigsel.specs.Selection.{first_selected};

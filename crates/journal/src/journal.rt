@@ -1,5 +1,5 @@
 ghost use Rattle.std.specs.Prelude.{◌≡◌, ◌+◌, ◌-◌, ◌≤◌, ◌<◌, ◌^◌, ◌↔◌, [], ◌∷◌, min, length};
-ghost use Rattle.std.specs.Prelude.{sum_by, OnOk, OnErr, IfSome, IsTrue, slice_get};
+ghost use Rattle.std.specs.Prelude.{OnOk, IsTrue, slice_get};
 ghost use Rattle.std.specs.Option.{option_copied};
 ghost use Rattle.linx_base.specs.Content.{size_of};
 ghost use Rattle.journal.specs.Logs.{head_bytes, effect_bytes, step_bytes};

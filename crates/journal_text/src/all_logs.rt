@@ -1,7 +1,6 @@
 //! The logs of all incarnations, in order of opening. The journal is read twice, however many
 //! incarnations there are.
 ghost use Rattle.std.specs.Prelude.{◌≡◌, ◌++◌, flat_map, OnOk, OnErr, IfOk};
-ghost use Rattle.journal.specs.History.{effects_of};
 ghost use Rattle.journal_text.specs.Blocks.{log_text, logs_text};
 ghost use Rattle.journal_text.specs.Collected.{Collects, opened_log};
 

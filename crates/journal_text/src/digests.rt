@@ -1,7 +1,7 @@
 //! The digests of a journal's signals, each made once, before any of it is printed. One is kept
 //! with the bytes that it is of, under the step and the place where they stand, and is used only
 //! where these bytes are printed: so what is printed depends on nothing that is kept.
-ghost use Rattle.std.specs.Prelude.{◌≡◌, ◌↔◌, IsTrue, IfOk, IfSome};
+ghost use Rattle.std.specs.Prelude.{◌≡◌, ◌↔◌, IsTrue, IfOk};
 ghost use Rattle.sha2.specs.Sha256.{sha256};
 
 use crate::reading::step_after;

@@ -1,7 +1,7 @@
 //! Bytes, numbers, hexadecimal and digests, each written through one call of what makes them. What
 //! is written goes to the end of a buffer; after a refusal the buffer holds some front of it, which
 //! the callers throw away.
-ghost use Rattle.std.specs.Prelude.{◌≡◌, ◌++◌, decimal, length, codes, OnOk};
+ghost use Rattle.std.specs.Prelude.{◌≡◌, ◌++◌, decimal, OnOk};
 ghost use Rattle.hex.specs.Hex.{encode_lower};
 ghost use Rattle.journal_text.specs.Values.{digest_text, data_text};
 

@@ -1,8 +1,8 @@
 //! The lines of a log.
-ghost use Rattle.std.specs.Prelude.{◌≡◌, ◌++◌, codes, flat_map, OnOk};
+ghost use Rattle.std.specs.Prelude.{◌≡◌, ◌++◌, codes, OnOk};
 ghost use Rattle.std.specs.Option.{option_copied};
 ghost use Rattle.journal_text.specs.Values.{peer_signal_text, reason_text};
-ghost use Rattle.journal_text.specs.Blocks.{title_text, concerned, effect_log, effect_at};
+ghost use Rattle.journal_text.specs.Blocks.{title_text, concerned, effect_log};
 ghost use Rattle.journal_text.specs.Blocks.{item_text, head_log};
 
 use crate::digests::{Digested, Digests};

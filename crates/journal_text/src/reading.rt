@@ -1,7 +1,6 @@
 //! The steps of a journal in order, and the effects that items stand for.
 ghost use Rattle.std.specs.Prelude.{◌≡◌, ◌+◌, ◌<◌, ◌∷◌, Some, length};
 ghost use Rattle.std.specs.Option.{option_copied};
-ghost use Rattle.journal.specs.Logs.{step_at};
 ghost use Rattle.journal_text.specs.Histories.{first_steps};
 ghost use Rattle.journal_text.specs.Blocks.{nth_effect, effect_at};
 

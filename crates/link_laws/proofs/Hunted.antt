@@ -1,40 +1,38 @@
 -- Where pending hunts stand, on every side of every link, after each kind of step.
-use Rattle.std.proofs.Common.{◌≡◌, ℕ, suc, Bool, true, false, cond, not, ◌||◌, ◌&&◌, ◌⊎◌, inl, inr}
-use Rattle.std.proofs.Common.{List, [], ◌∷◌, ◌++◌, length, map, Some, None, refl, sym, ◌∙◌}
+use Rattle.std.proofs.Common.{◌≡◌, ℕ, suc, Bool, true, false, cond, not, ◌&&◌, inl, inr}
+use Rattle.std.proofs.Common.{List, [], ◌∷◌, ◌++◌, length, map, refl, sym, ◌∙◌}
 use Rattle.std.proofs.Common.{ap, subst, append_assoc}
 use Rattle.std.specs.Prelude.{◌==◌, ◌≢◌}
-use Rattle.std.specs.List.{list_any, filter, filter_map, AllByRecursion}
+use Rattle.std.specs.List.{list_any, filter, filter_map}
 use Rattle.std.specs.Str.{bytes_eq}
 use Rattle.std.proofs.lemmas.Bool.{eqb-true, or_cases, true≢false}
 use Rattle.std.proofs.lemmas.List.Folds.{list_any-append}
 use Rattle.linx_base.specs.Numbers.{is_on}
-use Rattle.linx_base.specs.Peers.{same_inc, same_path}
+use Rattle.linx_base.specs.Peers.{same_inc}
 use Rattle.linx_base.specs.Sides.{other_of}
 use Rattle.linx_base.specs.declared.identity.Inc.{Inc}
 use Rattle.linx_base.specs.declared.identity.LinkNo.{LinkNo}
-use Rattle.linx_base.specs.declared.identity.Peer.TheVariants.{Here, There}
+use Rattle.linx_base.specs.declared.identity.Peer.TheVariants.{Here}
 use Rattle.linx_base.specs.declared.identity.Session.{Session}
 use Rattle.linx_base.specs.declared.identity.Side.{Side}
 use Rattle.linx_base.specs.declared.identity.Side.TheVariants.{First, Second}
-use Rattle.linx_base.specs.declared.name.Path.TheVariants.{Over}
 use Rattle.linx_base.specs.declared.pending.PendingHunt.{PendingHunt}
-use Rattle.trunk_record.specs.Changes.{beginning, giving, going_up, saying}
+use Rattle.trunk_record.specs.Changes.{beginning, giving, saying}
 use Rattle.trunk_record.specs.Records.{SideRecord}
-use Rattle.trunk_record.specs.Sayings.{Given, Said, heard_as, met}
+use Rattle.trunk_record.specs.Sayings.{Given, Said, heard_as}
 use Rattle.trunk_record.specs.Trunks.{IsHalf}
 use Rattle.journal.specs.History.{endpoint_by, name_in, name_of, name_or_none, opened_by, opened_in}
 use Rattle.journal.specs.History.{opening_name, opens}
 use Rattle.journal.specs.Living.{is_alive}
 use Rattle.journal.specs.Pending.{ends_hunt, hunt_in, hunting}
 use Rattle.journal.specs.Shapes.{Shape}
-use Rattle.journal.specs.declared.effect.Effect.{Effect}
 use Rattle.journal.specs.declared.effect.Step.{Step}
 use Rattle.journal.proofs.Lists.{list_any-filter}
 use Rattle.journal.proofs.Openings.{same_inc-true}
 use Rattle.link_laws.specs.Ends.{IsLinkOf, node_at}
 use Rattle.link_laws.specs.Fabric.{AllHunted, Links, SideState, with_state}
-use Rattle.link_laws.specs.Linked.{AreHunted, HasNone, IsTalking, Stands, asking, asks, coming}
-use Rattle.link_laws.specs.Linked.{is_hunted, offers, waiting}
+use Rattle.link_laws.specs.Linked.{AreHunted, IsTalking, Stands, asking, asks, coming}
+use Rattle.link_laws.specs.Linked.{offers, waiting}
 use Rattle.link_laws.specs.Sessions.{same_side}
 use Rattle.link_laws.specs.Still.{is_hunt_over}
 use Rattle.link_laws.proofs.Hunts.{IsSameHere, end-parts}

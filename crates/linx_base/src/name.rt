@@ -1,4 +1,4 @@
-ghost use Rattle.std.specs.Prelude.{◌≡◌, ◌↔◌, false, true, List, ℕ, IsTrue, IfOk, IfErr};
+ghost use Rattle.std.specs.Prelude.{◌≡◌, ◌↔◌, false, List, ℕ, IsTrue, IfOk, IfErr};
 ghost use Rattle.std.specs.List.{list_all};
 ghost use Rattle.linx_base.specs.NameText.{is_name_byte, is_name};
 ghost use Rattle.linx_base.specs.declared.name.NameError.TheVariants.{NoMemory as OutOfMemory};

@@ -1,16 +1,14 @@
 //! The top call: words, script, run, text.
 
-ghost use Rattle.std.specs.Prelude.{◌≡◌, ◌≢◌, ◌⊎◌, Some, true, [], Ok};
+ghost use Rattle.std.specs.Prelude.{◌≡◌, ◌≢◌, ◌⊎◌, true, [], Ok};
 ghost use Rattle.std.specs.Prelude.{IfOk, IfErr, OnOk, IfSome};
 ghost use Rattle.std.specs.Io.KnownBytes.{IsAtEnd};
-ghost use Rattle.linx_outside.specs.Counts.{HasFaulted, NeverFalls};
 ghost use Rattle.journal_text.specs.Text.{text_of};
 ghost use Rattle.script_lang.specs.Reading.{script_of};
 ghost use Rattle.linx_sim.specs.CommandLine.{IsCommand};
 ghost use Rattle.linx_sim.specs.Statuses.{IsUsageOrRefused};
 ghost use Rattle.linx_sim.specs.Streams.{Reads, Writes, TakesAtMost, read_most};
 ghost use Rattle.linx_sim.specs.Runs.{is_built, IsAnswerTo, IsCaused, IsLegalSomehow, Completes};
-ghost use Rattle.stage.specs.Plays.{Play};
 ghost use Rattle.linx_sim.specs.Causes.{IsUnread, is_of_writing, read_status, script_status};
 ghost use Rattle.linx_sim.specs.Causes.{stop_status};
 

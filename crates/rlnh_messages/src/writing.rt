@@ -1,4 +1,4 @@
-ghost use Rattle.std.specs.Prelude.{◌≡◌, ◌++◌, OnOk, IfOk, [], ◌∷◌};
+ghost use Rattle.std.specs.Prelude.{◌≡◌, ◌++◌, IfOk};
 ghost use Rattle.rlnh_messages.specs.Messages.{HasAddress, IsMessage, spelling_of, typed};
 ghost use Rattle.byteorder.specs.Endian.{big_bytes};
 

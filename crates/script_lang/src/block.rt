@@ -1,6 +1,6 @@
 //! Lines of an actor's block.
 
-ghost use Rattle.std.specs.Prelude.{◌≡◌, ◌*◌, ◌++◌, ◌≤◌, length, IfOk, OnOk, true};
+ghost use Rattle.std.specs.Prelude.{◌≡◌, ◌++◌, ◌≤◌, length, IfOk, OnOk, true};
 ghost use Rattle.std.specs.List.{list_all, repeat};
 ghost use Rattle.script_lang.specs.Limits.{all_commands_limit, command_limit};
 ghost use Rattle.script_words.specs.Gives.{Gives};

@@ -1,6 +1,6 @@
 //! Words as names.
 
-ghost use Rattle.std.specs.Prelude.{◌≡◌, map};
+ghost use Rattle.std.specs.Prelude.{map};
 ghost use Rattle.script_words.specs.Gives.{Gives};
 ghost use Rattle.script_words.specs.Words.{only};
 ghost use Rattle.script_words.specs.Names.{name_of, kept_name_of, one_name_of};

@@ -1,6 +1,6 @@
 //! Words as the verdicts of a direction.
 
-ghost use Rattle.std.specs.Prelude.{◌≡◌, map, IfOk, IsTrue, true};
+ghost use Rattle.std.specs.Prelude.{◌≡◌, map, IfOk, true};
 ghost use Rattle.std.specs.List.{list_all};
 ghost use Rattle.script_words.specs.Gives.{Gives};
 ghost use Rattle.script_words.specs.Verdicts.{fits_verdict, side_in, swap_of, verdict_of};

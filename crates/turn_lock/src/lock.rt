@@ -2,7 +2,7 @@
 //! which stands in the slot then. Else it is twice the number of the pass that does, and 1 more
 //! where a thread may sleep until the state is given back. That 1 is the mark: a give that doesn't
 //! find it wakes nobody.
-ghost use Rattle.std.specs.Prelude.{◌≡◌, ◌+◌, ◌<◌, ◌≤◌, List, [], ◌∷◌, ◌++◌, ◌↔◌, All, Contains};
+ghost use Rattle.std.specs.Prelude.{◌≡◌, ◌+◌, ◌<◌, ◌≤◌, List, [], ◌++◌, ◌↔◌, All, Contains};
 ghost use Rattle.std.specs.Prelude.{IfOk, IfErr, OnOk, IsSomeAnd, IsTrue, MatchBool, MatchOption};
 ghost use Rattle.std.specs.Prelude.{vec_capacity, vec_len};
 ghost use Rattle.turn_lock.specs.Passes.{IsPassOf, AreDealt, HasEach, IsLeastMissing, IsTold};

@@ -1,5 +1,5 @@
 //! Stories: what a locked state tells of its steps.
-ghost use Rattle.std.specs.Prelude.{◌≡◌, ℕ, ◌-◌, ◌<◌, ◌≤◌, List, map, length, slice_get, Some};
+ghost use Rattle.std.specs.Prelude.{◌≡◌, ◌-◌, ◌<◌, ◌≤◌, List, map, length, slice_get, Some};
 
 /// A step of a story, with the number of its maker.
 #[derive(Drop)]
