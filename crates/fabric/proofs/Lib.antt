@@ -20,3 +20,4 @@ pub mod Counting
 pub mod Reached
 pub mod Replayed
 pub mod Worked
+pub mod Called

@@ -23,6 +23,7 @@ use Rattle.node_kernel.specs.declared.answers.StepAnswer.{StepAnswer}
 use Rattle.node_kernel.specs.declared.ask.Ask.{Ask}
 use Rattle.node_kernel.specs.Nodes.{NodeState, endpoint_limit, is_open, items_at}
 use Rattle.fabric.specs.declared.standing.Standing.{Standing}
+use Rattle.fabric.specs.Actings.{IsHomeOf, MayMake}
 use Rattle.fabric.specs.Remains.{IsKept, IsNode, IsWellKept, Layout, actor_limit, endpoint_left}
 use Rattle.fabric.specs.Remains.{node_left, standing_left}
 use Rattle.fabric.specs.Standings.{GrantIsMade, vain_with}
@@ -181,24 +182,22 @@ module _ {shape : Shape} {log : Log} {kernels : List NodeState} {standings : Lis
     node-seen home there = back (λ l. home < length l.log.names.nodes) there
 
     -- an actor, by the place of its node's kernel
-    pub stands : (actor home : ℕ) → 0 < actor → actor ≤ length value.shape.actors
-        → home + 1 ≡ node_by value.shape (Actor actor) → home < length value.log.names.nodes
-        → IsAt shape log kernels standings actor (actor - 1) home
-    stands actor home above within place there =
+    pub stands : {actor home : ℕ} → 0 < actor → actor ≤ length value.shape.actors
+        → IsHomeOf value actor home → IsAt shape log kernels standings actor (actor - 1) home
+    stands {actor = actor} {home = home} above within at =
         actor-at shape log kernels standings seen.well.kept
         (let few : length log.steps ≤ step_limit = seen.well.short in omega arith)
         actor home above (back (λ l. actor ≤ length l.shape.actors) within)
-        (back (λ l. home + 1 ≡ node_by l.shape (Actor actor)) place) (node-seen home there)
+        (back (λ l. home + 1 ≡ node_by l.shape (Actor actor)) at.home) (node-seen home at.there)
 
     -- one that makes a step
-    pub acting : (actor home : ℕ) → IsMaker value.shape value.log.steps (Actor actor)
-        → length value.log.steps < 200000
-        → home + 1 ≡ node_by value.shape (Actor actor) → home < length value.log.names.nodes
+    pub acting : {actor home : ℕ} {ask : Ask} → MayMake value actor ask
+        → IsHomeOf value actor home
         → Acts shape log kernels standings actor (actor - 1) home
-    acting actor home maker short place there = record {
-      at = stands actor home maker.0 maker.1 place there;
-      maker = back (λ l. IsMaker l.shape l.log.steps (Actor actor)) maker;
-      short = back (λ l. length l.log.steps < 200000) short;
+    acting {actor = actor} {home = home} may at = record {
+      at = stands may.may.maker.0 may.may.maker.1 at;
+      maker = back (λ l. IsMaker l.shape l.log.steps (Actor actor)) may.may.maker;
+      short = back (λ l. length l.log.steps < step_limit) may.short;
     }
 
     -- the same where no kernel is looked up

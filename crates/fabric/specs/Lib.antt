@@ -3,3 +3,4 @@ pub mod Machine
 pub mod Standings
 pub mod Actings
 pub mod Looks
+pub mod Calls

@@ -7,23 +7,21 @@ ghost use Rattle.journal.specs.History.{endpoint_of, has_ended};
 ghost use Rattle.journal.specs.Laws.{IsLegal, IsMaker};
 ghost use Rattle.journal.specs.Logs.{is_full};
 ghost use Rattle.journal.specs.Rest.{is_idle, leaves_at_rest, queue_of, waits_with};
-ghost use Rattle.journal.specs.Shapes.{node_by};
 ghost use Rattle.node_kernel.specs.Answers.{granted, refused};
 ghost use Rattle.fabric.specs.Standings.{empty_nodes, fresh, unless_refused};
-ghost use Rattle.fabric.specs.Actings.{HasMade, LeavesAll, MayAct, OnlySteps, asking};
+ghost use Rattle.fabric.specs.Actings.{HasMade, IsHomeOf, LeavesAll, MayMake, OnlySteps, asking};
+ghost use Rattle.fabric.specs.Calls.{ask_of, hand_of};
 ghost use Rattle.fabric.specs.Machine.{IsReached, MayAsk, all_have_ended, answer_to, is_at_rest};
 ghost use Rattle.fabric.specs.Machine.{steps_after};
 
+use crate::call::{Call, make_call};
 use crate::granting::refusal_of;
-use crate::makings::{
-    Looked, make_attach, make_close, make_detach, make_hunt, make_open, make_quiet, make_restart,
-    make_send, make_take, make_wait,
-};
+use crate::makings::{Looked, make_open, make_quiet, make_restart, make_take, make_wait};
 use crate::rest::is_vain;
 use crate::standing::Standing;
-use crate::stop::{StepStop, StopCause};
+use crate::stop::{StepStop, StopCause, no_memory};
 use journal::{By, Event, Head, Journal, Refusal};
-use linx_base::{AttRef, Inc, LinkDecl, Name, Names, NoMemory, NodeNo, Path, Peer, Signal};
+use linx_base::{Inc, LinkDecl, Name, Names, NoMemory, NodeNo, Signal};
 use node_kernel::{Kernel, StepAnswer};
 use sigsel::Sigsel;
 use std::alloc::Global;
@@ -160,8 +158,7 @@ impl Fabric {
     fn kernel_of(&self, actor: u32) -> usize
         requires above { 0 < actor }
         requires within { actor ≤ length self.now.shape.actors }
-        ensures place { result + 1 ≡ node_by self.now.shape (By.Actor actor) }
-        ensures there { result < length self.now.log.names.nodes }
+        ensures { IsHomeOf self.now actor result }
     {
         self.actors[(actor - 1) as usize].0 as usize - 1
     }
@@ -293,8 +290,7 @@ impl Fabric {
         event: Event,
         hand: Option<Signal>,
     ) -> Result<StepAnswer, StepStop>
-        requires asked { MayAct self.old actor (asking event hand) }
-        requires short { length self.old.log.steps < 200000 }
+        requires asked { MayMake self.old actor (asking event hand) }
         ensures ok { IfOk result (HasMade self.old self.new actor
             (granted self.old.log.steps actor (asking event hand))) }
         ensures fixed { OnlySteps self.old self.new }
@@ -313,31 +309,30 @@ impl Fabric {
         event: Event,
         hand: Option<Signal>,
     ) -> Result<StepAnswer, StepStop>
-        requires asked { MayAct self.old actor (asking event hand) }
+        requires asked { MayMake self.old actor (asking event hand) }
         requires granted { granted self.old.log.steps actor (record { event = event; hand = hand })
             ≡ record { event = event; hand = hand } }
-        requires short { length self.old.log.steps < 200000 }
         ensures ok { IfOk result (HasMade self.old self.new actor (asking event hand)) }
         ensures fixed { OnlySteps self.old self.new }
         ensures err { IfErr result (LeavesAll self.old self.new hand) }
     {
         match event {
             Event::Open(name) => self.open(actor, name),
-            Event::Close => self.close(actor),
+            Event::Close => self.call(actor, Call::Close),
             Event::Send(to) => match hand {
-                Some(signal) => self.send(actor, to, signal),
+                Some(signal) => self.call(actor, Call::Send(to, signal)),
                 None => unreachable!(),
             },
             Event::Look(filter) => self.look(actor, filter),
             Event::Hunt(path) => match hand {
-                Some(signal) => self.hunt(actor, path, signal),
+                Some(signal) => self.call(actor, Call::Hunt(path, signal)),
                 None => unreachable!(),
             },
             Event::Attach(peer) => match hand {
-                Some(signal) => self.attach(actor, peer, signal),
+                Some(signal) => self.call(actor, Call::Attach(peer, signal)),
                 None => unreachable!(),
             },
-            Event::Detach(r) => self.detach(actor, r),
+            Event::Detach(r) => self.call(actor, Call::Detach(r)),
             Event::Restart(node) => self.restart(actor, node),
             Event::Refuse(reason) => self.refuse(actor, reason, None),
             Event::End => self.end(actor),
@@ -347,9 +342,8 @@ impl Fabric {
 
     /// An opening.
     fn open(&mut self, actor: u32, name: Name) -> Result<StepAnswer, StepStop>
-        requires asked { MayAct self.old actor (asking (Event.Open name) None) }
+        requires asked { MayMake self.old actor (asking (Event.Open name) None) }
         requires granted { endpoint_of self.old.log.steps actor ≡ None }
-        requires short { length self.old.log.steps < 200000 }
         ensures ok { IfOk result (HasMade self.old self.new actor (asking (Event.Open name) None)) }
         ensures fixed { OnlySteps self.old self.new }
         ensures err { IfErr result (LeavesAll self.old self.new None) }
@@ -365,73 +359,40 @@ impl Fabric {
         }
     }
 
-    /// A closing.
-    fn close(&mut self, actor: u32) -> Result<StepAnswer, StepStop>
-        requires asked { MayAct self.old actor (asking Event.Close None) }
+    /// A call at an actor's open endpoint.
+    fn call(&mut self, actor: u32, call: Call) -> Result<StepAnswer, StepStop>
+        requires asked { MayMake self.old actor (ask_of call) }
         requires granted { IsSome (endpoint_of self.old.log.steps actor) }
-        requires short { length self.old.log.steps < 200000 }
-        ensures ok { IfOk result (HasMade self.old self.new actor (asking Event.Close None)) }
+        ensures ok { IfOk result (HasMade self.old self.new actor (ask_of call)) }
         ensures fixed { OnlySteps self.old self.new }
-        ensures err { IfErr result (LeavesAll self.old self.new None) }
+        ensures err { IfErr result (LeavesAll self.old self.new (hand_of call)) }
     {
         let Some(at) = self.endpoint_of(actor) else {
             unreachable!()
         };
         let place = self.kernel_of(actor);
-        let made = make_close(
-            &mut self.journal,
-            &mut self.kernels[place],
-            By::Actor(actor),
-            Head::Close,
-            at,
-        );
-        match made {
-            Ok(()) => {
-                let step = self.journal.len();
-                self.standings[(actor - 1) as usize].close(step);
-                Ok(StepAnswer::Closed)
-            }
-            Err(NoMemory) => Err(no_memory(None)),
-        }
-    }
-
-    /// A send.
-    fn send(&mut self, actor: u32, to: Peer, signal: Signal) -> Result<StepAnswer, StepStop>
-        requires asked { MayAct self.old actor (asking (Event.Send to) (Some signal)) }
-        requires granted { IsSome (endpoint_of self.old.log.steps actor) }
-        requires short { length self.old.log.steps < 200000 }
-        ensures ok { IfOk result (HasMade self.old self.new actor
-            (asking (Event.Send to) (Some signal))) }
-        ensures fixed { OnlySteps self.old self.new }
-        ensures err { IfErr result (LeavesAll self.old self.new (Some signal)) }
-    {
-        let Some(at) = self.endpoint_of(actor) else {
-            unreachable!()
-        };
-        let place = self.kernel_of(actor);
-        let made = make_send(
+        let made = make_call(
             self.alloc,
             &mut self.journal,
             &mut self.kernels[place],
             By::Actor(actor),
             at,
-            to,
-            signal,
+            call,
         );
         match made {
-            Ok(sent) => {
-                self.standings[(actor - 1) as usize].wait(None);
-                Ok(StepAnswer::Sent(sent))
+            Ok(answer) => {
+                let step = self.journal.len();
+                self.standings[(actor - 1) as usize].call(step, &answer);
+                Ok(answer)
             }
-            Err((NoMemory, signal)) => Err(no_memory(Some(signal))),
+            Err(stop) => Err(stop),
         }
     }
 
     /// A look.
     fn look(&mut self, actor: u32, filter: Sigsel) -> Result<StepAnswer, StepStop>
-        requires asked { MayAct self.old actor (asking (Event.Look filter) None) }
+        requires asked { MayMake self.old actor (asking (Event.Look filter) None) }
         requires granted { IsSome (endpoint_of self.old.log.steps actor) }
-        requires short { length self.old.log.steps < 200000 }
         ensures ok { IfOk result (HasMade self.old self.new actor
             (asking (Event.Look filter) None)) }
         ensures fixed { OnlySteps self.old self.new }
@@ -461,11 +422,10 @@ impl Fabric {
 
     /// A look with nothing selected.
     fn look_in_vain(&mut self, actor: u32, filter: Sigsel) -> Result<StepAnswer, StepStop>
-        requires asked { MayAct self.old actor (asking (Event.Look filter) None) }
+        requires asked { MayMake self.old actor (asking (Event.Look filter) None) }
         requires granted { IsSome (endpoint_of self.old.log.steps actor) }
         requires vain { first_selected filter (queue_of self.old.log.steps
             (endpoint_of self.old.log.steps actor)) ≡ None }
-        requires short { length self.old.log.steps < 200000 }
         ensures ok { IfOk result (HasMade self.old self.new actor
             (asking (Event.Look filter) None)) }
         ensures fixed { OnlySteps self.old self.new }
@@ -482,12 +442,11 @@ impl Fabric {
 
     /// A look with nothing selected, at rest.
     fn find_none(&mut self, actor: u32, filter: Sigsel) -> Result<StepAnswer, StepStop>
-        requires asked { MayAct self.old actor (asking (Event.Look filter) None) }
+        requires asked { MayMake self.old actor (asking (Event.Look filter) None) }
         requires granted { IsSome (endpoint_of self.old.log.steps actor) }
         requires vain { first_selected filter (queue_of self.old.log.steps
             (endpoint_of self.old.log.steps actor)) ≡ None }
         requires rest { is_at_rest self.old.shape self.old.log.steps actor ≡ true }
-        requires short { length self.old.log.steps < 200000 }
         ensures ok { IfOk result (HasMade self.old self.new actor
             (asking (Event.Look filter) None)) }
         ensures fixed { OnlySteps self.old self.new }
@@ -505,13 +464,12 @@ impl Fabric {
 
     /// The first look with nothing selected, not at rest.
     fn wait(&mut self, actor: u32, filter: Sigsel) -> Result<StepAnswer, StepStop>
-        requires asked { MayAct self.old actor (asking (Event.Look filter) None) }
+        requires asked { MayMake self.old actor (asking (Event.Look filter) None) }
         requires granted { IsSome (endpoint_of self.old.log.steps actor) }
         requires vain { first_selected filter (queue_of self.old.log.steps
             (endpoint_of self.old.log.steps actor)) ≡ None }
         requires busy { is_at_rest self.old.shape self.old.log.steps actor ≡ false }
         requires first { waits_with self.old.log.steps actor ≡ None }
-        requires short { length self.old.log.steps < 200000 }
         ensures ok { IfOk result (HasMade self.old self.new actor
             (asking (Event.Look filter) None)) }
         ensures fixed { OnlySteps self.old self.new }
@@ -527,102 +485,9 @@ impl Fabric {
         }
     }
 
-    /// A hunt.
-    fn hunt(&mut self, actor: u32, path: Path, signal: Signal) -> Result<StepAnswer, StepStop>
-        requires asked { MayAct self.old actor (asking (Event.Hunt path) (Some signal)) }
-        requires granted { IsSome (endpoint_of self.old.log.steps actor) }
-        requires short { length self.old.log.steps < 200000 }
-        ensures ok { IfOk result (HasMade self.old self.new actor
-            (asking (Event.Hunt path) (Some signal))) }
-        ensures fixed { OnlySteps self.old self.new }
-        ensures err { IfErr result (LeavesAll self.old self.new (Some signal)) }
-    {
-        let Some(at) = self.endpoint_of(actor) else {
-            unreachable!()
-        };
-        let place = self.kernel_of(actor);
-        let made = make_hunt(
-            &mut self.journal,
-            &mut self.kernels[place],
-            By::Actor(actor),
-            at,
-            path,
-            signal,
-        );
-        match made {
-            Ok(number) => {
-                self.standings[(actor - 1) as usize].wait(None);
-                Ok(StepAnswer::Hunted(number))
-            }
-            Err((NoMemory, signal)) => Err(no_memory(Some(signal))),
-        }
-    }
-
-    /// An attach.
-    fn attach(&mut self, actor: u32, peer: Peer, signal: Signal) -> Result<StepAnswer, StepStop>
-        requires asked { MayAct self.old actor (asking (Event.Attach peer) (Some signal)) }
-        requires granted { IsSome (endpoint_of self.old.log.steps actor) }
-        requires short { length self.old.log.steps < 200000 }
-        ensures ok { IfOk result (HasMade self.old self.new actor
-            (asking (Event.Attach peer) (Some signal))) }
-        ensures fixed { OnlySteps self.old self.new }
-        ensures err { IfErr result (LeavesAll self.old self.new (Some signal)) }
-    {
-        let Some(at) = self.endpoint_of(actor) else {
-            unreachable!()
-        };
-        let place = self.kernel_of(actor);
-        let made = make_attach(
-            &mut self.journal,
-            &mut self.kernels[place],
-            By::Actor(actor),
-            at,
-            peer,
-            signal,
-        );
-        match made {
-            Ok(reference) => {
-                self.standings[(actor - 1) as usize].wait(None);
-                Ok(StepAnswer::Attached(reference))
-            }
-            Err((NoMemory, signal)) => Err(no_memory(Some(signal))),
-        }
-    }
-
-    /// A detach.
-    fn detach(&mut self, actor: u32, r: AttRef) -> Result<StepAnswer, StepStop>
-        requires asked { MayAct self.old actor (asking (Event.Detach r) None) }
-        requires granted { IsSome (endpoint_of self.old.log.steps actor) }
-        requires short { length self.old.log.steps < 200000 }
-        ensures ok { IfOk result (HasMade self.old self.new actor (asking (Event.Detach r) None)) }
-        ensures fixed { OnlySteps self.old self.new }
-        ensures err { IfErr result (LeavesAll self.old self.new None) }
-    {
-        let Some(at) = self.endpoint_of(actor) else {
-            unreachable!()
-        };
-        let place = self.kernel_of(actor);
-        let made = make_detach(
-            self.alloc,
-            &mut self.journal,
-            &mut self.kernels[place],
-            By::Actor(actor),
-            at,
-            r,
-        );
-        match made {
-            Ok(answer) => {
-                self.standings[(actor - 1) as usize].wait(None);
-                Ok(StepAnswer::Detached(answer))
-            }
-            Err(NoMemory) => Err(no_memory(None)),
-        }
-    }
-
     /// A restart of a node, which may be another than the actor's.
     fn restart(&mut self, actor: u32, node: NodeNo) -> Result<StepAnswer, StepStop>
-        requires asked { MayAct self.old actor (asking (Event.Restart node) None) }
-        requires short { length self.old.log.steps < 200000 }
+        requires asked { MayMake self.old actor (asking (Event.Restart node) None) }
         ensures ok { IfOk result (HasMade self.old self.new actor
             (asking (Event.Restart node) None)) }
         ensures fixed { OnlySteps self.old self.new }
@@ -669,52 +534,21 @@ impl Fabric {
 
     /// The end of an actor.
     fn end(&mut self, actor: u32) -> Result<StepAnswer, StepStop>
-        requires asked { MayAct self.old actor (asking Event.End None) }
-        requires short { length self.old.log.steps < 200000 }
+        requires asked { MayMake self.old actor (asking Event.End None) }
         ensures ok { IfOk result (HasMade self.old self.new actor (asking Event.End None)) }
         ensures fixed { OnlySteps self.old self.new }
         ensures err { IfErr result (LeavesAll self.old self.new None) }
     {
         match self.endpoint_of(actor) {
-            Some(at) => self.end_open(actor, at),
+            Some(_) => self.call(actor, Call::End),
             None => self.end_closed(actor),
-        }
-    }
-
-    /// The end of an actor whose endpoint is open.
-    fn end_open(&mut self, actor: u32, at: Inc) -> Result<StepAnswer, StepStop>
-        requires asked { MayAct self.old actor (asking Event.End None) }
-        requires granted { endpoint_of self.old.log.steps actor ≡ Some at }
-        requires short { length self.old.log.steps < 200000 }
-        ensures ok { IfOk result (HasMade self.old self.new actor (asking Event.End None)) }
-        ensures fixed { OnlySteps self.old self.new }
-        ensures err { IfErr result (LeavesAll self.old self.new None) }
-    {
-        let place = self.kernel_of(actor);
-        let made = make_close(
-            &mut self.journal,
-            &mut self.kernels[place],
-            By::Actor(actor),
-            Head::Ended,
-            at,
-        );
-        match made {
-            Ok(()) => {
-                let step = self.journal.len();
-                let standing = &mut self.standings[(actor - 1) as usize];
-                standing.close(step);
-                standing.end();
-                Ok(StepAnswer::Done)
-            }
-            Err(NoMemory) => Err(no_memory(None)),
         }
     }
 
     /// The end of an actor that has no endpoint.
     fn end_closed(&mut self, actor: u32) -> Result<StepAnswer, StepStop>
-        requires asked { MayAct self.old actor (asking Event.End None) }
+        requires asked { MayMake self.old actor (asking Event.End None) }
         requires granted { endpoint_of self.old.log.steps actor ≡ None }
-        requires short { length self.old.log.steps < 200000 }
         ensures ok { IfOk result (HasMade self.old self.new actor (asking Event.End None)) }
         ensures fixed { OnlySteps self.old self.new }
         ensures err { IfErr result (LeavesAll self.old self.new None) }
@@ -727,14 +561,5 @@ impl Fabric {
             }
             Err(NoMemory) => Err(no_memory(None)),
         }
-    }
-}
-
-fn no_memory(hand: Option<Signal>) -> StepStop
-    ensures { result ≡ record { cause = StopCause.NoMemory; hand = hand } }
-{
-    StepStop {
-        cause: StopCause::NoMemory,
-        hand,
     }
 }

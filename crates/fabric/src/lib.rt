@@ -6,6 +6,7 @@
 //! actors. No link is there as yet.
 #![tactic(auto)]
 
+mod call;
 mod fabric;
 mod granting;
 mod makings;

@@ -2,7 +2,7 @@
 //! changes last, and then the step is noted.
 
 ghost use Rattle.std.specs.Prelude.{◌≡◌, ◌+◌, ◌<◌, ◌≤◌, [], ◌∷◌, length, map, IfOk, IfErr, OnOk};
-ghost use Rattle.std.specs.Prelude.{OnErr, IsTrue};
+ghost use Rattle.std.specs.Prelude.{OnErr, IsTrue, Some};
 ghost use Rattle.linx_base.specs.Content.{data_limit};
 ghost use Rattle.linx_base.specs.NameText.{is_name};
 ghost use Rattle.journal.specs.Effects.{arrivals_of, attached, closing, closings, hunted, opening};
@@ -13,10 +13,12 @@ ghost use Rattle.node_kernel.specs.Calls.{after_attach, after_close, after_detac
 ghost use Rattle.node_kernel.specs.Calls.{after_open, after_restart, after_send, detached};
 ghost use Rattle.node_kernel.specs.Nodes.{endpoint_limit, find_at, is_living, is_open, items_at};
 ghost use Rattle.node_kernel.specs.Nodes.{next_of};
+ghost use Rattle.fabric.specs.Calls.{refusal_with};
 ghost use Rattle.fabric.specs.Standings.{past_effects};
 ghost use Rattle.fabric.specs.Looks.{after_take, looked_at, with_take};
 
 use crate::standing::{Standing, lose_all};
+use crate::stop::{StepStop, no_memory};
 use journal::{By, Detached, Effect, Effects, Head, Journal, SentTo, Step};
 use linx_base::{AttRef, Inc, Item, Name, NoMemory, NodeNo, Path, Peer, SigNote, Signal, TryCopy};
 use node_kernel::{Kernel, OpenError};
@@ -243,7 +245,7 @@ pub(crate) fn make_send(
     from: Inc,
     to: Peer,
     signal: Signal,
-) -> Result<SentTo, (NoMemory, Signal)>
+) -> Result<SentTo, StepStop>
     requires is_open { IsTrue (is_open kernel.old.endpoints from) }
     requires short { length journal.old.log.steps < 200000 }
     ensures sent { IfOk result (λ sent. sent ≡ send_answer (is_living kernel.old to) to) }
@@ -257,12 +259,12 @@ pub(crate) fn make_send(
         effects = arrivals_of from signal (is_living kernel.old to) to;
       } ∷ journal.old.log.steps;
     }) }
-    ensures err { IfErr result (λ back. (back.1 ≡ signal) × (journal.new.log ≡ journal.old.log)
-        × (kernel.new ≡ kernel.old)) }
+    ensures stop { IfErr result (λ stop. stop ≡ refusal_with (Some signal)) }
+    ensures err { OnErr result ((journal.new.log ≡ journal.old.log) × (kernel.new ≡ kernel.old)) }
 {
     let living = kernel.is_living(to);
     let Ok((note, effects)) = prepare_send(alloc, journal, from, &signal, living, to) else {
-        return Err((NoMemory, signal));
+        return Err(no_memory(Some(signal)));
     };
     match kernel.send(from, to, signal, journal.len() + 1) {
         Ok(_) => {
@@ -274,7 +276,7 @@ pub(crate) fn make_send(
             });
             Ok(sent)
         }
-        Err(back) => Err(back),
+        Err((NoMemory, signal)) => Err(no_memory(Some(signal))),
     }
 }
 
@@ -301,7 +303,7 @@ pub(crate) fn make_hunt(
     at: Inc,
     path: Path,
     signal: Signal,
-) -> Result<u64, (NoMemory, Signal)>
+) -> Result<u64, StepStop>
     requires is_open { IsTrue (is_open kernel.old.endpoints at) }
     requires short { length journal.old.log.steps < 200000 }
     ensures number { IfOk result (λ number. number ≡ length journal.old.log.steps + 1) }
@@ -326,11 +328,11 @@ pub(crate) fn make_hunt(
             });
       } ∷ journal.old.log.steps;
     }) }
-    ensures err { IfErr result (λ back. (back.1 ≡ signal) × (journal.new.log ≡ journal.old.log)
-        × (kernel.new ≡ kernel.old)) }
+    ensures stop { IfErr result (λ stop. stop ≡ refusal_with (Some signal)) }
+    ensures err { OnErr result ((journal.new.log ≡ journal.old.log) × (kernel.new ≡ kernel.old)) }
 {
     let Ok((note, copy)) = prepare_hunt(journal, &signal, &path) else {
-        return Err((NoMemory, signal));
+        return Err(no_memory(Some(signal)));
     };
     let number = journal.len() + 1;
     match kernel.hunt(at, path, signal, number) {
@@ -342,7 +344,7 @@ pub(crate) fn make_hunt(
             });
             Ok(number)
         }
-        Err(back) => Err(back),
+        Err((NoMemory, signal)) => Err(no_memory(Some(signal))),
     }
 }
 
@@ -354,7 +356,7 @@ pub(crate) fn make_attach(
     at: Inc,
     peer: Peer,
     signal: Signal,
-) -> Result<AttRef, (NoMemory, Signal)>
+) -> Result<AttRef, StepStop>
     requires is_open { IsTrue (is_open kernel.old.endpoints at) }
     requires room { length signal.bytes < data_limit }
     requires short { length journal.old.log.steps < 200000 }
@@ -379,11 +381,11 @@ pub(crate) fn make_attach(
             });
       } ∷ journal.old.log.steps;
     }) }
-    ensures err { IfErr result (λ back. (back.1 ≡ signal) × (journal.new.log ≡ journal.old.log)
-        × (kernel.new ≡ kernel.old)) }
+    ensures stop { IfErr result (λ stop. stop ≡ refusal_with (Some signal)) }
+    ensures err { OnErr result ((journal.new.log ≡ journal.old.log) × (kernel.new ≡ kernel.old)) }
 {
     let Ok(note) = prepare(journal, &signal) else {
-        return Err((NoMemory, signal));
+        return Err(no_memory(Some(signal)));
     };
     let reference = AttRef(journal.len() + 1);
     match kernel.attach(at, peer, signal, reference) {
@@ -395,7 +397,7 @@ pub(crate) fn make_attach(
             });
             Ok(reference)
         }
-        Err(back) => Err(back),
+        Err((NoMemory, signal)) => Err(no_memory(Some(signal))),
     }
 }
 

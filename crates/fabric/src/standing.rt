@@ -1,10 +1,12 @@
 ghost use Rattle.std.specs.Prelude.{◌≡◌, map, Some, None, false, true};
 ghost use Rattle.std.specs.List.{list_any};
 ghost use Rattle.journal.specs.History.{closes};
+ghost use Rattle.fabric.specs.Calls.{stands_after};
 ghost use Rattle.fabric.specs.Standings.{fresh, past_effects};
 
 use journal::Effect;
 use linx_base::Inc;
+use node_kernel::StepAnswer;
 use sigsel::Sigsel;
 
 /// How an actor stands: its endpoint, the step that closed the last endpoint that it lost, or 0,
@@ -77,6 +79,20 @@ impl Standing {
     {
         self.waits = None;
         self.ended = true;
+    }
+
+    /// Has made a call at its endpoint, this step, which was answered so.
+    pub(crate) fn call(&mut self, step: u64, answer: &StepAnswer)
+        ensures { self.new ≡ stands_after step answer.now self.old }
+    {
+        match answer {
+            StepAnswer::Closed => self.close(step),
+            StepAnswer::Done => {
+                self.close(step);
+                self.end();
+            }
+            _ => self.wait(None),
+        }
     }
 
     /// Loses the endpoint where the effects of this step close it.

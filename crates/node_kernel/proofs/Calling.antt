@@ -34,6 +34,18 @@ use Rattle.node_kernel.specs.Calls.{detached, with_attach, with_hunt}
 use Rattle.node_kernel.specs.Kept.{NodeEndpoints, put_item}
 use Rattle.node_kernel.proofs.Bringing.{put_none, put_nowhere}
 
+-- a node, of the parts that its kernel keeps
+abbrev pub assembled : NodeEndpoints → List PendingHunt → List PendingAttach → List MetPeer
+    → NodeState
+assembled roster hunts attaches met = record {
+  node = roster.node;
+  openings = roster.openings;
+  endpoints = roster.endpoints;
+  hunts = hunts;
+  attaches = attaches;
+  met = met;
+}
+
 -- a node whose endpoints get nothing
 pub nothing_put : (k : NodeState) (step : ℕ) → k
     ≡ record k { endpoints = put_all step [] k.endpoints }
@@ -204,16 +216,6 @@ sent_dead es i item from note step shut =
 
 -- WHOLE NODES, by what became of their parts
 module _ (n : NodeState) (step : ℕ) (roster : NodeEndpoints) (effects shown : List Effect) where
-  abbrev with_parts : List PendingHunt → List PendingAttach → List MetPeer → NodeState
-  with_parts hunts attaches met = record {
-    node = roster.node;
-    openings = roster.openings;
-    endpoints = roster.endpoints;
-    hunts = hunts;
-    attaches = attaches;
-    met = met;
-  }
-
   pub opened_node : (name : List ℕ) (path : Path) (inc : Inc) (hunts : List PendingHunt)
       → path ≡ Local name → inc ≡ next_of n → effects ≡ opening inc name n.hunts → shown ≡ effects
       → roster ≡ record {
@@ -223,7 +225,7 @@ module _ (n : NodeState) (step : ℕ) (roster : NodeEndpoints) (effects shown : 
             ++ record { inc = next_of n; name = name; items = [] } ∷ []);
       }
       → hunts ≡ filter (λ h. not (same_path path h.path)) n.hunts
-      → with_parts hunts n.attaches n.met ≡ after_open n name step
+      → assembled roster hunts n.attaches n.met ≡ after_open n name step
   opened_node name path inc hunts path_is inc_is effects_is shown_is roster_is hunts_is =
       rw (roster_is, hunts_is, shown_is, effects_is, inc_is, path_is) refl
 
@@ -237,7 +239,7 @@ module _ (n : NodeState) (step : ℕ) (roster : NodeEndpoints) (effects shown : 
       → hunts ≡ filter (λ h. not (same_inc j h.at)) n.hunts
       → held ≡ filter (λ a. not (same_inc j a.at)) n.attaches
       → attaches ≡ filter (λ a. not (same_peer (Here j) a.peer)) held
-      → with_parts hunts attaches n.met ≡ after_close n j step
+      → assembled roster hunts attaches n.met ≡ after_close n j step
   closed_node j hunts held attaches effects_is shown_is roster_is hunts_is held_is attaches_is =
       rw (roster_is, hunts_is, attaches_is, held_is, shown_is, effects_is) refl
 
@@ -250,7 +252,7 @@ module _ (n : NodeState) (step : ℕ) (roster : NodeEndpoints) (effects shown : 
       }
       → attaches ≡ filter (λ a. not (is_of_session l x a.peer)) n.attaches
       → met ≡ filter (λ m. not (is_of_session l x m.peer)) n.met
-      → with_parts n.hunts attaches met ≡ after_down n l x step
+      → assembled roster n.hunts attaches met ≡ after_down n l x step
   lost_node l x node attaches met node_is effects_is shown_is roster_is attaches_is met_is =
       rw (roster_is, attaches_is, met_is, shown_is, effects_is, node_is) refl
 
@@ -264,47 +266,24 @@ module _ (n : NodeState) (step : ℕ) (roster : NodeEndpoints) (effects shown : 
       }
       → hunts ≡ filter (λ h. not (same_path path h.path)) n.hunts
       → met ≡ n.met ++ record { peer = peer; name = name } ∷ []
-      → with_parts hunts n.attaches met ≡ after_met n l peer name step
+      → assembled roster hunts n.attaches met ≡ after_met n l peer name step
   met_node l peer name path node hunts met path_is node_is effects_is shown_is roster_is hunts_is
       met_is =
       rw (roster_is, hunts_is, met_is, shown_is, effects_is, node_is, path_is) refl
 
-pub queued_node : (n : NodeState) (j : Inc) (r : AttRef) (roster : NodeEndpoints)
-    (attaches : List PendingAttach) → attaches ≡ filter (λ a. not (is_attach j r a)) n.attaches
-    → roster ≡ record {
+-- a detach that took every such attach and every such notice, where there was none of the first
+module _ (n : NodeState) (j : Inc) (r : AttRef) (roster : NodeEndpoints)
+    (attaches : List PendingAttach) (attaches_is : attaches
+    ≡ filter (λ a. not (is_attach j r a)) n.attaches) (roster_is : roster ≡ record {
       node = n.node;
       openings = n.openings;
       endpoints = with_items n.endpoints j (filter (λ item. not (is_notice_of r item))
           (items_at n.endpoints j));
-    } → false ≡ list_any (is_attach j r) n.attaches
-    → true ≡ list_any (is_notice_of r) (items_at n.endpoints j)
-    → record {
-      node = roster.node;
-      openings = roster.openings;
-      endpoints = roster.endpoints;
-      hunts = n.hunts;
-      attaches = attaches;
-      met = n.met;
-    } ≡ after_detach n j r
-queued_node n j r roster attaches attaches_is roster_is owed queued =
-    rw (roster_is, attaches_is) (after_queued n j r (sym owed) (sym queued))
+    }) (owed : false ≡ list_any (is_attach j r) n.attaches) where
+  pub queued_node : true ≡ list_any (is_notice_of r) (items_at n.endpoints j)
+      → assembled roster n.hunts attaches n.met ≡ after_detach n j r
+  queued_node queued = rw (roster_is, attaches_is) (after_queued n j r (sym owed) (sym queued))
 
-pub neither_node : (n : NodeState) (j : Inc) (r : AttRef) (roster : NodeEndpoints)
-    (attaches : List PendingAttach) → attaches ≡ filter (λ a. not (is_attach j r a)) n.attaches
-    → roster ≡ record {
-      node = n.node;
-      openings = n.openings;
-      endpoints = with_items n.endpoints j (filter (λ item. not (is_notice_of r item))
-          (items_at n.endpoints j));
-    } → false ≡ list_any (is_attach j r) n.attaches
-    → false ≡ list_any (is_notice_of r) (items_at n.endpoints j)
-    → record {
-      node = roster.node;
-      openings = roster.openings;
-      endpoints = roster.endpoints;
-      hunts = n.hunts;
-      attaches = attaches;
-      met = n.met;
-    } ≡ after_detach n j r
-neither_node n j r roster attaches attaches_is roster_is owed queued =
-    rw (roster_is, attaches_is) (after_neither n j r (sym owed) (sym queued))
+  pub neither_node : false ≡ list_any (is_notice_of r) (items_at n.endpoints j)
+      → assembled roster n.hunts attaches n.met ≡ after_detach n j r
+  neither_node queued = rw (roster_is, attaches_is) (after_neither n j r (sym owed) (sym queued))

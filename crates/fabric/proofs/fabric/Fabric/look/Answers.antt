@@ -9,20 +9,14 @@ use Rattle.fabric.proofs.fabric.Fabric.look.Goals as goal
 pub make_take-made-requires : goal.make_take-made-requires
 make_take-made-requires c =
     let seen = sees c.self.invariant c.self.view_is in
-    let acts = acting seen c.args.actor c.kernel_of-place.result c.requires.asked.maker
-    c.requires.short
-    c.kernel_of-place.ensures.place c.kernel_of-place.ensures.there
-    in
+    let acts = acting seen c.requires.asked c.kernel_of-place.ensures in
     let mine = endpoint-seen seen c.args.actor _ (sym c.endpoint_of.ensures ∙ c.in-Some.is) in
     own_open acts.at c.index_mut.result.now c.index_mut.ensures.value c.in-Some.at mine
 
 pub invariant_of-self : goal.invariant_of-self
 invariant_of-self c =
     let seen = sees c.self.invariant c.self.view_is in
-    let acts = acting seen c.args.actor c.kernel_of-place.result c.requires.asked.maker
-    c.requires.short
-    c.kernel_of-place.ensures.place c.kernel_of-place.ensures.there
-    in
+    let acts = acting seen c.requires.asked c.kernel_of-place.ensures in
     let mine = endpoint-seen seen c.args.actor _ (sym c.endpoint_of.ensures ∙ c.in-Some.is) in
     let found = found-is c.args.filter _ c.in-Ok-Found.item
     (rw c.in-Ok-Found.field-0-is at c.in-Ok-Found.ensures.looked)
@@ -37,10 +31,7 @@ invariant_of-self c =
 pub returns-in-Ok-Found-clause-ok : goal.returns-in-Ok-Found-clause-ok
 returns-in-Ok-Found-clause-ok c =
     let seen = sees c.self.invariant c.self.view_is in
-    let acts = acting seen c.args.actor c.kernel_of-place.result c.requires.asked.maker
-    c.requires.short
-    c.kernel_of-place.ensures.place c.kernel_of-place.ensures.there
-    in
+    let acts = acting seen c.requires.asked c.kernel_of-place.ensures in
     let mine = endpoint-seen seen c.args.actor _ (sym c.endpoint_of.ensures ∙ c.in-Some.is) in
     let found = found-is c.args.filter _ c.in-Ok-Found.item
     (rw c.in-Ok-Found.field-0-is at c.in-Ok-Found.ensures.looked)
@@ -70,10 +61,7 @@ invariant_of-self-in-Ok-Vain c =
 pub look_in_vain-requires-clause-vain : goal.look_in_vain-requires-clause-vain
 look_in_vain-requires-clause-vain c =
     let seen = sees c.self.invariant c.self.view_is in
-    let acts = acting seen c.args.actor c.kernel_of-place.result c.requires.asked.maker
-    c.requires.short
-    c.kernel_of-place.ensures.place c.kernel_of-place.ensures.there
-    in
+    let acts = acting seen c.requires.asked c.kernel_of-place.ensures in
     let mine = endpoint-seen seen c.args.actor _ (sym c.endpoint_of.ensures ∙ c.in-Some.is) in
     let none = vain-is c.args.filter c.in-Ok-Vain.filter _
     (rw c.in-Ok-Vain.field-0-is at c.in-Ok-Vain.ensures.looked)

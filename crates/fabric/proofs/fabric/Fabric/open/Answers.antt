@@ -8,28 +8,19 @@ use Rattle.fabric.proofs.fabric.Fabric.open.Goals as goal
 pub make_open-requires-clause-fits : goal.make_open-requires-clause-fits
 make_open-requires-clause-fits c =
     let seen = sees c.self.invariant c.self.view_is in
-    let acts = acting seen c.args.actor c.kernel_of-place.result c.requires.asked.maker
-    c.requires.short
-    c.kernel_of-place.ensures.place c.kernel_of-place.ensures.there
-    in
+    let acts = acting seen c.requires.asked c.kernel_of-place.ensures in
     openings_fit acts.at c.index_mut.result.now c.index_mut.ensures.value
 
 pub make_open-requires-clause-room : goal.make_open-requires-clause-room
 make_open-requires-clause-room c =
     let seen = sees c.self.invariant c.self.view_is in
-    let acts = acting seen c.args.actor c.kernel_of-place.result c.requires.asked.maker
-    c.requires.short
-    c.kernel_of-place.ensures.place c.kernel_of-place.ensures.there
-    in
+    let acts = acting seen c.requires.asked c.kernel_of-place.ensures in
     endpoints_fit acts.at c.index_mut.result.now c.index_mut.ensures.value
 
 pub invariant_of-self : goal.invariant_of-self
 invariant_of-self c =
     let seen = sees c.self.invariant c.self.view_is in
-    let acts = acting seen c.args.actor c.kernel_of-place.result c.requires.asked.maker
-    c.requires.short
-    c.kernel_of-place.ensures.place c.kernel_of-place.ensures.there
-    in
+    let acts = acting seen c.requires.asked c.kernel_of-place.ensures in
     let mine = endpoint-seen seen c.args.actor _ c.requires.granted in
     (made-open acts c.args.name mine c.in-Ok.ensures.name
     c.index_mut.result.now c.make_open.new.kernel c.index_mut.ensures.value c.in-Ok.ensures.kernel
@@ -41,10 +32,7 @@ invariant_of-self c =
 pub returns-in-Ok-clause-ok : goal.returns-in-Ok-clause-ok
 returns-in-Ok-clause-ok c =
     let seen = sees c.self.invariant c.self.view_is in
-    let acts = acting seen c.args.actor c.kernel_of-place.result c.requires.asked.maker
-    c.requires.short
-    c.kernel_of-place.ensures.place c.kernel_of-place.ensures.there
-    in
+    let acts = acting seen c.requires.asked c.kernel_of-place.ensures in
     let mine = endpoint-seen seen c.args.actor _ c.requires.granted in
     rw (c.in-Ok.ensures.inc) (makes-seen seen (made-open acts c.args.name mine c.in-Ok.ensures.name
     c.index_mut.result.now c.make_open.new.kernel c.index_mut.ensures.value c.in-Ok.ensures.kernel

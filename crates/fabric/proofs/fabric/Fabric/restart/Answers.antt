@@ -7,10 +7,10 @@ use Rattle.fabric.proofs.fabric.Fabric.restart.Goals as goal
 pub invariant_of-self : goal.invariant_of-self
 invariant_of-self c =
     let seen = sees c.self.invariant c.self.view_is in
-    let acts = acting-home seen c.args.actor c.requires.asked.maker c.requires.short in
-    let above : 0 < c.args.node.0 = c.requires.asked.fits.0 in
+    let acts = acting-home seen c.args.actor c.requires.asked.may.maker c.requires.asked.short in
+    let above : 0 < c.args.node.0 = c.requires.asked.may.fits.0 in
     let there = node-seen seen (c.args.node.0 - 1)
-    (omega (arith, c.requires.asked.fits.0, c.requires.asked.fits.1)) in
+    (omega (arith, c.requires.asked.may.fits.0, c.requires.asked.may.fits.1)) in
     let counted : length c.make_restart-made.new.standings ≡ c.self.inside.standings.len =
     omega (arith, c.make_restart-made.auto.standings, c.deref_mut.ensures.len)
     in
@@ -27,10 +27,10 @@ invariant_of-self c =
 pub returns-in-Ok-clause-ok : goal.returns-in-Ok-clause-ok
 returns-in-Ok-clause-ok c =
     let seen = sees c.self.invariant c.self.view_is in
-    let acts = acting-home seen c.args.actor c.requires.asked.maker c.requires.short in
-    let above : 0 < c.args.node.0 = c.requires.asked.fits.0 in
+    let acts = acting-home seen c.args.actor c.requires.asked.may.maker c.requires.asked.short in
+    let above : 0 < c.args.node.0 = c.requires.asked.may.fits.0 in
     let there = node-seen seen (c.args.node.0 - 1)
-    (omega (arith, c.requires.asked.fits.0, c.requires.asked.fits.1)) in
+    (omega (arith, c.requires.asked.may.fits.0, c.requires.asked.may.fits.1)) in
     let counted : length c.make_restart-made.new.standings ≡ c.self.inside.standings.len =
     omega (arith, c.make_restart-made.auto.standings, c.deref_mut.ensures.len)
     in

@@ -1,18 +1,10 @@
-use Rattle.node_kernel.specs.Nodes.{NodeState}
-use Rattle.node_kernel.proofs.Calling.{closed_node}
+use Rattle.node_kernel.proofs.Calling.{assembled, closed_node}
 use Rattle.node_kernel.proofs.kernel.Kernel.close.Goals as goal
 
 pub returns-clause-ok : goal.returns-clause-ok
 returns-clause-ok c =
-    let n : NodeState = record {
-      node = c.self.inside.roster.node;
-      openings = c.self.inside.roster.openings;
-      endpoints = c.self.inside.roster.endpoints;
-      hunts = c.self.inside.hunts;
-      attaches = c.self.inside.attaches;
-      met = c.self.inside.met;
-    }
-    in
+    let k = c.self.inside in
+    let n = assembled k.roster k.hunts k.attaches k.met in
     rw (← c.self.view_is) (closed_node n c.args.step c.close.new.self c.in_ok-effects.effects
     c.as_slice.result.now c.args.at c.drop_of.new.self c.drop_of-2.new.self c.drop_to.new.self
     c.in_ok-effects.ensures c.as_slice.ensures c.in_ok-close.ensures.ok

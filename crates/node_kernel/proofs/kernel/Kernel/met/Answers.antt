@@ -1,18 +1,10 @@
-use Rattle.node_kernel.specs.Nodes.{NodeState}
-use Rattle.node_kernel.proofs.Calling.{met_node}
+use Rattle.node_kernel.proofs.Calling.{assembled, met_node}
 use Rattle.node_kernel.proofs.kernel.Kernel.met.Goals as goal
 
 pub returns-clause-ok : goal.returns-clause-ok
 returns-clause-ok c =
-    let n : NodeState = record {
-      node = c.self.inside.roster.node;
-      openings = c.self.inside.roster.openings;
-      endpoints = c.self.inside.roster.endpoints;
-      hunts = c.self.inside.hunts;
-      attaches = c.self.inside.attaches;
-      met = c.self.inside.met;
-    }
-    in
+    let k = c.self.inside in
+    let n = assembled k.roster k.hunts k.attaches k.met in
     rw (← c.self.view_is) (met_node n c.args.step c.bring_all.new.self c.in_ok-effects.effects
     c.as_slice.result.now c.args.link _ c.args.name c.in_ok-path.path c.node-node.result
     c.drop_for.new.self c.add.new.self
