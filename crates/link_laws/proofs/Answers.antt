@@ -21,13 +21,10 @@ use Rattle.journal.proofs.Openings.{same_inc-true}
 use Rattle.link_laws.specs.Ends.{HasTwoEnds, IsLinkOf, node_at}
 use Rattle.link_laws.specs.Fabric.{AllLinked, Trunks, with_side}
 use Rattle.link_laws.specs.Linked.{IsTrueOf}
+use Rattle.link_laws.specs.Moves.{questions}
 use Rattle.link_laws.proofs.Keeps.{says_now}
 use Rattle.link_laws.proofs.Opened.{open-opened}
 use Rattle.link_laws.proofs.Sides.{one_side}
-
--- questions for names
-abbrev pub questions : List (List ℕ) → List Said
-questions names = map asked names
 
 questions-no_signal : (names : List (List ℕ)) → filter is_signal (questions names) ≡ []
 questions-no_signal [] = refl

@@ -26,6 +26,7 @@ use Rattle.journal.specs.declared.effect.Step.{Step}
 use Rattle.link_laws.specs.Brought.{was_opened, IsArrival, IsMeeting, IsParting, IsGoingUp}
 use Rattle.link_laws.specs.Brought.{IsGoingDown}
 use Rattle.link_laws.specs.Linked.{IsLinked, IsTrueOf, is_session, IsClosedOn}
+use Rattle.link_laws.specs.Moves.{IsTold}
 use Rattle.link_laws.specs.Sessions.{paired_session, had_session}
 use Rattle.trunk_record.proofs.Lookups.{given-now, peer-now, said-all}
 use Rattle.trunk_record.proofs.Sayings.{same_inc-itself, same_inc-is, proper-before, live-published}
@@ -96,14 +97,7 @@ sent-said P m l B link y a b on =
     sent-signals m l y a b on P ∙ ap (signals_between a b) (link.sent y)
     ∙ signals-only a b (said_in B y)
 
--- what one more thing given tells: the session's pair, and what the other side had said until then
-pub record IsTold (A B : SideRecord) (g : Given) : Type 0 where
-  pub y : Session
-  pub pair : A.now.peer ≡ Some y
-  pub back : peer_in B y ≡ Some A.now.session
-  pub later : List Said
-  pub said : said_in B y ≡ later ++ heard_as g ∷ map heard_as A.now.given
-
+-- what one more thing given tells
 pub told : (A B : SideRecord) (g : Given) → IsHeardFrom B (record A.now { given = g ∷ A.now.given })
     → IsTold A B g
 told A B g (nothing_heard none) = absurd cc

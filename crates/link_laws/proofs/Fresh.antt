@@ -43,7 +43,7 @@ use Rattle.link_laws.proofs.Sides.{founds-items, notices-items}
 use Rattle.linx_base.specs.declared.signal.Reason.TheVariants as reasons
 
 -- what a packet brings opens nothing
-brought-opens_none : (P : List Step) (n : ℕ) (l : LinkNo) (what : Brought)
+pub brought-opens_none : (P : List Step) (n : ℕ) (l : LinkNo) (what : Brought)
     → filter_map opened_in (brought_at P n l what) ≡ []
 brought-opens_none P n l nothing = refl
 brought-opens_none P n l (goes_up x y) = refl

@@ -223,9 +223,11 @@ hunts_up_near Q n m l A B noted y ws none asked_for_all fresh_there = record {
 
 -- THE FAR SIDE GOES UP: it has heard nothing yet, so each question is on its way
 pub hunts_up_far : (P Q : List Step) (n m : ℕ) (l : LinkNo) (A B : SideRecord)
-    (noted : List (List ℕ)) (y : Session) → hunting Q n ≡ hunting P n → AreHunted P n m l A B noted
+    (noted : List (List ℕ)) (y : Session) → ((v : List ℕ)
+    → list_any (is_hunt_over l v) (hunting Q n) ≡ true
+    → list_any (is_hunt_over l v) (hunting P n) ≡ true) → AreHunted P n m l A B noted
     → B.now.given ≡ [] → AreHunted Q n m l A (going_up y B) []
-hunts_up_far P Q n m l A B noted y same hunts none = record {
+hunts_up_far P Q n m l A B noted y was hunts none = record {
   asked_all = λ v up is. hunts.asked_all v up (was v is);
   stand = λ talk v is.
       let all_far : talk.to_far ≡ A.now.said = sym (append-nil talk.to_far)
@@ -234,10 +236,6 @@ hunts_up_far P Q n m l A B noted y same hunts none = record {
       (was v is));
 }
   where
-    was : (v : List ℕ) → list_any (is_hunt_over l v) (hunting Q n) ≡ true
-        → list_any (is_hunt_over l v) (hunting P n) ≡ true
-    was v is = ap (list_any (is_hunt_over l v)) (sym same) ∙ is
-
     nothing : {x : Session} → A.now.peer ≡ Some x → A.now.peer ≡ None → ⊥
     nothing up down = cc
 
@@ -259,14 +257,16 @@ hunts_down_far P Q n m l A B noted noted' x same hunts = record {
 
 -- A NAME IS OPENED on the far node: where it was noted it is published
 pub hunts_opened : (P Q : List Step) (n m : ℕ) (l : LinkNo) (A B : SideRecord)
-    (noted noted' : List (List ℕ)) (i : Inc) (v : List ℕ) → hunting Q n ≡ hunting P n
+    (noted noted' : List (List ℕ)) (i : Inc) (v : List ℕ) → ((w : List ℕ)
+    → list_any (is_hunt_over l w) (hunting Q n) ≡ true
+    → list_any (is_hunt_over l w) (hunting P n) ≡ true)
     → ((w : List ℕ) → bytes_eq w v ≡ false → HasNone P m w → HasNone Q m w)
     → ((w : List ℕ) → bytes_eq w v ≡ false → list_any (bytes_eq w) noted ≡ true
     → list_any (bytes_eq w) noted' ≡ true) → AreHunted P n m l A B noted
     → (A.now.peer ≡ Some B.now.session → B.now.peer ≡ Some A.now.session → IsTalking A B) →
     AreHunted Q n m l A (saying (cond (list_any (bytes_eq v) noted) (published i v ∷ []) []) B)
     noted'
-hunts_opened P Q n m l A B noted noted' i v same none_still noted_still hunts were = record {
+hunts_opened P Q n m l A B noted noted' i v was none_still noted_still hunts were = record {
   asked_all = λ w up is. hunts.asked_all w up (was w is);
   stand = λ talk w is.
       let old = were talk.pair talk.back in
@@ -283,10 +283,6 @@ hunts_opened P Q n m l A B noted noted' i v same none_still noted_still hunts we
       (hunts.stand old w (was w is));
 }
   where
-    was : (w : List ℕ) → list_any (is_hunt_over l w) (hunting Q n) ≡ true
-        → list_any (is_hunt_over l w) (hunting P n) ≡ true
-    was w is = ap (list_any (is_hunt_over l w)) (sym same) ∙ is
-
     more : (far near old_far old_near : List Said) (w : List ℕ) → far ≡ old_far
         → near ≡ cond (list_any (bytes_eq v) noted) (published i v ∷ []) [] ++ old_near
         → Stands P m noted w old_far old_near → Stands Q m noted' w far near

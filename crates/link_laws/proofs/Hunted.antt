@@ -218,10 +218,10 @@ module _ (shape : Shape) (P : List Step) (links : Links) (s : Step) (calm : IsCa
     abbrev E : SideState
     E = links l.0 (other_of at)
 
-    near : IsHuntedAt shape P l at D E
+    pub near : IsHuntedAt shape P l at D E
     near = hunted l of_shape at
 
-    far : AreHunted P m n l E.side D.side D.noted
+    pub far : AreHunted P m n l E.side D.side D.noted
     far = turned at (hunted l of_shape (other_of at))
       where
         turned : (a : Side)
@@ -232,7 +232,7 @@ module _ (shape : Shape) (P : List Step) (links : Links) (s : Step) (calm : IsCa
         turned First it = it
         turned Second it = it
 
-    whole : AreHunted (s ∷ P) n m l C.side E.side E.noted
+    pub whole : AreHunted (s ∷ P) n m l C.side E.side E.noted
         → AreHunted (s ∷ P) m n l E.side C.side C.noted
         → AllHunted shape (s ∷ P) (with_state links l.0 at C)
     whole here there = one_link shape (s ∷ P) links l at C here (turned at here there)

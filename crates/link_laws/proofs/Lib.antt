@@ -36,3 +36,5 @@ pub mod Answers
 pub mod Meetings
 pub mod Unfound
 pub mod Hunted
+pub mod Alike
+pub mod OneSide

@@ -1,20 +1,19 @@
 -- A run before its first step: its links are kept.
-use Rattle.std.proofs.Common.{◌≡◌, ℕ, true, false, [], Some, None, cond, refl, sym, arith}
+use Rattle.std.proofs.Common.{◌≡◌, ℕ, true, false, [], Some, None, cond, refl, sym}
 use Rattle.std.specs.List.{filter}
 use Rattle.std.proofs.lemmas.Bool.{true≢false}
 use Rattle.linx_base.specs.Numbers.{first_session}
 use Rattle.linx_base.specs.declared.identity.LinkNo.{LinkNo}
-use Rattle.trunk_record.specs.Changes.{fresh, new_side}
-use Rattle.trunk_record.specs.Records.{SideRecord, given_of, has_session, peer_of, said_of}
+use Rattle.trunk_record.specs.Changes.{fresh}
+use Rattle.trunk_record.specs.Records.{given_of, has_session, peer_of, said_of}
 use Rattle.trunk_record.specs.Sayings.{is_shown, is_signal}
 use Rattle.journal.specs.Shapes.{Shape}
-use Rattle.link_laws.specs.Fabric.{AreLinksKept, Links}
+use Rattle.link_laws.specs.Fabric.{AreLinksKept, Links, records_of}
 use Rattle.link_laws.specs.Linked.{AreHunted, IsLinked}
+use Rattle.link_laws.specs.Runs.{AreFirst, first_side, first_state}
 use Rattle.trunk_record.proofs.Changes.{half_new}
-
--- the side of a node before its first step
-abbrev pub first_side : SideRecord
-first_side = new_side (first_session 1)
+use Rattle.link_laws.proofs.Alike.{all_left-same, hunted-alike, linked-alike, opened-alike}
+use Rattle.link_laws.proofs.Alike.{trunks-alike}
 
 pub linked_new : (n : ℕ) (l : LinkNo) → IsLinked [] n l first_side
 linked_new n l = record {
@@ -47,15 +46,20 @@ hunted_new n m l = record {
   stand = λ talk v is. absurd (true≢false (sym is));
 }
 
--- the sides of all links
-abbrev pub first_links : Links
-first_links k at = record { side = first_side; noted = []; silent = 0 }
+-- all sides as they are at first
+abbrev first_links : Links
+first_links k at = first_state
 
-pub links_new : (shape : Shape) → AreLinksKept shape [] first_links
-links_new shape = record {
-  trunks = λ l of_shape side. half_new (first_session 1) (first_session 1);
-  linked = λ l of_shape side. linked_new _ l;
-  opened = λ l of_shape side. (tt, tt);
-  hunted = λ l of_shape side. hunted_new _ _ l;
-  silent = λ l of_shape side. omega arith;
+pub links_new : (shape : Shape) (links : Links) → AreFirst shape links → AreLinksKept shape [] links
+links_new shape links first = record {
+  trunks = trunks-alike shape (records_of first_links) (records_of links)
+      (λ l of_shape side. (first l of_shape side).side)
+      (λ l of_shape side. half_new (first_session 1) (first_session 1));
+  linked = linked-alike shape [] (records_of first_links) (records_of links)
+      (λ l of_shape side. (first l of_shape side).side) (λ l of_shape side. linked_new _ l);
+  opened = opened-alike shape [] (records_of first_links) (records_of links)
+      (λ l of_shape side. (first l of_shape side).side) (λ l of_shape side. (tt, tt));
+  hunted = hunted-alike shape [] first_links links (all_left-same shape first_links links first)
+      (λ l of_shape side. hunted_new _ _ l);
+  silent = λ l of_shape side. (first l of_shape side).silent;
 }

@@ -29,6 +29,7 @@ use Rattle.link_laws.specs.Came.{signal_in}
 use Rattle.link_laws.specs.Ends.{node_at, IsLinkOf, HasTwoEnds}
 use Rattle.link_laws.specs.Fabric.{Trunks, with_side, AllLinked}
 use Rattle.link_laws.specs.Linked.{IsLinked}
+use Rattle.link_laws.specs.Moves.{closing_side}
 use Rattle.link_laws.specs.Sessions.{restarts}
 use Rattle.link_laws.proofs.Acts.{keeps_close, keeps_close_elsewhere, keeps_quiet, keeps_send}
 use Rattle.link_laws.proofs.Done.{IsDone}
@@ -37,9 +38,6 @@ use Rattle.link_laws.proofs.Sides.{notices-items, one_side}
 use Rattle.linx_base.specs.declared.signal.Reason.TheVariants as reasons
 
 -- A CLOSE: every link of the node on which the endpoint is live is told
-abbrev pub closing_side : ℕ → ℕ → Inc → SideRecord → SideRecord
-closing_side n k j A = cond (k == n && is_live j A.now.said) (saying (unpublished j ∷ []) A) A
-
 abbrev pub closed_on : Shape → Trunks → ℕ → Inc → Trunks
 closed_on shape trunks n j k at = closing_side n (node_at shape (record { 0 = k }) at) j
     (trunks k at)

@@ -34,6 +34,7 @@ use Rattle.link_laws.specs.Ends.{node_at, IsLinkOf, HasTwoEnds}
 use Rattle.link_laws.specs.Fabric.{Trunks, with_side, AllLinked}
 use Rattle.link_laws.specs.Laws.{delivers, IsLegalStep}
 use Rattle.link_laws.specs.Linked.{IsLinked, shown_by, IsAt}
+use Rattle.link_laws.specs.Moves.{brought_of}
 use Rattle.link_laws.specs.Sessions.{is_cut}
 use Rattle.link_laws.proofs.Acts.{keeps_quiet}
 use Rattle.link_laws.proofs.Brings.{told, legal_arrival, legal_meeting, legal_parting}
@@ -43,14 +44,6 @@ use Rattle.link_laws.proofs.Legal.{legal_wire}
 use Rattle.link_laws.proofs.Opened.{open-on}
 use Rattle.link_laws.proofs.Sides.{shown-away, founds-items, notices-items, no_signal, one_side}
 use Rattle.linx_base.specs.declared.signal.Reason.TheVariants as reasons
-
--- what a side was given, as a packet brings it; a question and a freed signal bring nothing
-abbrev pub brought_of : SideRecord → Given → Brought
-brought_of A (met a name) = meets A.now.session a name
-brought_of A (asked_for name) = nothing
-brought_of A (arrived a b note) = arrives A.now.session a b note
-brought_of A (freed a b note) = nothing
-brought_of A (gone a) = parts A.now.session a
 
 -- its effects are what shows it, and then items
 pub given-done : (P : List Step) (n : ℕ) (l : LinkNo) (A : SideRecord) (g : Given) (s : Step)

@@ -22,11 +22,12 @@ use Rattle.journal.specs.declared.effect.Effect.TheVariants.{Up}
 use Rattle.journal.specs.declared.effect.Step.{Step}
 use Rattle.journal.proofs.Lists.{all-append, all-impl}
 use Rattle.link_laws.specs.Linked.{IsLinked}
+use Rattle.link_laws.specs.Moves.{IsTold}
 use Rattle.link_laws.specs.Promises.{IsPairedBack, IsNotAbove, GoesForward, ups, before_up}
 use Rattle.link_laws.specs.Promises.{was_closed_before, IsPublishedOpen, ArePublishedOpen}
 use Rattle.link_laws.specs.Promises.{PublishesOpen, HasPair, IsMetOpen}
 use Rattle.trunk_record.proofs.Lookups.{peer-now}
-use Rattle.link_laws.proofs.Brings.{IsTold, all-before, told}
+use Rattle.link_laws.proofs.Brings.{all-before, told}
 
 -- whatever is given comes from the session that is paired both ways
 pub paired_back : (P : List Step) (n m : ℕ) (l : LinkNo) (A B : SideRecord) (g : Given)

@@ -18,9 +18,9 @@ use Rattle.journal.specs.declared.effect.Effect.TheVariants.{Found, Notified}
 use Rattle.journal.specs.declared.effect.Step.{Step}
 use Rattle.link_laws.specs.Brought.{brought_at, goes_down, goes_up}
 use Rattle.link_laws.specs.Linked.{IsLinked}
-use Rattle.link_laws.specs.Promises.{ArePublishedOpen, IsNotAbove, IsPromised}
+use Rattle.link_laws.specs.Moves.{IsAfter, brought_of}
+use Rattle.link_laws.specs.Promises.{ArePublishedOpen, IsPromised}
 use Rattle.link_laws.proofs.Done.{AreItems}
-use Rattle.link_laws.proofs.Packets.{brought_of}
 use Rattle.link_laws.proofs.Promised.{goes_forward, has_pair, is_met_open}
 use Rattle.link_laws.proofs.Sides.{founds-items, notices-items}
 use Rattle.linx_base.specs.declared.signal.Reason.TheVariants as reasons
@@ -34,10 +34,6 @@ items-promised P n m l (Found i q note number ∷ items) are =
 items-promised P n m l (Notified i q note reference reason ∷ items) are =
     (tt, items-promised P n m l items are.1)
 items-promised P n m l (_ ∷ items) are = absurd (true≢false (sym are.0))
-
--- no earlier peer of an entry is above this session
-abbrev pub IsAfter : Session → SessionRecord → Type 0
-IsAfter y e = IsNotAbove y e.peer
 
 module _ (P : List Step) (n m : ℕ) (l : LinkNo) (A B : SideRecord) (near : IsLinked P n l A)
     (far : IsLinked P m l B) where

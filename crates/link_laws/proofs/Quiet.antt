@@ -34,6 +34,7 @@ use Rattle.link_laws.specs.Ends.{node_at, IsLinkOf, HasTwoEnds}
 use Rattle.link_laws.specs.Fabric.{Trunks, with_side, AllLinked}
 use Rattle.link_laws.specs.Laws.{IsLegalStep}
 use Rattle.link_laws.specs.Linked.{IsLinked}
+use Rattle.link_laws.specs.Moves.{opening_side}
 use Rattle.link_laws.specs.Sessions.{restarts, silent_ticks}
 use Rattle.trunk_record.proofs.Sayings.{same_inc-is, same_inc-itself}
 use Rattle.link_laws.proofs.Acts.{cond-nil, keeps_quiet}
@@ -58,15 +59,12 @@ whole_quiet shape P trunks s linked items stays says h of_h side =
     (λ i live. refl)
 
 -- AN OPENING. On each side of the node whose other side has asked for the name it is published
-abbrev pub opening_side : Bool → Inc → List ℕ → SideRecord → SideRecord
-opening_side wanted i name A = saying (cond wanted (published i name ∷ []) []) A
-
-abbrev pub is_wanted : Shape → ℕ → (ℕ → Side → Bool) → ℕ → Side → Bool
-is_wanted shape n wanted k at = node_at shape (record { 0 = k }) at == n && wanted k at
+abbrev pub is_wanted_at : Shape → ℕ → (ℕ → Side → Bool) → ℕ → Side → Bool
+is_wanted_at shape n wanted k at = node_at shape (record { 0 = k }) at == n && wanted k at
 
 abbrev pub opened_to : Shape → Trunks → ℕ → (ℕ → Side → Bool) → Inc → List ℕ → Trunks
 opened_to shape trunks n wanted i name k at =
-    opening_side (is_wanted shape n wanted k at) i name (trunks k at)
+    opening_side (is_wanted_at shape n wanted k at) i name (trunks k at)
 
 module _ (shape : Shape) (P : List Step) (trunks : Trunks) (by : By) (n : ℕ) (i : Inc)
     (name : List ℕ) (wanted : ℕ → Side → Bool) (linked : AllLinked shape P trunks) (on : is_on n i
@@ -101,7 +99,7 @@ module _ (shape : Shape) (P : List Step) (trunks : Trunks) (by : By) (n : ℕ) (
 
   -- a side where it is published, and one where it isn't
   on_side : (h : LinkNo) (side : Side) → IsLinkOf shape h → (t : Bool)
-      → is_wanted shape n wanted h.0 side ≡ t → IsLinked (s ∷ P) (node_at shape h side) h
+      → is_wanted_at shape n wanted h.0 side ≡ t → IsLinked (s ∷ P) (node_at shape h side) h
       (opening_side t i name (trunks h.0 side))
   on_side h side of_h false e =
       keeps_saying P s (Opened i ∷ []) items done (node_at shape h side) h (trunks h.0 side) []
@@ -126,7 +124,7 @@ module _ (shape : Shape) (P : List Step) (trunks : Trunks) (by : By) (n : ℕ) (
       ])
 
   pub whole_open : AllLinked shape (s ∷ P) (opened_to shape trunks n wanted i name)
-  whole_open h of_h side = on_side h side of_h (is_wanted shape n wanted h.0 side) refl
+  whole_open h of_h side = on_side h side of_h (is_wanted_at shape n wanted h.0 side) refl
 
 -- A SIDE THAT IS LOST AT A TICK: the trunk promises that it was silent for two ticks before
 module _ (shape : Shape) (P : List Step) (trunks : Trunks) (by : By) (l : LinkNo) (side : Side)

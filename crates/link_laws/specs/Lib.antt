@@ -7,3 +7,5 @@ pub mod Laws
 pub mod Linked
 pub mod Promises
 pub mod Fabric
+pub mod Moves
+pub mod Runs

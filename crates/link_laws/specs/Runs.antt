@@ -1,0 +1,87 @@
+-- A whole run, step by step, and what holds of it.
+use Rattle.std.specs.Prelude.{ℕ, ◌≡◌, ◌≤◌, true, List, [], ◌∷◌, length}
+use Rattle.linx_base.specs.Numbers.{first_session, is_on}
+use Rattle.linx_base.specs.Sides.{other_of}
+use Rattle.linx_base.specs.declared.identity.Inc.{Inc}
+use Rattle.linx_base.specs.declared.identity.LinkNo.{LinkNo}
+use Rattle.linx_base.specs.declared.identity.Peer.TheVariants.{Here, There}
+use Rattle.linx_base.specs.declared.identity.Side.{Side}
+use Rattle.trunk_record.specs.Changes.{new_side}
+use Rattle.trunk_record.specs.Records.{SideRecord}
+use Rattle.trunk_record.specs.Trunks.{IsQuiet}
+use Rattle.journal.specs.Living.{is_alive}
+use Rattle.journal.specs.Logs.{step_limit}
+use Rattle.journal.specs.Shapes.{Shape}
+use Rattle.journal.specs.Traffic.{arrived_from, sent_to}
+use Rattle.journal.specs.declared.effect.Step.{Step}
+use Rattle.link_laws.specs.Ends.{HasTwoEnds, IsLinkOf, node_at}
+use Rattle.link_laws.specs.Fabric.{AreLinksKept, Links, SideState}
+use Rattle.link_laws.specs.Laws.{IsLegal}
+use Rattle.link_laws.specs.Linked.{IsUnfound, is_hunted}
+use Rattle.link_laws.specs.Moves.{AllResting, IsLeft, IsMove}
+use Rattle.link_laws.specs.Promises.{AllCarried, KeepsLinkPromises}
+use Rattle.link_laws.specs.Still.{AllStill}
+
+-- a side before its first session went up
+abbrev pub first_side : SideRecord
+first_side = new_side (first_session 1)
+
+abbrev pub first_state : SideState
+first_state = record { side = first_side; noted = []; silent = 0 }
+
+-- all sides are
+abbrev pub AreFirst : Shape → Links → Type 0
+AreFirst shape links = (l : LinkNo) → IsLinkOf shape l → (side : Side)
+    → IsLeft first_state (links l.0 side)
+
+-- A RUN: from the first states on, each step is a move from the links before it to those after it
+abbrev pub IsRun : Shape → List Step → Links → Type 0
+IsRun shape [] links = AreFirst shape links
+IsRun shape (s ∷ P) after =
+    (before : Links) × (IsRun shape P before × IsMove shape P before s after)
+
+-- a run on links between two nodes each, with no more steps than a journal takes
+pub record IsWholeRun (shape : Shape) (P : List Step) (links : Links) : Type 0 where
+  pub two_ends : HasTwoEnds shape
+  pub fits : length P ≤ step_limit
+  pub run : IsRun shape P links
+
+-- EVERY RUN IS LEGAL, by the laws of nodes and links, and its links are what its history tells
+pub record IsSound (shape : Shape) (P : List Step) (links : Links) : Type 0 where
+  pub legal : IsLegal shape P
+  pub linked : AreLinksKept shape P links
+
+abbrev pub RunsAreLegal : Type 0
+RunsAreLegal = (shape : Shape) (P : List Step) (links : Links) → IsWholeRun shape P links
+    → IsSound shape P links
+
+-- NOTHING VANISHES. Where the trunk of a link is quiet, an open endpoint has got all that anybody
+-- of the other side ever sent it in the session
+abbrev pub NothingVanishes : List Step → (n m : ℕ) → LinkNo → SideRecord → SideRecord → Type 0
+NothingVanishes P n m l A B = IsQuiet A B → (a b : Inc) → is_on m a ≡ true
+    → is_alive P n (Here b) ≡ true
+    → arrived_from P b (There l A.now.session a) ≡ sent_to P a (There l B.now.session b)
+
+abbrev pub NothingVanishesThere : Shape → List Step → Links → Type 0
+NothingVanishesThere shape P links = (l : LinkNo) → IsLinkOf shape l → (side : Side)
+    → NothingVanishes P (node_at shape l side) (node_at shape l (other_of side)) l
+    (links l.0 side).side (links l.0 (other_of side)).side
+
+-- a name for which a hunt is pending over a link is that of no living peer
+abbrev pub AllUnfound : List Step → Type 0
+AllUnfound P = (n : ℕ) (l : LinkNo) (v : List ℕ) → is_hunted P n l v ≡ true → IsUnfound P n l v
+
+-- EVERY RUN KEEPS ITS PROMISES
+pub record KeepsPromises (shape : Shape) (P : List Step) (links : Links) : Type 0 where
+  -- arrivals are fronts of what was sent, complete once the close was told, and then over
+  pub carried : AllCarried shape P
+  -- sessions pair both ways and go forward, and nobody is met after its close
+  pub packets : KeepsLinkPromises shape P
+  pub unfound : AllUnfound P
+  pub vanishes_none : NothingVanishesThere shape P links
+  -- links that rest are still
+  pub still : AllResting shape P links → AllStill shape P
+
+abbrev pub RunsKeepPromises : Type 0
+RunsKeepPromises = (shape : Shape) (P : List Step) (links : Links) → IsWholeRun shape P links
+    → KeepsPromises shape P links
