@@ -38,3 +38,5 @@ pub mod Unfound
 pub mod Hunted
 pub mod Alike
 pub mod OneSide
+pub mod HuntsOver
+pub mod HuntsAll

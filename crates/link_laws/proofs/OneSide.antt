@@ -24,8 +24,8 @@ use Rattle.link_laws.specs.Fabric.{Links, Trunks, records_of, with_side, with_st
 use Rattle.link_laws.specs.Moves.{AllLeft, IsLeft, OthersLeft, is_side}
 use Rattle.link_laws.specs.Promises.{ups}
 use Rattle.link_laws.specs.Sessions.{same_side, silent_ticks, tells_heard}
-use Rattle.link_laws.proofs.Alike.{all_left-same, hunted-alike, linked-alike, one-alike, one-same}
-use Rattle.link_laws.proofs.Alike.{opened-alike, trunks-alike}
+use Rattle.link_laws.proofs.Alike.{AreAlike, all_left-same, hunted-alike, linked-alike, one-alike}
+use Rattle.link_laws.proofs.Alike.{one-same, opened-alike, trunks-alike}
 use Rattle.link_laws.proofs.Away.{any-off, touches}
 use Rattle.link_laws.proofs.Done.{IsDone, any-done, is_item}
 use Rattle.link_laws.proofs.Opened.{both_true}
@@ -169,6 +169,7 @@ module _ (shape : Shape) (P : List Step) (s : Step) (before after : Links) (l : 
     silent = λ h of_h side. by_side h of_h side (is_side l at h side) refl;
   }
     where
+      alike : AreAlike shape (with_side (records_of before) l.0 at A) (records_of after)
       alike = one-alike shape before after l at others A it.made
 
       by_side : (h : LinkNo) → IsLinkOf shape h → (side : Side) → (t : Bool)
@@ -207,4 +208,5 @@ all_kept shape P s before after left kept linked opened hunted quiet = record {
       (quiet (node_at shape h side) h.0);
 }
   where
-    alike = λ h of_h side. (left h of_h side).side
+    alike : AreAlike shape (records_of before) (records_of after)
+    alike h of_h side = (left h of_h side).side
