@@ -19,11 +19,11 @@ use Rattle.journal.specs.declared.by.By.{By}
 use Rattle.journal.specs.declared.effect.Effect.{Effect}
 use Rattle.journal.specs.declared.effect.Step.{Step}
 use Rattle.journal.specs.declared.head.Head.{Head}
-use Rattle.journal.specs.declared.head.Head.TheVariants.{Restart, Tick, Wire}
+use Rattle.journal.specs.declared.head.Head.TheVariants.{Restart, TakeNone, Tick, Wire}
 use Rattle.link_laws.specs.Brought.{Brought, MayBring, brought_at}
 use Rattle.link_laws.specs.Ends.{node_at}
-use Rattle.link_laws.specs.Laws.{IsTick, IsHandedOver, IsLegalStep, IsPacket, delivers, loses}
-use Rattle.link_laws.specs.Laws.{restarting}
+use Rattle.link_laws.specs.Laws.{IsTick, IsHandedOver, IsLegalStep, IsPacket, KeepsCuts}
+use Rattle.link_laws.specs.Laws.{KeepsPackets, KeepsRest, KeepsTicks, delivers, loses, restarting}
 use Rattle.link_laws.specs.Sessions.{is_cut, silent_ticks}
 
 -- no endpoint is needed for what is no opening and no step of an endpoint
@@ -33,6 +33,29 @@ no_endpoint {me} {head} opens needs = record {
   opens = λ is. absurd (true≢false (sym is ∙ opens));
   needs = λ is. absurd (true≢false (sym is ∙ needs));
 }
+
+-- the head is that of a step of an actor off the links, which doesn't ask for rest
+abbrev pub is_plain : Head → Bool
+is_plain (TakeNone filter) = false
+is_plain (Wire l from verdict) = false
+is_plain (Tick l side) = false
+is_plain _ = true
+
+-- so the laws of rest, packets, cuts and ticks ask nothing of it
+pub record AsksNothing (shape : Shape) (P : List Step) (head : Head) (effects : List Effect) : Type 0
+  where
+    pub rest : KeepsRest shape P head
+    pub packets : KeepsPackets shape P head effects
+    pub cuts : KeepsCuts P head
+    pub ticks : KeepsTicks shape P head effects
+
+pub asks-nothing : (shape : Shape) (P : List Step) (head : Head) (effects : List Effect)
+    → is_plain head ≡ true → AsksNothing shape P head effects
+asks-nothing shape P (TakeNone filter) effects plain = absurd (true≢false (sym plain))
+asks-nothing shape P (Wire k from verdict) effects plain = absurd (true≢false (sym plain))
+asks-nothing shape P (Tick k side) effects plain = absurd (true≢false (sym plain))
+asks-nothing shape P _ effects plain =
+    record { rest = tt; packets = tt; cuts = tt; ticks = tt }
 
 -- a packet that meets a verdict
 pub legal_passing : (shape : Shape) (P : List Step) (by : By) (l : LinkNo) (from : Side)

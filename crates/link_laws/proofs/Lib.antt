@@ -40,3 +40,5 @@ pub mod Alike
 pub mod OneSide
 pub mod HuntsOver
 pub mod HuntsAll
+pub mod Good
+pub mod MovesQuiet

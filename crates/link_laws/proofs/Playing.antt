@@ -31,30 +31,7 @@ use Rattle.link_laws.specs.Laws.{KeepsCuts, KeepsPackets, KeepsRest, KeepsTicks,
 use Rattle.link_laws.specs.Laws.{IsHandedOver, IsLegal, IsLegalStep, IsTick, actors_alone, delivers}
 use Rattle.link_laws.specs.Sessions.{is_cut}
 use Rattle.link_laws.specs.Still.{AllStill, IsStill}
-use Rattle.link_laws.proofs.Legal.{legal_passing, legal_tick}
-
--- the head is that of a step of an actor off the links, which doesn't ask for rest
-abbrev is_plain : Head → Bool
-is_plain (TakeNone filter) = false
-is_plain (Wire l from verdict) = false
-is_plain (Tick l side) = false
-is_plain _ = true
-
--- so the laws of rest, packets, cuts and ticks ask nothing of it
-record AsksNothing (shape : Shape) (P : List Step) (head : Head) (effects : List Effect) : Type 0
-  where
-    rest : KeepsRest shape P head
-    packets : KeepsPackets shape P head effects
-    cuts : KeepsCuts P head
-    ticks : KeepsTicks shape P head effects
-
-asks-nothing : (shape : Shape) (P : List Step) (head : Head) (effects : List Effect)
-    → is_plain head ≡ true → AsksNothing shape P head effects
-asks-nothing shape P (TakeNone filter) effects plain = absurd (true≢false (sym plain))
-asks-nothing shape P (Wire k from verdict) effects plain = absurd (true≢false (sym plain))
-asks-nothing shape P (Tick k side) effects plain = absurd (true≢false (sym plain))
-asks-nothing shape P _ effects plain =
-    record { rest = tt; packets = tt; cuts = tt; ticks = tt }
+use Rattle.link_laws.proofs.Legal.{asks-nothing, is_plain, legal_passing, legal_tick}
 
 -- a step of an actor is legal where what is said of its head computes
 pub acts : {shape : Shape} {P : List Step} {k : ℕ} {head : Head} {effects : List Effect}
