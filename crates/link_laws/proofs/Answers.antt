@@ -1,8 +1,6 @@
--- What a side says in answer to what a step brought, over all links of a run: questions once it
--- went
--- up, and the publishing of an endpoint whose name was asked for.
-use Rattle.std.proofs.Common.{◌≡◌, ℕ, true, ◌||◌, inl, inr, List, [], ◌∷◌, ◌++◌, map, refl, sym}
-use Rattle.std.proofs.Common.{◌∙◌, subst}
+-- What a side says in answer to what a step brought, over all links of a run.
+use Rattle.std.proofs.Common.{◌≡◌, ℕ, ◌||◌, inl, inr, List, [], ◌∷◌, ◌++◌, true, false, Bool, cond}
+use Rattle.std.proofs.Common.{refl, sym, ◌∙◌, ap, subst}
 use Rattle.std.specs.List.{filter, AllByRecursion}
 use Rattle.std.proofs.lemmas.Bool.{or_cases}
 use Rattle.linx_base.specs.Peers.{same_inc}
@@ -18,22 +16,29 @@ use Rattle.journal.specs.Living.{is_alive}
 use Rattle.journal.specs.Shapes.{Shape}
 use Rattle.journal.specs.declared.effect.Step.{Step}
 use Rattle.journal.proofs.Openings.{same_inc-true}
-use Rattle.link_laws.specs.Ends.{HasTwoEnds, IsLinkOf, node_at}
-use Rattle.link_laws.specs.Fabric.{AllLinked, Trunks, with_side}
-use Rattle.link_laws.specs.Linked.{IsTrueOf}
+use Rattle.link_laws.specs.Ends.{IsLinkOf, node_at}
+use Rattle.link_laws.specs.Fabric.{AllLinked, AllPublishedOpen, Trunks, with_side}
+use Rattle.link_laws.specs.Linked.{IsLinked, IsTrueOf}
 use Rattle.link_laws.specs.Moves.{questions}
+use Rattle.link_laws.specs.Promises.{ArePublishedOpen}
 use Rattle.link_laws.proofs.Keeps.{says_now}
+use Rattle.link_laws.proofs.OneSide.{one_restated}
 use Rattle.link_laws.proofs.Opened.{open-opened}
-use Rattle.link_laws.proofs.Sides.{one_side}
+use Rattle.link_laws.proofs.Promised.{IsOpenNow, published-saying}
 
 questions-no_signal : (names : List (List ℕ)) → filter is_signal (questions names) ≡ []
 questions-no_signal [] = refl
 questions-no_signal (v ∷ names) = questions-no_signal names
 
-questions-true : (P : List Step) (n : ℕ) (names : List (List ℕ))
-    → AllByRecursion (IsTrueOf P n) (questions names)
-questions-true P n [] = tt
-questions-true P n (v ∷ names) = (tt, questions-true P n names)
+questions-true : (Q : List Step) (n : ℕ) (names : List (List ℕ))
+    → AllByRecursion (IsTrueOf Q n) (questions names)
+questions-true Q n [] = tt
+questions-true Q n (v ∷ names) = (tt, questions-true Q n names)
+
+questions-open : (Q : List Step) (names : List (List ℕ))
+    → AllByRecursion (IsOpenNow Q) (questions names)
+questions-open Q [] = tt
+questions-open Q (v ∷ names) = (tt, questions-open Q names)
 
 questions-live : (i : Inc) (names : List (List ℕ)) (said : List Said)
     → is_live i (questions names ++ said) ≡ is_live i said
@@ -41,38 +46,56 @@ questions-live i [] said = refl
 questions-live i (v ∷ names) said = questions-live i names said
 
 module _ (shape : Shape) (Q : List Step) (trunks : Trunks) (l : LinkNo) (at : Side)
-    (two : HasTwoEnds shape) (of_shape : IsLinkOf shape l) (linked : AllLinked shape Q trunks) where
-  abbrev A : SideRecord
-  A = trunks l.0 at
-
+    (of_shape : IsLinkOf shape l) (A : SideRecord) where
   abbrev n : ℕ
   n = node_at shape l at
 
   -- the side asks for names
-  pub whole_asking : (names : List (List ℕ))
+  pub asks_linked : (names : List (List ℕ)) → AllLinked shape Q (with_side trunks l.0 at A)
       → AllLinked shape Q (with_side trunks l.0 at (saying (questions names) A))
-  whole_asking names =
-      one_side shape Q trunks l at (saying (questions names) A) two of_shape
-      (says_now Q n l A (questions names) (linked l of_shape at) (questions-no_signal names)
+  asks_linked names linked =
+      one_restated shape (λ h side C. IsLinked Q (node_at shape h side) h C) trunks l at A
+      (saying (questions names) A) of_shape linked
+      (λ it. says_now Q n l A (questions names) it (questions-no_signal names)
       (questions-true Q n names)
-      (λ i is. (linked l of_shape at).live i (sym (questions-live i names A.now.said) ∙ is)))
-      (λ h side of_h apart. linked h of_h side)
+      (λ i is. it.live i (sym (questions-live i names A.now.said) ∙ is)))
 
-  -- the side publishes an open endpoint by its name
-  pub whole_publishing : (i : Inc) → is_alive Q n (Here i) ≡ true
-      → AllLinked shape Q
-      (with_side trunks l.0 at (saying (published i (name_of Q i) ∷ []) A))
-  whole_publishing i open_now =
-      one_side shape Q trunks l at (saying (published i (name_of Q i) ∷ []) A) two of_shape
-      (says_now Q n l A (published i (name_of Q i) ∷ []) (linked l of_shape at) refl
-      ((open-opened Q n i open_now, refl), tt) live)
-      (λ h side of_h apart. linked h of_h side)
+  pub asks_opened : (names : List (List ℕ)) → AllPublishedOpen shape Q (with_side trunks l.0 at A)
+      → AllPublishedOpen shape Q (with_side trunks l.0 at (saying (questions names) A))
+  asks_opened names opened =
+      one_restated shape (λ h side C. ArePublishedOpen Q (node_at shape h side) h C) trunks l at A
+      (saying (questions names) A) of_shape opened
+      (λ it. published-saying Q n l A (questions names) (questions-open Q names) it)
+
+  -- the side publishes an open endpoint by its name, or says nothing
+  abbrev pub answer_if : Bool → Inc → List ℕ → List Said
+  answer_if live i v = cond live [] (published i v ∷ [])
+
+  pub offers_linked : (i : Inc) (v : List ℕ) (t : Bool) → is_alive Q n (Here i) ≡ true
+      → name_of Q i ≡ v → AllLinked shape Q (with_side trunks l.0 at A)
+      → AllLinked shape Q (with_side trunks l.0 at (saying (answer_if t i v) A))
+  offers_linked i v true open_now named linked = linked
+  offers_linked i v false open_now named linked =
+      one_restated shape (λ h side C. IsLinked Q (node_at shape h side) h C) trunks l at A
+      (saying (published i v ∷ []) A) of_shape linked
+      (λ it. says_now Q n l A (published i v ∷ []) it refl
+      ((open-opened Q n i open_now, named), tt) (live it))
     where
-      live : (j : Inc) → (same_inc j i || is_live j A.now.said) ≡ true
-          → is_alive Q n (Here j) ≡ true
-      live j is =
+      live : IsLinked Q (node_at shape l at) l A → (j : Inc)
+          → (same_inc j i || is_live j A.now.said) ≡ true
+          → is_alive Q (node_at shape l at) (Here j) ≡ true
+      live it j is =
           elim (or_cases (same_inc j i) (is_live j A.now.said) is) [
-            | inl same ↦ subst (λ (k : Inc). is_alive Q n (Here k) ≡ true)
+            | inl same ↦ subst (λ (k : Inc). is_alive Q (node_at shape l at) (Here k) ≡ true)
                 (sym (same_inc-true j i same)) open_now
-            | inr was ↦ (linked l of_shape at).live j was
+            | inr was ↦ it.live j was
           ]
+
+  pub offers_opened : (i : Inc) (v : List ℕ) (t : Bool) → IsOpenNow Q (published i v)
+      → AllPublishedOpen shape Q (with_side trunks l.0 at A)
+      → AllPublishedOpen shape Q (with_side trunks l.0 at (saying (answer_if t i v) A))
+  offers_opened i v true open_now opened = opened
+  offers_opened i v false open_now opened =
+      one_restated shape (λ h side C. ArePublishedOpen Q (node_at shape h side) h C) trunks l at A
+      (saying (published i v ∷ []) A) of_shape opened
+      (λ it. published-saying Q n l A (published i v ∷ []) (open_now, tt) it)

@@ -31,7 +31,7 @@ use Rattle.journal.proofs.Lists.{list_any-filter}
 use Rattle.journal.proofs.Openings.{same_inc-true}
 use Rattle.link_laws.specs.Ends.{IsLinkOf, node_at}
 use Rattle.link_laws.specs.Fabric.{AllHunted, Links, SideState, with_state}
-use Rattle.link_laws.specs.Linked.{AreHunted, IsTalking, Stands, asking, asks, coming}
+use Rattle.link_laws.specs.Linked.{AreHunted, HasNone, IsTalking, Stands, asking, asks, coming}
 use Rattle.link_laws.specs.Linked.{offers, waiting}
 use Rattle.link_laws.specs.Sessions.{same_side}
 use Rattle.link_laws.specs.Still.{is_hunt_over}
@@ -79,7 +79,25 @@ abbrev pub BeginsNone : List Step → Step → ℕ → LinkNo → Type 0
 BeginsNone P s n l = (w : List ℕ) → list_any (is_hunt_over l w)
     (hunt_in n (suc (length P)) (endpoint_by P s.by) s.head) ≡ false
 
--- where a step begins none on one node, and opens none on the other, both are as before
+-- where a step opens none on a node, no open name is new there
+pub names_were : (P : List Step) (s : Step) (m : ℕ) → opened_by m s.effects ≡ []
+    → (v : List ℕ) → HasNone P m v → HasNone (s ∷ P) m v
+names_were P s m opens_none v has i is =
+    elim (was_open_or_opened P s m i is) [
+      | inl was ↦ ap (bytes_eq v) (named was) ∙ has i was
+      | inr new ↦ absurd (true≢false (sym new ∙ ap (list_any (same_inc i)) opens_none))
+    ]
+  where
+    named : is_alive P m (Here i) ≡ true → name_of (s ∷ P) i ≡ name_of P i
+    named was =
+        let not_opened : list_any (opens i) s.effects ≡ false =
+        sym (opened-any i s.effects)
+        ∙ sym (any-filter (same_inc i) (is_on m) true (λ x e. ap (is_on m)
+        (sym (same_inc-true i x e)) ∙ open-on P m i was) (filter_map opened_in s.effects))
+        ∙ ap (list_any (same_inc i)) opens_none in
+        ap (λ t. name_or_none (cond t (name_in s.head) (opening_name P i))) not_opened
+
+-- and where it begins no hunt over the link on the other, both are as before
 pub same_here : (P : List Step) (s : Step) (n m : ℕ) (l : LinkNo) → BeginsNone P s n l
     → opened_by m s.effects ≡ [] → IsSameHere P (s ∷ P) n m l
 same_here P s n m l begins_none opens_none = record {
@@ -92,20 +110,8 @@ same_here P s n m l begins_none opens_none = record {
         | inl was ↦ was
         | inr begun ↦ absurd (true≢false (sym begun ∙ begins_none w))
       ];
-  none = λ v has i is. elim (was_open_or_opened P s m i is) [
-    | inl was ↦ ap (bytes_eq v) (named i was) ∙ has i was
-    | inr new ↦ absurd (true≢false (sym new ∙ ap (list_any (same_inc i)) opens_none))
-  ];
+  none = names_were P s m opens_none;
 }
-  where
-    named : (i : Inc) → is_alive P m (Here i) ≡ true → name_of (s ∷ P) i ≡ name_of P i
-    named i was =
-        let not_opened : list_any (opens i) s.effects ≡ false =
-        sym (opened-any i s.effects)
-        ∙ sym (any-filter (same_inc i) (is_on m) true (λ x e. ap (is_on m)
-        (sym (same_inc-true i x e)) ∙ open-on P m i was) (filter_map opened_in s.effects))
-        ∙ ap (list_any (same_inc i)) opens_none in
-        ap (λ t. name_or_none (cond t (name_in s.head) (opening_name P i))) not_opened
 
 -- then a side's hunts stand where they stood
 pub hunts_stay : (P Q : List Step) (n m : ℕ) (l : LinkNo) (A B : SideRecord)

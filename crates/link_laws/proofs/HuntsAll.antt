@@ -50,7 +50,7 @@ hunts-equal Q n m l A A' B B' k k' near far noted hunts =
     (subst (λ (X : SideRecord). AreHunted Q n m l A X k') (sym far)
     (subst (λ (X : List (List ℕ)). AreHunted Q n m l A B X) (sym noted) hunts))
 
-none-some : {x : Session} → (let none : Option Session = None in none) ≡ Some x → ⊥
+pub none-some : {x : Session} → (let none : Option Session = None in none) ≡ Some x → ⊥
 none-some e = cc
 
 -- the opening step begins no hunt, and opens one endpoint, on one node, of this name

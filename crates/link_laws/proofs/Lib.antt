@@ -42,3 +42,7 @@ pub mod HuntsOver
 pub mod HuntsAll
 pub mod Good
 pub mod MovesQuiet
+pub mod MovesSay
+pub mod MovesHunt
+pub mod Makers
+pub mod MovesSend

@@ -151,10 +151,16 @@ module _ (shape : Shape) (P : List Step) (s : Step) (before after : Links) (l : 
     pub far : IsHalf (before l.0 (other_of at)).side A
     pub linked : AllLinked shape (s ∷ P) (with_side (records_of before) l.0 at A)
     pub opened : AllPublishedOpen shape (s ∷ P) (with_side (records_of before) l.0 at A)
-    pub hunted : AllHunted shape (s ∷ P) (with_state before l.0 at (after l.0 at))
+    pub hunted : AllHunted shape (s ∷ P) after
     pub silent : (after l.0 at).silent ≤ silent_ticks (s ∷ P) (node_at shape l at) l.0 at
     pub quiet : (h : LinkNo) (side : Side) → IsElsewhere shape l at h side
         → list_any (tells_heard (node_at shape h side) h.0) s.effects ≡ false
+
+  -- hunts seen with the one side changed
+  pub one_hunted : AllHunted shape (s ∷ P) (with_state before l.0 at (after l.0 at))
+      → AllHunted shape (s ∷ P) after
+  one_hunted hunted = hunted-alike shape (s ∷ P) (with_state before l.0 at (after l.0 at)) after
+      (one-same shape before after l at others) hunted
 
   pub one_kept : (A : SideRecord) → IsOneKept A → AreLinksKept shape (s ∷ P) after
   one_kept A it = record {
@@ -164,8 +170,7 @@ module _ (shape : Shape) (P : List Step) (s : Step) (before after : Links) (l : 
         alike it.linked;
     opened = opened-alike shape (s ∷ P) (with_side (records_of before) l.0 at A) (records_of after)
         alike it.opened;
-    hunted = hunted-alike shape (s ∷ P) (with_state before l.0 at (after l.0 at)) after
-        (one-same shape before after l at others) it.hunted;
+    hunted = it.hunted;
     silent = λ h of_h side. by_side h of_h side (is_side l at h side) refl;
   }
     where

@@ -77,7 +77,7 @@ pub record IsGiven (A B : SideRecord) (g : Given) : Type 0 where
   pub near : IsHalf (giving g A) B
   pub far : IsHalf B (giving g A)
 
-quiet_given : (p : Effect → Bool) → ((n : NodeNo) (q : Peer) (name : List ℕ)
+pub quiet_given : (p : Effect → Bool) → ((n : NodeNo) (q : Peer) (name : List ℕ)
     → p (Met n q name) ≡ false) → ((b : Inc) (q : Peer) (note : SigNote)
     → p (Arrived b q note) ≡ false) → ((n : NodeNo) (q : Peer) → p (Gone n q) ≡ false)
     → (n : NodeNo) (l : LinkNo) (x : Session) (g : Given) → list_any p (shown_by n l x g) ≡ false
@@ -126,12 +126,12 @@ module _ (shape : Shape) (P : List Step) (trunks : Trunks) (by : By) (l : LinkNo
   legal_giving = legal_wire shape P by l from verdict (brought_of A g) maker hands whole
       (may g given)
 
-  at : (h : Given) → FitsReceiver A h → IsAt n h
-  at (met a name) live = tt
-  at (asked_for name) live = tt
-  at (arrived a b note) live = open-on P n b (near.live b live)
-  at (freed a b note) live = tt
-  at (gone a) live = tt
+  pub given_at : (h : Given) → FitsReceiver A h → IsAt n h
+  given_at (met a name) live = tt
+  given_at (asked_for name) live = tt
+  given_at (arrived a b note) live = open-on P n b (near.live b live)
+  given_at (freed a b note) live = tt
+  given_at (gone a) live = tt
 
   elsewhere : (h : LinkNo) (side : Side) → IsLinkOf shape h
       → ((n == node_at shape h side) && (l.0 == h.0)) ≡ false
@@ -140,7 +140,7 @@ module _ (shape : Shape) (P : List Step) (trunks : Trunks) (by : By) (l : LinkNo
       let done = given-done P n l A g s refl in
       keeps_quiet P s (shown_by (record { 0 = n }) l A.now.session g) done.0 done.1
       (node_at shape h side) h (trunks h.0 side) (linked h of_h side)
-      (shown-away n (node_at shape h side) l h A.now.session g (at g given.fits) away) refl
+      (shown-away n (node_at shape h side) l h A.now.session g (given_at g given.fits) away) refl
       (λ i was. quiet_given (opens i) (λ k q name. refl) (λ b q note. refl) (λ k q. refl)
       (record { 0 = n }) l A.now.session g)
       (λ x. no_signal (node_at shape h side) h.0 x (endpoint_by P by) (Wire l from verdict)
@@ -148,13 +148,13 @@ module _ (shape : Shape) (P : List Step) (trunks : Trunks) (by : By) (l : LinkNo
       (λ i live. quiet_given (closes i) (λ k q name. refl) (λ b q note. refl) (λ k q. refl)
       (record { 0 = n }) l A.now.session g)
 
-  here : IsLinked (s ∷ P) n l (giving g A)
-  here =
+  pub given_here : IsLinked (s ∷ P) n l (giving g A)
+  given_here =
       let done = given-done P n l A g s refl in
       let tell = told A B g given.near.hears.0 in
-      keeps_giving P s n l A g tell.y done.0 done.1 near tell.pair (at g given.fits) refl
+      keeps_giving P s n l A g tell.y done.0 done.1 near tell.pair (given_at g given.fits) refl
       (λ x. no_signal n l.0 x (endpoint_by P by) (Wire l from verdict) (λ j. refl))
 
   pub kept_giving : AllLinked shape (s ∷ P) (with_side trunks l.0 (other_of from) (giving g A))
-  kept_giving = one_side shape (s ∷ P) trunks l (other_of from) (giving g A) two of_shape here
+  kept_giving = one_side shape (s ∷ P) trunks l (other_of from) (giving g A) two of_shape given_here
       (λ h side of_h apart. elsewhere h side of_h apart)

@@ -97,7 +97,7 @@ endpoint-home shape (s ∷ P) legal short k j is =
         (ap (last_in (endpoint_of P k)) (sym (step-opens shape P s legal.1))
         ∙ sym (last_opened-opens (endpoint_of P k) s.effects) ∙ last)
 
-maker-home : (shape : Shape) (P : List Step) → IsLegal shape P → IsShort P → (by : By) (j : Inc)
+pub maker-home : (shape : Shape) (P : List Step) → IsLegal shape P → IsShort P → (by : By) (j : Inc)
     → endpoint_by P by ≡ Some j → is_on (node_by shape by) j ≡ true
 maker-home shape P legal short (Actor k) j is = endpoint-home shape P legal short k j is
 maker-home shape P legal short (Pump l) j is = absurd cc

@@ -1,0 +1,289 @@
+-- A send: to an endpoint of the own node, to a dead peer, or over a link, where the side says it.
+use Rattle.std.proofs.Common.{◌≡◌, ◌≢◌, ℕ, suc, Bool, true, false, cond, ◌||◌, ◌&&◌, inr, List}
+use Rattle.std.proofs.Common.{[], ◌∷◌, ◌++◌, length, Option, Some, None, map, refl, sym, ◌∙◌, ap, subst}
+use Rattle.std.proofs.Common.{append-nil}
+use Rattle.std.specs.Prelude.{◌==◌, is_some}
+use Rattle.std.specs.List.{list_any, filter_map, AllByRecursion}
+use Rattle.std.proofs.lemmas.Bool.{eqb-true, false_from_ne_true, true≢false}
+use Rattle.linx_base.specs.Numbers.{is_on, node_of}
+use Rattle.linx_base.specs.declared.identity.Inc.{Inc}
+use Rattle.linx_base.specs.declared.identity.LinkNo.{LinkNo}
+use Rattle.linx_base.specs.declared.identity.Peer.{Peer}
+use Rattle.linx_base.specs.declared.identity.Peer.TheVariants.{Here, There}
+use Rattle.linx_base.specs.declared.identity.Session.{Session}
+use Rattle.linx_base.specs.declared.signal.SigNote.{SigNote}
+use Rattle.trunk_record.specs.Changes.{saying, sending}
+use Rattle.trunk_record.specs.Records.{SideRecord, given_in, session_if, up_in}
+use Rattle.trunk_record.specs.Sayings.{Said, heard_as, is_live, published, signaled}
+use Rattle.trunk_record.specs.Sayings.{was_unpublished}
+use Rattle.trunk_record.proofs.Changes.{proper_sending}
+use Rattle.journal.specs.Effects.{arrivals_of, send_answer}
+use Rattle.journal.specs.History.{closes, endpoint_by, is_closed, name_of, opened_in}
+use Rattle.journal.specs.Laws.{sending as sending_by}
+use Rattle.journal.specs.Living.{is_alive}
+use Rattle.journal.specs.Shapes.{Shape, node_by}
+use Rattle.journal.specs.declared.by.By.{By}
+use Rattle.journal.specs.declared.effect.Effect.{Effect}
+use Rattle.journal.specs.declared.effect.Effect.TheVariants.{Arrived}
+use Rattle.journal.specs.declared.effect.Step.{Step}
+use Rattle.journal.specs.declared.head.Head.TheVariants.{Send}
+use Rattle.journal.specs.declared.head.SentTo.{SentTo}
+use Rattle.journal.specs.declared.head.SentTo.TheVariants.{Dead, Link, Queued}
+use Rattle.link_laws.specs.Came.{signal_in}
+use Rattle.link_laws.specs.Ends.{node_at}
+use Rattle.link_laws.specs.Fabric.{AllLinked, Links, records_of, with_side}
+use Rattle.link_laws.specs.Laws.{IsLegalStep}
+use Rattle.link_laws.specs.Linked.{IsLinked, is_session}
+use Rattle.link_laws.specs.Moves.{AllLeft, KeepsNodeLaws, Sends, SendsOver}
+use Rattle.link_laws.proofs.Acts.{keeps_quiet, keeps_send}
+use Rattle.link_laws.proofs.Away.{touches}
+use Rattle.link_laws.proofs.Brings.{unpublished-closed}
+use Rattle.link_laws.proofs.Closings.{open-unclosed}
+use Rattle.link_laws.proofs.Done.{IsDone}
+use Rattle.link_laws.proofs.Good.{IsGood, IsKnown, TouchesNone, left_kept, legal_with, short}
+use Rattle.link_laws.proofs.Good.{opens-nothing, short_after, step_of}
+use Rattle.link_laws.proofs.Hunted.{IsCalm, calm_here}
+use Rattle.link_laws.proofs.HuntsAll.{back_half, none-some}
+use Rattle.link_laws.proofs.HuntsOver.{hunted_sending}
+use Rattle.link_laws.proofs.Legal.{asks-nothing}
+use Rattle.link_laws.proofs.Makers.{maker-open}
+use Rattle.link_laws.proofs.MovesSay.{said_kept}
+use Rattle.link_laws.proofs.OneSide.{one_hunted, raises-none, tells-none}
+use Rattle.link_laws.proofs.Opened.{both_true, open-more, open-on}
+use Rattle.link_laws.proofs.Promised.{IsOpenNow}
+use Rattle.link_laws.proofs.Sides.{one_side}
+
+-- what a send on the own node brings touches, opens and closes nothing
+arrivals-test : (p : Effect → Bool) (j i : Inc) (note : SigNote)
+    → p (Arrived i (Here j) note) ≡ false → (t : Bool)
+    → list_any p (arrivals_of j note t (Here i)) ≡ false
+arrivals-test p j i note none true = ap (λ t. t || false) none
+arrivals-test p j i note none false = refl
+
+arrivals-open : (j i : Inc) (note : SigNote) (t : Bool)
+    → filter_map opened_in (arrivals_of j note t (Here i)) ≡ []
+arrivals-open j i note true = refl
+arrivals-open j i note false = refl
+
+arrivals-over : (j : Inc) (note : SigNote) (l : LinkNo) (x : Session) (b : Inc) (t : Bool)
+    → arrivals_of j note t (There l x b) ≡ []
+arrivals-over j note l x b true = refl
+arrivals-over j note l x b false = refl
+
+-- over a link a send is answered link or dead
+over-queued : (l : LinkNo) (x : Session) (b : Inc) (t : Bool)
+    → Queued ≡ send_answer t (There l x b) → ⊥
+over-queued l x b true same = cc
+over-queued l x b false same = cc
+
+over-alive : (l : LinkNo) (x : Session) (b : Inc) (t : Bool)
+    → Link ≡ send_answer t (There l x b) → t ≡ true
+over-alive l x b true same = refl
+over-alive l x b false same = absurd cc
+
+-- what is sent over a link is said at that side alone
+says-elsewhere : (n k h : ℕ) (l : LinkNo) (x z : Session) (j b : Inc) (note : SigNote)
+    → is_on n j ≡ true → ((n == k) && (l.0 == h)) ≡ false
+    → signal_in k h z (Some j) (Send (There l x b) note Link) ≡ []
+says-elsewhere n k h l x z j b note here apart =
+    ap (λ t. cond ((t && l.0 == h) && x.0 == z.0) (signaled j b note ∷ []) [])
+    (ap (λ m. m == k) (eqb-true (node_of j) n here))
+    ∙ ap (λ t. cond (t && x.0 == z.0) (signaled j b note ∷ []) []) apart
+
+module _ (shape : Shape) (P : List Step) (before after : Links) (known : IsKnown shape P before)
+    (by : By) (note : SigNote) (es : List Effect) (j : Inc) (mine : endpoint_by P by ≡ Some j) where
+  abbrev node : ℕ
+  node = node_by shape by
+
+  abbrev sent : Peer → SentTo → Step
+  sent q answer = step_of by (Send q note answer) es
+
+  has : (q : Peer) (answer : SentTo) → KeepsNodeLaws shape P (sent q answer)
+      → es ≡ arrivals_of j note (is_alive P node q) q
+  has q answer laws = laws.effects ∙ ap (λ (m : Option Inc). sending_by P node m q note) mine
+
+  -- A SEND THAT LEAVES ALL SIDES
+  left_good : (q : Peer) (answer : SentTo) → KeepsNodeLaws shape P (sent q answer)
+      → ((n l : ℕ) → list_any (touches n l) es ≡ false) → filter_map opened_in es ≡ []
+      → ((i : Inc) → list_any (closes i) es ≡ false)
+      → ((n h : ℕ) (x : Session) → signal_in n h x (Some j) (Send q note answer) ≡ [])
+      → AllLeft shape before after → IsGood shape P (sent q answer) after
+  left_good q answer laws touches_none opens_none closes_none says_none left = record {
+    legal = legal_with shape P (sent q answer) laws
+        (asks-nothing shape P (Send q note answer) es refl);
+    kept = left_kept shape P (sent q answer) before after (record {
+          es = es;
+          items = [];
+          done = record { effects = sym (append-nil es); items_only = tt };
+          touches_none = touches_none;
+          opens_none = opens_none;
+          closes_none = closes_none;
+          stays = λ n. refl;
+          says_none = λ n h x. ap (λ (m : Option Inc). signal_in n h x m (Send q note answer)) mine
+              ∙ says_none n h x;
+        }) (λ n m l. calm_here P (sent q answer)
+        (record { begins_none = λ k h w. refl; opens_none = opens_none }) n m l) left known.kept;
+    promised = tt;
+  }
+
+  here_good : (i : Inc) (answer : SentTo) → KeepsNodeLaws shape P (sent (Here i) answer)
+      → AllLeft shape before after → IsGood shape P (sent (Here i) answer) after
+  here_good i answer laws left =
+      let t : Bool = is_alive P node (Here i) in
+      left_good (Here i) answer laws
+      (λ n l. ap (list_any (touches n l)) (has (Here i) answer laws)
+      ∙ arrivals-test (touches n l) j i note refl t)
+      (ap (filter_map opened_in) (has (Here i) answer laws) ∙ arrivals-open j i note t)
+      (λ k. ap (list_any (closes k)) (has (Here i) answer laws)
+      ∙ arrivals-test (closes k) j i note refl t)
+      (λ n h x. refl) left
+
+  none_over : (l : LinkNo) (x : Session) (b : Inc) (answer : SentTo)
+      → KeepsNodeLaws shape P (sent (There l x b) answer) → es ≡ []
+  none_over l x b answer laws = has (There l x b) answer laws
+      ∙ arrivals-over j note l x b (is_alive P node (There l x b))
+
+  dead_good : (l : LinkNo) (x : Session) (b : Inc)
+      → KeepsNodeLaws shape P (sent (There l x b) Dead) → AllLeft shape before after
+      → IsGood shape P (sent (There l x b) Dead) after
+  dead_good l x b laws left =
+      let none : es ≡ [] = none_over l x b Dead laws in
+      left_good (There l x b) Dead laws (λ n h. ap (list_any (touches n h)) none)
+      (ap (filter_map opened_in) none) (λ i. ap (list_any (closes i)) none) (λ n h z. refl) left
+
+  -- A SEND OVER A LINK
+  module _ (l : LinkNo) (x : Session) (b : Inc)
+      (laws : KeepsNodeLaws shape P (sent (There l x b) Link))
+      (over : SendsOver shape P before after node j l b note) where
+    abbrev s : Step
+    s = sent (There l x b) Link
+
+    abbrev n : ℕ
+    n = node_at shape l over.at
+
+    abbrev A : SideRecord
+    A = (before l.0 over.at).side
+
+    abbrev ws : List Said
+    ws = sending j (name_of P j) b note A
+
+    none : es ≡ []
+    none = none_over l x b Link laws
+
+    done : IsDone s [] []
+    done = record { effects = none; items_only = tt }
+
+    near : IsLinked P n l A
+    near = known.kept.linked l over.of_shape over.at
+
+    open_ : is_alive P n (Here j) ≡ true
+    open_ = ap (λ (k : ℕ). is_alive P k (Here j)) over.node
+        ∙ maker-open shape P known.legal (short shape P before known) by j mine
+
+    on : is_on n j ≡ true
+    on = open-on P n j open_
+
+    -- the peer is alive, so its session is the side's own, and is up
+    lives : (is_session x (up_in A) && is_live b (map heard_as (given_in A x))) ≡ true
+    lives = sym (near.living x b) ∙ ap (λ (k : ℕ). is_alive P k (There l x b)) over.node
+        ∙ over-alive l x b (is_alive P node (There l x b)) laws.sends
+
+    own : (p : Option Session) → is_session x (session_if p A.now.session) ≡ true
+        → x ≡ A.now.session
+    own None is = absurd (true≢false (sym is))
+    own (Some y) is = ap (λ (k : ℕ). let z : Session = record { 0 = k } in z)
+        (eqb-true x.0 A.now.session.0 is)
+
+    same : x ≡ A.now.session
+    same = own A.now.peer (both_true (is_session x (up_in A))
+        (is_live b (map heard_as (given_in A x))) lives).0
+
+    is_up : A.now.peer ≢ None
+    is_up down = true≢false (sym (both_true (is_session x (up_in A))
+        (is_live b (map heard_as (given_in A x))) lives).0
+        ∙ ap (λ p. is_session x (session_if p A.now.session)) down)
+
+    not_yet : was_unpublished j A.now.said ≡ false
+    not_yet = false_from_ne_true (was_unpublished j A.now.said) (λ was.
+        true≢false (sym open_ ∙ (unpublished-closed P n j A.now.said near.truly.0 was).dead))
+
+    over_legal : IsLegalStep shape P s
+    over_legal = legal_with shape P s laws
+        (asks-nothing shape P (Send (There l x b) note Link) es refl)
+
+    over_linked : AllLinked shape (s ∷ P) (with_side (records_of before) l.0 over.at (saying ws A))
+    over_linked =
+        one_side shape (s ∷ P) (records_of before) l over.at (saying ws A) known.two over.of_shape
+        (keeps_send P s j b note n l A none
+        (ap (λ (z : Session). Send (There l z b) note Link) same) mine open_ near)
+        (λ h side of_h apart.
+        keeps_quiet P s [] [] done (node_at shape h side) h (records_of before h.0 side)
+        (known.kept.linked h of_h side) refl refl (opens-nothing P [] refl)
+        (λ z. ap (λ (m : Option Inc). signal_in (node_at shape h side) h.0 z m
+        (Send (There l x b) note Link)) mine
+        ∙ says-elsewhere n (node_at shape h side) h.0 l x z j b note on apart) (λ i live. refl))
+
+    still_open : is_closed (s ∷ P) j ≡ false
+    still_open = open-unclosed shape (s ∷ P) (known.legal, over_legal)
+        (short_after shape P before s known) n j
+        (open-more P s [] [] done n (opens-nothing P [] refl) j open_ refl)
+
+    open_now : (t : Bool) → AllByRecursion (IsOpenNow (s ∷ P))
+        (cond t [] (published j (name_of P j) ∷ []))
+    open_now true = tt
+    open_now false = (still_open, tt)
+
+    calm : IsCalm P s
+    calm = record { begins_none = λ k h w. refl; opens_none = ap (filter_map opened_in) none }
+
+    over_good : IsGood shape P s after
+    over_good = record {
+      legal = over_legal;
+      kept = said_kept shape P s before after l over.at known.two over.of_shape over.others
+          known.kept ws (record {
+            made = over.side;
+            well = inr (
+              is_up,
+              proper_sending A j b (name_of P j) note
+                  (known.kept.trunks l over.of_shape over.at).proper.0 not_yet,
+            );
+            linked = over_linked;
+            raises_none = raises-none s [] [] done (λ k h z. refl);
+            open_now = (tt, open_now (is_live j A.now.said));
+            hunted = one_hunted shape P s before after l over.at known.two over.of_shape
+                over.others known.kept
+                (hunted_sending shape P before s calm known.kept.hunted l over.at over.of_shape
+                (after l.0 over.at) ws j open_ (known.kept.trunks l over.of_shape over.at)
+                (back_half shape (records_of before) known.kept.trunks l over.of_shape over.at)
+                over.side over.noted);
+            silent = over.silent;
+            quiet = λ k h. tells-none s [] [] done k h refl;
+          });
+      promised = tt;
+    }
+
+  by_peer : (q : Peer) (answer : SentTo) → KeepsNodeLaws shape P (sent q answer)
+      → Sends shape P before after node (Some j) q note answer
+      → IsGood shape P (sent q answer) after
+  by_peer (Here i) answer laws left = here_good i answer laws left
+  by_peer (There l x b) Link laws moves = over_good l x b laws moves
+  by_peer (There l x b) Dead laws left = dead_good l x b laws left
+  by_peer (There l x b) Queued laws left =
+      absurd (over-queued l x b (is_alive P node (There l x b)) laws.sends)
+
+-- ANY SEND
+pub sending_good : (shape : Shape) (P : List Step) (before after : Links)
+    → IsKnown shape P before → (by : By) (q : Peer) (note : SigNote) (answer : SentTo)
+    (es : List Effect) → KeepsNodeLaws shape P (step_of by (Send q note answer) es)
+    → Sends shape P before after (node_by shape by) (endpoint_by P by) q note answer
+    → IsGood shape P (step_of by (Send q note answer) es) after
+sending_good shape P before after known by q note answer es laws moves =
+    by_me (endpoint_by P by) refl moves
+  where
+    by_me : (me : Option Inc) → endpoint_by P by ≡ me
+        → Sends shape P before after (node_by shape by) me q note answer
+        → IsGood shape P (step_of by (Send q note answer) es) after
+    by_me None none left = absurd (true≢false (sym (laws.endpoints.needs refl)
+        ∙ ap (λ (m : Option Inc). is_some m) none))
+    by_me (Some j) mine it =
+        by_peer shape P before after known by note es j mine q answer laws it
