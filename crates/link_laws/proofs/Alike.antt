@@ -109,3 +109,19 @@ module _ (shape : Shape) (before after : Links) (l : LinkNo) (at : Side)
         noted = here (λ (C : SideState). C.noted) h side is;
       }
       by_side false is = left-same (before h.0 side) (after h.0 side) (others h of_h side is)
+
+  -- what holds of this side before and after, and of all that are left, holds of all
+  pub one-each : (Holds : SideState → SideState → Type 0)
+      → ((C D : SideState) → IsLeft C D → Holds C D) → Holds (before l.0 at) (after l.0 at)
+      → (h : LinkNo) → IsLinkOf shape h → (side : Side) → Holds (before h.0 side) (after h.0 side)
+  one-each Holds of_left it h of_h side = by_side (is_side l at h side) refl
+    where
+      by_side : (t : Bool) → is_side l at h side ≡ t → Holds (before h.0 side) (after h.0 side)
+      by_side false is = of_left (before h.0 side) (after h.0 side) (others h of_h side is)
+      by_side true is =
+          let both = both_true (h.0 == l.0) (same_side at side) is in
+          let same : l ≡ h = ap (λ (k : ℕ). let z : LinkNo = record { 0 = k } in z)
+          (sym (eqb-true h.0 l.0 both.0)) in
+          subst (λ (k : LinkNo). Holds (before k.0 side) (after k.0 side)) same
+          (subst (λ (a : Side). Holds (before l.0 a) (after l.0 a))
+          (same_side-is at side both.1) it)

@@ -46,3 +46,4 @@ pub mod MovesSay
 pub mod MovesHunt
 pub mod Makers
 pub mod MovesSend
+pub mod MovesGiven

@@ -6,6 +6,7 @@ use Rattle.std.specs.Prelude.{◌==◌}
 use Rattle.std.specs.List.{list_any, AllByRecursion}
 use Rattle.std.specs.Str.{bytes_eq}
 use Rattle.std.proofs.lemmas.Bool.{eq-eqb, false_from_ne_true, or_left, true≢false}
+use Rattle.linx_base.specs.Peers.{same_inc}
 use Rattle.linx_base.specs.Sides.{other_of}
 use Rattle.linx_base.specs.declared.frame.Verdict.{Verdict}
 use Rattle.linx_base.specs.declared.frame.Verdict.TheVariants.{Lose}
@@ -36,13 +37,15 @@ use Rattle.link_laws.specs.Ends.{IsLinkOf, node_at}
 use Rattle.link_laws.specs.Fabric.{AllHunted, AllLinked, AllPublishedOpen, Links, SideState}
 use Rattle.link_laws.specs.Fabric.{records_of, with_side, with_state}
 use Rattle.link_laws.specs.Laws.{IsLegalStep, delivers}
-use Rattle.link_laws.specs.Linked.{HasNone, IsLinked, is_hunted, is_session, shown_by}
+use Rattle.link_laws.specs.Linked.{HasNone, IsLinked, asks, is_session, offers, shown_by}
 use Rattle.link_laws.specs.Moves.{Gives, IsAnswered, IsRecorded, IsTold, KeepsNotes, NotesName}
 use Rattle.link_laws.specs.Moves.{OthersLeft, Receives, brought_of, notes, publishes}
-use Rattle.link_laws.specs.Sessions.{is_cut, silent_ticks}
+use Rattle.link_laws.specs.Promises.{ups}
+use Rattle.link_laws.specs.Sessions.{is_cut, silent_ticks, tells_heard}
 use Rattle.link_laws.proofs.Answers.{offers_linked, offers_opened}
 use Rattle.link_laws.proofs.Brings.{legal_meeting, unpublished-closed}
 use Rattle.link_laws.proofs.Closings.{open-unclosed}
+use Rattle.link_laws.proofs.Done.{IsDone}
 use Rattle.link_laws.proofs.Fresh.{brought-opens_none}
 use Rattle.link_laws.proofs.Good.{IsGood, IsKnown, opens-nothing, short_after, step_of}
 use Rattle.link_laws.proofs.Good.{unfound_before}
@@ -51,12 +54,12 @@ use Rattle.link_laws.proofs.HuntsAll.{back_half}
 use Rattle.link_laws.proofs.HuntsOver.{hunted_meeting, hunted_noting, hunted_offering}
 use Rattle.link_laws.proofs.MovesSay.{SaysWell, says_half}
 use Rattle.link_laws.proofs.OneSide.{IsOneKept, one_hunted, one_kept, raises-none, tells-none}
-use Rattle.link_laws.proofs.Opened.{open-more}
+use Rattle.link_laws.proofs.Opened.{open-more, opened-any}
 use Rattle.link_laws.proofs.Packets.{IsGiven, given-done, given_at, given_here, kept_giving}
 use Rattle.link_laws.proofs.Packets.{legal_giving, quiet_given}
 use Rattle.link_laws.proofs.Promising.{promised_giving}
 use Rattle.link_laws.proofs.Published.{RaisesNone, opened_giving}
-use Rattle.link_laws.proofs.Sides.{IsElsewhere, shown-away}
+use Rattle.link_laws.proofs.Sides.{IsElsewhere, other_twice, shown-away}
 use Rattle.link_laws.proofs.Unfound.{unfound}
 
 -- while its link is cut no packet is handed over
@@ -64,6 +67,9 @@ pub whole_link : (P : List Step) (l : LinkNo) (verdict : Verdict)
     → (is_cut P l.0 ≡ true → verdict ≡ Lose) → delivers verdict ≡ true → is_cut P l.0 ≡ false
 whole_link P l verdict cuts hands = false_from_ne_true (is_cut P l.0) (λ cut.
     true≢false (sym hands ∙ ap delivers (cuts cut)))
+
+pub zero_under : (now most : ℕ) → now ≡ 0 → now ≤ most
+zero_under now most is = omega arith
 
 none_up : {X : Type 0} {x : X} → Some x ≡ None → ⊥
 none_up same = cc
@@ -100,6 +106,11 @@ module _ (shape : Shape) (P : List Step) (before after : Links) (known : IsKnown
   far : IsLinked P m l B
   far = known.kept.linked l of_shape from
 
+  -- the side across the receiving one is the sender's
+  across : (Holds : SideRecord → Type 0) → Holds B
+      → Holds (before l.0 (other_of (other_of from))).side
+  across Holds it = subst (λ (a : Side). Holds (before l.0 a).side) (sym (other_twice from)) it
+
   -- WHAT IS GIVEN, as the trunk tells it
   module _ (g : Given) (told : IsTold A B g) (fits : FitsReceiver A g) where
     abbrev es : List Effect
@@ -128,7 +139,7 @@ module _ (shape : Shape) (P : List Step) (before after : Links) (known : IsKnown
     raises =
         let done = given-done P n l A g s refl in
         raises-none s (shown_by (record { 0 = n }) l A.now.session g) done.0 done.1
-        (λ k h x. quiet_given (λ e. ups_of k h x e) (λ i q name. refl) (λ b q note. refl)
+        (λ k h x. quiet_given (ups k h x) (λ i q name. refl) (λ b q note. refl)
         (λ i q. refl) (record { 0 = n }) l A.now.session g)
 
     given_opened : AllPublishedOpen shape (s ∷ P)
@@ -143,7 +154,7 @@ module _ (shape : Shape) (P : List Step) (before after : Links) (known : IsKnown
     }
 
     heard_elsewhere : (h : LinkNo) (side : Side) → IsElsewhere shape l (other_of from) h side
-        → list_any (tells_of (node_at shape h side) h.0) s.effects ≡ false
+        → list_any (tells_heard (node_at shape h side) h.0) s.effects ≡ false
     heard_elsewhere h side apart =
         let done = given-done P n l A g s refl in
         tells-none s (shown_by (record { 0 = n }) l A.now.session g) done.0 done.1
@@ -163,14 +174,169 @@ module _ (shape : Shape) (P : List Step) (before after : Links) (known : IsKnown
       kept = one_kept shape P s before after l (other_of from) known.two of_shape others known.kept
           A' (record {
             made = made;
-            near = ?;
-            far = ?;
+            near = across (λ (E : SideRecord). IsHalf A' E) near_half;
+            far = across (λ (E : SideRecord). IsHalf E A') far_half;
             linked = linked;
             opened = opened;
             hunted = one_hunted shape P s before after l (other_of from) known.two of_shape others
                 known.kept hunted;
-            silent = zero_under (silent_ticks (s ∷ P) n l.0 (other_of from)) heard;
+            silent = zero_under (after l.0 (other_of from)).silent
+                (silent_ticks (s ∷ P) n l.0 (other_of from)) heard;
             quiet = heard_elsewhere;
           });
       promised = promised_giving P n m l A B near far g given.near (known.kept.opened l of_shape from);
     }
+
+    -- ANYTHING BUT A QUESTION changes the record alone
+    abbrev Hunted : Type 0
+    Hunted = AllHunted shape (s ∷ P)
+        (with_state before l.0 (other_of from) (after l.0 (other_of from)))
+
+    recorded : IsRecorded g C (after l.0 (other_of from)) → Hunted
+        → (after l.0 (other_of from)).silent ≡ 0 → IsGood shape P s after
+    recorded it hunted heard = good (giving g A) it.side given.near given.far given_linked
+        given_opened hunted heard
+
+    hunts_same : ((w : List ℕ) → offers w (heard_as g) ≡ false)
+        → ((w : List ℕ) → asks w (heard_as g) ≡ false)
+        → IsRecorded g C (after l.0 (other_of from)) → Hunted
+    hunts_same offers_none asks_none it =
+        hunted_giving shape P before s calm known.kept.hunted l (other_of from) of_shape
+        (after l.0 (other_of from)) g offers_none asks_none it.side it.noted
+
+  -- A MEETING: hunts for the name are answered, since else one would be pending for a living peer
+  meeting_good : (a : Inc) (name : List ℕ) (told : IsTold A B (met a name))
+      → IsRecorded (met a name) C (after l.0 (other_of from))
+      → (after l.0 (other_of from)).silent ≡ 0
+      → IsGood shape P (s (met a name) told tt) after
+  meeting_good a name told it heard =
+      recorded (met a name) told tt it
+      (hunted_meeting shape P before (s (met a name) told tt) (calm (met a name) told tt)
+      known.kept.hunted l (other_of from) of_shape (after l.0 (other_of from)) a name
+      (λ w is. sym (ap (bytes_eq w) named) ∙ unfound shape (s (met a name) told tt ∷ P)
+      (known.legal, given_legal (met a name) told tt)
+      (short_after shape P before (s (met a name) told tt) known) n l w is A.now.session a alive)
+      it.side it.noted) heard
+    where
+      here : IsLinked (s (met a name) told tt ∷ P) n l (giving (met a name) A)
+      here = given_here shape P (records_of before) by l from verdict (met a name) known.two
+          of_shape known.kept.linked maker hands uncut (given (met a name) told tt)
+
+      alive : is_alive (s (met a name) told tt ∷ P) n (There l A.now.session a) ≡ true
+      alive =
+          here.living A.now.session a
+          ∙ ap (λ p. is_session A.now.session (session_if p A.now.session) && is_live a
+          (map heard_as (given_in (giving (met a name) A) A.now.session))) told.pair
+          ∙ ap (λ t. t && is_live a (map heard_as (given_in (giving (met a name) A)
+          A.now.session))) (eq-eqb A.now.session.0 A.now.session.0 refl)
+          ∙ ap (λ gs. is_live a (map heard_as gs)) (given-now (giving (met a name) A))
+          ∙ or_left (same_inc a a) (is_live a (map heard_as A.now.given)) (same_inc-itself a)
+
+      named : name_of (s (met a name) told tt ∷ P) a ≡ name
+      named =
+          let not_opened = sym (opened-any a (es (met a name) told tt))
+          ∙ ap (list_any (same_inc a)) (brought-opens_none P n l (brought_of A (met a name))) in
+          ap (λ t. name_or_none (cond t (name_in (Wire l from verdict)) (opening_name P a)))
+          not_opened
+          ∙ (legal_meeting P n m l A B (met a name) near far (given (met a name) told tt).near
+          (given (met a name) told tt).far a name refl).named
+
+  -- A QUESTION brings nothing that is shown
+  module _ (v : List ℕ) (told : IsTold A B (asked_for v)) where
+    abbrev q : Step
+    q = step_of by (Wire l from verdict) []
+
+    noting_good : HasNone P n v → (after l.0 (other_of from)).side ≡ giving (asked_for v) A
+        → NotesName v C (after l.0 (other_of from)) → (after l.0 (other_of from)).silent ≡ 0
+        → IsGood shape P q after
+    noting_good none made noted heard =
+        good (asked_for v) told tt (giving (asked_for v) A) made (given (asked_for v) told tt).near
+        (given (asked_for v) told tt).far (given_linked (asked_for v) told tt)
+        (given_opened (asked_for v) told tt)
+        (hunted_noting shape P before q (calm (asked_for v) told tt) known.kept.hunted l
+        (other_of from) of_shape (after l.0 (other_of from)) v none made noted) heard
+
+    offering_good : (i : Inc) → is_alive P n (Here i) ≡ true → name_of P i ≡ v
+        → (after l.0 (other_of from)).side
+        ≡ saying (cond (is_live i A.now.said) [] (published i v ∷ [])) (giving (asked_for v) A)
+        → KeepsNotes v C (after l.0 (other_of from)) → (after l.0 (other_of from)).silent ≡ 0
+        → IsGood shape P q after
+    offering_good i open_ named made noted heard =
+        good (asked_for v) told tt (saying ws (giving (asked_for v) A)) made
+        (says_half (giving (asked_for v) A) B ws (well (is_live i A.now.said) refl)
+        (given (asked_for v) told tt).near)
+        (half_of_saying (giving (asked_for v) A) B ws (given (asked_for v) told tt).far)
+        (offers_linked shape (q ∷ P) (records_of before) l (other_of from) of_shape
+        (giving (asked_for v) A) i v (is_live i A.now.said) open_after_ named_after
+        (given_linked (asked_for v) told tt))
+        (offers_opened shape (q ∷ P) (records_of before) l (other_of from) of_shape
+        (giving (asked_for v) A) i v (is_live i A.now.said)
+        (open-unclosed shape (q ∷ P) (known.legal, given_legal (asked_for v) told tt)
+        (short_after shape P before q known) n i open_after_)
+        (given_opened (asked_for v) told tt))
+        (hunted_offering shape P before q (calm (asked_for v) told tt) known.kept.hunted l
+        (other_of from) of_shape (after l.0 (other_of from)) v i open_ named near
+        (known.kept.linked l of_shape (other_of (other_of from)))
+        (λ w is. unfound_before shape P before known (node_at shape l (other_of (other_of from))) l
+        w is)
+        (known.kept.trunks l of_shape (other_of from))
+        (back_half shape (records_of before) known.kept.trunks l of_shape (other_of from))
+        (across (λ (E : SideRecord). IsHalf (giving (asked_for v) A) E)
+        (given (asked_for v) told tt).near)
+        (across (λ (E : SideRecord). IsHalf E (giving (asked_for v) A))
+        (given (asked_for v) told tt).far) made noted) heard
+      where
+        ws : List Said
+        ws = cond (is_live i A.now.said) [] (published i v ∷ [])
+
+        done : IsDone (step_of by (Wire l from verdict) []) [] []
+        done = record { effects = refl; items_only = tt }
+
+        open_after_ : is_alive (step_of by (Wire l from verdict) [] ∷ P) n (Here i) ≡ true
+        open_after_ = open-more P (step_of by (Wire l from verdict) []) [] [] done n
+            (opens-nothing P [] refl) i open_ refl
+
+        named_after : name_of (step_of by (Wire l from verdict) [] ∷ P) i ≡ v
+        named_after = named
+
+        not_yet : was_unpublished i A.now.said ≡ false
+        not_yet = false_from_ne_true (was_unpublished i A.now.said) (λ was.
+            true≢false (sym open_ ∙ (unpublished-closed P n i A.now.said near.truly.0 was).dead))
+
+        well : (t : Bool) → is_live i A.now.said ≡ t
+            → SaysWell (giving (asked_for v) A) (cond t [] (published i v ∷ []))
+        well true e = inl refl
+        well false e = inr (
+          (λ down. none_up (sym told.pair ∙ down)),
+          (
+            false_from_ne_true (was_published i A.now.said) (λ was.
+                true≢false (sym (published-live i A.now.said was not_yet) ∙ e)),
+            half.proper.0,
+          ),
+        )
+
+  -- ANYTHING GIVEN, with the effects that it brings
+  by_given : (g : Given) (told : IsTold A B g) (fits : FitsReceiver A g)
+      → Receives P n g C (after l.0 (other_of from)) → (after l.0 (other_of from)).silent ≡ 0
+      → IsGood shape P (s g told fits) after
+  by_given (met a name) told fits it heard = meeting_good a name told it heard
+  by_given (asked_for v) told fits (notes none made noted) heard =
+      noting_good v told none made noted heard
+  by_given (asked_for v) told fits (publishes i open_ named made noted) heard =
+      offering_good v told i open_ named made noted heard
+  by_given (arrived a b note) told fits it heard =
+      recorded (arrived a b note) told fits it
+      (hunts_same (arrived a b note) told fits (λ w. refl) (λ w. refl) it) heard
+  by_given (freed a b note) told fits it heard =
+      recorded (freed a b note) told fits it
+      (hunts_same (freed a b note) told fits (λ w. refl) (λ w. refl) it) heard
+  by_given (gone a) told fits it heard =
+      recorded (gone a) told fits it (hunts_same (gone a) told fits (λ w. refl) (λ w. refl) it)
+      heard
+
+  pub giving_good : (brought : List Effect) → Gives P n l C (after l.0 (other_of from))
+      (before l.0 from) brought
+      → IsGood shape P (step_of by (Wire l from verdict) brought) after
+  giving_good brought gives =
+      subst (λ (fs : List Effect). IsGood shape P (step_of by (Wire l from verdict) fs) after)
+      (sym gives.effects) (by_given gives.g gives.told gives.fits gives.receives gives.silent)

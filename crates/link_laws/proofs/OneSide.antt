@@ -54,7 +54,7 @@ ups-off n l x (Up m k z y) away = off (m.0 == n) (k.0 == l) away
     off false t e = refl
 ups-off n l x _ away = refl
 
-tells-items : (n l : ℕ) (e : Effect) → is_item e ≡ true → tells_heard n l e ≡ false
+pub tells-items : (n l : ℕ) (e : Effect) → is_item e ≡ true → tells_heard n l e ≡ false
 tells-items n l (Found i q note number) is = refl
 tells-items n l (Notified i q note reference reason) is = refl
 tells-items n l _ is = absurd (true≢false (sym is))
