@@ -47,3 +47,5 @@ pub mod MovesHunt
 pub mod Makers
 pub mod MovesSend
 pub mod MovesGiven
+pub mod MovesTurns
+pub mod MovesPass
