@@ -84,7 +84,7 @@ closings-open_none : (incs : List Inc) → filter_map opened_in (closings incs) 
 closings-open_none [] = refl
 closings-open_none (i ∷ incs) = closings-open_none incs
 
-restarting-opens_none : (shape : Shape) (P : List Step) (n : ℕ)
+pub restarting-opens_none : (shape : Shape) (P : List Step) (n : ℕ)
     → filter_map opened_in (restarting shape P n) ≡ []
 restarting-opens_none shape P n =
     filter_map-append opened_in (downs_of P n (length shape.links)) (closings (open_endpoints P n))

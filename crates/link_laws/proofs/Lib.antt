@@ -49,3 +49,8 @@ pub mod MovesSend
 pub mod MovesGiven
 pub mod MovesTurns
 pub mod MovesPass
+pub mod MovesSayAll
+pub mod MovesClose
+pub mod MovesOpen
+pub mod MovesRestart
+pub mod Runs

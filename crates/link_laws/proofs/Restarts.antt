@@ -39,22 +39,22 @@ is_ending (Closed i) = true
 is_ending (Down n l x) = true
 is_ending _ = false
 
-abbrev AreEndings : List Effect → Type 0
+abbrev pub AreEndings : List Effect → Type 0
 AreEndings es = AllByRecursion (λ e. is_ending e ≡ true) es
 
-endings-append : (xs ys : List Effect) → AreEndings xs → AreEndings ys → AreEndings (xs ++ ys)
+pub endings-append : (xs ys : List Effect) → AreEndings xs → AreEndings ys → AreEndings (xs ++ ys)
 endings-append xs ys ends_x ends_y = all-append (λ e. is_ending e ≡ true) xs ys ends_x ends_y
 
 down-ends : (n k : ℕ) (u : Option Session) → AreEndings (down_if n k u)
 down-ends n k None = tt
 down-ends n k (Some x) = (refl, tt)
 
-downs-end : (P : List Step) (n k : ℕ) → AreEndings (downs_of P n k)
+pub downs-end : (P : List Step) (n k : ℕ) → AreEndings (downs_of P n k)
 downs-end P n zero = tt
 downs-end P n (suc k) = endings-append (downs_of P n k) (down_if n (suc k) (up_session P n (suc k)))
     (downs-end P n k) (down-ends n (suc k) (up_session P n (suc k)))
 
-closings-end : (is : List Inc) → AreEndings (closings is)
+pub closings-end : (is : List Inc) → AreEndings (closings is)
 closings-end [] = tt
 closings-end (i ∷ is) = (refl, closings-end is)
 
