@@ -1,29 +1,121 @@
--- Steps that the laws of links refuse, each after a legal history.
-use Rattle.std.proofs.Common.{◌≡◌, ℕ, true, false, List, [], ◌∷◌, Some, refl, sym, ap, arith}
-use Rattle.std.proofs.Common.{length, subst, ◌≤◌, ◌<◌}
-use Rattle.std.specs.Prelude.{codes, ◌==◌}
-use Rattle.std.proofs.lemmas.Bool.{eqb-false}
+-- Runs that the laws of links refuse: after a legal history stands a step that breaks one law alone.
+use Rattle.std.proofs.Common.{◌≡◌, ℕ, Bool, true, false, List, [], ◌∷◌, Some, refl, sym, ap, ◌∙◌}
+use Rattle.std.proofs.Common.{length, subst, arith, ◌≤◌, ◌<◌}
+use Rattle.std.specs.Prelude.{codes, not, ◌==◌}
+use Rattle.std.proofs.lemmas.Bool.{eqb-false, true≢false}
 use Rattle.linx_base.specs.declared.frame.Verdict.TheVariants.{Deliver, Lose}
 use Rattle.linx_base.specs.declared.identity.Peer.TheVariants.{There}
 use Rattle.linx_base.specs.declared.identity.Session.{Session}
 use Rattle.linx_base.specs.declared.identity.Side.TheVariants.{First, Second}
 use Rattle.linx_base.specs.declared.signal.SigNote.{SigNote}
+use Rattle.linx_base.specs.declared.signal.Reason.TheVariants as reasons
 use Rattle.sigsel.specs.declared.sigsel.Sigsel.TheVariants.{Any}
+use Rattle.journal.specs.History.{endpoint_by}
+use Rattle.journal.specs.Laws.{IsBounded, KeepsEndpoints, KeepsMakers, KeepsReceives, KeepsSends}
+use Rattle.journal.specs.Shapes.{Shape, node_by}
 use Rattle.journal.specs.Traffic.{arrived_from, sent_to}
-use Rattle.journal.specs.declared.effect.Effect.TheVariants.{Arrived, Closed, Down, Gone, Up}
+use Rattle.journal.specs.declared.effect.Effect.{Effect}
+use Rattle.journal.specs.declared.effect.Effect.TheVariants.{Arrived, Closed, Notified}
 use Rattle.journal.specs.declared.effect.Step.{Step}
-use Rattle.journal.specs.declared.head.Head.TheVariants.{Restart, TakeNone, Tick, Wire}
-use Rattle.journal.proofs.Playing.{endpoint_kept, made_by, note}
-use Rattle.link_laws.specs.Brought.{IsArrival, IsGoingDown, IsGoingUp, IsMeeting, IsParting, meets}
-use Rattle.link_laws.specs.Laws.{HasEffects, IsLegal, IsPacket, IsTick, KeepsCuts, KeepsRest, loses}
-use Rattle.link_laws.specs.Laws.{stays}
+use Rattle.journal.specs.declared.head.Head.TheVariants.{Restart, TakeNone, Tick, Waits, Wire}
+use Rattle.journal.proofs.Playing.{at_rest, closes, endpoint_kept, made, made_by, note, ref}
+use Rattle.link_laws.specs.Brought.{IsArrival, IsGoingDown, IsGoingUp, IsMeeting, IsParting}
+use Rattle.link_laws.specs.Brought.{arrives, meets, nothing}
+use Rattle.link_laws.specs.Laws.{HasEffects, IsLegal, IsPacket, KeepsCuts, KeepsPackets, KeepsRest}
+use Rattle.link_laws.specs.Laws.{IsTick, KeepsTicks, actors_alone, loses, stays}
+use Rattle.link_laws.specs.Sessions.{is_cut}
 use Rattle.link_laws.specs.Still.{IsStill, cut, whole as whole_link}
-use Rattle.link_laws.proofs.Playing.{acts, a, b, brings, down, l, met_at, posts, there, two_ends}
-use Rattle.link_laws.proofs.Playing.{x11, x21, ◌▸◌, pump}
-use Rattle.link_laws.proofs.Reconnected.{cut_off}
+use Rattle.link_laws.proofs.Playing.{acts, a, b, brings, down, gone_at, l, met_at, posts, pump}
+use Rattle.link_laws.proofs.Playing.{pumped, there, ticked, two_ends, up, x11, x21, ◌▸◌}
+use Rattle.link_laws.proofs.Reconnected.{cut_off, cut_off_is_legal}
 use Rattle.link_laws.proofs.Told.{may_told}
-use Rattle.link_laws.proofs.Worked.{one_answered, closed_behind_data, found_over}
-use Rattle.link_laws.proofs.Worked.{found_over_is_legal}
+use Rattle.link_laws.proofs.Worked.{closed_behind_data, closed_behind_data_is_legal, found_over}
+use Rattle.link_laws.proofs.Worked.{found_over_is_legal, one_answered, one_answered_is_legal}
+
+-- the laws of a step
+data Law : Type 0 where
+  makers : Law
+  endpoints : Law
+  bounds : Law
+  effects : Law
+  sending : Law
+  receiving : Law
+  resting : Law
+  packets : Law
+  cutting : Law
+  ticking : Law
+
+abbrev law_number : Law → ℕ
+law_number makers = 1
+law_number endpoints = 2
+law_number bounds = 3
+law_number effects = 4
+law_number sending = 5
+law_number receiving = 6
+law_number resting = 7
+law_number packets = 8
+law_number cutting = 9
+law_number ticking = 10
+
+-- a step after P keeps a law
+abbrev Keeps : Shape → List Step → Step → Law → Type 0
+Keeps shape P s makers = KeepsMakers shape P s.by s.head
+Keeps shape P s endpoints = KeepsEndpoints (endpoint_by P s.by) s.head
+Keeps shape P s bounds = IsBounded s.head
+Keeps shape P s effects =
+    HasEffects shape P (node_by shape s.by) (endpoint_by P s.by) s.head s.effects
+Keeps shape P s sending = KeepsSends P (node_by shape s.by) s.head
+Keeps shape P s receiving =
+    KeepsReceives (actors_alone shape) P (node_by shape s.by) s.by (endpoint_by P s.by) s.head
+Keeps shape P s resting = KeepsRest shape P s.head
+Keeps shape P s packets = KeepsPackets shape P s.head s.effects
+Keeps shape P s cutting = KeepsCuts P s.head
+Keeps shape P s ticking = KeepsTicks shape P s.head s.effects
+
+-- this is asked for, or not
+abbrev IsAsked : Bool → Type 0 → Type 0
+IsAsked true A = A
+IsAsked false A = Unit {0}
+
+-- a step keeps a law, if it isn't this one
+abbrev KeepsOther : Shape → List Step → Step → Law → Law → Type 0
+KeepsOther shape P s law other =
+    IsAsked (not (law_number law == law_number other)) (Keeps shape P s other)
+
+-- it keeps all laws but this one
+abbrev KeepsAllBut : Shape → List Step → Step → Law → Type 0
+KeepsAllBut shape P s law =
+    KeepsOther shape P s law makers × KeepsOther shape P s law endpoints
+    × KeepsOther shape P s law bounds × KeepsOther shape P s law effects
+    × KeepsOther shape P s law sending × KeepsOther shape P s law receiving
+    × KeepsOther shape P s law resting × KeepsOther shape P s law packets
+    × KeepsOther shape P s law cutting × KeepsOther shape P s law ticking
+
+-- after a legal history stands a step that breaks one law, and no other
+record Breaks (P : List Step) (s : Step) (law : Law) : Type 0 where
+  before : IsLegal two_ends P
+  broken : ¬ (Keeps two_ends P s law)
+  others : KeepsAllBut two_ends P s law
+
+-- a packet to node 2, over a whole link, may break the law of packets alone
+brings_wrong : {P : List Step} {es : List Effect} → IsLegal two_ends P → is_cut P 1 ≡ false
+    → ¬ (IsPacket P 2 1 l es) → Breaks P (there es) packets
+brings_wrong {P} {es} before uncut broken = record {
+  before = before;
+  broken = broken;
+  others = (
+    pumped refl,
+    endpoint_kept refl,
+    tt,
+    tt,
+    tt,
+    tt,
+    tt,
+    tt,
+    λ is_so. absurd (true≢false (sym is_so ∙ uncut)),
+    tt,
+  );
+}
 
 -- the numbers of the first signal, of the first byte
 abbrev first_number : List SigNote → ℕ
@@ -49,6 +141,9 @@ two_sent = posts x11 b (note 2 []) ∷ posts x11 b (note 1 []) ∷ found_over
 abbrev two_coming : List Step
 two_coming = there (met_at 2 x11 a (codes "a") ∷ []) ∷ two_sent
 
+abbrev one_came : List Step
+one_came = there (Arrived b (There l x11 a) (note 1 []) ∷ []) ∷ two_coming
+
 two_sent_is_legal : IsLegal two_ends two_sent
 two_sent_is_legal =
     found_over_is_legal
@@ -61,106 +156,192 @@ two_coming_is_legal =
     ▸ brings (meets x11 a (codes "a")) refl refl
     (record { up = refl; opened = refl; named = refl; new = refl })
 
+one_came_is_legal : IsLegal two_ends one_came
+one_came_is_legal =
+    two_coming_is_legal
+    ▸ brings (arrives x11 a b (note 1 [])) refl refl
+    (record { receiver = refl; sender = refl; alive = refl; front = (note 2 [] ∷ [], refl) })
+
 -- ARRIVALS. The second signal comes first
-second_comes_first : ¬ (IsPacket two_coming 2 1 l (Arrived b (There l x11 a) (note 2 []) ∷ []))
-second_comes_first packet =
+second_comes_first : Breaks two_coming (there (Arrived b (There l x11 a) (note 2 []) ∷ [])) packets
+second_comes_first = brings_wrong two_coming_is_legal refl (λ packet.
     let law : IsArrival two_coming 2 1 l x11 a b (note 2 []) = may_told packet in
-    unequal 1 2 refl (ap first_number law.front.1)
+    unequal 1 2 refl (ap first_number law.front.1))
 
 -- a signal comes from one that wasn't met
-comes_from_a_stranger : ¬ (IsPacket two_sent 2 1 l (Arrived b (There l x11 a) (note 1 []) ∷ []))
-comes_from_a_stranger packet =
+comes_from_a_stranger : Breaks two_sent (there (Arrived b (There l x11 a) (note 1 []) ∷ [])) packets
+comes_from_a_stranger = brings_wrong two_sent_is_legal refl (λ packet.
     let law : IsArrival two_sent 2 1 l x11 a b (note 1 []) = may_told packet in
     let wrong : false ≡ true = law.alive in
-    cc
+    cc)
 
 -- a signal comes again
-comes_again : ¬ (IsPacket (there (Arrived b (There l x11 a) (note 1 []) ∷ []) ∷ two_coming) 2 1 l
-    (Arrived b (There l x11 a) (note 1 []) ∷ []))
-comes_again packet =
-    let law : IsArrival (there (Arrived b (There l x11 a) (note 1 []) ∷ []) ∷ two_coming) 2 1 l x11
-    a b (note 1 []) = may_told packet in
-    unequal 2 1 refl (ap second_number law.front.1)
+comes_again : Breaks one_came (there (Arrived b (There l x11 a) (note 1 []) ∷ [])) packets
+comes_again = brings_wrong one_came_is_legal refl (λ packet.
+    let law : IsArrival one_came 2 1 l x11 a b (note 1 []) = may_told packet in
+    unequal 2 1 refl (ap second_number law.front.1))
+
+-- a signal comes to an endpoint that is closed
+abbrev receiver_closed : List Step
+receiver_closed = closes 2 b ∷ two_coming
+
+receiver_closed_is_legal : IsLegal two_ends receiver_closed
+receiver_closed_is_legal =
+    two_coming_is_legal ▸ acts (made_by refl) (endpoint_kept refl) refl tt refl tt tt
+
+comes_to_the_closed : Breaks receiver_closed (there (Arrived b (There l x11 a) (note 1 []) ∷ []))
+    packets
+comes_to_the_closed = brings_wrong receiver_closed_is_legal refl (λ packet.
+    let law : IsArrival receiver_closed 2 1 l x11 a b (note 1 []) = may_told packet in
+    let wrong : false ≡ true = law.receiver in
+    cc)
+
+-- a packet that is lost brings a signal
+lost_packet_brings : Breaks two_coming
+    (pump (Wire l First Lose) (Arrived b (There l x11 a) (note 1 []) ∷ [])) packets
+lost_packet_brings = record {
+  before = two_coming_is_legal;
+  broken = λ none. unequal 1 0 refl (ap length none);
+  others = (pumped refl, endpoint_kept refl, tt, tt, tt, tt, tt, tt, (λ is_so. refl), tt);
+}
 
 -- MEETINGS. A peer is met twice
-met_twice : ¬ (IsPacket two_coming 2 1 l (met_at 2 x11 a (codes "a") ∷ []))
-met_twice packet =
+met_twice : Breaks two_coming (there (met_at 2 x11 a (codes "a") ∷ [])) packets
+met_twice = brings_wrong two_coming_is_legal refl (λ packet.
     let law : IsMeeting two_coming 2 1 l x11 a (codes "a") = may_told packet in
     let wrong : true ≡ false = law.new in
-    cc
+    cc)
 
 -- by a name that it wasn't opened with
-met_by_another_name : ¬ (IsPacket two_sent 2 1 l (met_at 2 x11 a (codes "c") ∷ []))
-met_by_another_name packet =
+met_by_another_name : Breaks two_sent (there (met_at 2 x11 a (codes "c") ∷ [])) packets
+met_by_another_name = brings_wrong two_sent_is_legal refl (λ packet.
     let law : IsMeeting two_sent 2 1 l x11 a (codes "c") = may_told packet in
-    unequal 97 99 refl (ap first_byte law.named)
+    unequal 97 99 refl (ap first_byte law.named))
 
 -- PARTINGS. A peer goes before all that it sent has come
-overtakes_data : ¬ (IsPacket closed_behind_data 2 1 l (Gone (record { 0 = 2 }) (There l x11 a)
-    ∷ []))
-overtakes_data packet =
+overtakes_data : Breaks closed_behind_data (there (gone_at 2 x11 a ∷ [])) packets
+overtakes_data = brings_wrong closed_behind_data_is_legal refl (λ packet.
     let law : IsParting closed_behind_data 2 1 l x11 a = may_told packet in
-    unequal 1 4 refl (ap length law.all_got.0)
+    unequal 1 4 refl (ap length law.all_got.0))
 
 -- one goes that is open
-goes_while_open : ¬ (IsPacket two_coming 2 1 l (Gone (record { 0 = 2 }) (There l x11 a) ∷ []))
-goes_while_open packet =
+goes_while_open : Breaks two_coming (there (gone_at 2 x11 a ∷ [])) packets
+goes_while_open = brings_wrong two_coming_is_legal refl (λ packet.
     let law : IsParting two_coming 2 1 l x11 a = may_told packet in
     let wrong : false ≡ true = law.closed in
-    cc
+    cc)
 
 -- SESSIONS. A side goes up in a session that isn't its own
-up_in_another_session : ¬ (IsPacket [] 2 1 l (Up (record { 0 = 2 }) l x21 x11 ∷ []))
-up_in_another_session packet =
+up_in_another_session : Breaks [] (there (up 2 x21 x11 ∷ [])) packets
+up_in_another_session = brings_wrong tt refl (λ packet.
     let law : IsGoingUp [] 2 1 l x21 x11 = may_told packet in
-    unequal 8589934593 4294967297 refl (ap (λ (x : Session). x.0) law.own)
+    unequal 8589934593 4294967297 refl (ap (λ (x : Session). x.0) law.own))
 
 -- with one that the other side never had
-up_with_no_session : ¬ (IsPacket [] 2 1 l (Up (record { 0 = 2 }) l x11 x21 ∷ []))
-up_with_no_session packet =
+up_with_no_session : Breaks [] (there (up 2 x11 x21 ∷ [])) packets
+up_with_no_session = brings_wrong tt refl (λ packet.
     let law : IsGoingUp [] 2 1 l x11 x21 = may_told packet in
     let wrong : false ≡ true = law.other_had in
-    cc
+    cc)
 
 -- a side goes down while the other one has the session still
-down_for_nothing : ¬ (IsPacket found_over 2 1 l (Down (record { 0 = 2 }) l x11 ∷ []))
-down_for_nothing packet =
+down_for_nothing : Breaks found_over (there (down 2 x11 ∷ [])) packets
+down_for_nothing = brings_wrong found_over_is_legal refl (λ packet.
     let law : IsGoingDown found_over 2 1 l x11 = may_told packet in
     let wrong : 4294967297 < 4294967297 = law.passed in
-    omega arith
+    omega arith)
 
 -- CUTS. A packet passes a cut
-passes_a_cut : ¬ (KeepsCuts cut_off (Wire l First Deliver))
-passes_a_cut law = let wrong : Deliver ≡ Lose = law refl in cc
+passes_a_cut : Breaks cut_off (there []) cutting
+passes_a_cut = record {
+  before = cut_off_is_legal;
+  broken = λ law. let wrong : Deliver ≡ Lose = law refl in cc;
+  others = (
+    pumped refl,
+    endpoint_kept refl,
+    tt,
+    tt,
+    tt,
+    tt,
+    tt,
+    record { what = nothing; effects = refl; may = tt },
+    tt,
+    tt,
+  );
+}
 
 -- TICKS. A session is lost at the second tick in silence
-lost_too_early : ¬ (IsTick (pump (Tick l Second) [] ∷ cut_off) 2 l Second (down 2 x11 ∷ []))
-lost_too_early (stays none) = absurd cc
-lost_too_early (loses x up silent same) = let wrong : 2 ≤ 1 = silent in omega arith
+abbrev one_tick_cut : List Step
+one_tick_cut = pump (Tick l Second) [] ∷ cut_off
+
+one_tick_cut_is_legal : IsLegal two_ends one_tick_cut
+one_tick_cut_is_legal = cut_off_is_legal ▸ ticked (stays refl)
+
+lost_too_early : Breaks one_tick_cut
+    (pump (Tick l Second)
+    (down 2 x11 ∷ Notified b (There l x11 a) (note 252 (1 ∷ [])) (ref 14) reasons.Lost ∷ []))
+    ticking
+lost_too_early = record {
+  before = one_tick_cut_is_legal;
+  broken = λ tick. by_tick tick;
+  others = (pumped refl, endpoint_kept refl, tt, tt, tt, tt, tt, tt, tt, tt);
+}
+  where
+    by_tick : IsTick one_tick_cut 2 l Second
+        (down 2 x11 ∷ Notified b (There l x11 a) (note 252 (1 ∷ [])) (ref 14) reasons.Lost ∷ [])
+        → ⊥
+    by_tick (stays none) = absurd cc
+    by_tick (loses x is silent same) = let wrong : 2 ≤ 1 = silent in omega arith
 
 -- EFFECTS. A restart closes the endpoints of its node alone
-forgets_the_session : ¬ (HasEffects two_ends one_answered 1 (Some a) (Restart (record { 0 = 1 }))
-    (Closed a ∷ []))
-forgets_the_session same = absurd cc
+forgets_the_session : Breaks one_answered (made 1 (Restart (record { 0 = 1 })) (Closed a ∷ []))
+    effects
+forgets_the_session = record {
+  before = one_answered_is_legal;
+  broken = λ same. absurd cc;
+  others = (made_by refl, endpoint_kept refl, tt, tt, tt, tt, tt, tt, tt, tt);
+}
 
--- REST. A receive finds none while a signal is on its way
-finds_none_too_early : ¬ (KeepsRest two_ends two_coming (TakeNone Any))
-finds_none_too_early still = by_link (still l (omega arith, omega arith))
+-- REST. A receive finds none while a signal is on its way, though all other actors are at rest
+abbrev other_waits : List Step
+other_waits = made 2 (Waits Any) [] ∷ two_coming
+
+other_waits_is_legal : IsLegal two_ends other_waits
+other_waits_is_legal =
+    two_coming_is_legal ▸ acts (made_by refl) (endpoint_kept refl) refl tt refl tt (refl, refl)
+
+finds_none_too_early : Breaks other_waits (made 1 (TakeNone Any) []) resting
+finds_none_too_early = record {
+  before = other_waits_is_legal;
+  broken = λ still. by_link (still l (omega arith, omega arith));
+  others = (
+    made_by refl,
+    endpoint_kept refl,
+    tt,
+    refl,
+    tt,
+    (refl, at_rest refl),
+    tt,
+    tt,
+    tt,
+    tt,
+  );
+}
   where
     cc_some : {z : Session} → Some x11 ≡ Some z → x11 ≡ z
     cc_some same = cc
 
-    by_link : IsStill two_ends two_coming l → ⊥
+    by_link : IsStill two_ends other_waits l → ⊥
     by_link (cut is first second) = let wrong : false ≡ true = is in cc
     by_link (whole_link uncut x y both) =
         let near : x11 ≡ x = cc_some (both.there.up) in
         let far : x11 ≡ y = cc_some (both.back.up) in
-        let got : arrived_from two_coming b (There l y a) ≡ sent_to two_coming a (There l x b) =
+        let got : arrived_from other_waits b (There l y a) ≡ sent_to other_waits a (There l x b) =
         both.back.all_got.0.0 in
-        let some : arrived_from two_coming b (There l x11 a)
-        ≡ sent_to two_coming a (There l x11 b) =
-        subst (λ (z : Session). arrived_from two_coming b (There l x11 a)
-        ≡ sent_to two_coming a (There l z b)) (sym near)
-        (subst (λ (z : Session). arrived_from two_coming b (There l z a)
-        ≡ sent_to two_coming a (There l x b)) (sym far) got) in
+        let some : arrived_from other_waits b (There l x11 a)
+        ≡ sent_to other_waits a (There l x11 b) =
+        subst (λ (z : Session). arrived_from other_waits b (There l x11 a)
+        ≡ sent_to other_waits a (There l z b)) (sym near)
+        (subst (λ (z : Session). arrived_from other_waits b (There l z a)
+        ≡ sent_to other_waits a (There l x b)) (sym far) got) in
         unequal 0 2 refl (ap length some)

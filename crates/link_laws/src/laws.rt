@@ -1,0 +1,19 @@
+//! What follows from the definitions of a run with links alone. These functions do nothing; their
+//! contracts are the laws.
+
+ghost use Rattle.link_laws.specs.Runs.{RunsAreLegal, RunsKeepPromises};
+
+/// Every run is legal: where each step is a move, which says what its node does and what its kind
+/// makes of the sides of the links, every step keeps the laws of nodes, of rest, packets, cuts and
+/// ticks; and after it each side of each link is what the history tells of it.
+pub fn runs_are_legal()
+    ensures { RunsAreLegal }
+{}
+
+/// So every run keeps its promises: what arrives over a link is a front of what was sent, all of it
+/// once the sender's close was told, and nothing after that; sessions pair both ways and don't go
+/// back; nobody is met after its close; no pending hunt names a living peer; over a quiet link
+/// nothing vanishes; and links that rest are still.
+pub fn runs_keep_promises()
+    ensures { RunsKeepPromises }
+{}
