@@ -54,3 +54,4 @@ pub mod MovesClose
 pub mod MovesOpen
 pub mod MovesRestart
 pub mod Runs
+pub mod WorkedRuns

@@ -1,0 +1,473 @@
+-- A worked run, move by move, with the records of both sides of its link: a name is hunted over the
+-- link, asked for, published and met; a signal is sent and arrives; its sender closes and goes.
+use Rattle.std.proofs.Common.{◌≡◌, ◌≤◌, ℕ, true, false, ◌&&◌, List, [], ◌∷◌, Some, refl, sym}
+use Rattle.std.proofs.Common.{◌∙◌, ap, arith, subst}
+use Rattle.std.specs.Prelude.{codes, ◌==◌}
+use Rattle.std.specs.List.{list_any}
+use Rattle.std.specs.Str.{bytes_eq}
+use Rattle.std.proofs.Math.Bool.{or-false}
+use Rattle.std.proofs.lemmas.Bool.{eq-eqb, or_left, true≢false}
+use Rattle.linx_base.specs.Sides.{other_of}
+use Rattle.linx_base.specs.declared.frame.Verdict.{Verdict}
+use Rattle.linx_base.specs.declared.frame.Verdict.TheVariants.{Deliver}
+use Rattle.linx_base.specs.declared.identity.LinkNo.{LinkNo}
+use Rattle.linx_base.specs.declared.identity.Peer.TheVariants.{There}
+use Rattle.linx_base.specs.declared.identity.Side.{Side}
+use Rattle.linx_base.specs.declared.identity.Side.TheVariants.{First, Second}
+use Rattle.linx_base.specs.declared.name.Path.TheVariants.{Over}
+use Rattle.trunk_record.specs.Sayings.{Given, Said, arrived, asked, asked_for, gone, met, published}
+use Rattle.trunk_record.specs.Sayings.{signaled, unpublished}
+use Rattle.journal.specs.Traffic.{arrived_from}
+use Rattle.journal.specs.declared.effect.Effect.{Effect}
+use Rattle.journal.specs.declared.effect.Effect.TheVariants.{Arrived, Found}
+use Rattle.journal.specs.declared.effect.Step.{Step}
+use Rattle.journal.specs.declared.head.Head.TheVariants.{Hunt, Wire}
+use Rattle.journal.proofs.Playing.{closes, endpoint_kept, made, made_by, note, opens}
+use Rattle.link_laws.specs.Ends.{IsLinkOf, node_at}
+use Rattle.link_laws.specs.Fabric.{Links, SideState}
+use Rattle.link_laws.specs.Laws.{IsLegal}
+use Rattle.link_laws.specs.Linked.{is_hunted}
+use Rattle.link_laws.specs.Moves.{ClosesAt, IsLeft, IsMove, KeepsNodeLaws, OpensAt, OthersLeft}
+use Rattle.link_laws.specs.Moves.{brings_up, gives, publishes}
+use Rattle.link_laws.specs.Runs.{IsRun, IsWholeRun, first_state}
+use Rattle.link_laws.proofs.Names.{bytes_eq-is, bytes_eq-itself}
+use Rattle.link_laws.proofs.Playing.{a, b, back, gone_at, l, met_at, posts, pump, pumped, there}
+use Rattle.link_laws.proofs.Playing.{two_ends, up, x11}
+use Rattle.link_laws.proofs.Runs.{runs_are_legal}
+
+-- THE STATES of the two sides of the one link
+abbrev pair : SideState → SideState → Links
+pair first second k First = first
+pair first second k Second = second
+
+-- a side in its first session, up with that of the other side, heard of late and with no name noted
+abbrev up_with : List Said → List Given → SideState
+up_with said given = record {
+  side = record {
+    now = record { session = x11; peer = Some x11; said = said; given = given };
+    earlier = [];
+  };
+  noted = [];
+  silent = 0;
+}
+
+-- what holds of both sides of the one link holds of all
+each : (Holds : LinkNo → Side → Type 0) → Holds l First → Holds l Second → (k : LinkNo)
+    → IsLinkOf two_ends k → (side : Side) → Holds k side
+each Holds first second k of_shape side = subst (λ (h : LinkNo). Holds h side) same (by_side side)
+  where
+    same : l ≡ k
+    same =
+        let low = of_shape.0 in
+        let high : k.0 ≤ 1 = of_shape.1 in
+        ap (λ (n : ℕ). let m : LinkNo = record { 0 = n } in m) (omega arith)
+
+    by_side : (at : Side) → Holds l at
+    by_side First = first
+    by_side Second = second
+
+itself : (C : SideState) → IsLeft C C
+itself C = record { side = refl; noted = refl; silent = omega arith }
+
+first_only : (C D E : SideState) → OthersLeft two_ends (pair C E) (pair D E) l First
+first_only C D E h of_h First apart = absurd (true≢false (sym is ∙ apart))
+  where
+    is : ((h.0 == 1) && true) ≡ true
+    is =
+        let low = of_h.0 in
+        let high : h.0 ≤ 1 = of_h.1 in
+        ap (λ t. t && true) (eq-eqb h.0 1 (omega arith))
+first_only C D E h of_h Second apart = itself E
+
+second_only : (C D E : SideState) → OthersLeft two_ends (pair E C) (pair E D) l Second
+second_only C D E h of_h First apart = itself E
+second_only C D E h of_h Second apart = absurd (true≢false (sym is ∙ apart))
+  where
+    is : ((h.0 == 1) && true) ≡ true
+    is =
+        let low = of_h.0 in
+        let high : h.0 ≤ 1 = of_h.1 in
+        ap (λ t. t && true) (eq-eqb h.0 1 (omega arith))
+
+-- the laws of nodes ask little of a packet
+wire_laws : {P : List Step} {from : Side} {verdict : Verdict} {es : List Effect}
+    → KeepsNodeLaws two_ends P (pump (Wire l from verdict) es)
+wire_laws = record {
+  makers = pumped refl;
+  endpoints = endpoint_kept refl;
+  bounds = tt;
+  effects = tt;
+  sends = tt;
+  receives = tt;
+}
+
+-- a run goes on with a move
+infixl 1 ◌▹◌
+◌▹◌ : {P : List Step} {s : Step} {before after : Links} → IsRun two_ends P before
+    → IsMove two_ends P before s after → IsRun two_ends (s ∷ P) after
+◌▹◌ {P} {s} {before} {after} run move = (before, (run, move))
+
+-- the link is one of the shape
+one_of : IsLinkOf two_ends l
+one_of = (omega arith, omega arith)
+
+-- THE RUN. Both endpoints open, and a name is hunted while the link is down
+abbrev both_open : List Step
+both_open = opens 2 (codes "b") b ∷ opens 1 (codes "a") a ∷ []
+
+abbrev hunted_first : List Step
+hunted_first = made 1 (Hunt (Over l (codes "b")) (note 251 [])) [] ∷ both_open
+
+abbrev both_down : Links
+both_down = pair first_state first_state
+
+begins : IsRun two_ends [] both_down
+begins = each (λ k side. IsLeft first_state (both_down k.0 side)) (itself first_state)
+    (itself first_state)
+
+opens_a : IsMove two_ends [] both_down (opens 1 (codes "a") a) both_down
+opens_a = record {
+  laws = record {
+    makers = made_by refl;
+    endpoints = endpoint_kept refl;
+    bounds = refl;
+    effects = refl;
+    sends = tt;
+    receives = tt;
+  };
+  moves = each (λ k side. OpensAt (node_at two_ends k side == 1) a (codes "a") (both_down k.0 side)
+      (both_down k.0 side))
+      (record { side = refl; noted = λ w apart is. is; silent = omega arith })
+      (itself first_state);
+}
+
+opens_b : IsMove two_ends (opens 1 (codes "a") a ∷ []) both_down (opens 2 (codes "b") b) both_down
+opens_b = record {
+  laws = record {
+    makers = made_by refl;
+    endpoints = endpoint_kept refl;
+    bounds = refl;
+    effects = refl;
+    sends = tt;
+    receives = tt;
+  };
+  moves = each (λ k side. OpensAt (node_at two_ends k side == 2) b (codes "b") (both_down k.0 side)
+      (both_down k.0 side)) (itself first_state)
+      (record { side = refl; noted = λ w apart is. is; silent = omega arith });
+}
+
+hunts_b : IsMove two_ends both_open both_down
+    (made 1 (Hunt (Over l (codes "b")) (note 251 [])) []) both_down
+hunts_b = record {
+  laws = record {
+    makers = made_by refl;
+    endpoints = endpoint_kept refl;
+    bounds = omega arith;
+    effects = refl;
+    sends = tt;
+    receives = tt;
+  };
+  moves = record {
+    at = First;
+    of_shape = one_of;
+    node = refl;
+    side = refl;
+    noted = refl;
+    silent = omega arith;
+    others = first_only first_state first_state first_state;
+  };
+}
+
+hunted_run : IsRun two_ends hunted_first both_down
+hunted_run = begins ▹ opens_a ▹ opens_b ▹ hunts_b
+
+-- the link goes up, the name is asked for, published, and met
+abbrev second_up : List Step
+second_up = there (up 2 x11 x11 ∷ []) ∷ hunted_first
+
+abbrev both_up : List Step
+both_up = back (up 1 x11 x11 ∷ []) ∷ second_up
+
+abbrev question_heard : List Step
+question_heard = there [] ∷ both_up
+
+abbrev found_then : List Step
+found_then =
+    back (met_at 1 x11 b (codes "b") ∷ Found a (There l x11 b) (note 251 []) 3 ∷ [])
+    ∷ question_heard
+
+abbrev asking : SideState
+asking = up_with (asked (codes "b") ∷ []) []
+
+abbrev answering : SideState
+answering = up_with (published b (codes "b") ∷ []) (asked_for (codes "b") ∷ [])
+
+abbrev answered : SideState
+answered = up_with (asked (codes "b") ∷ []) (met b (codes "b") ∷ [])
+
+second_goes_up : IsMove two_ends hunted_first both_down (there (up 2 x11 x11 ∷ []))
+    (pair first_state (up_with [] []))
+second_goes_up = record {
+  laws = wire_laws;
+  moves = record {
+    of_shape = one_of;
+    cuts = λ cut. absurd (true≢false (sym cut));
+    handed = (
+      brings_up (record {
+            y = x11;
+            down = refl;
+            other_has = refl;
+            forward = (tt, tt);
+            effects = refl;
+            names = [];
+            asks_all = λ v is. absurd (true≢false (sym is));
+            side = refl;
+            noted = refl;
+            silent = refl;
+          }),
+      second_only first_state (up_with [] []) first_state,
+    );
+  };
+}
+
+asks_b : (v : List ℕ) → is_hunted second_up 1 l v ≡ true
+    → list_any (bytes_eq v) (codes "b" ∷ []) ≡ true
+asks_b v is =
+    let same : codes "b" ≡ v = bytes_eq-is (codes "b") v (sym (or-false (bytes_eq (codes "b") v))
+    ∙ is) in
+    or_left (bytes_eq v (codes "b")) false (ap (bytes_eq v) same ∙ bytes_eq-itself v)
+
+first_goes_up : IsMove two_ends second_up (pair first_state (up_with [] []))
+    (back (up 1 x11 x11 ∷ [])) (pair asking (up_with [] []))
+first_goes_up = record {
+  laws = wire_laws;
+  moves = record {
+    of_shape = one_of;
+    cuts = λ cut. absurd (true≢false (sym cut));
+    handed = (
+      brings_up (record {
+            y = x11;
+            down = refl;
+            other_has = refl;
+            forward = (tt, tt);
+            effects = refl;
+            names = codes "b" ∷ [];
+            asks_all = asks_b;
+            side = refl;
+            noted = refl;
+            silent = refl;
+          }),
+      first_only first_state asking (up_with [] []),
+    );
+  };
+}
+
+question_comes : IsMove two_ends both_up (pair asking (up_with [] [])) (there [])
+    (pair asking answering)
+question_comes = record {
+  laws = wire_laws;
+  moves = record {
+    of_shape = one_of;
+    cuts = λ cut. absurd (true≢false (sym cut));
+    handed = (
+      gives (record {
+            g = asked_for (codes "b");
+            told = record { y = x11; pair = refl; back = refl; later = []; said = refl };
+            fits = tt;
+            effects = refl;
+            receives = publishes b refl refl refl (λ w apart is. is);
+            silent = refl;
+          }),
+      second_only (up_with [] []) answering asking,
+    );
+  };
+}
+
+answer_comes : IsMove two_ends question_heard (pair asking answering)
+    (back (met_at 1 x11 b (codes "b") ∷ Found a (There l x11 b) (note 251 []) 3 ∷ []))
+    (pair answered answering)
+answer_comes = record {
+  laws = wire_laws;
+  moves = record {
+    of_shape = one_of;
+    cuts = λ cut. absurd (true≢false (sym cut));
+    handed = (
+      gives (record {
+            g = met b (codes "b");
+            told = record { y = x11; pair = refl; back = refl; later = []; said = refl };
+            fits = tt;
+            effects = refl;
+            receives = record { side = refl; noted = refl };
+            silent = refl;
+          }),
+      first_only asking answered answering,
+    );
+  };
+}
+
+found_run : IsRun two_ends found_then (pair answered answering)
+found_run = hunted_run ▹ second_goes_up ▹ first_goes_up ▹ question_comes ▹ answer_comes
+
+-- a signal is sent, its sender is met, and it arrives
+abbrev one_sent : List Step
+one_sent = posts x11 b (note 1 []) ∷ found_then
+
+abbrev sender_met : List Step
+sender_met = there (met_at 2 x11 a (codes "a") ∷ []) ∷ one_sent
+
+abbrev one_arrived : List Step
+one_arrived = there (Arrived b (There l x11 a) (note 1 []) ∷ []) ∷ sender_met
+
+abbrev sent_words : List Said
+sent_words = signaled a b (note 1 []) ∷ published a (codes "a") ∷ asked (codes "b") ∷ []
+
+abbrev having_sent : SideState
+having_sent = up_with sent_words (met b (codes "b") ∷ [])
+
+abbrev having_met : SideState
+having_met = up_with (published b (codes "b") ∷ [])
+    (met a (codes "a") ∷ asked_for (codes "b") ∷ [])
+
+abbrev having_got : SideState
+having_got = up_with (published b (codes "b") ∷ [])
+    (arrived a b (note 1 []) ∷ met a (codes "a") ∷ asked_for (codes "b") ∷ [])
+
+sends_one : IsMove two_ends found_then (pair answered answering) (posts x11 b (note 1 []))
+    (pair having_sent answering)
+sends_one = record {
+  laws = record {
+    makers = made_by refl;
+    endpoints = endpoint_kept refl;
+    bounds = omega arith;
+    effects = refl;
+    sends = refl;
+    receives = tt;
+  };
+  moves = record {
+    at = First;
+    of_shape = one_of;
+    node = refl;
+    side = refl;
+    noted = λ w apart is. is;
+    silent = omega arith;
+    others = first_only answered having_sent answering;
+  };
+}
+
+sender_comes : IsMove two_ends one_sent (pair having_sent answering)
+    (there (met_at 2 x11 a (codes "a") ∷ [])) (pair having_sent having_met)
+sender_comes = record {
+  laws = wire_laws;
+  moves = record {
+    of_shape = one_of;
+    cuts = λ cut. absurd (true≢false (sym cut));
+    handed = (
+      gives (record {
+            g = met a (codes "a");
+            told = record {
+              y = x11;
+              pair = refl;
+              back = refl;
+              later = signaled a b (note 1 []) ∷ [];
+              said = refl;
+            };
+            fits = tt;
+            effects = refl;
+            receives = record { side = refl; noted = refl };
+            silent = refl;
+          }),
+      second_only answering having_met having_sent,
+    );
+  };
+}
+
+signal_comes : IsMove two_ends sender_met (pair having_sent having_met)
+    (there (Arrived b (There l x11 a) (note 1 []) ∷ [])) (pair having_sent having_got)
+signal_comes = record {
+  laws = wire_laws;
+  moves = record {
+    of_shape = one_of;
+    cuts = λ cut. absurd (true≢false (sym cut));
+    handed = (
+      gives (record {
+            g = arrived a b (note 1 []);
+            told = record { y = x11; pair = refl; back = refl; later = []; said = refl };
+            fits = refl;
+            effects = refl;
+            receives = record { side = refl; noted = refl };
+            silent = refl;
+          }),
+      second_only having_met having_got having_sent,
+    );
+  };
+}
+
+arrived_run : IsRun two_ends one_arrived (pair having_sent having_got)
+arrived_run = found_run ▹ sends_one ▹ sender_comes ▹ signal_comes
+
+-- the sender closes, and goes
+abbrev one_closed : List Step
+one_closed = closes 1 a ∷ one_arrived
+
+abbrev one_gone : List Step
+one_gone = there (gone_at 2 x11 a ∷ []) ∷ one_closed
+
+abbrev having_closed : SideState
+having_closed = up_with (unpublished a ∷ sent_words) (met b (codes "b") ∷ [])
+
+abbrev having_parted : SideState
+having_parted = up_with (published b (codes "b") ∷ [])
+    (gone a ∷ arrived a b (note 1 []) ∷ met a (codes "a") ∷ asked_for (codes "b") ∷ [])
+
+closes_a : IsMove two_ends one_arrived (pair having_sent having_got) (closes 1 a)
+    (pair having_closed having_got)
+closes_a = record {
+  laws = record {
+    makers = made_by refl;
+    endpoints = endpoint_kept refl;
+    bounds = tt;
+    effects = refl;
+    sends = tt;
+    receives = tt;
+  };
+  moves = each (λ k side. ClosesAt 1 (node_at two_ends k side) a
+      (pair having_sent having_got k.0 side) (pair having_closed having_got k.0 side))
+      (record { side = refl; noted = refl; silent = omega arith })
+      (record { side = refl; noted = refl; silent = omega arith });
+}
+
+parting_comes : IsMove two_ends one_closed (pair having_closed having_got)
+    (there (gone_at 2 x11 a ∷ [])) (pair having_closed having_parted)
+parting_comes = record {
+  laws = wire_laws;
+  moves = record {
+    of_shape = one_of;
+    cuts = λ cut. absurd (true≢false (sym cut));
+    handed = (
+      gives (record {
+            g = gone a;
+            told = record { y = x11; pair = refl; back = refl; later = []; said = refl };
+            fits = tt;
+            effects = refl;
+            receives = record { side = refl; noted = refl };
+            silent = refl;
+          }),
+      second_only having_got having_parted having_closed,
+    );
+  };
+}
+
+-- SO IT IS A RUN, and is legal
+whole_run : IsWholeRun two_ends one_gone (pair having_closed having_parted)
+whole_run = record {
+  two_ends = λ k of_shape side. each (λ h at. (node_at two_ends h at
+      == node_at two_ends h (other_of at)) ≡ false) refl refl k of_shape side;
+  fits = omega arith;
+  run = arrived_run ▹ closes_a ▹ parting_comes;
+}
+
+run_is_legal : IsLegal two_ends one_gone
+run_is_legal = (runs_are_legal two_ends one_gone (pair having_closed having_parted) whole_run).legal
+
+one_arrives : arrived_from one_gone b (There l x11 a) ≡ note 1 [] ∷ []
+one_arrives = refl
