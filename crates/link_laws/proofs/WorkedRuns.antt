@@ -1,6 +1,6 @@
 -- A worked run, move by move, with the records of both sides of its link: a name is hunted over the
 -- link, asked for, published and met; a signal is sent and arrives; its sender closes and goes.
-use Rattle.std.proofs.Common.{◌≡◌, ◌≤◌, ℕ, true, false, ◌&&◌, List, [], ◌∷◌, Some, refl, sym}
+use Rattle.std.proofs.Common.{◌≡◌, ◌≤◌, ℕ, suc, true, false, ◌&&◌, List, [], ◌∷◌, Some, refl, sym}
 use Rattle.std.proofs.Common.{◌∙◌, ap, arith, subst}
 use Rattle.std.specs.Prelude.{codes, ◌==◌}
 use Rattle.std.specs.List.{list_any}
@@ -12,27 +12,30 @@ use Rattle.linx_base.specs.declared.frame.Verdict.{Verdict}
 use Rattle.linx_base.specs.declared.frame.Verdict.TheVariants.{Deliver}
 use Rattle.linx_base.specs.declared.identity.LinkNo.{LinkNo}
 use Rattle.linx_base.specs.declared.identity.Peer.TheVariants.{There}
+use Rattle.linx_base.specs.declared.identity.Session.{Session}
 use Rattle.linx_base.specs.declared.identity.Side.{Side}
 use Rattle.linx_base.specs.declared.identity.Side.TheVariants.{First, Second}
 use Rattle.linx_base.specs.declared.name.Path.TheVariants.{Over}
+use Rattle.trunk_record.specs.Changes.{beginning, going_up}
 use Rattle.trunk_record.specs.Sayings.{Given, Said, arrived, asked, asked_for, gone, met, published}
 use Rattle.trunk_record.specs.Sayings.{signaled, unpublished}
 use Rattle.journal.specs.Traffic.{arrived_from}
 use Rattle.journal.specs.declared.effect.Effect.{Effect}
-use Rattle.journal.specs.declared.effect.Effect.TheVariants.{Arrived, Found}
+use Rattle.journal.specs.declared.effect.Effect.TheVariants.{Arrived, Closed, Found}
 use Rattle.journal.specs.declared.effect.Step.{Step}
-use Rattle.journal.specs.declared.head.Head.TheVariants.{Hunt, Wire}
+use Rattle.journal.specs.declared.head.Head.TheVariants.{Cut, Hunt, Restart, Tick, Wire}
 use Rattle.journal.proofs.Playing.{closes, endpoint_kept, made, made_by, note, opens}
 use Rattle.link_laws.specs.Ends.{IsLinkOf, node_at}
 use Rattle.link_laws.specs.Fabric.{Links, SideState}
 use Rattle.link_laws.specs.Laws.{IsLegal}
 use Rattle.link_laws.specs.Linked.{is_hunted}
 use Rattle.link_laws.specs.Moves.{ClosesAt, IsLeft, IsMove, KeepsNodeLaws, OpensAt, OthersLeft}
-use Rattle.link_laws.specs.Moves.{brings_up, gives, publishes}
+use Rattle.link_laws.specs.Moves.{RestartsAt, brings_down, brings_up, gives, loses_it, publishes}
+use Rattle.link_laws.specs.Moves.{ticks_on}
 use Rattle.link_laws.specs.Runs.{IsRun, IsWholeRun, first_state}
 use Rattle.link_laws.proofs.Names.{bytes_eq-is, bytes_eq-itself}
-use Rattle.link_laws.proofs.Playing.{a, b, back, gone_at, l, met_at, posts, pump, pumped, there}
-use Rattle.link_laws.proofs.Playing.{two_ends, up, x11}
+use Rattle.link_laws.proofs.Playing.{a, b, back, down, gone_at, l, met_at, posts, pump, pumped}
+use Rattle.link_laws.proofs.Playing.{there, two_ends, up, x11, x12, x21}
 use Rattle.link_laws.proofs.Runs.{runs_are_legal}
 
 -- THE STATES of the two sides of the one link
@@ -471,3 +474,167 @@ run_is_legal = (runs_are_legal two_ends one_gone (pair having_closed having_part
 
 one_arrives : arrived_from one_gone b (There l x11 a) ≡ note 1 [] ∷ []
 one_arrives = refl
+
+-- A RESTART of the sender's node: its side begins the first session of the next boot, the other side
+-- learns it from the greater session, and goes up anew
+abbrev one_restarted : List Step
+one_restarted = made 1 (Restart (record { 0 = 1 })) (down 1 x11 ∷ Closed a ∷ []) ∷ one_arrived
+
+abbrev other_down : List Step
+other_down = there (down 2 x11 ∷ []) ∷ one_restarted
+
+abbrev up_again : List Step
+up_again = there (up 2 x12 x21 ∷ []) ∷ other_down
+
+-- a side that began a session behind another state
+abbrev begun_after : Session → SideState → SideState
+begun_after x C = record { side = beginning x C.side; noted = []; silent = 0 }
+
+abbrev again_up : SideState
+again_up = record { side = going_up x21 (beginning x12 having_got.side); noted = []; silent = 0 }
+
+restarts_one : IsMove two_ends one_arrived (pair having_sent having_got)
+    (made 1 (Restart (record { 0 = 1 })) (down 1 x11 ∷ Closed a ∷ []))
+    (pair (begun_after x21 having_sent) having_got)
+restarts_one = record {
+  laws = record {
+    makers = made_by refl;
+    endpoints = endpoint_kept refl;
+    bounds = tt;
+    effects = refl;
+    sends = tt;
+    receives = tt;
+  };
+  moves = each (λ k side. RestartsAt (node_at two_ends k side == 1) x21
+      (pair having_sent having_got k.0 side)
+      (pair (begun_after x21 having_sent) having_got k.0 side))
+      (record { side = refl; silent = omega arith }) (itself having_got);
+}
+
+other_learns : IsMove two_ends one_restarted (pair (begun_after x21 having_sent) having_got)
+    (there (down 2 x11 ∷ []))
+    (pair (begun_after x21 having_sent) (begun_after x12 having_got))
+other_learns = record {
+  laws = wire_laws;
+  moves = record {
+    of_shape = one_of;
+    cuts = λ cut. absurd (true≢false (sym cut));
+    handed = (
+      brings_down (record {
+            y = x11;
+            pair = refl;
+            passed = omega arith;
+            effects = refl;
+            begins = record { side = refl; silent = omega arith };
+          }),
+      second_only having_got (begun_after x12 having_got) (begun_after x21 having_sent),
+    );
+  };
+}
+
+other_goes_up : IsMove two_ends other_down
+    (pair (begun_after x21 having_sent) (begun_after x12 having_got)) (there (up 2 x12 x21 ∷ []))
+    (pair (begun_after x21 having_sent) again_up)
+other_goes_up = record {
+  laws = wire_laws;
+  moves = record {
+    of_shape = one_of;
+    cuts = λ cut. absurd (true≢false (sym cut));
+    handed = (
+      brings_up (record {
+            y = x21;
+            down = refl;
+            other_has = refl;
+            forward = (tt, (omega arith, tt));
+            effects = refl;
+            names = [];
+            asks_all = λ v is. absurd (true≢false (sym is));
+            side = refl;
+            noted = refl;
+            silent = refl;
+          }),
+      second_only (begun_after x12 having_got) again_up (begun_after x21 having_sent),
+    );
+  };
+}
+
+again_run : IsRun two_ends up_again (pair (begun_after x21 having_sent) again_up)
+again_run = arrived_run ▹ restarts_one ▹ other_learns ▹ other_goes_up
+
+-- A CUT: the side is lost at its third tick in silence
+abbrev heard_ago : ℕ → SideState → SideState
+heard_ago ticks C = record C { silent = ticks }
+
+abbrev link_cut : List Step
+link_cut = made 1 (Cut l) [] ∷ one_arrived
+
+abbrev first_ticks : List Step
+first_ticks = pump (Tick l First) [] ∷ link_cut
+
+abbrev two_ticks : List Step
+two_ticks = pump (Tick l First) [] ∷ first_ticks
+
+abbrev three_ticks : List Step
+three_ticks = pump (Tick l First) (down 1 x11 ∷ []) ∷ two_ticks
+
+tick_laws : {P : List Step} {side : Side} {es : List Effect}
+    → KeepsNodeLaws two_ends P (pump (Tick l side) es)
+tick_laws = record {
+  makers = pumped refl;
+  endpoints = endpoint_kept refl;
+  bounds = tt;
+  effects = tt;
+  sends = tt;
+  receives = tt;
+}
+
+cuts_it : IsMove two_ends one_arrived (pair having_sent having_got) (made 1 (Cut l) [])
+    (pair having_sent having_got)
+cuts_it = record {
+  laws = record {
+    makers = made_by refl;
+    endpoints = endpoint_kept refl;
+    bounds = tt;
+    effects = refl;
+    sends = tt;
+    receives = tt;
+  };
+  moves = each (λ k side. IsLeft (pair having_sent having_got k.0 side)
+      (pair having_sent having_got k.0 side)) (itself having_sent) (itself having_got);
+}
+
+ticks_one : (P : List Step) (n : ℕ) → IsMove two_ends P (pair (heard_ago n having_sent) having_got)
+    (pump (Tick l First) []) (pair (heard_ago (suc n) having_sent) having_got)
+ticks_one P n = record {
+  laws = tick_laws;
+  moves = record {
+    of_shape = one_of;
+    ticked = ticks_on (record {
+      effects = refl;
+      side = refl;
+      noted = refl;
+      silent = omega arith;
+    });
+    others = first_only (heard_ago n having_sent) (heard_ago (suc n) having_sent) having_got;
+  };
+}
+
+loses_first : IsMove two_ends two_ticks (pair (heard_ago 2 having_sent) having_got)
+    (pump (Tick l First) (down 1 x11 ∷ [])) (pair (begun_after x12 having_sent) having_got)
+loses_first = record {
+  laws = tick_laws;
+  moves = record {
+    of_shape = one_of;
+    ticked = loses_it (record {
+      y = x11;
+      pair = refl;
+      silence = omega arith;
+      effects = refl;
+      begins = record { side = refl; silent = omega arith };
+    });
+    others = first_only (heard_ago 2 having_sent) (begun_after x12 having_sent) having_got;
+  };
+}
+
+lost_run : IsRun two_ends three_ticks (pair (begun_after x12 having_sent) having_got)
+lost_run = arrived_run ▹ cuts_it ▹ ticks_one link_cut 0 ▹ ticks_one first_ticks 1 ▹ loses_first
