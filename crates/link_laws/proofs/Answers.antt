@@ -1,6 +1,6 @@
 -- What a side says in answer to what a step brought, over all links of a run.
 use Rattle.std.proofs.Common.{◌≡◌, ℕ, ◌||◌, inl, inr, List, [], ◌∷◌, ◌++◌, true, false, Bool, cond}
-use Rattle.std.proofs.Common.{refl, sym, ◌∙◌, ap, subst}
+use Rattle.std.proofs.Common.{refl, sym, ◌∙◌, subst}
 use Rattle.std.specs.List.{filter, AllByRecursion}
 use Rattle.std.proofs.lemmas.Bool.{or_cases}
 use Rattle.linx_base.specs.Peers.{same_inc}
@@ -10,7 +10,7 @@ use Rattle.linx_base.specs.declared.identity.Peer.TheVariants.{Here}
 use Rattle.linx_base.specs.declared.identity.Side.{Side}
 use Rattle.trunk_record.specs.Changes.{saying}
 use Rattle.trunk_record.specs.Records.{SideRecord}
-use Rattle.trunk_record.specs.Sayings.{Said, asked, is_live, is_signal, published}
+use Rattle.trunk_record.specs.Sayings.{Said, is_live, is_signal, published}
 use Rattle.journal.specs.History.{name_of}
 use Rattle.journal.specs.Living.{is_alive}
 use Rattle.journal.specs.Shapes.{Shape}

@@ -13,7 +13,7 @@ use Rattle.linx_base.specs.declared.identity.Session.{Session}
 use Rattle.linx_base.specs.declared.signal.SigNote.{SigNote}
 use Rattle.trunk_record.specs.Changes.{giving}
 use Rattle.trunk_record.specs.Records.{SessionRecord, SideRecord, all, has_session, said_in}
-use Rattle.trunk_record.specs.Records.{given_in, peer_in, session_if}
+use Rattle.trunk_record.specs.Records.{given_in, session_if}
 use Rattle.trunk_record.specs.Sayings.{Said, published, asked, signaled, unpublished, Given, met}
 use Rattle.trunk_record.specs.Sayings.{arrived, gone, heard_as, was_published, was_unpublished}
 use Rattle.trunk_record.specs.Sayings.{is_live, signals_between, IsProper, frees, has_met}

@@ -1,27 +1,24 @@
 -- What a move has to show: its step is legal, its links are kept, and it keeps what is promised; and
 -- this for a step that touches no side and leaves all of them.
-use Rattle.std.proofs.Common.{◌≡◌, ℕ, suc, ◌≤◌, ◌<◌, Bool, true, false, List, [], ◌∷◌, length, Option}
-use Rattle.std.proofs.Common.{Some, None, refl, sym, ◌∙◌, ap, subst, arith}
+use Rattle.std.proofs.Common.{◌≡◌, ℕ, ◌<◌, true, false, List, [], ◌∷◌, length}
+use Rattle.std.proofs.Common.{sym, ◌∙◌, ap, arith}
 use Rattle.std.specs.List.{list_any, filter_map}
-use Rattle.std.proofs.lemmas.Bool.{true≢false}
 use Rattle.linx_base.specs.Peers.{same_inc}
 use Rattle.linx_base.specs.declared.identity.Inc.{Inc}
 use Rattle.linx_base.specs.declared.identity.LinkNo.{LinkNo}
 use Rattle.linx_base.specs.declared.identity.Session.{Session}
-use Rattle.linx_base.specs.declared.identity.Side.{Side}
-use Rattle.journal.specs.History.{closes, endpoint_by, openings, opened_in}
+use Rattle.journal.specs.History.{closes, endpoint_by, opened_in}
 use Rattle.journal.specs.Logs.{step_limit}
-use Rattle.journal.specs.Pending.{hunt_in}
-use Rattle.journal.specs.Shapes.{Shape, node_by}
+use Rattle.journal.specs.Shapes.{Shape}
 use Rattle.journal.specs.declared.by.By.{By}
 use Rattle.journal.specs.declared.effect.Effect.{Effect}
 use Rattle.journal.specs.declared.effect.Step.{Step}
 use Rattle.journal.specs.declared.head.Head.{Head}
 use Rattle.journal.proofs.Openings.{IsShort}
 use Rattle.link_laws.specs.Came.{signal_in}
-use Rattle.link_laws.specs.Ends.{HasTwoEnds, IsLinkOf, node_at}
+use Rattle.link_laws.specs.Ends.{HasTwoEnds, node_at}
 use Rattle.link_laws.specs.Fabric.{AllLinked, AreLinksKept, Links, records_of}
-use Rattle.link_laws.specs.Laws.{IsLegal, IsLegalStep, KeepsCuts, KeepsPackets, KeepsRest, KeepsTicks}
+use Rattle.link_laws.specs.Laws.{IsLegal, IsLegalStep}
 use Rattle.link_laws.specs.Linked.{IsUnfound, is_hunted}
 use Rattle.link_laws.specs.Moves.{AllLeft, KeepsNodeLaws}
 use Rattle.link_laws.specs.Promises.{PromisesOf}

@@ -23,7 +23,7 @@ use Rattle.link_laws.specs.Ends.{HasTwoEnds, IsLinkOf, node_at}
 use Rattle.link_laws.specs.Fabric.{AllHunted, AllTrunks, Links, SideState, Trunks, records_of}
 use Rattle.link_laws.specs.Fabric.{with_state}
 use Rattle.link_laws.specs.Linked.{AreHunted, HasNone, IsTalking, is_hunted}
-use Rattle.link_laws.specs.Moves.{AsksOver, Begins, IsLeft, KeepsNotes, Opens, OpensAt}
+use Rattle.link_laws.specs.Moves.{AsksOver, IsLeft, Opens, OpensAt}
 use Rattle.link_laws.specs.Moves.{PublishesOpened, RestartsAt, is_up, is_wanted, opening_side}
 use Rattle.link_laws.proofs.Alike.{hunted-alike, one-same}
 use Rattle.link_laws.proofs.Hunted.{BeginsNone, IsCalm, IsHuntedAt, calm_here, hunts_stay, one_link}

@@ -1,14 +1,13 @@
 -- The endpoint of a step's maker is open on the maker's node.
-use Rattle.std.proofs.Common.{◌≡◌, ℕ, suc, ◌<◌, Bool, true, false, cond, ◌||◌, inl, inr, List, [], ◌∷◌}
-use Rattle.std.proofs.Common.{length, Option, Some, None, refl, sym, ◌∙◌, ap, subst, arith}
-use Rattle.std.specs.List.{list_any, filter, filter_map}
+use Rattle.std.proofs.Common.{◌≡◌, ℕ, Bool, true, false, cond, inl, inr, List, [], ◌∷◌}
+use Rattle.std.proofs.Common.{Some, refl, sym, ◌∙◌, ap, arith}
+use Rattle.std.specs.List.{list_any, filter}
 use Rattle.std.proofs.lemmas.Bool.{eq-eqb, or_left}
 use Rattle.linx_base.specs.Numbers.{is_on, node_of}
 use Rattle.linx_base.specs.Peers.{same_inc}
 use Rattle.linx_base.specs.declared.identity.Inc.{Inc}
 use Rattle.linx_base.specs.declared.identity.Peer.TheVariants.{Here}
 use Rattle.journal.specs.History.{closes, endpoint_by, endpoint_of, is_by, last_opened, opened_by}
-use Rattle.journal.specs.History.{opened_in}
 use Rattle.journal.specs.Laws.{is_opening}
 use Rattle.journal.specs.Living.{is_alive}
 use Rattle.journal.specs.Shapes.{Shape, node_by}

@@ -1,6 +1,6 @@
 -- A close, by itself or as the end of an actor.
 use Rattle.std.proofs.Common.{◌≡◌, ℕ, suc, Bool, true, false, cond, ◌&&◌, inl, inr, List, [], ◌∷◌}
-use Rattle.std.proofs.Common.{length, Option, Some, None, refl, sym, ◌∙◌, ap, subst}
+use Rattle.std.proofs.Common.{length, Option, Some, None, refl, sym, ◌∙◌, ap}
 use Rattle.std.specs.Prelude.{◌==◌}
 use Rattle.std.specs.List.{list_any, filter_map, AllByRecursion}
 use Rattle.std.proofs.lemmas.Bool.{true≢false}
@@ -173,19 +173,19 @@ module _ (shape : Shape) (P : List Step) (before after : Links) (known : IsKnown
   none_good none left = record {
     legal = legal_with shape P s laws (asks-nothing shape P head es closes_it.plain);
     kept = left_kept shape P s before after (record {
-          es = [];
-          items = [];
-          done = record { effects = none; items_only = tt };
-          touches_none = λ k h. refl;
-          opens_none = refl;
-          closes_none = λ i. refl;
-          stays = closes_it.stays;
-          says_none = λ k h x. closes_it.says k h x (endpoint_by P by);
-        }) (λ k m l. calm_here P s (record {
-          begins_none = λ i h w. ap (list_any (is_hunt_over h w))
-              (closes_it.hunts i (suc (length P)) (endpoint_by P by));
-          opens_none = ap (filter_map opened_in) none;
-        }) k m l) left known.kept;
+      es = [];
+      items = [];
+      done = record { effects = none; items_only = tt };
+      touches_none = λ k h. refl;
+      opens_none = refl;
+      closes_none = λ i. refl;
+      stays = closes_it.stays;
+      says_none = λ k h x. closes_it.says k h x (endpoint_by P by);
+    }) (λ k m l. calm_here P s (record {
+      begins_none = λ i h w. ap (list_any (is_hunt_over h w))
+          (closes_it.hunts i (suc (length P)) (endpoint_by P by));
+      opens_none = ap (filter_map opened_in) none;
+    }) k m l) left known.kept;
     promised = closes_it.promised es;
   }
 

@@ -1,9 +1,8 @@
 -- A packet that gives a side something: a meeting, an arrival, a freed signal, a parting, or a
 -- question, which is noted or answered.
-use Rattle.std.proofs.Common.{◌≡◌, ◌≢◌, ℕ, ◌≤◌, Bool, true, false, cond, ◌||◌, ◌&&◌, inl, inr, List}
-use Rattle.std.proofs.Common.{[], ◌∷◌, ◌++◌, Some, None, map, refl, sym, ◌∙◌, ap, subst, arith}
-use Rattle.std.specs.Prelude.{◌==◌}
-use Rattle.std.specs.List.{list_any, AllByRecursion}
+use Rattle.std.proofs.Common.{◌≡◌, ℕ, ◌≤◌, Bool, true, false, cond, ◌&&◌, inl, inr, List}
+use Rattle.std.proofs.Common.{[], ◌∷◌, Some, None, map, refl, sym, ◌∙◌, ap, subst, arith}
+use Rattle.std.specs.List.{list_any}
 use Rattle.std.specs.Str.{bytes_eq}
 use Rattle.std.proofs.lemmas.Bool.{eq-eqb, false_from_ne_true, or_left, true≢false}
 use Rattle.linx_base.specs.Peers.{same_inc}
@@ -13,7 +12,6 @@ use Rattle.linx_base.specs.declared.frame.Verdict.TheVariants.{Lose}
 use Rattle.linx_base.specs.declared.identity.Inc.{Inc}
 use Rattle.linx_base.specs.declared.identity.LinkNo.{LinkNo}
 use Rattle.linx_base.specs.declared.identity.Peer.TheVariants.{Here, There}
-use Rattle.linx_base.specs.declared.identity.Session.{Session}
 use Rattle.linx_base.specs.declared.identity.Side.{Side}
 use Rattle.trunk_record.specs.Changes.{giving, saying}
 use Rattle.trunk_record.specs.Records.{SideRecord, given_in, session_if}
@@ -23,8 +21,7 @@ use Rattle.trunk_record.specs.Trunks.{FitsReceiver, IsHalf}
 use Rattle.trunk_record.proofs.Changes.{half_giving, half_of_giving, half_of_saying}
 use Rattle.trunk_record.proofs.Lookups.{given-now}
 use Rattle.trunk_record.proofs.Sayings.{published-live, same_inc-itself}
-use Rattle.journal.specs.History.{is_closed, name_in, name_of, name_or_none, opened_in, opening_name}
-use Rattle.journal.specs.History.{opens}
+use Rattle.journal.specs.History.{name_in, name_of, name_or_none, opening_name}
 use Rattle.journal.specs.Laws.{KeepsMakers}
 use Rattle.journal.specs.Living.{is_alive}
 use Rattle.journal.specs.Shapes.{Shape}
@@ -38,7 +35,7 @@ use Rattle.link_laws.specs.Fabric.{AllHunted, AllLinked, AllPublishedOpen, Links
 use Rattle.link_laws.specs.Fabric.{records_of, with_side, with_state}
 use Rattle.link_laws.specs.Laws.{IsLegalStep, delivers}
 use Rattle.link_laws.specs.Linked.{HasNone, IsLinked, asks, is_session, offers, shown_by}
-use Rattle.link_laws.specs.Moves.{Gives, IsAnswered, IsRecorded, IsTold, KeepsNotes, NotesName}
+use Rattle.link_laws.specs.Moves.{Gives, IsRecorded, IsTold, KeepsNotes, NotesName}
 use Rattle.link_laws.specs.Moves.{OthersLeft, Receives, brought_of, notes, publishes}
 use Rattle.link_laws.specs.Promises.{ups}
 use Rattle.link_laws.specs.Sessions.{is_cut, silent_ticks, tells_heard}
@@ -53,7 +50,7 @@ use Rattle.link_laws.proofs.Hunted.{IsCalm, hunted_giving}
 use Rattle.link_laws.proofs.HuntsAll.{back_half}
 use Rattle.link_laws.proofs.HuntsOver.{hunted_meeting, hunted_noting, hunted_offering}
 use Rattle.link_laws.proofs.MovesSay.{SaysWell, says_half}
-use Rattle.link_laws.proofs.OneSide.{IsOneKept, one_hunted, one_kept, raises-none, tells-none}
+use Rattle.link_laws.proofs.OneSide.{one_hunted, one_kept, raises-none, tells-none}
 use Rattle.link_laws.proofs.Opened.{open-more, opened-any}
 use Rattle.link_laws.proofs.Packets.{IsGiven, given-done, given_at, given_here, kept_giving}
 use Rattle.link_laws.proofs.Packets.{legal_giving, quiet_given}

@@ -17,7 +17,6 @@ use Rattle.linx_base.specs.declared.identity.Inc.{Inc}
 use Rattle.linx_base.specs.declared.identity.LinkNo.{LinkNo}
 use Rattle.linx_base.specs.declared.identity.Peer.{Peer}
 use Rattle.linx_base.specs.declared.identity.Session.{Session}
-use Rattle.linx_base.specs.declared.identity.Side.{Side}
 use Rattle.linx_base.specs.declared.name.Path.{Path}
 use Rattle.linx_base.specs.declared.name.Path.TheVariants.{Local, Over}
 use Rattle.linx_base.specs.declared.pending.PendingHunt.{PendingHunt}

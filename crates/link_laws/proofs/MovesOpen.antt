@@ -1,11 +1,11 @@
 -- An opening.
-use Rattle.std.proofs.Common.{◌≡◌, ◌≤◌, ℕ, suc, Bool, true, false, cond, ◌||◌, ◌&&◌, inl, inr, List}
-use Rattle.std.proofs.Common.{[], ◌∷◌, length, Option, Some, None, refl, sym, ◌∙◌, ap, subst, arith}
+use Rattle.std.proofs.Common.{◌≡◌, ◌≤◌, ℕ, Bool, true, false, cond, ◌||◌, ◌&&◌, inl, inr, List}
+use Rattle.std.proofs.Common.{[], ◌∷◌, Option, Some, None, refl, sym, ◌∙◌, ap, subst, arith}
 use Rattle.std.specs.Prelude.{◌==◌, is_some}
 use Rattle.std.specs.List.{list_any, filter, filter_map, AllByRecursion}
 use Rattle.std.specs.Str.{bytes_eq}
 use Rattle.std.proofs.Math.Bool.{or-false}
-use Rattle.std.proofs.lemmas.Bool.{eq-eqb, eqb-true, false_from_ne_true, or_left, true≢false}
+use Rattle.std.proofs.lemmas.Bool.{eq-eqb, false_from_ne_true, or_left, true≢false}
 use Rattle.std.proofs.lemmas.Bool.Decides.{nat_tests}
 use Rattle.linx_base.specs.Numbers.{is_on, node_of}
 use Rattle.linx_base.specs.Peers.{same_inc}
@@ -17,12 +17,11 @@ use Rattle.linx_base.specs.declared.identity.Session.{Session}
 use Rattle.linx_base.specs.declared.identity.Side.{Side}
 use Rattle.linx_base.specs.declared.name.Path.TheVariants.{Local}
 use Rattle.trunk_record.specs.Changes.{saying}
-use Rattle.trunk_record.specs.Records.{SideRecord}
 use Rattle.trunk_record.specs.Sayings.{Said, published, was_published}
 use Rattle.trunk_record.specs.Trunks.{IsHalf}
 use Rattle.trunk_record.proofs.Sayings.{same_inc-itself}
 use Rattle.journal.specs.Effects.{founds, opening}
-use Rattle.journal.specs.History.{is_closed, name_in, name_of, name_or_none, opened_by, opened_in}
+use Rattle.journal.specs.History.{name_of, name_or_none, opened_in}
 use Rattle.journal.specs.History.{opening_name, openings}
 use Rattle.journal.specs.Living.{is_alive}
 use Rattle.journal.specs.Pending.{hunting}
@@ -34,10 +33,10 @@ use Rattle.journal.specs.declared.effect.Step.{Step}
 use Rattle.journal.specs.declared.head.Head.TheVariants.{Open}
 use Rattle.journal.proofs.Openings.{next_on, same_inc-true}
 use Rattle.link_laws.specs.Ends.{IsLinkOf, node_at}
-use Rattle.link_laws.specs.Fabric.{Links, SideState, records_of}
+use Rattle.link_laws.specs.Fabric.{Links, records_of}
 use Rattle.link_laws.specs.Laws.{IsLegalStep}
 use Rattle.link_laws.specs.Linked.{HasNone}
-use Rattle.link_laws.specs.Moves.{KeepsNodeLaws, Opens, OpensAt, is_up, is_wanted, opening_side}
+use Rattle.link_laws.specs.Moves.{KeepsNodeLaws, Opens, OpensAt, is_up, is_wanted}
 use Rattle.link_laws.proofs.Alike.{linked-alike}
 use Rattle.link_laws.proofs.Brings.{published-opened}
 use Rattle.link_laws.proofs.Closings.{open-unclosed}

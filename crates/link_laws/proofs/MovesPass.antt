@@ -1,8 +1,7 @@
 -- A packet that meets a verdict, and a tick.
-use Rattle.std.proofs.Common.{◌≡◌, ℕ, suc, ◌+◌, ◌≤◌, Bool, true, false, ◌&&◌, List, [], ◌∷◌, refl, sym}
-use Rattle.std.proofs.Common.{◌∙◌, ap, subst, arith, length}
+use Rattle.std.proofs.Common.{◌≡◌, ℕ, ◌≤◌, Bool, true, false, ◌&&◌, List, [], ◌∷◌, refl, sym}
+use Rattle.std.proofs.Common.{◌∙◌, ap, subst, arith}
 use Rattle.std.specs.Prelude.{◌==◌}
-use Rattle.std.specs.List.{list_any}
 use Rattle.std.proofs.lemmas.Bool.{eq-eqb, eqb-true}
 use Rattle.linx_base.specs.Sides.{other_of}
 use Rattle.linx_base.specs.declared.frame.Verdict.{Verdict}
@@ -14,16 +13,14 @@ use Rattle.journal.specs.Shapes.{Shape}
 use Rattle.journal.specs.declared.by.By.{By}
 use Rattle.journal.specs.declared.effect.Effect.{Effect}
 use Rattle.journal.specs.declared.effect.Step.{Step}
-use Rattle.journal.specs.declared.head.Head.{Head}
 use Rattle.journal.specs.declared.head.Head.TheVariants.{Tick, Wire}
 use Rattle.link_laws.specs.Brought.{nothing}
 use Rattle.link_laws.specs.Ends.{IsLinkOf, node_at}
-use Rattle.link_laws.specs.Fabric.{AreLinksKept, Links, SideState, records_of}
-use Rattle.link_laws.specs.Laws.{IsHandedOver, IsLegalStep, IsPacket, IsTick, delivers, stays}
+use Rattle.link_laws.specs.Fabric.{Links, records_of}
+use Rattle.link_laws.specs.Laws.{IsHandedOver, delivers, stays}
 use Rattle.link_laws.specs.Moves.{AllLeft, Delivers, HandsOver, IsLeft, IsTicked, KeepsNodeLaws}
 use Rattle.link_laws.specs.Moves.{OthersLeft, Passes, TicksAt, TicksOver, brings_down}
 use Rattle.link_laws.specs.Moves.{brings_nothing, brings_up, gives, is_side, loses_it, ticks_on}
-use Rattle.link_laws.specs.Promises.{PromisesOf}
 use Rattle.link_laws.specs.Sessions.{same_side, silent_ticks, ticks}
 use Rattle.link_laws.proofs.Alike.{IsSame, hunted-alike, left-same, linked-alike, one-each}
 use Rattle.link_laws.proofs.Alike.{opened-alike, trunks-alike}

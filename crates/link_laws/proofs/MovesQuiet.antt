@@ -5,7 +5,6 @@ use Rattle.std.proofs.Common.{refl, sym, ◌∙◌, ap, subst}
 use Rattle.std.specs.List.{list_any}
 use Rattle.std.proofs.lemmas.Bool.{true≢false}
 use Rattle.linx_base.specs.declared.identity.Inc.{Inc}
-use Rattle.linx_base.specs.declared.identity.LinkNo.{LinkNo}
 use Rattle.linx_base.specs.declared.identity.Peer.{Peer}
 use Rattle.linx_base.specs.declared.identity.Session.{Session}
 use Rattle.linx_base.specs.declared.identity.Side.{Side}
@@ -26,11 +25,11 @@ use Rattle.journal.specs.declared.by.By.{By}
 use Rattle.journal.specs.declared.effect.Effect.{Effect}
 use Rattle.journal.specs.declared.effect.Step.{Step}
 use Rattle.journal.specs.declared.head.Head.{Head}
-use Rattle.journal.specs.declared.head.Head.TheVariants.{Attach, Close, Cut, Detach, Ended, Hunt}
-use Rattle.journal.specs.declared.head.Head.TheVariants.{Mend, Open, Refused, Restart, Send, Settle}
-use Rattle.journal.specs.declared.head.Head.TheVariants.{Take, TakeNone, Tick, Waits, Wire}
+use Rattle.journal.specs.declared.head.Head.TheVariants.{Attach, Cut, Detach, Hunt}
+use Rattle.journal.specs.declared.head.Head.TheVariants.{Mend, Refused, Restart, Send, Settle}
+use Rattle.journal.specs.declared.head.Head.TheVariants.{Take, TakeNone, Waits, Wire}
 use Rattle.link_laws.specs.Came.{signal_in}
-use Rattle.link_laws.specs.Ends.{IsLinkOf, node_at}
+use Rattle.link_laws.specs.Ends.{node_at}
 use Rattle.link_laws.specs.Fabric.{AreLinksKept, Links}
 use Rattle.link_laws.specs.Laws.{HasEffects}
 use Rattle.link_laws.specs.Moves.{AllLeft, AllResting, FindsNone, IsResting, KeepsNodeLaws}
@@ -39,10 +38,10 @@ use Rattle.link_laws.specs.Promises.{PromisesOf}
 use Rattle.link_laws.specs.Sessions.{restarts}
 use Rattle.link_laws.specs.Still.{AllStill, IsStill, cut as still_cut, whole as still_whole}
 use Rattle.link_laws.specs.Still.{is_hunt_over}
-use Rattle.link_laws.proofs.Done.{AreItems, IsDone, opened-items}
+use Rattle.link_laws.proofs.Done.{AreItems, opened-items}
 use Rattle.link_laws.proofs.Good.{IsGood, IsKnown, TouchesNone, left_kept, legal_with, step_of}
 use Rattle.link_laws.proofs.Hunted.{IsCalm, calm_here}
-use Rattle.link_laws.proofs.Legal.{AsksNothing, asks-nothing}
+use Rattle.link_laws.proofs.Legal.{AsksNothing}
 use Rattle.link_laws.proofs.Sides.{no_signal}
 use Rattle.link_laws.proofs.Stillness.{still_half}
 

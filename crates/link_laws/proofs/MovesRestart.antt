@@ -1,6 +1,6 @@
 -- A restart of a node.
 use Rattle.std.proofs.Common.{◌≡◌, ℕ, suc, ◌+◌, ◌<◌, ◌≤◌, Bool, true, false, cond, ◌||◌, List, [], ◌∷◌}
-use Rattle.std.proofs.Common.{◌++◌, length, refl, sym, ◌∙◌, ap, subst, arith, append-nil}
+use Rattle.std.proofs.Common.{length, refl, sym, ◌∙◌, ap, subst, arith}
 use Rattle.std.specs.Prelude.{◌==◌}
 use Rattle.std.specs.List.{list_any, AllByRecursion}
 use Rattle.std.proofs.lemmas.Bool.{eqb-true, true≢false}
@@ -25,7 +25,7 @@ use Rattle.journal.specs.declared.effect.Step.{Step}
 use Rattle.journal.specs.declared.head.Head.TheVariants.{Restart}
 use Rattle.journal.proofs.Lists.{all-impl}
 use Rattle.link_laws.specs.Ends.{IsLinkOf, node_at}
-use Rattle.link_laws.specs.Fabric.{AllPublishedOpen, AllTrunks, Links, SideState, records_of}
+use Rattle.link_laws.specs.Fabric.{AllPublishedOpen, AllTrunks, Links, records_of}
 use Rattle.link_laws.specs.Laws.{downs_of, restarting}
 use Rattle.link_laws.specs.Moves.{KeepsNodeLaws, Restarts, RestartsAt}
 use Rattle.link_laws.specs.Promises.{ArePublishedOpen, ups}

@@ -1,6 +1,6 @@
 -- A side that says more in a step that touches no side.
 use Rattle.std.proofs.Common.{◌≡◌, ◌≢◌, ℕ, ◌≤◌, Bool, true, false, cond, ◌⊎◌, inl, inr, List, []}
-use Rattle.std.proofs.Common.{◌∷◌, ◌++◌, None, refl, sym, ◌∙◌, ap, subst}
+use Rattle.std.proofs.Common.{◌∷◌, ◌++◌, None, refl, sym, ◌∙◌, subst}
 use Rattle.std.specs.List.{list_any, filter, AllByRecursion}
 use Rattle.linx_base.specs.Sides.{other_of}
 use Rattle.linx_base.specs.declared.identity.Inc.{Inc}
@@ -19,12 +19,12 @@ use Rattle.link_laws.specs.Ends.{HasTwoEnds, IsLinkOf, node_at}
 use Rattle.link_laws.specs.Fabric.{AllHunted, AllLinked, AreLinksKept, Links, records_of, with_side}
 use Rattle.link_laws.specs.Linked.{IsTrueOf}
 use Rattle.link_laws.specs.Moves.{OthersLeft}
-use Rattle.link_laws.specs.Sessions.{silent_ticks, tells_heard}
+use Rattle.link_laws.specs.Sessions.{tells_heard}
 use Rattle.link_laws.proofs.Acts.{keeps_quiet}
 use Rattle.link_laws.proofs.Good.{TouchesNone, opens-nothing}
 use Rattle.link_laws.proofs.HuntsAll.{back_half}
 use Rattle.link_laws.proofs.Keeps.{keeps_saying}
-use Rattle.link_laws.proofs.OneSide.{IsOneKept, one_kept, silence-side}
+use Rattle.link_laws.proofs.OneSide.{one_kept, silence-side}
 use Rattle.link_laws.proofs.Promised.{IsOpenNow}
 use Rattle.link_laws.proofs.Published.{RaisesNone, opened_saying}
 use Rattle.link_laws.proofs.Sides.{one_side}

@@ -1,5 +1,5 @@
 -- Several sides that say more in one step.
-use Rattle.std.proofs.Common.{◌≡◌, ℕ, List, ◌∷◌, sym, subst}
+use Rattle.std.proofs.Common.{◌≡◌, List, ◌∷◌, sym, subst}
 use Rattle.std.specs.List.{AllByRecursion}
 use Rattle.linx_base.specs.Sides.{other_of}
 use Rattle.linx_base.specs.declared.identity.LinkNo.{LinkNo}

@@ -1,6 +1,6 @@
 -- A send: to an endpoint of the own node, to a dead peer, or over a link, where the side says it.
-use Rattle.std.proofs.Common.{◌≡◌, ◌≢◌, ℕ, suc, Bool, true, false, cond, ◌||◌, ◌&&◌, inr, List}
-use Rattle.std.proofs.Common.{[], ◌∷◌, ◌++◌, length, Option, Some, None, map, refl, sym, ◌∙◌, ap, subst}
+use Rattle.std.proofs.Common.{◌≡◌, ◌≢◌, ℕ, Bool, true, false, cond, ◌||◌, ◌&&◌, inr, List}
+use Rattle.std.proofs.Common.{[], ◌∷◌, Option, Some, None, map, refl, sym, ◌∙◌, ap}
 use Rattle.std.proofs.Common.{append-nil}
 use Rattle.std.specs.Prelude.{◌==◌, is_some}
 use Rattle.std.specs.List.{list_any, filter_map, AllByRecursion}
@@ -40,10 +40,10 @@ use Rattle.link_laws.proofs.Away.{touches}
 use Rattle.link_laws.proofs.Brings.{unpublished-closed}
 use Rattle.link_laws.proofs.Closings.{open-unclosed}
 use Rattle.link_laws.proofs.Done.{IsDone}
-use Rattle.link_laws.proofs.Good.{IsGood, IsKnown, TouchesNone, left_kept, legal_with, short}
+use Rattle.link_laws.proofs.Good.{IsGood, IsKnown, left_kept, legal_with, short}
 use Rattle.link_laws.proofs.Good.{opens-nothing, short_after, step_of}
 use Rattle.link_laws.proofs.Hunted.{IsCalm, calm_here}
-use Rattle.link_laws.proofs.HuntsAll.{back_half, none-some}
+use Rattle.link_laws.proofs.HuntsAll.{back_half}
 use Rattle.link_laws.proofs.HuntsOver.{hunted_sending}
 use Rattle.link_laws.proofs.Legal.{asks-nothing}
 use Rattle.link_laws.proofs.Makers.{maker-open}
@@ -112,16 +112,16 @@ module _ (shape : Shape) (P : List Step) (before after : Links) (known : IsKnown
     legal = legal_with shape P (sent q answer) laws
         (asks-nothing shape P (Send q note answer) es refl);
     kept = left_kept shape P (sent q answer) before after (record {
-          es = es;
-          items = [];
-          done = record { effects = sym (append-nil es); items_only = tt };
-          touches_none = touches_none;
-          opens_none = opens_none;
-          closes_none = closes_none;
-          stays = λ n. refl;
-          says_none = λ n h x. ap (λ (m : Option Inc). signal_in n h x m (Send q note answer)) mine
-              ∙ says_none n h x;
-        }) (λ n m l. calm_here P (sent q answer)
+      es = es;
+      items = [];
+      done = record { effects = sym (append-nil es); items_only = tt };
+      touches_none = touches_none;
+      opens_none = opens_none;
+      closes_none = closes_none;
+      stays = λ n. refl;
+      says_none = λ n h x. ap (λ (m : Option Inc). signal_in n h x m (Send q note answer)) mine
+          ∙ says_none n h x;
+    }) (λ n m l. calm_here P (sent q answer)
         (record { begins_none = λ k h w. refl; opens_none = opens_none }) n m l) left known.kept;
     promised = tt;
   }

@@ -1,5 +1,5 @@
 -- A side goes up or down by a packet, or is lost at a tick.
-use Rattle.std.proofs.Common.{◌≡◌, ℕ, ◌+◌, ◌<◌, ◌≤◌, Bool, true, false, ◌||◌, ◌&&◌, List, [], ◌∷◌}
+use Rattle.std.proofs.Common.{◌≡◌, ℕ, ◌<◌, ◌≤◌, true, false, ◌||◌, ◌&&◌, List, [], ◌∷◌}
 use Rattle.std.proofs.Common.{◌++◌, Some, None, refl, sym, ◌∙◌, ap, subst, arith}
 use Rattle.std.specs.Prelude.{◌==◌}
 use Rattle.std.specs.List.{list_any, AllByRecursion}
@@ -30,7 +30,7 @@ use Rattle.journal.specs.declared.head.Head.TheVariants.{Tick, Wire}
 use Rattle.journal.proofs.Lists.{all-impl}
 use Rattle.link_laws.specs.Brought.{brought_at, goes_down, goes_up}
 use Rattle.link_laws.specs.Ends.{IsLinkOf, node_at}
-use Rattle.link_laws.specs.Fabric.{AllLinked, AllPublishedOpen, Links, SideState, records_of}
+use Rattle.link_laws.specs.Fabric.{AllLinked, Links, records_of}
 use Rattle.link_laws.specs.Fabric.{with_side}
 use Rattle.link_laws.specs.Laws.{IsLegalStep, delivers}
 use Rattle.link_laws.specs.Linked.{IsLinked}
@@ -42,7 +42,7 @@ use Rattle.link_laws.proofs.Away.{touches}
 use Rattle.link_laws.proofs.Connecting.{whole_down, whole_up}
 use Rattle.link_laws.proofs.Done.{IsDone, any-done, opened-items}
 use Rattle.link_laws.proofs.Good.{IsGood, IsKnown, step_of}
-use Rattle.link_laws.proofs.Hunted.{IsCalm, hunted_beginning}
+use Rattle.link_laws.proofs.Hunted.{hunted_beginning}
 use Rattle.link_laws.proofs.HuntsAll.{back_half, none-some}
 use Rattle.link_laws.proofs.HuntsOver.{hunted_up}
 use Rattle.link_laws.proofs.Legal.{lost_step}
@@ -50,9 +50,9 @@ use Rattle.link_laws.proofs.MovesGiven.{zero_under}
 use Rattle.link_laws.proofs.OneSide.{one_hunted, one_kept, raises-none, silence-side, tells-items}
 use Rattle.link_laws.proofs.OneSide.{tells-none}
 use Rattle.link_laws.proofs.Promising.{promised_down, promised_up}
-use Rattle.link_laws.proofs.Published.{RaisesNone, opened_beginning, opened_up}
+use Rattle.link_laws.proofs.Published.{opened_beginning, opened_up}
 use Rattle.link_laws.proofs.Quiet.{lost_legal, whole_lost}
-use Rattle.link_laws.proofs.Sides.{IsElsewhere, notices-items, other_twice}
+use Rattle.link_laws.proofs.Sides.{IsElsewhere, notices-items}
 
 -- the next session is above all of a side
 pub next-above : (A : SideRecord) → AllFall (all A)
@@ -237,70 +237,70 @@ module _ (shape : Shape) (P : List Step) (before after : Links) (known : IsKnown
 module _ (shape : Shape) (P : List Step) (before after : Links) (known : IsKnown shape P before)
     (by : By) (l : LinkNo) (side : Side) (of_shape : IsLinkOf shape l)
     (maker : KeepsMakers shape P by (Tick l side)) (others : OthersLeft shape before after l side)
-    where
-  abbrev k : ℕ
-  k = node_at shape l side
+  where
+    abbrev k : ℕ
+    k = node_at shape l side
 
-  abbrev X : SideRecord
-  X = (before l.0 side).side
+    abbrev X : SideRecord
+    X = (before l.0 side).side
 
-  abbrev Y : SideRecord
-  Y = (before l.0 (other_of side)).side
+    abbrev Y : SideRecord
+    Y = (before l.0 (other_of side)).side
 
-  abbrev lost : Step
-  lost = lost_step shape P by l side X.now.session
+    abbrev lost : Step
+    lost = lost_step shape P by l side X.now.session
 
-  abbrev lost_items : List Effect
-  lost_items = notices reasons.Lost (is_of_session l X.now.session) (owed P k)
+    abbrev lost_items : List Effect
+    lost_items = notices reasons.Lost (is_of_session l X.now.session) (owed P k)
 
-  lost_done : IsDone lost (Down (record { 0 = k }) l X.now.session ∷ []) lost_items
-  lost_done = record {
-    effects = refl;
-    items_only = notices-items reasons.Lost (is_of_session l X.now.session) (owed P k);
-  }
+    lost_done : IsDone lost (Down (record { 0 = k }) l X.now.session ∷ []) lost_items
+    lost_done = record {
+      effects = refl;
+      items_only = notices-items reasons.Lost (is_of_session l X.now.session) (owed P k);
+    }
 
-  lost_good : (y : Session) → X.now.peer ≡ Some y → 2 ≤ (before l.0 side).silent
-      → Begins (next_session X.now.session) (before l.0 side) (after l.0 side)
-      → IsGood shape P lost after
-  lost_good y pair silence begins = record {
-    legal = lost_legal shape P (records_of before) by l side known.two of_shape known.kept.linked y
-        maker pair (let under = known.kept.silent l of_shape side in omega arith);
-    kept = one_kept shape P lost before after l side known.two of_shape others known.kept
-        (beginning (next_session X.now.session) X) (record {
-          made = begins.side;
-          near = half_beginning X Y (next_session X.now.session) half above;
-          far = half_of_beginning X Y (next_session X.now.session)
-              (back_half shape (records_of before) known.kept.trunks l of_shape side) above;
-          linked = whole_lost shape P (records_of before) by l side known.two of_shape
-              known.kept.linked y pair above;
-          opened = opened_beginning shape P (records_of before) lost known.kept.opened l side
-              known.two of_shape (next_session X.now.session)
-              (raises-none lost (Down (record { 0 = k }) l X.now.session ∷ []) lost_items lost_done
-              (λ n h x. refl));
-          hunted = one_hunted shape P lost before after l side known.two of_shape others known.kept
-              (hunted_beginning shape P before lost (record {
-                begins_none = λ n h w. refl;
-                opens_none = opened-items lost_items lost_done.items_only;
-              }) known.kept.hunted l side of_shape (after l.0 side) (next_session X.now.session)
-              begins.side);
-          silent = silence-side P lost k l.0 side (before l.0 side).silent (after l.0 side).silent
-              (known.kept.silent l of_shape side) begins.silent
-              (any-done (tells_heard k l.0) (tells-items k l.0) lost
-              (Down (record { 0 = k }) l X.now.session ∷ []) lost_items lost_done);
-          quiet = λ h at apart. tells-none lost (Down (record { 0 = k }) l X.now.session ∷ [])
-              lost_items lost_done (node_at shape h at) h.0 (ap (λ t. t || false) apart);
-        });
-    promised = tt;
-  }
-    where
-      half : IsHalf X Y
-      half = known.kept.trunks l of_shape side
+    lost_good : (y : Session) → X.now.peer ≡ Some y → 2 ≤ (before l.0 side).silent
+        → Begins (next_session X.now.session) (before l.0 side) (after l.0 side)
+        → IsGood shape P lost after
+    lost_good y pair silence begins = record {
+      legal = lost_legal shape P (records_of before) by l side known.two of_shape known.kept.linked y
+          maker pair (let under = known.kept.silent l of_shape side in omega arith);
+      kept = one_kept shape P lost before after l side known.two of_shape others known.kept
+          (beginning (next_session X.now.session) X) (record {
+            made = begins.side;
+            near = half_beginning X Y (next_session X.now.session) half above;
+            far = half_of_beginning X Y (next_session X.now.session)
+                (back_half shape (records_of before) known.kept.trunks l of_shape side) above;
+            linked = whole_lost shape P (records_of before) by l side known.two of_shape
+                known.kept.linked y pair above;
+            opened = opened_beginning shape P (records_of before) lost known.kept.opened l side
+                known.two of_shape (next_session X.now.session)
+                (raises-none lost (Down (record { 0 = k }) l X.now.session ∷ []) lost_items lost_done
+                (λ n h x. refl));
+            hunted = one_hunted shape P lost before after l side known.two of_shape others known.kept
+                (hunted_beginning shape P before lost (record {
+                  begins_none = λ n h w. refl;
+                  opens_none = opened-items lost_items lost_done.items_only;
+                }) known.kept.hunted l side of_shape (after l.0 side) (next_session X.now.session)
+                begins.side);
+            silent = silence-side P lost k l.0 side (before l.0 side).silent (after l.0 side).silent
+                (known.kept.silent l of_shape side) begins.silent
+                (any-done (tells_heard k l.0) (tells-items k l.0) lost
+                (Down (record { 0 = k }) l X.now.session ∷ []) lost_items lost_done);
+            quiet = λ h at apart. tells-none lost (Down (record { 0 = k }) l X.now.session ∷ [])
+                lost_items lost_done (node_at shape h at) h.0 (ap (λ t. t || false) apart);
+          });
+      promised = tt;
+    }
+      where
+        half : IsHalf X Y
+        half = known.kept.trunks l of_shape side
 
-      above : AllByRecursion (IsBelow (next_session X.now.session)) (all X)
-      above = next-above X half.rising
+        above : AllByRecursion (IsBelow (next_session X.now.session)) (all X)
+        above = next-above X half.rising
 
-  pub losing_good : (es : List Effect) → IsLost P k l (before l.0 side) (after l.0 side) es
-      → IsGood shape P (step_of by (Tick l side) es) after
-  losing_good es it =
-      subst (λ (fs : List Effect). IsGood shape P (step_of by (Tick l side) fs) after)
-      (sym it.effects) (lost_good it.y it.pair it.silence it.begins)
+    pub losing_good : (es : List Effect) → IsLost P k l (before l.0 side) (after l.0 side) es
+        → IsGood shape P (step_of by (Tick l side) es) after
+    losing_good es it =
+        subst (λ (fs : List Effect). IsGood shape P (step_of by (Tick l side) fs) after)
+        (sym it.effects) (lost_good it.y it.pair it.silence it.begins)

@@ -19,9 +19,9 @@ use Rattle.journal.specs.declared.effect.Effect.{Effect}
 use Rattle.journal.specs.declared.effect.Effect.TheVariants.{Arrived, Found, Gone, Met, Notified, Up}
 use Rattle.journal.specs.declared.effect.Step.{Step}
 use Rattle.link_laws.specs.Ends.{HasTwoEnds, IsLinkOf, node_at}
-use Rattle.link_laws.specs.Fabric.{AllHunted, AllLinked, AllPublishedOpen, AllTrunks, AreLinksKept}
+use Rattle.link_laws.specs.Fabric.{AllHunted, AllLinked, AllPublishedOpen, AreLinksKept}
 use Rattle.link_laws.specs.Fabric.{Links, Trunks, records_of, with_side, with_state}
-use Rattle.link_laws.specs.Moves.{AllLeft, IsLeft, OthersLeft, is_side}
+use Rattle.link_laws.specs.Moves.{AllLeft, OthersLeft, is_side}
 use Rattle.link_laws.specs.Promises.{ups}
 use Rattle.link_laws.specs.Sessions.{same_side, silent_ticks, tells_heard}
 use Rattle.link_laws.proofs.Alike.{AreAlike, all_left-same, hunted-alike, linked-alike, one-alike}

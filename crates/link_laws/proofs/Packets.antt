@@ -29,7 +29,7 @@ use Rattle.journal.specs.declared.effect.Effect.{Effect}
 use Rattle.journal.specs.declared.effect.Effect.TheVariants.{Met, Gone, Arrived}
 use Rattle.journal.specs.declared.effect.Step.{Step}
 use Rattle.journal.specs.declared.head.Head.TheVariants.{Wire}
-use Rattle.link_laws.specs.Brought.{MayBring, Brought, nothing, arrives, meets, parts, brought_at}
+use Rattle.link_laws.specs.Brought.{MayBring, brought_at}
 use Rattle.link_laws.specs.Ends.{node_at, IsLinkOf, HasTwoEnds}
 use Rattle.link_laws.specs.Fabric.{Trunks, with_side, AllLinked}
 use Rattle.link_laws.specs.Laws.{delivers, IsLegalStep}

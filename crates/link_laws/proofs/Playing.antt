@@ -1,5 +1,5 @@
 -- The words of worked runs over a link, and how one is shown to be legal, step by step.
-use Rattle.std.proofs.Common.{◌≡◌, ℕ, Bool, true, false, List, [], ◌∷◌, refl, sym, ◌∙◌, ◌≤◌, ◌<◌}
+use Rattle.std.proofs.Common.{◌≡◌, ℕ, true, false, List, [], ◌∷◌, refl, sym, ◌∙◌, ◌≤◌, ◌<◌}
 use Rattle.std.proofs.Common.{ap, arith, subst}
 use Rattle.std.proofs.lemmas.Bool.{true≢false}
 use Rattle.linx_base.specs.Numbers.{inc_of, session_of}
@@ -27,7 +27,7 @@ use Rattle.journal.specs.declared.head.Head.TheVariants.{Send, TakeNone, Wire, T
 use Rattle.journal.specs.declared.head.SentTo.TheVariants.{Link}
 use Rattle.link_laws.specs.Brought.{MayBring, Brought, brought_at}
 use Rattle.link_laws.specs.Ends.{node_at}
-use Rattle.link_laws.specs.Laws.{KeepsCuts, KeepsPackets, KeepsRest, KeepsTicks, HasEffects}
+use Rattle.link_laws.specs.Laws.{HasEffects}
 use Rattle.link_laws.specs.Laws.{IsHandedOver, IsLegal, IsLegalStep, IsTick, actors_alone, delivers}
 use Rattle.link_laws.specs.Sessions.{is_cut}
 use Rattle.link_laws.specs.Still.{AllStill, IsStill}

@@ -8,7 +8,7 @@ use Rattle.linx_base.specs.declared.identity.Peer.TheVariants.{There}
 use Rattle.linx_base.specs.declared.identity.Session.{Session}
 use Rattle.linx_base.specs.declared.name.Path.TheVariants.{Over}
 use Rattle.trunk_record.specs.Changes.{giving}
-use Rattle.trunk_record.specs.Records.{SessionRecord, SideRecord, all}
+use Rattle.trunk_record.specs.Records.{SideRecord, all}
 use Rattle.trunk_record.specs.Sayings.{Given, arrived, asked_for, freed, gone, met}
 use Rattle.trunk_record.specs.Trunks.{IsHalf}
 use Rattle.journal.specs.Living.{is_of_session}

@@ -13,7 +13,7 @@ use Rattle.linx_base.specs.declared.identity.Peer.TheVariants.{Here}
 use Rattle.linx_base.specs.declared.identity.Session.{Session}
 use Rattle.linx_base.specs.declared.identity.Side.{Side}
 use Rattle.linx_base.specs.declared.name.Path.TheVariants.{Local}
-use Rattle.trunk_record.specs.Changes.{beginning, saying}
+use Rattle.trunk_record.specs.Changes.{beginning}
 use Rattle.trunk_record.specs.Records.{SideRecord, all, has_session, session_if}
 use Rattle.trunk_record.specs.Sayings.{is_live, published}
 use Rattle.trunk_record.specs.Trunks.{IsBelow}

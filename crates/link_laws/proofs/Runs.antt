@@ -1,11 +1,7 @@
 -- EVERY RUN IS LEGAL, hangs together with the records of its links, and keeps its promises.
-use Rattle.std.proofs.Common.{◌≡◌, ℕ, suc, ◌≤◌, ◌<◌, List, [], ◌∷◌, length, Option, refl, sym, ◌∙◌, ap}
-use Rattle.std.proofs.Common.{subst, arith}
-use Rattle.linx_base.specs.Numbers.{is_on}
+use Rattle.std.proofs.Common.{◌≤◌, List, [], ◌∷◌, length, refl}
+use Rattle.std.proofs.Common.{arith}
 use Rattle.linx_base.specs.Sides.{other_of}
-use Rattle.linx_base.specs.declared.identity.Inc.{Inc}
-use Rattle.linx_base.specs.declared.identity.LinkNo.{LinkNo}
-use Rattle.linx_base.specs.declared.identity.Side.{Side}
 use Rattle.journal.specs.History.{endpoint_by}
 use Rattle.journal.specs.Logs.{step_limit}
 use Rattle.journal.specs.Shapes.{Shape, node_by}
@@ -16,12 +12,12 @@ use Rattle.journal.specs.declared.head.Head.{Head}
 use Rattle.journal.specs.declared.head.Head.TheVariants.{Close, Ended, Hunt, Open, Restart, Send}
 use Rattle.journal.specs.declared.head.Head.TheVariants.{TakeNone, Tick, Wire}
 use Rattle.journal.proofs.Openings.{IsShort}
-use Rattle.link_laws.specs.Ends.{HasTwoEnds, IsLinkOf, node_at}
+use Rattle.link_laws.specs.Ends.{HasTwoEnds, node_at}
 use Rattle.link_laws.specs.Fabric.{AreLinksKept, Links, records_of}
 use Rattle.link_laws.specs.Laws.{IsLegal}
 use Rattle.link_laws.specs.Moves.{IsMove, KeepsNodeLaws, Moves}
 use Rattle.link_laws.specs.Promises.{KeepsLinkPromises}
-use Rattle.link_laws.specs.Runs.{AllUnfound, IsRun, IsSound, IsWholeRun, KeepsPromises, NothingVanishesThere}
+use Rattle.link_laws.specs.Runs.{IsRun, IsWholeRun, NothingVanishesThere}
 use Rattle.link_laws.specs.Runs.{RunsAreLegal, RunsKeepPromises}
 use Rattle.link_laws.proofs.Carried.{all_carried}
 use Rattle.link_laws.proofs.Good.{IsGood, IsKnown, step_of}

@@ -9,7 +9,6 @@ use Rattle.std.proofs.Math.Bool.{or-false}
 use Rattle.std.proofs.lemmas.Bool.{eq-eqb, or_left, true≢false}
 use Rattle.linx_base.specs.Sides.{other_of}
 use Rattle.linx_base.specs.declared.frame.Verdict.{Verdict}
-use Rattle.linx_base.specs.declared.frame.Verdict.TheVariants.{Deliver}
 use Rattle.linx_base.specs.declared.identity.LinkNo.{LinkNo}
 use Rattle.linx_base.specs.declared.identity.Peer.TheVariants.{There}
 use Rattle.linx_base.specs.declared.identity.Session.{Session}
@@ -217,17 +216,17 @@ second_goes_up = record {
     cuts = λ cut. absurd (true≢false (sym cut));
     handed = (
       brings_up (record {
-            y = x11;
-            down = refl;
-            other_has = refl;
-            forward = (tt, tt);
-            effects = refl;
-            names = [];
-            asks_all = λ v is. absurd (true≢false (sym is));
-            side = refl;
-            noted = refl;
-            silent = refl;
-          }),
+        y = x11;
+        down = refl;
+        other_has = refl;
+        forward = (tt, tt);
+        effects = refl;
+        names = [];
+        asks_all = λ v is. absurd (true≢false (sym is));
+        side = refl;
+        noted = refl;
+        silent = refl;
+      }),
       second_only first_state (up_with [] []) first_state,
     );
   };
@@ -249,17 +248,17 @@ first_goes_up = record {
     cuts = λ cut. absurd (true≢false (sym cut));
     handed = (
       brings_up (record {
-            y = x11;
-            down = refl;
-            other_has = refl;
-            forward = (tt, tt);
-            effects = refl;
-            names = codes "b" ∷ [];
-            asks_all = asks_b;
-            side = refl;
-            noted = refl;
-            silent = refl;
-          }),
+        y = x11;
+        down = refl;
+        other_has = refl;
+        forward = (tt, tt);
+        effects = refl;
+        names = codes "b" ∷ [];
+        asks_all = asks_b;
+        side = refl;
+        noted = refl;
+        silent = refl;
+      }),
       first_only first_state asking (up_with [] []),
     );
   };
@@ -274,13 +273,13 @@ question_comes = record {
     cuts = λ cut. absurd (true≢false (sym cut));
     handed = (
       gives (record {
-            g = asked_for (codes "b");
-            told = record { y = x11; pair = refl; back = refl; later = []; said = refl };
-            fits = tt;
-            effects = refl;
-            receives = publishes b refl refl refl (λ w apart is. is);
-            silent = refl;
-          }),
+        g = asked_for (codes "b");
+        told = record { y = x11; pair = refl; back = refl; later = []; said = refl };
+        fits = tt;
+        effects = refl;
+        receives = publishes b refl refl refl (λ w apart is. is);
+        silent = refl;
+      }),
       second_only (up_with [] []) answering asking,
     );
   };
@@ -296,13 +295,13 @@ answer_comes = record {
     cuts = λ cut. absurd (true≢false (sym cut));
     handed = (
       gives (record {
-            g = met b (codes "b");
-            told = record { y = x11; pair = refl; back = refl; later = []; said = refl };
-            fits = tt;
-            effects = refl;
-            receives = record { side = refl; noted = refl };
-            silent = refl;
-          }),
+        g = met b (codes "b");
+        told = record { y = x11; pair = refl; back = refl; later = []; said = refl };
+        fits = tt;
+        effects = refl;
+        receives = record { side = refl; noted = refl };
+        silent = refl;
+      }),
       first_only asking answered answering,
     );
   };
@@ -366,19 +365,19 @@ sender_comes = record {
     cuts = λ cut. absurd (true≢false (sym cut));
     handed = (
       gives (record {
-            g = met a (codes "a");
-            told = record {
-              y = x11;
-              pair = refl;
-              back = refl;
-              later = signaled a b (note 1 []) ∷ [];
-              said = refl;
-            };
-            fits = tt;
-            effects = refl;
-            receives = record { side = refl; noted = refl };
-            silent = refl;
-          }),
+        g = met a (codes "a");
+        told = record {
+          y = x11;
+          pair = refl;
+          back = refl;
+          later = signaled a b (note 1 []) ∷ [];
+          said = refl;
+        };
+        fits = tt;
+        effects = refl;
+        receives = record { side = refl; noted = refl };
+        silent = refl;
+      }),
       second_only answering having_met having_sent,
     );
   };
@@ -393,13 +392,13 @@ signal_comes = record {
     cuts = λ cut. absurd (true≢false (sym cut));
     handed = (
       gives (record {
-            g = arrived a b (note 1 []);
-            told = record { y = x11; pair = refl; back = refl; later = []; said = refl };
-            fits = refl;
-            effects = refl;
-            receives = record { side = refl; noted = refl };
-            silent = refl;
-          }),
+        g = arrived a b (note 1 []);
+        told = record { y = x11; pair = refl; back = refl; later = []; said = refl };
+        fits = refl;
+        effects = refl;
+        receives = record { side = refl; noted = refl };
+        silent = refl;
+      }),
       second_only having_met having_got having_sent,
     );
   };
@@ -448,13 +447,13 @@ parting_comes = record {
     cuts = λ cut. absurd (true≢false (sym cut));
     handed = (
       gives (record {
-            g = gone a;
-            told = record { y = x11; pair = refl; back = refl; later = []; said = refl };
-            fits = tt;
-            effects = refl;
-            receives = record { side = refl; noted = refl };
-            silent = refl;
-          }),
+        g = gone a;
+        told = record { y = x11; pair = refl; back = refl; later = []; said = refl };
+        fits = tt;
+        effects = refl;
+        receives = record { side = refl; noted = refl };
+        silent = refl;
+      }),
       second_only having_got having_parted having_closed,
     );
   };
@@ -521,12 +520,12 @@ other_learns = record {
     cuts = λ cut. absurd (true≢false (sym cut));
     handed = (
       brings_down (record {
-            y = x11;
-            pair = refl;
-            passed = omega arith;
-            effects = refl;
-            begins = record { side = refl; silent = omega arith };
-          }),
+        y = x11;
+        pair = refl;
+        passed = omega arith;
+        effects = refl;
+        begins = record { side = refl; silent = omega arith };
+      }),
       second_only having_got (begun_after x12 having_got) (begun_after x21 having_sent),
     );
   };
@@ -542,17 +541,17 @@ other_goes_up = record {
     cuts = λ cut. absurd (true≢false (sym cut));
     handed = (
       brings_up (record {
-            y = x21;
-            down = refl;
-            other_has = refl;
-            forward = (tt, (omega arith, tt));
-            effects = refl;
-            names = [];
-            asks_all = λ v is. absurd (true≢false (sym is));
-            side = refl;
-            noted = refl;
-            silent = refl;
-          }),
+        y = x21;
+        down = refl;
+        other_has = refl;
+        forward = (tt, (omega arith, tt));
+        effects = refl;
+        names = [];
+        asks_all = λ v is. absurd (true≢false (sym is));
+        side = refl;
+        noted = refl;
+        silent = refl;
+      }),
       second_only (begun_after x12 having_got) again_up (begun_after x21 having_sent),
     );
   };
