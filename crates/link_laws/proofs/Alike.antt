@@ -1,8 +1,6 @@
 -- What is kept of the sides of links speaks of each side by itself: it holds of other functions
 -- that have the same sides, as where all sides but one are left.
-use Rattle.std.proofs.Common.{◌≡◌, ℕ, Bool, true, false, cond, refl, sym, ◌∙◌, ap, subst, List}
-use Rattle.std.specs.Prelude.{◌==◌}
-use Rattle.std.proofs.lemmas.Bool.{eqb-true}
+use Rattle.std.proofs.Common.{◌≡◌, ℕ, Bool, true, false, cond, refl, sym, ◌∙◌, subst, List}
 use Rattle.linx_base.specs.Sides.{other_of}
 use Rattle.linx_base.specs.declared.identity.LinkNo.{LinkNo}
 use Rattle.linx_base.specs.declared.identity.Side.{Side}
@@ -16,9 +14,7 @@ use Rattle.link_laws.specs.Fabric.{SideState, Trunks, records_of, with_side, wit
 use Rattle.link_laws.specs.Linked.{AreHunted, IsLinked}
 use Rattle.link_laws.specs.Moves.{AllLeft, IsLeft, OthersLeft, is_side}
 use Rattle.link_laws.specs.Promises.{ArePublishedOpen}
-use Rattle.link_laws.specs.Sessions.{same_side}
-use Rattle.link_laws.proofs.Opened.{both_true}
-use Rattle.link_laws.proofs.Sides.{same_side-is}
+use Rattle.link_laws.proofs.Sides.{at-side}
 
 -- the records are the same
 abbrev pub AreAlike : Shape → Trunks → Trunks → Type 0
@@ -86,9 +82,7 @@ module _ (shape : Shape) (before after : Links) (l : LinkNo) (at : Side)
   here : {X : Type 0} (f : SideState → X) (h : LinkNo) (side : Side) → is_side l at h side ≡ true
       → f (after h.0 side) ≡ f (after l.0 at)
   here f h side is =
-      let both = both_true (h.0 == l.0) (same_side at side) is in
-      ap (λ (k : ℕ). f (after k side)) (eqb-true h.0 l.0 both.0)
-      ∙ ap (λ (a : Side). f (after l.0 a)) (sym (same_side-is at side both.1))
+      at-side (λ k a. f (after k.0 a) ≡ f (after l.0 at)) l at h side is refl
 
   pub one-alike : (A : SideRecord) → (after l.0 at).side ≡ A
       → AreAlike shape (with_side (records_of before) l.0 at A) (records_of after)
@@ -118,10 +112,4 @@ module _ (shape : Shape) (before after : Links) (l : LinkNo) (at : Side)
     where
       by_side : (t : Bool) → is_side l at h side ≡ t → Holds (before h.0 side) (after h.0 side)
       by_side false is = of_left (before h.0 side) (after h.0 side) (others h of_h side is)
-      by_side true is =
-          let both = both_true (h.0 == l.0) (same_side at side) is in
-          let same : l ≡ h = ap (λ (k : ℕ). let z : LinkNo = record { 0 = k } in z)
-          (sym (eqb-true h.0 l.0 both.0)) in
-          subst (λ (k : LinkNo). Holds (before k.0 side) (after k.0 side)) same
-          (subst (λ (a : Side). Holds (before l.0 a) (after l.0 a))
-          (same_side-is at side both.1) it)
+      by_side true is = at-side (λ k a. Holds (before k.0 a) (after k.0 a)) l at h side is it

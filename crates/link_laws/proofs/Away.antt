@@ -148,8 +148,8 @@ fold-off f p stays z (e ∷ es) none =
     let both = or_parts (p e) (list_any p es) none in
     ap (λ y. fold f y es) (stays z e both.0) ∙ fold-off f p stays z es both.1
 
-pub any-off : (p q : Effect → Bool) → ((e : Effect) → p e ≡ false → q e ≡ false) → (es : List Effect)
-    → list_any p es ≡ false → list_any q es ≡ false
+pub any-off : (p q : Effect → Bool) → ((e : Effect) → p e ≡ false → q e ≡ false)
+    → (es : List Effect) → list_any p es ≡ false → list_any q es ≡ false
 any-off p q narrower [] none = refl
 any-off p q narrower (e ∷ es) none =
     let both = or_parts (p e) (list_any p es) none in

@@ -1,5 +1,5 @@
--- What a move has to show: its step is legal, its links are kept, and it keeps what is promised; and
--- this for a step that touches no side and leaves all of them.
+-- What a move has to show: its step is legal, its links are kept, and it keeps what is promised;
+-- and this for a step that touches no side and leaves all of them.
 use Rattle.std.proofs.Common.{◌≡◌, ℕ, ◌<◌, true, false, List, [], ◌∷◌, length}
 use Rattle.std.proofs.Common.{sym, ◌∙◌, ap, arith}
 use Rattle.std.specs.List.{list_any, filter_map}

@@ -5,7 +5,7 @@ use Rattle.std.proofs.Common.{ap, subst, append_assoc}
 use Rattle.std.specs.Prelude.{◌==◌}
 use Rattle.std.specs.List.{list_any, filter, filter_map}
 use Rattle.std.specs.Str.{bytes_eq}
-use Rattle.std.proofs.lemmas.Bool.{eqb-true, or_cases, true≢false}
+use Rattle.std.proofs.lemmas.Bool.{or_cases, true≢false}
 use Rattle.std.proofs.lemmas.List.Folds.{list_any-append}
 use Rattle.linx_base.specs.Numbers.{is_on}
 use Rattle.linx_base.specs.Peers.{same_inc}
@@ -37,6 +37,7 @@ use Rattle.link_laws.specs.Still.{is_hunt_over}
 use Rattle.link_laws.proofs.Hunts.{IsSameHere, end-parts}
 use Rattle.link_laws.proofs.HuntSteps.{hunts_down_far, hunts_down_near, hunts_more, talks}
 use Rattle.link_laws.proofs.Opened.{any-filter, open-on, opened-any, was_open_or_opened}
+use Rattle.link_laws.proofs.Sides.{same_link}
 
 -- a side's hunts, seen with the other side's state
 abbrev pub IsHuntedAt : Shape → List Step → LinkNo → Side → SideState → SideState → Type 0
@@ -66,11 +67,9 @@ one_link shape Q links l at C near far elsewhere h of_h side = by_link (h.0 == l
         (cond (t && same_side at (other_of side)) C (links h.0 (other_of side)))
     by_link false e = elsewhere h side of_h e
     by_link true e =
-        let same : l ≡ h = ap (λ (k : ℕ). let z : LinkNo = record { 0 = k } in z)
-        (sym (eqb-true h.0 l.0 e)) in
         subst (λ (k : LinkNo). IsHuntedAt shape Q k side
         (cond (same_side at side) C (links k.0 side))
-        (cond (same_side at (other_of side)) C (links k.0 (other_of side)))) same
+        (cond (same_side at (other_of side)) C (links k.0 (other_of side)))) (same_link l h e)
         (sides at side near far)
 
 -- a step begins no hunt of node n over the link

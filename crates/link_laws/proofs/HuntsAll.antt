@@ -140,7 +140,8 @@ module _ (shape : Shape) (P : List Step) (links after : Links) (s : Step)
           (node_at shape l (other_of side)) l A (after l.0 (other_of side)).side
           (after l.0 (other_of side)).noted) (sym begins.side)
           (hunts_down_near Q (node_at shape l side) (node_at shape l (other_of side)) l
-          (links l.0 side).side (after l.0 (other_of side)).side (after l.0 (other_of side)).noted x)
+          (links l.0 side).side (after l.0 (other_of side)).side (after l.0 (other_of side)).noted
+          x)
       by_near false left =
           by_far left (node_at shape l (other_of side) == k) (restarts l of_shape (other_of side))
 

@@ -42,12 +42,12 @@ is_plain (Tick l side) = false
 is_plain _ = true
 
 -- so the laws of rest, packets, cuts and ticks ask nothing of it
-pub record AsksNothing (shape : Shape) (P : List Step) (head : Head) (effects : List Effect) : Type 0
-  where
-    pub rest : KeepsRest shape P head
-    pub packets : KeepsPackets shape P head effects
-    pub cuts : KeepsCuts P head
-    pub ticks : KeepsTicks shape P head effects
+pub record AsksNothing (shape : Shape) (P : List Step) (head : Head) (effects : List Effect)
+    : Type 0 where
+  pub rest : KeepsRest shape P head
+  pub packets : KeepsPackets shape P head effects
+  pub cuts : KeepsCuts P head
+  pub ticks : KeepsTicks shape P head effects
 
 pub asks-nothing : (shape : Shape) (P : List Step) (head : Head) (effects : List Effect)
     → is_plain head ≡ true → AsksNothing shape P head effects

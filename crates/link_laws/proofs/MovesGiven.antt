@@ -1,7 +1,7 @@
 -- A packet that gives a side something: a meeting, an arrival, a freed signal, a parting, or a
 -- question, which is noted or answered.
 use Rattle.std.proofs.Common.{◌≡◌, ℕ, ◌≤◌, Bool, true, false, cond, ◌&&◌, inl, inr, List}
-use Rattle.std.proofs.Common.{[], ◌∷◌, Some, None, map, refl, sym, ◌∙◌, ap, subst, arith}
+use Rattle.std.proofs.Common.{[], ◌∷◌, map, refl, sym, ◌∙◌, ap, subst, arith}
 use Rattle.std.specs.List.{list_any}
 use Rattle.std.specs.Str.{bytes_eq}
 use Rattle.std.proofs.lemmas.Bool.{eq-eqb, false_from_ne_true, or_left, true≢false}
@@ -47,7 +47,7 @@ use Rattle.link_laws.proofs.Fresh.{brought-opens_none}
 use Rattle.link_laws.proofs.Good.{IsGood, IsKnown, opens-nothing, short_after, step_of}
 use Rattle.link_laws.proofs.Good.{unfound_before}
 use Rattle.link_laws.proofs.Hunted.{IsCalm, hunted_giving}
-use Rattle.link_laws.proofs.HuntsAll.{back_half}
+use Rattle.link_laws.proofs.HuntsAll.{back_half, none-some}
 use Rattle.link_laws.proofs.HuntsOver.{hunted_meeting, hunted_noting, hunted_offering}
 use Rattle.link_laws.proofs.MovesSay.{SaysWell, says_half}
 use Rattle.link_laws.proofs.OneSide.{one_hunted, one_kept, raises-none, tells-none}
@@ -67,9 +67,6 @@ whole_link P l verdict cuts hands = false_from_ne_true (is_cut P l.0) (λ cut.
 
 pub zero_under : (now most : ℕ) → now ≡ 0 → now ≤ most
 zero_under now most is = omega arith
-
-none_up : {X : Type 0} {x : X} → Some x ≡ None → ⊥
-none_up same = cc
 
 module _ (shape : Shape) (P : List Step) (before after : Links) (known : IsKnown shape P before)
     (by : By) (l : LinkNo) (from : Side) (verdict : Verdict) (of_shape : IsLinkOf shape l)
@@ -164,7 +161,8 @@ module _ (shape : Shape) (P : List Step) (before after : Links) (known : IsKnown
     good : (A' : SideRecord) → (after l.0 (other_of from)).side ≡ A' → IsHalf A' B → IsHalf B A'
         → AllLinked shape (s ∷ P) (with_side (records_of before) l.0 (other_of from) A')
         → AllPublishedOpen shape (s ∷ P) (with_side (records_of before) l.0 (other_of from) A')
-        → AllHunted shape (s ∷ P) (with_state before l.0 (other_of from) (after l.0 (other_of from)))
+        → AllHunted shape (s ∷ P)
+        (with_state before l.0 (other_of from) (after l.0 (other_of from)))
         → (after l.0 (other_of from)).silent ≡ 0 → IsGood shape P s after
     good A' made near_half far_half linked opened hunted heard = record {
       legal = given_legal;
@@ -181,7 +179,8 @@ module _ (shape : Shape) (P : List Step) (before after : Links) (known : IsKnown
                 (silent_ticks (s ∷ P) n l.0 (other_of from)) heard;
             quiet = heard_elsewhere;
           });
-      promised = promised_giving P n m l A B near far g given.near (known.kept.opened l of_shape from);
+      promised = promised_giving P n m l A B near far g given.near
+          (known.kept.opened l of_shape from);
     }
 
     -- ANYTHING BUT A QUESTION changes the record alone
@@ -304,7 +303,7 @@ module _ (shape : Shape) (P : List Step) (before after : Links) (known : IsKnown
             → SaysWell (giving (asked_for v) A) (cond t [] (published i v ∷ []))
         well true e = inl refl
         well false e = inr (
-          (λ down. none_up (sym told.pair ∙ down)),
+          (λ down. none-some (sym down ∙ told.pair)),
           (
             false_from_ne_true (was_published i A.now.said) (λ was.
                 true≢false (sym (published-live i A.now.said was not_yet) ∙ e)),

@@ -136,8 +136,8 @@ module _ (shape : Shape) (P : List Step) (before after : Links) (known : IsKnown
     gone : (n : ℕ) → filter (λ k. not (ends_hunt es k))
         (hunt_in n (suc (length P)) (endpoint_by P by) (Hunt path note)) ≡ []
     gone n =
-        ap (λ (m : Option Inc). filter (λ k. not (ends_hunt es k)) (hunt_at n (suc (length P)) m path
-        note)) mine ∙ by_node (is_on n j)
+        ap (λ (m : Option Inc). filter (λ k. not (ends_hunt es k))
+        (hunt_at n (suc (length P)) m path note)) mine ∙ by_node (is_on n j)
       where
         by_node : (t : Bool) → filter (λ k. not (ends_hunt es k)) (cond t (h ∷ []) []) ≡ []
         by_node true = ap (λ t. cond (not t) (h ∷ []) []) answered

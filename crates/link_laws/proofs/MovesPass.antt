@@ -1,13 +1,11 @@
 -- A packet that meets a verdict, and a tick.
-use Rattle.std.proofs.Common.{◌≡◌, ℕ, ◌≤◌, Bool, true, false, ◌&&◌, List, [], ◌∷◌, refl, sym}
+use Rattle.std.proofs.Common.{◌≡◌, ◌≤◌, Bool, true, false, ◌&&◌, List, [], ◌∷◌, refl, sym}
 use Rattle.std.proofs.Common.{◌∙◌, ap, subst, arith}
-use Rattle.std.specs.Prelude.{◌==◌}
-use Rattle.std.proofs.lemmas.Bool.{eq-eqb, eqb-true}
+use Rattle.std.proofs.lemmas.Bool.{eq-eqb}
 use Rattle.linx_base.specs.Sides.{other_of}
 use Rattle.linx_base.specs.declared.frame.Verdict.{Verdict}
 use Rattle.linx_base.specs.declared.identity.LinkNo.{LinkNo}
 use Rattle.linx_base.specs.declared.identity.Side.{Side}
-use Rattle.linx_base.specs.declared.identity.Side.TheVariants.{First, Second}
 use Rattle.journal.specs.History.{endpoint_by}
 use Rattle.journal.specs.Shapes.{Shape}
 use Rattle.journal.specs.declared.by.By.{By}
@@ -25,15 +23,15 @@ use Rattle.link_laws.specs.Sessions.{same_side, silent_ticks, ticks}
 use Rattle.link_laws.proofs.Alike.{IsSame, hunted-alike, left-same, linked-alike, one-each}
 use Rattle.link_laws.proofs.Alike.{opened-alike, trunks-alike}
 use Rattle.link_laws.proofs.Done.{IsDone}
-use Rattle.link_laws.proofs.Good.{IsGood, IsKnown, TouchesNone, left_kept, linked_untouched, step_of}
+use Rattle.link_laws.proofs.Good.{IsGood, IsKnown, TouchesNone, left_kept, linked_untouched}
+use Rattle.link_laws.proofs.Good.{step_of}
 use Rattle.link_laws.proofs.Hunted.{IsCalm, calm_here, hunted_calm}
 use Rattle.link_laws.proofs.Legal.{legal_passing, legal_tick}
 use Rattle.link_laws.proofs.MovesGiven.{giving_good, whole_link}
 use Rattle.link_laws.proofs.MovesTurns.{down_good, losing_good, up_good}
 use Rattle.link_laws.proofs.OneSide.{raises-none, silence-side}
-use Rattle.link_laws.proofs.Opened.{both_true}
 use Rattle.link_laws.proofs.Published.{opened_step}
-use Rattle.link_laws.proofs.Sides.{no_signal, same_side-is}
+use Rattle.link_laws.proofs.Sides.{at-side, no_signal, same_side-itself}
 use Rattle.link_laws.proofs.Silence.{silence-tick}
 
 -- a packet or a tick without effects touches nothing
@@ -101,7 +99,8 @@ module _ (shape : Shape) (P : List Step) (before after : Links) (known : IsKnown
           giving_good shape P before after known by l from verdict passes.of_shape
           (whole_link P l verdict passes.cuts hands) hands laws.makers handed.1 es given
 
-  pub passing_good : (es : List Effect) → KeepsNodeLaws shape P (step_of by (Wire l from verdict) es)
+  pub passing_good : (es : List Effect)
+      → KeepsNodeLaws shape P (step_of by (Wire l from verdict) es)
       → Passes shape P before after l from verdict es
       → IsGood shape P (step_of by (Wire l from verdict) es) after
   passing_good es laws passes = by_verdict es laws passes (delivers verdict) refl passes.handed
@@ -132,11 +131,7 @@ module _ (shape : Shape) (P : List Step) (before after : Links) (known : IsKnown
         (record { side = it.side; noted = it.noted })
 
     ticks_it : ticks l.0 side (Tick l side) ≡ true
-    ticks_it = ap (λ t. t && same_side side side) (eq-eqb l.0 l.0 refl) ∙ itself side
-      where
-        itself : (a : Side) → same_side a a ≡ true
-        itself First = refl
-        itself Second = refl
+    ticks_it = ap (λ t. t && same_side side side) (eq-eqb l.0 l.0 refl) ∙ same_side-itself side
 
     here : (after l.0 side).silent ≤ silent_ticks (tick ∷ P) (node_at shape l side) l.0 side
     here =
@@ -151,14 +146,8 @@ module _ (shape : Shape) (P : List Step) (before after : Links) (known : IsKnown
         silence-side P tick (node_at shape h at) h.0 at (before h.0 at).silent (after h.0 at).silent
         (known.kept.silent h of_h at) (others h of_h at e).silent refl
     silent h of_h at true e =
-        let both = both_true (h.0 == l.0) (same_side side at) e in
-        let link : l ≡ h = ap (λ (k : ℕ). let z : LinkNo = record { 0 = k } in z)
-        (sym (eqb-true h.0 l.0 both.0)) in
-        subst (λ (k : LinkNo).
-        (after k.0 at).silent ≤ silent_ticks (tick ∷ P) (node_at shape k at) k.0 at) link
-        (subst (λ (a : Side).
-        (after l.0 a).silent ≤ silent_ticks (tick ∷ P) (node_at shape l a) l.0 a)
-        (same_side-is side at both.1) here)
+        at-side (λ k a. (after k.0 a).silent ≤ silent_ticks (tick ∷ P) (node_at shape k a) k.0 a) l
+        side h at e here
 
     ticked_good : KeepsNodeLaws shape P tick → IsGood shape P tick after
     ticked_good laws = record {

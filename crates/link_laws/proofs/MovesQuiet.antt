@@ -1,5 +1,5 @@
--- Steps that leave all sides: takes, waits, attaches, detaches, cuts, mends, settlings and refusals;
--- and a receive that finds none, where all links rest.
+-- Steps that leave all sides: takes, waits, attaches, detaches, cuts, mends, settlings and
+-- refusals; and a receive that finds none, where all links rest.
 use Rattle.std.proofs.Common.{◌≡◌, ℕ, suc, Bool, true, false, List, [], length, Option, Some, None}
 use Rattle.std.proofs.Common.{refl, sym, ◌∙◌, ap, subst}
 use Rattle.std.specs.List.{list_any}
@@ -165,10 +165,12 @@ resting_still shape P links kept resting l of_shape = by_rest (resting l of_shap
         let B : SideRecord = (links l.0 Second).side in
         still_whole uncut A.now.session B.now.session (record {
           there = still_half P (node_at shape l First) (node_at shape l Second) l A B
-              (links l.0 Second).noted (kept.linked l of_shape First) (kept.linked l of_shape Second)
+              (links l.0 Second).noted (kept.linked l of_shape First)
+              (kept.linked l of_shape Second)
               (kept.trunks l of_shape First).frees_closed.0 quiet (kept.hunted l of_shape First);
           back = still_half P (node_at shape l Second) (node_at shape l First) l B A
-              (links l.0 First).noted (kept.linked l of_shape Second) (kept.linked l of_shape First)
+              (links l.0 First).noted (kept.linked l of_shape Second)
+              (kept.linked l of_shape First)
               (kept.trunks l of_shape Second).frees_closed.0 (quiet_back A B quiet)
               (kept.hunted l of_shape Second);
         })

@@ -15,7 +15,8 @@ use Rattle.trunk_record.specs.Changes.{beginning, going_up, saying}
 use Rattle.trunk_record.specs.Records.{SessionRecord, SideRecord, all, has_session}
 use Rattle.trunk_record.specs.Sayings.{IsProper, Said}
 use Rattle.trunk_record.specs.Trunks.{AllFall, IsBelow, IsHalf}
-use Rattle.trunk_record.proofs.Changes.{half_beginning, half_of_beginning, half_of_saying, half_of_up}
+use Rattle.trunk_record.proofs.Changes.{half_beginning, half_of_beginning, half_of_saying}
+use Rattle.trunk_record.proofs.Changes.{half_of_up}
 use Rattle.trunk_record.proofs.Changes.{half_saying, half_up}
 use Rattle.journal.specs.Effects.{notices}
 use Rattle.journal.specs.Laws.{KeepsMakers}
@@ -263,8 +264,9 @@ module _ (shape : Shape) (P : List Step) (before after : Links) (known : IsKnown
         → Begins (next_session X.now.session) (before l.0 side) (after l.0 side)
         → IsGood shape P lost after
     lost_good y pair silence begins = record {
-      legal = lost_legal shape P (records_of before) by l side known.two of_shape known.kept.linked y
-          maker pair (let under = known.kept.silent l of_shape side in omega arith);
+      legal = lost_legal shape P (records_of before) by l side known.two of_shape
+          known.kept.linked y maker pair
+          (let under = known.kept.silent l of_shape side in omega arith);
       kept = one_kept shape P lost before after l side known.two of_shape others known.kept
           (beginning (next_session X.now.session) X) (record {
             made = begins.side;
@@ -275,10 +277,10 @@ module _ (shape : Shape) (P : List Step) (before after : Links) (known : IsKnown
                 known.kept.linked y pair above;
             opened = opened_beginning shape P (records_of before) lost known.kept.opened l side
                 known.two of_shape (next_session X.now.session)
-                (raises-none lost (Down (record { 0 = k }) l X.now.session ∷ []) lost_items lost_done
-                (λ n h x. refl));
-            hunted = one_hunted shape P lost before after l side known.two of_shape others known.kept
-                (hunted_beginning shape P before lost (record {
+                (raises-none lost (Down (record { 0 = k }) l X.now.session ∷ []) lost_items
+                lost_done (λ n h x. refl));
+            hunted = one_hunted shape P lost before after l side known.two of_shape others
+                known.kept (hunted_beginning shape P before lost (record {
                   begins_none = λ n h w. refl;
                   opens_none = opened-items lost_items lost_done.items_only;
                 }) known.kept.hunted l side of_shape (after l.0 side) (next_session X.now.session)

@@ -4,19 +4,19 @@ use Rattle.std.proofs.Common.{◌≡◌, ℕ, ◌≤◌, Bool, true, false, cond
 use Rattle.std.proofs.Common.{◌∙◌, ap, subst, arith}
 use Rattle.std.specs.Prelude.{◌==◌}
 use Rattle.std.specs.List.{list_any}
-use Rattle.std.proofs.lemmas.Bool.{eq-eqb, eqb-true, true≢false}
+use Rattle.std.proofs.lemmas.Bool.{eq-eqb, true≢false}
 use Rattle.std.proofs.lemmas.Bool.Decides.{nat_tests}
 use Rattle.linx_base.specs.Sides.{other_of}
 use Rattle.linx_base.specs.declared.identity.LinkNo.{LinkNo}
 use Rattle.linx_base.specs.declared.identity.Session.{Session}
 use Rattle.linx_base.specs.declared.identity.Side.{Side}
-use Rattle.linx_base.specs.declared.identity.Side.TheVariants.{First, Second}
 use Rattle.linx_base.specs.declared.identity.Peer.TheVariants.{Here, There}
 use Rattle.trunk_record.specs.Records.{SideRecord}
 use Rattle.trunk_record.specs.Trunks.{IsHalf}
 use Rattle.journal.specs.Shapes.{Shape}
 use Rattle.journal.specs.declared.effect.Effect.{Effect}
-use Rattle.journal.specs.declared.effect.Effect.TheVariants.{Arrived, Found, Gone, Met, Notified, Up}
+use Rattle.journal.specs.declared.effect.Effect.TheVariants.{Arrived, Found, Gone, Met, Notified}
+use Rattle.journal.specs.declared.effect.Effect.TheVariants.{Up}
 use Rattle.journal.specs.declared.effect.Step.{Step}
 use Rattle.link_laws.specs.Ends.{HasTwoEnds, IsLinkOf, node_at}
 use Rattle.link_laws.specs.Fabric.{AllHunted, AllLinked, AllPublishedOpen, AreLinksKept}
@@ -28,10 +28,10 @@ use Rattle.link_laws.proofs.Alike.{AreAlike, all_left-same, hunted-alike, linked
 use Rattle.link_laws.proofs.Alike.{one-same, opened-alike, trunks-alike}
 use Rattle.link_laws.proofs.Away.{any-off, touches}
 use Rattle.link_laws.proofs.Done.{IsDone, any-done, is_item}
-use Rattle.link_laws.proofs.Opened.{both_true}
 use Rattle.link_laws.proofs.Pairs.{one_trunk}
 use Rattle.link_laws.proofs.Published.{RaisesNone}
-use Rattle.link_laws.proofs.Sides.{IsElsewhere, other_side, other_twice, same_side-is}
+use Rattle.link_laws.proofs.Sides.{IsElsewhere, at-side, other_side, other_twice, same_link}
+use Rattle.link_laws.proofs.Sides.{same_side-itself}
 use Rattle.link_laws.proofs.Silence.{silence-other}
 
 -- WHAT TOUCHES NOT a side neither tells it that it heard, nor takes it up
@@ -93,12 +93,10 @@ elsewhere shape l at two of_shape h side other = by_link (h.0 == l.0) refl
         and_false true f = f
         and_false false f = refl
     by_link true e =
-        let same : l ≡ h = ap (λ (k : ℕ). let z : LinkNo = record { 0 = k } in z)
-        (sym (eqb-true h.0 l.0 e)) in
         let apart : same_side at side ≡ false = sym (ap (λ t. t && same_side at side) e) ∙ other in
         let across : other_of at ≡ side = other_side (other_of at) side
         (ap (λ k. same_side k side) (other_twice at) ∙ apart) in
-        subst (λ (k : LinkNo). IsElsewhere shape l at k side) same
+        subst (λ (k : LinkNo). IsElsewhere shape l at k side) (same_link l h e)
         (ap (λ t. t && (l.0 == l.0)) (ap (λ k. node_at shape l at == node_at shape l k) (sym across)
         ∙ two l of_shape at))
 
@@ -113,12 +111,8 @@ pub one_restated : (shape : Shape) (Holds : LinkNo → Side → SideRecord → T
 one_restated shape Holds trunks l at A B of_shape held restated h of_h side =
     by_side (is_side l at h side) refl
   where
-    itself : (a : Side) → same_side a a ≡ true
-    itself First = refl
-    itself Second = refl
-
     is : is_side l at l at ≡ true
-    is = ap (λ t. t && same_side at at) (eq-eqb l.0 l.0 refl) ∙ itself at
+    is = ap (λ t. t && same_side at at) (eq-eqb l.0 l.0 refl) ∙ same_side-itself at
 
     here : Holds l at B
     here = restated (subst (λ (t : Bool). Holds l at (cond t A (trunks l.0 at))) is
@@ -127,12 +121,7 @@ one_restated shape Holds trunks l at A B of_shape held restated h of_h side =
     by_side : (t : Bool) → is_side l at h side ≡ t → Holds h side (cond t B (trunks h.0 side))
     by_side false e = subst (λ (t : Bool). Holds h side (cond t A (trunks h.0 side))) e
         (held h of_h side)
-    by_side true e =
-        let both = both_true (h.0 == l.0) (same_side at side) e in
-        let same : l ≡ h = ap (λ (k : ℕ). let z : LinkNo = record { 0 = k } in z)
-        (sym (eqb-true h.0 l.0 both.0)) in
-        subst (λ (k : LinkNo). Holds k side B) same
-        (subst (λ (a : Side). Holds l a B) (same_side-is at side both.1) here)
+    by_side true e = at-side (λ k a. Holds k a B) l at h side e here
 
 -- SILENCE of a side that was heard no longer ago, in a step that doesn't tell that it heard
 pub silence-side : (P : List Step) (s : Step) (n l : ℕ) (side : Side) (was now : ℕ)
@@ -185,14 +174,8 @@ module _ (shape : Shape) (P : List Step) (s : Step) (before after : Links) (l : 
           (after h.0 side).silent (kept.silent h of_h side) (others h of_h side e).silent
           (it.quiet h side (elsewhere shape l at two of_shape h side e))
       by_side h of_h side true e =
-          let both = both_true (h.0 == l.0) (same_side at side) e in
-          let same : l ≡ h = ap (λ (k : ℕ). let z : LinkNo = record { 0 = k } in z)
-          (sym (eqb-true h.0 l.0 both.0)) in
-          subst (λ (k : LinkNo).
-          (after k.0 side).silent ≤ silent_ticks (s ∷ P) (node_at shape k side) k.0 side) same
-          (subst (λ (a : Side).
-          (after l.0 a).silent ≤ silent_ticks (s ∷ P) (node_at shape l a) l.0 a)
-          (same_side-is at side both.1) it.silent)
+          at-side (λ k a. (after k.0 a).silent ≤ silent_ticks (s ∷ P) (node_at shape k a) k.0 a) l
+          at h side e it.silent
 
 -- ALL OF IT, where all sides are left, in a step that tells no side that it heard
 pub all_kept : (shape : Shape) (P : List Step) (s : Step) (before after : Links)

@@ -1,4 +1,5 @@
--- Runs that the laws of links refuse: after a legal history stands a step that breaks one law alone.
+-- Runs that the laws of links refuse: after a legal history stands a step that breaks one law
+-- alone.
 use Rattle.std.proofs.Common.{◌≡◌, ℕ, Bool, true, false, List, [], ◌∷◌, Some, refl, sym, ap, ◌∙◌}
 use Rattle.std.proofs.Common.{length, subst, arith, ◌≤◌, ◌<◌}
 use Rattle.std.specs.Prelude.{codes, not, ◌==◌}

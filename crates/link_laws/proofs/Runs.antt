@@ -42,7 +42,8 @@ module _ (shape : Shape) (P : List Step) (before after : Links) (known : IsKnown
   by_head (Open name) es laws moves =
       opening_good shape P before after known by name moves es laws
   by_head Close es laws moves =
-      ending_good shape P before after known by Close (close_head shape P) es laws laws.effects moves
+      ending_good shape P before after known by Close (close_head shape P) es laws laws.effects
+      moves
   by_head (Send q note answer) es laws moves =
       sending_good shape P before after known by q note answer es laws moves
   by_head (TakeNone filter) es laws moves =
@@ -56,7 +57,8 @@ module _ (shape : Shape) (P : List Step) (before after : Links) (known : IsKnown
   by_head (Tick l side) es laws moves =
       ticking_good shape P before after known by l side es laws moves
   by_head Ended es laws moves =
-      ending_good shape P before after known by Ended (ended_head shape P) es laws laws.effects moves
+      ending_good shape P before after known by Ended (ended_head shape P) es laws laws.effects
+      moves
   by_head head es laws moves =
       quiet_good shape P before after known by head es refl laws moves
       (asks-nothing shape P head es refl)

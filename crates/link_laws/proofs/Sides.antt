@@ -27,9 +27,11 @@ use Rattle.link_laws.specs.Came.{signal_in}
 use Rattle.link_laws.specs.Ends.{node_at, IsLinkOf, HasTwoEnds}
 use Rattle.link_laws.specs.Fabric.{Trunks, with_side, AllLinked}
 use Rattle.link_laws.specs.Linked.{IsLinked, shown_by, IsAt}
+use Rattle.link_laws.specs.Moves.{is_side}
 use Rattle.link_laws.specs.Sessions.{same_side}
 use Rattle.link_laws.proofs.Away.{touches}
 use Rattle.link_laws.proofs.Done.{AreItems}
+use Rattle.link_laws.proofs.Opened.{both_true}
 
 pub founds-items : (path : Path) (q : Peer) (hunts : List PendingHunt)
     → AreItems (founds path q hunts)
@@ -58,6 +60,23 @@ same_side-is First First is = refl
 same_side-is First Second is = absurd (true≢false (sym is))
 same_side-is Second First is = absurd (true≢false (sym is))
 same_side-is Second Second is = refl
+
+pub same_side-itself : (a : Side) → same_side a a ≡ true
+same_side-itself First = refl
+same_side-itself Second = refl
+
+-- the link of this number
+pub same_link : (l h : LinkNo) → (h.0 == l.0) ≡ true → l ≡ h
+same_link l h is = ap (λ (k : ℕ). let z : LinkNo = record { 0 = k } in z)
+    (sym (eqb-true h.0 l.0 is))
+
+-- what holds of a side holds of it under another name
+pub at-side : (Holds : LinkNo → Side → Type 0) (l : LinkNo) (at : Side) (h : LinkNo) (side : Side)
+    → is_side l at h side ≡ true → Holds l at → Holds h side
+at-side Holds l at h side is it =
+    let both = both_true (h.0 == l.0) (same_side at side) is in
+    subst (λ (k : LinkNo). Holds k side) (same_link l h both.0)
+    (subst (λ (a : Side). Holds l a) (same_side-is at side both.1) it)
 
 pub other_side : (a b : Side) → same_side (other_of a) b ≡ false → a ≡ b
 other_side First First is = refl
@@ -96,10 +115,8 @@ one_side_of shape Holds trunks l at A two of_shape here elsewhere h of_h side =
     by_link : (t : Bool) → (h.0 == l.0) ≡ t
         → Holds h side (cond (t && same_side at side) A (trunks h.0 side))
     by_link true e =
-        let same : l ≡ h = ap (λ (k : ℕ). let z : LinkNo = record { 0 = k } in
-        z) (sym (eqb-true h.0 l.0 e)) in
         subst (λ (k : LinkNo). Holds k side
-        (cond (true && same_side at side) A (trunks k.0 side))) same
+        (cond (true && same_side at side) A (trunks k.0 side))) (same_link l h e)
         (by_side (same_side at side) refl)
     by_link false e = elsewhere h side of_h (no_link (node_at shape l at == node_at shape h side)
         (l.0 == h.0) (turned e))

@@ -38,7 +38,7 @@ use Rattle.journal.specs.declared.head.Head.{Head}
 use Rattle.journal.specs.declared.head.Head.TheVariants.{Hunt}
 use Rattle.journal.proofs.Lists.{all-append, all-filter, all-impl, list_any-filter}
 use Rattle.journal.proofs.Lists.{list_any-wider}
-use Rattle.journal.proofs.Openings.{IsShort, last_in, last_opened-opens, next_on}
+use Rattle.journal.proofs.Openings.{IsShort, is_by-actor, last_in, last_opened-opens, next_on}
 use Rattle.journal.proofs.Openings.{unless_closed-some}
 use Rattle.link_laws.specs.Laws.{HasEffects, IsLegal, IsLegalStep}
 use Rattle.link_laws.specs.Linked.{IsTrueOf, IsUnfound, is_hunted}
@@ -54,10 +54,6 @@ use Rattle.link_laws.proofs.Opened.{OpensNew, both_true, opened-any, still-true}
 use Rattle.link_laws.proofs.Sides.{founds-items}
 
 -- THE ENDPOINT OF AN ACTOR is on the actor's node
-by-is : (by : By) (k : ℕ) → is_by by k ≡ true → by ≡ Actor k
-by-is (Actor m) k is = ap (λ (a : ℕ). Actor a) (eqb-true m k is)
-by-is (Pump l) k is = absurd (true≢false (sym is))
-
 endpoint-home : (shape : Shape) (P : List Step) → IsLegal shape P → IsShort P → (k : ℕ) (j : Inc)
     → endpoint_of P k ≡ Some j → is_on (node_by shape (Actor k)) j ≡ true
 endpoint-home shape [] legal short k j is = absurd cc
@@ -93,7 +89,7 @@ endpoint-home shape (s ∷ P) legal short k j is =
         → is_on (node_by shape (Actor k)) j ≡ true
     by_maker false other home had = home had
     by_maker true mine home last =
-        opened (is_opening s.head) (by-is s.by k mine) home
+        opened (is_opening s.head) (is_by-actor s.by k mine) home
         (ap (last_in (endpoint_of P k)) (sym (step-opens shape P s legal.1))
         ∙ sym (last_opened-opens (endpoint_of P k) s.effects) ∙ last)
 

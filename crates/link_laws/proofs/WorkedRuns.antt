@@ -474,8 +474,8 @@ run_is_legal = (runs_are_legal two_ends one_gone (pair having_closed having_part
 one_arrives : arrived_from one_gone b (There l x11 a) ≡ note 1 [] ∷ []
 one_arrives = refl
 
--- A RESTART of the sender's node: its side begins the first session of the next boot, the other side
--- learns it from the greater session, and goes up anew
+-- A RESTART of the sender's node: its side begins the first session of the next boot, the other
+-- side learns it from the greater session, and goes up anew
 abbrev one_restarted : List Step
 one_restarted = made 1 (Restart (record { 0 = 1 })) (down 1 x11 ∷ Closed a ∷ []) ∷ one_arrived
 

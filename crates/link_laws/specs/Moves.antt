@@ -19,8 +19,10 @@ use Rattle.linx_base.specs.declared.name.Path.{Path}
 use Rattle.linx_base.specs.declared.name.Path.TheVariants.{Over}
 use Rattle.linx_base.specs.declared.signal.SigNote.{SigNote}
 use Rattle.trunk_record.specs.Changes.{beginning, giving, going_up, saying, sending}
-use Rattle.trunk_record.specs.Records.{SessionRecord, SideRecord, all, has_session, peer_in, said_in}
-use Rattle.trunk_record.specs.Sayings.{Given, Said, arrived, asked, asked_for, freed, gone, heard_as}
+use Rattle.trunk_record.specs.Records.{SessionRecord, SideRecord, all, has_session, peer_in}
+use Rattle.trunk_record.specs.Records.{said_in}
+use Rattle.trunk_record.specs.Sayings.{Given, Said, arrived, asked, asked_for, freed, gone}
+use Rattle.trunk_record.specs.Sayings.{heard_as}
 use Rattle.trunk_record.specs.Sayings.{is_live, met, published, unpublished}
 use Rattle.trunk_record.specs.Trunks.{FitsReceiver, IsQuiet}
 use Rattle.journal.specs.Effects.{losing}
@@ -36,7 +38,8 @@ use Rattle.journal.specs.declared.head.Head.TheVariants.{Close, Ended, Hunt, Ope
 use Rattle.journal.specs.declared.head.Head.TheVariants.{TakeNone, Tick, Wire}
 use Rattle.journal.specs.declared.head.SentTo.{SentTo}
 use Rattle.journal.specs.declared.head.SentTo.TheVariants.{Link}
-use Rattle.link_laws.specs.Brought.{Brought, arrives, brought_at, goes_down, goes_up, meets, nothing}
+use Rattle.link_laws.specs.Brought.{Brought, arrives, brought_at, goes_down, goes_up, meets}
+use Rattle.link_laws.specs.Brought.{nothing}
 use Rattle.link_laws.specs.Brought.{parts}
 use Rattle.link_laws.specs.Ends.{IsLinkOf, node_at}
 use Rattle.link_laws.specs.Fabric.{Links, SideState}
@@ -90,38 +93,43 @@ NotesName name before after = (w : List ℕ)
 abbrev pub is_up : SideRecord → Bool
 is_up A = is_some A.now.peer
 
--- AN OPENING. Where the side is up and has noted the name, the endpoint is published
+-- AN OPENING. The endpoint is published where its name is wanted
 abbrev pub opening_side : Bool → Inc → List ℕ → SideRecord → SideRecord
 opening_side wanted i name A = saying (if wanted then published i name ∷ [] else []) A
 
+-- that is where the side is up and has noted the name
 abbrev pub is_wanted : List ℕ → SideState → Bool
 is_wanted name C = is_up C.side && list_any (bytes_eq name) C.noted
 
--- that is what a side of the node makes of it
+-- what an opening makes of a side of its node
 pub record PublishesOpened (i : Inc) (name : List ℕ) (before after : SideState) : Type 0 where
   pub side : after.side ≡ opening_side (is_wanted name before) i name before.side
   pub noted : KeepsNotes name before after
   pub silent : after.silent ≤ before.silent
 
--- a side of another node is left
+-- and of a side that is one of it or not
 abbrev pub OpensAt : Bool → Inc → List ℕ → SideState → SideState → Type 0
 OpensAt true i name before after = PublishesOpened i name before after
 OpensAt false i name before after = IsLeft before after
 
+-- and of all sides, where it is on node n
 abbrev pub Opens : Shape → Links → Links → ℕ → Inc → List ℕ → Type 0
 Opens shape before after n i name = (l : LinkNo) → IsLinkOf shape l → (side : Side)
     → OpensAt (node_at shape l side == n) i name (before l.0 side) (after l.0 side)
 
--- A CLOSE. On each side of the node where the endpoint is live, it is unpublished
+-- A CLOSE on node n. Where it is a side of that node, here of node k, and the endpoint is live there,
+-- it is unpublished
 abbrev pub closing_side : ℕ → ℕ → Inc → SideRecord → SideRecord
 closing_side n k j A =
     if k == n && is_live j A.now.said then saying (unpublished j ∷ []) A else A
 
+-- what a close makes of a side
 pub record ClosesAt (n k : ℕ) (j : Inc) (before after : SideState) : Type 0 where
   pub side : after.side ≡ closing_side n k j before.side
   pub noted : after.noted ≡ before.noted
   pub silent : after.silent ≤ before.silent
 
+-- and of all sides
 abbrev pub Closes : Shape → Links → Links → ℕ → Inc → Type 0
 Closes shape before after n j = (l : LinkNo) → IsLinkOf shape l → (side : Side)
     → ClosesAt n (node_at shape l side) j (before l.0 side) (after l.0 side)
@@ -168,22 +176,24 @@ abbrev pub Hunts : Shape → Links → Links → ℕ → Path → Option Peer �
 Hunts shape before after n (Over l v) None = AsksOver shape before after n l v
 Hunts shape before after n path found = AllLeft shape before after
 
--- A RESTART. Each side of the node begins the first session of the next boot
+-- A SIDE BEGINS a session
 pub record Begins (x : Session) (before after : SideState) : Type 0 where
   pub side : after.side ≡ beginning x before.side
   pub silent : after.silent ≤ before.silent
 
+-- where it is one of the node that restarts; else it is left
 abbrev pub RestartsAt : Bool → Session → SideState → SideState → Type 0
 RestartsAt true x before after = Begins x before after
 RestartsAt false x before after = IsLeft before after
 
+-- A RESTART. Each side of the node begins the first session of the next boot
 abbrev pub Restarts : Shape → List Step → Links → Links → ℕ → Type 0
 Restarts shape P before after n = (l : LinkNo) → IsLinkOf shape l → (side : Side)
     → RestartsAt (node_at shape l side == n) (first_session (2 + boots P n)) (before l.0 side)
     (after l.0 side)
 
--- WHAT IS GIVEN FOR THE NEXT WORD that the other side said: the pair of the session, which has it as
--- pair, and what was said until then
+-- WHAT IS GIVEN FOR THE NEXT WORD that the other side said: the pair of the session, which has it
+-- as pair, and what was said until then
 pub record IsTold (A B : SideRecord) (g : Given) : Type 0 where
   pub y : Session
   pub pair : A.now.peer ≡ Some y
@@ -214,6 +224,7 @@ pub record IsRecorded (g : Given) (before after : SideState) : Type 0 where
   pub side : after.side ≡ giving g before.side
   pub noted : after.noted ≡ before.noted
 
+-- what a side makes of what it is given
 abbrev pub Receives : List Step → ℕ → Given → SideState → SideState → Type 0
 Receives P n (asked_for v) before after = IsAnswered P n v before after
 Receives P n g before after = IsRecorded g before after
@@ -293,13 +304,14 @@ pub record IsLost (P : List Step) (n : ℕ) (l : LinkNo) (before after : SideSta
   pub effects : es ≡ losing (record { 0 = n }) l before.side.now.session (owed P n)
   pub begins : Begins (next_session before.side.now.session) before after
 
--- it stays at any other, and was heard one tick longer ago
+-- at any other it stays, and was heard one tick longer ago
 pub record IsTicked (before after : SideState) (es : List Effect) : Type 0 where
   pub effects : es ≡ []
   pub side : after.side ≡ before.side
   pub noted : after.noted ≡ before.noted
   pub silent : after.silent ≤ suc before.silent
 
+-- one of both
 pub data TicksAt (P : List Step) (n : ℕ) (l : LinkNo) (before after : SideState)
     (es : List Effect) : Type 0 where
   ticks_on : IsTicked before after es → TicksAt P n l before after es
@@ -328,7 +340,8 @@ pub record FindsNone (shape : Shape) (P : List Step) (before after : Links) : Ty
   pub resting : AllResting shape P before
   pub left : AllLeft shape before after
 
--- WHAT A STEP MAKES OF THE SIDES, by the node and the endpoint of its maker, its head and its effects
+-- WHAT A STEP MAKES OF THE SIDES, by the node and the endpoint of its maker, its head and its
+-- effects
 abbrev pub Moves : Shape → List Step → Links → Links → ℕ → Option Inc → Head → List Effect → Type 0
 Moves shape P before after n me (Open name) es =
     Opens shape before after n (next_inc n (opened_on P n)) name

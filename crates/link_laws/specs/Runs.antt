@@ -26,6 +26,7 @@ use Rattle.link_laws.specs.Still.{AllStill}
 abbrev pub first_side : SideRecord
 first_side = new_side (first_session 1)
 
+-- with no name noted, and heard just now
 abbrev pub first_state : SideState
 first_state = record { side = first_side; noted = []; silent = 0 }
 
@@ -46,11 +47,12 @@ pub record IsWholeRun (shape : Shape) (P : List Step) (links : Links) : Type 0 w
   pub fits : length P ≤ step_limit
   pub run : IsRun shape P links
 
--- EVERY RUN IS LEGAL, by the laws of nodes and links, and its links are what its history tells
+-- a run is legal, by the laws of nodes and links, and its links are what its history tells
 pub record IsSound (shape : Shape) (P : List Step) (links : Links) : Type 0 where
   pub legal : IsLegal shape P
   pub linked : AreLinksKept shape P links
 
+-- EVERY RUN IS
 abbrev pub RunsAreLegal : Type 0
 RunsAreLegal = (shape : Shape) (P : List Step) (links : Links) → IsWholeRun shape P links
     → IsSound shape P links
@@ -62,6 +64,7 @@ NothingVanishes P n m l A B = IsQuiet A B → (a b : Inc) → is_on m a ≡ true
     → is_alive P n (Here b) ≡ true
     → arrived_from P b (There l A.now.session a) ≡ sent_to P a (There l B.now.session b)
 
+-- over each link, both ways
 abbrev pub NothingVanishesThere : Shape → List Step → Links → Type 0
 NothingVanishesThere shape P links = (l : LinkNo) → IsLinkOf shape l → (side : Side)
     → NothingVanishes P (node_at shape l side) (node_at shape l (other_of side)) l
@@ -71,7 +74,7 @@ NothingVanishesThere shape P links = (l : LinkNo) → IsLinkOf shape l → (side
 abbrev pub AllUnfound : List Step → Type 0
 AllUnfound P = (n : ℕ) (l : LinkNo) (v : List ℕ) → is_hunted P n l v ≡ true → IsUnfound P n l v
 
--- EVERY RUN KEEPS ITS PROMISES
+-- what is promised of a run
 pub record KeepsPromises (shape : Shape) (P : List Step) (links : Links) : Type 0 where
   -- arrivals are fronts of what was sent, complete once the close was told, and then over
   pub carried : AllCarried shape P
@@ -82,6 +85,7 @@ pub record KeepsPromises (shape : Shape) (P : List Step) (links : Links) : Type 
   -- links that rest are still
   pub still : AllResting shape P links → AllStill shape P
 
+-- EVERY RUN KEEPS IT
 abbrev pub RunsKeepPromises : Type 0
 RunsKeepPromises = (shape : Shape) (P : List Step) (links : Links) → IsWholeRun shape P links
     → KeepsPromises shape P links
