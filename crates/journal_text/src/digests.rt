@@ -1,6 +1,7 @@
-//! The digests of a journal's signals, each made once, before any of it is printed. One is kept
-//! with the bytes that it is of, under the step and the place where they stand, and is used only
-//! where these bytes are printed: so what is printed depends on nothing that is kept.
+//! The digests of a journal's signals, each made once, before any of it is printed, and equal bytes
+//! share one where they can be told at a glance. One is kept with the bytes that it is of, under the
+//! step and the place where they stand, and is used only where these bytes are printed: so what is
+//! printed depends on nothing that is kept.
 ghost use Rattle.std.specs.Prelude.{◌≡◌, ◌↔◌, IsTrue, IfOk};
 ghost use Rattle.sha2.specs.Sha256.{sha256};
 
@@ -112,6 +113,46 @@ fn signal_in(head: &Head) -> Option<&SigNote> {
     }
 }
 
+/// The signal that an effect brings.
+fn signal_brought(effect: &Effect) -> Option<&SigNote> {
+    match effect {
+        Effect::Arrived(_, _, note)
+        | Effect::Found(_, _, note, _)
+        | Effect::Notified(_, _, note, _, _) => Some(note),
+        _ => None,
+    }
+}
+
+/// What bytes are at a glance: how many, the first eight and the last eight. Equal bytes have one
+/// glance, and most unequal ones have two.
+#[derive(Clone, Copy, PartialEq, Eq, Hash)]
+struct Glance {
+    length: usize,
+    first: u64,
+    last: u64,
+}
+
+/// Eight bytes as one number; 0 where there are fewer.
+fn eight_bytes(found: Option<&[u8; 8]>) -> u64 {
+    match found {
+        Some(eight) => u64::from_be_bytes(*eight),
+        None => 0,
+    }
+}
+
+impl Glance {
+    fn at(bytes: &[u8]) -> Glance {
+        Glance {
+            length: bytes.len(),
+            first: eight_bytes(bytes.first_chunk()),
+            last: eight_bytes(bytes.last_chunk()),
+        }
+    }
+}
+
+/// While digests are made: the latest bytes of each glance, with their digest.
+type Latest = HashMap<Glance, Digested>;
+
 /// The digests that are kept, by step and place.
 #[derive(Drop)]
 pub(crate) struct Digests {
@@ -128,8 +169,9 @@ impl Digests {
     /// Those of all signals in a journal.
     pub(crate) fn of(alloc: Global, journal: &Journal) -> Result<Digests, NoMemory> {
         let mut digests = Digests::none(alloc);
+        let mut latest = Latest::new(alloc);
         for done in 0..journal.len() {
-            digests.add_step(done + 1, step_after(journal, done))?;
+            digests.add_step(&mut latest, done + 1, step_after(journal, done))?;
         }
         Ok(digests)
     }
@@ -149,38 +191,27 @@ impl Digests {
         self.kept.get(&at)
     }
 
-    fn add_step(&mut self, step: u64, made: &Step) -> Result<(), NoMemory> {
+    fn add_step(&mut self, latest: &mut Latest, step: u64, made: &Step) -> Result<(), NoMemory> {
         if let Some(note) = signal_in(&made.head) {
-            self.add(head_at(step), note, None)?;
+            self.add(latest, head_at(step), note)?;
         }
         for (index, effect) in made.effects.as_slice().iter().enumerate() {
-            self.add_effect(effect_at(step, index), effect)?;
+            if let Some(note) = signal_brought(effect) {
+                self.add(latest, effect_at(step, index), note)?;
+            }
         }
         Ok(())
     }
 
-    /// What arrived was sent in the head of the same step, and what is found was handed over in
-    /// the head of the hunt.
-    fn add_effect(&mut self, at: ItemAt, effect: &Effect) -> Result<(), NoMemory> {
-        match effect {
-            Effect::Arrived(_, _, note) => self.add(at, note, Some(at.step)),
-            Effect::Found(_, _, note, hunt) => self.add(at, note, Some(*hunt)),
-            Effect::Notified(_, _, note, _, _) => self.add(at, note, None),
-            _ => Ok(()),
-        }
-    }
-
-    /// Keeps the digest of a signal, if it is printed with one; `from` is the step whose head is
-    /// likely to have the same bytes.
-    fn add(&mut self, at: ItemAt, note: &SigNote, from: Option<u64>) -> Result<(), NoMemory> {
+    /// Keeps the digest of a signal, if it is printed with one. It is made unless the latest bytes
+    /// of the same glance are the same.
+    fn add(&mut self, latest: &mut Latest, at: ItemAt, note: &SigNote) -> Result<(), NoMemory> {
         if note.bytes.len() <= SPELLED_MOST {
             return Ok(());
         }
-        let known = match from {
-            Some(step) => self.of_head(step),
-            None => None,
-        };
-        let digested = digested_with(known, &note.bytes)?;
+        let glance = Glance::at(note.bytes.bytes());
+        let digested = digested_with(latest.get(&glance), &note.bytes)?;
+        latest.insert(glance, digested.copy()?)?;
         self.kept.insert(at, digested)?;
         Ok(())
     }
