@@ -55,3 +55,4 @@ pub mod MovesOpen
 pub mod MovesRestart
 pub mod Runs
 pub mod WorkedRuns
+pub mod Fitting

@@ -9,3 +9,4 @@ pub mod Promises
 pub mod Fabric
 pub mod Moves
 pub mod Runs
+pub mod Fits

@@ -1,6 +1,7 @@
 //! What follows from the definitions of a run with links alone. These functions do nothing; their
 //! contracts are the laws.
 
+ghost use Rattle.link_laws.specs.Fits.{RunsFit};
 ghost use Rattle.link_laws.specs.Runs.{RunsAreLegal, RunsKeepPromises};
 
 /// Every run is legal: where each step is a move, which says what its node does and what its kind
@@ -16,4 +17,12 @@ pub fn runs_are_legal()
 /// nothing vanishes; and links that rest are still.
 pub fn runs_keep_promises()
     ensures { RunsKeepPromises }
+{}
+
+/// And in every run what a trunk may give next fits its node, and what a node asks of its side fits
+/// that: whom a node meets is no living peer as yet, a signal arrives at an open endpoint from a
+/// living peer, who goes was alive; a living peer can be sent to, and an open endpoint was not
+/// unpublished.
+pub fn runs_fit()
+    ensures { RunsFit }
 {}

@@ -1,0 +1,5 @@
+use Rattle.link_laws.proofs.Fitting.{runs_fit}
+use Rattle.link_laws.proofs.laws.runs_fit.Goals as goal
+
+pub returns : goal.returns
+returns c = runs_fit
