@@ -56,3 +56,4 @@ pub mod MovesRestart
 pub mod Runs
 pub mod WorkedRuns
 pub mod Fitting
+pub mod LivingPeers

@@ -16,7 +16,7 @@ use Rattle.linx_base.specs.declared.identity.Side.{Side}
 use Rattle.trunk_record.specs.Changes.{giving, saying}
 use Rattle.trunk_record.specs.Records.{SideRecord, given_in, session_if}
 use Rattle.trunk_record.specs.Sayings.{Given, Said, arrived, asked_for, freed, gone, heard_as}
-use Rattle.trunk_record.specs.Sayings.{is_live, met, published, was_published, was_unpublished}
+use Rattle.trunk_record.specs.Sayings.{is_live, met, published, was_published}
 use Rattle.trunk_record.specs.Trunks.{FitsReceiver, IsHalf}
 use Rattle.trunk_record.proofs.Changes.{half_giving, half_of_giving, half_of_saying}
 use Rattle.trunk_record.proofs.Lookups.{given-now}
@@ -40,7 +40,7 @@ use Rattle.link_laws.specs.Moves.{OthersLeft, Receives, brought_of, notes, publi
 use Rattle.link_laws.specs.Promises.{ups}
 use Rattle.link_laws.specs.Sessions.{is_cut, silent_ticks, tells_heard}
 use Rattle.link_laws.proofs.Answers.{offers_linked, offers_opened}
-use Rattle.link_laws.proofs.Brings.{legal_meeting, unpublished-closed}
+use Rattle.link_laws.proofs.Brings.{legal_meeting}
 use Rattle.link_laws.proofs.Closings.{open-unclosed}
 use Rattle.link_laws.proofs.Done.{IsDone}
 use Rattle.link_laws.proofs.Fresh.{brought-opens_none}
@@ -49,6 +49,7 @@ use Rattle.link_laws.proofs.Good.{unfound_before}
 use Rattle.link_laws.proofs.Hunted.{IsCalm, hunted_giving}
 use Rattle.link_laws.proofs.HuntsAll.{back_half, none-some}
 use Rattle.link_laws.proofs.HuntsOver.{hunted_meeting, hunted_noting, hunted_offering}
+use Rattle.link_laws.proofs.LivingPeers.{open-not_unpublished}
 use Rattle.link_laws.proofs.MovesSay.{SaysWell, says_half}
 use Rattle.link_laws.proofs.OneSide.{one_hunted, one_kept, raises-none, tells-none}
 use Rattle.link_laws.proofs.Opened.{open-more, opened-any}
@@ -295,10 +296,6 @@ module _ (shape : Shape) (P : List Step) (before after : Links) (known : IsKnown
         named_after : name_of (step_of by (Wire l from verdict) [] ∷ P) i ≡ v
         named_after = named
 
-        not_yet : was_unpublished i A.now.said ≡ false
-        not_yet = false_from_ne_true (was_unpublished i A.now.said) (λ was.
-            true≢false (sym open_ ∙ (unpublished-closed P n i A.now.said near.truly.0 was).dead))
-
         well : (t : Bool) → is_live i A.now.said ≡ t
             → SaysWell (giving (asked_for v) A) (cond t [] (published i v ∷ []))
         well true e = inl refl
@@ -306,7 +303,8 @@ module _ (shape : Shape) (P : List Step) (before after : Links) (known : IsKnown
           (λ down. none-some (sym down ∙ told.pair)),
           (
             false_from_ne_true (was_published i A.now.said) (λ was.
-                true≢false (sym (published-live i A.now.said was not_yet) ∙ e)),
+                true≢false (sym (published-live i A.now.said was
+                (open-not_unpublished P n l A near i open_)) ∙ e)),
             half.proper.0,
           ),
         )

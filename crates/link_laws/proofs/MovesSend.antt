@@ -1,10 +1,10 @@
 -- A send: to an endpoint of the own node, to a dead peer, or over a link, where the side says it.
-use Rattle.std.proofs.Common.{◌≡◌, ◌≢◌, ℕ, Bool, true, false, cond, ◌||◌, ◌&&◌, inr, List}
-use Rattle.std.proofs.Common.{[], ◌∷◌, Option, Some, None, map, refl, sym, ◌∙◌, ap}
+use Rattle.std.proofs.Common.{◌≡◌, ℕ, Bool, true, false, cond, ◌||◌, ◌&&◌, inr, List}
+use Rattle.std.proofs.Common.{[], ◌∷◌, Option, Some, None, refl, sym, ◌∙◌, ap}
 use Rattle.std.proofs.Common.{append-nil}
 use Rattle.std.specs.Prelude.{◌==◌, is_some}
 use Rattle.std.specs.List.{list_any, filter_map, AllByRecursion}
-use Rattle.std.proofs.lemmas.Bool.{eqb-true, false_from_ne_true, true≢false}
+use Rattle.std.proofs.lemmas.Bool.{eqb-true, true≢false}
 use Rattle.linx_base.specs.Numbers.{is_on, node_of}
 use Rattle.linx_base.specs.declared.identity.Inc.{Inc}
 use Rattle.linx_base.specs.declared.identity.LinkNo.{LinkNo}
@@ -13,9 +13,8 @@ use Rattle.linx_base.specs.declared.identity.Peer.TheVariants.{Here, There}
 use Rattle.linx_base.specs.declared.identity.Session.{Session}
 use Rattle.linx_base.specs.declared.signal.SigNote.{SigNote}
 use Rattle.trunk_record.specs.Changes.{saying, sending}
-use Rattle.trunk_record.specs.Records.{SideRecord, given_in, session_if, up_in}
-use Rattle.trunk_record.specs.Sayings.{Said, heard_as, is_live, published, signaled}
-use Rattle.trunk_record.specs.Sayings.{was_unpublished}
+use Rattle.trunk_record.specs.Records.{SideRecord}
+use Rattle.trunk_record.specs.Sayings.{Said, is_live, published, signaled}
 use Rattle.trunk_record.proofs.Changes.{proper_sending}
 use Rattle.journal.specs.Effects.{arrivals_of, send_answer}
 use Rattle.journal.specs.History.{closes, endpoint_by, is_closed, name_of, opened_in}
@@ -32,12 +31,12 @@ use Rattle.journal.specs.declared.head.SentTo.TheVariants.{Dead, Link, Queued}
 use Rattle.link_laws.specs.Came.{signal_in}
 use Rattle.link_laws.specs.Ends.{node_at}
 use Rattle.link_laws.specs.Fabric.{AllLinked, Links, records_of, with_side}
+use Rattle.link_laws.specs.Fits.{CanSend}
 use Rattle.link_laws.specs.Laws.{IsLegalStep}
-use Rattle.link_laws.specs.Linked.{IsLinked, is_session}
+use Rattle.link_laws.specs.Linked.{IsLinked}
 use Rattle.link_laws.specs.Moves.{AllLeft, KeepsNodeLaws, Sends, SendsOver}
 use Rattle.link_laws.proofs.Acts.{keeps_quiet, keeps_send}
 use Rattle.link_laws.proofs.Away.{touches}
-use Rattle.link_laws.proofs.Brings.{unpublished-closed}
 use Rattle.link_laws.proofs.Closings.{open-unclosed}
 use Rattle.link_laws.proofs.Done.{IsDone}
 use Rattle.link_laws.proofs.Good.{IsGood, IsKnown, left_kept, legal_with, short}
@@ -46,10 +45,11 @@ use Rattle.link_laws.proofs.Hunted.{IsCalm, calm_here}
 use Rattle.link_laws.proofs.HuntsAll.{back_half}
 use Rattle.link_laws.proofs.HuntsOver.{hunted_sending}
 use Rattle.link_laws.proofs.Legal.{asks-nothing}
+use Rattle.link_laws.proofs.LivingPeers.{alive-known, open-not_unpublished}
 use Rattle.link_laws.proofs.Makers.{maker-open}
 use Rattle.link_laws.proofs.MovesSay.{said_kept}
 use Rattle.link_laws.proofs.OneSide.{one_hunted, raises-none, tells-none}
-use Rattle.link_laws.proofs.Opened.{both_true, open-more, open-on}
+use Rattle.link_laws.proofs.Opened.{open-more, open-on}
 use Rattle.link_laws.proofs.Promised.{IsOpenNow}
 use Rattle.link_laws.proofs.Sides.{one_side}
 
@@ -183,29 +183,10 @@ module _ (shape : Shape) (P : List Step) (before after : Links) (known : IsKnown
     on : is_on n j ≡ true
     on = open-on P n j open_
 
-    -- the peer is alive, so its session is the side's own, and is up
-    lives : (is_session x (up_in A) && is_live b (map heard_as (given_in A x))) ≡ true
-    lives = sym (near.living x b) ∙ ap (λ (k : ℕ). is_alive P k (There l x b)) over.node
-        ∙ over-alive l x b (is_alive P node (There l x b)) laws.sends
-
-    own : (p : Option Session) → is_session x (session_if p A.now.session) ≡ true
-        → x ≡ A.now.session
-    own None is = absurd (true≢false (sym is))
-    own (Some y) is = ap (λ (k : ℕ). let z : Session = record { 0 = k } in z)
-        (eqb-true x.0 A.now.session.0 is)
-
-    same : x ≡ A.now.session
-    same = own A.now.peer (both_true (is_session x (up_in A))
-        (is_live b (map heard_as (given_in A x))) lives).0
-
-    is_up : A.now.peer ≢ None
-    is_up down = true≢false (sym (both_true (is_session x (up_in A))
-        (is_live b (map heard_as (given_in A x))) lives).0
-        ∙ ap (λ p. is_session x (session_if p A.now.session)) down)
-
-    not_yet : was_unpublished j A.now.said ≡ false
-    not_yet = false_from_ne_true (was_unpublished j A.now.said) (λ was.
-        true≢false (sym open_ ∙ (unpublished-closed P n j A.now.said near.truly.0 was).dead))
+    -- the peer is alive, so it can be sent to
+    can : CanSend A x b
+    can = alive-known P n l A near x b (ap (λ (k : ℕ). is_alive P k (There l x b)) over.node
+        ∙ over-alive l x b (is_alive P node (There l x b)) laws.sends)
 
     over_legal : IsLegalStep shape P s
     over_legal = legal_with shape P s laws
@@ -215,7 +196,7 @@ module _ (shape : Shape) (P : List Step) (before after : Links) (known : IsKnown
     over_linked =
         one_side shape (s ∷ P) (records_of before) l over.at (saying ws A) known.two over.of_shape
         (keeps_send P s j b note n l A none
-        (ap (λ (z : Session). Send (There l z b) note Link) same) mine open_ near)
+        (ap (λ (z : Session). Send (There l z b) note Link) can.own) mine open_ near)
         (λ h side of_h apart.
         keeps_quiet P s [] [] done (node_at shape h side) h (records_of before h.0 side)
         (known.kept.linked h of_h side) refl refl (opens-nothing P [] refl)
@@ -243,9 +224,10 @@ module _ (shape : Shape) (P : List Step) (before after : Links) (known : IsKnown
           known.kept ws (record {
             made = over.side;
             well = inr (
-              is_up,
+              can.up,
               proper_sending A j b (name_of P j) note
-                  (known.kept.trunks l over.of_shape over.at).proper.0 not_yet,
+                  (known.kept.trunks l over.of_shape over.at).proper.0
+                  (open-not_unpublished P n l A near j open_),
             );
             linked = over_linked;
             raises_none = raises-none s [] [] done (λ k h z. refl);
