@@ -15,7 +15,7 @@ use Rattle.linx_base.specs.declared.identity.Peer.TheVariants.{Here, There}
 use Rattle.linx_base.specs.declared.identity.Session.{Session}
 use Rattle.linx_base.specs.declared.pending.MetPeer.{MetPeer}
 use Rattle.trunk_record.specs.Records.{SideRecord, given_in, up_in, session_if}
-use Rattle.trunk_record.specs.Sayings.{heard_as, frees, is_live, was_unpublished, signals_between}
+use Rattle.trunk_record.specs.Sayings.{heard_as, frees, is_live, signals_between}
 use Rattle.trunk_record.specs.Trunks.{FreesClosed, IsQuiet}
 use Rattle.journal.specs.History.{open_endpoints, name_of}
 use Rattle.journal.specs.Living.{living, is_alive}
@@ -26,7 +26,8 @@ use Rattle.link_laws.specs.Linked.{IsLinked, is_session, IsTalking, Stands, aski
 use Rattle.link_laws.specs.Linked.{AreHunted}
 use Rattle.link_laws.specs.Still.{IsStillHalf, is_hunt_over, is_open_there}
 use Rattle.trunk_record.proofs.Lookups.{given-now, peer-now, said-now}
-use Rattle.link_laws.proofs.Brings.{all-members, got-heard, sent-said, unpublished-closed}
+use Rattle.link_laws.proofs.Brings.{all-members, got-heard, sent-said}
+use Rattle.link_laws.proofs.LivingPeers.{open-not_unpublished}
 use Rattle.link_laws.proofs.Names.{bytes_eq-itself}
 use Rattle.link_laws.proofs.Opened.{both_true, open-on}
 
@@ -38,10 +39,7 @@ module _ (P : List Step) (n m : ℕ) (l : LinkNo) (A B : SideRecord) (noted : Li
       → arrived_from P b (There l A.now.session a) ≡ sent_to P a (There l B.now.session b)
   nothing_vanishes a b on open_ =
       let here : is_on n b ≡ true = open-on P n b open_ in
-      let not_yet : was_unpublished b A.now.said ≡ false =
-      false_from_ne_true (was_unpublished b A.now.said)
-      (λ was. true≢false (sym open_ ∙ (unpublished-closed P n b A.now.said near.truly.0
-      was).dead)) in
+      let not_yet = open-not_unpublished P n l A near b open_ in
       let none : list_any (frees b) (given_in A A.now.session) ≡ false =
       ap (list_any (frees b)) (given-now A) ∙ false_from_ne_true
       (list_any (frees b) A.now.given) (λ is. true≢false (sym (frees_closed b is) ∙ not_yet)) in
