@@ -1,7 +1,7 @@
 #!/usr/bin/env bash
 # How long the text of a full journal takes, by the number of incarnations in it, and that of large
-# signals, of which digests are printed. The program that measures it is built in a copy of the
-# crates, so that the gate knows nothing of it.
+# signals, of which digests are printed, by how many kinds they are of. The program that measures it
+# is built in a copy of the crates, so that the gate knows nothing of it.
 set -euo pipefail
 top="$(cd "$(dirname "$0")/.." && pwd)"
 work="$(mktemp -d)"
@@ -37,13 +37,13 @@ fn small(alloc: Global) -> Result<SigNote, NoMemory> {
     })
 }
 
-/// A signal of the largest size, unlike the others.
-fn large(alloc: Global, number: u32) -> anyhow::Result<SigNote> {
+/// A signal of the largest size, unlike those of another kind. It shares no bytes with any other.
+fn large(alloc: Global, kind: u32) -> anyhow::Result<SigNote> {
     let mut bytes = Vec::new(alloc);
-    bytes.extend_from_slice(&number.to_be_bytes())?;
+    bytes.extend_from_slice(&kind.to_be_bytes())?;
     bytes.resize(65_532, 0x5a)?;
     Ok(SigNote {
-        number,
+        number: 1,
         bytes: Blob::shared(bytes).context("large signal")?,
     })
 }
@@ -112,12 +112,13 @@ fn full_journal(alloc: Global, incarnations: u32) -> anyhow::Result<Journal>
     Ok(journal)
 }
 
-/// A journal of so many large signals, each sent to oneself and received.
-fn large_journal(alloc: Global, count: u32) -> anyhow::Result<Journal> {
+/// A journal of so many large signals of so many kinds in turn, each sent to oneself and received.
+fn large_journal(alloc: Global, count: u32, kinds: u32) -> anyhow::Result<Journal> {
     let mut journal = empty_journal(alloc)?;
     open(alloc, &mut journal, 1)?;
     for number in 0..count {
-        send(alloc, &mut journal, 1, large(alloc, number)?)?;
+        let kind = number.checked_rem(kinds).unwrap_or(0);
+        send(alloc, &mut journal, 1, large(alloc, kind)?)?;
         take(alloc, &mut journal, 1)?;
     }
     Ok(journal)
@@ -137,8 +138,10 @@ fn main(rt: HostRuntime) -> anyhow::Result<()> {
         println!(rt; "{} steps, {incarnations} incarnations: {spent} ms", journal.len())?;
     }
     for signals in [255, 511] {
-        let spent = measure(&rt, &large_journal(rt.alloc(), signals)?)?;
-        println!(rt; "{signals} signals of 65532 bytes: {spent} ms")?;
+        for kinds in [1, 2, signals] {
+            let spent = measure(&rt, &large_journal(rt.alloc(), signals, kinds)?)?;
+            println!(rt; "{signals} signals of 65532 bytes of {kinds} kinds: {spent} ms")?;
+        }
     }
     Ok(())
 }
