@@ -11,6 +11,7 @@ use Rattle.link_addresses.specs.declared.meaning.Meaning.TheVariants.{Free, Live
 use Rattle.link_addresses.specs.Meanings.{meaning_of, means_live, address_of, IsLive}
 use Rattle.link_addresses.specs.Meanings.{ChangesMeaning}
 use Rattle.link_addresses.specs.Finding.{IsIndexOf, AnswersAt}
+use Rattle.link_addresses.proofs.Lists.{closing_isnt_live, live_isnt_free}
 
 pub same_inc : (a b : Inc) → a.0 ≡ b.0 → a ≡ b
 same_inc a b e = ap (λ (n : ℕ). record { 0 = n }) e
@@ -20,12 +21,6 @@ live_inc a b e = cc
 
 same_some : (a b : ℕ) (o : Option ℕ) → o ≡ Some a → o ≡ Some b → a ≡ b
 same_some a b o e f = cc
-
-live_not_free : (i : Inc) → Live i ≡ Free → ⊥
-live_not_free i e = absurd cc
-
-closing_not_live : (i j : Inc) → Closing i ≡ Live j → ⊥
-closing_not_live i j e = absurd cc
 
 -- ---- the address of an incarnation in the list
 
@@ -39,7 +34,7 @@ means_back inc m e = rw e (eq-eqb inc.0 inc.0 refl)
 
 shift : (m : Meaning) (ms : List Meaning) (c : ℕ) (inc : Inc) → meaning_of ms c ≡ Live inc
     → meaning_of (m ∷ ms) (suc c) ≡ Live inc
-shift m ms zero inc e = absurd (live_not_free inc (sym e))
+shift m ms zero inc e = absurd (live_isnt_free inc (sym e))
 shift m ms (suc k) inc e = e
 
 step_some : (b : Bool) (rest : Option ℕ) (a : ℕ) → cond b (Some 1) (option_map suc rest) ≡ Some a
@@ -67,8 +62,8 @@ address_found (m ∷ ms) inc a e =
 pub address_missing : (ms : List Meaning) (inc : Inc) → address_of ms inc ≡ None → (a : ℕ)
     → meaning_of ms a ≡ Live inc → ⊥
 unfolding address_of
-address_missing ms inc e zero live = live_not_free inc (sym live)
-address_missing [] inc e (suc k) live = live_not_free inc (sym live)
+address_missing ms inc e zero live = live_isnt_free inc (sym live)
+address_missing [] inc e (suc k) live = live_isnt_free inc (sym live)
 address_missing (m ∷ ms) inc e (suc zero) live =
     let none = step_none (means_live inc m) (address_of ms inc) e in
     let here = means_back inc m live in
@@ -184,7 +179,7 @@ pub closed_not_live : (f : ℕ → Option ℕ) (old new : List Meaning) (inc : I
     → IsLive new inc → ⊥
 closed_not_live f old new inc a index live change after =
     elim (eqb_tells after.0 a) [
-      | inl p ↦ closing_not_live inc inc (sym change.here ∙ ap (meaning_of new) (sym p.1) ∙ after.1)
+      | inl p ↦ closing_isnt_live inc inc (sym change.here ∙ ap (meaning_of new) (sym p.1) ∙ after.1)
       | inr p ↦ p.1 (same_some after.0 a (f inc.0)
           (index inc after.0 (sym (change.others after.0 p.1) ∙ after.1)) (index inc a live))
     ]
@@ -196,7 +191,7 @@ live_in_front ms k zero inc live = live
 live_in_front ms k (suc b) inc live =
     elim (cases_lt b k) [
       | inl lt ↦ sym (get_or-take k ms b Free lt) ∙ live
-      | inr ge ↦ absurd (live_not_free inc (sym live
+      | inr ge ↦ absurd (live_isnt_free inc (sym live
           ∙ get_or_past (take k ms) b Free (omega (arith, length-take k ms))))
     ]
 

@@ -1,5 +1,5 @@
-mod Lists
+pub mod Lists
 mod Undoing
-mod Indexing
+pub mod Indexing
 mod Grouping
 mod Steps
