@@ -1,6 +1,6 @@
 -- Sessions looked up in a side, also in one that said or was given more.
-use Rattle.std.proofs.Common.{[], ◌≡◌, ◌<◌, ℕ, true, false, cond, List, ◌∷◌, ◌++◌, Some, None, refl}
-use Rattle.std.proofs.Common.{◌∙◌, ap, arith}
+use Rattle.std.proofs.Common.{[], ◌≡◌, ◌<◌, ℕ, true, false, cond, List, ◌∷◌, ◌++◌, Option, Some, None}
+use Rattle.std.proofs.Common.{refl, ◌∙◌, ap, arith}
 use Rattle.std.specs.Prelude.{◌==◌}
 use Rattle.std.specs.List.{AllByRecursion}
 use Rattle.std.proofs.lemmas.Bool.{eq-eqb}
@@ -8,74 +8,64 @@ use Rattle.std.proofs.lemmas.Bool.Decides.{nat_tests}
 use Rattle.linx_base.specs.FirstMatch.{first_match}
 use Rattle.linx_base.specs.declared.identity.Session.{Session}
 use Rattle.trunk_record.specs.Changes.{saying, giving}
-use Rattle.trunk_record.specs.Records.{SessionRecord, SideRecord, has_session, peer_of, said_of}
-use Rattle.trunk_record.specs.Records.{given_of, peer_in, said_in, given_in}
+use Rattle.trunk_record.specs.Records.{SessionRecord, SideRecord, all, has_session, peer_of}
+use Rattle.trunk_record.specs.Records.{said_of, given_of, peer_in, said_in, given_in}
 use Rattle.trunk_record.specs.Sayings.{Said, Given}
 use Rattle.trunk_record.specs.Trunks.{IsBelow}
 
--- looking a session up after more was said or given in the present one
-pub saying-said : (ws : List Said) (A : SideRecord) (x : Session)
-    → said_in (saying ws A) x ≡ cond (has_session x A.now) ws [] ++ said_in A x
-saying-said ws A x =
-    elim (has_session x A.now) as (λ t. said_of (cond t
-    (Some (record A.now { said = ws ++ A.now.said })) (first_match (has_session x) A.earlier))
-    ≡ cond t ws [] ++ said_of (cond t (Some A.now) (first_match (has_session x) A.earlier)))
-    [ true ↦ refl | false ↦ refl ]
+-- the present entry of a side, made another one of the same session
+module _ (A : SideRecord) (x : Session) (new : SessionRecord) where
+  abbrev found : Option SessionRecord
+  found = cond (has_session x A.now) (Some new) (first_match (has_session x) A.earlier)
 
-pub saying-given : (ws : List Said) (A : SideRecord) (x : Session)
-    → given_in (saying ws A) x ≡ given_in A x
-saying-given ws A x =
-    elim (has_session x A.now) as (λ t. given_of
-    (cond t (Some (record A.now { said = ws ++ A.now.said }))
-    (first_match (has_session x) A.earlier)) ≡ given_of
-    (cond t (Some A.now) (first_match (has_session x) A.earlier))) [
-      | true ↦ refl
-      | false ↦
-          refl
-    ]
+  -- what both entries tell alike stays as it was
+  told_alike : {Y : Type 0} (tells : Option SessionRecord → Y) → tells (Some new)
+      ≡ tells (Some A.now) → tells found ≡ tells (first_match (has_session x) (all A))
+  told_alike tells same =
+      elim (has_session x A.now) as (λ t. tells
+      (cond t (Some new) (first_match (has_session x) A.earlier))
+      ≡ tells (cond t (Some A.now) (first_match (has_session x) A.earlier)))
+      [ true ↦ same | false ↦ refl ]
 
-pub saying-peer : (ws : List Said) (A : SideRecord) (x : Session)
-    → peer_in (saying ws A) x ≡ peer_in A x
-saying-peer ws A x =
-    elim (has_session x A.now) as (λ t. peer_of (cond t
-    (Some (record A.now { said = ws ++ A.now.said })) (first_match (has_session x) A.earlier))
-    ≡ peer_of (cond t (Some A.now) (first_match (has_session x) A.earlier))) [
-      | true ↦
-          refl
-      | false ↦ refl
-    ]
+  -- what the new one tells more is told of its session alone
+  told_more : {Y : Type 0} (tells : Option SessionRecord → List Y) (more : List Y)
+      → tells (Some new) ≡ more ++ tells (Some A.now)
+      → tells found ≡ cond (has_session x A.now) more []
+      ++ tells (first_match (has_session x) (all A))
+  told_more tells more longer =
+      elim (has_session x A.now) as (λ t. tells
+      (cond t (Some new) (first_match (has_session x) A.earlier)) ≡ cond t more []
+      ++ tells (cond t (Some A.now) (first_match (has_session x) A.earlier)))
+      [ true ↦ longer | false ↦ refl ]
 
-pub giving-said : (g : Given) (A : SideRecord) (x : Session) → said_in (giving g A) x ≡ said_in A x
-giving-said g A x =
-    elim (has_session x A.now) as (λ t. said_of (cond t
-    (Some (record A.now { given = g ∷ A.now.given })) (first_match (has_session x) A.earlier))
-    ≡ said_of (cond t (Some A.now) (first_match (has_session x) A.earlier))) [
-      | true ↦
-          refl
-      | false ↦ refl
-    ]
+-- looking a session up after more was said in the present one
+module _ (ws : List Said) (A : SideRecord) (x : Session) where
+  abbrev having_said : SessionRecord
+  having_said = record A.now { said = ws ++ A.now.said }
 
-pub giving-peer : (g : Given) (A : SideRecord) (x : Session) → peer_in (giving g A) x ≡ peer_in A x
-giving-peer g A x =
-    elim (has_session x A.now) as (λ t. peer_of (cond t
-    (Some (record A.now { given = g ∷ A.now.given })) (first_match (has_session x) A.earlier))
-    ≡ peer_of (cond t (Some A.now) (first_match (has_session x) A.earlier))) [
-      | true ↦
-          refl
-      | false ↦ refl
-    ]
+  pub saying-said : said_in (saying ws A) x ≡ cond (has_session x A.now) ws [] ++ said_in A x
+  saying-said = told_more A x having_said said_of ws refl
 
-pub giving-given : (g : Given) (A : SideRecord) (x : Session)
-    → given_in (giving g A) x ≡ cond (has_session x A.now) (g ∷ []) [] ++ given_in A x
-giving-given g A x =
-    elim (has_session x A.now) as (λ t. given_of
-    (cond t (Some (record A.now { given = g ∷ A.now.given }))
-    (first_match (has_session x) A.earlier)) ≡ cond t (g ∷ []) []
-    ++ given_of (cond t (Some A.now) (first_match (has_session x) A.earlier))) [
-      | true ↦
-          refl
-      | false ↦ refl
-    ]
+  pub saying-given : given_in (saying ws A) x ≡ given_in A x
+  saying-given = told_alike A x having_said given_of refl
+
+  pub saying-peer : peer_in (saying ws A) x ≡ peer_in A x
+  saying-peer = told_alike A x having_said peer_of refl
+
+-- and after more was given in it
+module _ (g : Given) (A : SideRecord) (x : Session) where
+  abbrev having_got : SessionRecord
+  having_got = record A.now { given = g ∷ A.now.given }
+
+  pub giving-said : said_in (giving g A) x ≡ said_in A x
+  giving-said = told_alike A x having_got said_of refl
+
+  pub giving-peer : peer_in (giving g A) x ≡ peer_in A x
+  giving-peer = told_alike A x having_got peer_of refl
+
+  pub giving-given : given_in (giving g A) x
+      ≡ cond (has_session x A.now) (g ∷ []) [] ++ given_in A x
+  giving-given = told_more A x having_got given_of (g ∷ []) refl
 
 -- a session above all of a side is none of them
 pub none_such : (x : Session) (es : List SessionRecord) → AllByRecursion (IsBelow x) es
@@ -108,13 +98,4 @@ said-all Q none y [] held = none
 said-all Q none y (e ∷ es) held =
     let rest : Q (said_of (first_match (has_session y) es)) = said-all Q none y es held.1 in
     elim (has_session y e) as (λ t. Q (said_of (cond t (Some e) (first_match (has_session y) es))))
-    [ true ↦ held.0 | false ↦ rest ]
-
--- and what holds of what was given in each, of what was given in one
-pub given-all : (Q : List Given → Type 0) → Q [] → (y : Session) (es : List SessionRecord)
-    → AllByRecursion (λ e. Q e.given) es → Q (given_of (first_match (has_session y) es))
-given-all Q none y [] held = none
-given-all Q none y (e ∷ es) held =
-    let rest : Q (given_of (first_match (has_session y) es)) = given-all Q none y es held.1 in
-    elim (has_session y e) as (λ t. Q (given_of (cond t (Some e) (first_match (has_session y) es))))
     [ true ↦ held.0 | false ↦ rest ]
