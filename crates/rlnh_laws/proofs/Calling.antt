@@ -72,7 +72,7 @@ tell_grows e i j note k a b is at = rw (is, at)
     ) k)
 
 -- what is published is live
-live_now : (e : Talk) (i : Inc) (v : List ℕ) → address_of e.end.own i ≡ None → (a : ℕ)
+pub live_now : (e : Talk) (i : Inc) (v : List ℕ) → address_of e.end.own i ≡ None → (a : ℕ)
     × (address_of (publish_of e.end i v).tables.own i ≡ Some a)
 live_now e i v none =
     let new = with_lowest e.end.own (Live i) in
@@ -82,7 +82,7 @@ live_now e i v none =
       | inr some ↦ some
     ])
 
-met_stays : (s : RlnhTables) (i : Inc) (v : List ℕ) → (publish_of s i v).tables.met ≡ s.met
+pub met_stays : (s : RlnhTables) (i : Inc) (v : List ℕ) → (publish_of s i v).tables.met ≡ s.met
 met_stays s i v = elim (option_cases (address_of s.own i)) [
   | inl none ↦ rw none refl
   | inr some ↦

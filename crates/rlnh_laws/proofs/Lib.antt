@@ -1,4 +1,4 @@
-mod Addresses
+pub mod Addresses
 pub mod Standing
 pub mod Meeting
 pub mod Tying
