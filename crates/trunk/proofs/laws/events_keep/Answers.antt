@@ -1,0 +1,5 @@
+use Rattle.trunk.proofs.Events.{events_keep}
+use Rattle.trunk.proofs.laws.events_keep.Goals as goal
+
+pub returns : goal.returns
+returns c = events_keep

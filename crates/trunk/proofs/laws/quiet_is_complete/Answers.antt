@@ -1,0 +1,5 @@
+use Rattle.trunk.proofs.Trunks.{quiet}
+use Rattle.trunk.proofs.laws.quiet_is_complete.Goals as goal
+
+pub returns : goal.returns
+returns c = quiet

@@ -1,0 +1,5 @@
+use Rattle.trunk.proofs.Trunks.{trunk_record}
+use Rattle.trunk.proofs.laws.trunks_keep_records.Goals as goal
+
+pub returns : goal.returns
+returns c = trunk_record

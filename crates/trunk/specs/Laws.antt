@@ -1,0 +1,113 @@
+-- What the events of a trunk keep, and what then holds of its layers.
+use Rattle.std.specs.Prelude.{◌≡◌, ◌≢◌, ◌<◌, ◌≤◌, ◌^◌, ℕ, Bool, true, false, List, [], length, map}
+use Rattle.std.specs.Prelude.{None, IsTrue, is_some}
+use Rattle.linx_base.specs.NameText.{is_name}
+use Rattle.linx_base.specs.Numbers.{boot_of}
+use Rattle.linx_base.specs.Sides.{other_of}
+use Rattle.linx_base.specs.declared.frame.Message.{Message}
+use Rattle.linx_base.specs.declared.identity.Inc.{Inc}
+use Rattle.linx_base.specs.declared.identity.Side.{Side}
+use Rattle.linx_base.specs.declared.signal.SigNote.{SigNote}
+use Rattle.link_addresses.specs.Meanings.{address_of, used_in}
+use Rattle.rlnh_messages.specs.Signals.{IsSignal}
+use Rattle.rlnh_end.specs.declared.heard.Heard.{Heard}
+use Rattle.rlnh_end.specs.declared.up.Up.TheVariants.{Bad}
+use Rattle.rlnh_end.specs.States.{addr_met, no_tables}
+use Rattle.rlnh_end.specs.Hearing.{IsRead, hears}
+use Rattle.trunk_record.specs.Sayings.{heard_as, is_live, was_unpublished}
+use Rattle.ethcm_end.specs.States.{peer_of}
+use Rattle.carrier.specs.Records.{HalfState}
+use Rattle.carrier.specs.Events.{flight_from, half_of, handed_by}
+use Rattle.carrier.specs.declared.handed.Handed.TheVariants.{Got}
+use Rattle.trunk.specs.Events.{IsReading, TrunkSide, TrunkState, asked_at, closed_at, delivered}
+use Rattle.trunk.specs.Events.{lost_from, new_trunk, opened_at, published_at, restarted_at}
+use Rattle.trunk.specs.Events.{sent_at, side_of, swapped_from, ticked_at}
+use Rattle.trunk.specs.Keeping.{KeepsTrunk}
+
+-- an incarnation of this name may be published: there is an address for it, and it wasn't
+-- unpublished in the present session
+pub record MayPublish (s : TrunkSide) (inc : Inc) (name : List ℕ) : Type 0 where
+  pub has_address : used_in s.end.tables.own < 4294967295
+  pub numbered : inc.0 < 2 ^ 64
+  pub named : IsTrue (is_name name)
+  pub goes_on : was_unpublished inc s.kept.now.said ≡ false
+
+-- a signal may be sent from it to an incarnation that was met and isn't gone
+pub record MaySend (s : TrunkSide) (from : Inc) (name : List ℕ) (to : Inc) (signal : SigNote)
+    : Type 0 where
+  pub sender : MayPublish s from name
+  pub receiver : is_live to (map heard_as s.kept.now.given) ≡ true
+  pub is_signal : IsSignal signal
+
+-- what holds of a trunk holds at its beginning, and after each event
+pub record EventsKeep : Type 0 where
+  pub begins :
+      (window piece : ℕ) → 1 ≤ window → 64 ≤ piece → KeepsTrunk (new_trunk window piece)
+  pub delivered :
+      (from : Side) (k : ℕ) (keep : Bool) (heard : Heard) (t : TrunkState)
+      → IsReading (handed_by from k t.link) heard → KeepsTrunk t
+      → KeepsTrunk (delivered from k keep heard t)
+  pub ticked : (side : Side) (t : TrunkState) → KeepsTrunk t → KeepsTrunk (ticked_at side t)
+  pub restarted :
+      (side : Side) (boot : ℕ) (t : TrunkState)
+      → boot_of (half_of side t.link).end.talk.mine < boot → KeepsTrunk t
+      → KeepsTrunk (restarted_at side boot t)
+  pub lost :
+      (from : Side) (k : ℕ) (t : TrunkState) → KeepsTrunk t → KeepsTrunk (lost_from from k t)
+  pub swapped :
+      (from : Side) (k n : ℕ) (t : TrunkState) → k < length (flight_from from t.link)
+      → n < length (flight_from from t.link) → KeepsTrunk t
+      → KeepsTrunk (swapped_from from k n t)
+  pub published :
+      (side : Side) (inc : Inc) (name : List ℕ) (t : TrunkState)
+      → MayPublish (side_of side t) inc name → KeepsTrunk t
+      → KeepsTrunk (published_at side inc name t)
+  pub opened :
+      (side : Side) (inc : Inc) (name : List ℕ) (t : TrunkState)
+      → MayPublish (side_of side t) inc name → KeepsTrunk t
+      → KeepsTrunk (opened_at side inc name t)
+  pub closed :
+      (side : Side) (inc : Inc) (t : TrunkState) → KeepsTrunk t
+      → KeepsTrunk (closed_at side inc t)
+  pub asked :
+      (side : Side) (name : List ℕ) (t : TrunkState) → IsTrue (is_name name) → KeepsTrunk t
+      → KeepsTrunk (asked_at side name t)
+  pub sent :
+      (side : Side) (from : Inc) (name : List ℕ) (to : Inc) (signal : SigNote) (t : TrunkState)
+      → MaySend (side_of side t) from name to signal → KeepsTrunk t
+      → KeepsTrunk (sent_at side from name to signal t)
+
+-- ---- what then holds
+
+-- a message that came to a side has one reading, which isn't bad
+pub record IsUnderstood (s : TrunkSide) (m : Message) : Type 0 where
+  pub heard : Heard
+  pub read : IsRead m heard
+  pub alone : (other : Heard) → IsRead m other → other ≡ heard
+  pub not_bad : (hears s.end.tables heard).up ≢ Bad
+
+-- each message that the link hands up is understood
+abbrev pub MessagesUnderstood : Type 0
+MessagesUnderstood =
+    (from : Side) (k : ℕ) (m : Message) (t : TrunkState) → KeepsTrunk t
+    → handed_by from k t.link ≡ Got m → IsUnderstood (side_of (other_of from) t) m
+
+-- the half of the link, the RLNH end and the record of a side tell the same
+pub record SideAgrees (s : TrunkSide) (h : HalfState) : Type 0 where
+  pub session : h.end.talk.mine ≡ s.kept.now.session
+  pub peer : peer_of h.end ≡ s.kept.now.peer
+  -- the RLNH end has no more to say, and knows nothing while the side isn't up
+  pub out : s.end.out ≡ []
+  pub down : s.kept.now.peer ≡ None → s.end.tables ≡ no_tables
+  -- an incarnation has an address where it was published and not unpublished since, and a peer is
+  -- met where it lives by what was given
+  pub own :
+      (i : Inc) → is_some (address_of s.end.tables.own i) ≡ is_live i s.kept.now.said
+  pub met :
+      (i : Inc)
+      → is_some (addr_met s.end.tables.met i) ≡ is_live i (map heard_as s.kept.now.given)
+
+abbrev pub SidesAgree : Type 0
+SidesAgree =
+    (side : Side) (t : TrunkState) → KeepsTrunk t
+    → SideAgrees (side_of side t) (half_of side t.link)

@@ -1,0 +1,6 @@
+pub mod Talks
+pub mod Events
+pub mod Keeping
+pub mod Laws
+pub mod Promises
+pub mod Tells
