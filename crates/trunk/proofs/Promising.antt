@@ -1,7 +1,7 @@
 -- What is promised of a trunk's record follows from what a trunk keeps of it.
 use Rattle.std.proofs.Common.{◌≡◌, ◌≢◌, ℕ, Bool, true, false, not, ◌&&◌, cond, List, [], ◌∷◌, ◌++◌}
 use Rattle.std.proofs.Common.{Some, None, ◌⊎◌, inl, inr, map, refl, sym, ◌∙◌, ap, subst}
-use Rattle.std.specs.List.{AllByRecursion, list_any}
+use Rattle.std.specs.List.{AllByRecursion}
 use Rattle.std.proofs.lemmas.Bool.{eqb-true, or_left, or_right, true≢false}
 use Rattle.std.proofs.lemmas.List.{append-nil}
 use Rattle.std.proofs.lemmas.List.Folds.{list_any-append}
@@ -15,7 +15,7 @@ use Rattle.trunk_record.specs.Records.{SessionRecord, SideRecord, all, given_in,
 use Rattle.trunk_record.specs.Records.{has_session, peer_in, peer_of, said_in}
 use Rattle.trunk_record.specs.Sayings.{Given, IsProper, Said, has_gone, has_met, heard_as, is_live}
 use Rattle.trunk_record.specs.Sayings.{met, published, publishes, signals_between, unpublished}
-use Rattle.trunk_record.specs.Sayings.{unpublishes, was_published, was_unpublished}
+use Rattle.trunk_record.specs.Sayings.{was_published, was_unpublished}
 use Rattle.trunk_record.specs.Trunks.{IsHalf, IsHeardFrom, heard}
 use Rattle.trunk_record.specs.Trunks.{nothing_heard}
 use Rattle.trunk_record.proofs.Lookups.{said-all}
