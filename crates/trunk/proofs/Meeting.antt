@@ -2,7 +2,8 @@
 use Rattle.std.proofs.Common.{◌≡◌, ℕ, true, false, not, List, [], ◌∷◌, Some, None}
 use Rattle.std.proofs.Common.{inl, inr, refl, sym, ◌∙◌, ap, subst}
 use Rattle.std.specs.Prelude.{◌==◌, is_some}
-use Rattle.std.proofs.lemmas.Bool.{eq-eqb, false_from_ne_true, or_cases, or_left, or_right}
+use Rattle.std.proofs.lemmas.Bool.{and_parts, eq-eqb, false_from_ne_true, or_cases, or_left}
+use Rattle.std.proofs.lemmas.Bool.{or_right}
 use Rattle.std.proofs.lemmas.Bool.{true≢false}
 use Rattle.std.proofs.lemmas.Bool.Decides.{eqb_tells}
 use Rattle.std.proofs.lemmas.Option.{same_Some}
@@ -16,7 +17,6 @@ use Rattle.rlnh_laws.proofs.Meeting.{without_here, without_other}
 use Rattle.trunk_record.specs.Sayings.{Said, is_live, published, unpublished}
 use Rattle.trunk_record.proofs.Sayings.{same_inc-is, same_inc-itself}
 use Rattle.trunk.specs.Talks.{MeetsLive}
-use Rattle.trunk.proofs.Partners.{and_first, and_second}
 
 pub none_some : {X : Type 0} (x : X) → None ≡ Some x → ⊥
 none_some x e = absurd cc
@@ -100,14 +100,13 @@ meets_less met heard a i m apart at =
             rw other (m.lives b j was)
       ];
       found = λ j e.
-          let apart_inc : not (same_inc j i) ≡ true =
-          and_first (not (same_inc j i)) (is_live j heard) e in
-          let old = m.found j (and_second (not (same_inc j i)) (is_live j heard) e) in
+          let both = and_parts (not (same_inc j i)) (is_live j heard) e in
+          let old = m.found j both.1 in
           (old.0, sym (without_other met a old.0 (λ q.
           let is : i ≡ j = same_Some i j (sym at ∙ ap (inc_met met) q ∙ old.1) in
           let same : same_inc j i ≡ true =
           subst (λ (k : Inc). same_inc j k ≡ true) (sym is) (same_inc-itself j) in
-          true≢false (sym apart_inc ∙ ap not same))) ∙ old.1);
+          true≢false (sym both.0 ∙ ap not same))) ∙ old.1);
     }
 
 -- so an incarnation is met where it is live

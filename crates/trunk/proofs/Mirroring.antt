@@ -24,7 +24,7 @@ messages-append (x ∷ xs) ys = ap (λ k. message_of x ∷ k) (messages-append x
 
 -- ---- what a session is offered is the messages of its partner's words
 
-eq_turned : (a b : ℕ) (t : Bool) → (a == b) ≡ t → (b == a) ≡ t
+pub eq_turned : (a b : ℕ) (t : Bool) → (a == b) ≡ t → (b == a) ≡ t
 eq_turned a b true e = grind (arith, nat_tests)
 eq_turned a b false e = grind (arith, nat_tests)
 

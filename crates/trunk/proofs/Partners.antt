@@ -1,8 +1,9 @@
 -- Two sides in words: a session, and its partner among the sessions of the other side.
-use Rattle.std.proofs.Common.{◌≡◌, ◌≤◌, ◌<◌, ℕ, zero, suc, Bool, true, false, ◌&&◌, List, [], ◌∷◌}
+use Rattle.std.proofs.Common.{◌≡◌, ◌≤◌, ◌<◌, ℕ, zero, suc, true, false, ◌&&◌, List, [], ◌∷◌}
 use Rattle.std.proofs.Common.{◌++◌, Option, Some, None, arith, refl, sym, ◌∙◌, ap, subst}
 use Rattle.std.specs.Prelude.{◌==◌, if◌then◌else◌}
-use Rattle.std.proofs.lemmas.Bool.{true≢false}
+use Rattle.std.proofs.Math.Bool.{and_comm}
+use Rattle.std.proofs.lemmas.Bool.{and_parts, true≢false}
 use Rattle.std.proofs.lemmas.Bool.Decides.{nat_tests}
 use Rattle.linx_base.specs.declared.identity.Inc.{Inc}
 use Rattle.linx_base.specs.declared.identity.Session.{Session}
@@ -28,22 +29,8 @@ pair_sym e f p =
 
 -- ---- two sessions that name each other
 
-pub and_sym : (x y : Bool) → (x && y) ≡ (y && x)
-and_sym true true = refl
-and_sym true false = refl
-and_sym false true = refl
-and_sym false false = refl
-
-pub and_first : (x y : Bool) → (x && y) ≡ true → x ≡ true
-and_first true y h = refl
-and_first false y h = h
-
-pub and_second : (x y : Bool) → (x && y) ≡ true → y ≡ true
-and_second true y h = h
-and_second false y h = absurd (true≢false (sym h))
-
 pub peer_sym : (e f : Talk) → is_peer e f ≡ is_peer f e
-peer_sym e f = and_sym (names f.number.0 e.peer) (names e.number.0 f.peer)
+peer_sym e f = and_comm (names f.number.0 e.peer) (names e.number.0 f.peer)
 
 -- whom a session names, by its number
 pub named : (n : ℕ) (o : Option Session) → names n o ≡ true
@@ -170,11 +157,11 @@ pair_with e g past t n p on step k =
 pub none_below : (e b t : Talk) → is_peer e b ≡ true → t.number.0 < b.number.0
     → is_peer t e ≡ false
 none_below e b t on below =
-    let y = named b.number.0 e.peer (and_first (names b.number.0 e.peer)
-    (names e.number.0 b.peer) on) in
+    let y = named b.number.0 e.peer (and_parts (names b.number.0 e.peer)
+    (names e.number.0 b.peer) on).0 in
     apart y.0 y.1 y.2
   where
     apart : (y : Session) → e.peer ≡ Some y → y.0 ≡ b.number.0 → is_peer t e ≡ false
     apart y is at =
         let off : (y.0 == t.number.0) ≡ false = grind (arith, nat_tests) in
-        rw (is, off) (and_sym (names e.number.0 t.peer) false)
+        rw (is, off) (and_comm (names e.number.0 t.peer) false)

@@ -3,7 +3,7 @@ use Rattle.std.proofs.Common.{◌≡◌, ◌≢◌, ◌<◌, ◌≤◌, ◌||◌
 use Rattle.std.proofs.Common.{length, Option, Some, None, arith, refl, sym, ◌∙◌, ap, subst}
 use Rattle.std.specs.Prelude.{◌&&◌, if◌then◌else◌, is_some, IsTrue, nat_le}
 use Rattle.std.specs.List.{AllByRecursion, list_all}
-use Rattle.std.proofs.lemmas.Bool.{eq-eqb}
+use Rattle.std.proofs.lemmas.Bool.{and_parts, eq-eqb}
 use Rattle.std.proofs.lemmas.Bool.Decides.{nat_tests}
 use Rattle.std.proofs.lemmas.Option.{same_Some}
 use Rattle.linx_base.specs.Frames.{IsMessage}
@@ -40,7 +40,6 @@ use Rattle.trunk_record.specs.Sayings.{arrived, freed}
 use Rattle.trunk.specs.Talks.{FitsWord}
 use Rattle.trunk.specs.Events.{given_of, given_signal, given_up}
 use Rattle.trunk.specs.Keeping.{messages_of}
-use Rattle.trunk.proofs.Partners.{and_first, and_second}
 
 -- ---- the message of a word that fits
 
@@ -48,8 +47,8 @@ use Rattle.trunk.proofs.Partners.{and_first, and_second}
 name_size : (v : List ℕ) → IsTrue (is_name v) → length v ≤ 32
 name_size v is =
     let short : nat_le (length v) 32 ≡ true =
-    and_second (nat_le 1 (length v)) (nat_le (length v) 32)
-    (and_first (nat_le 1 (length v) && nat_le (length v) 32) (list_all is_name_byte v) is) in
+    (and_parts (nat_le 1 (length v)) (nat_le (length v) 32)
+    (and_parts (nat_le 1 (length v) && nat_le (length v) 32) (list_all is_name_byte v) is).0).1 in
     grind (arith, nat_tests)
 
 -- the body of a message of RLNH

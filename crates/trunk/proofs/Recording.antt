@@ -1,5 +1,5 @@
 -- What is kept of both sides in words tells what a trunk keeps of its record.
-use Rattle.std.proofs.Common.{◌≡◌, ◌≤◌, ◌<◌, ℕ, suc, true, false, List, [], ◌∷◌, ◌++◌, Option, Some}
+use Rattle.std.proofs.Common.{◌≡◌, ◌<◌, ℕ, suc, true, false, List, [], ◌∷◌, ◌++◌, Option, Some}
 use Rattle.std.proofs.Common.{None, ◌⊎◌, inl, inr, map, arith, refl, sym, ◌∙◌, ap, subst}
 use Rattle.std.specs.Prelude.{◌==◌}
 use Rattle.std.specs.List.{AllByRecursion}
@@ -8,8 +8,7 @@ use Rattle.std.proofs.lemmas.Bool.Decides.{eqb_tells, nat_tests}
 use Rattle.linx_base.specs.FirstMatch.{first_match}
 use Rattle.linx_base.specs.declared.identity.Session.{Session}
 use Rattle.carrier.specs.Records.{names}
-use Rattle.carrier.proofs.Fronts.{either}
-use Rattle.rlnh_end.specs.Words.{Word}
+use Rattle.carrier.proofs.Fronts.{either, front_of_nil}
 use Rattle.rlnh_laws.specs.Meanings.{saids}
 use Rattle.rlnh_laws.specs.Ties.{Pair, Talk}
 use Rattle.rlnh_laws.proofs.Speaking.{saids-append}
@@ -17,20 +16,15 @@ use Rattle.trunk_record.specs.Records.{has_session, peer_of, said_of}
 use Rattle.trunk_record.specs.Sayings.{Given, IsProper, heard_as}
 use Rattle.trunk_record.specs.Trunks.{AllFall, EmptyWhileDown, FreesClosed, IsGivenInTurn, IsHalf}
 use Rattle.trunk_record.specs.Trunks.{IsHeardFrom, heard, nothing_heard}
+use Rattle.trunk_record.proofs.Lists.{all-impl}
 use Rattle.trunk.specs.Talks.{Both, FallBelow, Half, HoldAll, Holds, IsSound, Talks, all_talks}
 use Rattle.trunk.specs.Talks.{partner, record_of, side_record}
+use Rattle.trunk.proofs.Mirroring.{eq_turned}
 use Rattle.trunk.proofs.Partners.{down_partner, named, no_partner, nothing}
-
-front_nil : (xs ys : List Word) → [] ≡ xs ++ ys → xs ≡ []
-front_nil [] ys e = refl
-front_nil (x ∷ xs) ys e = absurd cc
 
 map_nil : (gs : List Given) → map heard_as gs ≡ [] → gs ≡ []
 map_nil [] e = refl
 map_nil (g ∷ gs) e = absurd cc
-
-eq_turned : (a b : ℕ) → (a == b) ≡ false → (b == a) ≡ false
-eq_turned a b e = grind (arith, nat_tests)
 
 -- a session has a partner where the session of its peer's number names it, and no partner else
 found : (e : Talk) (y : Session) (n : ℕ) (bs : List Talk) → FallBelow n bs → e.peer ≡ Some y
@@ -55,7 +49,7 @@ found e y n (b ∷ bs) f is =
                 inl (rw (is, test, off) (no_partner e y.0 b.number.0 bs itself f.1 (omega arith)))
           ]
       | inr other ↦
-          let test : (y.0 == b.number.0) ≡ false = eq_turned b.number.0 y.0 other.0 in
+          let test : (y.0 == b.number.0) ≡ false = eq_turned b.number.0 y.0 false other.0 in
           elim (found e y b.number.0 bs f.1 is) [
             | inl none ↦ inl (rw (is, test) none)
             | inr some ↦ inr (rw other.0 some.0, rw (other.0, is, test) some.1)
@@ -70,7 +64,7 @@ heard_from e A B far h = by_peer e.peer refl
     nothing_given : partner e (all_talks B) ≡ nothing → e.given ≡ []
     nothing_given none =
         let p : Pair e nothing = subst (λ f. Pair e f) none h.pair in
-        let heard_none : e.heard ≡ [] = front_nil e.heard p.back p.back_is in
+        let heard_none : e.heard ≡ [] = front_of_nil e.heard p.back p.back_is in
         map_nil e.given (h.alone.given ∙ ap saids heard_none)
 
     by_peer : (o : Option Session) → e.peer ≡ o → IsHeardFrom (side_record B) (record_of e)
@@ -91,13 +85,9 @@ falls_all n [] f = (tt, tt)
 falls_all n (e ∷ es) f =
     let rest = falls_all e.number.0 es f.1 in
     let below = f.0 in
-    ((below, lower e.number.0 n es (omega arith) rest.0), rest)
-  where
-    lower : (m n : ℕ) (es : List Talk) → m ≤ n
-        → AllByRecursion (λ r. r.session.0 < m) (map record_of es)
-        → AllByRecursion (λ r. r.session.0 < n) (map record_of es)
-    lower m n [] le h = tt
-    lower m n (e ∷ es) le h = let below = h.0 in (omega arith, lower m n es le h.1)
+    let later = all-impl (λ r. r.session.0 < e.number.0) (λ r. r.session.0 < n)
+    (λ r at. omega arith) (map record_of es) rest.0 in
+    ((below, later), rest)
 
 module _ (A B : Talks) (far : Half B A) where
   all_proper : (es : List Talk) → HoldAll (all_talks B) es

@@ -83,7 +83,7 @@ lowest_address ms few =
 
 -- ---- what an end says of its own accord
 
-all_words : (xs ys : List Word) → AllByRecursion FitsWord xs → AllByRecursion FitsWord ys
+pub all_words : (xs ys : List Word) → AllByRecursion FitsWord xs → AllByRecursion FitsWord ys
     → AllByRecursion FitsWord (xs ++ ys)
 all_words [] ys h k = k
 all_words (x ∷ xs) ys h k = (h.0, all_words xs ys h.1 k)

@@ -41,7 +41,8 @@ use Rattle.trunk.proofs.Mirroring.{got_word, messages-append}
 use Rattle.trunk.proofs.Offering.{Offered, offers, out_words}
 use Rattle.trunk.proofs.Partners.{pair_sym}
 use Rattle.trunk.proofs.Reading.{given_word, knows_word, messages_fit, read_word, reply_silent}
-use Rattle.trunk.proofs.Sounding.{SaysSoundly, fits_none, fresh_sound, heard_sound, hears_word}
+use Rattle.trunk.proofs.Sounding.{SaysSoundly, all_words, fits_none, fresh_sound, heard_sound}
+use Rattle.trunk.proofs.Sounding.{hears_word}
 use Rattle.trunk.proofs.Sounding.{said_sound}
 use Rattle.trunk.proofs.Meeting.{meets_none}
 use Rattle.trunk.proofs.Turning.{both_begin, both_next}
@@ -205,7 +206,8 @@ up_keeps t k v session peer kv same goes =
       both = both_begin A k.far peer (both_of t k) down;
       sound =
           record {
-            words = begin_fits A.now.words k.first.sound.0.words;
+            words = all_words A.now.words (hello ∷ []) k.first.sound.0.words
+                (record { has_address = tt; fits_fields = tt }, tt);
             tables = fits_none;
             meets = subst (λ ws. MeetsLive [] (saids ws))
                 (sym blank.heard) meets_none;
@@ -226,11 +228,6 @@ up_keeps t k v session peer kv same goes =
     })
     (ap (λ r. going_up peer r) k.first.kept
     ∙ ap (λ said. with_said_up A peer said) (sym (saids-append A.now.words (hello ∷ []))))
-  where
-    begin_fits : (ws : List Word) → AllByRecursion FitsWord ws
-        → AllByRecursion FitsWord (ws ++ hello ∷ [])
-    begin_fits [] fits = (record { has_address = tt; fits_fields = tt }, tt)
-    begin_fits (w ∷ ws) fits = (fits.0, begin_fits ws fits.1)
 
 -- ---- its session ends, and the next one begins
 

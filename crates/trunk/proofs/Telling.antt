@@ -1,5 +1,5 @@
 -- What the events of a trunk tell.
-use Rattle.std.proofs.Common.{◌≡◌, ◌<◌, ℕ, Bool, true, List, [], ◌∷◌, Option}
+use Rattle.std.proofs.Common.{◌≡◌, ◌<◌, ℕ, Bool, true, Option}
 use Rattle.std.proofs.Common.{Some}
 use Rattle.std.proofs.Common.{None, arith, refl, sym, ◌∙◌, ap, subst}
 use Rattle.std.specs.Prelude.{slice_get}
@@ -32,7 +32,8 @@ use Rattle.rlnh_end.specs.declared.up.Up.TheVariants as ups
 use Rattle.rlnh_end.specs.States.{RlnhTables}
 use Rattle.rlnh_end.specs.Hearing.{IsRead, hears}
 use Rattle.rlnh_laws.specs.Meanings.{given_for, heard_of}
-use Rattle.trunk_record.specs.Records.{SessionRecord, SideRecord, all, has_session}
+use Rattle.trunk_record.specs.Records.{SideRecord, all, has_session}
+use Rattle.trunk_record.proofs.Lists.{all-impl}
 use Rattle.trunk_record.specs.Sayings.{is_live}
 use Rattle.trunk_record.specs.Trunks.{AllFall, IsBelow, IsHalf}
 use Rattle.trunk.specs.Talks.{all_talks, side_record}
@@ -65,14 +66,12 @@ far_half t k =
 
 -- ---- a session that begins is above all before
 
-below_later : (x y : Session) (es : List SessionRecord) → x.0 < y.0
-    → AllByRecursion (IsBelow x) es → AllByRecursion (IsBelow y) es
-below_later x y [] h below = tt
-below_later x y (e ∷ es) h below = let at = below.0 in (omega arith, below_later x y es h below.1)
-
 pub all_below : (A : SideRecord) (y : Session) → AllFall (all A) → A.now.session.0 < y.0
     → AllByRecursion (IsBelow y) (all A)
-all_below A y falls h = (h, below_later A.now.session y A.earlier h falls.0)
+all_below A y falls h = (
+  h,
+  all-impl (IsBelow A.now.session) (IsBelow y) (λ e at. omega arith) A.earlier falls.0,
+)
 
 pub own_session : (t : TrunkState) (k : KeepsTrunk t)
     → t.link.first.end.talk.mine ≡ t.first.kept.now.session

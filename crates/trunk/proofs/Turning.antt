@@ -1,6 +1,8 @@
 -- What is kept of all sessions of both sides where a side goes up and where a session begins.
 use Rattle.std.proofs.Common.{◌≡◌, ◌≢◌, ◌<◌, true, false, List, [], ◌∷◌, Some, None, inl, inr}
 use Rattle.std.proofs.Common.{arith, refl, sym, ap, subst}
+use Rattle.std.proofs.Math.Bool.{and_comm}
+use Rattle.std.proofs.lemmas.Bool.{and_parts}
 use Rattle.linx_base.specs.declared.identity.Session.{Session}
 use Rattle.carrier.specs.Records.{names}
 use Rattle.carrier.proofs.Fronts.{either}
@@ -12,7 +14,7 @@ use Rattle.rlnh_laws.specs.Talks.{said_more}
 use Rattle.rlnh_laws.proofs.Uttering.{utter_grows}
 use Rattle.trunk.specs.Talks.{Both, FallBelow, HoldAll, IsBlank, Talks, all_talks, fresh_talk}
 use Rattle.trunk.specs.Talks.{is_peer, next_talks, partner, up_with, with_now}
-use Rattle.trunk.proofs.Partners.{alone_fresh, and_first, and_second, and_sym, holds_with}
+use Rattle.trunk.proofs.Partners.{alone_fresh, holds_with}
 use Rattle.trunk.proofs.Partners.{no_partner, nothing, pair_blank, pair_fresh, pair_sym}
 use Rattle.trunk.proofs.Partners.{down_partner}
 use Rattle.trunk.proofs.Growing.{both_says}
@@ -22,7 +24,7 @@ use Rattle.trunk.proofs.Growing.{both_says}
 far_next : (x : Session) (es bs : List Talk) → HoldAll es bs → HoldAll (fresh_talk x ∷ es) bs
 far_next x es [] h = tt
 far_next x es (t ∷ bs) h =
-    let off : is_peer t (fresh_talk x) ≡ false = and_sym (names x.0 t.peer) false in
+    let off : is_peer t (fresh_talk x) ≡ false = and_comm (names x.0 t.peer) false in
     (holds_with es (fresh_talk x ∷ es) t h.0 (rw off h.0.pair), far_next x es bs h.1)
 
 pub both_next : (A B : Talks) (x : Session) → Both A B → A.now.number.0 < x.0
@@ -64,7 +66,7 @@ module _ (e : Talk) (y : Session) (past : List Talk) (down : e.peer ≡ None) (b
   -- before, a session of the other side had another partner
   before : (t : Talk) → Pair t (partner t (e ∷ past)) → Pair t (partner t past)
   before t p =
-      let apart : is_peer t e ≡ false = rw down (and_sym (names e.number.0 t.peer) false) in
+      let apart : is_peer t e ≡ false = rw down (and_comm (names e.number.0 t.peer) false) in
       rw apart at p
 
   -- one that names it had none
@@ -81,7 +83,7 @@ module _ (e : Talk) (y : Session) (past : List Talk) (down : e.peer ≡ None) (b
         (elim (either (is_peer t (up_with e y))) [
           | inl on ↦
               let at : names e.number.0 t.peer ≡ true =
-              and_first (names e.number.0 t.peer) (names t.number.0 (Some y)) on in
+              (and_parts (names e.number.0 t.peer) (names t.number.0 (Some y)) on).0 in
               rw on (pair_up t at h.0.pair)
           | inr off ↦ rw off (before t h.0.pair)
         ]),
@@ -96,7 +98,7 @@ module _ (e : Talk) (y : Session) (past : List Talk) (down : e.peer ≡ None) (b
       elim (either (is_peer (up_with e y) t)) [
         | inl on ↦
             let at : names e.number.0 t.peer ≡ true =
-            and_second (names t.number.0 (Some y)) (names e.number.0 t.peer) on in
+            (and_parts (names t.number.0 (Some y)) (names e.number.0 t.peer) on).1 in
             rw on (pair_sym t (up_with e y) (pair_up t at h.0.pair))
         | inr off ↦ rw off (near_up fs h.1)
       ]

@@ -123,7 +123,7 @@ unfolding input_of tick_of offer_of data_in take_kept pieces_of framed cut follo
     spelling_of hears address_of lowest_free with_lowest
 signal_arrives = (refl, refl, refl)
 
--- another signal is under way while the receiver closes: it is freed, and only then the sender hears
+-- another signal is under way while the receiver closes: it is freed, and then the sender hears
 -- of the close
 abbrev late : TrunkState
 late =
