@@ -225,6 +225,38 @@ reply_silent t (Signal a b note) = by_both (inc_met t.met a) (meaning_of t.own b
     by_both (Some i) (Closing j) = refl
 reply_silent t Garbage = refl
 
+-- ---- and it is one word at most
+
+pub reply_few : (t : RlnhTables) (h : Heard) → length (hears t h).made.says ≤ 1
+unfolding hears
+reply_few t (Control Init) = omega arith
+reply_few t (Control InitReply) = omega arith
+reply_few t (Control (QueryName v)) = omega arith
+reply_few t (Control (Publish a i v)) =
+    elim (is_some (inc_met t.met a) || is_some (addr_met t.met i))
+    as (λ k. length (if k then only t Bad
+    else only (record t { met = with_met t.met a i }) (Met i v)).made.says ≤ 1)
+    [ true ↦ omega arith | false ↦ omega arith ]
+reply_few t (Control (Unpublish a)) = by_met (inc_met t.met a)
+  where
+    by_met : (o : Option Inc) → length (heard_unpublish t a o).made.says ≤ 1
+    by_met None = omega arith
+    by_met (Some i) = omega arith
+reply_few t (Control (UnpublishAck a)) = by_meaning (meaning_of t.own a)
+  where
+    by_meaning : (m : Meaning) → length (heard_ack t a m).made.says ≤ 1
+    by_meaning Free = omega arith
+    by_meaning (Live i) = omega arith
+    by_meaning (Closing i) = omega arith
+reply_few t (Signal a b note) = by_both (inc_met t.met a) (meaning_of t.own b)
+  where
+    by_both : (o : Option Inc) (m : Meaning) → length (heard_signal t note o m).made.says ≤ 1
+    by_both None m = omega arith
+    by_both (Some i) Free = omega arith
+    by_both (Some i) (Live j) = omega arith
+    by_both (Some i) (Closing j) = omega arith
+reply_few t Garbage = omega arith
+
 -- ---- what is understood isn't Bad
 
 pub not_bad : (w : Word) (u : Up) → Understands w u → u ≢ Bad

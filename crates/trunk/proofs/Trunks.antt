@@ -29,7 +29,7 @@ use Rattle.rlnh_end.specs.declared.up.Up.TheVariants.{Bad}
 use Rattle.rlnh_end.specs.Calls.{Saying}
 use Rattle.rlnh_end.specs.Hearing.{IsRead, hears}
 use Rattle.rlnh_end.specs.States.{RlnhTables, addr_met}
-use Rattle.rlnh_laws.specs.Meanings.{heard_of, saids}
+use Rattle.rlnh_laws.specs.Meanings.{Understands, heard_of, saids}
 use Rattle.rlnh_laws.specs.Ties.{Pair}
 use Rattle.rlnh_laws.proofs.ReadBack.{reads_word}
 use Rattle.trunk_record.specs.Records.{all}
@@ -42,7 +42,12 @@ use Rattle.trunk.specs.Events.{near_said, swapped_from}
 use Rattle.trunk.specs.Events.{near_says, near_ticked, near_took, restarted_at, said_at, seen_from}
 use Rattle.trunk.specs.Events.{side_of, ticked_at, told_by, turned, with_link}
 use Rattle.trunk.specs.Keeping.{KeepsTrunk, messages_of}
-use Rattle.trunk.specs.Laws.{IsUnderstood, MessagesUnderstood, SideAgrees, SidesAgree}
+use Rattle.trunk.specs.Laws.{IsOffered, IsUnderstood, MessagesUnderstood, SideAgrees, SidesAgree}
+use Rattle.trunk.specs.Laws.{SidesOffer}
+use Rattle.trunk.proofs.Calling.{calls_offer}
+use Rattle.trunk.proofs.Sounding.{hears_word}
+use Rattle.rlnh_end.specs.Words.{Word}
+use Rattle.trunk.specs.Talks.{FitsWord}
 use Rattle.trunk.specs.Promises.{IsPeerHeld, PeersRise, Promises, SidePromises}
 use Rattle.trunk.specs.Tells.{CallsTell, DownForLater, EventsTell, PacketsTell, Says, TellsNotes}
 use Rattle.trunk.specs.Tells.{TellsSide, TurnsTell, noted_of, up_of_tick}
@@ -51,7 +56,7 @@ use Rattle.trunk.proofs.Meeting.{is_met}
 use Rattle.trunk.proofs.Mirroring.{none_left}
 use Rattle.trunk.proofs.Peers.{side_peers_held, side_peers_rise}
 use Rattle.trunk.proofs.Promising.{given_promises, not_twice, said_promises}
-use Rattle.trunk.proofs.Reading.{not_bad}
+use Rattle.trunk.proofs.Reading.{messages_fit, not_bad, reply_few}
 use Rattle.trunk.proofs.Saying.{NearSays, address_live, close_says, opened_says, publish_says}
 use Rattle.trunk.proofs.Saying.{query_says, send_says, silent_down}
 use Rattle.trunk.proofs.Silence.{silence_tells}
@@ -130,6 +135,18 @@ quiet t k still =
 
 -- ---- messages are understood
 
+near_reply : (t : TrunkState) (kt : KeepsTrunk t) (w : Word) → FitsWord w
+    → Understands w (hears kt.near.now.end (heard_of w)).up
+    → IsOffered (hears kt.near.now.end (heard_of w)).made 1
+near_reply t kt w fits understood =
+    let sound = kt.first.sound.0 in
+    let reply = hears_word kt.near.now.end (saids kt.near.now.heard) w sound.tables sound.meets
+    kt.first.half.holds.0.alone.apart fits understood in
+    record {
+      messages = messages_fit (hears kt.near.now.end (heard_of w)).made.says reply.says;
+      few = reply_few kt.near.now.end (heard_of w);
+    }
+
 near_understood : (t : TrunkState) (kt : KeepsTrunk t) (k : ℕ) (m : Message)
     → near_handed t.link (slice_get t.link.back k) ≡ Got m → IsUnderstood t.first m
 near_understood t kt k m is =
@@ -146,6 +163,8 @@ near_understood t kt k m is =
       not_bad = subst (λ (s : RlnhTables). (hears s (heard_of c.word)).up ≢ Bad)
           (sym kt.first.tables)
           (not_bad c.word (hears kt.near.now.end (heard_of c.word)).up c.right.understands);
+      reply = subst (λ (s : RlnhTables). IsOffered (hears s (heard_of c.word)).made 1)
+          (sym kt.first.tables) (near_reply t kt c.word c.fits c.right.understands);
     }
 
 pub understood : MessagesUnderstood
@@ -182,6 +201,10 @@ near_agrees t k =
 pub agree : SidesAgree
 agree First t k = near_agrees t k
 agree Second t k = near_agrees (turned t) (turned_keeps t k)
+
+pub offers : SidesOffer
+offers First t k = calls_offer t k
+offers Second t k = calls_offer (turned t) (turned_keeps t k)
 
 -- ---- what the events tell
 

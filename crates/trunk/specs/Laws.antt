@@ -1,6 +1,8 @@
 -- What the events of a trunk keep, and what then holds of its layers.
 use Rattle.std.specs.Prelude.{◌≡◌, ◌≢◌, ◌<◌, ◌≤◌, ◌^◌, ℕ, Bool, true, false, List, [], length, map}
 use Rattle.std.specs.Prelude.{None, IsTrue, is_some}
+use Rattle.std.specs.List.{AllByRecursion}
+use Rattle.linx_base.specs.Frames.{IsMessage}
 use Rattle.linx_base.specs.NameText.{is_name}
 use Rattle.linx_base.specs.Numbers.{boot_of}
 use Rattle.linx_base.specs.Sides.{other_of}
@@ -12,6 +14,8 @@ use Rattle.link_addresses.specs.Meanings.{address_of, used_in}
 use Rattle.rlnh_messages.specs.Signals.{IsSignal}
 use Rattle.rlnh_end.specs.declared.heard.Heard.{Heard}
 use Rattle.rlnh_end.specs.declared.up.Up.TheVariants.{Bad}
+use Rattle.rlnh_end.specs.Calls.{Saying, begin_of, close_of, opened_of, publish_of, query_of}
+use Rattle.rlnh_end.specs.Calls.{send_of}
 use Rattle.rlnh_end.specs.States.{addr_met, no_tables}
 use Rattle.rlnh_end.specs.Hearing.{IsRead, hears}
 use Rattle.trunk_record.specs.Sayings.{heard_as, is_live, was_unpublished}
@@ -22,7 +26,7 @@ use Rattle.carrier.specs.declared.handed.Handed.TheVariants.{Got}
 use Rattle.trunk.specs.Events.{IsReading, TrunkSide, TrunkState, asked_at, closed_at, delivered}
 use Rattle.trunk.specs.Events.{lost_from, new_trunk, opened_at, published_at, restarted_at}
 use Rattle.trunk.specs.Events.{sent_at, side_of, swapped_from, ticked_at}
-use Rattle.trunk.specs.Keeping.{KeepsTrunk}
+use Rattle.trunk.specs.Keeping.{KeepsTrunk, messages_of}
 
 -- an incarnation of this name may be published: there is an address for it, and it wasn't
 -- unpublished in the present session
@@ -79,12 +83,18 @@ pub record EventsKeep : Type 0 where
 
 -- ---- what then holds
 
--- a message that came to a side has one reading, which isn't bad
+-- what an end says goes by messages that the link takes, at most `count` of them
+pub record IsOffered (made : Saying) (count : ℕ) : Type 0 where
+  pub messages : AllByRecursion IsMessage (messages_of made.says)
+  pub few : length made.says ≤ count
+
+-- a message that came to a side has one reading, which isn't bad, and at most one reply
 pub record IsUnderstood (s : TrunkSide) (m : Message) : Type 0 where
   pub heard : Heard
   pub read : IsRead m heard
   pub alone : (other : Heard) → IsRead m other → other ≡ heard
   pub not_bad : (hears s.end.tables heard).up ≢ Bad
+  pub reply : IsOffered (hears s.end.tables heard).made 1
 
 -- each message that the link hands up is understood
 abbrev pub MessagesUnderstood : Type 0
@@ -111,3 +121,22 @@ abbrev pub SidesAgree : Type 0
 SidesAgree =
     (side : Side) (t : TrunkState) → KeepsTrunk t
     → SideAgrees (side_of side t) (half_of side t.link)
+
+-- what each call of a side offers
+pub record CallsOffer (s : TrunkSide) : Type 0 where
+  pub begun : IsOffered begin_of 1
+  pub published :
+      (inc : Inc) (name : List ℕ) → MayPublish s inc name
+      → IsOffered (publish_of s.end.tables inc name) 1
+  pub opened :
+      (inc : Inc) (name : List ℕ) → MayPublish s inc name
+      → IsOffered (opened_of s.end.tables inc name) 1
+  pub closed : (inc : Inc) → IsOffered (close_of s.end.tables inc) 1
+  pub asked :
+      (name : List ℕ) → IsTrue (is_name name) → IsOffered (query_of s.end.tables name) 1
+  pub sent :
+      (from : Inc) (name : List ℕ) (to : Inc) (signal : SigNote)
+      → MaySend s from name to signal → IsOffered (send_of s.end.tables from name to signal) 2
+
+abbrev pub SidesOffer : Type 0
+SidesOffer = (side : Side) (t : TrunkState) → KeepsTrunk t → CallsOffer (side_of side t)

@@ -6,7 +6,7 @@ ghost use Rattle.trunk_record.specs.Trunks.{IsQuiet, IsTrunk};
 ghost use Rattle.carrier.specs.Events.{is_quiet};
 ghost use Rattle.trunk.specs.Events.{TrunkState};
 ghost use Rattle.trunk.specs.Keeping.{KeepsTrunk};
-ghost use Rattle.trunk.specs.Laws.{EventsKeep, MessagesUnderstood, SidesAgree};
+ghost use Rattle.trunk.specs.Laws.{EventsKeep, MessagesUnderstood, SidesAgree, SidesOffer};
 ghost use Rattle.trunk.specs.Promises.{Promises};
 ghost use Rattle.trunk.specs.Tells.{EventsTell};
 
@@ -17,7 +17,8 @@ pub fn events_keep()
     ensures { EventsKeep }
 {}
 
-/// So whatever comes to a side is understood, and nothing is ever bad.
+/// So whatever comes to a side is understood: it has one reading, which is never bad, and the reply
+/// is at most one message.
 pub fn messages_are_understood()
     ensures { MessagesUnderstood }
 {}
@@ -26,6 +27,12 @@ pub fn messages_are_understood()
 /// peer, what it published and whom it met.
 pub fn sides_agree()
     ensures { SidesAgree }
+{}
+
+/// What a call says goes by messages that the link takes: at most two for a signal, whose sender may
+/// have to be published first, and at most one for any other call.
+pub fn sides_offer()
+    ensures { SidesOffer }
 {}
 
 /// What is recorded of both sides is what the layers above rest on.

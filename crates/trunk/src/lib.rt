@@ -8,5 +8,5 @@ mod laws;
 mod up;
 
 pub use laws::{events_keep, events_tell, messages_are_understood, quiet_is_complete};
-pub use laws::{sides_agree, trunks_keep_promises, trunks_keep_records};
+pub use laws::{sides_agree, sides_offer, trunks_keep_promises, trunks_keep_records};
 pub use up::TrunkUp;

@@ -1,0 +1,5 @@
+use Rattle.trunk.proofs.Trunks.{offers}
+use Rattle.trunk.proofs.laws.sides_offer.Goals as goal
+
+pub returns : goal.returns
+returns c = offers
