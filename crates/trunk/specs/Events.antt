@@ -157,6 +157,7 @@ abbrev pub near_beat : TrunkState → TickedSide → TrunkState
 near_beat t ticked.Stays = t
 near_beat t (ticked.WentDown session) = near_down t (next_session session)
 
+-- it is ticked
 abbrev pub near_ticked : TrunkState → TrunkState
 near_ticked t =
     near_beat (with_link t (links.near_ticked t.link))
@@ -169,7 +170,7 @@ near_restarted t boot =
 
 -- ---- what is handed up
 
--- of what an RLNH end hands up; it never hands up Bad
+-- of what an RLNH end hands up; Bad never comes within a trunk
 abbrev pub told_up : Up → TrunkUp
 told_up ups.Nothing = tells.Nothing
 told_up (ups.Arrived from to note) = tells.Arrived from to note
@@ -203,13 +204,15 @@ abbrev pub seen_from : Side → TrunkState → TrunkState
 seen_from First t = t
 seen_from Second t = turned t
 
--- a side; the tables of its RLNH end; what is recorded of it
+-- a side above its link
 abbrev pub side_of : Side → TrunkState → TrunkSide
 side_of side t = (seen_from side t).first
 
+-- the tables of its RLNH end
 abbrev pub tables_of : Side → TrunkState → RlnhTables
 tables_of side t = (side_of side t).end.tables
 
+-- what is recorded of it
 abbrev pub kept_of : Side → TrunkState → SideRecord
 kept_of side t = (side_of side t).kept
 

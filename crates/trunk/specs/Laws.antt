@@ -117,6 +117,7 @@ pub record SideAgrees (s : TrunkSide) (h : HalfState) : Type 0 where
       (i : Inc)
       → is_some (addr_met s.end.tables.met i) ≡ is_live i (map heard_as s.kept.now.given)
 
+-- both sides agree
 abbrev pub SidesAgree : Type 0
 SidesAgree =
     (side : Side) (t : TrunkState) → KeepsTrunk t
@@ -138,5 +139,6 @@ pub record CallsOffer (s : TrunkSide) : Type 0 where
       (from : Inc) (name : List ℕ) (to : Inc) (signal : SigNote)
       → MaySend s from name to signal → IsOffered (send_of s.end.tables from name to signal) 2
 
+-- at both sides
 abbrev pub SidesOffer : Type 0
 SidesOffer = (side : Side) (t : TrunkState) → KeepsTrunk t → CallsOffer (side_of side t)

@@ -90,6 +90,7 @@ PeersRise (e ∷ es) = ForSome e.peer (λ y. PeersUpTo y es) × PeersRise es
 abbrev pub IsPeerHeld : SideRecord → SessionRecord → Type 0
 IsPeerHeld B e = ForSome e.peer (λ y. list_any (has_session y) (all B) ≡ true)
 
+-- of each of its sessions, and of all of them
 pub record SidePromises (A B : SideRecord) : Type 0 where
   pub given : (x : Session) → GivenPromises A B x
   pub said : (x : Session) → SaidPromises A x
@@ -104,6 +105,7 @@ pub record SidePromises (A B : SideRecord) : Type 0 where
 
 -- ---- what is promised of a trunk
 
+-- of both sides
 pub record Promises (t : TrunkState) : Type 0 where
   pub first : SidePromises t.first.kept t.second.kept
   pub second : SidePromises t.second.kept t.first.kept

@@ -24,14 +24,16 @@ pub record Talks : Type 0 where
   pub now : Talk
   pub earlier : List Talk
 
+-- all its sessions
 abbrev pub all_talks : Talks → List Talk
 all_talks A = A.now ∷ A.earlier
 
--- the public record of a session, and of a side
+-- what is recorded of a session: who was meant by its words, and no address
 abbrev pub record_of : Talk → SessionRecord
 record_of e =
     record { session = e.number; peer = e.peer; said = saids e.words; given = e.given }
 
+-- what is recorded of a side
 abbrev pub side_record : Talks → SideRecord
 side_record A = record { now = record_of A.now; earlier = map record_of A.earlier }
 
@@ -92,6 +94,7 @@ pub record Half (A B : Talks) : Type 0 where
   pub falls : FallBelow A.now.number.0 A.earlier
   pub holds : HoldAll (all_talks B) (all_talks A)
 
+-- and both ways
 pub record Both (A B : Talks) : Type 0 where
   pub near : Half A B
   pub far : Half B A
@@ -112,6 +115,7 @@ pub record MeetsLive (met : List MetAt) (heard : List Said) : Type 0 where
 abbrev pub FitsWord : Word → Type 0
 FitsWord w = FitsMessage (heard_of w)
 
+-- what was said fits, the tables fit what was heard, and what was given came in turn
 pub record IsSound (e : Talk) : Type 0 where
   pub words : AllByRecursion FitsWord e.words
   pub tables : FitsTables e.end

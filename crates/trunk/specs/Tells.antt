@@ -62,6 +62,7 @@ pub record IsDown (A C : SideRecord) (session : Session) : Type 0 where
   pub kept : C ≡ beginning (next_session session) A
   pub above : AllByRecursion (IsBelow (next_session session)) (all A)
 
+-- what is handed up says which of these it is
 abbrev pub TellsSide : SideRecord → SideRecord → SideRecord → TrunkUp → Type 0
 TellsSide A C B Nothing = IsQuietly A C B
 TellsSide A C B (WentUp session peer) = IsUp A C B session peer
@@ -71,7 +72,7 @@ TellsSide A C B (Met inc name) = IsGiven A C B (met inc name)
 TellsSide A C B (Gone inc) = IsGiven A C B (gone inc)
 TellsSide A C B (Asked name) = IsGiven A C B (asked_for name)
 
--- the names that the other side asked for and that nobody has yet
+-- and what becomes of the names that the other side asked for and that nobody has yet
 abbrev pub TellsNotes : List (List ℕ) → List (List ℕ) → TrunkUp → Type 0
 TellsNotes old new Nothing = new ≡ old
 TellsNotes old new (WentUp session peer) = new ≡ []
@@ -111,7 +112,7 @@ abbrev pub notes_sending : Inc → List ℕ → SideRecord → List (List ℕ) �
 notes_sending inc name A noted =
     if is_live inc A.now.said then noted else without_note noted name
 
--- a side's record and notes
+-- the names that a side has noted
 abbrev pub noted_of : Side → TrunkState → List (List ℕ)
 noted_of side t = (tables_of side t).noted
 
@@ -125,6 +126,7 @@ pub record Says (side : Side) (t u : TrunkState) (said : List Said) (noted : Lis
 
 -- a packet from a side
 pub record PacketsTell : Type 0 where
+  -- how the record of the side that it comes to grows, and what becomes of its notes
   pub side :
       (from : Side) (k : ℕ) (keep : Bool) (heard : Heard) (t : TrunkState) → KeepsTrunk t
       → IsReading (handed_by from k t.link) heard
@@ -263,6 +265,7 @@ pub record SilenceTells : Type 0 where
       (side at : Side) (call : RlnhTables → Saying) (t : TrunkState)
       → silent_of at (said_at side call t) ≡ silent_of at t
 
+-- all of this
 pub record EventsTell : Type 0 where
   pub packets : PacketsTell
   pub turns : TurnsTell
