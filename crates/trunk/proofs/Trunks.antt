@@ -1,7 +1,9 @@
 -- What is promised of a trunk, and what its events tell, at both sides.
-use Rattle.std.proofs.Common.{◌≡◌, ◌≢◌, ◌<◌, ℕ, Bool, true, false, List, [], Some, None, map, refl}
+use Rattle.std.proofs.Common.{◌≡◌, ◌≢◌, ◌<◌, ◌++◌, ℕ, Bool, true, false, List, [], Option, Some}
+use Rattle.std.proofs.Common.{None, map, refl}
 use Rattle.std.proofs.Common.{sym, ◌∙◌, ap, subst}
-use Rattle.std.specs.Prelude.{if◌then◌else◌, is_some, slice_get}
+use Rattle.std.specs.Prelude.{◌==◌, ◌&&◌, if◌then◌else◌, is_some, length, not, slice_get}
+use Rattle.std.proofs.Math.Bool.{and_comm}
 use Rattle.std.specs.List.{AllByRecursion}
 use Rattle.linx_base.specs.Numbers.{boot_of, first_session}
 use Rattle.linx_base.specs.Sides.{other_of}
@@ -10,8 +12,8 @@ use Rattle.linx_base.specs.declared.identity.Inc.{Inc}
 use Rattle.linx_base.specs.declared.identity.Side.{Side}
 use Rattle.linx_base.specs.declared.identity.Side.TheVariants.{First, Second}
 use Rattle.ethcm_end.specs.Rules.{tick_of}
-use Rattle.ethcm_end.specs.States.{peer_of}
-use Rattle.carrier.specs.Events.{is_quiet, near_handed, ticked_as}
+use Rattle.ethcm_end.specs.States.{has_work_in, peer_of}
+use Rattle.carrier.specs.Events.{LinkState, is_quiet, near_handed, ticked_as}
 use Rattle.carrier.specs.Events as links
 use Rattle.carrier.specs.Laws.{HandsUp, IsComplete, TellsRightly}
 use Rattle.carrier.specs.declared.handed.Handed.{Handed}
@@ -28,7 +30,12 @@ use Rattle.rlnh_end.specs.declared.heard.Heard.{Heard}
 use Rattle.rlnh_end.specs.declared.up.Up.TheVariants.{Bad}
 use Rattle.rlnh_end.specs.Calls.{Saying}
 use Rattle.rlnh_end.specs.Hearing.{IsRead, hears}
-use Rattle.rlnh_end.specs.States.{RlnhTables, addr_met}
+use Rattle.rlnh_end.specs.States.{RlnhTables, addr_met, inc_met}
+use Rattle.linx_base.specs.declared.identity.Inc.{Inc}
+use Rattle.link_addresses.specs.declared.meaning.Meaning.{Meaning}
+use Rattle.link_addresses.specs.Meanings.{meaning_of}
+use Rattle.rlnh_laws.specs.Ties.{Stands, about, announced, answered, known, toward, unused}
+use Rattle.std.proofs.lemmas.List.{append_cancel_left, append-nil}
 use Rattle.rlnh_laws.specs.Meanings.{Understands, heard_of, saids}
 use Rattle.rlnh_laws.specs.Ties.{Pair}
 use Rattle.rlnh_laws.proofs.ReadBack.{reads_word}
@@ -43,7 +50,7 @@ use Rattle.trunk.specs.Events.{near_says, near_ticked, near_took, restarted_at, 
 use Rattle.trunk.specs.Events.{side_of, ticked_at, told_by, turned, with_link}
 use Rattle.trunk.specs.Keeping.{KeepsTrunk, messages_of}
 use Rattle.trunk.specs.Laws.{IsOffered, IsUnderstood, MessagesUnderstood, SideAgrees, SidesAgree}
-use Rattle.trunk.specs.Laws.{SidesOffer}
+use Rattle.trunk.specs.Laws.{EndsAgree, IsMetAs, SidesOffer}
 use Rattle.trunk.proofs.Calling.{calls_offer}
 use Rattle.trunk.proofs.Sounding.{hears_word}
 use Rattle.rlnh_end.specs.Words.{Word}
@@ -132,6 +139,67 @@ quiet t k still =
     subst (λ r. IsQuiet r t.second.kept) (sym k.first.kept)
     (subst (λ r. IsQuiet (side_record A) r) (sym k.second.kept)
     (record { pair = p; back = q; said = there; answered = back }))
+
+-- a link is quiet from either side
+quiet_turned : (v : LinkState) → is_quiet v ≡ true → is_quiet (links.turned v) ≡ true
+quiet_turned v still =
+    by_four (length v.there == 0) (length v.back == 0) (not (has_work_in v.first.end))
+    (not (has_work_in v.second.end)) still
+  where
+    by_four : (a b c d : Bool) → ((a && b) && (c && d)) ≡ true → ((b && a) && (d && c)) ≡ true
+    by_four a b c d is = ap (λ x. x && (d && c)) (and_comm b a)
+        ∙ ap (λ x. (a && b) && x) (and_comm d c) ∙ is
+
+-- nothing is under way, so that each address is unused or known
+settled : (own : Meaning) (met : Option Inc) → Stands own met [] [] → IsMetAs own met
+settled own met (unused free none e t) = subst (λ m. IsMetAs m met) (sym free) none
+settled own met (announced i r none e tells t) = absurd cc
+settled own met (known i is tells aims) = subst (λ m. IsMetAs m met) (sym tells) is
+settled own met (answered i closing none e acks) = absurd acks
+
+-- no words are left of those that were all heard
+none_there : (xs ys zs : List Word) → zs ≡ xs ++ ys → zs ≡ xs → ys ≡ []
+none_there xs ys zs e is =
+    append_cancel_left xs ys [] (sym e ∙ is ∙ sym (append-nil xs))
+
+talks_agree : (A B : Talks) (p : Pair A.now B.now) → A.now.words ≡ B.now.heard
+    → B.now.words ≡ A.now.heard → (a : ℕ)
+    → IsMetAs (meaning_of A.now.end.own a) (inc_met B.now.end.met a)
+talks_agree A B p there back a =
+    let none : p.there ≡ [] = none_there B.now.heard p.there A.now.words p.there_is there in
+    let empty : p.back ≡ [] = none_there A.now.heard p.back B.now.words p.back_is back in
+    settled (meaning_of A.now.end.own a) (inc_met B.now.end.met a)
+    (subst (λ w. Stands (meaning_of A.now.end.own a) (inc_met B.now.end.met a) (about a w) [])
+    none (subst (λ w. Stands (meaning_of A.now.end.own a) (inc_met B.now.end.met a)
+    (about a p.there) (toward a w)) empty (p.near a)))
+
+near_ends : (t : TrunkState) → KeepsTrunk t → is_quiet t.link ≡ true → (a : ℕ)
+    → IsMetAs (meaning_of t.first.end.tables.own a) (inc_met t.second.end.tables.met a)
+near_ends t k still a =
+    let c : IsComplete t.link = quiet_complete t.link k.link still in
+    let A = k.near in
+    let B = k.far in
+    let m = k.first.mirrors.0 in
+    let n = k.second.mirrors.0 in
+    let p : A.now.peer ≡ Some B.now.number = sym m.peer ∙ c.first_up ∙ ap Some n.number in
+    let q : B.now.peer ≡ Some A.now.number = sym n.peer ∙ c.second_up ∙ ap Some m.number in
+    let pair : Pair A.now B.now =
+    subst (λ f. Pair A.now f) (partner_now A B p q) k.first.half.holds.0.pair in
+    let there = none_left B.now.heard pair.there A.now.words pair.there_is
+    (sym n.handed ∙ c.there ∙ m.offered) in
+    let back = none_left A.now.heard pair.back B.now.words pair.back_is
+    (sym m.handed ∙ c.back ∙ n.offered) in
+    subst (λ (s : RlnhTables). IsMetAs (meaning_of s.own a)
+    (inc_met t.second.end.tables.met a)) (sym k.first.tables)
+    (subst (λ (s : RlnhTables). IsMetAs (meaning_of A.now.end.own a) (inc_met s.met a))
+    (sym k.second.tables) (talks_agree A B pair there back a))
+
+pub quiet_ends : (t : TrunkState) → KeepsTrunk t → is_quiet t.link ≡ true → EndsAgree t
+quiet_ends t k still =
+    record {
+      first = near_ends t k still;
+      second = near_ends (turned t) (turned_keeps t k) (quiet_turned t.link still);
+    }
 
 -- ---- messages are understood
 

@@ -1,6 +1,6 @@
 -- What the events of a trunk keep, and what then holds of its layers.
 use Rattle.std.specs.Prelude.{◌≡◌, ◌≢◌, ◌<◌, ◌≤◌, ◌^◌, ℕ, Bool, true, false, List, [], length, map}
-use Rattle.std.specs.Prelude.{None, IsTrue, is_some}
+use Rattle.std.specs.Prelude.{Option, Some, None, IsTrue, is_some}
 use Rattle.std.specs.List.{AllByRecursion}
 use Rattle.linx_base.specs.Frames.{IsMessage}
 use Rattle.linx_base.specs.NameText.{is_name}
@@ -10,13 +10,15 @@ use Rattle.linx_base.specs.declared.frame.Message.{Message}
 use Rattle.linx_base.specs.declared.identity.Inc.{Inc}
 use Rattle.linx_base.specs.declared.identity.Side.{Side}
 use Rattle.linx_base.specs.declared.signal.SigNote.{SigNote}
-use Rattle.link_addresses.specs.Meanings.{address_of, used_in}
+use Rattle.link_addresses.specs.declared.meaning.Meaning.{Meaning}
+use Rattle.link_addresses.specs.declared.meaning.Meaning.TheVariants.{Free, Live, Closing}
+use Rattle.link_addresses.specs.Meanings.{address_of, meaning_of, used_in}
 use Rattle.rlnh_messages.specs.Signals.{IsSignal}
 use Rattle.rlnh_end.specs.declared.heard.Heard.{Heard}
 use Rattle.rlnh_end.specs.declared.up.Up.TheVariants.{Bad}
 use Rattle.rlnh_end.specs.Calls.{Saying, begin_of, close_of, opened_of, publish_of, query_of}
 use Rattle.rlnh_end.specs.Calls.{send_of}
-use Rattle.rlnh_end.specs.States.{addr_met, no_tables}
+use Rattle.rlnh_end.specs.States.{addr_met, inc_met, no_tables}
 use Rattle.rlnh_end.specs.Hearing.{IsRead, hears}
 use Rattle.trunk_record.specs.Sayings.{heard_as, is_live, was_unpublished}
 use Rattle.ethcm_end.specs.States.{peer_of}
@@ -142,3 +144,20 @@ pub record CallsOffer (s : TrunkSide) : Type 0 where
 -- at both sides
 abbrev pub SidesOffer : Type 0
 SidesOffer = (side : Side) (t : TrunkState) → KeepsTrunk t → CallsOffer (side_of side t)
+
+-- ---- where the link is quiet
+
+-- who the other end has met at an address that means this to its owner; none is closing
+abbrev pub IsMetAs : Meaning → Option Inc → Type 0
+IsMetAs Free met = met ≡ None
+IsMetAs (Live inc) met = met ≡ Some inc
+IsMetAs (Closing inc) met = ⊥
+
+-- each end has met whom the other has published
+pub record EndsAgree (t : TrunkState) : Type 0 where
+  pub first :
+      (a : ℕ)
+      → IsMetAs (meaning_of t.first.end.tables.own a) (inc_met t.second.end.tables.met a)
+  pub second :
+      (a : ℕ)
+      → IsMetAs (meaning_of t.second.end.tables.own a) (inc_met t.first.end.tables.met a)

@@ -6,7 +6,8 @@ ghost use Rattle.trunk_record.specs.Trunks.{IsQuiet, IsTrunk};
 ghost use Rattle.carrier.specs.Events.{is_quiet};
 ghost use Rattle.trunk.specs.Events.{TrunkState};
 ghost use Rattle.trunk.specs.Keeping.{KeepsTrunk};
-ghost use Rattle.trunk.specs.Laws.{EventsKeep, MessagesUnderstood, SidesAgree, SidesOffer};
+ghost use Rattle.trunk.specs.Laws.{EndsAgree, EventsKeep, MessagesUnderstood, SidesAgree};
+ghost use Rattle.trunk.specs.Laws.{SidesOffer};
 ghost use Rattle.trunk.specs.Promises.{Promises};
 ghost use Rattle.trunk.specs.Tells.{EventsTell};
 
@@ -54,6 +55,12 @@ pub fn quiet_is_complete()
         (t : TrunkState) → KeepsTrunk t → is_quiet t.link ≡ true
         → IsQuiet t.first.kept t.second.kept
     }
+{}
+
+/// Then each RLNH end has met just whom the other one has published and not unpublished, and no
+/// address is closing.
+pub fn quiet_ends_agree()
+    ensures { (t : TrunkState) → KeepsTrunk t → is_quiet t.link ≡ true → EndsAgree t }
 {}
 
 /// What is handed up of an event, and what a call says, tell how the record of its side grows; the
