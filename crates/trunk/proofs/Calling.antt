@@ -1,13 +1,13 @@
 -- What holds of a trunk holds after each call at its first side.
 use Rattle.std.proofs.Common.{◌≡◌, ◌≤◌, ◌<◌, ℕ, false, true, List, [], Option, Some, None, map}
-use Rattle.std.proofs.Common.{arith}
-use Rattle.std.proofs.Common.{length, sym, ◌∙◌, ap, subst}
+use Rattle.std.proofs.Common.{arith, length, sym, ◌∙◌, ap, subst}
 use Rattle.std.specs.Prelude.{IsTrue, if◌then◌else◌}
 use Rattle.std.proofs.lemmas.List.{length-append}
 use Rattle.linx_base.specs.NameText.{is_name}
 use Rattle.linx_base.specs.declared.identity.Inc.{Inc}
 use Rattle.linx_base.specs.declared.signal.SigNote.{SigNote}
 use Rattle.link_addresses.specs.Meanings.{address_of, used_in}
+use Rattle.trunk_record.specs.Sayings.{heard_as, is_live, was_unpublished}
 use Rattle.rlnh_end.specs.States.{RlnhTables, addr_met, is_noted, without_note}
 use Rattle.rlnh_end.specs.Words.{hello}
 use Rattle.rlnh_end.specs.Calls.{Saying, announced, begin_of, close_of, closed, known_of, opened_of}
@@ -16,11 +16,10 @@ use Rattle.rlnh_laws.specs.Meanings.{saids}
 use Rattle.rlnh_laws.specs.Ties.{Talk}
 use Rattle.rlnh_laws.proofs.Calling.{close_grows, opened_grows, publish_grows, query_grows}
 use Rattle.rlnh_laws.proofs.Calling.{send_grows}
-use Rattle.trunk_record.specs.Sayings.{heard_as, is_live, was_unpublished}
-use Rattle.trunk.specs.Talks.{FitsWord}
 use Rattle.trunk.specs.Events.{TrunkState, near_said}
 use Rattle.trunk.specs.Keeping.{KeepsTrunk}
 use Rattle.trunk.specs.Laws.{CallsOffer, IsOffered, MayPublish, MaySend}
+use Rattle.trunk.specs.Talks.{FitsWord}
 use Rattle.trunk.proofs.Meeting.{met_once}
 use Rattle.trunk.proofs.Reading.{messages_fit}
 use Rattle.trunk.proofs.Sounding.{SaysSoundly, close_sound, opened_sound, publish_sound}

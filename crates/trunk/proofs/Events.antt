@@ -19,13 +19,13 @@ use Rattle.carrier.proofs.Delivering.{events_tell}
 use Rattle.carrier.proofs.Links as carried
 use Rattle.rlnh_end.specs.declared.heard.Heard.{Heard}
 use Rattle.rlnh_laws.specs.Ties.{Pair}
-use Rattle.trunk.specs.Talks.{Half, Talks, all_talks, fresh_talk}
 use Rattle.trunk.specs.Events.{IsReading, TrunkState, delivered, lost_from, near_beat}
 use Rattle.trunk.specs.Events.{near_delivered, near_restarted, near_ticked, new_trunk}
 use Rattle.trunk.specs.Events.{new_trunk_side, restarted_at, seen_from, swapped_from, ticked_at}
 use Rattle.trunk.specs.Events.{turned, with_link}
 use Rattle.trunk.specs.Keeping.{KeepsSide, KeepsTrunk}
 use Rattle.trunk.specs.Laws.{EventsKeep}
+use Rattle.trunk.specs.Talks.{Half, Talks, all_talks, fresh_talk}
 use Rattle.trunk.proofs.Calling.{close_keeps, opened_keeps, publish_keeps, query_keeps, send_keeps}
 use Rattle.trunk.proofs.Partners.{alone_fresh, down_partner, pair_fresh}
 use Rattle.trunk.proofs.Sounding.{fresh_sound}

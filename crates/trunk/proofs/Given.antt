@@ -1,15 +1,20 @@
 -- What is recorded of a word that came to a side, and what is handed up of it.
-use Rattle.std.proofs.Common.{◌≡◌, ℕ, Bool, true, false, ◌||◌, List, Option, Some, None}
-use Rattle.std.proofs.Common.{refl, sym, subst}
+use Rattle.std.proofs.Common.{◌≡◌, ℕ, Bool, true, false, ◌||◌, List, Option, Some, None, refl, sym}
+use Rattle.std.proofs.Common.{subst}
 use Rattle.std.specs.Prelude.{if◌then◌else◌, is_some}
-use Rattle.std.specs.List.{list_any}
 use Rattle.std.proofs.lemmas.Bool.{or_left}
+use Rattle.std.specs.List.{list_any}
 use Rattle.linx_base.specs.Peers.{same_inc}
 use Rattle.linx_base.specs.declared.identity.Inc.{Inc}
 use Rattle.linx_base.specs.declared.signal.SigNote.{SigNote}
 use Rattle.link_addresses.specs.declared.meaning.Meaning.{Meaning}
 use Rattle.link_addresses.specs.declared.meaning.Meaning.TheVariants.{Free, Live, Closing}
 use Rattle.link_addresses.specs.Meanings.{meaning_of}
+use Rattle.trunk_record.specs.Records.{SideRecord}
+use Rattle.trunk_record.specs.Sayings.{Given, arrived, asked_for, freed, frees, gone, is_live, met}
+use Rattle.trunk_record.specs.Changes.{giving}
+use Rattle.trunk_record.specs.Trunks.{FitsReceiver, IsHalf, IsHeardFrom, heard, nothing_heard}
+use Rattle.trunk_record.proofs.Sayings.{same_inc-itself}
 use Rattle.rlnh_end.specs.declared.up.Up.{Up}
 use Rattle.rlnh_end.specs.declared.up.Up.TheVariants.{Nothing, Arrived, Met, Gone, Asked, Bad}
 use Rattle.rlnh_end.specs.States.{RlnhTables, addr_met, inc_met, with_met}
@@ -17,14 +22,8 @@ use Rattle.rlnh_end.specs.Words.{Word, hello, hello_back, question, announce, te
 use Rattle.rlnh_end.specs.Words.{confirm}
 use Rattle.rlnh_end.specs.Hearing.{heard_ack, heard_signal, heard_unpublish, hears, only}
 use Rattle.rlnh_laws.specs.Meanings.{Understands, given_for, heard_of}
-use Rattle.trunk_record.specs.Records.{SideRecord}
-use Rattle.trunk_record.specs.Sayings.{Given, arrived, asked_for, freed, frees, gone, is_live, met}
-use Rattle.trunk_record.specs.Changes.{giving}
-use Rattle.trunk_record.specs.Trunks.{FitsReceiver, IsHalf, IsHeardFrom, heard, nothing_heard}
-use Rattle.trunk_record.proofs.Sayings.{same_inc-itself}
 use Rattle.trunk.specs.Events.{giving_all, told_up}
-use Rattle.trunk.specs.Tells.{IsGiven, TellsNotes, TellsSide, frees as quietly_frees}
-use Rattle.trunk.specs.Tells.{stays}
+use Rattle.trunk.specs.Tells.{IsGiven, TellsNotes, TellsSide, frees as quietly_frees, stays}
 
 -- ---- one thing more was given
 

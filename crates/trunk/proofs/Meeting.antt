@@ -1,21 +1,20 @@
 -- The peers that an end has met are those that are live by what it has heard.
-use Rattle.std.proofs.Common.{◌≡◌, ℕ, true, false, not, List, [], ◌∷◌, Some, None}
-use Rattle.std.proofs.Common.{inl, inr, refl, sym, ◌∙◌, ap, subst}
+use Rattle.std.proofs.Common.{◌≡◌, ℕ, true, false, not, List, [], ◌∷◌, Some, None, inl, inr, refl}
+use Rattle.std.proofs.Common.{sym, ◌∙◌, ap, subst}
 use Rattle.std.specs.Prelude.{◌==◌, is_some}
 use Rattle.std.proofs.lemmas.Bool.{and_parts, eq-eqb, false_from_ne_true, or_cases, or_left}
-use Rattle.std.proofs.lemmas.Bool.{or_right}
-use Rattle.std.proofs.lemmas.Bool.{true≢false}
+use Rattle.std.proofs.lemmas.Bool.{or_right, true≢false}
 use Rattle.std.proofs.lemmas.Bool.Decides.{eqb_tells}
 use Rattle.std.proofs.lemmas.Option.{same_Some}
 use Rattle.linx_base.specs.Peers.{same_inc}
 use Rattle.linx_base.specs.declared.identity.Inc.{Inc}
+use Rattle.trunk_record.specs.Sayings.{Said, is_live, published, unpublished}
+use Rattle.trunk_record.proofs.Sayings.{same_inc-is, same_inc-itself}
 use Rattle.rlnh_end.specs.declared.met_at.MetAt.{MetAt}
 use Rattle.rlnh_end.specs.States.{addr_met, inc_met, with_met, without_met}
 use Rattle.rlnh_laws.specs.Ties.{AreApart}
-use Rattle.rlnh_laws.proofs.Meeting.{met_both, option_cases, with_here, with_other}
-use Rattle.rlnh_laws.proofs.Meeting.{without_here, without_other}
-use Rattle.trunk_record.specs.Sayings.{Said, is_live, published, unpublished}
-use Rattle.trunk_record.proofs.Sayings.{same_inc-is, same_inc-itself}
+use Rattle.rlnh_laws.proofs.Meeting.{met_both, option_cases, with_here, with_other, without_here}
+use Rattle.rlnh_laws.proofs.Meeting.{without_other}
 use Rattle.trunk.specs.Talks.{MeetsLive}
 
 pub none_some : {X : Type 0} (x : X) → None ≡ Some x → ⊥
@@ -73,9 +72,11 @@ meets_more met heard a i v m free =
         | inl same ↦
             (a, with_here met a i free ∙ ap Some (sym (same_inc-is j i same)))
         | inr was ↦
-            let old = m.found j was in
-            (old.0, sym (with_other met a i old.0
-            (λ q. none_some j (sym free ∙ ap (inc_met met) q ∙ old.1))) ∙ old.1)
+            let old = m.found j was in (
+              old.0,
+              sym (with_other met a i old.0
+                  (λ q. none_some j (sym free ∙ ap (inc_met met) q ∙ old.1))) ∙ old.1,
+            )
       ];
     }
 
@@ -101,12 +102,14 @@ meets_less met heard a i m apart at =
       ];
       found = λ j e.
           let both = and_parts (not (same_inc j i)) (is_live j heard) e in
-          let old = m.found j both.1 in
-          (old.0, sym (without_other met a old.0 (λ q.
-          let is : i ≡ j = same_Some i j (sym at ∙ ap (inc_met met) q ∙ old.1) in
-          let same : same_inc j i ≡ true =
-          subst (λ (k : Inc). same_inc j k ≡ true) (sym is) (same_inc-itself j) in
-          true≢false (sym both.0 ∙ ap not same))) ∙ old.1);
+          let old = m.found j both.1 in (
+            old.0,
+            sym (without_other met a old.0 (λ q.
+                let is : i ≡ j = same_Some i j (sym at ∙ ap (inc_met met) q ∙ old.1) in
+                let same : same_inc j i ≡ true =
+                subst (λ (k : Inc). same_inc j k ≡ true) (sym is) (same_inc-itself j) in
+                true≢false (sym both.0 ∙ ap not same))) ∙ old.1,
+          );
     }
 
 -- so an incarnation is met where it is live

@@ -1,10 +1,9 @@
 -- What the link's record has is the messages of the words that were said and heard.
-use Rattle.std.proofs.Common.{◌≡◌, ◌+◌, ℕ, suc, Bool, true, false, List, [], ◌∷◌, ◌++◌}
-use Rattle.std.proofs.Common.{length}
+use Rattle.std.proofs.Common.{◌≡◌, ◌+◌, ℕ, suc, Bool, true, false, List, [], ◌∷◌, ◌++◌, length}
 use Rattle.std.proofs.Common.{Option, Some, None, inl, inr, arith, refl, sym, ◌∙◌, ap}
 use Rattle.std.specs.Prelude.{◌==◌, if◌then◌else◌}
-use Rattle.std.proofs.lemmas.List.{append_assoc, append_cancel_left, append-nil, length-append}
 use Rattle.std.proofs.lemmas.Bool.Decides.{eqb_tells, nat_tests}
+use Rattle.std.proofs.lemmas.List.{append_assoc, append_cancel_left, append-nil, length-append}
 use Rattle.linx_base.specs.declared.frame.Message.{Message}
 use Rattle.linx_base.specs.declared.identity.Session.{Session}
 use Rattle.ethcm_end.specs.States.{peer_of}
@@ -13,8 +12,8 @@ use Rattle.carrier.specs.Records.{offered_at, source}
 use Rattle.carrier.proofs.Fronts.{either}
 use Rattle.rlnh_end.specs.Words.{Word, message_of}
 use Rattle.rlnh_laws.specs.Ties.{Talk}
-use Rattle.trunk.specs.Talks.{Both, FallBelow, Talks, all_talks, partner}
 use Rattle.trunk.specs.Keeping.{AllMirror, messages_of}
+use Rattle.trunk.specs.Talks.{Both, FallBelow, Talks, all_talks, partner}
 use Rattle.trunk.proofs.Partners.{down_partner, no_partner, nothing}
 
 pub messages-append : (xs ys : List Word)
@@ -106,10 +105,10 @@ pub got_word : (a b : HalfState) (A B : Talks) (m : Message)
 got_word a b A B m n k both front =
     let p = both.near.holds.0.pair in
     let left : source (entries b) (mine_of a) (peer_of a.end)
-        ≡ messages_of A.now.heard ++ messages_of p.back =
+    ≡ messages_of A.now.heard ++ messages_of p.back =
     own_source a b A B n k both ∙ ap messages_of p.back_is ∙ messages-append A.now.heard p.back in
     let right : source (entries b) (mine_of a) (peer_of a.end)
-        ≡ messages_of A.now.heard ++ m ∷ front.0 =
+    ≡ messages_of A.now.heard ++ m ∷ front.0 =
     front.1 ∙ append_assoc a.handed (m ∷ []) front.0
     ∙ ap (λ h. h ++ m ∷ front.0) n.0.handed in
     let found = next_word p.back m front.0 (append_cancel_left (messages_of A.now.heard)

@@ -1,8 +1,8 @@
 -- Messages that are offered to the first side of a link, one after the other.
 use Rattle.std.proofs.Common.{◌≡◌, List, [], ◌∷◌, ◌++◌, refl, sym, ◌∙◌, ap, subst}
 use Rattle.std.specs.Prelude.{IsSome}
-use Rattle.std.specs.List.{AllByRecursion}
 use Rattle.std.proofs.lemmas.List.{append_assoc, append-nil}
+use Rattle.std.specs.List.{AllByRecursion}
 use Rattle.linx_base.specs.Frames.{IsMessage}
 use Rattle.linx_base.specs.declared.frame.Message.{Message}
 use Rattle.linx_base.specs.declared.identity.Side.TheVariants.{First}

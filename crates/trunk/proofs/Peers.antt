@@ -1,19 +1,18 @@
 -- The sessions of the link's record and their peers are those of a side's record.
-use Rattle.std.proofs.Common.{◌≡◌, ◌≤◌, Bool, true, false, List, [], ◌∷◌, map}
-use Rattle.std.proofs.Common.{sym, ◌∙◌, ap, subst}
+use Rattle.std.proofs.Common.{◌≡◌, ◌≤◌, Bool, true, false, List, [], ◌∷◌, map, sym, ◌∙◌, ap, subst}
 use Rattle.std.specs.Prelude.{◌==◌, if◌then◌else◌}
+use Rattle.std.proofs.lemmas.Bool.{or_left, or_right}
 use Rattle.std.specs.List.{AllByRecursion, list_any}
 use Rattle.std.specs.Option.{ForSome}
-use Rattle.std.proofs.lemmas.Bool.{or_left, or_right}
 use Rattle.linx_base.specs.declared.identity.Session.{Session}
 use Rattle.carrier.specs.Records as links
 use Rattle.carrier.specs.Records.{Entry, HalfState, entries}
 use Rattle.carrier.specs.Keeping as link_keeping
-use Rattle.rlnh_laws.specs.Ties.{Talk}
 use Rattle.trunk_record.specs.Records.{all, has_session}
-use Rattle.trunk.specs.Talks.{Talks, all_talks, record_of, side_record}
+use Rattle.rlnh_laws.specs.Ties.{Talk}
 use Rattle.trunk.specs.Keeping.{AllMirror}
 use Rattle.trunk.specs.Promises.{IsPeerHeld, PeersRise, PeersUpTo}
+use Rattle.trunk.specs.Talks.{Talks, all_talks, record_of, side_record}
 
 -- a session that the link has had is recorded
 pub session_had : (y : Session) (es : List Entry) (ts : List Talk) → AllMirror es ts

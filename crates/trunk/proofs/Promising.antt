@@ -1,23 +1,22 @@
 -- What is promised of a trunk's record follows from what a trunk keeps of it.
 use Rattle.std.proofs.Common.{◌≡◌, ◌≢◌, ℕ, Bool, true, false, not, ◌&&◌, cond, List, [], ◌∷◌, ◌++◌}
 use Rattle.std.proofs.Common.{Some, None, ◌⊎◌, inl, inr, map, refl, sym, ◌∙◌, ap, subst}
-use Rattle.std.specs.List.{AllByRecursion}
 use Rattle.std.proofs.lemmas.Bool.{eqb-true, or_left, or_right, true≢false}
 use Rattle.std.proofs.lemmas.List.{append-nil}
 use Rattle.std.proofs.lemmas.List.Folds.{list_any-append}
 use Rattle.std.proofs.lemmas.Option.{same_Some}
-use Rattle.carrier.proofs.Fronts.{either}
+use Rattle.std.specs.List.{AllByRecursion}
 use Rattle.linx_base.specs.FirstMatch.{first_match}
 use Rattle.linx_base.specs.Peers.{same_inc}
 use Rattle.linx_base.specs.declared.identity.Inc.{Inc}
 use Rattle.linx_base.specs.declared.identity.Session.{Session}
+use Rattle.carrier.proofs.Fronts.{either}
 use Rattle.trunk_record.specs.Records.{SessionRecord, SideRecord, all, given_in, given_of}
 use Rattle.trunk_record.specs.Records.{has_session, peer_in, peer_of, said_in}
 use Rattle.trunk_record.specs.Sayings.{Given, IsProper, Said, has_gone, has_met, heard_as, is_live}
 use Rattle.trunk_record.specs.Sayings.{met, published, publishes, signals_between, unpublished}
 use Rattle.trunk_record.specs.Sayings.{was_published, was_unpublished}
-use Rattle.trunk_record.specs.Trunks.{IsHalf, IsHeardFrom, heard}
-use Rattle.trunk_record.specs.Trunks.{nothing_heard}
+use Rattle.trunk_record.specs.Trunks.{IsHalf, IsHeardFrom, heard, nothing_heard}
 use Rattle.trunk_record.proofs.Lookups.{said-all}
 use Rattle.trunk_record.proofs.Sayings.{live-published, none_after, proper-before, same_inc-itself}
 use Rattle.trunk_record.proofs.Sayings.{signals-append}
@@ -72,14 +71,17 @@ module _ (A B : SideRecord) (near : IsHalf A B) (far : IsHalf B A) (x : Session)
       by_entry : (e : IsEntry x (all A) (IsHeardFrom B)) → IsHeardFrom B e.entry
           → (given_in A x ≡ []) ⊎ ((y : Session) × HearsFront A B x y)
       by_entry e (nothing_heard none) = inl (ap given_of e.found ∙ none)
-      by_entry e (heard y pair back later said) = inr (y, record {
-        paired = record {
-          pair = ap peer_of e.found ∙ pair;
-          back = back ∙ ap Some e.session;
-        };
-        later = later;
-        said = said ∙ ap (λ g. later ++ map heard_as g) (sym (ap given_of e.found));
-      })
+      by_entry e (heard y pair back later said) = inr (
+        y,
+        record {
+          paired = record {
+            pair = ap peer_of e.found ∙ pair;
+            back = back ∙ ap Some e.session;
+          };
+          later = later;
+          said = said ∙ ap (λ g. later ++ map heard_as g) (sym (ap given_of e.found));
+        },
+      )
 
   hears : given_in A x ≢ [] → (y : Session) × HearsFront A B x y
   hears some = elim heard_in [ inl none ↦ absurd (some none) | inr is ↦ is ]
@@ -116,7 +118,7 @@ module _ (A B : SideRecord) (near : IsHalf A B) (far : IsHalf B A) (x : Session)
       → (has_met i later ≡ false) × (has_met i before ≡ false)
   once later before i name is =
       let split : map heard_as (given_in A x)
-          ≡ map heard_as later ++ published i name ∷ map heard_as before =
+      ≡ map heard_as later ++ published i name ∷ map heard_as before =
       ap (map heard_as) is ∙ map_append later (met i name ∷ before) in
       let proper = subst IsProper split proper_given in
       let rest = proper-before (map heard_as later) (published i name ∷ map heard_as before) proper
@@ -144,11 +146,12 @@ module _ (A B : SideRecord) (near : IsHalf A B) (far : IsHalf B A) (x : Session)
       → (y : Session) × ArePaired A B x y × (was_published i (said_in B y) ≡ true)
   was_said i is =
       let h = hears (some_given has_met (λ j. refl) i is) in
-      let was : was_published i (map heard_as (given_in A x)) ≡ true =
-      sym (met_heard i (given_in A x)) ∙ is in
-      (h.0, h.1.paired, ap (was_published i) h.1.said
-      ∙ list_any-append (publishes i) h.1.later (map heard_as (given_in A x))
-      ∙ or_right (was_published i h.1.later) (was_published i (map heard_as (given_in A x))) was)
+      let given = map heard_as (given_in A x) in
+      let was : was_published i given ≡ true = sym (met_heard i (given_in A x)) ∙ is in
+      let all : was_published i (said_in B h.0) ≡ true =
+      ap (was_published i) h.1.said ∙ list_any-append (publishes i) h.1.later given
+      ∙ or_right (was_published i h.1.later) (was_published i given) was in
+      (h.0, h.1.paired, all)
 
   parted : (i b : Inc) (y : Session) → peer_in A x ≡ Some y → has_gone i (given_in A x) ≡ true
       → signals_between i b (said_in B y) ≡ signals_between i b (map heard_as (given_in A x))

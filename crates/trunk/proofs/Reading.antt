@@ -1,11 +1,11 @@
 -- The message of a word, what it is read as, and what is given for it.
-use Rattle.std.proofs.Common.{◌≡◌, ◌≢◌, ◌<◌, ◌≤◌, ◌||◌, ℕ, true, false, List, [], ◌∷◌}
-use Rattle.std.proofs.Common.{length, Option, Some, None, arith, refl, sym, ◌∙◌, ap, subst}
+use Rattle.std.proofs.Common.{◌≡◌, ◌≢◌, ◌<◌, ◌≤◌, ◌||◌, ℕ, true, false, List, [], ◌∷◌, length}
+use Rattle.std.proofs.Common.{Option, Some, None, arith, refl, sym, ◌∙◌, ap, subst}
 use Rattle.std.specs.Prelude.{◌&&◌, if◌then◌else◌, is_some, IsTrue, nat_le}
-use Rattle.std.specs.List.{AllByRecursion, list_all}
 use Rattle.std.proofs.lemmas.Bool.{and_parts, eq-eqb}
 use Rattle.std.proofs.lemmas.Bool.Decides.{nat_tests}
 use Rattle.std.proofs.lemmas.Option.{same_Some}
+use Rattle.std.specs.List.{AllByRecursion, list_all}
 use Rattle.linx_base.specs.Frames.{IsMessage}
 use Rattle.linx_base.specs.NameText.{is_name, is_name_byte}
 use Rattle.linx_base.specs.declared.frame.Message.{Message}
@@ -17,10 +17,11 @@ use Rattle.link_addresses.specs.Meanings.{meaning_of}
 use Rattle.rlnh_messages.specs.Messages.{FitsFields, spelling_of}
 use Rattle.rlnh_messages.specs.Signals.{SpellsSignal}
 use Rattle.rlnh_messages.specs.declared.rlnh.Rlnh.{Rlnh}
-use Rattle.rlnh_messages.specs.declared.rlnh.Rlnh.TheVariants.{Init, InitReply, QueryName}
-use Rattle.rlnh_messages.specs.declared.rlnh.Rlnh.TheVariants.{Publish, Unpublish, UnpublishAck}
+use Rattle.rlnh_messages.specs.declared.rlnh.Rlnh.TheVariants.{Init, InitReply, QueryName, Publish}
+use Rattle.rlnh_messages.specs.declared.rlnh.Rlnh.TheVariants.{Unpublish, UnpublishAck}
 use Rattle.rlnh_messages.proofs.Types.{unique}
 use Rattle.rlnh_messages.proofs.Bodies.{is_body, one_signal}
+use Rattle.trunk_record.specs.Sayings.{arrived, freed}
 use Rattle.rlnh_end.specs.declared.heard.Heard.{Heard}
 use Rattle.rlnh_end.specs.declared.heard.Heard.TheVariants.{Control, Garbage, Signal}
 use Rattle.rlnh_end.specs.declared.up.Up.{Up}
@@ -28,18 +29,17 @@ use Rattle.rlnh_end.specs.declared.up.Up.TheVariants.{Nothing, Arrived, Met, Gon
 use Rattle.rlnh_end.specs.States.{RlnhTables, addr_met, inc_met, with_met}
 use Rattle.rlnh_end.specs.Words.{Word, hello, hello_back, question, announce, tell, withdraw}
 use Rattle.rlnh_end.specs.Words.{confirm, message_of}
-use Rattle.rlnh_end.specs.Hearing.{IsControl, IsGarbage, IsRead, IsSignalFrom}
-use Rattle.rlnh_end.specs.Hearing.{from_alone, heard_ack, heard_signal, heard_unpublish, hears}
-use Rattle.rlnh_end.specs.Hearing.{no_message, no_signal, only, to_alone}
+use Rattle.rlnh_end.specs.Hearing.{IsControl, IsGarbage, IsRead, IsSignalFrom, from_alone}
+use Rattle.rlnh_end.specs.Hearing.{heard_ack, heard_signal, heard_unpublish, hears, no_message}
+use Rattle.rlnh_end.specs.Hearing.{no_signal, only, to_alone}
 use Rattle.rlnh_laws.specs.Meanings.{Understands, given_for, heard_of, saids}
 use Rattle.rlnh_laws.specs.Ties.{Pair, Talk, about, bearer, sig_of, sig_to, toward}
 use Rattle.rlnh_laws.specs.Ties as ties
 use Rattle.rlnh_laws.proofs.ReadBack.{reads_word}
 use Rattle.rlnh_laws.proofs.Standing.{stand_heard_aimed, stand_heard_signal}
-use Rattle.trunk_record.specs.Sayings.{arrived, freed}
-use Rattle.trunk.specs.Talks.{FitsWord}
 use Rattle.trunk.specs.Events.{given_of, given_signal, given_up}
 use Rattle.trunk.specs.Keeping.{messages_of}
+use Rattle.trunk.specs.Talks.{FitsWord}
 
 -- ---- the message of a word that fits
 
@@ -138,14 +138,14 @@ knows_both e f a b i j note later p q =
     record {
       sender =
           let was : ties.Stands (meaning_of e.end.own a) (inc_met f.end.met a)
-              (sig_of i ∷ about a later) (toward a p.back) =
+          (sig_of i ∷ about a later) (toward a p.back) =
           rw (eq-eqb a a refl) at
           (subst (λ t. ties.Ties e.end.own f.end.met t p.back) q p.near a) in
           (stand_heard_signal (meaning_of e.end.own a) i (inc_met f.end.met a) (about a later)
           (toward a p.back) was).0;
       receiver =
           let was : ties.Stands (meaning_of f.end.own b) (inc_met e.end.met b) (about b p.back)
-              (sig_to j ∷ toward b later) =
+          (sig_to j ∷ toward b later) =
           rw (eq-eqb b b refl) at
           (subst (λ t. ties.Ties f.end.own e.end.met p.back t) q p.far b) in
           (stand_heard_aimed (meaning_of f.end.own b) j (inc_met e.end.met b) (about b p.back)

@@ -2,21 +2,21 @@
 use Rattle.std.proofs.Common.{◌≡◌, ◌<◌, ℕ, suc, true, false, List, [], ◌∷◌, ◌++◌, Option, Some}
 use Rattle.std.proofs.Common.{None, ◌⊎◌, inl, inr, map, arith, refl, sym, ◌∙◌, ap, subst}
 use Rattle.std.specs.Prelude.{◌==◌}
-use Rattle.std.specs.List.{AllByRecursion}
 use Rattle.std.proofs.lemmas.Bool.{eq-eqb}
 use Rattle.std.proofs.lemmas.Bool.Decides.{eqb_tells, nat_tests}
+use Rattle.std.specs.List.{AllByRecursion}
 use Rattle.linx_base.specs.FirstMatch.{first_match}
 use Rattle.linx_base.specs.declared.identity.Session.{Session}
 use Rattle.carrier.specs.Records.{names}
 use Rattle.carrier.proofs.Fronts.{either, front_of_nil}
-use Rattle.rlnh_laws.specs.Meanings.{saids}
-use Rattle.rlnh_laws.specs.Ties.{Pair, Talk}
-use Rattle.rlnh_laws.proofs.Speaking.{saids-append}
 use Rattle.trunk_record.specs.Records.{has_session, peer_of, said_of}
 use Rattle.trunk_record.specs.Sayings.{Given, IsProper, heard_as}
 use Rattle.trunk_record.specs.Trunks.{AllFall, EmptyWhileDown, FreesClosed, IsGivenInTurn, IsHalf}
 use Rattle.trunk_record.specs.Trunks.{IsHeardFrom, heard, nothing_heard}
 use Rattle.trunk_record.proofs.Lists.{all-impl}
+use Rattle.rlnh_laws.specs.Meanings.{saids}
+use Rattle.rlnh_laws.specs.Ties.{Pair, Talk}
+use Rattle.rlnh_laws.proofs.Speaking.{saids-append}
 use Rattle.trunk.specs.Talks.{Both, FallBelow, Half, HoldAll, Holds, IsSound, Talks, all_talks}
 use Rattle.trunk.specs.Talks.{partner, record_of, side_record}
 use Rattle.trunk.proofs.Mirroring.{eq_turned}

@@ -1,6 +1,5 @@
 -- What the calls of a trunk say, in the words of what is recorded.
-use Rattle.std.proofs.Common.{◌≡◌, ◌≢◌, true, false, ℕ, List, [], ◌∷◌, ◌++◌, Option, Some}
-use Rattle.std.proofs.Common.{None}
+use Rattle.std.proofs.Common.{◌≡◌, ◌≢◌, true, false, ℕ, List, [], ◌∷◌, ◌++◌, Option, Some, None}
 use Rattle.std.proofs.Common.{inl, inr, map, refl, sym, ◌∙◌, ap, subst}
 use Rattle.std.specs.Prelude.{if◌then◌else◌, is_some}
 use Rattle.std.proofs.lemmas.Bool.{false_from_ne_true}
@@ -9,6 +8,9 @@ use Rattle.linx_base.specs.declared.identity.Session.{Session}
 use Rattle.linx_base.specs.declared.signal.SigNote.{SigNote}
 use Rattle.link_addresses.specs.Meanings.{address_of}
 use Rattle.ethcm_end.specs.States.{peer_of}
+use Rattle.trunk_record.specs.Sayings.{Said, asked, heard_as, is_live, published, signaled}
+use Rattle.trunk_record.specs.Sayings.{unpublished}
+use Rattle.trunk_record.specs.Changes.{saying, sending}
 use Rattle.rlnh_end.specs.States.{RlnhTables, addr_met, is_noted, without_note}
 use Rattle.rlnh_end.specs.Calls.{Saying, announced, close_of, closed, known_of, opened_of}
 use Rattle.rlnh_end.specs.Calls.{publish_of, query_of, saying as end_saying, send_of, signal_of}
@@ -19,9 +21,6 @@ use Rattle.rlnh_laws.proofs.Addresses.{address_found, address_missing}
 use Rattle.rlnh_laws.proofs.Calling.{live_now, met_stays}
 use Rattle.rlnh_laws.proofs.Meeting.{option_cases}
 use Rattle.rlnh_laws.proofs.Speaking.{saids-append}
-use Rattle.trunk_record.specs.Sayings.{Said, asked, heard_as, is_live, published, signaled}
-use Rattle.trunk_record.specs.Sayings.{unpublished}
-use Rattle.trunk_record.specs.Changes.{saying, sending}
 use Rattle.trunk.specs.Events.{TrunkState, near_said, near_says}
 use Rattle.trunk.specs.Keeping.{KeepsTrunk}
 use Rattle.trunk.specs.Tells.{closing, notes_sending, opening, publishing}

@@ -1,20 +1,17 @@
 -- What proper saying tells of what was said before and later.
 use Rattle.std.proofs.Common.{◌≡◌, Bool, true, false, not, ◌&&◌, ◌||◌, List, [], ◌∷◌, ◌++◌, inl}
-use Rattle.std.proofs.Common.{inr}
-use Rattle.std.proofs.Common.{refl, sym, ◌∙◌, ap, subst}
+use Rattle.std.proofs.Common.{inr, refl, sym, ◌∙◌, ap, subst, map}
 use Rattle.std.proofs.lemmas.Bool.{false_from_ne_true, or_right, true≢false}
 use Rattle.std.proofs.lemmas.List.Folds.{list_any-append}
-use Rattle.carrier.proofs.Fronts.{either}
 use Rattle.linx_base.specs.Peers.{same_inc}
 use Rattle.linx_base.specs.declared.identity.Inc.{Inc}
+use Rattle.carrier.proofs.Fronts.{either}
 use Rattle.trunk_record.specs.Sayings.{Given, IsProper, Said, arrived, asked, asked_for, freed}
-use Rattle.trunk_record.specs.Sayings.{gone}
-use Rattle.trunk_record.specs.Sayings.{has_gone, has_met, heard_as, is_live, met, published}
-use Rattle.trunk_record.specs.Sayings.{publishes, signaled, unpublished, unpublishes}
-use Rattle.trunk_record.specs.Sayings.{was_published, was_unpublished}
-use Rattle.trunk_record.proofs.Sayings.{live-not_unpublished, live-published}
-use Rattle.trunk_record.proofs.Sayings.{published-live, same_inc-is}
-use Rattle.std.proofs.Common.{map}
+use Rattle.trunk_record.specs.Sayings.{gone, has_gone, has_met, heard_as, is_live, met, published}
+use Rattle.trunk_record.specs.Sayings.{publishes, signaled, unpublished, unpublishes, was_published}
+use Rattle.trunk_record.specs.Sayings.{was_unpublished}
+use Rattle.trunk_record.proofs.Sayings.{live-not_unpublished, live-published, published-live}
+use Rattle.trunk_record.proofs.Sayings.{same_inc-is}
 
 -- what was published before isn't published later
 pub published_before : (i : Inc) (later before : List Said) → IsProper (later ++ before)

@@ -1,6 +1,5 @@
 -- How long a side has heard nothing, through the events of a trunk.
-use Rattle.std.proofs.Common.{◌≡◌, ◌⊎◌, ◌+◌, ◌≤◌, ℕ, Bool, true, false, List, [], ◌∷◌, Option}
-use Rattle.std.proofs.Common.{Some}
+use Rattle.std.proofs.Common.{◌≡◌, ◌⊎◌, ◌+◌, ◌≤◌, ℕ, Bool, true, false, List, [], ◌∷◌, Option, Some}
 use Rattle.std.proofs.Common.{None, inl, inr, arith, refl, sym, ◌∙◌, ap, subst}
 use Rattle.std.specs.Prelude.{◌==◌, if◌then◌else◌, is_some, nat_lt, slice_get}
 use Rattle.std.proofs.lemmas.Bool.Decides.{nat_tests}
@@ -13,26 +12,24 @@ use Rattle.linx_base.specs.declared.identity.Side.TheVariants.{First, Second}
 use Rattle.ethcm_headers.specs.declared.packets.Packet.{Packet}
 use Rattle.ethcm_headers.specs.declared.packets.Part.{Part}
 use Rattle.ethcm_headers.specs.declared.packets.Part.TheVariants.{Conn, Ack, Nack, Piece}
+use Rattle.fragmenter.specs.declared.joiner.Joined.{Joined}
+use Rattle.fragmenter.specs.declared.joiner.Joined.TheVariants.{More, Whole, Broken}
+use Rattle.ethcm_window.specs.Receiving.{missing_count}
+use Rattle.ethcm_window.specs.Sending.{unacknowledged}
 use Rattle.ethcm_session.specs.declared.standing.Change.{Change}
 use Rattle.ethcm_session.specs.declared.standing.Change.TheVariants as changes
 use Rattle.ethcm_session.specs.declared.standing.Standing.{Standing}
 use Rattle.ethcm_session.specs.declared.standing.Standing.TheVariants as standings
 use Rattle.ethcm_session.specs.Table.{outcome_of}
-use Rattle.ethcm_window.specs.Receiving.{missing_count}
-use Rattle.ethcm_window.specs.Sending.{unacknowledged}
-use Rattle.fragmenter.specs.declared.joiner.Joined.{Joined}
-use Rattle.fragmenter.specs.declared.joiner.Joined.TheVariants.{More, Whole, Broken}
 use Rattle.ethcm_end.specs.declared.answers.Input.{Input}
 use Rattle.ethcm_end.specs.declared.answers.Input.TheVariants as inputs
 use Rattle.ethcm_end.specs.declared.answers.Ticked.{Ticked}
 use Rattle.ethcm_end.specs.declared.answers.Ticked.TheVariants as answers
 use Rattle.ethcm_end.specs.States.{EndState, gives, peer_of}
 use Rattle.ethcm_end.specs.Rules.{acked, ask, beat, changed, data_in, early, finished, framed_in}
-use Rattle.ethcm_end.specs.Rules.{heard, put, input_of, kind_in, lost, offer_in, offer_of}
-use Rattle.ethcm_end.specs.Rules.{old, sent_or_ack}
-use Rattle.ethcm_end.specs.Rules.{take_frames, tick_in, tick_of, ticked as counted, took}
-use Rattle.ethcm_end.specs.Rules.{with_early}
-use Rattle.ethcm_end.specs.Rules.{with_taken}
+use Rattle.ethcm_end.specs.Rules.{heard, put, input_of, kind_in, lost, offer_in, offer_of, old}
+use Rattle.ethcm_end.specs.Rules.{sent_or_ack, take_frames, tick_in, tick_of, ticked as counted}
+use Rattle.ethcm_end.specs.Rules.{took, with_early, with_taken}
 use Rattle.carrier.specs.Records.{HalfState}
 use Rattle.carrier.specs.Events.{LinkState, near_handed, near_offered, recorded, recorded_tick}
 use Rattle.carrier.specs.Events.{ticked_as}
@@ -50,9 +47,9 @@ use Rattle.rlnh_end.specs.Hearing.{hears}
 use Rattle.rlnh_end.specs.Reactions.{input_of as rlnh_input_of}
 use Rattle.rlnh_end.specs.States.{RlnhTables}
 use Rattle.trunk.specs.Events.{TrunkState, delivered, lost_from, near_beat, near_delivered}
-use Rattle.trunk.specs.Events.{near_offers, swapped_from}
-use Rattle.trunk.specs.Events.{near_said, near_says, near_ticked, near_took, restarted_at, said_at}
-use Rattle.trunk.specs.Events.{ticked_at, told_by, told_of, told_up, turned, with_link}
+use Rattle.trunk.specs.Events.{near_offers, swapped_from, near_said, near_says, near_ticked}
+use Rattle.trunk.specs.Events.{near_took, restarted_at, said_at, ticked_at, told_by, told_of}
+use Rattle.trunk.specs.Events.{told_up, turned, with_link}
 use Rattle.trunk.specs.Keeping.{KeepsTrunk}
 use Rattle.trunk.specs.Tells.{HeardNow, SilenceTells, silent_of}
 use Rattle.trunk.proofs.Events.{near_tells, turned_keeps}

@@ -1,13 +1,12 @@
 -- What holds of a session, whatever the other side does, through what its end says and hears.
 use Rattle.std.proofs.Common.{◌≡◌, ◌≢◌, ◌<◌, ◌≤◌, ◌+◌, ◌||◌, ℕ, zero, suc, Bool, true, false, List}
 use Rattle.std.proofs.Common.{[], ◌∷◌, ◌++◌, Option, Some, None, inl, inr, arith, refl, sym, ◌∙◌}
-use Rattle.std.proofs.Common.{ap}
-use Rattle.std.proofs.Common.{cond, subst}
+use Rattle.std.proofs.Common.{ap, cond, subst}
 use Rattle.std.specs.Prelude.{if◌then◌else◌, is_some, IsTrue, ◌^◌}
-use Rattle.std.specs.List.{AllByRecursion, list_any}
 use Rattle.std.proofs.lemmas.Bool.{false_from_ne_true, true≢false}
 use Rattle.std.proofs.lemmas.Bool.Decides.{eqb_tells}
 use Rattle.std.proofs.lemmas.List.Sums.{sum_by-cons}
+use Rattle.std.specs.List.{AllByRecursion, list_any}
 use Rattle.linx_base.specs.NameText.{is_name}
 use Rattle.linx_base.specs.declared.identity.Inc.{Inc}
 use Rattle.linx_base.specs.declared.identity.Session.{Session}
@@ -18,6 +17,9 @@ use Rattle.link_addresses.specs.Meanings.{ChangesMeaning, address_of, lowest_fre
 use Rattle.link_addresses.specs.Meanings.{is_used, used_in, with_lowest, with_meaning}
 use Rattle.rlnh_messages.specs.Messages.{IsAddress}
 use Rattle.rlnh_messages.specs.Signals.{IsSignal}
+use Rattle.trunk_record.specs.Sayings.{IsInTurn, Said, frees, is_live, published, signaled}
+use Rattle.trunk_record.specs.Sayings.{unpublished}
+use Rattle.trunk_record.proofs.Sayings.{live-not_unpublished}
 use Rattle.rlnh_end.specs.declared.up.Up.{Up}
 use Rattle.rlnh_end.specs.declared.up.Up.TheVariants.{Nothing, Arrived, Met, Gone, Asked, Bad}
 use Rattle.rlnh_end.specs.States.{RlnhTables, addr_met, inc_met, is_noted, no_tables, with_met}
@@ -34,9 +36,6 @@ use Rattle.rlnh_laws.proofs.Addresses.{address_found, changes_at, closing_taken,
 use Rattle.rlnh_laws.proofs.Meeting.{met_both, option_cases, with_other, without_here}
 use Rattle.rlnh_laws.proofs.Meeting.{without_other}
 use Rattle.rlnh_laws.proofs.Speaking.{lowest_changes, saids-append}
-use Rattle.trunk_record.specs.Sayings.{IsInTurn, Said, frees, is_live, published, signaled}
-use Rattle.trunk_record.specs.Sayings.{unpublished}
-use Rattle.trunk_record.proofs.Sayings.{live-not_unpublished}
 use Rattle.trunk.specs.Talks.{FitsTables, FitsWord, IsSound, MeetsLive, fresh_talk}
 use Rattle.trunk.proofs.Meeting.{meets_less, meets_more, meets_none, none_some}
 

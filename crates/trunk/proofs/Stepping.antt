@@ -1,6 +1,5 @@
 -- What holds of a trunk holds after each event at its first side.
-use Rattle.std.proofs.Common.{◌≡◌, ◌≢◌, ◌<◌, Bool, true, false, List, [], ◌∷◌, ◌++◌, Option}
-use Rattle.std.proofs.Common.{Some}
+use Rattle.std.proofs.Common.{◌≡◌, ◌≢◌, ◌<◌, Bool, true, false, List, [], ◌∷◌, ◌++◌, Option, Some}
 use Rattle.std.proofs.Common.{None, map, arith, refl, sym, ◌∙◌, ap, subst}
 use Rattle.std.specs.Prelude.{IsSome, if◌then◌else◌, is_some}
 use Rattle.std.specs.List.{AllByRecursion}
@@ -16,6 +15,10 @@ use Rattle.carrier.specs.Laws.{TellsRightly}
 use Rattle.carrier.specs.declared.handed.Handed.{Handed}
 use Rattle.carrier.specs.declared.handed.Handed.TheVariants.{Nothing, WentUp, WentDown, Got}
 use Rattle.carrier.proofs.Promising.{promises}
+use Rattle.trunk_record.specs.Records.{SideRecord}
+use Rattle.trunk_record.specs.Sayings.{Given, Said}
+use Rattle.trunk_record.specs.Changes.{beginning, going_up}
+use Rattle.trunk_record.specs.Changes as changes
 use Rattle.rlnh_end.specs.declared.heard.Heard.{Heard}
 use Rattle.rlnh_end.specs.States.{RlnhState, RlnhTables}
 use Rattle.rlnh_end.specs.Words.{Word, hello, message_of}
@@ -25,26 +28,20 @@ use Rattle.rlnh_laws.specs.Meanings.{given_for, heard_of, saids}
 use Rattle.rlnh_laws.specs.Ties.{Talk}
 use Rattle.rlnh_laws.specs.Talks.{Grows, Right, heard_word, said_more}
 use Rattle.rlnh_laws.proofs.Speaking.{saids-append}
-use Rattle.trunk_record.specs.Records.{SideRecord}
-use Rattle.trunk_record.specs.Sayings.{Given, Said}
-use Rattle.trunk_record.specs.Changes.{beginning, going_up}
-use Rattle.trunk_record.specs.Changes as changes
-use Rattle.trunk.specs.Talks.{Both, FitsWord, Half, IsSound, MeetsLive, Talks, all_talks}
-use Rattle.trunk.specs.Talks.{is_peer, next_talks, partner, record_of, side_record, up_with}
-use Rattle.trunk.specs.Talks.{with_now}
 use Rattle.trunk.specs.Events.{IsReading, TrunkSide, TrunkState, given_of, giving_all, near_down}
 use Rattle.trunk.specs.Events.{near_heard, near_offers, near_pumped, near_said, near_says}
 use Rattle.trunk.specs.Events.{near_took, near_up, with_link}
 use Rattle.trunk.specs.Keeping.{AllMirror, KeepsSide, KeepsTrunk, messages_of}
+use Rattle.trunk.specs.Talks.{Both, FitsWord, Half, IsSound, MeetsLive, Talks, all_talks, is_peer}
+use Rattle.trunk.specs.Talks.{next_talks, partner, record_of, side_record, up_with, with_now}
 use Rattle.trunk.proofs.Growing.{both_hears, both_says, next_right, next_there}
+use Rattle.trunk.proofs.Meeting.{meets_none}
 use Rattle.trunk.proofs.Mirroring.{got_word, messages-append}
 use Rattle.trunk.proofs.Offering.{Offered, offers, out_words}
 use Rattle.trunk.proofs.Partners.{pair_sym}
 use Rattle.trunk.proofs.Reading.{given_word, knows_word, messages_fit, read_word, reply_silent}
 use Rattle.trunk.proofs.Sounding.{SaysSoundly, all_words, fits_none, fresh_sound, heard_sound}
-use Rattle.trunk.proofs.Sounding.{hears_word}
-use Rattle.trunk.proofs.Sounding.{said_sound}
-use Rattle.trunk.proofs.Meeting.{meets_none}
+use Rattle.trunk.proofs.Sounding.{hears_word, said_sound}
 use Rattle.trunk.proofs.Turning.{both_begin, both_next}
 
 -- ---- the words of a trunk
@@ -366,7 +363,7 @@ heard_keeps t k v m heard kv same h read =
     saids-append A.now.words r.made.says
     ∙ ap (λ s. s ++ saids A.now.words) (reply_silent A.now.end (heard_of w)) in
     let goes : KeepsTrunk (near_pumped (with_link t v) (after t.first.end r.made)
-        (giving_all (given_of A.now.end (heard_of w)) t.first.kept)) =
+    (giving_all (given_of A.now.end (heard_of w)) t.first.kept)) =
     pumped_keeps t k v (after t.first.end r.made)
     (giving_all (given_of A.now.end (heard_of w)) t.first.kept) (heard_word A.now w) r.made.says
     kv same (subst (λ p. IsSome p) (sym h.stays.peer) up)

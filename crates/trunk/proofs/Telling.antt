@@ -1,14 +1,13 @@
 -- What the events of a trunk tell.
-use Rattle.std.proofs.Common.{◌≡◌, ◌<◌, ℕ, Bool, true, Option}
-use Rattle.std.proofs.Common.{Some}
-use Rattle.std.proofs.Common.{None, arith, refl, sym, ◌∙◌, ap, subst}
+use Rattle.std.proofs.Common.{◌≡◌, ◌<◌, ℕ, Bool, true, Option, Some, None, arith, refl, sym, ◌∙◌}
+use Rattle.std.proofs.Common.{ap, subst}
 use Rattle.std.specs.Prelude.{slice_get}
+use Rattle.std.proofs.lemmas.Option.{slice_get_within}
 use Rattle.std.specs.List.{AllByRecursion, list_any}
 use Rattle.linx_base.specs.Numbers.{boot_of, first_session, next_session}
 use Rattle.linx_base.specs.declared.frame.Message.{Message}
 use Rattle.linx_base.specs.declared.identity.Session.{Session}
 use Rattle.linx_base.specs.declared.identity.Side.TheVariants.{First, Second}
-use Rattle.std.proofs.lemmas.Option.{slice_get_within}
 use Rattle.ethcm_headers.specs.declared.packets.Packet.{Packet}
 use Rattle.ethcm_end.specs.Rules.{tick_of}
 use Rattle.ethcm_end.specs.States.{peer_of}
@@ -26,29 +25,29 @@ use Rattle.carrier.specs.declared.handed.TickedSide.TheVariants as ticked
 use Rattle.carrier.proofs.Delivering as carried
 use Rattle.carrier.proofs.Links as link_events
 use Rattle.carrier.proofs.Promising.{promises}
+use Rattle.trunk_record.specs.Records.{SideRecord, all, has_session}
+use Rattle.trunk_record.specs.Sayings.{is_live}
+use Rattle.trunk_record.specs.Trunks.{AllFall, IsBelow, IsHalf}
+use Rattle.trunk_record.proofs.Lists.{all-impl}
 use Rattle.rlnh_end.specs.declared.heard.Heard.{Heard}
 use Rattle.rlnh_end.specs.declared.up.Up.{Up}
 use Rattle.rlnh_end.specs.declared.up.Up.TheVariants as ups
 use Rattle.rlnh_end.specs.States.{RlnhTables}
 use Rattle.rlnh_end.specs.Hearing.{IsRead, hears}
 use Rattle.rlnh_laws.specs.Meanings.{given_for, heard_of}
-use Rattle.trunk_record.specs.Records.{SideRecord, all, has_session}
-use Rattle.trunk_record.proofs.Lists.{all-impl}
-use Rattle.trunk_record.specs.Sayings.{is_live}
-use Rattle.trunk_record.specs.Trunks.{AllFall, IsBelow, IsHalf}
-use Rattle.trunk.specs.Talks.{all_talks, side_record}
 use Rattle.trunk.specs.Events.{IsReading, TrunkState, given_of, giving_all, near_beat}
 use Rattle.trunk.specs.Events.{near_delivered, near_down, near_heard, near_ticked, near_took}
 use Rattle.trunk.specs.Events.{near_up, told_of, told_up, with_link}
 use Rattle.trunk.specs.Keeping.{KeepsTrunk}
 use Rattle.trunk.specs.Promises.{PeersUpTo}
+use Rattle.trunk.specs.Talks.{all_talks, side_record}
 use Rattle.trunk.specs.Tells.{DownForLater, IsDown, IsUp, TellsNotes, TellsSide, stays, up_of_tick}
 use Rattle.trunk.proofs.Events.{near_tells}
 use Rattle.trunk.proofs.Given.{notes_told, word_told}
+use Rattle.trunk.proofs.Growing.{both_turned}
 use Rattle.trunk.proofs.Peers.{peers_upto, session_had}
 use Rattle.trunk.proofs.Recording.{half_record}
 use Rattle.trunk.proofs.Stepping.{both_of, comes, heard_keeps}
-use Rattle.trunk.proofs.Growing.{both_turned}
 
 -- ---- what a trunk keeps of its record
 
@@ -235,9 +234,11 @@ down_told : (t : TrunkState) → KeepsTrunk t → (heard : Heard) (handed : Hand
     → DownForLater t.first.kept t.second.kept (told_of t.first.end.tables heard handed)
 down_told t k heard Nothing down = tt
 down_told t k heard (WentUp session peer) down = tt
-down_told t k heard (WentDown session) down =
-    (down.0, sym (own_peer t k) ∙ down.1,
-    subst (λ (s : Session). down.0.0 < s.0) (far_session t k) down.2)
+down_told t k heard (WentDown session) down = (
+  down.0,
+  sym (own_peer t k) ∙ down.1,
+  subst (λ (s : Session). down.0.0 < s.0) (far_session t k) down.2,
+)
 down_told t k heard (Got m) down =
     no_down t.first.kept t.second.kept (hears t.first.end.tables heard).up
 

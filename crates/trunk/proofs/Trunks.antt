@@ -1,9 +1,9 @@
 -- What is promised of a trunk, and what its events tell, at both sides.
 use Rattle.std.proofs.Common.{◌≡◌, ◌≢◌, ◌<◌, ◌++◌, ℕ, Bool, true, false, List, [], Option, Some}
-use Rattle.std.proofs.Common.{None, map, refl}
-use Rattle.std.proofs.Common.{sym, ◌∙◌, ap, subst}
+use Rattle.std.proofs.Common.{None, map, refl, sym, ◌∙◌, ap, subst}
 use Rattle.std.specs.Prelude.{◌==◌, ◌&&◌, if◌then◌else◌, is_some, length, not, slice_get}
 use Rattle.std.proofs.Math.Bool.{and_comm}
+use Rattle.std.proofs.lemmas.List.{append_cancel_left, append-nil}
 use Rattle.std.specs.List.{AllByRecursion}
 use Rattle.linx_base.specs.Numbers.{boot_of, first_session}
 use Rattle.linx_base.specs.Sides.{other_of}
@@ -11,6 +11,8 @@ use Rattle.linx_base.specs.declared.frame.Message.{Message}
 use Rattle.linx_base.specs.declared.identity.Inc.{Inc}
 use Rattle.linx_base.specs.declared.identity.Side.{Side}
 use Rattle.linx_base.specs.declared.identity.Side.TheVariants.{First, Second}
+use Rattle.link_addresses.specs.declared.meaning.Meaning.{Meaning}
+use Rattle.link_addresses.specs.Meanings.{meaning_of}
 use Rattle.ethcm_end.specs.Rules.{tick_of}
 use Rattle.ethcm_end.specs.States.{has_work_in, peer_of}
 use Rattle.carrier.specs.Events.{LinkState, is_quiet, near_handed, ticked_as}
@@ -26,38 +28,31 @@ use Rattle.carrier.proofs.Delivering as carried
 use Rattle.carrier.proofs.Links as link_events
 use Rattle.carrier.proofs.Lookups.{same_number}
 use Rattle.carrier.proofs.Promising as link_promising
+use Rattle.trunk_record.specs.Records.{all}
+use Rattle.trunk_record.specs.Sayings.{Said, heard_as, is_live}
+use Rattle.trunk_record.specs.Changes.{beginning}
+use Rattle.trunk_record.specs.Trunks.{IsBelow, IsQuiet, IsTrunk}
 use Rattle.rlnh_end.specs.declared.heard.Heard.{Heard}
 use Rattle.rlnh_end.specs.declared.up.Up.TheVariants.{Bad}
 use Rattle.rlnh_end.specs.Calls.{Saying}
 use Rattle.rlnh_end.specs.Hearing.{IsRead, hears}
 use Rattle.rlnh_end.specs.States.{RlnhTables, addr_met, inc_met}
-use Rattle.linx_base.specs.declared.identity.Inc.{Inc}
-use Rattle.link_addresses.specs.declared.meaning.Meaning.{Meaning}
-use Rattle.link_addresses.specs.Meanings.{meaning_of}
-use Rattle.rlnh_laws.specs.Ties.{Stands, about, announced, answered, known, toward, unused}
-use Rattle.std.proofs.lemmas.List.{append_cancel_left, append-nil}
+use Rattle.rlnh_end.specs.Words.{Word}
+use Rattle.rlnh_laws.specs.Ties.{Stands, about, announced, answered, known, toward, unused, Pair}
 use Rattle.rlnh_laws.specs.Meanings.{Understands, heard_of, saids}
-use Rattle.rlnh_laws.specs.Ties.{Pair}
 use Rattle.rlnh_laws.proofs.ReadBack.{reads_word}
-use Rattle.trunk_record.specs.Records.{all}
-use Rattle.trunk_record.specs.Sayings.{Said, heard_as, is_live}
-use Rattle.trunk_record.specs.Changes.{beginning}
-use Rattle.trunk_record.specs.Trunks.{IsBelow, IsQuiet, IsTrunk}
-use Rattle.trunk.specs.Talks.{Both, Talks, all_talks, partner, side_record}
 use Rattle.trunk.specs.Events.{IsReading, TrunkState, delivered, kept_of, lost_from, near_beat}
-use Rattle.trunk.specs.Events.{near_said, swapped_from}
-use Rattle.trunk.specs.Events.{near_says, near_ticked, near_took, restarted_at, said_at, seen_from}
-use Rattle.trunk.specs.Events.{side_of, ticked_at, told_by, turned, with_link}
+use Rattle.trunk.specs.Events.{near_said, swapped_from, near_says, near_ticked, near_took}
+use Rattle.trunk.specs.Events.{restarted_at, said_at, seen_from, side_of, ticked_at, told_by}
+use Rattle.trunk.specs.Events.{turned, with_link}
 use Rattle.trunk.specs.Keeping.{KeepsTrunk, messages_of}
 use Rattle.trunk.specs.Laws.{IsOffered, IsUnderstood, MessagesUnderstood, SideAgrees, SidesAgree}
 use Rattle.trunk.specs.Laws.{EndsAgree, IsMetAs, SidesOffer}
-use Rattle.trunk.proofs.Calling.{calls_offer}
-use Rattle.trunk.proofs.Sounding.{hears_word}
-use Rattle.rlnh_end.specs.Words.{Word}
-use Rattle.trunk.specs.Talks.{FitsWord}
 use Rattle.trunk.specs.Promises.{IsPeerHeld, PeersRise, Promises, SidePromises}
+use Rattle.trunk.specs.Talks.{Both, Talks, all_talks, partner, side_record, FitsWord}
 use Rattle.trunk.specs.Tells.{CallsTell, DownForLater, EventsTell, PacketsTell, Says, TellsNotes}
 use Rattle.trunk.specs.Tells.{TellsSide, TurnsTell, noted_of, up_of_tick}
+use Rattle.trunk.proofs.Calling.{calls_offer}
 use Rattle.trunk.proofs.Events.{near_tells, seen_keeps, turned_keeps}
 use Rattle.trunk.proofs.Meeting.{is_met}
 use Rattle.trunk.proofs.Mirroring.{none_left}
@@ -67,10 +62,11 @@ use Rattle.trunk.proofs.Reading.{messages_fit, not_bad, reply_few}
 use Rattle.trunk.proofs.Saying.{NearSays, address_live, close_says, opened_says, publish_says}
 use Rattle.trunk.proofs.Saying.{query_says, send_says, silent_down}
 use Rattle.trunk.proofs.Silence.{silence_tells}
+use Rattle.trunk.proofs.Sounding.{hears_word}
 use Rattle.trunk.proofs.Stepping.{both_of, comes}
 use Rattle.trunk.proofs.Telling.{far_half, near_down_told, near_half, near_notes}
-use Rattle.trunk.proofs.Telling.{near_restart_above}
-use Rattle.trunk.proofs.Telling.{near_side, near_tick_notes, near_tick_tells, own_peer, own_session}
+use Rattle.trunk.proofs.Telling.{near_restart_above, near_side, near_tick_notes, near_tick_tells}
+use Rattle.trunk.proofs.Telling.{own_peer, own_session}
 
 -- ---- promises
 
@@ -108,8 +104,12 @@ promises t k =
 partner_now : (A B : Talks) → A.now.peer ≡ Some B.now.number → B.now.peer ≡ Some A.now.number
     → partner A.now (all_talks B) ≡ B.now
 partner_now A B p q =
-    rw (p, q, same_number B.now.number.0,
-    same_number A.now.number.0) refl
+    rw (
+      p,
+      q,
+      same_number B.now.number.0,
+      same_number A.now.number.0,
+    ) refl
 
 all_given : (A B : Talks) → Both A B → A.now.peer ≡ Some B.now.number
     → B.now.peer ≡ Some A.now.number

@@ -14,10 +14,9 @@ use Rattle.rlnh_laws.specs.Talks.{said_more}
 use Rattle.rlnh_laws.proofs.Uttering.{utter_grows}
 use Rattle.trunk.specs.Talks.{Both, FallBelow, HoldAll, IsBlank, Talks, all_talks, fresh_talk}
 use Rattle.trunk.specs.Talks.{is_peer, next_talks, partner, up_with, with_now}
-use Rattle.trunk.proofs.Partners.{alone_fresh, holds_with}
-use Rattle.trunk.proofs.Partners.{no_partner, nothing, pair_blank, pair_fresh, pair_sym}
-use Rattle.trunk.proofs.Partners.{down_partner}
 use Rattle.trunk.proofs.Growing.{both_says}
+use Rattle.trunk.proofs.Partners.{alone_fresh, holds_with, no_partner, nothing, pair_blank}
+use Rattle.trunk.proofs.Partners.{pair_fresh, pair_sym, down_partner}
 
 -- ---- a new session
 

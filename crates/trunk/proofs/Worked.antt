@@ -6,20 +6,20 @@ use Rattle.linx_base.specs.declared.signal.SigNote.{SigNote}
 use Rattle.link_addresses.specs.Meanings.{address_of, lowest_free, with_lowest}
 use Rattle.rlnh_messages.specs.Messages.{spelling_of}
 use Rattle.rlnh_messages.specs.declared.rlnh.Rlnh.TheVariants as rlnh
+use Rattle.fragmenter.specs.Pieces.{cut, followers, framed, pieces_of}
+use Rattle.ethcm_window.specs.Sending.{numbered_from}
+use Rattle.ethcm_end.specs.Rules.{data_in, input_of, offer_of, take_kept, tick_of}
+use Rattle.carrier.specs.Events.{handed_by}
+use Rattle.carrier.specs.declared.handed.Handed.TheVariants as links
+use Rattle.trunk_record.specs.Sayings.{arrived, asked, asked_for, freed, met, published}
+use Rattle.trunk_record.specs.Sayings.{unpublished}
 use Rattle.rlnh_end.specs.declared.heard.Heard.TheVariants.{Control, Garbage, Signal}
 use Rattle.rlnh_end.specs.States.{no_tables}
 use Rattle.rlnh_end.specs.Words.{announce, hello, message_of, question}
 use Rattle.rlnh_end.specs.Hearing.{hears}
-use Rattle.trunk_record.specs.Sayings.{arrived, asked, asked_for, freed, met, published}
-use Rattle.trunk_record.specs.Sayings.{unpublished}
-use Rattle.ethcm_window.specs.Sending.{numbered_from}
-use Rattle.fragmenter.specs.Pieces.{cut, followers, framed, pieces_of}
-use Rattle.ethcm_end.specs.Rules.{data_in, input_of, offer_of, take_kept, tick_of}
-use Rattle.carrier.specs.Events.{handed_by}
-use Rattle.carrier.specs.declared.handed.Handed.TheVariants as links
-use Rattle.trunk.specs.declared.up.TrunkUp.TheVariants.{Nothing, WentUp, Arrived, Met, Gone, Asked}
 use Rattle.trunk.specs.Events.{TrunkState, asked_at, closed_at, delivered, kept_of, new_trunk}
 use Rattle.trunk.specs.Events.{published_at, restarted_at, sent_at, tables_of, ticked_at, told_by}
+use Rattle.trunk.specs.declared.up.TrunkUp.TheVariants.{Nothing, WentUp, Arrived, Met, Gone, Asked}
 
 -- the first side asks for a connection, and each side goes up with the other's first session
 abbrev asking : TrunkState

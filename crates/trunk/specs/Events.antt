@@ -14,6 +14,18 @@ use Rattle.linx_base.specs.declared.signal.SigNote.{SigNote}
 use Rattle.link_addresses.specs.declared.meaning.Meaning.{Meaning}
 use Rattle.link_addresses.specs.declared.meaning.Meaning.TheVariants.{Free, Live, Closing}
 use Rattle.link_addresses.specs.Meanings.{meaning_of}
+use Rattle.ethcm_end.specs.States.{peer_of}
+use Rattle.ethcm_end.specs.Rules.{tick_of}
+use Rattle.carrier.specs.declared.handed.Handed.{Handed}
+use Rattle.carrier.specs.declared.handed.Handed.TheVariants.{Nothing, WentUp, WentDown, Got}
+use Rattle.carrier.specs.declared.handed.TickedSide.{TickedSide}
+use Rattle.carrier.specs.declared.handed.TickedSide.TheVariants as ticked
+use Rattle.carrier.specs.Events.{LinkState, near_handed, near_offered, new_link, ticked_as}
+use Rattle.carrier.specs.Events as links
+use Rattle.trunk_record.specs.Records.{SideRecord}
+use Rattle.trunk_record.specs.Sayings.{Given, arrived, asked_for, freed, gone, met}
+use Rattle.trunk_record.specs.Changes.{beginning, going_up, new_side}
+use Rattle.trunk_record.specs.Changes as changes
 use Rattle.rlnh_end.specs.declared.heard.Heard.{Heard}
 use Rattle.rlnh_end.specs.declared.heard.Heard.TheVariants.{Control, Garbage, Signal}
 use Rattle.rlnh_end.specs.declared.up.Up.{Up}
@@ -24,18 +36,6 @@ use Rattle.rlnh_end.specs.Calls.{send_of}
 use Rattle.rlnh_end.specs.Hearing.{IsRead, hears, hears_control}
 use Rattle.rlnh_end.specs.Reactions.{input_of}
 use Rattle.rlnh_laws.specs.Meanings.{saids}
-use Rattle.trunk_record.specs.Records.{SideRecord}
-use Rattle.trunk_record.specs.Sayings.{Given, arrived, asked_for, freed, gone, met}
-use Rattle.trunk_record.specs.Changes.{beginning, going_up, new_side}
-use Rattle.trunk_record.specs.Changes as changes
-use Rattle.ethcm_end.specs.States.{peer_of}
-use Rattle.carrier.specs.declared.handed.Handed.{Handed}
-use Rattle.carrier.specs.declared.handed.Handed.TheVariants.{Nothing, WentUp, WentDown, Got}
-use Rattle.carrier.specs.declared.handed.TickedSide.{TickedSide}
-use Rattle.carrier.specs.declared.handed.TickedSide.TheVariants as ticked
-use Rattle.carrier.specs.Events.{LinkState, near_handed, near_offered, new_link, ticked_as}
-use Rattle.carrier.specs.Events as links
-use Rattle.ethcm_end.specs.Rules.{tick_of}
 use Rattle.trunk.specs.declared.up.TrunkUp.{TrunkUp}
 use Rattle.trunk.specs.declared.up.TrunkUp.TheVariants as tells
 

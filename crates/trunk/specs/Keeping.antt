@@ -4,12 +4,12 @@
 use Rattle.std.specs.Prelude.{◌≡◌, List, [], ◌∷◌, map}
 use Rattle.std.specs.List.{AllByRecursion}
 use Rattle.linx_base.specs.declared.frame.Message.{Message}
-use Rattle.rlnh_end.specs.Words.{Word, message_of}
-use Rattle.rlnh_laws.specs.Ties.{Talk}
 use Rattle.carrier.specs.Records.{Entry, HalfState, entries}
 use Rattle.carrier.specs.Keeping.{KeepsLink}
-use Rattle.trunk.specs.Talks.{Half, IsSound, Talks, all_talks, side_record}
+use Rattle.rlnh_end.specs.Words.{Word, message_of}
+use Rattle.rlnh_laws.specs.Ties.{Talk}
 use Rattle.trunk.specs.Events.{TrunkSide, TrunkState}
+use Rattle.trunk.specs.Talks.{Half, IsSound, Talks, all_talks, side_record}
 
 -- the messages by which words go
 abbrev pub messages_of : List Word → List Message

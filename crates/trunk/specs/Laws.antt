@@ -14,20 +14,20 @@ use Rattle.link_addresses.specs.declared.meaning.Meaning.{Meaning}
 use Rattle.link_addresses.specs.declared.meaning.Meaning.TheVariants.{Free, Live, Closing}
 use Rattle.link_addresses.specs.Meanings.{address_of, meaning_of, used_in}
 use Rattle.rlnh_messages.specs.Signals.{IsSignal}
+use Rattle.ethcm_end.specs.States.{peer_of}
+use Rattle.carrier.specs.Records.{HalfState}
+use Rattle.carrier.specs.Events.{flight_from, half_of, handed_by}
+use Rattle.carrier.specs.declared.handed.Handed.TheVariants.{Got}
+use Rattle.trunk_record.specs.Sayings.{heard_as, is_live, was_unpublished}
 use Rattle.rlnh_end.specs.declared.heard.Heard.{Heard}
 use Rattle.rlnh_end.specs.declared.up.Up.TheVariants.{Bad}
 use Rattle.rlnh_end.specs.Calls.{Saying, begin_of, close_of, opened_of, publish_of, query_of}
 use Rattle.rlnh_end.specs.Calls.{send_of}
 use Rattle.rlnh_end.specs.States.{addr_met, inc_met, no_tables}
 use Rattle.rlnh_end.specs.Hearing.{IsRead, hears}
-use Rattle.trunk_record.specs.Sayings.{heard_as, is_live, was_unpublished}
-use Rattle.ethcm_end.specs.States.{peer_of}
-use Rattle.carrier.specs.Records.{HalfState}
-use Rattle.carrier.specs.Events.{flight_from, half_of, handed_by}
-use Rattle.carrier.specs.declared.handed.Handed.TheVariants.{Got}
 use Rattle.trunk.specs.Events.{IsReading, TrunkSide, TrunkState, asked_at, closed_at, delivered}
-use Rattle.trunk.specs.Events.{lost_from, new_trunk, opened_at, published_at, restarted_at}
-use Rattle.trunk.specs.Events.{sent_at, side_of, swapped_from, ticked_at}
+use Rattle.trunk.specs.Events.{lost_from, new_trunk, opened_at, published_at, restarted_at, sent_at}
+use Rattle.trunk.specs.Events.{side_of, swapped_from, ticked_at}
 use Rattle.trunk.specs.Keeping.{KeepsTrunk, messages_of}
 
 -- an incarnation of this name may be published: there is an address for it, and it wasn't

@@ -8,14 +8,14 @@ use Rattle.linx_base.specs.declared.identity.Session.{Session}
 use Rattle.link_addresses.specs.declared.meaning.Meaning.TheVariants.{Live}
 use Rattle.link_addresses.specs.Meanings.{meaning_of}
 use Rattle.rlnh_messages.specs.Messages.{IsAddress}
+use Rattle.carrier.specs.Records.{names}
+use Rattle.trunk_record.specs.Records.{SessionRecord, SideRecord}
+use Rattle.trunk_record.specs.Sayings.{IsInTurn, Said, is_live}
 use Rattle.rlnh_end.specs.declared.met_at.MetAt.{MetAt}
 use Rattle.rlnh_end.specs.States.{RlnhTables, inc_met, no_tables}
 use Rattle.rlnh_end.specs.Words.{Word}
 use Rattle.rlnh_laws.specs.Meanings.{FitsMessage, heard_of, saids}
 use Rattle.rlnh_laws.specs.Ties.{Alone, Pair, Talk}
-use Rattle.trunk_record.specs.Records.{SessionRecord, SideRecord}
-use Rattle.trunk_record.specs.Sayings.{IsInTurn, Said, is_live}
-use Rattle.carrier.specs.Records.{names}
 
 -- ---- the sessions of a side
 

@@ -8,25 +8,25 @@ use Rattle.linx_base.specs.declared.identity.Inc.{Inc}
 use Rattle.linx_base.specs.declared.identity.Session.{Session}
 use Rattle.linx_base.specs.declared.identity.Side.{Side}
 use Rattle.linx_base.specs.declared.signal.SigNote.{SigNote}
-use Rattle.rlnh_end.specs.declared.heard.Heard.{Heard}
-use Rattle.rlnh_end.specs.Calls.{Saying}
-use Rattle.rlnh_end.specs.States.{RlnhTables, is_noted, with_note, without_note}
+use Rattle.carrier.specs.Events.{half_of, handed_by, told_by as link_told_by}
+use Rattle.carrier.specs.declared.handed.TickedSide.{TickedSide}
+use Rattle.carrier.specs.declared.handed.TickedSide.TheVariants as ticked
 use Rattle.trunk_record.specs.Records.{SideRecord, all, has_session, peer_in, said_in}
 use Rattle.trunk_record.specs.Sayings.{Given, Said, arrived, asked, asked_for, freed, gone}
 use Rattle.trunk_record.specs.Sayings.{heard_as, is_live, met, published, unpublished}
 use Rattle.trunk_record.specs.Changes.{beginning, giving, going_up, saying, sending}
 use Rattle.trunk_record.specs.Trunks.{FitsReceiver, IsBelow}
-use Rattle.carrier.specs.Events.{half_of, handed_by, told_by as link_told_by}
-use Rattle.carrier.specs.declared.handed.TickedSide.{TickedSide}
-use Rattle.carrier.specs.declared.handed.TickedSide.TheVariants as ticked
-use Rattle.trunk.specs.declared.up.TrunkUp.{TrunkUp}
-use Rattle.trunk.specs.declared.up.TrunkUp.TheVariants.{Nothing, WentUp, WentDown, Arrived, Met}
-use Rattle.trunk.specs.declared.up.TrunkUp.TheVariants.{Gone, Asked}
+use Rattle.rlnh_end.specs.declared.heard.Heard.{Heard}
+use Rattle.rlnh_end.specs.Calls.{Saying}
+use Rattle.rlnh_end.specs.States.{RlnhTables, is_noted, with_note, without_note}
 use Rattle.trunk.specs.Events.{IsReading, TrunkState, asked_at, closed_at, delivered, kept_of}
 use Rattle.trunk.specs.Events.{lost_from, opened_at, published_at, restarted_at, said_at, sent_at}
 use Rattle.trunk.specs.Events.{side_of, swapped_from, tables_of, ticked_at, told_by}
 use Rattle.trunk.specs.Keeping.{KeepsTrunk}
 use Rattle.trunk.specs.Promises.{PeersUpTo}
+use Rattle.trunk.specs.declared.up.TrunkUp.{TrunkUp}
+use Rattle.trunk.specs.declared.up.TrunkUp.TheVariants.{Nothing, WentUp, WentDown, Arrived, Met}
+use Rattle.trunk.specs.declared.up.TrunkUp.TheVariants.{Gone, Asked}
 
 -- ---- what a packet or a tick makes of a side, whose record was A and is C; the other side's is B
 

@@ -30,8 +30,8 @@ pub fn sides_agree()
     ensures { SidesAgree }
 {}
 
-/// What a call says goes by messages that the link takes: at most two for a signal, whose sender may
-/// have to be published first, and at most one for any other call.
+/// What a call says goes by messages that the link takes: at most two for a signal, whose sender
+/// may have to be published first, and at most one for any other call.
 pub fn sides_offer()
     ensures { SidesOffer }
 {}
@@ -51,10 +51,8 @@ pub fn trunks_keep_promises()
 
 /// And where the link is quiet, both sides are up with each other, and all that was said was given.
 pub fn quiet_is_complete()
-    ensures {
-        (t : TrunkState) → KeepsTrunk t → is_quiet t.link ≡ true
-        → IsQuiet t.first.kept t.second.kept
-    }
+    ensures { (t : TrunkState) → KeepsTrunk t → is_quiet t.link ≡ true
+        → IsQuiet t.first.kept t.second.kept }
 {}
 
 /// Then each RLNH end has met just whom the other one has published and not unpublished, and no

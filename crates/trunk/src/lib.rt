@@ -7,6 +7,8 @@
 mod laws;
 mod up;
 
-pub use laws::{events_keep, events_tell, messages_are_understood, quiet_ends_agree};
-pub use laws::{quiet_is_complete, sides_agree, sides_offer, trunks_keep_promises, trunks_keep_records};
+pub use laws::{
+    events_keep, events_tell, messages_are_understood, quiet_ends_agree, quiet_is_complete,
+    sides_agree, sides_offer, trunks_keep_promises, trunks_keep_records,
+};
 pub use up::TrunkUp;
