@@ -17,5 +17,6 @@ pub mod Given
 pub mod Telling
 pub mod Saying
 pub mod Silence
+pub mod Quiet
 pub mod Trunks
 pub mod Worked

@@ -48,8 +48,8 @@ use Rattle.rlnh_end.specs.Reactions.{input_of as rlnh_input_of}
 use Rattle.rlnh_end.specs.States.{RlnhTables}
 use Rattle.trunk.specs.Events.{TrunkState, delivered, lost_from, near_beat, near_delivered}
 use Rattle.trunk.specs.Events.{near_offers, swapped_from, near_said, near_says, near_ticked}
-use Rattle.trunk.specs.Events.{near_took, restarted_at, said_at, ticked_at, told_by, told_of}
-use Rattle.trunk.specs.Events.{told_up, turned, with_link}
+use Rattle.trunk.specs.Events.{near_took, restarted_at, said_at, side_of, ticked_at, told_by}
+use Rattle.trunk.specs.Events.{told_of, told_up, turned, with_link}
 use Rattle.trunk.specs.Keeping.{KeepsTrunk}
 use Rattle.trunk.specs.Tells.{HeardNow, SilenceTells, silent_of}
 use Rattle.trunk.proofs.Events.{near_tells, turned_keeps}
@@ -316,19 +316,22 @@ said_other t made =
 
 -- ---- at both sides
 
-lost_ticks : (from at : Side) (k : ℕ) (t : TrunkState)
-    → silent_of at (lost_from from k t) ≡ silent_of at t
-lost_ticks First First k t = refl
-lost_ticks First Second k t = refl
-lost_ticks Second First k t = refl
-lost_ticks Second Second k t = refl
+-- packets that are lost or exchanged leave both sides as they are
+pub lost_same : (from at : Side) (k : ℕ) (t : TrunkState)
+    → (side_of at (lost_from from k t) ≡ side_of at t)
+    × (silent_of at (lost_from from k t) ≡ silent_of at t)
+lost_same First First k t = (refl, refl)
+lost_same First Second k t = (refl, refl)
+lost_same Second First k t = (refl, refl)
+lost_same Second Second k t = (refl, refl)
 
-swapped_ticks : (from at : Side) (k n : ℕ) (t : TrunkState)
-    → silent_of at (swapped_from from k n t) ≡ silent_of at t
-swapped_ticks First First k n t = refl
-swapped_ticks First Second k n t = refl
-swapped_ticks Second First k n t = refl
-swapped_ticks Second Second k n t = refl
+pub swapped_same : (from at : Side) (k n : ℕ) (t : TrunkState)
+    → (side_of at (swapped_from from k n t) ≡ side_of at t)
+    × (silent_of at (swapped_from from k n t) ≡ silent_of at t)
+swapped_same First First k n t = (refl, refl)
+swapped_same First Second k n t = (refl, refl)
+swapped_same Second First k n t = (refl, refl)
+swapped_same Second Second k n t = (refl, refl)
 
 pub silence_tells : SilenceTells
 silence_tells =
@@ -336,8 +339,8 @@ silence_tells =
       packet = packet;
       shown = shown;
       packet_sender = packet_sender;
-      lost = lost_ticks;
-      swapped = swapped_ticks;
+      lost = λ from at k t. (lost_same from at k t).1;
+      swapped = λ from at k n t. (swapped_same from at k n t).1;
       tick = tick;
       tick_down = tick_down;
       tick_other = tick_other;

@@ -117,15 +117,16 @@ pumped_keeps t k v s kept g says kv same up c has is =
 
 -- ---- it says something of its own accord
 
-abbrev with_said : Talks → List Said → SideRecord
-with_said A said =
+-- the record of a side, whose present session has this peer and this said and given
+abbrev with_present : Talks → Option Session → List Said → List Given → SideRecord
+with_present A peer said given =
     record {
       now =
           record {
             session = A.now.number;
-            peer = A.now.peer;
+            peer = peer;
             said = said;
-            given = A.now.given;
+            given = given;
           };
       earlier = map record_of A.earlier;
     }
@@ -160,7 +161,7 @@ says_keeps t k made up grows sound =
           ∙ ap (λ ms. ms ++ messages_of made.says) k.first.out;
     })
     (ap (λ r. changes.saying (saids made.says) r) k.first.kept
-    ∙ ap (with_said A) (sym (saids-append A.now.words made.says)))
+    ∙ ap (λ s. with_present A A.now.peer s A.now.given) (sym (saids-append A.now.words made.says)))
 
 -- a side that isn't up says nothing
 pub said_keeps : (t : TrunkState) (made : Saying) → KeepsTrunk t
@@ -174,19 +175,6 @@ said_keeps t made k says = by_peer (is_some (peer_of t.link.first.end)) refl
     by_peer false down = k
 
 -- ---- it goes up
-
-abbrev with_said_up : Talks → Session → List Said → SideRecord
-with_said_up A y said =
-    record {
-      now =
-          record {
-            session = A.now.number;
-            peer = Some y;
-            said = said;
-            given = A.now.given;
-          };
-      earlier = map record_of A.earlier;
-    }
 
 pub up_keeps : (t : TrunkState) (k : KeepsTrunk t) (v : LinkState) (session peer : Session)
     → KeepsLink v → v.second ≡ t.link.second
@@ -224,7 +212,8 @@ up_keeps t k v session peer kv same goes =
           ∙ ap (λ ms. ms ++ messages_of (hello ∷ [])) k.first.out;
     })
     (ap (λ r. going_up peer r) k.first.kept
-    ∙ ap (λ said. with_said_up A peer said) (sym (saids-append A.now.words (hello ∷ []))))
+    ∙ ap (λ s. with_present A (Some peer) s A.now.given)
+    (sym (saids-append A.now.words (hello ∷ []))))
 
 -- ---- its session ends, and the next one begins
 
@@ -331,19 +320,6 @@ comes t k v m kv same h =
           right.understands;
     }
 
-abbrev with_both : Talks → List Said → List Given → SideRecord
-with_both A said given =
-    record {
-      now =
-          record {
-            session = A.now.number;
-            peer = A.now.peer;
-            said = said;
-            given = given ++ A.now.given;
-          };
-      earlier = map record_of A.earlier;
-    }
-
 pub heard_keeps : (t : TrunkState) (k : KeepsTrunk t) (v : LinkState) (m : Message)
     (heard : Heard) → KeepsLink v → v.second ≡ t.link.second
     → HandsUp t.link.first v.first t.link.second m → IsRead m heard
@@ -388,8 +364,10 @@ heard_keeps t k v m heard kv same h read =
           ∙ ap (λ ms. ms ++ messages_of r.made.says) k.first.out;
     })
     (ap (λ x. giving_all (given_of A.now.end (heard_of w)) x) k.first.kept
-    ∙ ap (λ s. with_both A s (given_of A.now.end (heard_of w))) (sym silent)
-    ∙ ap (λ g. with_both A (saids (A.now.words ++ r.made.says)) g) (sym c.given))
+    ∙ ap (λ s. with_present A A.now.peer s
+    (given_of A.now.end (heard_of w) ++ A.now.given)) (sym silent)
+    ∙ ap (λ g. with_present A A.now.peer (saids (A.now.words ++ r.made.says)) (g ++ A.now.given))
+    (sym c.given))
     in
     subst (λ (x : RlnhTables). KeepsTrunk (near_pumped (with_link t v)
     (after t.first.end (hears x heard).made) (giving_all (given_of x heard) t.first.kept)))

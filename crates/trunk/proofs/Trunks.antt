@@ -1,9 +1,7 @@
 -- What is promised of a trunk, and what its events tell, at both sides.
-use Rattle.std.proofs.Common.{◌≡◌, ◌≢◌, ◌<◌, ◌++◌, ℕ, Bool, true, false, List, [], Option, Some}
-use Rattle.std.proofs.Common.{None, map, refl, sym, ◌∙◌, ap, subst}
-use Rattle.std.specs.Prelude.{◌==◌, ◌&&◌, if◌then◌else◌, is_some, length, not, slice_get}
-use Rattle.std.proofs.Math.Bool.{and_comm}
-use Rattle.std.proofs.lemmas.List.{append_cancel_left, append-nil}
+use Rattle.std.proofs.Common.{◌≡◌, ◌≢◌, ◌<◌, ℕ, Bool, true, false, List, [], None, map, refl, sym}
+use Rattle.std.proofs.Common.{◌∙◌, ap, subst}
+use Rattle.std.specs.Prelude.{if◌then◌else◌, is_some, slice_get}
 use Rattle.std.specs.List.{AllByRecursion}
 use Rattle.linx_base.specs.Numbers.{boot_of, first_session}
 use Rattle.linx_base.specs.Sides.{other_of}
@@ -11,59 +9,52 @@ use Rattle.linx_base.specs.declared.frame.Message.{Message}
 use Rattle.linx_base.specs.declared.identity.Inc.{Inc}
 use Rattle.linx_base.specs.declared.identity.Side.{Side}
 use Rattle.linx_base.specs.declared.identity.Side.TheVariants.{First, Second}
-use Rattle.link_addresses.specs.declared.meaning.Meaning.{Meaning}
-use Rattle.link_addresses.specs.Meanings.{meaning_of}
 use Rattle.ethcm_end.specs.Rules.{tick_of}
-use Rattle.ethcm_end.specs.States.{has_work_in, peer_of}
-use Rattle.carrier.specs.Events.{LinkState, is_quiet, near_handed, ticked_as}
+use Rattle.ethcm_end.specs.States.{peer_of}
+use Rattle.carrier.specs.Events.{near_handed, ticked_as}
 use Rattle.carrier.specs.Events as links
-use Rattle.carrier.specs.Laws.{HandsUp, IsComplete, TellsRightly}
+use Rattle.carrier.specs.Laws.{HandsUp, TellsRightly}
 use Rattle.carrier.specs.declared.handed.Handed.{Handed}
 use Rattle.carrier.specs.declared.handed.Handed.TheVariants.{Got}
 use Rattle.carrier.specs.declared.handed.Handed.TheVariants as handed
 use Rattle.carrier.specs.declared.handed.TickedSide.{TickedSide}
 use Rattle.carrier.specs.declared.handed.TickedSide.TheVariants as ticked
-use Rattle.carrier.proofs.Delivering.{quiet_complete}
 use Rattle.carrier.proofs.Delivering as carried
 use Rattle.carrier.proofs.Links as link_events
-use Rattle.carrier.proofs.Lookups.{same_number}
 use Rattle.carrier.proofs.Promising as link_promising
 use Rattle.trunk_record.specs.Records.{all}
 use Rattle.trunk_record.specs.Sayings.{Said, heard_as, is_live}
 use Rattle.trunk_record.specs.Changes.{beginning}
-use Rattle.trunk_record.specs.Trunks.{IsBelow, IsQuiet, IsTrunk}
+use Rattle.trunk_record.specs.Trunks.{IsBelow, IsTrunk}
 use Rattle.rlnh_end.specs.declared.heard.Heard.{Heard}
 use Rattle.rlnh_end.specs.declared.up.Up.TheVariants.{Bad}
 use Rattle.rlnh_end.specs.Calls.{Saying}
 use Rattle.rlnh_end.specs.Hearing.{IsRead, hears}
-use Rattle.rlnh_end.specs.States.{RlnhTables, addr_met, inc_met}
+use Rattle.rlnh_end.specs.States.{RlnhTables, addr_met}
 use Rattle.rlnh_end.specs.Words.{Word}
-use Rattle.rlnh_laws.specs.Ties.{Stands, about, announced, answered, known, toward, unused, Pair}
 use Rattle.rlnh_laws.specs.Meanings.{Understands, heard_of, saids}
 use Rattle.rlnh_laws.proofs.ReadBack.{reads_word}
-use Rattle.trunk.specs.Events.{IsReading, TrunkState, delivered, kept_of, lost_from, near_beat}
-use Rattle.trunk.specs.Events.{near_said, swapped_from, near_says, near_ticked, near_took}
-use Rattle.trunk.specs.Events.{restarted_at, said_at, seen_from, side_of, ticked_at, told_by}
-use Rattle.trunk.specs.Events.{turned, with_link}
-use Rattle.trunk.specs.Keeping.{KeepsTrunk, messages_of}
+use Rattle.trunk.specs.Events.{IsReading, TrunkState, delivered, kept_of, near_beat, near_said}
+use Rattle.trunk.specs.Events.{near_says, near_ticked, near_took, restarted_at, said_at, seen_from}
+use Rattle.trunk.specs.Events.{side_of, ticked_at, told_by, turned, with_link}
+use Rattle.trunk.specs.Keeping.{KeepsTrunk}
 use Rattle.trunk.specs.Laws.{IsOffered, IsUnderstood, MessagesUnderstood, SideAgrees, SidesAgree}
-use Rattle.trunk.specs.Laws.{EndsAgree, IsMetAs, SidesOffer}
+use Rattle.trunk.specs.Laws.{SidesOffer}
 use Rattle.trunk.specs.Promises.{IsPeerHeld, PeersRise, Promises, SidePromises}
-use Rattle.trunk.specs.Talks.{Both, Talks, all_talks, partner, side_record, FitsWord}
+use Rattle.trunk.specs.Talks.{side_record, FitsWord}
 use Rattle.trunk.specs.Tells.{CallsTell, DownForLater, EventsTell, PacketsTell, Says, TellsNotes}
 use Rattle.trunk.specs.Tells.{TellsSide, TurnsTell, noted_of, up_of_tick}
 use Rattle.trunk.proofs.Calling.{calls_offer}
 use Rattle.trunk.proofs.Events.{near_tells, seen_keeps, turned_keeps}
 use Rattle.trunk.proofs.Meeting.{is_met}
-use Rattle.trunk.proofs.Mirroring.{none_left}
 use Rattle.trunk.proofs.Peers.{side_peers_held, side_peers_rise}
 use Rattle.trunk.proofs.Promising.{given_promises, not_twice, said_promises}
 use Rattle.trunk.proofs.Reading.{messages_fit, not_bad, reply_few}
 use Rattle.trunk.proofs.Saying.{NearSays, address_live, close_says, opened_says, publish_says}
 use Rattle.trunk.proofs.Saying.{query_says, send_says, silent_down}
-use Rattle.trunk.proofs.Silence.{silence_tells}
+use Rattle.trunk.proofs.Silence.{lost_same, silence_tells, swapped_same}
 use Rattle.trunk.proofs.Sounding.{hears_word}
-use Rattle.trunk.proofs.Stepping.{both_of, comes}
+use Rattle.trunk.proofs.Stepping.{comes}
 use Rattle.trunk.proofs.Telling.{far_half, near_down_told, near_half, near_notes}
 use Rattle.trunk.proofs.Telling.{near_restart_above, near_side, near_tick_notes, near_tick_tells}
 use Rattle.trunk.proofs.Telling.{own_peer, own_session}
@@ -98,108 +89,6 @@ side_promises t k =
 pub promises : (t : TrunkState) → KeepsTrunk t → Promises t
 promises t k =
     record { first = side_promises t k; second = side_promises (turned t) (turned_keeps t k) }
-
--- ---- a quiet trunk
-
-partner_now : (A B : Talks) → A.now.peer ≡ Some B.now.number → B.now.peer ≡ Some A.now.number
-    → partner A.now (all_talks B) ≡ B.now
-partner_now A B p q =
-    rw (
-      p,
-      q,
-      same_number B.now.number.0,
-      same_number A.now.number.0,
-    ) refl
-
-all_given : (A B : Talks) → Both A B → A.now.peer ≡ Some B.now.number
-    → B.now.peer ≡ Some A.now.number
-    → messages_of B.now.heard
-    ≡ messages_of A.now.words
-    → saids A.now.words ≡ map heard_as B.now.given
-all_given A B k p q h =
-    let pair : Pair A.now B.now =
-    subst (λ f. Pair A.now f) (partner_now A B p q) k.near.holds.0.pair in
-    ap saids (none_left B.now.heard pair.there A.now.words pair.there_is h)
-    ∙ sym k.far.holds.0.alone.given
-
-pub quiet : (t : TrunkState) → KeepsTrunk t → is_quiet t.link ≡ true
-    → IsQuiet t.first.kept t.second.kept
-quiet t k still =
-    let c : IsComplete t.link = quiet_complete t.link k.link still in
-    let A = k.near in
-    let B = k.far in
-    let m = k.first.mirrors.0 in
-    let n = k.second.mirrors.0 in
-    let p : A.now.peer ≡ Some B.now.number = sym m.peer ∙ c.first_up ∙ ap Some n.number in
-    let q : B.now.peer ≡ Some A.now.number = sym n.peer ∙ c.second_up ∙ ap Some m.number in
-    let both = both_of t k in
-    let there = all_given A B both p q (sym n.handed ∙ c.there ∙ m.offered) in
-    let back = all_given B A (record { near = both.far; far = both.near }) q p
-    (sym m.handed ∙ c.back ∙ n.offered) in
-    subst (λ r. IsQuiet r t.second.kept) (sym k.first.kept)
-    (subst (λ r. IsQuiet (side_record A) r) (sym k.second.kept)
-    (record { pair = p; back = q; said = there; answered = back }))
-
--- a link is quiet from either side
-quiet_turned : (v : LinkState) → is_quiet v ≡ true → is_quiet (links.turned v) ≡ true
-quiet_turned v still =
-    by_four (length v.there == 0) (length v.back == 0) (not (has_work_in v.first.end))
-    (not (has_work_in v.second.end)) still
-  where
-    by_four : (a b c d : Bool) → ((a && b) && (c && d)) ≡ true → ((b && a) && (d && c)) ≡ true
-    by_four a b c d is = ap (λ x. x && (d && c)) (and_comm b a)
-        ∙ ap (λ x. (a && b) && x) (and_comm d c) ∙ is
-
--- nothing is under way, so that each address is unused or known
-settled : (own : Meaning) (met : Option Inc) → Stands own met [] [] → IsMetAs own met
-settled own met (unused free none e t) = subst (λ m. IsMetAs m met) (sym free) none
-settled own met (announced i r none e tells t) = absurd cc
-settled own met (known i is tells aims) = subst (λ m. IsMetAs m met) (sym tells) is
-settled own met (answered i closing none e acks) = absurd acks
-
--- no words are left of those that were all heard
-none_there : (xs ys zs : List Word) → zs ≡ xs ++ ys → zs ≡ xs → ys ≡ []
-none_there xs ys zs e is =
-    append_cancel_left xs ys [] (sym e ∙ is ∙ sym (append-nil xs))
-
-talks_agree : (A B : Talks) (p : Pair A.now B.now) → A.now.words ≡ B.now.heard
-    → B.now.words ≡ A.now.heard → (a : ℕ)
-    → IsMetAs (meaning_of A.now.end.own a) (inc_met B.now.end.met a)
-talks_agree A B p there back a =
-    let none : p.there ≡ [] = none_there B.now.heard p.there A.now.words p.there_is there in
-    let empty : p.back ≡ [] = none_there A.now.heard p.back B.now.words p.back_is back in
-    settled (meaning_of A.now.end.own a) (inc_met B.now.end.met a)
-    (subst (λ w. Stands (meaning_of A.now.end.own a) (inc_met B.now.end.met a) (about a w) [])
-    none (subst (λ w. Stands (meaning_of A.now.end.own a) (inc_met B.now.end.met a)
-    (about a p.there) (toward a w)) empty (p.near a)))
-
-near_ends : (t : TrunkState) → KeepsTrunk t → is_quiet t.link ≡ true → (a : ℕ)
-    → IsMetAs (meaning_of t.first.end.tables.own a) (inc_met t.second.end.tables.met a)
-near_ends t k still a =
-    let c : IsComplete t.link = quiet_complete t.link k.link still in
-    let A = k.near in
-    let B = k.far in
-    let m = k.first.mirrors.0 in
-    let n = k.second.mirrors.0 in
-    let p : A.now.peer ≡ Some B.now.number = sym m.peer ∙ c.first_up ∙ ap Some n.number in
-    let q : B.now.peer ≡ Some A.now.number = sym n.peer ∙ c.second_up ∙ ap Some m.number in
-    let pair : Pair A.now B.now =
-    subst (λ f. Pair A.now f) (partner_now A B p q) k.first.half.holds.0.pair in
-    let there = none_left B.now.heard pair.there A.now.words pair.there_is
-    (sym n.handed ∙ c.there ∙ m.offered) in
-    let back = none_left A.now.heard pair.back B.now.words pair.back_is
-    (sym m.handed ∙ c.back ∙ n.offered) in
-    subst (λ (s : RlnhTables). IsMetAs (meaning_of s.own a)
-    (inc_met t.second.end.tables.met a)) (sym k.first.tables)
-    (subst (λ (s : RlnhTables). IsMetAs (meaning_of A.now.end.own a) (inc_met s.met a))
-    (sym k.second.tables) (talks_agree A B pair there back a))
-
-pub quiet_ends : (t : TrunkState) → KeepsTrunk t → is_quiet t.link ≡ true → EndsAgree t
-quiet_ends t k still =
-    record {
-      first = near_ends t k still;
-      second = near_ends (turned t) (turned_keeps t k) (quiet_turned t.link still);
-    }
 
 -- ---- messages are understood
 
@@ -300,8 +189,8 @@ packets_tell =
       notes = notes;
       down = down;
       sender = sender;
-      lost = lost;
-      swapped = swapped;
+      lost = λ from at k t. (lost_same from at k t).0;
+      swapped = λ from at k n t. (swapped_same from at k n t).0;
     }
   where
     side : (from : Side) (k : ℕ) (keep : Bool) (heard : Heard) (t : TrunkState) → KeepsTrunk t
@@ -334,20 +223,6 @@ packets_tell =
     sender Second k keep heard t =
         took_second (with_link t (links.near_delivered t.link k keep)) heard
         (near_handed t.link (slice_get t.link.back k))
-
-    lost : (from at : Side) (k : ℕ) (t : TrunkState)
-        → side_of at (lost_from from k t) ≡ side_of at t
-    lost First First k t = refl
-    lost First Second k t = refl
-    lost Second First k t = refl
-    lost Second Second k t = refl
-
-    swapped : (from at : Side) (k n : ℕ) (t : TrunkState)
-        → side_of at (swapped_from from k n t) ≡ side_of at t
-    swapped First First k n t = refl
-    swapped First Second k n t = refl
-    swapped Second First k n t = refl
-    swapped Second Second k n t = refl
 
 near_ticked_notes : (t : TrunkState)
     → TellsNotes t.first.end.tables.noted (near_ticked t).first.end.tables.noted
