@@ -3,3 +3,5 @@ mod Worked
 mod ByRule
 mod Reading
 mod Listing
+mod Entries
+mod ByKind

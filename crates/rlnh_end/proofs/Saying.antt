@@ -1,15 +1,19 @@
 -- What is said goes out, and addresses aren't 0.
-use Rattle.std.proofs.Common.{◌≡◌, ◌≢◌, ℕ, zero, suc, ◌<◌, List, [], ◌∷◌, ◌++◌, refl, arith}
+use Rattle.std.proofs.Common.{◌≡◌, ◌≢◌, ℕ, zero, suc, ◌<◌, List, [], ◌∷◌, ◌++◌, refl, ap}
+use Rattle.std.proofs.Common.{arith}
 use Rattle.linx_base.specs.declared.identity.Inc.{Inc}
 use Rattle.linx_base.specs.declared.frame.Message.{Message}
+use Rattle.linx_base.specs.declared.signal.SigNote.{SigNote}
 use Rattle.link_addresses.specs.declared.meaning.Meaning.{Meaning}
 use Rattle.link_addresses.specs.declared.meaning.Meaning.TheVariants.{Free, Live, Closing}
-use Rattle.link_addresses.specs.Meanings.{meaning_of}
+use Rattle.link_addresses.specs.Meanings.{address_of, meaning_of}
+use Rattle.rlnh_end.specs.declared.heard.Heard.{Heard}
+use Rattle.rlnh_end.specs.declared.heard.Heard.TheVariants.{Control, Signal, Garbage}
 use Rattle.rlnh_end.specs.declared.up.Up.TheVariants.{Bad}
-use Rattle.rlnh_end.specs.States.{RlnhTables}
+use Rattle.rlnh_end.specs.States.{RlnhState, RlnhTables, addr_met}
 use Rattle.rlnh_end.specs.Words.{Word, message_of}
-use Rattle.rlnh_end.specs.Calls.{with_words}
-use Rattle.rlnh_end.specs.Hearing.{heard_ack, only}
+use Rattle.rlnh_end.specs.Calls.{Saying, after, saying, signal_of, told, with_words}
+use Rattle.rlnh_end.specs.Hearing.{HasReadAddress, IsRead, heard_ack, only}
 
 -- words that are said behind others
 pub words_then : (out : List Message) (front back : List Word)
@@ -29,3 +33,18 @@ pub not_closing_bad : (t : RlnhTables) (addr : ℕ) (means : Meaning)
 not_closing_bad t addr Free apart = refl
 not_closing_bad t addr (Live inc) apart = refl
 not_closing_bad t addr (Closing inc) apart = absurd (apart inc refl)
+
+-- a signal that is sent behind other words
+pub said_then : (s : RlnhState) (made : Saying) (from to : Inc) (signal : SigNote)
+    → after (after s made) (signal_of (saying (after s made).tables []) from to signal)
+    ≡ after s (signal_of made from to signal)
+said_then s made from to signal =
+    ap (λ (out : List Message). record { tables = made.tables; out = out })
+    (words_then s.out made.says (told (address_of made.tables.own from) from
+    (addr_met made.tables.met to) to signal))
+
+-- the address of what was read isn't 0
+pub read_has_address : (m : Message) (heard : Heard) → IsRead m heard → HasReadAddress heard
+read_has_address m (Control message) read = read.spelled.is_message.has_address
+read_has_address m (Signal from to note) read = tt
+read_has_address m Garbage read = tt

@@ -1,4 +1,5 @@
 pub mod States
+pub mod Facts
 pub mod Words
 pub mod Calls
 pub mod Hearing

@@ -5,12 +5,24 @@
 //! small function a rule, in `specs/`.
 #![tactic(auto)]
 
+mod calls;
+mod decoding;
+mod end;
+mod fact;
+mod facts;
 mod heard;
+mod hearing;
 mod laws;
 mod met_at;
+mod parts;
+mod undo_queue;
 mod up;
 
+pub use end::RlnhEnd;
 pub use heard::Heard;
 pub use laws::{calls_follow_rules, hearing_follows_rules};
 pub use met_at::MetAt;
 pub use up::Up;
+
+#[cfg(test)]
+mod tests;
