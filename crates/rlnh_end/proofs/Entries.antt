@@ -2,12 +2,12 @@
 use Rattle.std.proofs.Common.{◌≡◌, ℕ, zero, suc, ◌+◌, ◌<◌, ◌≤◌, Bool, true, false, cond, not, ◌&&◌}
 use Rattle.std.proofs.Common.{◌||◌, ◌==◌, List, [], ◌∷◌, ◌++◌, length, drop, map, refl, ap, sym, ◌∙◌}
 use Rattle.std.proofs.Common.{subst, get_or, take, append-nil}
-use Rattle.std.proofs.Common.{◌⊎◌, inl, inr, arith}
-use mathlib.Core.Bool.{true≢false}
+use Rattle.std.proofs.Common.{arith}
 use Rattle.std.specs.Prelude.{Option, Some, None, slice_get, filter, option_map}
 use Rattle.std.specs.List.{AllByRecursion, list_any}
 use Rattle.std.proofs.lemmas.Bool.Decides.{nat_tests}
 use Rattle.std.proofs.lemmas.List.{map-append, take_more}
+use Rattle.std.proofs.lemmas.List.Elements.{filter-append, filter_agree}
 use Rattle.linx_base.proofs.FirstMatches.{all_fail_first_match, without_match_none}
 use Rattle.linx_base.specs.FirstMatch.{first_match, without_match}
 use Rattle.rlnh_end.specs.declared.met_at.MetAt.{MetAt}
@@ -20,15 +20,6 @@ use Rattle.rlnh_end.specs.Facts.{AreFacts}
 -- ---- filters
 
 module _ {X : Type 0} where
-  -- tests that agree keep the same
-  pub filter_same : (p q : X → Bool) → ((x : X) → p x ≡ q x) → (xs : List X)
-      → filter p xs ≡ filter q xs
-  filter_same p q agree [] = refl
-  filter_same p q agree (x ∷ xs) =
-      let rest : filter p xs ≡ filter q xs = filter_same p q agree xs in
-      let here : p x ≡ q x = agree x in
-      rw (here, rest) refl
-
   -- two filters are one
   pub filter_twice : (p q : X → Bool) (xs : List X)
       → filter p (filter q xs) ≡ filter (λ x. q x && p x) xs
@@ -38,18 +29,6 @@ module _ {X : Type 0} where
       by : (b : Bool) → q x ≡ b → filter p (filter q xs) ≡ filter (λ y. q y && p y) xs
           → filter p (filter q (x ∷ xs)) ≡ filter (λ y. q y && p y) (x ∷ xs)
       by true is rest = rw (is, rest) refl
-      by false is rest = rw is rest
-
-  pub filter_append : (p : X → Bool) (xs ys : List X)
-      → filter p (xs ++ ys) ≡ filter p xs ++ filter p ys
-  filter_append p [] ys = refl
-  filter_append p (x ∷ xs) ys =
-      let rest : filter p (xs ++ ys) ≡ filter p xs ++ filter p ys = filter_append p xs ys in
-      by (p x) refl rest
-    where
-      by : (b : Bool) → p x ≡ b → filter p (xs ++ ys) ≡ filter p xs ++ filter p ys
-          → filter p (x ∷ (xs ++ ys)) ≡ filter p (x ∷ xs) ++ filter p ys
-      by true is rest = rw is (ap (λ l. x ∷ l) rest)
       by false is rest = rw is rest
 
   -- the first that passes both of two tests
@@ -151,6 +130,26 @@ none_above [] e below = refl
 none_above (m ∷ numbers) e below =
     rw (differs m e.number below.0) (none_above numbers e below.1)
 
+and_true : (b : Bool) → (b && true) ≡ b
+and_true true = refl
+and_true false = refl
+
+and_false : (b : Bool) → (b && false) ≡ false
+and_false true = refl
+and_false false = refl
+
+-- a number that is none of theirs takes no entry
+without_other : (n : ℕ) (numbers : List ℕ) (es : List Entry)
+    → AllByRecursion (λ e. (n == e.number) ≡ false) es
+    → filter (has_none (numbers ++ n ∷ [])) es ≡ filter (has_none numbers) es
+without_other n numbers [] others = refl
+without_other n numbers (e ∷ es) others =
+    let here : has_none (numbers ++ n ∷ []) e ≡ has_none numbers e =
+    none_more numbers n e ∙ rw others.0 (and_true (has_none numbers e)) in
+    let rest : filter (has_none (numbers ++ n ∷ [])) es ≡ filter (has_none numbers) es =
+    without_other n numbers es others.1 in
+    rw (here, rest) refl
+
 module _ (next : ℕ) where
   pub numbered_filter : (p : Entry → Bool) (es : List Entry) → AreNumbered next es
       → AreNumbered next (filter p es)
@@ -158,10 +157,10 @@ module _ (next : ℕ) where
   numbered_filter p (e ∷ es) all =
       elim (p e) as (λ b. AreNumbered next (cond b (e ∷ filter p es) (filter p es))) [
         | true ↦ (
-            all.0,
-            all_filter (λ f. e.number < f.number) p es all.1,
-            numbered_filter p es all.2,
-          )
+          all.0,
+          all_filter (λ f. e.number < f.number) p es all.1,
+          numbered_filter p es all.2,
+        )
         | false ↦ numbered_filter p es all.2
       ]
 
@@ -195,18 +194,12 @@ module _ (next : ℕ) where
   -- the next number is none of theirs
   pub next_apart : (numbers : List ℕ) (es : List Entry) → AreNumbered next es
       → filter (has_none (numbers ++ next ∷ [])) es ≡ filter (has_none numbers) es
-  next_apart numbers [] all = refl
-  next_apart numbers (e ∷ es) all =
-      let other : (next == e.number) ≡ false = differs_back next e.number all.0 in
-      let here : has_none (numbers ++ next ∷ []) e ≡ has_none numbers e =
-      none_more numbers next e ∙ rw other (and_true (has_none numbers e)) in
-      let rest : filter (has_none (numbers ++ next ∷ [])) es ≡ filter (has_none numbers) es =
-      next_apart numbers es all.2 in
-      rw (here, rest) refl
+  next_apart numbers es all = without_other next numbers es (others es all)
     where
-      and_true : (b : Bool) → (b && true) ≡ b
-      and_true true = refl
-      and_true false = refl
+      others : (fs : List Entry) → AreNumbered next fs
+          → AllByRecursion (λ f. (next == f.number) ≡ false) fs
+      others [] all = tt
+      others (f ∷ fs) all = (differs_back next f.number all.0, others fs all.2)
 
   -- the first that passes has a number below
   pub first_below : (p : Entry → Bool) (es : List Entry) (e : Entry) → AreNumbered next es
@@ -242,18 +235,9 @@ module _ (next : ℕ) where
 lower_apart : (n : ℕ) (numbers : List ℕ) (es : List Entry)
     → AllByRecursion (λ f. n < f.number) es
     → filter (has_none (numbers ++ n ∷ [])) es ≡ filter (has_none numbers) es
-lower_apart n numbers [] all = refl
-lower_apart n numbers (e ∷ es) all =
-    let other : (n == e.number) ≡ false = differs n e.number all.0 in
-    let here : has_none (numbers ++ n ∷ []) e ≡ has_none numbers e =
-    none_more numbers n e ∙ rw other (and_true (has_none numbers e)) in
-    let rest : filter (has_none (numbers ++ n ∷ [])) es ≡ filter (has_none numbers) es =
-    lower_apart n numbers es all.1 in
-    rw (here, rest) refl
-  where
-    and_true : (b : Bool) → (b && true) ≡ b
-    and_true true = refl
-    and_true false = refl
+lower_apart n numbers es all =
+    without_other n numbers es (all_more (λ f. n < f.number) (λ f. (n == f.number) ≡ false)
+    (λ f less. differs n f.number less) es all)
 
 -- ---- the first fact
 
@@ -345,7 +329,7 @@ module _ {X : Type 0} (p q : X → Bool) (xs : List X) (k : ℕ)
 pub nth_same : {X : Type 0} {p : X → Bool} {found : Option X} (xs : List X) (k : ℕ)
     → found ≡ slice_get (filter p xs) k → (q : X → Bool) → ((x : X) → p x ≡ q x)
     → found ≡ slice_get (filter q xs) k
-nth_same {p = p} xs k is q agree = is ∙ ap (λ l. slice_get l k) (filter_same p q agree xs)
+nth_same {p = p} xs k is q agree = is ∙ ap (λ l. slice_get l k) (filter_agree p q agree xs)
 
 -- what holds of entries of both kinds of facts holds of every entry
 pub by_fact : (p q : Entry → Bool)
@@ -378,7 +362,7 @@ dropped_next {p = p} es numbers i d less is agree was =
     take_more numbers i d less in
     rw one (is ∙ ap (filter (λ e. not (p e))) was
     ∙ filter_twice (λ e. not (p e)) (has_none (take i numbers)) es
-    ∙ filter_same (λ e. has_none (take i numbers) e && not (p e))
+    ∙ filter_agree (λ e. has_none (take i numbers) e && not (p e))
     (has_none (take i numbers ++ get_or numbers i d ∷ []))
     (λ e. ap (λ b. has_none (take i numbers) e && not b) (agree e)
     ∙ sym (none_more (take i numbers) (get_or numbers i d) e)) es)
@@ -422,7 +406,7 @@ module _ (es : List Entry) (before : Option (List Entry)) (come gone : List ℕ)
         ≡ facts_without gone es ++ fact ∷ []
     added_is =
         let here : has_none gone entry ≡ true = none_above gone entry facts.gone_below in
-        rw (filter_append (has_none gone) es (entry ∷ []), here)
+        rw (filter-append (has_none gone) es (entry ∷ []), here)
         (map-append (λ e. e.fact) (filter (has_none gone) es) (entry ∷ []))
 
     pub added_was : facts_without (come ++ next ∷ []) (began_with before
@@ -432,10 +416,6 @@ module _ (es : List Entry) (before : Option (List Entry)) (come gone : List ℕ)
       where
         here : has_none (come ++ next ∷ []) entry ≡ false
         here = none_more come next entry ∙ rw (same next) (and_false (has_none come entry))
-          where
-            and_false : (b : Bool) → (b && false) ≡ false
-            and_false true = refl
-            and_false false = refl
 
         began : (b : Option (List Entry)) → AreNumbered next (began_with b es)
             → facts_without (come ++ next ∷ []) (began_with b (es ++ record {
@@ -446,8 +426,12 @@ module _ (es : List Entry) (before : Option (List Entry)) (come gone : List ℕ)
         began None all =
             let apart : filter (has_none (come ++ next ∷ [])) es ≡ filter (has_none come) es =
             next_apart next come es all in
-            rw (filter_append (has_none (come ++ next ∷ [])) es (entry ∷ []), here, apart,
-            append-nil) refl
+            rw (
+              filter-append (has_none (come ++ next ∷ [])) es (entry ∷ []),
+              here,
+              apart,
+              append-nil,
+            ) refl
         began (Some b) all = ap (map (λ e. e.fact)) (next_apart next come b all)
 
   -- ---- a fact went

@@ -1,6 +1,6 @@
 -- What an end knows of the other side, as one list of facts, and how a list of entries holds the
 -- facts that were when an event began and those that are now.
-use Rattle.std.specs.Prelude.{◌≡◌, ℕ, ◌<◌, ◌^◌, Bool, false, not, ◌==◌, List, [], ◌∷◌, filter, map}
+use Rattle.std.specs.Prelude.{ℕ, ◌<◌, Bool, false, not, ◌==◌, List, [], ◌∷◌, filter, map}
 use Rattle.std.specs.Prelude.{Option, Some, None, ⊤}
 use Rattle.std.specs.Option.{option_to_list}
 use Rattle.std.specs.List.{AllByRecursion, list_any}

@@ -1,4 +1,4 @@
-ghost use Rattle.std.specs.Prelude.{◌≡◌, ◌<◌, ◌↔◌, is_some, IsSome, IfOk, OnOk, OnErr};
+ghost use Rattle.std.specs.Prelude.{◌≡◌, ◌<◌, is_some, IsSome, IfOk, OnOk, OnErr};
 ghost use Rattle.std.specs.Option.{option_copied};
 ghost use Rattle.linx_base.specs.Both.{still};
 ghost use Rattle.link_addresses.specs.Meanings.{used_in};
@@ -10,11 +10,11 @@ ghost use Rattle.rlnh_end.specs.Hearing.{IsRead};
 ghost use Rattle.rlnh_end.specs.Reactions.{gives, input_of};
 ghost use Rattle.rlnh_end.specs.BadList.{IsBad};
 
+use crate::calls;
+use crate::decoding::heard_in;
 use crate::hearing::hear;
 use crate::parts::Parts;
-use crate::decoding::heard_in;
 use crate::up::Up;
-use crate::calls;
 use linx_base::{Inc, Message, Name, NoMemory, Signal};
 use std::alloc::Global;
 use std::marker::Model;
@@ -127,13 +127,7 @@ impl RlnhEnd {
 
     /// A signal is sent from an endpoint of the own node, of this name, to a peer that was met. The
     /// sender is published first where it isn't live at an address. A refusal undoes the event.
-    pub fn send(
-        &mut self,
-        from: Inc,
-        name: &Name,
-        to: Inc,
-        signal: &Signal,
-    ) -> Result<(), NoMemory>
+    pub fn send(&mut self, from: Inc, name: &Name, to: Inc, signal: &Signal) -> Result<(), NoMemory>
         requires met { IsSome (addr_met self.old.is.tables.met to) }
         requires room { used_in self.old.is.tables.own < 4294967295 }
         ensures is { let made = send_of self.old.is.tables from name.now to signal.now in

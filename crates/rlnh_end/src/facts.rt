@@ -49,12 +49,7 @@ impl Model for Facts {
 
 /// The first entry of what is looked for that has none of these numbers. All numbers are below the
 /// next one, so there are no more entries than numbers.
-fn find<'a>(
-    entries: &'a Entries,
-    next: u64,
-    gone: &[u64],
-    sought: Sought<'_>,
-) -> Option<&'a Entry>
+fn find<'a>(entries: &'a Entries, next: u64, gone: &[u64], sought: Sought<'_>) -> Option<&'a Entry>
     requires { AreNumbered next entries.now }
     ensures { option_copied result
         ≡ first_match (is_sought_entry sought.entry) (filter (has_none gone.now) entries.now) }

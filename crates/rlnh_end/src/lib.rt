@@ -2,7 +2,8 @@
 //! of. It gives link addresses to endpoints of its own node, knows the peers that it has met by
 //! theirs, and notes the names that the other side asked for. What a call or a message makes of
 //! these tables, and what the end says thereby, is a function of the tables and of what came, one
-//! small function a rule, in `specs/`.
+//! small function a rule, in `specs/`; `RlnhEnd` does what they say. An event changes an end in
+//! place, and either stays, or is taken back as if it had never been.
 #![tactic(auto)]
 
 mod calls;

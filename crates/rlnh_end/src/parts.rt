@@ -1,7 +1,6 @@
-ghost use Rattle.std.specs.Prelude.{◌≡◌, [], OnOk, OnErr, is_some, drop};
+ghost use Rattle.std.specs.Prelude.{◌≡◌, OnOk};
 ghost use Rattle.std.specs.Option.{option_copied};
 ghost use Rattle.linx_base.specs.Both.{still};
-ghost use Rattle.link_addresses.specs.Meanings.{used_in};
 ghost use Rattle.rlnh_messages.specs.Messages.{HasAddress};
 ghost use Rattle.rlnh_end.specs.States.{new_end, emptied, put, next_of, after_out};
 ghost use Rattle.rlnh_end.specs.States.{inc_met, addr_met, is_noted, with_met, without_met};

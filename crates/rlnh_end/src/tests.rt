@@ -74,10 +74,12 @@ fn is_arrival(
     let (receiver, rest) = front(rest);
     let (number, data) = front(rest);
     let number: u32 = number.parse()?;
-    Ok(from == inc_of(sender)?
-        && to == inc_of(receiver)?
-        && signal.number() == number
-        && signal.bytes() == bytes_of(alloc, data)?.as_slice())
+    Ok(
+        from == inc_of(sender)?
+            && to == inc_of(receiver)?
+            && signal.number() == number
+            && signal.bytes() == bytes_of(alloc, data)?.as_slice(),
+    )
 }
 
 /// Whether what is handed up is this: a word, and what it says.

@@ -1,4 +1,4 @@
-use Rattle.std.proofs.Common.{◌≡◌, ◌<◌, ◌≤◌, length, not, ap, sym, arith, Some, None}
+use Rattle.std.proofs.Common.{◌≡◌, not, ap, sym, arith, Some, None}
 use Rattle.std.specs.Prelude.{filter, slice_get}
 use Rattle.rlnh_end.specs.Facts.{has_none, is_sought_entry}
 use Rattle.rlnh_end.proofs.Entries.{nth_same, place_within, filter_shorter, few_entries}
