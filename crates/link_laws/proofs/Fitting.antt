@@ -60,7 +60,8 @@ module _ (P : List Step) (n m : ℕ) (l : LinkNo) (A B : SideRecord) (near : IsL
       (near_given (arrived a b note) told fits) (far_given (arrived a b note)) a b note refl
       half.proper.0 fits in
       (law.receiver, law.alive)
-  fits_node (freed a b note) told fits = (unpublished-closed P n b A.now.said near.truly.0 fits).dead
+  fits_node (freed a b note) told fits =
+      (unpublished-closed P n b A.now.said near.truly.0 fits).dead
   fits_node (gone a) told fits =
       (legal_parting P n m l A B (gone a) near far (near_given (gone a) told fits)
       (far_given (gone a)) a refl near.truly.0).alive

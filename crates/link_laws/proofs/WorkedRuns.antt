@@ -15,6 +15,7 @@ use Rattle.linx_base.specs.declared.identity.Session.{Session}
 use Rattle.linx_base.specs.declared.identity.Side.{Side}
 use Rattle.linx_base.specs.declared.identity.Side.TheVariants.{First, Second}
 use Rattle.linx_base.specs.declared.name.Path.TheVariants.{Over}
+use Rattle.sigsel.specs.declared.sigsel.Sigsel.TheVariants.{Only}
 use Rattle.trunk_record.specs.Changes.{beginning, going_up}
 use Rattle.trunk_record.specs.Sayings.{Given, Said, arrived, asked, asked_for, gone, met, published}
 use Rattle.trunk_record.specs.Sayings.{signaled, unpublished}
@@ -22,12 +23,13 @@ use Rattle.journal.specs.Traffic.{arrived_from}
 use Rattle.journal.specs.declared.effect.Effect.{Effect}
 use Rattle.journal.specs.declared.effect.Effect.TheVariants.{Arrived, Closed, Found}
 use Rattle.journal.specs.declared.effect.Step.{Step}
-use Rattle.journal.specs.declared.head.Head.TheVariants.{Cut, Hunt, Restart, Tick, Wire}
-use Rattle.journal.proofs.Playing.{closes, endpoint_kept, made, made_by, note, opens}
+use Rattle.journal.specs.declared.head.Head.TheVariants.{Cut, Hunt, Restart, TakeNone, Tick, Wire}
+use Rattle.journal.proofs.Playing.{at_rest, closes, endpoint_kept, ends, made, made_by, note, opens}
 use Rattle.link_laws.specs.Ends.{IsLinkOf, node_at}
 use Rattle.link_laws.specs.Fabric.{Links, SideState}
 use Rattle.link_laws.specs.Laws.{IsLegal}
 use Rattle.link_laws.specs.Linked.{is_hunted}
+use Rattle.link_laws.specs.Moves.{IsResting, quiet}
 use Rattle.link_laws.specs.Moves.{ClosesAt, IsLeft, IsMove, KeepsNodeLaws, OpensAt, OthersLeft}
 use Rattle.link_laws.specs.Moves.{RestartsAt, brings_down, brings_up, gives, loses_it, publishes}
 use Rattle.link_laws.specs.Moves.{ticks_on}
@@ -473,6 +475,61 @@ run_is_legal = (runs_are_legal two_ends one_gone (pair having_closed having_part
 
 one_arrives : arrived_from one_gone b (There l x11 a) ≡ note 1 [] ∷ []
 one_arrives = refl
+
+-- NOW THE LINK RESTS: once the other actor has ended, a receive of what never came finds none
+abbrev one_ended : List Step
+one_ended = ends 1 [] ∷ one_gone
+
+abbrev all_heard : Links
+all_heard = pair having_closed having_parted
+
+abbrev finds_it_none : Step
+finds_it_none = made 2 (TakeNone (Only (7 ∷ []))) []
+
+leaves_all : (k : LinkNo) → IsLinkOf two_ends k → (side : Side)
+    → IsLeft (all_heard k.0 side) (all_heard k.0 side)
+leaves_all = each (λ k side. IsLeft (all_heard k.0 side) (all_heard k.0 side))
+    (itself having_closed) (itself having_parted)
+
+ends_one : IsMove two_ends one_gone all_heard (ends 1 []) all_heard
+ends_one = record {
+  laws = record {
+    makers = made_by refl;
+    endpoints = endpoint_kept refl;
+    bounds = tt;
+    effects = refl;
+    sends = tt;
+    receives = tt;
+  };
+  moves = leaves_all;
+}
+
+rests : IsResting one_ended l having_closed having_parted
+rests = quiet refl (record { pair = refl; back = refl; said = refl; answered = refl })
+
+none_is_found : IsMove two_ends one_ended all_heard finds_it_none all_heard
+none_is_found = record {
+  laws = record {
+    makers = made_by refl;
+    endpoints = endpoint_kept refl;
+    bounds = tt;
+    effects = refl;
+    sends = tt;
+    receives = (refl, at_rest refl);
+  };
+  moves = record {
+    resting = λ k of_shape. each (λ h side. IsResting one_ended h having_closed having_parted) rests
+        rests k of_shape First;
+    left = leaves_all;
+  };
+}
+
+resting_run : IsWholeRun two_ends (finds_it_none ∷ one_ended) all_heard
+resting_run = record {
+  two_ends = whole_run.two_ends;
+  fits = omega arith;
+  run = whole_run.run ▹ ends_one ▹ none_is_found;
+}
 
 -- A RESTART of the sender's node: its side begins the first session of the next boot, the other
 -- side learns it from the greater session, and goes up anew

@@ -1,4 +1,4 @@
--- What the node's part of a step and the trunk's part of it ask of each other, and every run grants.
+-- What a node and its sides of links ask of each other, and every run grants.
 use Rattle.std.specs.Prelude.{ℕ, ◌≡◌, ◌≢◌, true, false, List, map, None}
 use Rattle.linx_base.specs.Sides.{other_of}
 use Rattle.linx_base.specs.declared.identity.Inc.{Inc}
@@ -7,7 +7,8 @@ use Rattle.linx_base.specs.declared.identity.Peer.TheVariants.{Here, There}
 use Rattle.linx_base.specs.declared.identity.Session.{Session}
 use Rattle.linx_base.specs.declared.identity.Side.{Side}
 use Rattle.trunk_record.specs.Records.{SideRecord}
-use Rattle.trunk_record.specs.Sayings.{Given, arrived, asked_for, freed, gone, heard_as, is_live, met}
+use Rattle.trunk_record.specs.Sayings.{Given, arrived, asked_for, freed, gone, heard_as, is_live}
+use Rattle.trunk_record.specs.Sayings.{met}
 use Rattle.trunk_record.specs.Sayings.{was_unpublished}
 use Rattle.trunk_record.specs.Trunks.{FitsReceiver}
 use Rattle.journal.specs.Living.{is_alive}

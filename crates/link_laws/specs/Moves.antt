@@ -117,8 +117,8 @@ abbrev pub Opens : Shape → Links → Links → ℕ → Inc → List ℕ → Ty
 Opens shape before after n i name = (l : LinkNo) → IsLinkOf shape l → (side : Side)
     → OpensAt (node_at shape l side == n) i name (before l.0 side) (after l.0 side)
 
--- A CLOSE on node n. Where it is a side of that node, here of node k, and the endpoint is live there,
--- it is unpublished
+-- A CLOSE on node n. On a side of node k, if that is the same, the endpoint is unpublished where it
+-- is live
 abbrev pub closing_side : ℕ → ℕ → Inc → SideRecord → SideRecord
 closing_side n k j A =
     if k == n && is_live j A.now.said then saying (unpublished j ∷ []) A else A

@@ -4,8 +4,8 @@
 //! worked runs, has for each law steps that it refuses, and shows that each kind of step is legal
 //! and keeps every side of every link, and that the promises follow. `specs/Moves.antt` says what a
 //! step is, kind by kind, and what it makes of the records of the links; a run is made of such
-//! moves, and three laws say what holds of every run. It stands on the journal and on the record of a
-//! trunk alone.
+//! moves, and three laws say what holds of every run. It stands on the journal and on the record of
+//! a trunk alone.
 #![tactic(auto)]
 
 mod laws;
