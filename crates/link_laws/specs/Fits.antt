@@ -8,8 +8,7 @@ use Rattle.linx_base.specs.declared.identity.Session.{Session}
 use Rattle.linx_base.specs.declared.identity.Side.{Side}
 use Rattle.trunk_record.specs.Records.{SideRecord}
 use Rattle.trunk_record.specs.Sayings.{Given, arrived, asked_for, freed, gone, heard_as, is_live}
-use Rattle.trunk_record.specs.Sayings.{met}
-use Rattle.trunk_record.specs.Sayings.{was_unpublished}
+use Rattle.trunk_record.specs.Sayings.{met, was_unpublished}
 use Rattle.trunk_record.specs.Trunks.{FitsReceiver}
 use Rattle.journal.specs.Living.{is_alive}
 use Rattle.journal.specs.Shapes.{Shape}
