@@ -19,7 +19,7 @@ use Rattle.sigsel.specs.declared.sigsel.Sigsel.TheVariants.{Only}
 use Rattle.trunk_record.specs.Changes.{beginning, going_up}
 use Rattle.trunk_record.specs.Sayings.{Given, Said, arrived, asked, asked_for, gone, met, published}
 use Rattle.trunk_record.specs.Sayings.{signaled, unpublished}
-use Rattle.journal.specs.Traffic.{arrived_from}
+use Rattle.journal.specs.Traffic.{arrived_from, sent_to}
 use Rattle.journal.specs.declared.effect.Effect.{Effect}
 use Rattle.journal.specs.declared.effect.Effect.TheVariants.{Arrived, Closed, Found}
 use Rattle.journal.specs.declared.effect.Step.{Step}
@@ -34,6 +34,7 @@ use Rattle.link_laws.specs.Moves.{ClosesAt, IsLeft, IsMove, KeepsNodeLaws, Opens
 use Rattle.link_laws.specs.Moves.{RestartsAt, brings_down, brings_up, gives, loses_it, publishes}
 use Rattle.link_laws.specs.Moves.{ticks_on}
 use Rattle.link_laws.specs.Runs.{IsRun, IsWholeRun, first_state}
+use Rattle.link_laws.specs.Still.{IsStill, whole}
 use Rattle.link_laws.proofs.Names.{bytes_eq-is, bytes_eq-itself}
 use Rattle.link_laws.proofs.Playing.{a, b, back, down, gone_at, l, met_at, posts, pump, pumped}
 use Rattle.link_laws.proofs.Playing.{there, two_ends, up, x11, x12, x21}
@@ -694,3 +695,32 @@ loses_first = record {
 
 lost_run : IsRun two_ends three_ticks (pair (begun_after x12 having_sent) having_got)
 lost_run = arrived_run ▹ cuts_it ▹ ticks_one link_cut 0 ▹ ticks_one first_ticks 1 ▹ loses_first
+
+-- WHY NOTHING VANISHES SPEAKS OF A QUIET TRUNK: the laws let a link be still, by what is open, while
+-- the signal of one that closed before it was met is on its way
+abbrev closed_early : List Step
+closed_early = closes 1 a ∷ one_sent
+
+still_too_soon : IsStill two_ends closed_early l
+still_too_soon = whole refl x11 x11 (record {
+  there = record {
+    up = refl;
+    pair = refl;
+    all_got = (tt, tt);
+    peers_open = (refl, tt);
+    hunts_answered = (refl, tt);
+  };
+  back = record {
+    up = refl;
+    pair = refl;
+    all_got = tt;
+    peers_open = tt;
+    hunts_answered = tt;
+  };
+})
+
+one_was_sent : sent_to closed_early a (There l x11 b) ≡ note 1 [] ∷ []
+one_was_sent = refl
+
+none_has_come : arrived_from closed_early b (There l x11 a) ≡ []
+none_has_come = refl
