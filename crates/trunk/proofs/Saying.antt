@@ -7,6 +7,7 @@ use Rattle.linx_base.specs.declared.identity.Inc.{Inc}
 use Rattle.linx_base.specs.declared.identity.Session.{Session}
 use Rattle.linx_base.specs.declared.signal.SigNote.{SigNote}
 use Rattle.link_addresses.specs.Meanings.{address_of}
+use Rattle.link_addresses.proofs.Indexing.{address_found, address_missing}
 use Rattle.ethcm_end.specs.States.{peer_of}
 use Rattle.trunk_record.specs.Sayings.{Said, asked, heard_as, is_live, published, signaled}
 use Rattle.trunk_record.specs.Sayings.{unpublished}
@@ -17,7 +18,6 @@ use Rattle.rlnh_end.specs.Calls.{publish_of, query_of, saying as end_saying, sen
 use Rattle.rlnh_end.specs.Calls.{told}
 use Rattle.rlnh_laws.specs.Meanings.{saids}
 use Rattle.rlnh_laws.specs.Ties.{Talk}
-use Rattle.rlnh_laws.proofs.Addresses.{address_found, address_missing}
 use Rattle.rlnh_laws.proofs.Calling.{live_now, met_stays}
 use Rattle.rlnh_laws.proofs.Meeting.{option_cases}
 use Rattle.rlnh_laws.proofs.Speaking.{saids-append}

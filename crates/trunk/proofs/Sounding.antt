@@ -15,6 +15,8 @@ use Rattle.link_addresses.specs.declared.meaning.Meaning.{Meaning}
 use Rattle.link_addresses.specs.declared.meaning.Meaning.TheVariants.{Free, Live, Closing}
 use Rattle.link_addresses.specs.Meanings.{ChangesMeaning, address_of, lowest_free, meaning_of}
 use Rattle.link_addresses.specs.Meanings.{is_used, used_in, with_lowest, with_meaning}
+use Rattle.link_addresses.proofs.Indexing.{address_found}
+use Rattle.link_addresses.proofs.Lists.{changes_at, closing_taken, live_taken}
 use Rattle.rlnh_messages.specs.Messages.{IsAddress}
 use Rattle.rlnh_messages.specs.Signals.{IsSignal}
 use Rattle.trunk_record.specs.Sayings.{IsInTurn, Said, frees, is_live, published, signaled}
@@ -32,7 +34,6 @@ use Rattle.rlnh_end.specs.Hearing.{Hearing, heard_ack, heard_signal, heard_unpub
 use Rattle.rlnh_laws.specs.Meanings.{Understands, given_for, heard_of, said_by, saids}
 use Rattle.rlnh_laws.specs.Ties.{Alone, AreApart, Talk}
 use Rattle.rlnh_laws.specs.Talks.{Right, heard_word, said_more}
-use Rattle.rlnh_laws.proofs.Addresses.{address_found, changes_at, closing_taken, live_taken}
 use Rattle.rlnh_laws.proofs.Meeting.{met_both, option_cases, with_other, without_here}
 use Rattle.rlnh_laws.proofs.Meeting.{without_other}
 use Rattle.rlnh_laws.proofs.Speaking.{lowest_changes, saids-append}
