@@ -5,3 +5,4 @@ mod Reading
 mod Listing
 mod Entries
 mod ByKind
+mod Bodies

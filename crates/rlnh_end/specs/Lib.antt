@@ -6,3 +6,4 @@ pub mod Hearing
 pub mod Reactions
 pub mod BadList
 pub mod Rows
+pub mod Outgoing

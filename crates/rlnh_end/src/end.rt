@@ -9,6 +9,7 @@ ghost use Rattle.rlnh_end.specs.Calls.{send_of};
 ghost use Rattle.rlnh_end.specs.Hearing.{IsRead};
 ghost use Rattle.rlnh_end.specs.Reactions.{gives, input_of};
 ghost use Rattle.rlnh_end.specs.BadList.{IsBad};
+ghost use Rattle.rlnh_end.specs.Outgoing.{AreMessages};
 
 use crate::calls;
 use crate::decoding::heard_in;
@@ -186,7 +187,9 @@ impl RlnhEnd {
 
     /// The next message that goes to the other side, `None` exactly where there is none.
     pub fn next_out(&self) -> Option<&Message>
-        ensures { option_copied result ≡ next_of self.now.is }
+        ensures next { option_copied result ≡ next_of self.now.is }
+        // Each has a body of 1 to 65,536 bytes.
+        ensures messages { AreMessages self.now.is.out }
     {
         self.parts.next_out()
     }

@@ -1,11 +1,13 @@
 ghost use Rattle.std.specs.Prelude.{◌≡◌, OnOk};
 ghost use Rattle.std.specs.Option.{option_copied};
 ghost use Rattle.linx_base.specs.Both.{still};
+ghost use Rattle.linx_base.specs.Frames.{IsMessage};
 ghost use Rattle.rlnh_messages.specs.Messages.{HasAddress};
 ghost use Rattle.rlnh_end.specs.States.{new_end, emptied, put, next_of, after_out};
 ghost use Rattle.rlnh_end.specs.States.{inc_met, addr_met, is_noted, with_met, without_met};
 ghost use Rattle.rlnh_end.specs.States.{with_note, without_note};
 ghost use Rattle.rlnh_end.specs.Words.{control_message};
+ghost use Rattle.rlnh_end.specs.Outgoing.{AreMessages};
 ghost use Rattle.rlnh_end.specs.Facts.{with_tables};
 
 use crate::fact::{Fact, Sought};
@@ -32,6 +34,7 @@ impl Model for Parts {
     ghost use Rattle.linx_base.specs.Both.{Both};
     ghost use Rattle.rlnh_end.specs.States.{RlnhState};
     ghost use Rattle.rlnh_end.specs.Facts.{state_of};
+    ghost use Rattle.rlnh_end.specs.Outgoing.{AreMessages};
 
     ghost Value = { Both RlnhState };
 
@@ -39,6 +42,8 @@ impl Model for Parts {
       was = state_of p.own.was p.facts.was p.out.was;
       is = state_of p.own.is p.facts.is p.out.is;
     } };
+
+    ghost invariant = { λ p. AreMessages p.out.was × AreMessages p.out.is };
 }
 
 impl Parts {
@@ -144,7 +149,9 @@ impl Parts {
     }
 
     /// A message goes out behind the others. A refusal changes nothing.
+    #[tactic(auto, using(crate::proofs::Bodies::more_messages))]
     pub(crate) fn put(&mut self, message: Message) -> Result<(), NoMemory>
+        requires message { IsMessage message }
         ensures is { OnOk result (self.new.is ≡ put self.old.is message) }
         ensures was { self.new.was ≡ self.old.was }
     {
@@ -169,12 +176,14 @@ impl Parts {
 
     /// The message that goes out next, `None` exactly where there is none.
     pub(crate) fn next_out(&self) -> Option<&Message>
-        ensures { option_copied result ≡ next_of self.now.is }
+        ensures next { option_copied result ≡ next_of self.now.is }
+        ensures messages { AreMessages self.now.is.out }
     {
         self.out.first()
     }
 
     /// The next message has gone out; nothing where there is none. It takes no memory.
+    #[tactic(auto, using(crate::proofs::Bodies::rest_messages))]
     pub(crate) fn pass(&mut self)
         ensures is { self.new.is ≡ after_out self.old.is }
         ensures was { self.new.was ≡ self.old.was }
