@@ -149,8 +149,8 @@ module _ (addr : ℕ) (facts : List Fact) where
   inc_missing is = sym (ap (option_map (λ x. x.inc)) (no_peer (first_match (is_at addr)
       (peers_in facts)) (is ∙ at_address)))
 
-  pub no_name_at : (name : List ℕ) → Some (Noted name) ≡ first_match (is_sought (Address addr)) facts
-      → ⊥
+  pub no_name_at : (name : List ℕ)
+      → Some (Noted name) ≡ first_match (is_sought (Address addr)) facts → ⊥
   no_name_at name is = no_name (first_match (is_at addr) (peers_in facts)) name (is ∙ at_address)
 
   pub peers_parted : peers_in (without_match (is_sought (Address addr)) facts)

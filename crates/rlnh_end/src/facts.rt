@@ -129,7 +129,8 @@ impl Facts {
 
     /// Forgets the first fact that is looked for. A refusal changes nothing.
     pub(crate) fn forget(&mut self, sought: Sought<'_>) -> Result<(), NoMemory>
-        ensures ok { OnOk result (self.new.is ≡ without_match (is_sought sought.entry) self.old.is) }
+        ensures ok { OnOk result
+            (self.new.is ≡ without_match (is_sought sought.entry) self.old.is) }
         ensures was { self.new.was ≡ self.old.was }
         ensures err { OnErr result (self.new ≡ self.old) }
     {
