@@ -1,4 +1,9 @@
 pub mod Fronts
+pub mod Places
+pub mod Spelled
+pub mod Sending
+pub mod Noting
+pub mod Resting
 pub mod Lookups
 pub mod Joining
 pub mod Growing

@@ -1,10 +1,9 @@
 -- Each event keeps what holds of a link, and tells rightly what became of a side.
-use Rattle.std.proofs.Common.{◌≡◌, ◌<◌, ◌≤◌, ℕ, suc, Bool, true, false, Option, Some, None, List}
-use Rattle.std.proofs.Common.{[], ◌∷◌, All, length, take, drop, refl, sym, subst, arith}
+use Rattle.std.proofs.Common.{◌≡◌, ◌<◌, ◌≤◌, ℕ, Bool, true, false, Option, Some, None, List}
+use Rattle.std.proofs.Common.{[], All, length, refl, sym, subst, arith}
 use Rattle.std.specs.Prelude.{IsSome, slice_get}
 use Rattle.std.specs.List.{remove, swap}
-use Rattle.std.proofs.lemmas.List.Elements.{All-append, All-drop, All-get_or, All-nil, All-set}
-use Rattle.std.proofs.lemmas.List.Elements.{All-take}
+use Rattle.std.proofs.lemmas.List.Elements.{All-nil}
 use Rattle.linx_base.specs.declared.identity.Session.{Session}
 use Rattle.linx_base.specs.declared.identity.Side.{Side}
 use Rattle.linx_base.specs.declared.identity.Side.TheVariants.{First, Second}
@@ -27,22 +26,9 @@ use Rattle.carrier.proofs.Fronts.{all_at}
 use Rattle.carrier.proofs.Growing.{keeps_later}
 use Rattle.carrier.proofs.Joining.{receives_anew}
 use Rattle.carrier.proofs.Lookups.{of_none}
+use Rattle.carrier.proofs.Places.{all_left, all_swapped}
 use Rattle.carrier.proofs.Reacting.{Steps, steps_beat, steps_came, steps_offered, steps_restart}
 use Rattle.carrier.proofs.Stepping.{keeps_alone}
-
--- ---- packets by their places
-
-module _ {X : Type 0} (P : X → Type 0) where
-  all_left : (xs : List X) (k : ℕ) → All P xs → All P (remove xs k)
-  all_left xs k all =
-      All-append P (take k xs) (drop (suc k) xs) (All-take P k xs all) (All-drop P (suc k) xs all)
-
-  all_swapped : (xs : List X) (i j : ℕ) → i < length xs → j < length xs → All P xs
-      → All P (swap xs i j)
-  all_swapped [] i j h k all = all
-  all_swapped (x ∷ xs) i j h k all =
-      All-set P _ j _ (All-get_or P (x ∷ xs) i x h all)
-      (All-set P (x ∷ xs) i _ (All-get_or P (x ∷ xs) j x k all) all)
 
 -- with these packets in flight
 keeps_with : (piece : ℕ) (a b : HalfState) (there left : List Packet) → Keeps piece a b there

@@ -2,8 +2,14 @@
 //! what each event makes of them, what holds of them whatever happened, and what is promised.
 #![tactic(auto)]
 
+mod carrier;
+mod flight;
+mod half;
 mod handed;
 mod laws;
+mod link;
+mod note;
 
+pub use carrier::Carrier;
 pub use handed::{Handed, TickedSide};
 pub use laws::{events_keep, events_tell, links_keep_promises, quiet_is_complete};

@@ -1,0 +1,10 @@
+use Rattle.carrier.proofs.Links.{events_keep}
+use Rattle.carrier.proofs.carrier.Carrier.swap.Goals as goal
+
+pub invariant_of-self : goal.invariant_of-self
+invariant_of-self c = (
+  rw c.swap.ensures.was c.self.invariant.0,
+  rw c.swap.ensures.is (events_keep.swapped c.args.from c.args.k c.args.n
+      c.self.inside.link.is (rw (← c.self.view_is) at c.requires.first)
+      (rw (← c.self.view_is) at c.requires.second) c.self.invariant.1),
+)
