@@ -14,7 +14,8 @@ use Rattle.ethcm_end.proofs.Rising.{sessions_rise}
 use Rattle.carrier.specs.declared.handed.Handed.{Handed as AnyHanded}
 use Rattle.carrier.specs.declared.note.Note.{Note}
 use Rattle.carrier.specs.declared.note.Note.TheVariants.{Offered, Handed, Ended}
-use Rattle.carrier.specs.Notes.{Sessions, half_of_sessions, half_with, no_sessions, noted, noted_all}
+use Rattle.carrier.specs.Notes.{Sessions, half_of_sessions, half_with, no_sessions, noted}
+use Rattle.carrier.specs.Notes.{noted_all}
 use Rattle.carrier.specs.Events.{drained, handed_as, recorded, recorded_tick}
 use Rattle.carrier.specs.Events.{with_handed, with_next, with_offered}
 

@@ -1,0 +1,4 @@
+//! Rows of events on a link.
+
+mod events;
+mod rows;
