@@ -1,0 +1,9 @@
+pub mod Calls
+pub mod Beats
+pub mod Told
+pub mod Sides
+pub mod Used
+pub mod Facts
+pub mod Moved
+pub mod Passed
+pub mod Runs

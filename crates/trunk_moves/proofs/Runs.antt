@@ -1,0 +1,156 @@
+-- EVERY RUN WITH TRUNKS is a run of moves, keeps every trunk, and so all that is promised of runs.
+use Rattle.std.proofs.Common.{◌≤◌, ℕ, List, [], ◌∷◌, length, refl, sym, subst, arith}
+use Rattle.linx_base.specs.declared.identity.Side.{Side}
+use Rattle.linx_base.specs.declared.identity.Side.TheVariants.{First, Second}
+use Rattle.journal.specs.History.{endpoint_by}
+use Rattle.journal.specs.Logs.{step_limit}
+use Rattle.journal.specs.Shapes.{Shape, node_by}
+use Rattle.journal.specs.declared.by.By.{By}
+use Rattle.journal.specs.declared.effect.Effect.{Effect}
+use Rattle.journal.specs.declared.effect.Step.{Step}
+use Rattle.journal.specs.declared.head.Head.{Head}
+use Rattle.journal.specs.declared.head.Head.TheVariants.{Close, Ended, Hunt, Open, Restart, Send}
+use Rattle.journal.specs.declared.head.Head.TheVariants.{TakeNone, Tick, Wire}
+use Rattle.link_laws.specs.Ends.{HasTwoEnds}
+use Rattle.link_laws.specs.Moves.{IsLeft, KeepsNodeLaws}
+use Rattle.link_laws.specs.Runs.{AreFirst, IsRun, IsWholeRun, first_state}
+use Rattle.link_laws.proofs.Good.{step_of}
+use Rattle.link_laws.proofs.Runs.{runs_are_legal, runs_keep_promises}
+use Rattle.trunk.specs.Events.{TrunkState, new_trunk}
+use Rattle.trunk.specs.Keeping.{KeepsTrunk}
+use Rattle.trunk.proofs.Events.{events_keep}
+use Rattle.trunk_moves.specs.Laws.{TrunkRunsAreRuns, TrunkRunsKeepAll}
+use Rattle.trunk_moves.specs.Steps.{HuntsName, IsTrunkRun, IsTrunkStep, Makes}
+use Rattle.trunk_moves.specs.Trunks.{AllKept, AllNew, AllUseUpTo, NodesFit, RunTrunks}
+use Rattle.trunk_moves.specs.Trunks.{UsesUpTo, links_of, state_of}
+use Rattle.trunk_moves.proofs.Facts.{AllNamed, IsKnown}
+use Rattle.trunk_moves.proofs.Moved.{IsMoved, close_moved, ended_moved, hunting_moved, opening_moved}
+use Rattle.trunk_moves.proofs.Moved.{restarted_kept, restarted_used, restarts_all, sending_moved}
+use Rattle.trunk_moves.proofs.Moved.{stay_kept, stay_used}
+use Rattle.trunk_moves.proofs.Passed.{finding_moved, passing_moved, ticking_moved}
+use Rattle.trunk_moves.proofs.Sides.{all_left}
+
+-- ---- before the first step
+
+new_left : (at : Side) (window piece : ℕ) → IsLeft first_state (state_of at (new_trunk window piece))
+new_left First window piece = record { side = refl; noted = refl; silent = omega arith }
+new_left Second window piece = record { side = refl; noted = refl; silent = omega arith }
+
+all_first : (shape : Shape) (trunks : RunTrunks) → AllNew shape trunks
+    → AreFirst shape (links_of trunks)
+all_first shape trunks new l of_shape side =
+    let is = new l of_shape in
+    subst (λ (t : TrunkState). IsLeft first_state (state_of side t)) (sym is.made)
+    (new_left side is.window is.piece)
+
+new_kept : (shape : Shape) (trunks : RunTrunks) → AllNew shape trunks → AllKept shape trunks
+new_kept shape trunks new l of_shape =
+    let is = new l of_shape in
+    subst KeepsTrunk (sym is.made)
+    (events_keep.begins is.window is.piece is.has_window is.has_piece)
+
+new_uses : (window piece : ℕ) → UsesUpTo 0 (new_trunk window piece)
+new_uses window piece First = omega arith
+new_uses window piece Second = omega arith
+
+new_used : (shape : Shape) (trunks : RunTrunks) → AllNew shape trunks → AllUseUpTo shape 0 trunks
+new_used shape trunks new l of_shape =
+    let is = new l of_shape in
+    subst (UsesUpTo 0) (sym is.made) (new_uses is.window is.piece)
+
+-- ---- each step
+
+module _ (shape : Shape) (P : List Step) (before after : RunTrunks) (known : IsKnown shape P before)
+    (by : By) where
+  by_head : (head : Head) (es : List Effect) → KeepsNodeLaws shape P (step_of by head es)
+      → HuntsName head
+      → Makes shape P before after (node_by shape by) (endpoint_by P by) head es
+      → IsMoved shape P before after (node_by shape by) (endpoint_by P by) head es
+  by_head (Open name) es laws named made =
+      opening_moved shape P before after known (node_by shape by) name laws.bounds made
+      (endpoint_by P by) es
+  by_head Close es laws named made =
+      close_moved shape P before after known (node_by shape by) (endpoint_by P by) made es
+  by_head (Send q note answer) es laws named made =
+      sending_moved shape P before after known by q note answer laws.sends made es
+  by_head (TakeNone filter) es laws named made =
+      finding_moved shape P before after known (node_by shape by) (endpoint_by P by) filter es made
+  by_head (Hunt path note) es laws named made =
+      hunting_moved shape P before after known (node_by shape by) (endpoint_by P by) path note named
+      made es
+  by_head (Restart k) es laws named made = record {
+    moves = restarts_all shape P before after known k.0 made;
+    kept = restarted_kept shape P before after known k.0 made;
+    used = restarted_used shape P before after known k.0 made;
+  }
+  by_head (Wire l from verdict) es laws named made =
+      passing_moved shape P before after known (node_by shape by) (endpoint_by P by) l from verdict
+      es made
+  by_head (Tick l side) es laws named made =
+      ticking_moved shape P before after known (node_by shape by) (endpoint_by P by) l side es made
+  by_head Ended es laws named made =
+      ended_moved shape P before after known (node_by shape by) (endpoint_by P by) made es
+  by_head head es laws named made = record {
+    moves = all_left shape before after made;
+    kept = stay_kept shape P before after known made;
+    used = stay_used shape P before after known made;
+  }
+
+-- what a run has
+record HasRun (shape : Shape) (P : List Step) (trunks : RunTrunks) : Type 0 where
+  run : IsRun shape P (links_of trunks)
+  kept : AllKept shape trunks
+  used : AllUseUpTo shape (length P) trunks
+  named : AllNamed P
+
+run_has : (shape : Shape) → HasTwoEnds shape → NodesFit shape → (P : List Step)
+    (trunks : RunTrunks) → length P ≤ step_limit → IsTrunkRun shape P trunks
+    → HasRun shape P trunks
+run_has shape two nodes [] trunks fits new = record {
+  run = all_first shape trunks new;
+  kept = new_kept shape trunks new;
+  used = new_used shape trunks new;
+  named = tt;
+}
+run_has shape two nodes (s ∷ P) after fits run =
+    let before : RunTrunks = run.0 in
+    let step : IsTrunkStep shape P run.0 s after = run.1.1 in
+    let was = run_has shape two nodes P run.0 (omega arith) run.1.0 in
+    let whole : IsWholeRun shape P (links_of run.0) =
+    record { two_ends = two; fits = omega arith; run = was.run } in
+    let known : IsKnown shape P run.0 =
+    record {
+      two = two;
+      nodes = nodes;
+      room = omega arith;
+      run = was.run;
+      sound = runs_are_legal shape P (links_of run.0) whole;
+      kept = was.kept;
+      used = was.used;
+      named = was.named;
+    } in
+    let moved = by_head shape P run.0 after known s.by s.head s.effects step.laws step.named
+    step.makes in
+    record {
+      run = (links_of run.0, (was.run, record { laws = step.laws; moves = moved.moves }));
+      kept = moved.kept;
+      used = moved.used;
+      named = (step.named, was.named);
+    }
+
+pub trunk_runs_are_runs : TrunkRunsAreRuns
+trunk_runs_are_runs shape P trunks whole =
+    let has = run_has shape whole.two_ends whole.nodes P trunks whole.fits whole.run in
+    record {
+      run = record { two_ends = whole.two_ends; fits = whole.fits; run = has.run };
+      kept = has.kept;
+      used = has.used;
+    }
+
+pub trunk_runs_keep_all : TrunkRunsKeepAll
+trunk_runs_keep_all shape P trunks whole =
+    let carried = trunk_runs_are_runs shape P trunks whole in
+    record {
+      sound = runs_are_legal shape P (links_of trunks) carried.run;
+      promises = runs_keep_promises shape P (links_of trunks) carried.run;
+    }

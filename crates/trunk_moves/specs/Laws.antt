@@ -1,0 +1,28 @@
+-- What holds of every run with trunks.
+use Rattle.std.specs.Prelude.{List, length}
+use Rattle.journal.specs.Shapes.{Shape}
+use Rattle.journal.specs.declared.effect.Step.{Step}
+use Rattle.link_laws.specs.Runs.{IsSound, IsWholeRun, KeepsPromises}
+use Rattle.trunk_moves.specs.Steps.{IsWholeTrunkRun}
+use Rattle.trunk_moves.specs.Trunks.{AllKept, AllUseUpTo, RunTrunks, links_of}
+
+-- its steps are moves of a run with links, and every trunk is kept
+pub record IsCarried (shape : Shape) (P : List Step) (trunks : RunTrunks) : Type 0 where
+  pub run : IsWholeRun shape P (links_of trunks)
+  pub kept : AllKept shape trunks
+  -- no side has more addresses in use than the run has steps
+  pub used : AllUseUpTo shape (length P) trunks
+
+-- EVERY RUN WITH TRUNKS IS A RUN OF MOVES
+abbrev pub TrunkRunsAreRuns : Type 0
+TrunkRunsAreRuns = (shape : Shape) (P : List Step) (trunks : RunTrunks)
+    → IsWholeTrunkRun shape P trunks → IsCarried shape P trunks
+
+-- so it is legal, its links are what its history tells, and it keeps what is promised of runs
+pub record KeepsAll (shape : Shape) (P : List Step) (trunks : RunTrunks) : Type 0 where
+  pub sound : IsSound shape P (links_of trunks)
+  pub promises : KeepsPromises shape P (links_of trunks)
+
+abbrev pub TrunkRunsKeepAll : Type 0
+TrunkRunsKeepAll = (shape : Shape) (P : List Step) (trunks : RunTrunks)
+    → IsWholeTrunkRun shape P trunks → KeepsAll shape P trunks

@@ -1,0 +1,4 @@
+pub mod Trunks
+pub mod Packets
+pub mod Steps
+pub mod Laws
