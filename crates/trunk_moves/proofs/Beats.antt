@@ -44,7 +44,8 @@ link_lost v session is = by_answer (tick_of v.first.end).answer refl is
         → (links.near_ticked v).first.end.ticks ≡ 0
     by_answer answers.Stays at e = absurd cc
     by_answer answers.WentDown at e =
-        ap (λ (a : Ticked). (recorded_tick v.first (drained (tick_of v.first.end).state) a).end.ticks)
+        ap (λ (a : Ticked).
+        (recorded_tick v.first (drained (tick_of v.first.end).state) a).end.ticks)
         at
         ∙ end_lost v.first.end at
 

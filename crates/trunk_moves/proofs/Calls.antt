@@ -46,7 +46,8 @@ others_stay v w (x ∷ names) apart is =
         → list_any (bytes_eq w) (cond t names (x ∷ without_match (bytes_eq v) names)) ≡ true
     by_first true here true same among rest =
         let one : w ≡ v = bytes_eq-is w x same ∙ sym (bytes_eq-is v x here) in
-        let itself : bytes_eq w v ≡ true = subst (λ y. bytes_eq w y ≡ true) one (bytes_eq-itself w) in
+        let itself : bytes_eq w v ≡ true =
+        subst (λ y. bytes_eq w y ≡ true) one (bytes_eq-itself w) in
         absurd cc
     by_first true here false other among rest =
         sym (ap (λ b. b || list_any (bytes_eq w) names) other) ∙ among
@@ -116,7 +117,8 @@ module _ (at : Side) (t : TrunkState) (kept : KeepsTrunk t) where
         let says = events_tell.calls.opened at i name t kept (λ none. absurd cc) in
         record {
           side = says.kept
-              ∙ ap (λ live. saying (cond (is_noted noted name) (cond live [] (published i name ∷ []))
+              ∙ ap (λ live. saying (cond (is_noted noted name)
+              (cond live [] (published i name ∷ []))
               []) A) new
               ∙ ap (λ p. saying (cond (is_some p && is_noted noted name) (published i name ∷ []) [])
               A) (sym up);
@@ -151,7 +153,8 @@ module _ (at : Side) (t : TrunkState) (kept : KeepsTrunk t) where
     closing_same : (b live : Bool) → b ≡ true
         → saying (cond live (unpublished j ∷ []) []) A
         ≡ cond (b && live) (saying (unpublished j ∷ []) A) A
-    closing_same b true here = ap (λ c. cond (c && true) (saying (unpublished j ∷ []) A) A) (sym here)
+    closing_same b true here =
+        ap (λ c. cond (c && true) (saying (unpublished j ∷ []) A) A) (sym here)
     closing_same b false here =
         ap (λ c. cond (c && false) (saying (unpublished j ∷ []) A) A) (sym here)
 
@@ -222,7 +225,8 @@ module _ (at : Side) (t : TrunkState) (kept : KeepsTrunk t) where
 
     pub sent_notes : KeepsNotes name (state_of at t) (state_of at sent)
     sent_notes w apart was =
-        by_life (is_live j A.now.said) (events_tell.calls.sent at j name b note t kept up lives).notes
+        by_life (is_live j A.now.said)
+        (events_tell.calls.sent at j name b note t kept up lives).notes
       where
         by_life : (live : Bool) → noted_of at sent ≡ cond live noted (without_note noted name)
             → list_any (bytes_eq w) (noted_of at sent) ≡ true

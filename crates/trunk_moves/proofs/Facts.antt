@@ -52,10 +52,11 @@ use Rattle.link_laws.proofs.Opened.{both_true, open-on, open-opened, opened-any}
 use Rattle.trunk.specs.Events.{TrunkState, kept_of, side_of}
 use Rattle.trunk.specs.Laws.{MayPublish}
 use Rattle.trunk.proofs.Trunks.{agree}
+use Rattle.trunk_moves.specs.Grants.{AreNames}
 use Rattle.trunk_moves.specs.Packets.{name_over, names_hunted}
 use Rattle.trunk_moves.specs.Steps.{HuntsName}
 use Rattle.trunk_moves.specs.Trunks.{AllKept, AllUseUpTo, NodesFit, RunTrunks, links_of}
-use Rattle.trunk_moves.proofs.Told.{AreNames, with_name}
+use Rattle.trunk_moves.proofs.Told.{with_name}
 
 -- each hunt so far is for a name
 abbrev pub AllNamed : List Step → Type 0

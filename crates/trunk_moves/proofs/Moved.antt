@@ -54,7 +54,8 @@ use Rattle.trunk_moves.proofs.Calls.{sent_silent, side_asked, side_closed, side_
 use Rattle.trunk_moves.proofs.Calls.{side_restarted}
 use Rattle.trunk_moves.proofs.Facts.{IsKnown, boots_later, new_may, new_not_live, open_may}
 use Rattle.trunk_moves.proofs.Facts.{peer_sent, sent_lives, short}
-use Rattle.trunk_moves.proofs.Sides.{all_left, each_side, each_trunk, is_trunk, one_trunk, others_left}
+use Rattle.trunk_moves.proofs.Sides.{all_left, each_side, each_trunk, is_trunk, one_trunk}
+use Rattle.trunk_moves.proofs.Sides.{others_left}
 use Rattle.trunk_moves.proofs.Sides.{trunks_stay}
 use Rattle.trunk_moves.proofs.Used.{asked_uses, closed_uses, opened_uses, restarted_uses, sent_uses}
 use Rattle.trunk_moves.proofs.Used.{up_to_more}
@@ -141,7 +142,8 @@ module _ (shape : Shape) (P : List Step) (before after : RunTrunks) (known : IsK
           (λ h of_h at on same. side_closed at (before h.0) (known.kept h of_h) j n
           (node_at shape h at) on)
           (λ h of_h at on off same. closes_away n (node_at shape h (other_of at)) j
-          (state_of (other_of at) (before h.0)) (state_of (other_of at) (closed_at at j (before h.0)))
+          (state_of (other_of at) (before h.0))
+          (state_of (other_of at) (closed_at at j (before h.0)))
           (other_left at (λ s. close_of s j) (before h.0)) off)
           (λ h of_h at off same. closes_away n (node_at shape h at) j (state_of at (before h.0))
           (state_of at (before h.0)) (left_itself at (before h.0)) off)
@@ -149,7 +151,8 @@ module _ (shape : Shape) (P : List Step) (before after : RunTrunks) (known : IsK
 
       pub closed_kept : AllKept shape after
       closed_kept = each_trunk shape known.two n close_act before after made Keeps
-          (λ l of_shape at on. events_keep.closed at j (before l.0) (known.kept l of_shape)) known.kept
+          (λ l of_shape at on. events_keep.closed at j (before l.0) (known.kept l of_shape))
+          known.kept
 
       pub closed_used : AllUseUpTo shape (suc (length P)) after
       closed_used = each_trunk shape known.two n close_act before after made (Uses P)
@@ -256,18 +259,21 @@ module _ (shape : Shape) (P : List Step) (before after : RunTrunks) (known : IsK
       u_kept : KeepsTrunk u
       u_kept = events_keep.sent at j (name_of P j) b note t (record {
         sender = open_may shape P before known l sends.of_shape at n on j
-            (maker-open shape P known.sound.legal (short shape P before known l sends.of_shape at n on)
+            (maker-open shape P known.sound.legal
+            (short shape P before known l sends.of_shape at n on)
             by j mine);
         receiver = can.known;
         is_signal = sends.is_signal;
       }) kept
 
       pub sent_kept : AllKept shape after
-      sent_kept = one_trunk shape before after l sends.of_shape u sends.makes Keeps u_kept known.kept
+      sent_kept = one_trunk shape before after l sends.of_shape u sends.makes Keeps u_kept
+          known.kept
 
       pub sent_used : AllUseUpTo shape (suc (length P)) after
       sent_used = one_trunk shape before after l sends.of_shape u sends.makes (Uses P)
-          (sent_uses at j (name_of P j) b note t (length P) (known.used l sends.of_shape)) uses_before
+          (sent_uses at j (name_of P j) b note t (length P) (known.used l sends.of_shape))
+          uses_before
 
     sending : (by : By) (me : Option Inc) → endpoint_by P by ≡ me → (q : Peer) (note : SigNote)
         (answer : SentTo) → KeepsSends P (node_by shape by) (Send q note answer)
@@ -311,7 +317,8 @@ module _ (shape : Shape) (P : List Step) (before after : RunTrunks) (known : IsK
 
     -- ---- a hunt
 
-    module _ (n : ℕ) (l : LinkNo) (v : List ℕ) (note : SigNote) (named : HuntsName (Hunt (Over l v) note))
+    module _ (n : ℕ) (l : LinkNo) (v : List ℕ) (note : SigNote)
+        (named : HuntsName (Hunt (Over l v) note))
         (asks : AsksThere shape before after n l v) where
       abbrev asked : TrunkState
       asked = asked_at asks.at v (before l.0)
@@ -328,7 +335,8 @@ module _ (shape : Shape) (P : List Step) (before after : RunTrunks) (known : IsK
             node = asks.node;
             side = ap (kept_of asks.at) is_asked ∙ is.side;
             noted = ap (noted_of asks.at) is_asked ∙ is.notes;
-            silent = subst (λ w. silent_of asks.at w ≤ silent_of asks.at (before l.0)) (sym is_asked)
+            silent = subst (λ w. silent_of asks.at w ≤ silent_of asks.at (before l.0))
+                (sym is_asked)
                 is.silent;
             others = others_left shape before after l asks.of_shape asked asks.makes asks.at
                 (other_left asks.at (λ s. query_of s v) (before l.0));

@@ -40,6 +40,7 @@ use Rattle.trunk.specs.Tells.{IsGiven, TellsSide}
 use Rattle.trunk.proofs.Events.{events_keep}
 use Rattle.trunk.proofs.Quiet.{quiet}
 use Rattle.trunk.proofs.Trunks.{events_tell}
+use Rattle.trunk_moves.specs.Grants.{AreNames}
 use Rattle.trunk_moves.specs.Packets.{Comes, IsBeat, IsLostThere, IsSwapped, Meets, answered}
 use Rattle.trunk_moves.specs.Packets.{asks_for, holder_of, names_hunted, publishes_if}
 use Rattle.trunk_moves.specs.Steps.{FindsNone, Passes, Rests, Ticks}
@@ -48,7 +49,7 @@ use Rattle.trunk_moves.proofs.Calls.{left_itself, left_of, other_left}
 use Rattle.trunk_moves.proofs.Facts.{IsKnown, hunted_named, open_may}
 use Rattle.trunk_moves.proofs.Moved.{IsMoved, Keeps, Uses, stay_kept, stay_used, uses_before}
 use Rattle.trunk_moves.proofs.Sides.{all_left, both_left, is_trunk, one_trunk, others_left}
-use Rattle.trunk_moves.proofs.Told.{AreNames, found_there, packet_delivers, tick_ticks}
+use Rattle.trunk_moves.proofs.Told.{found_there, packet_delivers, tick_ticks}
 use Rattle.trunk_moves.proofs.Used.{asked_uses, delivered_uses, published_uses, ticked_uses}
 use Rattle.trunk_moves.proofs.Used.{up_to_more, uses_same}
 
@@ -101,7 +102,7 @@ asks_use at (v ∷ names) t k was =
 
 -- ---- a packet that comes
 
-module _ (shape : Shape) (P : List Step) (before after : RunTrunks) (known : IsKnown shape P before)
+module _ (shape : Shape) (P : List Step) (before : RunTrunks) (known : IsKnown shape P before)
     (l : LinkNo) (of_shape : IsLinkOf shape l) (from : Side) (keep : Bool) (reading : Heard)
     (read : IsReading (handed_by from 0 (before l.0).link) reading) where
   abbrev to : Side
@@ -129,7 +130,7 @@ module _ (shape : Shape) (P : List Step) (before after : RunTrunks) (known : IsK
   v_used = delivered_uses from 0 keep reading t (length P) (known.used l of_shape)
 
   -- an open endpoint of the name that is asked for may be published
-  may_answer : (name : List ℕ) → IsGiven (kept_of to t) (kept_of to v) (kept_of from t)
+  pub may_answer : (name : List ℕ) → IsGiven (kept_of to t) (kept_of to v) (kept_of from t)
       (asked_for name) → (i : Inc) → holder_of P n name ≡ Some i → MayPublish (side_of to v) i name
   may_answer name given i found =
       let there = found_there (λ j. bytes_eq name (name_of P j)) i (open_endpoints P n) found in
@@ -239,13 +240,15 @@ module _ (shape : Shape) (P : List Step) (before after : RunTrunks) (known : IsK
       let n : ℕ = node_at shape l (other_of from) in
       let t : TrunkState = before l.0 in
       let up : TrunkUp = told_by from 0 comes.heard (before l.0) in
-      let u : TrunkState = answered P n l (other_of from) up (delivered from 0 keep comes.heard t) in
+      let u : TrunkState = answered P n l (other_of from) up
+      (delivered from 0 keep comes.heard t) in
       let is_u : after l.0 ≡ u = is_trunk shape before after l of_shape trunk made ∙ comes.makes in
       record {
         handed_over = (
           subst (λ (w : TrunkState). Delivers P n l (state_of (other_of from) t)
               (state_of (other_of from) w) (state_of from t) es) (sym is_u)
-              (packet_delivers P n l from keep comes.heard t (known.kept l of_shape) comes.reading es
+              (packet_delivers P n l from keep comes.heard t (known.kept l of_shape)
+              comes.reading es
               (hunted_named P known.named n l) comes.effects),
           others_left shape before after l of_shape trunk made (other_of from)
               (subst (λ (w : TrunkState). IsLeft (state_of (other_of (other_of from)) t)
@@ -253,9 +256,9 @@ module _ (shape : Shape) (P : List Step) (before after : RunTrunks) (known : IsK
               (from_left P n l from keep comes.heard up t)),
         );
         kept = subst KeepsTrunk (sym comes.makes)
-            (u_kept shape P before after known l of_shape from keep comes.heard comes.reading);
+            (u_kept shape P before known l of_shape from keep comes.heard comes.reading);
         used = subst (UsesUpTo (suc (length P))) (sym comes.makes)
-            (u_used shape P before after known l of_shape from keep comes.heard comes.reading);
+            (u_used shape P before known l of_shape from keep comes.heard comes.reading);
       }
 
   lost_passed : (from : Side) (es : List Effect) → IsLostThere from es (before l.0) trunk
@@ -267,7 +270,8 @@ module _ (shape : Shape) (P : List Step) (before after : RunTrunks) (known : IsK
         handed_over = (
           lost.effects,
           both_left shape before after l of_shape trunk made (λ side.
-              subst (λ (w : TrunkState). IsLeft (state_of side t) (state_of side w)) (sym lost.makes)
+              subst (λ (w : TrunkState). IsLeft (state_of side t) (state_of side w))
+              (sym lost.makes)
               (left_of side t u (events_tell.packets.lost from side 0 t)
               (omega (arith, events_tell.silence.lost from side 0 t)))),
         );
@@ -290,7 +294,8 @@ module _ (shape : Shape) (P : List Step) (before after : RunTrunks) (known : IsK
         handed_over = (
           swaps.effects,
           both_left shape before after l of_shape trunk made (λ side.
-              subst (λ (w : TrunkState). IsLeft (state_of side t) (state_of side w)) (sym swaps.makes)
+              subst (λ (w : TrunkState). IsLeft (state_of side t) (state_of side w))
+              (sym swaps.makes)
               (left_of side t u (events_tell.packets.swapped from side 0 swaps.place t)
               (omega (arith, events_tell.silence.swapped from side 0 swaps.place t)))),
         );
@@ -323,14 +328,16 @@ module _ (shape : Shape) (P : List Step) (before after : RunTrunks) (known : IsK
           of_shape = of_shape;
           ticked = subst (λ (w : TrunkState). moves.TicksAt P (node_at shape l side) l
               (state_of side t) (state_of side w) es) (sym is_u)
-              (tick_ticks P (node_at shape l side) l side t (known.kept l of_shape) es beat.effects);
+              (tick_ticks P (node_at shape l side) l side t (known.kept l of_shape) es
+              beat.effects);
           others = others_left shape before after l of_shape trunk made side
               (subst (λ (w : TrunkState). IsLeft (state_of (other_of side) t)
               (state_of (other_of side) w)) (sym beat.makes)
               (left_of (other_of side) t u (events_tell.turns.tick_other side t)
               (omega (arith, events_tell.silence.tick_other side t))));
         };
-        kept = subst KeepsTrunk (sym beat.makes) (events_keep.ticked side t (known.kept l of_shape));
+        kept = subst KeepsTrunk (sym beat.makes)
+            (events_keep.ticked side t (known.kept l of_shape));
         used = subst (UsesUpTo (suc (length P))) (sym beat.makes)
             (up_to_more (length P) u (ticked_uses side t (length P) (known.used l of_shape)));
       }

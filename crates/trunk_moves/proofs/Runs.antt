@@ -1,5 +1,10 @@
 -- EVERY RUN WITH TRUNKS is a run of moves, keeps every trunk, and so all that is promised of runs.
-use Rattle.std.proofs.Common.{◌≤◌, ℕ, List, [], ◌∷◌, length, refl, sym, subst, arith}
+use Rattle.std.proofs.Common.{◌≡◌, ◌≤◌, ◌<◌, ℕ, true, List, [], ◌∷◌, length, refl, sym, subst}
+use Rattle.std.proofs.Common.{arith}
+use Rattle.std.specs.Prelude.{◌==◌}
+use Rattle.std.proofs.lemmas.Bool.{eq-eqb}
+use Rattle.linx_base.specs.Sides.{other_of}
+use Rattle.linx_base.specs.declared.identity.LinkNo.{LinkNo}
 use Rattle.linx_base.specs.declared.identity.Side.{Side}
 use Rattle.linx_base.specs.declared.identity.Side.TheVariants.{First, Second}
 use Rattle.journal.specs.History.{endpoint_by}
@@ -11,28 +16,34 @@ use Rattle.journal.specs.declared.effect.Step.{Step}
 use Rattle.journal.specs.declared.head.Head.{Head}
 use Rattle.journal.specs.declared.head.Head.TheVariants.{Close, Ended, Hunt, Open, Restart, Send}
 use Rattle.journal.specs.declared.head.Head.TheVariants.{TakeNone, Tick, Wire}
-use Rattle.link_laws.specs.Ends.{HasTwoEnds}
+use Rattle.link_laws.specs.Ends.{HasTwoEnds, IsLinkOf, node_at}
 use Rattle.link_laws.specs.Moves.{IsLeft, KeepsNodeLaws}
 use Rattle.link_laws.specs.Runs.{AreFirst, IsRun, IsWholeRun, first_state}
 use Rattle.link_laws.proofs.Good.{step_of}
 use Rattle.link_laws.proofs.Runs.{runs_are_legal, runs_keep_promises}
-use Rattle.trunk.specs.Events.{TrunkState, new_trunk}
+use Rattle.trunk.specs.Tells.{TellsSide}
+use Rattle.trunk.specs.Events.{TrunkState, delivered, kept_of, new_trunk}
 use Rattle.trunk.specs.Keeping.{KeepsTrunk}
 use Rattle.trunk.proofs.Events.{events_keep}
+use Rattle.trunk.proofs.Trunks.{events_tell}
+use Rattle.trunk_moves.specs.Grants.{GrantsAnswer, GrantsSide, TrunkRunsGrant}
 use Rattle.trunk_moves.specs.Laws.{TrunkRunsAreRuns, TrunkRunsKeepAll}
-use Rattle.trunk_moves.specs.Steps.{HuntsName, IsTrunkRun, IsTrunkStep, Makes}
+use Rattle.trunk_moves.specs.Steps.{HuntsName, IsTrunkRun, IsTrunkStep, IsWholeTrunkRun, Makes}
 use Rattle.trunk_moves.specs.Trunks.{AllKept, AllNew, AllUseUpTo, NodesFit, RunTrunks}
 use Rattle.trunk_moves.specs.Trunks.{UsesUpTo, links_of, state_of}
-use Rattle.trunk_moves.proofs.Facts.{AllNamed, IsKnown}
-use Rattle.trunk_moves.proofs.Moved.{IsMoved, close_moved, ended_moved, hunting_moved, opening_moved}
+use Rattle.trunk_moves.proofs.Facts.{AllNamed, IsKnown, boots_later, hunted_named, new_may}
+use Rattle.trunk_moves.proofs.Facts.{open_may, peer_sent}
+use Rattle.trunk_moves.proofs.Moved.{IsMoved, close_moved, ended_moved, hunting_moved}
+use Rattle.trunk_moves.proofs.Moved.{opening_moved}
 use Rattle.trunk_moves.proofs.Moved.{restarted_kept, restarted_used, restarts_all, sending_moved}
 use Rattle.trunk_moves.proofs.Moved.{stay_kept, stay_used}
-use Rattle.trunk_moves.proofs.Passed.{finding_moved, passing_moved, ticking_moved}
+use Rattle.trunk_moves.proofs.Passed.{finding_moved, may_answer, passing_moved, ticking_moved}
 use Rattle.trunk_moves.proofs.Sides.{all_left}
 
 -- ---- before the first step
 
-new_left : (at : Side) (window piece : ℕ) → IsLeft first_state (state_of at (new_trunk window piece))
+new_left : (at : Side) (window piece : ℕ)
+    → IsLeft first_state (state_of at (new_trunk window piece))
 new_left First window piece = record { side = refl; noted = refl; silent = omega arith }
 new_left Second window piece = record { side = refl; noted = refl; silent = omega arith }
 
@@ -154,3 +165,59 @@ trunk_runs_keep_all shape P trunks whole =
       sound = runs_are_legal shape P (links_of trunks) carried.run;
       promises = runs_keep_promises shape P (links_of trunks) carried.run;
     }
+
+-- ---- what the next step may hand to trunks
+
+known_of : (shape : Shape) (P : List Step) (trunks : RunTrunks) → IsWholeTrunkRun shape P trunks
+    → length P < step_limit → IsKnown shape P trunks
+known_of shape P trunks whole room =
+    let has = run_has shape whole.two_ends whole.nodes P trunks whole.fits whole.run in
+    record {
+      two = whole.two_ends;
+      nodes = whole.nodes;
+      room = room;
+      run = has.run;
+      sound = runs_are_legal shape P (links_of trunks)
+          (record { two_ends = whole.two_ends; fits = whole.fits; run = has.run });
+      kept = has.kept;
+      used = has.used;
+      named = has.named;
+    }
+
+module _ (shape : Shape) (P : List Step) (trunks : RunTrunks) (known : IsKnown shape P trunks)
+    (l : LinkNo) (of_shape : IsLinkOf shape l) where
+  side_grants : (at : Side) → GrantsSide P (node_at shape l at) l at (trunks l.0)
+  side_grants at =
+      let n : ℕ = node_at shape l at in
+      let on : (node_at shape l at == n) ≡ true = eq-eqb n n refl in
+      record {
+        opens = new_may shape P trunks known l of_shape at n on;
+        publishes = open_may shape P trunks known l of_shape at n on;
+        sends = λ i x b signal alive lives is_signal. record {
+          sender = open_may shape P trunks known l of_shape at n on i alive;
+          receiver = (peer_sent shape P trunks known l of_shape at n on x b lives).known;
+          is_signal = is_signal;
+        };
+        boots = boots_later shape P trunks known l of_shape at n on;
+        asks = hunted_named P known.named n l;
+      }
+
+  answer_grants : (from : Side)
+      → GrantsAnswer P (node_at shape l (other_of from)) from (trunks l.0)
+  answer_grants from = record {
+    answers = λ keep heard read name told i found.
+        may_answer shape P trunks known l of_shape from keep heard read name
+        (subst (TellsSide (kept_of (other_of from) (trunks l.0))
+        (kept_of (other_of from) (delivered from 0 keep heard (trunks l.0)))
+        (kept_of from (trunks l.0))) told
+        (events_tell.packets.side from 0 keep heard (trunks l.0) (known.kept l of_shape) read))
+        i found;
+  }
+
+pub trunk_runs_grant : TrunkRunsGrant
+trunk_runs_grant shape P trunks whole room l of_shape from =
+    let known = known_of shape P trunks whole room in
+    (
+      side_grants shape P trunks known l of_shape from,
+      answer_grants shape P trunks known l of_shape from,
+    )

@@ -1,5 +1,5 @@
--- Where each side of a node does something, and where one link's trunk is another now: what holds of
--- the sides that do it, of those across the links, and of all others, holds of all sides.
+-- Where each side of a node does something, and where one link's trunk is another now: what holds
+-- of the sides that do it, of those across the links, and of all others, holds of all sides.
 use Rattle.std.proofs.Common.{◌≡◌, ℕ, Bool, true, false, cond, refl, sym, ◌∙◌, ap, subst}
 use Rattle.std.specs.Prelude.{◌==◌, ◌&&◌}
 use Rattle.std.proofs.lemmas.Bool.{eqb-true, eq-eqb}
@@ -129,7 +129,8 @@ module _ (shape : Shape) (before after : RunTrunks) (l : LinkNo) (of_shape : IsL
           subst (λ (m : LinkNo). T m t) (sym is) here
       by_test false apart = was h of_h
 
-  pub others_left : (at : Side) → IsLeft (state_of (other_of at) (before l.0)) (state_of (other_of at) t)
+  pub others_left : (at : Side)
+      → IsLeft (state_of (other_of at) (before l.0)) (state_of (other_of at) t)
       → OthersLeft shape (links_of before) (links_of after) l at
   others_left at left h of_h side apart =
       subst (λ (u : TrunkState). IsLeft (state_of side (before h.0)) (state_of side u))

@@ -1,9 +1,10 @@
--- What a packet makes of the side that it comes to, with what its node does when it is told, is what
--- a packet of a run of moves makes of it; and so for a tick.
-use Rattle.std.proofs.Common.{◌≡◌, ◌≢◌, ◌≤◌, ℕ, Bool, true, false, cond, ◌||◌, ◌⊎◌, inl, inr, List, []}
+-- What a packet makes of the side that it comes to, with what its node does when it is told, is
+-- what a packet of a run of moves makes of it; and so for a tick.
+use Rattle.std.proofs.Common.{◌≡◌, ◌≢◌, ◌≤◌, ℕ, Bool, true, false, cond, ◌||◌, ◌⊎◌, inl, inr, List}
+use Rattle.std.proofs.Common.{[]}
 use Rattle.std.proofs.Common.{◌∷◌, ◌++◌, Option, Some, None, refl, sym, ◌∙◌, ap, subst, arith}
 use Rattle.std.specs.Prelude.{◌==◌, is_some, slice_get, IsTrue}
-use Rattle.std.specs.List.{list_any, filter_map, AllByRecursion}
+use Rattle.std.specs.List.{list_any, filter_map}
 use Rattle.std.specs.Option.{ForSome}
 use Rattle.std.specs.Str.{bytes_eq}
 use Rattle.std.proofs.lemmas.Bool.{or_cases, or_left, or_right}
@@ -67,6 +68,7 @@ use Rattle.trunk.specs.Tells.{TellsSide, frees, noted_of, publishing, silent_of,
 use Rattle.trunk.proofs.Events.{events_keep, near_tells, turned_keeps}
 use Rattle.trunk.proofs.Silence.{offers_ticks}
 use Rattle.trunk.proofs.Trunks.{events_tell}
+use Rattle.trunk_moves.specs.Grants.{AreNames}
 use Rattle.trunk_moves.specs.Packets.{answered, asks_for, holder_of, name_over}
 use Rattle.trunk_moves.specs.Packets.{names_hunted, publishes_if, told_at}
 use Rattle.trunk_moves.specs.Trunks.{state_of}
@@ -126,7 +128,8 @@ names_it l v (Over m w) is =
     let both = both_true (m.0 == l.0) (bytes_eq w v) is in (
       w,
       ap (λ (t : Bool). cond t (Some w) None) both.0,
-      subst (λ (x : List ℕ). bytes_eq v x ≡ true) (sym (bytes_eq-is w v both.1)) (bytes_eq-itself v),
+      subst (λ (x : List ℕ). bytes_eq v x ≡ true) (sym (bytes_eq-is w v both.1))
+          (bytes_eq-itself v),
     )
 
 -- the name of each pending hunt over the link is among those that are asked for
@@ -200,14 +203,12 @@ noted_then v w notes is = by_noted (is_noted notes v) refl
 -- ---- a side that went up asks for names
 
 -- what it makes of a side whose record was A
-pub record HasAsked (at : Side) (A : SideRecord) (names : List (List ℕ)) (t : TrunkState) : Type 0 where
+pub record HasAsked (at : Side) (A : SideRecord) (names : List (List ℕ)) (t : TrunkState)
+    : Type 0 where
   pub kept : KeepsTrunk t
   pub side : kept_of at t ≡ saying (questions names) A
   pub notes : noted_of at t ≡ []
   pub silent : silent_of at t ≡ 0
-
-abbrev pub AreNames : List (List ℕ) → Type 0
-AreNames names = AllByRecursion (λ v. IsTrue (is_name v)) names
 
 pub asks_once : (at : Side) (A : SideRecord) (y : Session) → A.now.peer ≡ Some y
     → (before : List (List ℕ)) (t : TrunkState) → HasAsked at A before t → (v : List ℕ)
@@ -327,7 +328,8 @@ module _ (P : List Step) (n : ℕ) (l : LinkNo) (from : Side) (keep : Bool) (rea
     answers : (holder : Option Inc) → holder_of P n name ≡ holder
         → IsAnswered P n name (state_of to t) (state_of to (publishes_if to name holder v))
     answers None none =
-        IsAnswered.notes (λ i alive. none_there (λ j. bytes_eq name (name_of P j)) i (open_endpoints P n) none
+        IsAnswered.notes (λ i alive.
+        none_there (λ j. bytes_eq name (name_of P j)) i (open_endpoints P n) none
         alive) is.kept noted_name
     answers (Some i) found =
         let there = found_there (λ j. bytes_eq name (name_of P j)) i (open_endpoints P n) found in
@@ -450,7 +452,8 @@ stays_same : (at : Side) (t : TrunkState) → link_told_by at t.link ≡ ticked.
 stays_same First t is =
     ap (λ told. (near_beat (with_link t (links.near_ticked t.link)) told).first) is
 stays_same Second t is =
-    ap (λ told. (near_beat (with_link (turned t) (links.near_ticked (turned t).link)) told).first) is
+    ap (λ told.
+    (near_beat (with_link (turned t) (links.near_ticked (turned t).link)) told).first) is
 
 module _ (P : List Step) (n : ℕ) (l : LinkNo) (at : Side) (t : TrunkState) (kept : KeepsTrunk t)
     (es : List Effect) where

@@ -1,5 +1,6 @@
 -- How many addresses a side has in use: a call takes at most one more, and nothing else takes any.
-use Rattle.std.proofs.Common.{◌≡◌, ◌≤◌, ◌+◌, ℕ, zero, suc, Bool, true, false, cond, List, [], ◌∷◌, Option}
+use Rattle.std.proofs.Common.{◌≡◌, ◌≤◌, ◌+◌, ℕ, zero, suc, Bool, true, false, cond, List, [], ◌∷◌}
+use Rattle.std.proofs.Common.{Option}
 use Rattle.std.proofs.Common.{Some, None, ap, arith}
 use Rattle.std.specs.Prelude.{◌||◌, is_some, slice_get, slice_set, ◌-◌}
 use Rattle.std.proofs.lemmas.List.Sums.{sum_by-cons}
@@ -15,7 +16,8 @@ use Rattle.rlnh_messages.specs.declared.rlnh.Rlnh.TheVariants.{Init, InitReply, 
 use Rattle.rlnh_messages.specs.declared.rlnh.Rlnh.TheVariants.{Publish, Unpublish, UnpublishAck}
 use Rattle.rlnh_end.specs.declared.heard.Heard.{Heard}
 use Rattle.rlnh_end.specs.declared.heard.Heard.TheVariants.{Control, Garbage, Signal}
-use Rattle.rlnh_end.specs.Calls.{Saying, announced, close_of, closed, known_of, opened_of, publish_of}
+use Rattle.rlnh_end.specs.Calls.{Saying, announced, close_of, closed, known_of, opened_of}
+use Rattle.rlnh_end.specs.Calls.{publish_of}
 use Rattle.rlnh_end.specs.Calls.{query_of, saying, send_of}
 use Rattle.rlnh_end.specs.declared.up.Up.TheVariants.{Bad, Met}
 use Rattle.rlnh_end.specs.Hearing.{heard_ack, heard_signal, heard_unpublish, hears, only}
@@ -28,7 +30,8 @@ use Rattle.carrier.specs.declared.handed.TickedSide.{TickedSide}
 use Rattle.carrier.specs.declared.handed.TickedSide.TheVariants as ticked
 use Rattle.carrier.specs.Events.{LinkState, near_handed, ticked_as}
 use Rattle.carrier.specs.Events as links
-use Rattle.trunk.specs.Events.{TrunkSide, TrunkState, asked_at, closed_at, delivered, near_beat, near_said}
+use Rattle.trunk.specs.Events.{TrunkSide, TrunkState, asked_at, closed_at, delivered, near_beat}
+use Rattle.trunk.specs.Events.{near_said}
 use Rattle.trunk.specs.Events.{near_says, near_took, opened_at, published_at, restarted_at, said_at}
 use Rattle.trunk.specs.Events.{sent_at, side_of, tables_of, ticked_at, turned, with_link}
 use Rattle.trunk.proofs.Trunks.{events_tell}
@@ -274,7 +277,8 @@ ticked_uses Second t n was Second =
       arith,
       was Second,
       beat_uses (with_link (turned t) (links.near_ticked (turned t).link))
-          (ticked_as (turned t).link.first.end.talk.mine (tick_of (turned t).link.first.end).answer),
+          (ticked_as (turned t).link.first.end.talk.mine
+          (tick_of (turned t).link.first.end).answer),
     )
 
 -- a restart
@@ -291,6 +295,7 @@ restarted_uses Second boot t n was First =
     omega (
       arith,
       was First,
-      uses_same First t (restarted_at Second boot t) (events_tell.turns.restart_other Second boot t),
+      uses_same First t (restarted_at Second boot t)
+          (events_tell.turns.restart_other Second boot t),
     )
 restarted_uses Second boot t n was Second = omega arith

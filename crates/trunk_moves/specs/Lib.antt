@@ -2,3 +2,4 @@ pub mod Trunks
 pub mod Packets
 pub mod Steps
 pub mod Laws
+pub mod Grants

@@ -7,4 +7,4 @@
 
 mod laws;
 
-pub use laws::{trunk_runs_are_runs, trunk_runs_keep_all};
+pub use laws::{trunk_runs_are_runs, trunk_runs_grant, trunk_runs_keep_all};
