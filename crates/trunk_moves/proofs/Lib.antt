@@ -7,3 +7,4 @@ pub mod Facts
 pub mod Moved
 pub mod Passed
 pub mod Runs
+pub mod Worked

@@ -1,0 +1,230 @@
+-- A worked run with trunks, step by step: two endpoints open, a name is hunted over the link, the
+-- link goes up, the name is asked for, published, and met.
+use Rattle.std.proofs.Common.{◌≡◌, ◌≤◌, ℕ, true, false, List, []}
+use Rattle.std.proofs.Common.{◌∷◌, refl, sym, ◌∙◌, arith, subst}
+use Rattle.std.specs.Prelude.{codes}
+use Rattle.std.proofs.lemmas.Bool.{true≢false}
+use Rattle.linx_base.specs.Sides.{other_of}
+use Rattle.linx_base.specs.declared.frame.Verdict.TheVariants.{Deliver}
+use Rattle.linx_base.specs.declared.identity.Peer.TheVariants.{There}
+use Rattle.linx_base.specs.declared.identity.Side.{Side}
+use Rattle.linx_base.specs.declared.identity.Side.TheVariants.{First, Second}
+use Rattle.linx_base.specs.declared.name.Path.TheVariants.{Over}
+use Rattle.link_addresses.specs.Meanings.{address_of, lowest_free, with_lowest}
+use Rattle.rlnh_messages.specs.Messages.{spelling_of}
+use Rattle.rlnh_messages.specs.declared.rlnh.Rlnh.TheVariants as rlnh
+use Rattle.rlnh_end.specs.Hearing.{hears}
+use Rattle.rlnh_end.specs.declared.heard.Heard.{Heard}
+use Rattle.rlnh_end.specs.declared.heard.Heard.TheVariants.{Control, Garbage}
+use Rattle.fragmenter.specs.Pieces.{cut, followers, framed, pieces_of}
+use Rattle.ethcm_window.specs.Sending.{numbered_from}
+use Rattle.ethcm_end.specs.Rules.{data_in, input_of, offer_of, take_kept, tick_of}
+use Rattle.carrier.specs.Events.{handed_by}
+use Rattle.journal.specs.declared.effect.Effect.{Effect}
+use Rattle.journal.specs.declared.effect.Effect.TheVariants.{Found}
+use Rattle.journal.specs.declared.effect.Step.{Step}
+use Rattle.journal.specs.declared.head.Head.TheVariants.{Hunt, Tick, Wire}
+use Rattle.journal.proofs.Playing.{endpoint_kept, made, made_by, note, opens}
+use Rattle.link_laws.specs.Ends.{IsLinkOf, node_at}
+use Rattle.link_laws.specs.Moves.{KeepsNodeLaws}
+use Rattle.link_laws.specs.Sessions.{is_cut}
+use Rattle.link_laws.proofs.Playing.{a, b, back, l, met_at, pump, pumped, there, two_ends, up, x11}
+use Rattle.trunk.specs.Events.{IsReading, TrunkState, delivered, new_trunk, ticked_at, told_by}
+use Rattle.trunk_moves.specs.Packets.{answered, told_at}
+use Rattle.trunk_moves.specs.Steps.{IsTrunkRun, IsTrunkStep}
+use Rattle.trunk_moves.specs.Trunks.{Become, RunTrunks}
+
+-- a run goes on with a step
+infixl 1 ◌▹◌
+◌▹◌ : {P : List Step} {s : Step} {before after : RunTrunks} → IsTrunkRun two_ends P before
+    → IsTrunkStep two_ends P before s after → IsTrunkRun two_ends (s ∷ P) after
+◌▹◌ {P} {s} {before} {after} run step = (before, (run, step))
+
+-- the one link is one of the shape, and all that is
+one_of : IsLinkOf two_ends l
+one_of = (omega arith, omega arith)
+
+all_of : (after made_so : RunTrunks) → after 1 ≡ made_so 1 → Become two_ends after made_so
+all_of after made_so same k of_shape =
+    let low = of_shape.0 in
+    let high : k.0 ≤ 1 = of_shape.1 in
+    let is : 1 ≡ k.0 = omega arith in
+    subst (λ (n : ℕ). after n ≡ made_so n) is same
+
+-- both endpoints open, and a name is hunted while the link is down
+abbrev opened_a : List Step
+opened_a = opens 1 (codes "a") a ∷ []
+
+abbrev both_open : List Step
+both_open = opens 2 (codes "b") b ∷ opened_a
+
+abbrev hunted : List Step
+hunted = made 1 (Hunt (Over l (codes "b")) (note 251 [])) [] ∷ both_open
+
+abbrev fresh : TrunkState
+fresh = new_trunk 32 64
+
+begins : IsTrunkRun two_ends [] (λ k. fresh)
+begins k of_shape = record {
+  window = 32;
+  piece = 64;
+  has_window = omega arith;
+  has_piece = omega arith;
+  made = refl;
+}
+
+opens_a : IsTrunkStep two_ends [] (λ k. fresh) (opens 1 (codes "a") a) (λ k. fresh)
+opens_a = record {
+  laws = record {
+    makers = made_by refl;
+    endpoints = endpoint_kept refl;
+    bounds = refl;
+    effects = refl;
+    sends = tt;
+    receives = tt;
+  };
+  named = tt;
+  makes = all_of _ _ refl;
+}
+
+opens_b : IsTrunkStep two_ends opened_a (λ k. fresh) (opens 2 (codes "b") b) (λ k. fresh)
+opens_b = record {
+  laws = record {
+    makers = made_by refl;
+    endpoints = endpoint_kept refl;
+    bounds = refl;
+    effects = refl;
+    sends = tt;
+    receives = tt;
+  };
+  named = tt;
+  makes = all_of _ _ refl;
+}
+
+hunts_b : IsTrunkStep two_ends both_open (λ k. fresh)
+    (made 1 (Hunt (Over l (codes "b")) (note 251 [])) []) (λ k. fresh)
+hunts_b = record {
+  laws = record {
+    makers = made_by refl;
+    endpoints = endpoint_kept refl;
+    bounds = omega arith;
+    effects = refl;
+    sends = tt;
+    receives = tt;
+  };
+  named = refl;
+  makes = record { at = First; of_shape = one_of; node = refl; makes = all_of _ _ refl };
+}
+
+hunted_run : IsTrunkRun two_ends hunted (λ k. fresh)
+hunted_run = begins ▹ opens_a ▹ opens_b ▹ hunts_b
+
+-- ---- the pump
+
+-- the laws of nodes ask little of a packet and of a tick
+passes_laws : {P : List Step} {from : Side} {es : List Effect}
+    → KeepsNodeLaws two_ends P (pump (Wire l from Deliver) es)
+passes_laws = record {
+  makers = pumped refl;
+  endpoints = endpoint_kept refl;
+  bounds = tt;
+  effects = tt;
+  sends = tt;
+  receives = tt;
+}
+
+ticks_laws : {P : List Step} {side : Side} {es : List Effect}
+    → KeepsNodeLaws two_ends P (pump (Tick l side) es)
+ticks_laws = record {
+  makers = pumped refl;
+  endpoints = endpoint_kept refl;
+  bounds = tt;
+  effects = tt;
+  sends = tt;
+  receives = tt;
+}
+
+-- the trunk after a packet of this reading from a side, and what is told of it then
+abbrev comes : List Step → Side → Heard → TrunkState → TrunkState
+comes P from heard t =
+    answered P (node_at two_ends l (other_of from)) l (other_of from) (told_by from 0 heard t)
+    (delivered from 0 false heard t)
+
+abbrev brings : List Step → Side → Heard → TrunkState → List Effect
+brings P from heard t =
+    told_at P (node_at two_ends l (other_of from)) l (other_of from) t (told_by from 0 heard t)
+
+-- a packet comes while the link is whole
+came : {P : List Step} {from : Side} {es : List Effect} {t : TrunkState} → is_cut P 1 ≡ false
+    → (heard : Heard) → IsReading (handed_by from 0 t.link) heard → es ≡ brings P from heard t
+    → IsTrunkStep two_ends P (λ k. t) (pump (Wire l from Deliver) es) (λ k. comes P from heard t)
+came {P} {from} {es} {t} whole heard read effects = record {
+  laws = passes_laws;
+  named = tt;
+  makes = record {
+    of_shape = one_of;
+    cuts = λ cut. absurd (true≢false (sym cut ∙ whole));
+    trunk = comes P from heard t;
+    meets = record { heard = heard; reading = read; effects = effects; makes = refl };
+    makes = all_of _ _ refl;
+  };
+}
+
+-- the first side asks for a connection, and the second one answers
+abbrev ticked : List Step
+ticked = pump (Tick l First) [] ∷ hunted
+
+abbrev asking : TrunkState
+asking = ticked_at First fresh
+
+ticks_first : IsTrunkStep two_ends hunted (λ k. fresh) (pump (Tick l First) []) (λ k. asking)
+unfolding tick_of
+ticks_first = record {
+  laws = ticks_laws;
+  named = tt;
+  makes = record {
+    of_shape = one_of;
+    trunk = asking;
+    beat = record { effects = refl; makes = refl };
+    makes = all_of _ _ refl;
+  };
+}
+
+abbrev answered_then : List Step
+answered_then = there [] ∷ ticked
+
+abbrev answering : TrunkState
+answering = comes ticked First Garbage asking
+
+answers : IsTrunkStep two_ends ticked (λ k. asking) (there []) (λ k. answering)
+unfolding input_of tick_of
+answers = came refl Garbage tt refl
+
+-- each side goes up, and the first one asks for the hunted name
+abbrev first_up : List Step
+first_up = back (up 1 x11 x11 ∷ []) ∷ answered_then
+
+abbrev confirming : TrunkState
+confirming = comes answered_then Second Garbage answering
+
+goes_up : IsTrunkStep two_ends answered_then (λ k. answering) (back (up 1 x11 x11 ∷ []))
+    (λ k. confirming)
+unfolding input_of tick_of offer_of data_in take_kept pieces_of framed cut followers numbered_from
+    spelling_of
+goes_up = came refl Garbage tt refl
+
+abbrev both_up : List Step
+both_up = there (up 2 x11 x11 ∷ []) ∷ first_up
+
+abbrev connected : TrunkState
+connected = comes first_up First Garbage confirming
+
+goes_up_too : IsTrunkStep two_ends first_up (λ k. confirming) (there (up 2 x11 x11 ∷ []))
+    (λ k. connected)
+unfolding input_of tick_of offer_of data_in take_kept pieces_of framed cut followers numbered_from
+    spelling_of
+goes_up_too = came refl Garbage tt refl
+
+-- what connects them is a run
+pub connected_run : IsTrunkRun two_ends both_up (λ k. connected)
+connected_run = hunted_run ▹ ticks_first ▹ answers ▹ goes_up ▹ goes_up_too
