@@ -216,8 +216,7 @@ module _ (shape : Shape) (P : List Step) (trunks : RunTrunks) (known : IsKnown s
 
 pub trunk_runs_grant : TrunkRunsGrant
 trunk_runs_grant shape P trunks whole room l of_shape from =
-    let known = known_of shape P trunks whole room in
-    (
+    let known = known_of shape P trunks whole room in (
       side_grants shape P trunks known l of_shape from,
       answer_grants shape P trunks known l of_shape from,
     )

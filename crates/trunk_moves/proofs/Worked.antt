@@ -1,6 +1,6 @@
 -- A worked run with trunks, step by step: two endpoints open, a name is hunted over the link, the
 -- link goes up, the name is asked for, published, and met.
-use Rattle.std.proofs.Common.{◌≡◌, ◌≤◌, ℕ, true, false, List, []}
+use Rattle.std.proofs.Common.{◌≡◌, ◌≤◌, ℕ, zero, suc, false, List, []}
 use Rattle.std.proofs.Common.{◌∷◌, refl, sym, ◌∙◌, arith, subst}
 use Rattle.std.specs.Prelude.{codes}
 use Rattle.std.proofs.lemmas.Bool.{true≢false}
@@ -228,3 +228,132 @@ goes_up_too = came refl Garbage tt refl
 -- what connects them is a run
 pub connected_run : IsTrunkRun two_ends both_up (λ k. connected)
 connected_run = hunted_run ▹ ticks_first ▹ answers ▹ goes_up ▹ goes_up_too
+
+-- the second side hears of the name, and publishes its endpoint
+abbrev greeted_then : List Step
+greeted_then = there [] ∷ both_up
+
+abbrev greeted : TrunkState
+greeted = comes both_up First (Control rlnh.Init) connected
+
+greets : IsTrunkStep two_ends both_up (λ k. connected) (there []) (λ k. greeted)
+unfolding input_of tick_of offer_of data_in take_kept pieces_of framed cut followers numbered_from
+    spelling_of hears
+greets =
+    came refl (Control rlnh.Init)
+    (record {
+      from = refl;
+      to = refl;
+      spelled = record {
+        is_message = record { has_address = tt; fits_fields = tt };
+        spelled = refl;
+      };
+    }) refl
+
+abbrev questioned : List Step
+questioned = there [] ∷ greeted_then
+
+abbrev published : TrunkState
+published = comes greeted_then First (Control (rlnh.QueryName (codes "b"))) greeted
+
+publishes : IsTrunkStep two_ends greeted_then (λ k. greeted) (there []) (λ k. published)
+unfolding input_of tick_of offer_of data_in take_kept pieces_of framed cut followers numbered_from
+    spelling_of hears address_of lowest_free with_lowest
+publishes =
+    came refl (Control (rlnh.QueryName (codes "b")))
+    (record {
+      from = refl;
+      to = refl;
+      spelled = record {
+        is_message = record { has_address = tt; fits_fields = refl };
+        spelled = refl;
+      };
+    }) refl
+
+-- the replies come, and the answer to the question: the hunted name is met, and found
+abbrev replied : ℕ → List Step
+replied zero = questioned
+replied (suc k) = back [] ∷ replied k
+
+abbrev greeted_back : TrunkState
+greeted_back = comes (replied 0) Second (Control rlnh.Init) published
+
+greets_back : IsTrunkStep two_ends (replied 0) (λ k. published) (back []) (λ k. greeted_back)
+unfolding input_of tick_of offer_of data_in take_kept pieces_of framed cut followers numbered_from
+    spelling_of hears address_of lowest_free with_lowest
+greets_back =
+    came refl (Control rlnh.Init)
+    (record {
+      from = refl;
+      to = refl;
+      spelled = record {
+        is_message = record { has_address = tt; fits_fields = tt };
+        spelled = refl;
+      };
+    }) refl
+
+abbrev acknowledged : TrunkState
+acknowledged = comes (replied 1) Second Garbage greeted_back
+
+acknowledges : IsTrunkStep two_ends (replied 1) (λ k. greeted_back) (back []) (λ k. acknowledged)
+unfolding input_of tick_of offer_of data_in take_kept pieces_of framed cut followers numbered_from
+    spelling_of hears address_of lowest_free with_lowest
+acknowledges = came refl Garbage tt refl
+
+abbrev introduced : TrunkState
+introduced = comes (replied 2) Second (Control rlnh.InitReply) acknowledged
+
+introduces : IsTrunkStep two_ends (replied 2) (λ k. acknowledged) (back []) (λ k. introduced)
+unfolding input_of tick_of offer_of data_in take_kept pieces_of framed cut followers numbered_from
+    spelling_of hears address_of lowest_free with_lowest
+introduces =
+    came refl (Control rlnh.InitReply)
+    (record {
+      from = refl;
+      to = refl;
+      spelled = record {
+        is_message = record { has_address = tt; fits_fields = tt };
+        spelled = refl;
+      };
+    }) refl
+
+abbrev acknowledged_too : TrunkState
+acknowledged_too = comes (replied 3) Second Garbage introduced
+
+acknowledges_too : IsTrunkStep two_ends (replied 3) (λ k. introduced) (back [])
+    (λ k. acknowledged_too)
+unfolding input_of tick_of offer_of data_in take_kept pieces_of framed cut followers numbered_from
+    spelling_of hears address_of lowest_free with_lowest
+acknowledges_too = came refl Garbage tt refl
+
+abbrev answer : Heard
+answer = Control (rlnh.Publish 1 b (codes "b"))
+
+abbrev found_then : List Step
+found_then =
+    back (met_at 1 x11 b (codes "b") ∷ Found a (There l x11 b) (note 251 []) 3 ∷ []) ∷ replied 4
+
+abbrev found : TrunkState
+found = comes (replied 4) Second answer acknowledged_too
+
+finds : IsTrunkStep two_ends (replied 4) (λ k. acknowledged_too)
+    (back (met_at 1 x11 b (codes "b") ∷ Found a (There l x11 b) (note 251 []) 3 ∷ []))
+    (λ k. found)
+unfolding input_of tick_of offer_of data_in take_kept pieces_of framed cut followers numbered_from
+    spelling_of hears address_of lowest_free with_lowest
+finds =
+    came refl answer
+    (record {
+      from = refl;
+      to = refl;
+      spelled = record {
+        is_message = record { has_address = omega arith; fits_fields = (omega arith, omega arith, refl) };
+        spelled = refl;
+      };
+    }) refl
+
+-- what finds the name is a run
+pub found_run : IsTrunkRun two_ends found_then (λ k. found)
+found_run =
+    connected_run ▹ greets ▹ publishes ▹ greets_back ▹ acknowledges ▹ introduces
+    ▹ acknowledges_too ▹ finds
