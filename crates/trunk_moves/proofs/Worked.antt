@@ -1,11 +1,12 @@
 -- A worked run with trunks, step by step: two endpoints open, a name is hunted over the link, the
 -- link goes up, the name is asked for, published, and met.
-use Rattle.std.proofs.Common.{◌≡◌, ◌≤◌, ℕ, zero, suc, false, List, []}
+use Rattle.std.proofs.Common.{◌≡◌, ◌≤◌, ◌<◌, ap, ℕ, zero, suc, false, List, []}
 use Rattle.std.proofs.Common.{◌∷◌, refl, sym, ◌∙◌, arith, subst}
-use Rattle.std.specs.Prelude.{codes}
+use Rattle.std.specs.Prelude.{◌==◌, codes}
 use Rattle.std.proofs.lemmas.Bool.{true≢false}
 use Rattle.linx_base.specs.Sides.{other_of}
 use Rattle.linx_base.specs.declared.frame.Verdict.TheVariants.{Deliver}
+use Rattle.linx_base.specs.declared.identity.LinkNo.{LinkNo}
 use Rattle.linx_base.specs.declared.identity.Peer.TheVariants.{There}
 use Rattle.linx_base.specs.declared.identity.Side.{Side}
 use Rattle.linx_base.specs.declared.identity.Side.TheVariants.{First, Second}
@@ -25,14 +26,16 @@ use Rattle.journal.specs.declared.effect.Effect.TheVariants.{Found}
 use Rattle.journal.specs.declared.effect.Step.{Step}
 use Rattle.journal.specs.declared.head.Head.TheVariants.{Hunt, Tick, Wire}
 use Rattle.journal.proofs.Playing.{endpoint_kept, made, made_by, note, opens}
-use Rattle.link_laws.specs.Ends.{IsLinkOf, node_at}
+use Rattle.link_laws.specs.Ends.{HasTwoEnds, IsLinkOf, node_at}
 use Rattle.link_laws.specs.Moves.{KeepsNodeLaws}
 use Rattle.link_laws.specs.Sessions.{is_cut}
 use Rattle.link_laws.proofs.Playing.{a, b, back, l, met_at, pump, pumped, there, two_ends, up, x11}
 use Rattle.trunk.specs.Events.{IsReading, TrunkState, delivered, new_trunk, ticked_at, told_by}
+use Rattle.trunk_moves.specs.Laws.{KeepsAll}
 use Rattle.trunk_moves.specs.Packets.{answered, told_at}
 use Rattle.trunk_moves.specs.Steps.{IsTrunkRun, IsTrunkStep}
-use Rattle.trunk_moves.specs.Trunks.{Become, RunTrunks}
+use Rattle.trunk_moves.specs.Trunks.{Become, NodesFit, RunTrunks}
+use Rattle.trunk_moves.proofs.Runs.{trunk_runs_keep_all}
 
 -- a run goes on with a step
 infixl 1 ◌▹◌
@@ -357,3 +360,33 @@ pub found_run : IsTrunkRun two_ends found_then (λ k. found)
 found_run =
     connected_run ▹ greets ▹ publishes ▹ greets_back ▹ acknowledges ▹ introduces
     ▹ acknowledges_too ▹ finds
+
+-- ---- the whole run
+
+one_link : (k : LinkNo) → IsLinkOf two_ends k → l ≡ k
+one_link k of_shape =
+    let low = of_shape.0 in
+    let high : k.0 ≤ 1 = of_shape.1 in
+    ap (λ (n : ℕ). let m : LinkNo = record { 0 = n } in m) (omega arith)
+
+two : HasTwoEnds two_ends
+two k of_shape First =
+    subst (λ (h : LinkNo). (node_at two_ends h First == node_at two_ends h Second) ≡ false)
+    (one_link k of_shape) refl
+two k of_shape Second =
+    subst (λ (h : LinkNo). (node_at two_ends h Second == node_at two_ends h First) ≡ false)
+    (one_link k of_shape) refl
+
+fit : NodesFit two_ends
+fit k of_shape First =
+    subst (λ (h : LinkNo). node_at two_ends h First < 4294967296) (one_link k of_shape)
+    (omega arith)
+fit k of_shape Second =
+    subst (λ (h : LinkNo). node_at two_ends h Second < 4294967296) (one_link k of_shape)
+    (omega arith)
+
+-- so it is a run of moves, is legal, and keeps what is promised
+pub found_keeps_all : KeepsAll two_ends found_then (λ k. found)
+found_keeps_all =
+    trunk_runs_keep_all two_ends found_then (λ k. found)
+    (record { two_ends = two; nodes = fit; fits = omega arith; run = found_run })
