@@ -1,9 +1,10 @@
 -- Packets and ticks are moves, and keep every trunk.
-use Rattle.std.proofs.Common.{◌≡◌, ℕ, suc, Bool, true, false, List, [], ◌∷◌, Option}
+use Rattle.std.proofs.Common.{◌≡◌, ◌<◌, ℕ, suc, Bool, true, false, cond, List, [], ◌∷◌, Option}
 use Rattle.std.proofs.Common.{Some, None, length, refl, sym, ◌∙◌, ap, subst, arith}
-use Rattle.std.specs.Prelude.{◌==◌, IsTrue}
+use Rattle.std.specs.Prelude.{◌-◌, ◌==◌, nat_lt, IsTrue}
 use Rattle.std.specs.Str.{bytes_eq}
 use Rattle.std.proofs.lemmas.Bool.{eq-eqb}
+use Rattle.std.proofs.lemmas.Bool.Decides.{nat_tests}
 use Rattle.linx_base.specs.NameText.{is_name}
 use Rattle.linx_base.specs.Sides.{other_of}
 use Rattle.linx_base.specs.declared.frame.Verdict.{Verdict}
@@ -16,7 +17,7 @@ use Rattle.rlnh_end.specs.Calls.{publish_of, query_of}
 use Rattle.rlnh_end.specs.declared.heard.Heard.{Heard}
 use Rattle.trunk_record.specs.Records.{SideRecord}
 use Rattle.trunk_record.specs.Sayings.{asked_for, was_unpublished}
-use Rattle.carrier.specs.Events.{handed_by}
+use Rattle.carrier.specs.Events.{flight_from, handed_by}
 use Rattle.journal.specs.History.{name_of, open_endpoints}
 use Rattle.journal.specs.Shapes.{Shape}
 use Rattle.journal.specs.declared.effect.Effect.{Effect}
@@ -42,7 +43,7 @@ use Rattle.trunk.proofs.Quiet.{quiet}
 use Rattle.trunk.proofs.Trunks.{events_tell}
 use Rattle.trunk_moves.specs.Grants.{AreNames}
 use Rattle.trunk_moves.specs.Packets.{Comes, IsBeat, IsLostThere, IsSwapped, Meets, answered}
-use Rattle.trunk_moves.specs.Packets.{asks_for, holder_of, names_hunted, publishes_if}
+use Rattle.trunk_moves.specs.Packets.{asks_for, holder_of, names_hunted, place_of, publishes_if}
 use Rattle.trunk_moves.specs.Steps.{FindsNone, Passes, Rests, Ticks}
 use Rattle.trunk_moves.specs.Trunks.{Become, RunTrunks, UsesUpTo, links_of, state_of, with_trunk}
 use Rattle.trunk_moves.proofs.Calls.{left_itself, left_of, other_left}
@@ -99,6 +100,16 @@ asks_use : (at : Side) (names : List (List ℕ)) (t : TrunkState) (k : ℕ) → 
 asks_use at [] t k was = was
 asks_use at (v ∷ names) t k was =
     asks_use at names (asked_at at v t) k (asked_uses at v t k was)
+
+-- ---- a swap
+
+-- where a packet flies, the place is that of one
+place_in : (k count : ℕ) → 0 < count → place_of k count < count
+place_in k count flies = by_test (nat_lt k count) refl
+  where
+    by_test : (t : Bool) → nat_lt k count ≡ t → cond t k (count - 1) < count
+    by_test true is = grind (arith, nat_tests)
+    by_test false is = omega arith
 
 -- ---- a packet that comes
 
@@ -285,28 +296,31 @@ module _ (shape : Shape) (P : List Step) (before after : RunTrunks) (known : IsK
             )));
       }
 
-  swapped_passed : (from : Side) (es : List Effect) → IsSwapped from es (before l.0) trunk
+  swapped_passed : (from : Side) (k : ℕ) (es : List Effect)
+      → IsSwapped from k es (before l.0) trunk
       → IsPassed false from es
-  swapped_passed from es swaps =
+  swapped_passed from k es swaps =
+      let place : ℕ = place_of k (length (flight_from from (before l.0).link)) in
       let t : TrunkState = before l.0 in
-      let u : TrunkState = swapped_from from 0 swaps.place (before l.0) in
+      let u : TrunkState = swapped_from from 0 place (before l.0) in
       record {
         handed_over = (
           swaps.effects,
           both_left shape before after l of_shape trunk made (λ side.
               subst (λ (w : TrunkState). IsLeft (state_of side t) (state_of side w))
               (sym swaps.makes)
-              (left_of side t u (events_tell.packets.swapped from side 0 swaps.place t)
-              (omega (arith, events_tell.silence.swapped from side 0 swaps.place t)))),
+              (left_of side t u (events_tell.packets.swapped from side 0 place t)
+              (omega (arith, events_tell.silence.swapped from side 0 place t)))),
         );
         kept = subst KeepsTrunk (sym swaps.makes)
-            (events_keep.swapped from 0 swaps.place t swaps.flies swaps.in_flight
+            (events_keep.swapped from 0 place t swaps.flies
+            (place_in k (length (flight_from from (before l.0).link)) swaps.flies)
             (known.kept l of_shape));
         used = subst (UsesUpTo (suc (length P))) (sym swaps.makes)
             (up_to_more (length P) u (λ side. omega (
               arith,
               known.used l of_shape side,
-              uses_same side t u (events_tell.packets.swapped from side 0 swaps.place t),
+              uses_same side t u (events_tell.packets.swapped from side 0 place t),
             )));
       }
 
@@ -378,7 +392,7 @@ module _ (shape : Shape) (P : List Step) (before after : RunTrunks) (known : IsK
           passes.makes from es meets)
       by_verdict (Swap k) cuts meets =
           moved (Swap k) cuts (swapped_passed shape P before after known l passes.of_shape
-          passes.trunk passes.makes from es meets)
+          passes.trunk passes.makes from k es meets)
 
   pub ticking_moved : (l : LinkNo) (side : Side) (es : List Effect)
       → Ticks shape P before after l side es → IsMoved shape P before after n me (Tick l side) es

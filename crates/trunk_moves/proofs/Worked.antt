@@ -1,7 +1,7 @@
 -- A worked run with trunks, step by step: two endpoints open, a name is hunted over the link, the
 -- link goes up, the name is asked for, published, and met.
-use Rattle.std.proofs.Common.{◌≡◌, ◌≤◌, ◌<◌, ap, ℕ, zero, suc, false, List, []}
-use Rattle.std.proofs.Common.{◌∷◌, refl, sym, ◌∙◌, arith, subst}
+use Rattle.std.proofs.Common.{◌≡◌, ◌≤◌, ◌<◌, ℕ, zero, suc, false, List, [], ◌∷◌, refl}
+use Rattle.std.proofs.Common.{sym, ◌∙◌, ap, arith, subst}
 use Rattle.std.specs.Prelude.{◌==◌, codes}
 use Rattle.std.proofs.lemmas.Bool.{true≢false}
 use Rattle.linx_base.specs.Sides.{other_of}
@@ -350,7 +350,10 @@ finds =
       from = refl;
       to = refl;
       spelled = record {
-        is_message = record { has_address = omega arith; fits_fields = (omega arith, omega arith, refl) };
+        is_message = record {
+          has_address = omega arith;
+          fits_fields = (omega arith, omega arith, refl);
+        };
         spelled = refl;
       };
     }) refl

@@ -1,5 +1,6 @@
 -- What a packet, and a tick, makes of a trunk, with what its node does when it is told of it.
-use Rattle.std.specs.Prelude.{ℕ, ◌≡◌, ◌<◌, ◌==◌, Bool, true, false, if◌then◌else◌, List, [], ◌∷◌}
+use Rattle.std.specs.Prelude.{ℕ, ◌-◌, ◌≡◌, ◌<◌, ◌==◌, nat_lt, Bool, true, false, if◌then◌else◌}
+use Rattle.std.specs.Prelude.{List, [], ◌∷◌}
 use Rattle.std.specs.Prelude.{length, Option, Some, None}
 use Rattle.std.specs.List.{filter_map}
 use Rattle.std.specs.Str.{bytes_eq}
@@ -92,13 +93,18 @@ pub record IsLostThere (from : Side) (es : List Effect) (before after : TrunkSta
   pub effects : es ≡ []
   pub makes : after ≡ lost_from from 0 before
 
--- it is exchanged with another one in flight
-pub record IsSwapped (from : Side) (es : List Effect) (before after : TrunkState) : Type 0 where
-  pub place : ℕ
-  pub flies : 0 < length (flight_from from before.link)
-  pub in_flight : place < length (flight_from from before.link)
-  pub effects : es ≡ []
-  pub makes : after ≡ swapped_from from 0 place before
+-- the place that a swap names, or the last one where there are fewer packets
+abbrev pub place_of : ℕ → ℕ → ℕ
+place_of k count = if nat_lt k count then k else count - 1
+
+-- it is exchanged with the packet at the place that the swap names
+pub record IsSwapped (from : Side) (k : ℕ) (es : List Effect) (before after : TrunkState) : Type 0
+  where
+    pub flies : 0 < length (flight_from from before.link)
+    pub effects : es ≡ []
+    pub makes :
+        after
+        ≡ swapped_from from 0 (place_of k (length (flight_from from before.link))) before
 
 -- what a verdict does with it
 abbrev pub Meets : List Step → ℕ → LinkNo → Side → Verdict → List Effect → TrunkState → TrunkState
@@ -106,7 +112,7 @@ abbrev pub Meets : List Step → ℕ → LinkNo → Side → Verdict → List Ef
 Meets P n l from Deliver es before after = Comes P n l from false es before after
 Meets P n l from Repeat es before after = Comes P n l from true es before after
 Meets P n l from Lose es before after = IsLostThere from es before after
-Meets P n l from (Swap k) es before after = IsSwapped from es before after
+Meets P n l from (Swap k) es before after = IsSwapped from k es before after
 
 -- ---- a tick
 
