@@ -1,0 +1,4 @@
+mod Numbers
+pub mod Own
+pub mod Answering
+pub mod Calls

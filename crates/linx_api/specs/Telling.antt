@@ -1,0 +1,57 @@
+-- A fabric as a story: its steps with their makers' numbers, and what no step changes.
+use Rattle.std.specs.Prelude.{ℕ, ◌≡◌, ◌+◌, ◌≤◌, List, [], length, map}
+use Rattle.linx_base.specs.declared.name.Names.{Names}
+use Rattle.journal.specs.declared.by.By.{By}
+use Rattle.journal.specs.declared.by.By.TheVariants.{Actor, Pump}
+use Rattle.journal.specs.declared.effect.Step.{Step}
+use Rattle.journal.specs.Shapes.{Shape}
+use Rattle.fabric.specs.Remains.{Layout}
+use Rattle.turn_lock.specs.declared.story.Made.{Made}
+use Rattle.turn_lock.specs.Stories.{made}
+
+-- what no step changes: the names, the links and the actors' nodes
+pub record PlanParts : Type 0 where
+  pub names : Names
+  pub shape : Shape
+
+-- that of a fabric
+abbrev pub plan_of : Layout → PlanParts
+plan_of f = record { names = f.log.names; shape = f.shape }
+
+-- nothing is declared
+abbrev pub empty_plan : PlanParts
+empty_plan = record {
+  names = record { nodes = []; links = [] };
+  shape = record { links = []; actors = [] };
+}
+
+-- the makers of a fabric are at most this many
+abbrev pub maker_limit : ℕ
+maker_limit = 96
+
+-- there are so many actors, and with the links no more than a lock has passes
+pub record IsCounted (actors : ℕ) (shape : Shape) : Type 0 where
+  pub count : actors ≡ length shape.actors
+  pub few : length shape.actors + length shape.links ≤ maker_limit
+
+-- THE NUMBER OF A MAKER: an actor's own, and for the pump of a link the link's, behind those of all
+-- actors
+abbrev pub number_of : Shape → By → ℕ
+number_of shape (Actor k) = k
+number_of shape (Pump link) = length shape.actors + link.0
+
+-- a step with its maker's number
+abbrev pub numbered : Shape → Step → Made Step
+numbered shape s = made (number_of shape s.by) s
+
+-- the story that a history tells, the newest step first
+abbrev pub told_by : Shape → List Step → List (Made Step)
+told_by shape P = map (numbered shape) P
+
+-- that of a fabric
+abbrev pub story_of : Layout → List (Made Step)
+story_of f = told_by f.shape f.log.steps
+
+-- the steps of a story
+abbrev pub steps_in : List (Made Step) → List Step
+steps_in story = map (λ m. m.step) story

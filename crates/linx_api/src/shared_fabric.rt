@@ -1,0 +1,139 @@
+ghost use Rattle.std.specs.Prelude.{◌≡◌, ◌≤◌, [], true, length, IfOk};
+ghost use Rattle.journal.specs.Laws.{IsLegal};
+ghost use Rattle.journal.specs.Logs.{is_full};
+ghost use Rattle.fabric.specs.Actings.{MayAct, OnlySteps, asking};
+ghost use Rattle.fabric.specs.Machine.{IsReached};
+ghost use Rattle.fabric.specs.Remains.{IsLaidOut};
+ghost use Rattle.linx_api.specs.Asked.{IsAnswered};
+ghost use Rattle.linx_api.specs.Telling.{number_of};
+
+use crate::plan::Plan;
+use fabric::{Fabric, StepStop, StopCause};
+use journal::{By, Event, Step};
+use linx_base::{LinkDecl, Names, NoMemory, NodeNo, Signal};
+use node_kernel::StepAnswer;
+use std::alloc::Global;
+use std::marker::Model;
+use turn_lock::Story;
+
+/// A fabric that tells who made its steps. Contracts see the fabric.
+#[derive(Drop)]
+pub struct SharedFabric {
+    fabric: Fabric,
+    actors: u32,
+}
+
+impl Model for SharedFabric {
+    ghost use Rattle.fabric.specs.Remains.{Layout};
+    ghost use Rattle.linx_api.specs.Telling.{IsCounted};
+
+    ghost Value = { Layout };
+
+    ghost view = { λ s. s.fabric };
+
+    ghost invariant = { λ s. IsCounted s.actors s.fabric.shape };
+}
+
+impl Story for SharedFabric {
+    ghost use Rattle.linx_api.specs.Telling.{plan_of, story_of, empty_plan};
+
+    type Step = Step;
+
+    type Fixed = Plan;
+
+    ghost story = { story_of };
+
+    ghost fixed = { plan_of };
+
+    ghost any_fixed = { empty_plan };
+
+    fn steps(&self) -> u64 {
+        self.fabric.journal().len()
+    }
+
+    fn maker(&self, k: u64) -> u32 {
+        match self.fabric.journal().step(k) {
+            Some(step) => self.number_of(step.by),
+            None => unreachable!(),
+        }
+    }
+}
+
+impl SharedFabric {
+    /// A fabric without steps, as `Fabric::new` makes it.
+    pub fn new(
+        alloc: Global,
+        names: Names,
+        links: &[LinkDecl],
+        actors: &[NodeNo],
+    ) -> Result<SharedFabric, NoMemory>
+        requires laid_out { IsLaidOut (length names.nodes)
+            (record { links = links.now; actors = actors.now }) }
+        ensures ok { IfOk result (λ shared. shared ≡ record {
+          shape = record { links = links.now; actors = actors.now };
+          log = record { names = names; steps = [] };
+        }) }
+    {
+        let count = actors.len() as u32;
+        let fabric = Fabric::new(alloc, names, links, actors)?;
+        Ok(SharedFabric {
+            fabric,
+            actors: count,
+        })
+    }
+
+    /// The fabric, to look at.
+    pub fn fabric(&self) -> &Fabric
+        ensures { result.now ≡ self.now }
+    {
+        &self.fabric
+    }
+
+    /// The fabric, which no other maker shares any longer.
+    pub fn into_fabric(self) -> Fabric
+        ensures { result ≡ self }
+    {
+        self.fabric
+    }
+
+    /// The number of a maker: an actor's own, and for the pump of a link the link's, behind those
+    /// of all actors.
+    fn number_of(&self, by: By) -> u32
+        requires { number_of self.now.shape by ≤ 96 }
+        ensures { result ≡ number_of self.now.shape by }
+    {
+        match by {
+            By::Actor(actor) => actor,
+            By::Pump(link) => self.actors + link.0,
+        }
+    }
+
+    /// Makes the step of an actor's event, or none where it waits already, and answers, as
+    /// `Fabric::step` does.
+    pub fn step(
+        &mut self,
+        actor: u32,
+        event: Event,
+        hand: Option<Signal>,
+    ) -> Result<StepAnswer, StepStop>
+        requires asked { MayAct self.old actor (asking event hand) }
+        ensures answered { IsAnswered self.old.shape self.old.log.steps actor (asking event hand)
+            result self.new.log.steps }
+        ensures legal { IsLegal self.old.shape self.old.log.steps }
+        ensures reached { IsReached self.old.shape self.old.log.steps }
+        ensures fixed { OnlySteps self.old self.new }
+    {
+        let _ = self.fabric.journal();
+        let answer = self.fabric.step(By::Actor(actor), event, hand);
+        let _ = self.fabric.journal();
+        answer
+    }
+
+    /// Notes why the run stops. The first cause stays.
+    pub fn stop(&mut self, cause: StopCause)
+        requires { cause ≡ StopCause.JournalFull → is_full self.old.log.steps ≡ true }
+        ensures { self.new ≡ self.old }
+    {
+        self.fabric.stop(cause);
+    }
+}
