@@ -34,7 +34,9 @@ module _ (shape : Shape) (P new : List Step) (k : ℕ) (ask : Ask) where
   one-added : (answer : StepAnswer) → IsStepped shape P k ask answer new
       → IsAddedBy k (told_by shape new) (told_by shape P)
   one-added answer stepped =
-      let number = ap (λ by. number_of shape by) (step-by shape P k ask stepped.step stepped.made) in (
+      let number =
+      ap (λ by. number_of shape by) (step-by shape P k ask stepped.step stepped.made)
+      in (
         numbered shape stepped.step ∷ [],
         ap (told_by shape) stepped.added,
         All-cons of-number (numbered shape stepped.step) [] number (All-nil of-number),

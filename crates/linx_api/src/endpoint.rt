@@ -90,7 +90,8 @@ impl<'a> Endpoint<'a> {
     /// Sends a signal to a peer: linx_send.
     pub fn send<R: Wait>(self, rt: &R, signal: Signal, to: Peer) -> Told<'a>
         requires { IsRunning self }
-        ensures asked { IsAsked self.entry (asking (Event.Send to) (Some signal)) result.1 result.0 }
+        ensures asked { IsAsked self.entry (asking (Event.Send to) (Some signal)) result.1
+            result.0 }
         ensures running { IsRunning result.0 }
     {
         self.ask(rt, Event::Send(to), Some(signal))
@@ -109,7 +110,8 @@ impl<'a> Endpoint<'a> {
     /// Asks for an endpoint by its name, and hands over the signal that answers: linx_hunt.
     pub fn hunt<R: Wait>(self, rt: &R, path: Path, signal: Signal) -> Told<'a>
         requires { IsRunning self }
-        ensures asked { IsAsked self.entry (asking (Event.Hunt path) (Some signal)) result.1 result.0 }
+        ensures asked { IsAsked self.entry (asking (Event.Hunt path) (Some signal)) result.1
+            result.0 }
         ensures running { IsRunning result.0 }
     {
         self.ask(rt, Event::Hunt(path), Some(signal))
@@ -120,7 +122,8 @@ impl<'a> Endpoint<'a> {
     pub fn attach<R: Wait>(self, rt: &R, peer: Peer, signal: Signal) -> Told<'a>
         requires running { IsRunning self }
         requires room { length signal.bytes < data_limit }
-        ensures asked { IsAsked self.entry (asking (Event.Attach peer) (Some signal)) result.1 result.0 }
+        ensures asked { IsAsked self.entry (asking (Event.Attach peer) (Some signal)) result.1
+            result.0 }
         ensures running { IsRunning result.0 }
     {
         self.ask(rt, Event::Attach(peer), Some(signal))
