@@ -1,9 +1,10 @@
 ghost use Rattle.std.specs.Prelude.{◌≡◌, ◌<◌, is_some, IsSome, IfOk, OnOk, OnErr};
 ghost use Rattle.std.specs.Option.{option_copied};
 ghost use Rattle.linx_base.specs.Both.{still};
-ghost use Rattle.link_addresses.specs.Meanings.{used_in};
+ghost use Rattle.link_addresses.specs.Meanings.{address_of, meaning_of, used_in};
 ghost use Rattle.rlnh_end.specs.declared.heard.Heard.{Heard as AnyHeard};
-ghost use Rattle.rlnh_end.specs.States.{new_end, emptied, next_of, after_out, addr_met};
+ghost use Rattle.rlnh_end.specs.States.{new_end, emptied, next_of, after_out, addr_met, inc_met};
+ghost use Rattle.rlnh_end.specs.States.{is_noted};
 ghost use Rattle.rlnh_end.specs.Calls.{after, begin_of, query_of, publish_of, opened_of, close_of};
 ghost use Rattle.rlnh_end.specs.Calls.{send_of};
 ghost use Rattle.rlnh_end.specs.Hearing.{IsRead};
@@ -16,6 +17,7 @@ use crate::decoding::heard_in;
 use crate::hearing::hear;
 use crate::parts::Parts;
 use crate::up::Up;
+use link_addresses::Meaning;
 use linx_base::{Inc, Message, Name, NoMemory, Signal};
 use std::alloc::Global;
 use std::marker::Model;
@@ -214,6 +216,34 @@ impl RlnhEnd {
         ensures { result ≡ is_some (addr_met self.now.is.tables.met inc) }
     {
         self.parts.addr_met(inc).is_some()
+    }
+
+    /// Whether an incarnation of the own node is live at an address.
+    pub fn is_published(&self, inc: Inc) -> bool
+        ensures { result ≡ is_some (address_of self.now.is.tables.own inc) }
+    {
+        self.parts.own.addr_of(inc).is_some()
+    }
+
+    /// Whether the other side asked for a name that nobody has yet.
+    pub fn is_noted(&self, name: &Name) -> bool
+        ensures { result ≡ is_noted self.now.is.tables.noted name.now }
+    {
+        self.parts.is_noted(name)
+    }
+
+    /// Who was met at an address of the other side.
+    pub fn met_at(&self, addr: u32) -> Option<Inc>
+        ensures { result ≡ inc_met self.now.is.tables.met addr }
+    {
+        self.parts.inc_met(addr)
+    }
+
+    /// What an address of the own side means.
+    pub fn meaning(&self, addr: u32) -> Meaning
+        ensures { result ≡ meaning_of self.now.is.tables.own addr }
+    {
+        self.parts.own.meaning(addr)
     }
 
     /// What is now stays, and the next event begins. It takes no memory.
