@@ -20,3 +20,7 @@ pub mod Silence
 pub mod Quiet
 pub mod Trunks
 pub mod Worked
+pub mod Noting
+pub mod Wording
+pub mod Handing
+pub mod Going

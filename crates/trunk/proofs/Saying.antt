@@ -158,7 +158,7 @@ told_words made from to signal a b one two =
     ∙ ap (λ o. told (Some a) from o to signal) two)
 
 -- what is said before it, and the notes
-send_words : (e : Talk) (from to : Inc) (name : List ℕ) (signal : SigNote) (b : ℕ)
+pub send_words : (e : Talk) (from to : Inc) (name : List ℕ) (signal : SigNote) (b : ℕ)
     → addr_met e.end.met to ≡ Some b → (o : Option ℕ) → address_of e.end.own from ≡ o
     → saids (signal_of (known_of e.end from name o) from to signal).says
     ≡ signaled from to signal ∷ (if is_some o then [] else published from name ∷ [])

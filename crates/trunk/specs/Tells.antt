@@ -112,6 +112,10 @@ abbrev pub notes_sending : Inc → List ℕ → SideRecord → List (List ℕ) �
 notes_sending inc name A noted =
     if is_live inc A.now.said then noted else without_note noted name
 
+-- the notes once one that opened was published where its name was noted
+abbrev pub notes_opening : List ℕ → List (List ℕ) → List (List ℕ)
+notes_opening name noted = if is_noted noted name then without_note noted name else noted
+
 -- the names that a side has noted
 abbrev pub noted_of : Side → TrunkState → List (List ℕ)
 noted_of side t = (tables_of side t).noted
@@ -196,8 +200,7 @@ pub record CallsTell : Type 0 where
       → (kept_of side t).now.peer ≢ None
       → Says side t (opened_at side inc name t)
       (opening inc name (noted_of side t) (kept_of side t))
-      (if is_noted (noted_of side t) name then without_note (noted_of side t) name
-      else noted_of side t)
+      (notes_opening name (noted_of side t))
   pub closed :
       (side : Side) (inc : Inc) (t : TrunkState) → KeepsTrunk t
       → (kept_of side t).now.peer ≢ None

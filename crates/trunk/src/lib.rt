@@ -4,7 +4,11 @@
 //! happened, and what is promised of the record.
 #![tactic(auto)]
 
+mod half;
+mod history;
 mod laws;
+mod note;
+mod parts;
 mod up;
 
 pub use laws::{

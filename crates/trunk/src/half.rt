@@ -1,0 +1,280 @@
+ghost use Rattle.std.specs.Prelude.{◌≡◌, ◌<◌, IfOk, OnOk, IsSome, Some};
+ghost use Rattle.std.specs.Option.{option_copied};
+ghost use Rattle.linx_base.specs.Both.{still};
+ghost use Rattle.link_addresses.specs.declared.meaning.Meaning.TheVariants.{Closing as ClosingOf};
+ghost use Rattle.link_addresses.specs.Meanings.{meaning_of, used_in};
+ghost use Rattle.rlnh_end.specs.declared.heard.Heard.{Heard as AnyHeard};
+ghost use Rattle.rlnh_end.specs.declared.up.Up.TheVariants.{Nothing as NothingUp};
+ghost use Rattle.rlnh_end.specs.Calls.{close_of, opened_of, publish_of, query_of, send_of};
+ghost use Rattle.rlnh_end.specs.Hearing.{IsRead, hears};
+ghost use Rattle.rlnh_end.specs.States.{RlnhTables, addr_met, after_out, inc_met, next_of};
+ghost use Rattle.trunk.specs.Events.{giving_all, given_of, new_trunk_side, told_up};
+ghost use Rattle.trunk.specs.Parts.{side_begins, side_ends, side_hears, side_says};
+
+use crate::history::History;
+use crate::note::Note;
+use crate::up::TrunkUp;
+use link_addresses::Meaning;
+use linx_base::{Inc, Message, Name, NoMemory, Session, Signal, TryCopy};
+use rlnh_end::{RlnhEnd, Up};
+use rlnh_messages::{RlnhError, read_signal};
+use std::alloc::Global;
+use std::marker::Model;
+
+/// One side of a trunk above its link, with a way back: its RLNH end, and the record of what it
+/// said and was given. Contracts see the side as it was when the event began, and as it is now.
+#[derive(Drop)]
+pub struct Half {
+    end: RlnhEnd,
+    kept: History,
+}
+
+impl Model for Half {
+    ghost use Rattle.linx_base.specs.Both.{Both};
+    ghost use Rattle.trunk.specs.Events.{TrunkSide};
+
+    ghost Value = { Both TrunkSide };
+
+    ghost view = { λ h. record {
+      was = record { end = h.end.was; kept = h.kept.was };
+      is = record { end = h.end.is; kept = h.kept.is };
+    } };
+}
+
+/// A message that shows nothing, from an address that was met to one that is closing, is a signal,
+/// which is noted as freed.
+fn note_closed(kept: &mut History, from: Inc, to: Inc, m: &Message) -> Result<(), NoMemory>
+    ensures is { OnOk result ((t : RlnhTables) (heard : AnyHeard) → IsRead m.now heard
+        → Some from ≡ inc_met t.met m.now.from → ClosingOf to ≡ meaning_of t.own m.now.to
+        → (hears t heard).up ≡ NothingUp
+        → kept.new.is ≡ giving_all (given_of t heard) kept.old.is) }
+    ensures was { kept.new.was ≡ kept.old.was }
+{
+    match read_signal(&m.body) {
+        Ok(signal) => {
+            let signal = signal.note()?;
+            kept.note(Note::Freed { from, to, signal })?;
+            Ok(())
+        }
+        Err(RlnhError::Bad) => Ok(()),
+        Err(RlnhError::NoMemory) => Err(NoMemory),
+    }
+}
+
+/// A message that shows nothing may be a signal between addresses that meant this: then its
+/// receiver is closed, and it is noted as freed.
+fn note_freed(
+    kept: &mut History,
+    sender: Option<Inc>,
+    receiver: Meaning,
+    m: &Message,
+) -> Result<(), NoMemory>
+    ensures is { OnOk result ((t : RlnhTables) (heard : AnyHeard) → IsRead m.now heard
+        → sender ≡ inc_met t.met m.now.from → receiver ≡ meaning_of t.own m.now.to
+        → (hears t heard).up ≡ NothingUp
+        → kept.new.is ≡ giving_all (given_of t heard) kept.old.is) }
+    ensures was { kept.new.was ≡ kept.old.was }
+{
+    match sender {
+        None => Ok(()),
+        Some(from) => match receiver {
+            Meaning::Free => Ok(()),
+            Meaning::Live(_) => Ok(()),
+            Meaning::Closing(to) => {
+                note_closed(kept, from, to, m)?;
+                Ok(())
+            }
+        },
+    }
+}
+
+impl Half {
+    /// A side before anything happened. It takes no memory.
+    pub fn new(alloc: Global) -> Half
+        ensures { result ≡ still new_trunk_side }
+    {
+        Half {
+            end: RlnhEnd::new(alloc),
+            kept: History::new(alloc),
+        }
+    }
+
+    /// It goes up with this session of the other side: its RLNH end begins.
+    pub fn begin(&mut self, peer: Session) -> Result<(), NoMemory>
+        ensures is { OnOk result (self.new.is ≡ side_begins self.old.is peer) }
+        ensures was { self.new.was ≡ self.old.was }
+    {
+        self.end.begin()?;
+        self.kept.note(Note::WentUp(peer))?;
+        Ok(())
+    }
+
+    /// Its session is over, and the next one begins: its RLNH end knows nothing.
+    pub fn begin_session(&mut self, next: Session) -> Result<(), NoMemory>
+        ensures is { OnOk result (self.new.is ≡ side_ends self.old.is next) }
+        ensures was { self.new.was ≡ self.old.was }
+    {
+        self.end.empty();
+        self.kept.note(Note::Began(next))?;
+        Ok(())
+    }
+
+    /// An endpoint of its node is published.
+    pub fn publish(&mut self, inc: Inc, name: &Name) -> Result<(), NoMemory>
+        requires room { used_in self.old.is.end.tables.own < 4294967295 }
+        ensures is { let made = publish_of self.old.is.end.tables inc name.now in
+            OnOk result (self.new.is ≡ side_says self.old.is made) }
+        ensures was { self.new.was ≡ self.old.was }
+    {
+        let known = self.end.is_published(inc);
+        self.end.publish(inc, name)?;
+        if known {
+            return Ok(());
+        }
+        let name = name.copy()?;
+        self.kept.note(Note::Published { inc, name })?;
+        Ok(())
+    }
+
+    /// An endpoint of its node opened.
+    pub fn opened(&mut self, inc: Inc, name: &Name) -> Result<(), NoMemory>
+        requires room { used_in self.old.is.end.tables.own < 4294967295 }
+        ensures is { let made = opened_of self.old.is.end.tables inc name.now in
+            OnOk result (self.new.is ≡ side_says self.old.is made) }
+        ensures was { self.new.was ≡ self.old.was }
+    {
+        if !self.end.is_noted(name) {
+            return Ok(());
+        }
+        self.publish(inc, name)?;
+        Ok(())
+    }
+
+    /// An endpoint of its node closes.
+    pub fn close(&mut self, inc: Inc) -> Result<(), NoMemory>
+        ensures is { let made = close_of self.old.is.end.tables inc in
+            OnOk result (self.new.is ≡ side_says self.old.is made) }
+        ensures was { self.new.was ≡ self.old.was }
+    {
+        let known = self.end.is_published(inc);
+        self.end.close(inc)?;
+        if !known {
+            return Ok(());
+        }
+        self.kept.note(Note::Unpublished(inc))?;
+        Ok(())
+    }
+
+    /// The other side is asked for a name.
+    pub fn query(&mut self, name: &Name) -> Result<(), NoMemory>
+        ensures is { let made = query_of self.old.is.end.tables name.now in
+            OnOk result (self.new.is ≡ side_says self.old.is made) }
+        ensures was { self.new.was ≡ self.old.was }
+    {
+        self.end.query(name)?;
+        self.kept.note(Note::Asked(name.copy()?))?;
+        Ok(())
+    }
+
+    /// A signal is sent from an endpoint of its node, of this name, to a peer that was met.
+    pub fn send(&mut self, from: Inc, name: &Name, to: Inc, signal: &Signal) -> Result<(), NoMemory>
+        requires met { IsSome (addr_met self.old.is.end.tables.met to) }
+        requires room { used_in self.old.is.end.tables.own < 4294967295 }
+        ensures is { let made = send_of self.old.is.end.tables from name.now to signal.now in
+            OnOk result (self.new.is ≡ side_says self.old.is made) }
+        ensures was { self.new.was ≡ self.old.was }
+    {
+        let known = self.end.is_published(from);
+        self.end.send(from, name, to, signal)?;
+        let signal = signal.note()?;
+        if known {
+            self.kept.note(Note::Signaled { from, to, signal })?;
+            return Ok(());
+        }
+        let name = name.copy()?;
+        self.kept.note(Note::Published { inc: from, name })?;
+        self.kept.note(Note::Signaled { from, to, signal })?;
+        Ok(())
+    }
+
+    /// A message comes from the other side.
+    pub fn hear(&mut self, m: &Message) -> Result<TrunkUp, NoMemory>
+        ensures is_read { OnOk result ((heard : AnyHeard) × IsRead m.now heard) }
+        ensures is { OnOk result ((heard : AnyHeard) → IsRead m.now heard
+            → self.new.is ≡ side_hears self.old.is heard) }
+        ensures up { IfOk result (λ up. (heard : AnyHeard) → IsRead m.now heard
+            → up ≡ told_up (hears self.old.is.end.tables heard).up) }
+        ensures was { self.new.was ≡ self.old.was }
+    {
+        let sender = self.end.met_at(m.from);
+        let receiver = self.end.meaning(m.to);
+        match self.end.input(m)? {
+            Up::Nothing => {
+                note_freed(&mut self.kept, sender, receiver, m)?;
+                Ok(TrunkUp::Nothing)
+            }
+            Up::Arrived { from, to, signal } => {
+                self.kept.note(Note::Arrived {
+                    from,
+                    to,
+                    signal: signal.note()?,
+                })?;
+                Ok(TrunkUp::Arrived { from, to, signal })
+            }
+            Up::Met { inc, name } => {
+                self.kept.note(Note::Met {
+                    inc,
+                    name: name.copy()?,
+                })?;
+                Ok(TrunkUp::Met { inc, name })
+            }
+            Up::Gone { inc } => {
+                self.kept.note(Note::Gone(inc))?;
+                Ok(TrunkUp::Gone { inc })
+            }
+            Up::Asked { name } => {
+                self.kept.note(Note::AskedFor(name.copy()?))?;
+                Ok(TrunkUp::Asked { name })
+            }
+            Up::Bad => Ok(TrunkUp::Nothing),
+        }
+    }
+
+    /// The next message that goes to the other side, `None` exactly where there is none.
+    pub fn next_out(&self) -> Option<&Message>
+        ensures { option_copied result ≡ next_of self.now.is.end }
+    {
+        self.end.next_out()
+    }
+
+    /// Takes out the next message. It takes no memory.
+    pub fn pass(&mut self)
+        ensures is { self.new.is ≡ record self.old.is { end = after_out self.old.is.end } }
+        ensures was { self.new.was ≡ self.old.was }
+    {
+        self.end.pass();
+    }
+
+    /// The number of its addresses that are live or closing.
+    pub fn used(&self) -> u32
+        ensures { result ≡ used_in self.now.is.end.tables.own }
+    {
+        self.end.used()
+    }
+
+    /// What is now stays. It takes no memory.
+    pub fn keep(&mut self)
+        ensures { self.new ≡ still self.old.is }
+    {
+        self.end.keep();
+        self.kept.keep();
+    }
+
+    /// What was is again. It takes no memory.
+    pub fn undo(&mut self)
+        ensures { self.new ≡ still self.old.was }
+    {
+        self.end.undo();
+        self.kept.undo();
+    }
+}
