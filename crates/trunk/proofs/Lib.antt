@@ -24,3 +24,7 @@ pub mod Noting
 pub mod Wording
 pub mod Handing
 pub mod Going
+pub mod Numbering
+pub mod Sending
+pub mod Resting
+pub mod Coming

@@ -9,10 +9,13 @@ mod history;
 mod laws;
 mod note;
 mod parts;
+mod steps;
+mod trunk;
 mod up;
 
 pub use laws::{
     events_keep, events_tell, messages_are_understood, quiet_ends_agree, quiet_is_complete,
     sides_agree, sides_offer, trunks_keep_promises, trunks_keep_records,
 };
+pub use trunk::Trunk;
 pub use up::TrunkUp;

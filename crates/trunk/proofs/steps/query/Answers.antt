@@ -1,0 +1,13 @@
+use Rattle.rlnh_end.specs.Calls.{query_of}
+use Rattle.trunk.specs.Events.{tables_of}
+use Rattle.trunk.proofs.Sending.{call_messages}
+use Rattle.trunk.proofs.Trunks.{offers}
+use Rattle.trunk.proofs.steps.query.Goals as goal
+
+pub send_out-requires-clause-messages : goal.send_out-requires-clause-messages
+send_out-requires-clause-messages c =
+    let t = c.args.parts.now.is in
+    call_messages c.args.side t c.requires.keeps
+    (query_of (tables_of c.args.side t) c.args.name.now) 1
+    ((offers c.args.side t c.requires.keeps).asked c.args.name.now c.bytes.ensures.name)
+    c.query.new.self.is c.in_ok-query.ensures.is
