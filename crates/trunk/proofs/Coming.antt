@@ -1,8 +1,7 @@
 -- A packet came to a side of a trunk: what the side says to it may go over the link.
-use Rattle.std.proofs.Common.{◌≡◌, ◌≤◌, ℕ, Bool, List, [], Option, Some, None, arith, refl, sym, ◌∙◌, ap}
+use Rattle.std.proofs.Common.{◌≡◌, ◌≤◌, ℕ, Bool, [], Option, Some, arith, refl, sym, ◌∙◌, ap}
 use Rattle.std.proofs.Common.{subst}
 use Rattle.std.specs.Prelude.{IsSome}
-use Rattle.linx_base.specs.Numbers.{next_session}
 use Rattle.linx_base.specs.Sides.{other_of}
 use Rattle.linx_base.specs.declared.frame.Message.{Message}
 use Rattle.linx_base.specs.declared.identity.Session.{Session}
@@ -13,8 +12,7 @@ use Rattle.ethcm_end.specs.States.{peer_of}
 use Rattle.carrier.specs.Events.{LinkState, half_of, handed_by}
 use Rattle.carrier.specs.Events as links
 use Rattle.carrier.specs.Laws.{TellsRightly}
-use Rattle.carrier.specs.declared.handed.Handed.{Handed}
-use Rattle.carrier.specs.declared.handed.Handed.TheVariants.{Got, WentDown, WentUp}
+use Rattle.carrier.specs.declared.handed.Handed.TheVariants.{Got, WentUp}
 use Rattle.rlnh_end.specs.declared.heard.Heard.{Heard}
 use Rattle.rlnh_end.specs.Calls.{begin_of}
 use Rattle.rlnh_end.specs.Hearing.{IsRead, hears}

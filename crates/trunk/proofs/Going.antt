@@ -1,5 +1,5 @@
 -- What a side has to say goes over its link, one message after the other.
-use Rattle.std.proofs.Common.{◌≡◌, ◌≤◌, ◌<◌, ◌*◌, ◌+◌, ℕ, List, [], ◌∷◌, Option, Some, None, length, drop}
+use Rattle.std.proofs.Common.{◌≡◌, ◌≤◌, ◌<◌, ◌*◌, ◌+◌, ℕ, List, [], ◌∷◌, Some, None, length, drop}
 use Rattle.std.proofs.Common.{arith, refl, sym, ◌∙◌, ap, subst}
 use Rattle.std.specs.Prelude.{slice_get}
 use Rattle.std.specs.List.{AllByRecursion}
@@ -8,7 +8,7 @@ use Rattle.linx_base.specs.declared.frame.Message.{Message}
 use Rattle.linx_base.specs.declared.identity.Side.{Side}
 use Rattle.linx_base.specs.declared.identity.Side.TheVariants.{First, Second}
 use Rattle.carrier.specs.Events.{LinkState, offered_to}
-use Rattle.rlnh_end.specs.States.{RlnhState, after_out}
+use Rattle.rlnh_end.specs.States.{after_out}
 use Rattle.trunk.specs.Events.{TrunkSide, taken_out}
 use Rattle.trunk.specs.Parts.{offers_to}
 

@@ -1,5 +1,5 @@
 -- What a message that came to an RLNH end gives its side, by what the end hands up.
-use Rattle.std.proofs.Common.{◌≡◌, ◌≢◌, ℕ, List, [], ◌∷◌, Option, Some, None, refl, sym, ap, ◌∙◌}
+use Rattle.std.proofs.Common.{◌≡◌, ◌≢◌, ℕ, [], ◌∷◌, Option, Some, None, refl, sym, ap, ◌∙◌}
 use Rattle.std.proofs.Common.{subst, arith}
 use Rattle.linx_base.specs.declared.frame.Message.{Message}
 use Rattle.linx_base.specs.declared.identity.Inc.{Inc}
@@ -10,17 +10,16 @@ use Rattle.link_addresses.specs.Meanings.{meaning_of}
 use Rattle.rlnh_messages.specs.Signals.{IsSignalBody, SpellsSignal}
 use Rattle.rlnh_messages.proofs.Bodies.{is_body}
 use Rattle.trunk_record.specs.Records.{SideRecord}
-use Rattle.trunk_record.specs.Sayings.{Given, freed}
+use Rattle.trunk_record.specs.Sayings.{freed}
 use Rattle.rlnh_end.specs.declared.heard.Heard.{Heard}
 use Rattle.rlnh_end.specs.declared.heard.Heard.TheVariants.{Control, Garbage, Signal}
 use Rattle.rlnh_end.specs.declared.up.Up.{Up}
-use Rattle.rlnh_end.specs.declared.up.Up.TheVariants.{Nothing, Bad}
+use Rattle.rlnh_end.specs.declared.up.Up.TheVariants.{Nothing}
 use Rattle.rlnh_end.specs.States.{RlnhState, RlnhTables, inc_met}
-use Rattle.rlnh_end.specs.Hearing.{IsRead, heard_signal, hears, hears_control}
+use Rattle.rlnh_end.specs.Hearing.{IsRead, heard_signal, hears}
 use Rattle.rlnh_end.specs.Reactions.{Reaction, gives, input_of}
 use Rattle.trunk.specs.Events.{TrunkSide, given_of, given_signal, given_up, giving_all, told_up}
 use Rattle.trunk.specs.Parts.{side_hears}
-use Rattle.trunk.specs.declared.up.TrunkUp.{TrunkUp}
 
 -- ---- something is handed up
 

@@ -1,5 +1,5 @@
 -- The parts of a call: what an RLNH end says stays in it at first, and is offered to the link then.
-use Rattle.std.specs.Prelude.{◌≡◌, ℕ, List}
+use Rattle.std.specs.Prelude.{List}
 use Rattle.linx_base.specs.Both.{Both}
 use Rattle.linx_base.specs.declared.frame.Message.{Message}
 use Rattle.linx_base.specs.declared.identity.Session.{Session}
@@ -10,12 +10,12 @@ use Rattle.carrier.specs.Spelling.{HasOnlyGrownFrom}
 use Rattle.trunk_record.specs.Changes.{beginning, going_up}
 use Rattle.trunk_record.specs.Changes as changes
 use Rattle.rlnh_end.specs.declared.heard.Heard.{Heard}
-use Rattle.rlnh_end.specs.States.{RlnhTables, emptied}
+use Rattle.rlnh_end.specs.States.{emptied}
 use Rattle.rlnh_end.specs.Calls.{Saying, after, begin_of}
 use Rattle.rlnh_end.specs.Reactions.{input_of}
 use Rattle.rlnh_laws.specs.Meanings.{saids}
 use Rattle.trunk.specs.Events.{TrunkSide, TrunkState, giving_all, given_of, near_offers, seen_from}
-use Rattle.trunk.specs.Events.{tables_of, taken_out}
+use Rattle.trunk.specs.Events.{taken_out}
 
 -- ---- a side above its link
 

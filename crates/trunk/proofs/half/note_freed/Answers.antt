@@ -1,4 +1,4 @@
-use Rattle.std.proofs.Common.{◌∙◌, arith, sym}
+use Rattle.std.proofs.Common.{arith}
 use Rattle.trunk.proofs.Handing.{no_sender_given, not_closing_given}
 use Rattle.trunk.proofs.half.note_freed.Goals as goal
 
