@@ -1,0 +1,246 @@
+//! A long run of free events: packets come from any place, once or again, or are lost or exchanged,
+//! and either side is ticked, boots again or has a message offered to it. What the calls answer is
+//! listed, and the lists are looked at after each event.
+
+use super::events::{deliver, lose, offer, restart, swap, tick};
+use super::listed::{ListedLink, must};
+use crate::{Carrier, Handed, TickedSide};
+use linx_base::Side;
+use std::alloc::Global;
+use std::test::Fail;
+
+/// Where more packets than these fly from a side, one of them comes or is lost.
+const CROWD: usize = 40;
+
+/// Of so many numbers each chooses an event, 71 of them one that isn't the coming of a packet: a
+/// busy link fills up with packets, and a calm one often has none.
+const BUSY: usize = 150;
+
+const CALM: usize = 600;
+
+/// Numbers that look random. Each state is the one before it, exclusive-or'd with itself shifted
+/// left by 13 bits, then so with itself shifted right by 7, then left by 17. A number is what the
+/// state's upper 32 bits leave when they are divided by the bound.
+#[derive(Drop)]
+struct Random {
+    state: u64,
+}
+
+impl Random {
+    /// The next number below the bound; 0 where that is 0.
+    fn below(&mut self, bound: usize) -> usize {
+        self.state ^= self.state << 13;
+        self.state ^= self.state >> 7;
+        self.state ^= self.state << 17;
+        ((self.state >> 32) as usize)
+            .checked_rem(bound)
+            .unwrap_or(0)
+    }
+
+    fn side(&mut self) -> Side {
+        if self.below(2) == 0 {
+            Side::First
+        } else {
+            Side::Second
+        }
+    }
+}
+
+/// A link, what is listed of it, and the numbers that choose its events.
+#[derive(Drop)]
+struct Run {
+    alloc: Global,
+    carrier: Carrier,
+    listed: ListedLink,
+    random: Random,
+}
+
+impl Run {
+    /// A link with this window and pieces of 64 bytes.
+    fn new(alloc: Global, window: u32, seed: u64) -> Result<Run, Fail> {
+        if window == 0 {
+            return Err(Fail::from("no window"));
+        }
+        let carrier = Carrier::new(alloc, window, 64);
+        let (first, second) = (carrier.mine(Side::First), carrier.mine(Side::Second));
+        Ok(Run {
+            alloc,
+            carrier,
+            listed: ListedLink::new(alloc, first, second),
+            random: Random { state: seed },
+        })
+    }
+
+    /// The packet at a place from a side comes to the other one.
+    fn deliver(&mut self, from: Side, place: usize, keep: bool) -> Result<(), Fail> {
+        let handed = deliver(&mut self.carrier, from, place, keep)?;
+        let now = self.carrier.mine(from.other());
+        self.listed.told(self.alloc, from.other(), &handed, now)
+    }
+
+    /// Any packet from a side comes. One in four stays in flight.
+    fn deliver_any(&mut self, from: Side) -> Result<(), Fail> {
+        let place = self.random.below(self.carrier.in_flight(from));
+        let keep = self.random.below(4) == 0;
+        self.deliver(from, place, keep)
+    }
+
+    fn lose_any(&mut self, from: Side) -> Result<(), Fail> {
+        let place = self.random.below(self.carrier.in_flight(from));
+        lose(&mut self.carrier, from, place)
+    }
+
+    fn swap_any(&mut self, from: Side) -> Result<(), Fail> {
+        let flying = self.carrier.in_flight(from);
+        let (place, other) = (self.random.below(flying), self.random.below(flying));
+        swap(&mut self.carrier, from, place, other)
+    }
+
+    fn tick(&mut self, side: Side) -> Result<(), Fail> {
+        let handed = match tick(&mut self.carrier, side)? {
+            TickedSide::Stays => Handed::Nothing,
+            TickedSide::WentDown { session } => Handed::WentDown { session },
+        };
+        let now = self.carrier.mine(side);
+        self.listed.told(self.alloc, side, &handed, now)
+    }
+
+    /// The next message is offered to a side that is up; one that is connecting is ticked.
+    fn offer(&mut self, side: Side) -> Result<(), Fail> {
+        let message = self.listed.next(self.alloc)?;
+        if offer(&mut self.carrier, side, &message)? {
+            return self.listed.offered(side, message.from);
+        }
+        self.tick(side)
+    }
+
+    fn restart(&mut self, side: Side) -> Result<(), Fail> {
+        let session = self.carrier.mine(side);
+        restart(&mut self.carrier, side, session.boot().saturating_add(1))?;
+        let now = self.carrier.mine(side);
+        self.listed.restarted(self.alloc, side, session, now)
+    }
+
+    /// A packet from a side comes or is lost.
+    fn thin_out(&mut self, from: Side) -> Result<(), Fail> {
+        if self.random.below(2) == 0 {
+            self.lose_any(from)
+        } else {
+            self.deliver_any(from)
+        }
+    }
+
+    /// A packet from this side comes, or else one from the other side. Where none flies, a message
+    /// is offered.
+    fn bring(&mut self, side: Side) -> Result<(), Fail> {
+        if self.carrier.in_flight(side) > 0 {
+            return self.deliver_any(side);
+        }
+        if self.carrier.in_flight(side.other()) > 0 {
+            return self.deliver_any(side.other());
+        }
+        self.offer(side)
+    }
+
+    /// Some event at some side, chosen by one of so many numbers.
+    fn any_event(&mut self, numbers: usize) -> Result<(), Fail> {
+        let side = self.random.side();
+        let flying = self.carrier.in_flight(side);
+        if flying > CROWD {
+            return self.thin_out(side);
+        }
+        match self.random.below(numbers) {
+            0 => self.restart(side),
+            1..=20 => self.tick(side),
+            21..=50 => self.offer(side),
+            51..=60 if flying > 0 => self.lose_any(side),
+            61..=70 if flying > 0 => self.swap_any(side),
+            _ => self.bring(side),
+        }
+    }
+
+    /// Whether the link is quiet. It must be complete then.
+    fn is_quiet(&self) -> Result<bool, Fail> {
+        let quiet = self.carrier.quiet();
+        must(
+            self.listed.is_at(&self.carrier),
+            "a session that nothing told of",
+        )?;
+        must(
+            !quiet || self.listed.is_complete(),
+            "quiet and not complete",
+        )?;
+        Ok(quiet)
+    }
+
+    /// So many events. The answer is after how many of them the link was quiet.
+    fn goes_on(&mut self, events: u32, numbers: usize) -> Result<u32, Fail> {
+        let mut quiet: u32 = 0;
+        for _ in 0..events {
+            self.any_event(numbers)?;
+            if self.is_quiet()? {
+                quiet = quiet.saturating_add(1);
+            }
+        }
+        Ok(quiet)
+    }
+
+    /// The oldest packet from a side comes. The answer is whether there was one.
+    fn deliver_oldest(&mut self, from: Side) -> Result<bool, Fail> {
+        if self.carrier.in_flight(from) == 0 {
+            return Ok(false);
+        }
+        self.deliver(from, 0, false)?;
+        Ok(true)
+    }
+
+    /// All packets come, each side's in order, until none flies.
+    fn drains(&mut self) -> Result<(), Fail> {
+        for _ in 0..10_000 {
+            let first = self.deliver_oldest(Side::First)?;
+            let second = self.deliver_oldest(Side::Second)?;
+            if !first && !second {
+                return Ok(());
+            }
+        }
+        Err(Fail::from("packets without end"))
+    }
+
+    /// What an honest link does: all packets come, and then both sides are ticked, until the link
+    /// is quiet, which takes six ticks at most.
+    fn settles(&mut self) -> Result<(), Fail> {
+        for _ in 0..6 {
+            self.drains()?;
+            if self.is_quiet()? {
+                return Ok(());
+            }
+            self.tick(Side::First)?;
+            self.tick(Side::Second)?;
+        }
+        self.drains()?;
+        must(self.is_quiet()?, "it didn't come to rest")
+    }
+}
+
+/// A hundred thousand events, busy and calm by turns. The answer is after how many of them the link
+/// was quiet.
+fn hundred_thousand(run: &mut Run) -> Result<u32, Fail> {
+    let mut quiet: u32 = 0;
+    for _ in 0..50 {
+        quiet = quiet.saturating_add(run.goes_on(1_000, BUSY)?);
+        quiet = quiet.saturating_add(run.goes_on(1_000, CALM)?);
+    }
+    Ok(quiet)
+}
+
+#[test]
+fn free_events_keep_what_is_promised(rt: HostRuntime) -> Result<(), Fail> {
+    let mut run = Run::new(rt.alloc(), 4, 88_172_645_463_325_252)?;
+    let quiet = hundred_thousand(&mut run)?;
+    run.settles()?;
+    let (ended, came) = (run.listed.ended(), run.listed.handed_up());
+    assert!(rt; quiet > 500, "quiet {quiet} times");
+    assert!(rt; ended > 300, "{ended} sessions ended");
+    assert!(rt; came > 2_500, "{came} messages came");
+    Ok(())
+}
