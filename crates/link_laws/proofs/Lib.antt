@@ -57,3 +57,5 @@ pub mod Runs
 pub mod WorkedRuns
 pub mod Fitting
 pub mod LivingPeers
+pub mod Orderly
+pub mod Places
