@@ -59,3 +59,5 @@ pub mod Fitting
 pub mod LivingPeers
 pub mod Orderly
 pub mod Places
+pub mod MetPeers
+pub mod Reached

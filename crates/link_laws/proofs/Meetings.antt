@@ -106,7 +106,7 @@ module _ (P : List Step) where
       one None = refl
       one (Some x) = refl
 
-  restarting-meets_none : (shape : Shape) (n : ℕ) → MeetsNone (restarting shape P n)
+  pub restarting-meets_none : (shape : Shape) (n : ℕ) → MeetsNone (restarting shape P n)
   restarting-meets_none shape n =
       list_any-append is_meeting (downs_of P n (length shape.links)) (closings (open_endpoints P n))
       ∙ ap (λ t. t || list_any is_meeting (closings (open_endpoints P n)))
@@ -151,7 +151,7 @@ handed-meets : (t : Bool) (P : List Step) (n m : ℕ) (l : LinkNo) (es : List Ef
 handed-meets true P n m l es packet = brought-meets P n m l packet.what es packet.effects packet.may
 handed-meets false P n m l es none = inl (ap (list_any is_meeting) none)
 
-tick-meets_none : (P : List Step) (n : ℕ) (l : LinkNo) (side : Side) (es : List Effect)
+pub tick-meets_none : (P : List Step) (n : ℕ) (l : LinkNo) (side : Side) (es : List Effect)
     → IsTick P n l side es → MeetsNone es
 tick-meets_none P n l side es (stays none) = ap (list_any is_meeting) none
 tick-meets_none P n l side es (loses x up silent same) = ap (list_any is_meeting) same

@@ -23,7 +23,7 @@ use Rattle.linx_base.specs.declared.pending.MetPeer.{MetPeer}
 use Rattle.linx_base.specs.declared.pending.PendingHunt.{PendingHunt}
 use Rattle.trunk_record.specs.Sayings.{published}
 use Rattle.journal.specs.Effects.{found, founds, hunted, hunts_for, meeting}
-use Rattle.journal.specs.History.{endpoint_by, endpoint_of, is_by, last_opened, name_of}
+use Rattle.journal.specs.History.{endpoint_by, name_of}
 use Rattle.journal.specs.Laws.{is_opening}
 use Rattle.journal.specs.Living.{find, is_named_over, is_over, living}
 use Rattle.journal.specs.Living.{living_after, met_peer}
@@ -36,66 +36,28 @@ use Rattle.journal.specs.declared.effect.Effect.TheVariants.{Down, Gone, Met}
 use Rattle.journal.specs.declared.effect.Step.{Step}
 use Rattle.journal.specs.declared.head.Head.{Head}
 use Rattle.journal.specs.declared.head.Head.TheVariants.{Hunt}
-use Rattle.journal.proofs.Lists.{all-append, all-filter, all-impl, list_any-filter}
+use Rattle.journal.proofs.Lists.{all-append, all-impl, list_any-filter}
 use Rattle.journal.proofs.Lists.{list_any-wider}
-use Rattle.journal.proofs.Openings.{IsShort, is_by-actor, last_in, last_opened-opens, next_on}
-use Rattle.journal.proofs.Openings.{unless_closed-some}
+use Rattle.journal.proofs.Openings.{IsShort, next_on}
 use Rattle.link_laws.specs.Laws.{HasEffects, IsLegal, IsLegalStep}
 use Rattle.link_laws.specs.Linked.{IsTrueOf, IsUnfound, is_hunted}
 use Rattle.link_laws.specs.Still.{is_hunt_over, is_path_over}
 use Rattle.trunk_record.proofs.Sayings.{same_inc-itself}
 use Rattle.link_laws.proofs.Away.{same_peer-is}
-use Rattle.link_laws.proofs.Done.{AreItems, IsDone, any-items, is_item}
-use Rattle.link_laws.proofs.Fresh.{node_of-next, opened-few, opens-new, step-opens}
+use Rattle.link_laws.proofs.Done.{IsDone, any-items, is_item}
+use Rattle.link_laws.proofs.Fresh.{opens-new, step-opens}
 use Rattle.link_laws.proofs.Meetings.{MeetsNone, MeetsOne, hunted-meets_none, is_meeting}
-use Rattle.link_laws.proofs.Meetings.{items-meet_none, step-meets}
+use Rattle.link_laws.proofs.Meetings.{step-meets}
+use Rattle.link_laws.proofs.MetPeers.{MeetsKnown, items-known, living-known, meets_none-known}
 use Rattle.link_laws.proofs.Names.{bytes_eq-is, bytes_eq-itself}
 use Rattle.link_laws.proofs.Opened.{OpensNew, both_true, opened-any, still-true}
+use Rattle.link_laws.proofs.Places.{endpoint-on}
 use Rattle.link_laws.proofs.Sides.{founds-items}
 
--- THE ENDPOINT OF AN ACTOR is on the actor's node
-endpoint-home : (shape : Shape) (P : List Step) → IsLegal shape P → IsShort P → (k : ℕ) (j : Inc)
-    → endpoint_of P k ≡ Some j → is_on (node_by shape (Actor k)) j ≡ true
-endpoint-home shape [] legal short k j is = absurd cc
-endpoint-home shape (s ∷ P) legal short k j is =
-    by_maker (is_by s.by k) refl (endpoint-home shape P legal.0 before k j)
-    (unless_closed-some s.effects
-    (cond (is_by s.by k) (last_opened (endpoint_of P k) s.effects) (endpoint_of P k)) j is).0
-  where
-    before : IsShort P
-    before = omega arith
-
-    node : ℕ
-    node = node_by shape s.by
-
-    next_home : is_on node (next_on P node) ≡ true
-    next_home =
-        let few = opened-few shape P legal.0 node in
-        eq-eqb (node_of (next_on P node)) node (node_of-next node _ (omega arith))
-
-    opened : (t : Bool) → s.by ≡ Actor k
-        → (endpoint_of P k ≡ Some j → is_on (node_by shape (Actor k)) j ≡ true)
-        → last_in (endpoint_of P k) (cond t (next_on P node ∷ []) []) ≡ Some j
-        → is_on (node_by shape (Actor k)) j ≡ true
-    opened false by home had = home had
-    opened true by home new =
-        let same : next_on P node ≡ j = cc in
-        subst (λ (b : By). is_on (node_by shape b) j ≡ true) by
-        (subst (λ (i : Inc). is_on node i ≡ true) same next_home)
-
-    by_maker : (t : Bool) → is_by s.by k ≡ t
-        → (endpoint_of P k ≡ Some j → is_on (node_by shape (Actor k)) j ≡ true)
-        → cond t (last_opened (endpoint_of P k) s.effects) (endpoint_of P k) ≡ Some j
-        → is_on (node_by shape (Actor k)) j ≡ true
-    by_maker false other home had = home had
-    by_maker true mine home last =
-        opened (is_opening s.head) (is_by-actor s.by k mine) home
-        (ap (last_in (endpoint_of P k)) (sym (step-opens shape P s legal.1))
-        ∙ sym (last_opened-opens (endpoint_of P k) s.effects) ∙ last)
-
+-- THE ENDPOINT OF A MAKER is on its node
 pub maker-home : (shape : Shape) (P : List Step) → IsLegal shape P → IsShort P → (by : By) (j : Inc)
     → endpoint_by P by ≡ Some j → is_on (node_by shape by) j ≡ true
-maker-home shape P legal short (Actor k) j is = endpoint-home shape P legal short k j is
+maker-home shape P legal short (Actor k) j is = endpoint-on shape P legal short k j is
 maker-home shape P legal short (Pump l) j is = absurd cc
 
 -- LISTS
@@ -409,58 +371,25 @@ IsNamed P (There l x a) name = (m : ℕ) × IsTrueOf P m (published a name)
 abbrev IsTrulyNamed : List Step → MetPeer → Type 0
 IsTrulyNamed P m = IsNamed P m.peer m.name
 
-abbrev MeetsNamed : List Step → Effect → Type 0
-MeetsNamed P (Met k q name) = IsNamed P q name
-MeetsNamed P _ = Unit {0}
-
-living-named : (P : List Step) (n : ℕ) (z : List MetPeer) (es : List Effect)
-    → AllByRecursion (IsTrulyNamed P) z → AllByRecursion (MeetsNamed P) es
-    → AllByRecursion (IsTrulyNamed P) (fold (living_after n) z es)
-living-named P n z [] was new = was
-living-named P n z (e ∷ es) was new =
-    living-named P n (living_after n z e) es (one e new.0) new.1
-  where
-    fewer : (t : Bool) (p : MetPeer → Bool) → AllByRecursion (IsTrulyNamed P)
-        (cond t (filter p z) z)
-    fewer true p = all-filter (IsTrulyNamed P) p z was
-    fewer false p = was
-
-    more : (t : Bool) (m : MetPeer) → IsTrulyNamed P m
-        → AllByRecursion (IsTrulyNamed P) (cond t (z ++ m ∷ []) z)
-    more true m is = all-append (IsTrulyNamed P) z (m ∷ []) was (is, tt)
-    more false m is = was
-
-    one : (e : Effect) → MeetsNamed P e → AllByRecursion (IsTrulyNamed P) (living_after n z e)
-    one (Met k q name) is = more (k.0 == n) (record { peer = q; name = name }) is
-    one (Gone k q) is = fewer (k.0 == n) _
-    one (Down k l x) is = fewer (k.0 == n) _
-    one _ is = was
-
-meets_none-named : (P : List Step) (es : List Effect) → MeetsNone es
-    → AllByRecursion (MeetsNamed P) es
-meets_none-named P [] none = tt
-meets_none-named P (Met k q name ∷ es) none = absurd (true≢false none)
-meets_none-named P (_ ∷ es) none = (tt, meets_none-named P es none)
-
-items-named : (P : List Step) (es : List Effect) → AreItems es → AllByRecursion (MeetsNamed P) es
-items-named P es are = meets_none-named P es (any-items is_meeting items-meet_none es are)
-
 pub all-named : (shape : Shape) (P : List Step) → IsLegal shape P → IsShort P → (n : ℕ)
     → AllByRecursion (IsTrulyNamed P) (living P n)
 all-named shape [] legal short n = tt
 all-named shape (s ∷ P) legal short n =
-    living-named (s ∷ P) n (living P n) s.effects
+    living-known After n (living P n) s.effects
     (all-impl (IsTrulyNamed P) (IsTrulyNamed (s ∷ P)) (λ m is. still m.peer m.name is) (living P n)
     (all-named shape P legal.0 before n))
     (elim (step-meets shape P s legal.1) [
-      | inl none ↦ meets_none-named (s ∷ P) s.effects none
-      | inr one ↦ subst (AllByRecursion (MeetsNamed (s ∷ P))) (sym one.effects) (
+      | inl none ↦ meets_none-known After s.effects none
+      | inr one ↦ subst (AllByRecursion (MeetsKnown After)) (sym one.effects) (
         still (There one.l one.x one.a) one.name (one.m, (one.may.opened, one.may.named)),
-        items-named (s ∷ P) _ (founds-items (Over one.l one.name) (There one.l one.x one.a)
+        items-known After _ (founds-items (Over one.l one.name) (There one.l one.x one.a)
             (hunting P one.n)),
       )
     ])
   where
+    After : ℕ → MetPeer → Type 0
+    After k m = IsTrulyNamed (s ∷ P) m
+
     before : IsShort P
     before = omega arith
 
