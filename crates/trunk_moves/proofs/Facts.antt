@@ -186,7 +186,7 @@ downs_few (s ∷ P) n l =
     by_restart false false few = omega arith
 
 -- the boot of the side's own session is one more than the restarts so far
-own_boot : (P : List Step) (n l : ℕ) → length P < step_limit
+pub own_boot : (P : List Step) (n l : ℕ) → length P ≤ step_limit
     → boot_of (own_session P n l) ≡ 1 + boots P n
 own_boot P n l room = let few = downs_few P n l in omega arith
 
@@ -268,7 +268,8 @@ module _ (shape : Shape) (P : List Step) (trunks : RunTrunks) (known : IsKnown s
   boots_later =
       let mine : (half_of at t.link).end.talk.mine ≡ own_session P n l.0 =
       (agree at t (known.kept l of_shape)).session ∙ sym linked.own in
-      let boot = ap boot_of mine ∙ own_boot P n l.0 known.room in
+      let room = known.room in
+      let boot = ap boot_of mine ∙ own_boot P n l.0 (omega arith) in
       omega arith
 
   -- a peer over the link that is alive can be sent to

@@ -7,4 +7,5 @@ pub mod Facts
 pub mod Moved
 pub mod Passed
 pub mod Runs
+pub mod Peers
 pub mod Worked
