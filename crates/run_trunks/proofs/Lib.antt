@@ -1,0 +1,4 @@
+pub mod Lists
+pub mod Placed
+pub mod Numbered
+pub mod Rested

@@ -1,0 +1,26 @@
+-- What is called at a side: what it makes of a trunk, and what it asks for.
+use Rattle.linx_base.specs.declared.identity.Side.{Side}
+use Rattle.trunk.specs.Events.{TrunkState, asked_at, closed_at, opened_at, published_at}
+use Rattle.trunk.specs.Events.{restarted_at, sent_at, side_of}
+use Rattle.trunk.specs.Laws.{MayPublish, MaySend}
+use Rattle.run_trunks.specs.declared.call.SideCall.{SideCall}
+use Rattle.run_trunks.specs.declared.call.SideCall.TheVariants.{Asked, Closed, Opened, Published}
+use Rattle.run_trunks.specs.declared.call.SideCall.TheVariants.{Restarted, Sent}
+
+-- what the side makes of the trunk
+abbrev pub makes : SideCall → Side → TrunkState → TrunkState
+makes (Opened inc name) side t = opened_at side inc name.now t
+makes (Closed inc) side t = closed_at side inc t
+makes (Restarted boot) side t = restarted_at side boot t
+makes (Published inc name) side t = published_at side inc name.now t
+makes (Asked name) side t = asked_at side name.now t
+makes (Sent from name to signal) side t = sent_at side from name.now to signal.now t
+
+-- what the call asks of the side
+abbrev pub MayCall : SideCall → Side → TrunkState → Type 0
+MayCall (Opened inc name) side t = MayPublish (side_of side t) inc name.now
+MayCall (Closed inc) side t = Unit {0}
+MayCall (Restarted boot) side t = Unit {0}
+MayCall (Published inc name) side t = MayPublish (side_of side t) inc name.now
+MayCall (Asked name) side t = Unit {0}
+MayCall (Sent from name to signal) side t = MaySend (side_of side t) from name.now to signal.now
