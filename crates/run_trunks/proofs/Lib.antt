@@ -2,3 +2,4 @@ pub mod Lists
 pub mod Placed
 pub mod Numbered
 pub mod Rested
+pub mod Begun

@@ -1,14 +1,18 @@
 ghost use Rattle.std.specs.Prelude.{◌≡◌, ◌<◌, ◌-◌, length, map, is_some, IfOk, OnErr, OnOk};
 ghost use Rattle.linx_base.specs.Both.{still};
+ghost use Rattle.link_addresses.specs.Meanings.{used_in};
 ghost use Rattle.ethcm_end.specs.States.{peer_of};
 ghost use Rattle.carrier.specs.Events.{flight_from, half_of, handed_by, is_quiet};
 ghost use Rattle.carrier.specs.Events.{told_by as link_told_by};
 ghost use Rattle.rlnh_end.specs.declared.heard.Heard.{Heard as AnyHeard};
 ghost use Rattle.trunk.specs.Events.{IsReading, asked_at, closed_at, delivered, kept_of, lost_from};
 ghost use Rattle.trunk.specs.Events.{new_trunk, opened_at, published_at, restarted_at, sent_at};
-ghost use Rattle.trunk.specs.Events.{side_of, swapped_from, ticked_at, told_by};
+ghost use Rattle.trunk.specs.Events.{side_of, swapped_from, tables_of, ticked_at, told_by};
+ghost use Rattle.trunk.specs.Keeping.{KeepsTrunk};
 ghost use Rattle.trunk.specs.Laws.{MayPublish, MaySend};
 ghost use Rattle.trunk.specs.Parts.{OnlyGrownFrom};
+ghost use Rattle.trunk.specs.Promises.{Promises};
+ghost use Rattle.trunk_record.specs.Trunks.{IsTrunk};
 ghost use Rattle.link_laws.specs.Ends.{node_at};
 ghost use Rattle.trunk_moves.specs.Packets.{place_of};
 ghost use Rattle.trunk_moves.specs.Trunks.{side_on};
@@ -320,7 +324,8 @@ impl RunTrunks {
     /// The trunk of a link.
     fn trunk(&self, link: LinkNo) -> &Trunk
         requires of_run { HasLink self.now link }
-        ensures { result.now.is ≡ trunks_of self.now.is link.0 }
+        ensures is { result.now.is ≡ trunks_of self.now.is link.0 }
+        ensures was { result.now.was ≡ trunks_of self.now.was link.0 }
     {
         &self.trunks[place_of(link)]
     }
@@ -361,11 +366,31 @@ impl RunTrunks {
         self.peer(link, side).is_some()
     }
 
+    /// The number of addresses that a side has given to its endpoints, live or closing.
+    pub fn used(&self, link: LinkNo, side: Side) -> u32
+        requires of_run { HasLink self.now link }
+        ensures { result ≡ used_in (tables_of side (trunks_of self.now.is link.0)).own }
+    {
+        self.trunk(link).used(side)
+    }
+
     /// Whether nothing of a link is in flight, and neither of its ends has work.
     pub fn is_quiet(&self, link: LinkNo) -> bool
         requires of_run { HasLink self.now link }
         ensures { result ≡ is_quiet (trunks_of self.now.is link.0).link }
     {
         self.trunk(link).quiet()
+    }
+
+    /// What holds of the trunk of a link at every moment, whatever happened. It does nothing.
+    pub fn promises(&self, link: LinkNo)
+        requires of_run { HasLink self.now link }
+        ensures keeps { KeepsTrunk (trunks_of self.now.is link.0) }
+        ensures kept { KeepsTrunk (trunks_of self.now.was link.0) }
+        ensures records { IsTrunk (trunks_of self.now.is link.0).first.kept
+            (trunks_of self.now.is link.0).second.kept }
+        ensures promises { Promises (trunks_of self.now.is link.0) }
+    {
+        self.trunk(link).promises();
     }
 }

@@ -1,9 +1,10 @@
 //! Two links between three nodes.
-ghost use Rattle.std.specs.Prelude.{◌≡◌, ◌<◌, true};
-ghost use Rattle.run_trunks.specs.States.{HasLink};
+ghost use Rattle.std.specs.Prelude.{◌≡◌, ◌<◌, [], true};
+ghost use Rattle.trunk.specs.Events.{kept_of};
+ghost use Rattle.run_trunks.specs.States.{HasLink, trunks_of};
 
 use crate::RunTrunks;
-use linx_base::{LinkDecl, LinkNo, Name, NodeNo, Session, Side};
+use linx_base::{Inc, LinkDecl, LinkNo, Name, NodeNo, Session, Side};
 use std::alloc::Global;
 use std::test::Fail;
 use trunk::TrunkUp;
@@ -42,6 +43,46 @@ fn deliver(trunks: &mut RunTrunks, link: LinkNo, from: Side) -> Result<TrunkUp, 
     Ok(up)
 }
 
+/// A side that has said nothing yet publishes an endpoint.
+fn publish(
+    trunks: &mut RunTrunks,
+    link: LinkNo,
+    side: Side,
+    inc: Inc,
+    name: &Name,
+) -> Result<(), Fail>
+    requires of_run { HasLink trunks.old link }
+    requires silent { (kept_of side (trunks_of trunks.old.is link.0)).now.said ≡ [] }
+{
+    let _number = inc.0;
+    let _bytes = name.bytes();
+    if trunks.used(link, side) == u32::MAX {
+        return Err(Fail::from("no address"));
+    }
+    trunks.published(link, side, inc, name)?;
+    Ok(())
+}
+
+/// The packet at place 0 from the first side comes, in an event of its own. Where the second side
+/// goes up by it, that publishes an endpoint.
+fn deliver_to_open(
+    trunks: &mut RunTrunks,
+    link: LinkNo,
+    inc: Inc,
+    name: &Name,
+) -> Result<(), Fail> {
+    trunks.keep_all();
+    if !has_link(trunks, link) || trunks.in_flight(link, Side::First) == 0 {
+        return Err(Fail::from("no such packet"));
+    }
+    let _count = trunks.count();
+    trunks.promises(link);
+    match trunks.deliver(link, Side::First, false)? {
+        TrunkUp::WentUp { .. } => publish(trunks, link, Side::Second, inc, name),
+        _ => Ok(()),
+    }
+}
+
 /// A side from which a packet is in flight, if there is one.
 fn sender(trunks: &RunTrunks, link: LinkNo) -> Option<Side> {
     if !has_link(trunks, link) {
@@ -66,6 +107,29 @@ fn settle(trunks: &mut RunTrunks, link: LinkNo) -> Result<Option<Name>, Fail> {
             Some(from) => {
                 if let TrunkUp::Asked { name } = deliver(trunks, link, from)? {
                     asked = Some(name);
+                }
+            }
+        }
+    }
+    Err(Fail::from("packets without end"))
+}
+
+/// The packets of a link come until none is in flight, and the second side publishes an endpoint
+/// when it goes up. The answer is whom the first side met.
+fn settle_to_open(
+    trunks: &mut RunTrunks,
+    link: LinkNo,
+    inc: Inc,
+    name: &Name,
+) -> Result<Option<(Inc, Name)>, Fail> {
+    let mut found = None;
+    for _round in 0..100 {
+        match sender(trunks, link) {
+            None => return Ok(found),
+            Some(Side::First) => deliver_to_open(trunks, link, inc, name)?,
+            Some(Side::Second) => {
+                if let TrunkUp::Met { inc, name } = deliver(trunks, link, Side::Second)? {
+                    found = Some((inc, name));
                 }
             }
         }
@@ -145,5 +209,31 @@ fn a_restart_is_undone_on_both_links(rt: HostRuntime) -> Result<(), Fail> {
         sessions(rt.alloc(), &trunks)?.as_slice(),
         booted.as_slice()
     );
+    Ok(())
+}
+
+#[test]
+fn an_endpoint_is_met_over_one_link(rt: HostRuntime) -> Result<(), Fail> {
+    let mut trunks = RunTrunks::new(rt.alloc(), &[link_from(1), link_from(2)])?;
+    let name = Name::of(rt.alloc(), b"echo")?;
+    let inc = Inc::of(NodeNo(2), 1);
+    let [near, far] = LINKS;
+    if !has_link(&trunks, near) || !has_link(&trunks, far) {
+        return Err(Fail::from("two links"));
+    }
+    trunks.tick(near, Side::First)?;
+    trunks.tick(near, Side::Second)?;
+    match settle_to_open(&mut trunks, near, inc, &name)? {
+        Some((met, called)) => {
+            assert_eq!(rt; met, inc);
+            assert_eq!(rt; called.bytes(), b"echo".as_slice());
+        }
+        None => return Err(Fail::from("an endpoint")),
+    }
+    if !has_link(&trunks, near) || !has_link(&trunks, far) {
+        return Err(Fail::from("two links"));
+    }
+    assert_eq!(rt; trunks.used(near, Side::Second), 1);
+    assert!(rt; trunks.is_up(near, Side::First) && !trunks.is_up(far, Side::First));
     Ok(())
 }
