@@ -18,8 +18,8 @@ ghost use Rattle.trunk_moves.specs.Packets.{place_of};
 ghost use Rattle.trunk_moves.specs.Trunks.{side_on};
 ghost use Rattle.run_trunks.specs.Calls.{MayCall, makes};
 ghost use Rattle.run_trunks.specs.Changes.{AllGrant, at_link, each_does};
-ghost use Rattle.run_trunks.specs.States.{AllFit, HasLink, both_at, kept, kept_at, new_trunks, over};
-ghost use Rattle.run_trunks.specs.States.{resting, trunks_of, undone, undone_at};
+ghost use Rattle.run_trunks.specs.States.{AllFit, HasLink, both_at, kept, kept_at, new_trunks};
+ghost use Rattle.run_trunks.specs.States.{over, resting, trunks_of, undone, undone_at};
 
 use crate::call::SideCall;
 use crate::{links, slots};
@@ -139,8 +139,8 @@ impl RunTrunks {
         self.call_all(node, SideCall::Closed(inc))
     }
 
-    /// A node boots again: so does the side of each link that is on it. It is refused where the boot
-    /// isn't later than that of such a side.
+    /// A node boots again: so does the side of each link that is on it. It is refused where the
+    /// boot isn't later than that of such a side.
     pub fn restarted(&mut self, node: NodeNo, boot: u32) -> Result<(), NoMemory>
         ensures is { OnOk result (self.new.is
             ≡ each_does self.old.links node.0 (λ side. restarted_at side boot) self.old.is) }
