@@ -2,7 +2,6 @@
 //! sessions with 32 bits, and what would go beyond is refused.
 ghost use Rattle.std.specs.Prelude.{◌≡◌, ◌≤◌, ◌<◌, Some, true, length, IfOk, OnOk};
 ghost use Rattle.linx_base.specs.declared.identity.Side.{Side as AnySide};
-ghost use Rattle.linx_base.specs.Sides.{other_of};
 ghost use Rattle.ethcm_session.specs.Table.{HasNext};
 ghost use Rattle.ethcm_window.specs.Sending.{left_of};
 ghost use Rattle.carrier.specs.Events.{flight_from, half_of, handed_by};
