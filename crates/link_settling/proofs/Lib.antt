@@ -1,0 +1,4 @@
+pub mod Sent
+pub mod Counting
+pub mod Lowering
+pub mod Ending

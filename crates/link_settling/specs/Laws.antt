@@ -1,0 +1,53 @@
+-- That a link settles.
+use Rattle.std.specs.Prelude.{◌≡◌, ℕ, suc, ◌<◌, ◌≤◌, true, false, IsSome, List, [], ◌∷◌, length}
+use Rattle.linx_base.specs.Frames.{IsMessage}
+use Rattle.linx_base.specs.Sides.{other_of}
+use Rattle.linx_base.specs.declared.frame.Message.{Message}
+use Rattle.linx_base.specs.declared.identity.Side.{Side}
+use Rattle.ethcm_end.specs.States.{peer_of}
+use Rattle.carrier.specs.Events.{LinkState, delivered, flight_from, half_of, is_quiet, offered_to}
+use Rattle.carrier.specs.Events.{ticked_at}
+use Rattle.carrier.specs.Keeping.{KeepsLink}
+use Rattle.link_settling.specs.Runs.{IsEmpty, SettlesIn}
+use Rattle.link_settling.specs.Measure.{Falls, measure}
+
+-- A LINK SETTLES IN SIX TICKS, whatever happened to it
+pub record LinksSettle : Type 0 where
+  pub begins : (side : Side) (v : LinkState) → KeepsLink v → SettlesIn 6 side v
+  -- the first packet from a side comes, and messages are offered
+  pub delivered :
+      (n : ℕ) (side from : Side) (v : LinkState) → SettlesIn n side v
+      → SettlesIn n side (delivered from 0 false v)
+  pub offered :
+      (n : ℕ) (side to : Side) (m : Message) (v : LinkState)
+      → IsSome (peer_of (half_of to v).end) → IsMessage m → SettlesIn n side v
+      → SettlesIn n side (offered_to to m v)
+  -- once nothing is in flight a tick is one less, and the next is of the other side
+  pub ticked :
+      (n : ℕ) (side : Side) (v : LinkState) → IsEmpty v → SettlesIn (suc n) side v
+      → SettlesIn n (other_of side) (ticked_at side v)
+  -- and after the last of them the link is quiet
+  pub quiet :
+      (side : Side) (v : LinkState) → IsEmpty v → SettlesIn 0 side v → is_quiet v ≡ true
+
+-- the first packet from each of these sides comes, one after the other
+abbrev pub AreInFlight : LinkState → List Side → Type 0
+AreInFlight v [] = Unit {0}
+AreInFlight v (from ∷ sides) =
+    (0 < length (flight_from from v)) × AreInFlight (delivered from 0 false v) sides
+
+-- WITHOUT TICKS AND OFFERS ALL PACKETS IN FLIGHT COME TO AN END
+pub record DeliveriesEnd : Type 0 where
+  -- a packet that comes and isn't lost lowers the measure, from any place
+  pub falls :
+      (from : Side) (k : ℕ) (v : LinkState) → KeepsLink v → k < length (flight_from from v)
+      → Falls (measure (delivered from k false v)) (measure v)
+  -- an offer leaves the first two numbers, those of connections and of ends that are up
+  pub offered :
+      (to : Side) (m : Message) (v : LinkState) → KeepsLink v
+      → ((measure (offered_to to m v)).connecting ≡ (measure v).connecting)
+      × ((measure (offered_to to m v)).up ≡ (measure v).up)
+  -- so not more than so many packets come
+  pub end :
+      (v : LinkState) → KeepsLink v
+      → (bound : ℕ) × ((sides : List Side) → AreInFlight v sides → length sides ≤ bound)

@@ -1,0 +1,48 @@
+-- What may happen to a link while it settles, and after how many ticks it is quiet.
+use Rattle.std.specs.Prelude.{◌≡◌, ℕ, zero, suc, true, false, IsSome, List, [], ◌∷◌}
+use Rattle.linx_base.specs.Frames.{IsMessage}
+use Rattle.linx_base.specs.Sides.{other_of}
+use Rattle.linx_base.specs.declared.frame.Message.{Message}
+use Rattle.linx_base.specs.declared.identity.Side.{Side}
+use Rattle.ethcm_end.specs.States.{peer_of}
+use Rattle.carrier.specs.Events.{LinkState, delivered, half_of, is_quiet, offered_to, ticked_at}
+
+-- nothing is lost or exchanged: the first packet from a side comes to the other one, or a message
+-- is offered to a side
+pub data Move : Type 0 where
+  comes : Side → Move
+  offers : Side → Message → Move
+
+-- messages are offered to a side that is up
+abbrev pub MayBe : LinkState → Move → Type 0
+MayBe v (comes from) = Unit {0}
+MayBe v (offers side m) = IsSome (peer_of (half_of side v).end) × IsMessage m
+
+-- what a move makes of the link; where no packet is in flight from a side, none comes
+abbrev pub moved : LinkState → Move → LinkState
+moved v (comes from) = delivered from 0 false v
+moved v (offers side m) = offered_to side m v
+
+-- moves one after the other
+abbrev pub MayAllBe : LinkState → List Move → Type 0
+MayAllBe v [] = Unit {0}
+MayAllBe v (m ∷ ms) = MayBe v m × MayAllBe (moved v m) ms
+
+abbrev pub moved_all : LinkState → List Move → LinkState
+moved_all v [] = v
+moved_all v (m ∷ ms) = moved_all (moved v m) ms
+
+-- nothing is in flight
+abbrev pub IsEmpty : LinkState → Type 0
+IsEmpty v = (v.there ≡ []) × (v.back ≡ [])
+
+-- A LINK SETTLES IN N TICKS, the next of which is of this side: whatever is offered, once all
+-- packets have come the side may tick, then all packets come again, then the other side may tick,
+-- and so on; after n ticks, once all packets have come, the link is quiet
+unfoldable pub SettlesIn : ℕ → Side → LinkState → Type 0
+SettlesIn zero side v =
+    (moves : List Move) → MayAllBe v moves → IsEmpty (moved_all v moves)
+    → is_quiet (moved_all v moves) ≡ true
+SettlesIn (suc n) side v =
+    (moves : List Move) → MayAllBe v moves → IsEmpty (moved_all v moves)
+    → SettlesIn n (other_of side) (ticked_at side (moved_all v moves))
