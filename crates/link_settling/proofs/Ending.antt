@@ -1,6 +1,6 @@
 -- Packets that come, without ticks and offers, come to an end.
-use Rattle.std.proofs.Common.{◌≡◌, ◌⊎◌, ◌+◌, ◌<◌, ◌≤◌, ℕ, zero, suc, false, Option, Some, None, List}
-use Rattle.std.proofs.Common.{[], ◌∷◌, ◌++◌, length, map, refl, sym, ap, subst, arith, inl, inr}
+use Rattle.std.proofs.Common.{◌≡◌, ◌⊎◌, ◌+◌, ◌<◌, ◌≤◌, ℕ, zero, suc, false, Option, Some, None}
+use Rattle.std.proofs.Common.{List, [], ◌∷◌, ◌++◌, length, map, refl, sym, ap, subst, arith, inl, inr}
 use Rattle.std.specs.Prelude.{IsSome, slice_get}
 use Rattle.std.specs.List.{remove}
 use Rattle.std.proofs.lemmas.Option.{slice_get_cases}

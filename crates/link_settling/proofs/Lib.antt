@@ -1,4 +1,15 @@
 pub mod Sent
+pub mod Steps
 pub mod Counting
 pub mod Lowering
 pub mod Ending
+pub mod Apart
+pub mod HalfOpen
+pub mod Joining
+pub mod Calling
+pub mod Flowing
+pub mod Ordering
+pub mod Hearing
+pub mod Ticking
+pub mod Left
+pub mod Settling

@@ -21,7 +21,7 @@ use Rattle.ethcm_end.specs.Rules.{take_frames, with_early}
 use Rattle.ethcm_end.specs.Rows.{IsBetween, after_header, up}
 use Rattle.ethcm_end.proofs.Taking.{takes_in_turn}
 use Rattle.carrier.specs.Records.{HalfState, entries, mine_of, source}
-use Rattle.carrier.specs.Events.{drained, recorded}
+use Rattle.carrier.specs.Events.{drained}
 use Rattle.carrier.specs.Keeping.{IsFlying}
 use Rattle.carrier.proofs.Flying.{piece_heard}
 use Rattle.link_settling.specs.Measure.{Falls, connects, ends_up, may_ask, measure_of}
@@ -29,10 +29,7 @@ use Rattle.link_settling.specs.Measure.{nacks, others, pieces, total, unsent, un
 use Rattle.link_settling.proofs.Counting.{acks, behind, pieces_alone, total-append}
 use Rattle.link_settling.proofs.Counting.{total_none, total_one}
 use Rattle.link_settling.proofs.Sent.{by_drained_rules}
-
--- a side after what an end made of a packet
-abbrev pub after : HalfState → Reaction Input → HalfState
-after a r = recorded a (drained r.state) r.answer
+use Rattle.link_settling.proofs.Steps.{after}
 
 -- ---- what is less
 
@@ -224,7 +221,7 @@ taken_below a b p piece next frame cut f between k =
     (record { from = between.from; to = between.to }) k in
     rw cut (slice_get_within _ a.end.rx.expected frame heard.frame_is)
 
-taken_rises : (a : HalfState) (frame : Frame)
+pub taken_rises : (a : HalfState) (frame : Frame)
     → a.end.rx.expected < (take_frames (drained a.end) frame).rx.expected
 taken_rises a frame =
     let turn = takes_in_turn a.end.rx a.end.held frame in

@@ -1,10 +1,17 @@
 //! What follows from the functions of a link alone. These functions do nothing; their contracts are
 //! the laws.
 
-ghost use Rattle.link_settling.specs.Laws.{DeliveriesEnd};
+ghost use Rattle.link_settling.specs.Laws.{DeliveriesEnd, LinksSettle};
 
 /// Each packet that comes and isn't lost lowers the measure of a link, whatever happened to it; so
 /// without ticks and offers not more than so many come.
 pub fn deliveries_end()
     ensures { DeliveriesEnd }
+{}
+
+/// Every link, whatever happened to it, settles in six ticks: all packets come, in order and none
+/// lost, and whatever is offered meanwhile; then a side ticks, and all packets come; then the other
+/// ticks, and so on. After at most six ticks the link is quiet.
+pub fn links_settle()
+    ensures { LinksSettle }
 {}

@@ -7,4 +7,4 @@
 
 mod laws;
 
-pub use laws::deliveries_end;
+pub use laws::{deliveries_end, links_settle};
