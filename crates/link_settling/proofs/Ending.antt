@@ -1,29 +1,38 @@
 -- Packets that come, without ticks and offers, come to an end.
 use Rattle.std.proofs.Common.{◌≡◌, ◌⊎◌, ◌+◌, ◌<◌, ◌≤◌, ℕ, zero, suc, false, Option, Some, None}
-use Rattle.std.proofs.Common.{List, [], ◌∷◌, ◌++◌, length, map, refl, sym, ap, subst, arith, inl, inr}
+use Rattle.std.proofs.Common.{List, [], ◌∷◌, ◌++◌, length, map, refl, sym, ap, subst, arith, inl}
+use Rattle.std.proofs.Common.{inr}
 use Rattle.std.specs.Prelude.{IsSome, slice_get}
 use Rattle.std.specs.List.{remove}
 use Rattle.std.proofs.lemmas.Option.{slice_get_cases}
+use Rattle.linx_base.specs.declared.frame.ConnKind.TheVariants as kinds
+use Rattle.linx_base.specs.declared.identity.Session.{Session}
 use Rattle.linx_base.specs.declared.identity.Side.{Side}
 use Rattle.linx_base.specs.declared.identity.Side.TheVariants.{First, Second}
 use Rattle.linx_base.specs.declared.frame.Message.{Message}
 use Rattle.ethcm_headers.specs.declared.packets.Packet.{Packet}
+use Rattle.ethcm_headers.specs.declared.packets.Part.TheVariants.{Conn}
 use Rattle.ethcm_session.specs.declared.standing.Standing.{Standing}
 use Rattle.ethcm_session.specs.declared.standing.Standing.TheVariants.{Connecting, Up}
 use Rattle.ethcm_window.specs.Sending.{Sender, coming_in, with_offered}
 use Rattle.fragmenter.specs.Pieces.{pieces_of}
+use Rattle.ethcm_end.specs.declared.answers.Input.{Input}
+use Rattle.ethcm_end.specs.declared.answers.Input.TheVariants as inputs
 use Rattle.ethcm_end.specs.States.{EndState, peer_of}
-use Rattle.ethcm_end.specs.Rules.{offer_in, offer_of, piece_packet}
-use Rattle.carrier.specs.Events.{LinkState, delivered, drained, flight_from, near_offered}
-use Rattle.carrier.specs.Events.{near_took, offered_to, turned}
+use Rattle.ethcm_end.specs.Rules.{input_of, offer_in, offer_of, piece_packet}
+use Rattle.carrier.specs.Events.{LinkState, delivered, drained, flight_from, handed_as, handed_by}
+use Rattle.carrier.specs.Events.{near_handed, near_offered, near_took, offered_to, turned}
+use Rattle.carrier.specs.declared.handed.Handed.TheVariants.{WentUp}
 use Rattle.carrier.specs.Keeping.{IsFlying, KeepsLink}
 use Rattle.carrier.proofs.Fronts.{all_at}
 use Rattle.carrier.proofs.Links.{events_keep, seen_keeps}
-use Rattle.link_settling.specs.Laws.{AreInFlight, DeliveriesEnd}
+use Rattle.link_settling.specs.Laws.{AreInFlight, DeliveriesEnd, come_all}
+use Rattle.link_settling.specs.Runs.{IsEmpty}
 use Rattle.link_settling.specs.Measure.{Falls, Measure, connects, ends_up, measure, total}
-use Rattle.link_settling.proofs.Counting.{pieces_alone, total-append, total_none, total_removed}
+use Rattle.link_settling.proofs.Counting.{pieces_alone, total-append, total_none, total_one}
+use Rattle.link_settling.proofs.Counting.{total_removed}
 use Rattle.link_settling.proofs.Lowering.{Lower, lowers}
-use Rattle.link_settling.proofs.Sent.{by_drained_offer}
+use Rattle.link_settling.proofs.Sent.{by_drained_offer, by_drained_rules}
 
 -- ---- a packet, from any place
 
@@ -68,6 +77,70 @@ falls First k v keeps h =
     (sym (turned_measure (near_took (turned v) k false (slice_get v.there k))))
     (near_falls (turned v) (seen_keeps Second v keeps) k (slice_get v.there k) refl
     (stands v.there k h)))
+
+-- ---- a packet that takes an end up
+
+up_fewer : (s : EndState) (p : Packet) → s.out ≡ [] → (input_of s p).answer ≡ inputs.WentUp
+    → total connects (input_of s p).state.out < connects p.part
+up_fewer s p out =
+    let z = total_none connects in
+    by_drained_rules (λ r. r.answer ≡ inputs.WentUp
+    → total connects r.state.out < connects p.part) s p out (record {
+      connecting_connect = λ e k up. absurd (grind arith);
+      connecting_connect_ack = λ e k d up.
+          let one = total_one connects
+          (record { src = s.talk.mine; dst = p.src.0; part = Conn kinds.Ack }) in
+          let was : connects p.part ≡ 2 = ap connects k in
+          omega arith;
+      connecting_ack = λ e k d up.
+          let was : connects p.part ≡ 1 = ap connects k in
+          omega arith;
+      connecting_other = λ e x y w up. absurd (grind arith);
+      up_lower = λ peer e l up. absurd (grind arith);
+      up_greater = λ peer e l up. absurd (grind arith);
+      up_connect = λ e k up. absurd (grind arith);
+      up_not_mine = λ e k d up. absurd (grind arith);
+      up_reset = λ between k up. absurd (grind arith);
+      up_connect_ack = λ between k up. absurd (grind arith);
+      up_ack = λ between k up. absurd (grind arith);
+      frames_acked = λ next between k up. absurd (grind arith);
+      frames_missed = λ next count between k up. absurd (grind arith);
+      old = λ next seq frame between k l up. absurd (grind arith);
+      early_again = λ next seq frame between k l q up. absurd (grind arith);
+      early = λ next seq frame between k l q up. absurd (grind arith);
+      taken = λ next frame between k m up. absurd (grind arith);
+      taken_whole = λ next frame m between k w up. absurd (grind arith);
+      taken_broken = λ next frame between k w up. absurd (grind arith);
+    })
+
+handed_up : (mine src session peer : Session) (answer : Input)
+    → handed_as mine src answer ≡ WentUp session peer → answer ≡ inputs.WentUp
+handed_up mine src session peer inputs.Nothing e = absurd (grind arith)
+handed_up mine src session peer inputs.WentUp e = refl
+handed_up mine src session peer inputs.WentDown e = absurd (grind arith)
+handed_up mine src session peer (inputs.Got m) e = absurd (grind arith)
+
+near_up : (v : LinkState) → KeepsLink v → (k : ℕ) (session peer : Session)
+    (packet : Option Packet) → slice_get v.back k ≡ packet
+    → near_handed v packet ≡ WentUp session peer
+    → (measure (near_took v k false packet)).connecting < (measure v).connecting
+near_up v keeps k session peer None e up = absurd (grind arith)
+near_up v keeps k session peer (Some p) e up =
+    let less = up_fewer v.first.end p keeps.near.out
+    (handed_up v.first.end.talk.mine p.src session peer (input_of v.first.end p).answer up) in
+    let n = total-append connects v.there (input_of v.first.end p).state.out in
+    let o = total_removed connects v.back k p e in
+    omega arith
+
+goes_up : (from : Side) (k : ℕ) (session peer : Session) (v : LinkState) → KeepsLink v
+    → handed_by from k v ≡ WentUp session peer
+    → (measure (delivered from k false v)).connecting < (measure v).connecting
+goes_up Second k session peer v keeps up =
+    near_up v keeps k session peer (slice_get v.back k) refl up
+goes_up First k session peer v keeps up =
+    let less = near_up (turned v) (seen_keeps Second v keeps) k session peer
+    (slice_get v.there k) refl up in
+    omega arith
 
 -- ---- an offer
 
@@ -208,11 +281,46 @@ module _ (v : LinkState) (k : KeepsLink v)
       let second = bounded_from Second in
       (1 + first.0 + second.0, bounded_by first second)
 
-end : (v : LinkState) → KeepsLink v → IsBounded v
-end v k =
+bounded : (v : LinkState) → KeepsLink v → IsBounded v
+bounded v k =
     falls_inducts (λ m. (w : LinkState) → KeepsLink w → measure w ≡ m → IsBounded w)
     (λ m rest w keeps is.
     bounded_after w keeps (λ x holds falls.
+    rest (measure x) (subst (Falls (measure x)) is falls) x holds refl))
+    (measure v) v k refl
+
+-- ---- and after some of them nothing is in flight
+
+abbrev IsEmptied : LinkState → Type 0
+IsEmptied v = (sides : List Side) × AreInFlight v sides × IsEmpty (come_all v sides)
+
+no_length : (ps : List Packet) → length ps ≤ 0 → ps ≡ []
+no_length [] h = refl
+no_length (p ∷ ps) h = absurd (omega arith)
+
+module _ (v : LinkState) (k : KeepsLink v)
+    (rest : (w : LinkState) → KeepsLink w → Falls (measure w) (measure v) → IsEmptied w) where
+  comes_first : (from : Side) → 0 < length (flight_from from v) → IsEmptied v
+  comes_first from some =
+      let after = rest (delivered from 0 false v) (events_keep.delivered from 0 false v k)
+      (falls from 0 v k some) in
+      (from ∷ after.0, (some, after.1), after.2)
+
+  emptied_after : IsEmptied v
+  emptied_after =
+      elim (some_or_none (length v.there)) [
+        | inl some ↦ comes_first First some
+        | inr there ↦ elim (some_or_none (length v.back)) [
+          | inl some ↦ comes_first Second some
+          | inr back ↦ ([], tt, (no_length v.there there, no_length v.back back))
+        ]
+      ]
+
+emptied : (v : LinkState) → KeepsLink v → IsEmptied v
+emptied v k =
+    falls_inducts (λ m. (w : LinkState) → KeepsLink w → measure w ≡ m → IsEmptied w)
+    (λ m rest w keeps is.
+    emptied_after w keeps (λ x holds falls.
     rest (measure x) (subst (Falls (measure x)) is falls) x holds refl))
     (measure v) v k refl
 
@@ -222,6 +330,8 @@ pub deliveries_end : DeliveriesEnd
 deliveries_end =
     record {
       falls = falls;
+      goes_up = goes_up;
       offered = offered;
-      end = end;
+      bounded = bounded;
+      emptied = emptied;
     }

@@ -13,3 +13,4 @@ pub mod Hearing
 pub mod Ticking
 pub mod Left
 pub mod Settling
+pub mod Worked

@@ -14,6 +14,8 @@ use Rattle.carrier.specs.Records.{HalfState}
 use Rattle.carrier.specs.Events.{LinkState, delivered, half_of, is_quiet, near_took}
 use Rattle.carrier.specs.Events.{offered_to, seen_from, ticked_at, turned}
 use Rattle.carrier.specs.Keeping.{KeepsLink}
+use Rattle.carrier.specs.Laws.{IsComplete}
+use Rattle.carrier.proofs.Delivering.{quiet_complete}
 use Rattle.carrier.proofs.Links.{events_keep, seen_keeps}
 use Rattle.link_settling.specs.Laws.{LinksSettle}
 use Rattle.link_settling.specs.Runs.{IsEmpty, MayAllBe, MayBe, Move, SettlesIn, moved, moved_all}
@@ -188,6 +190,10 @@ quiet : (side : Side) (v : LinkState) → IsEmpty v → SettlesIn 0 side v → i
 unfolding SettlesIn
 quiet side v empty h = h [] tt empty
 
+complete : (side : Side) (v : LinkState) → KeepsLink v → IsEmpty v → SettlesIn 0 side v
+    → IsComplete v
+complete side v k empty h = quiet_complete v k (quiet side v empty h)
+
 pub links_settle : LinksSettle
 links_settle =
     record {
@@ -196,4 +202,5 @@ links_settle =
       offered = λ n side to m v some is h. before n side v (offers to m) (some, is) h;
       ticked = ticked;
       quiet = quiet;
+      complete = complete;
     }

@@ -3,11 +3,14 @@ use Rattle.std.specs.Prelude.{◌≡◌, ℕ, suc, ◌<◌, ◌≤◌, true, fal
 use Rattle.linx_base.specs.Frames.{IsMessage}
 use Rattle.linx_base.specs.Sides.{other_of}
 use Rattle.linx_base.specs.declared.frame.Message.{Message}
+use Rattle.linx_base.specs.declared.identity.Session.{Session}
 use Rattle.linx_base.specs.declared.identity.Side.{Side}
 use Rattle.ethcm_end.specs.States.{peer_of}
 use Rattle.carrier.specs.Events.{LinkState, delivered, flight_from, half_of, is_quiet, offered_to}
-use Rattle.carrier.specs.Events.{ticked_at}
+use Rattle.carrier.specs.Events.{handed_by, ticked_at}
 use Rattle.carrier.specs.Keeping.{KeepsLink}
+use Rattle.carrier.specs.Laws.{IsComplete}
+use Rattle.carrier.specs.declared.handed.Handed.TheVariants.{WentUp}
 use Rattle.link_settling.specs.Runs.{IsEmpty, SettlesIn}
 use Rattle.link_settling.specs.Measure.{Falls, measure}
 
@@ -29,6 +32,10 @@ pub record LinksSettle : Type 0 where
   -- and after the last of them the link is quiet
   pub quiet :
       (side : Side) (v : LinkState) → IsEmpty v → SettlesIn 0 side v → is_quiet v ≡ true
+  -- so both sides are up with each other, and all that was offered was handed up
+  pub complete :
+      (side : Side) (v : LinkState) → KeepsLink v → IsEmpty v → SettlesIn 0 side v
+      → IsComplete v
 
 -- the first packet from each of these sides comes, one after the other
 abbrev pub AreInFlight : LinkState → List Side → Type 0
@@ -36,18 +43,31 @@ AreInFlight v [] = Unit {0}
 AreInFlight v (from ∷ sides) =
     (0 < length (flight_from from v)) × AreInFlight (delivered from 0 false v) sides
 
+abbrev pub come_all : LinkState → List Side → LinkState
+come_all v [] = v
+come_all v (from ∷ sides) = come_all (delivered from 0 false v) sides
+
 -- WITHOUT TICKS AND OFFERS ALL PACKETS IN FLIGHT COME TO AN END
 pub record DeliveriesEnd : Type 0 where
   -- a packet that comes and isn't lost lowers the measure, from any place
   pub falls :
       (from : Side) (k : ℕ) (v : LinkState) → KeepsLink v → k < length (flight_from from v)
       → Falls (measure (delivered from k false v)) (measure v)
+  -- one that takes an end up lowers the first number
+  pub goes_up :
+      (from : Side) (k : ℕ) (session peer : Session) (v : LinkState) → KeepsLink v
+      → handed_by from k v ≡ WentUp session peer
+      → (measure (delivered from k false v)).connecting < (measure v).connecting
   -- an offer leaves the first two numbers, those of connections and of ends that are up
   pub offered :
       (to : Side) (m : Message) (v : LinkState) → KeepsLink v
       → ((measure (offered_to to m v)).connecting ≡ (measure v).connecting)
       × ((measure (offered_to to m v)).up ≡ (measure v).up)
   -- so not more than so many packets come
-  pub end :
+  pub bounded :
       (v : LinkState) → KeepsLink v
       → (bound : ℕ) × ((sides : List Side) → AreInFlight v sides → length sides ≤ bound)
+  -- and after some of them nothing is in flight
+  pub emptied :
+      (v : LinkState) → KeepsLink v
+      → (sides : List Side) × AreInFlight v sides × IsEmpty (come_all v sides)
