@@ -145,7 +145,10 @@ hushed s p out h =
 down_later : (t u v : TalkState) → StaysOrDown t u → StaysOrDown u v → StaysOrDown t v
 down_later t u v (inl e) (inl q) = inl (q ∙ e)
 down_later t u v (inl e) (inr down) =
-    inr (record { connecting = down.connecting; later = subst (λ x. x.mine.0 < v.mine.0) e down.later })
+    inr (record {
+      connecting = down.connecting;
+      later = subst (λ x. x.mine.0 < v.mine.0) e down.later;
+    })
 down_later t u v (inr down) (inl q) =
     inr (record {
       connecting = ap (λ (x : TalkState). peer_in x.standing) q ∙ down.connecting;
@@ -321,48 +324,66 @@ module _ (a b : HalfState) (there back : List Packet) (m : Message) (peer : Sess
         far_hushed = subst (λ t. All (IsHushed t) back) (sym offered_talk) h.far_hushed;
       }
 
--- ---- they stay apart while side a is down, or what takes it down is in flight to it
+pub apart_lasts : Lasts Apart
+apart_lasts =
+    record {
+      near_came = λ a b there left p k now h. apart_came a b there left p k h;
+      far_came = λ a b left back p k now h.
+          turned_apart _ _ _ _ (apart_came b a back left p
+          (turned_holds a b (p ∷ left) back k) (turned_apart a b (p ∷ left) back h));
+      near_offered = λ a b there back m peer e k now h.
+          apart_offered a b there back m peer e k h;
+      far_offered = λ a b there back m peer e k now h.
+          turned_apart _ _ _ _ (apart_offered b a back there m peer e
+          (turned_holds a b there back k) (turned_apart a b there back h));
+    }
+
+-- a side stays, or goes down
+module _ (a b : HalfState) (left back : List Packet) (p : Packet)
+    (k : Holds a b (p ∷ left) back) (h : Apart a b (p ∷ left) back) where
+  far_goes : StaysOrDown b.end.talk (came b p).end.talk
+  far_goes =
+      came_goes b a back left p (turned_holds a b (p ∷ left) back k)
+      (turned_apart a b (p ∷ left) back h)
+
+-- ---- side a is down, or what takes it down is in flight to it
 
 pub record Ending (a b : HalfState) (there back : List Packet) : Type 0 where
   pub apart : Apart a b there back
   pub ending : IsEnding a.end.talk back
 
+-- more is in flight to it
+ending_more : (t : TalkState) (ps more : List Packet) → IsEnding t ps → IsEnding t (ps ++ more)
+ending_more t ps more (inl none) = inl none
+ending_more t ps more (inr has) = inr (has_front (Ends t) ps more has)
+
 pub ending_lasts : Lasts Ending
 ending_lasts =
     record {
-      near_came = λ a b there left p k after h.
+      near_came = λ a b there left p k now h.
           record {
-            apart = apart_came a b there left p k h.apart;
+            apart = apart_lasts.near_came a b there left p k now h.apart;
             ending = ending_came a b there left p k h.apart h.ending;
           };
-      far_came = λ a b left back p k after h.
+      far_came = λ a b left back p k now h.
           record {
-            apart = turned_apart _ _ _ _ (apart_came b a back left p
-                (turned_holds a b (p ∷ left) back k)
-                (turned_apart a b (p ∷ left) back h.apart));
-            ending = elim h.ending [
-              | inl none ↦ inl none
-              | inr has ↦ inr (has_front (Ends a.end.talk) back (came_out b p) has)
-            ];
+            apart = apart_lasts.far_came a b left back p k now h.apart;
+            ending = ending_more a.end.talk back (came_out b p) h.ending;
           };
-      near_offered = λ a b there back m peer e k after h.
+      near_offered = λ a b there back m peer e k now h.
           record {
-            apart = apart_offered a b there back m peer e k h.apart;
+            apart = apart_lasts.near_offered a b there back m peer e k now h.apart;
             ending = subst (λ t. IsEnding t back)
                 (sym (offered_talk a b there back m peer e k)) h.ending;
           };
-      far_offered = λ a b there back m peer e k after h.
+      far_offered = λ a b there back m peer e k now h.
           record {
-            apart = turned_apart _ _ _ _ (apart_offered b a back there m peer e
-                (turned_holds a b there back k) (turned_apart a b there back h.apart));
-            ending = elim h.ending [
-              | inl none ↦ inl none
-              | inr has ↦ inr (has_front (Ends a.end.talk) back (offered_out b m) has)
-            ];
+            apart = apart_lasts.far_offered a b there back m peer e k now h.apart;
+            ending = ending_more a.end.talk back (offered_out b m) h.ending;
           };
     }
 
--- and both are, or will be
+-- ---- both sides are down, or side a will be
 
 pub record Silent (a b : HalfState) (there back : List Packet) : Type 0 where
   pub ending : Ending a b there back
@@ -371,30 +392,29 @@ pub record Silent (a b : HalfState) (there back : List Packet) : Type 0 where
 pub silent_lasts : Lasts Silent
 silent_lasts =
     record {
-      near_came = λ a b there left p k after h.
+      near_came = λ a b there left p k now h.
           record {
-            ending = ending_lasts.near_came a b there left p k after h.ending;
+            ending = ending_lasts.near_came a b there left p k now h.ending;
             far_down = h.far_down;
           };
-      far_came = λ a b left back p k after h.
+      far_came = λ a b left back p k now h.
           record {
-            ending = ending_lasts.far_came a b left back p k after h.ending;
-            far_down = elim (came_goes b a back left p (turned_holds a b (p ∷ left) back k)
-                (turned_apart a b (p ∷ left) back h.ending.apart)) [
-                  | inl same ↦ ap (λ (t : TalkState). peer_in t.standing) same ∙ h.far_down
-                  | inr down ↦ down.connecting
-                ];
+            ending = ending_lasts.far_came a b left back p k now h.ending;
+            far_down = elim (far_goes a b left back p k h.ending.apart) [
+              | inl same ↦ ap (λ (t : TalkState). peer_in t.standing) same ∙ h.far_down
+              | inr down ↦ down.connecting
+            ];
           };
-      near_offered = λ a b there back m peer e k after h.
+      near_offered = λ a b there back m peer e k now h.
           record {
-            ending = ending_lasts.near_offered a b there back m peer e k after h.ending;
+            ending = ending_lasts.near_offered a b there back m peer e k now h.ending;
             far_down = h.far_down;
           };
-      far_offered = λ a b there back m peer e k after h.
+      far_offered = λ a b there back m peer e k now h.
           absurd (let none = h.far_down in grind arith);
     }
 
--- ---- side b is up with an earlier session of side a than its present one, or down
+-- ---- side b is down, or up with a session of side a before its present one
 
 pub record Stale (a b : HalfState) (there back : List Packet) : Type 0 where
   pub apart : Apart a b there back
@@ -403,9 +423,9 @@ pub record Stale (a b : HalfState) (there back : List Packet) : Type 0 where
 pub stale_lasts : Lasts Stale
 stale_lasts =
     record {
-      near_came = λ a b there left p k after h.
+      near_came = λ a b there left p k now h.
           record {
-            apart = apart_came a b there left p k h.apart;
+            apart = apart_lasts.near_came a b there left p k now h.apart;
             earlier = λ y e.
                 let before = h.earlier y e in
                 elim (came_goes a b there left p k h.apart) [
@@ -416,32 +436,28 @@ stale_lasts =
                   | inr down ↦ let later = down.later in omega arith
                 ];
           };
-      far_came = λ a b left back p k after h.
+      far_came = λ a b left back p k now h.
           record {
-            apart = turned_apart _ _ _ _ (apart_came b a back left p
-                (turned_holds a b (p ∷ left) back k)
-                (turned_apart a b (p ∷ left) back h.apart));
+            apart = apart_lasts.far_came a b left back p k now h.apart;
             earlier = λ y e.
-                elim (came_goes b a back left p (turned_holds a b (p ∷ left) back k)
-                (turned_apart a b (p ∷ left) back h.apart)) [
+                elim (far_goes a b left back p k h.apart) [
                   | inl same ↦
                       h.earlier y (sym (ap (λ (t : TalkState). peer_in t.standing) same) ∙ e)
                   | inr down ↦ absurd (let none = down.connecting in grind arith)
                 ];
           };
-      near_offered = λ a b there back m peer e k after h.
+      near_offered = λ a b there back m peer e k now h.
           record {
-            apart = apart_offered a b there back m peer e k h.apart;
+            apart = apart_lasts.near_offered a b there back m peer e k now h.apart;
             earlier = λ y q.
                 let before = h.earlier y q in
                 let n : mine_of (offered a m) ≡ mine_of a =
                 ap (λ (t : TalkState). t.mine.0) (offered_talk a b there back m peer e k) in
                 omega arith;
           };
-      far_offered = λ a b there back m peer e k after h.
+      far_offered = λ a b there back m peer e k now h.
           record {
-            apart = turned_apart _ _ _ _ (apart_offered b a back there m peer e
-                (turned_holds a b there back k) (turned_apart a b there back h.apart));
+            apart = apart_lasts.far_offered a b there back m peer e k now h.apart;
             earlier = λ y q.
                 h.earlier y (sym (ap (λ (t : TalkState). peer_in t.standing)
                 (offered_talk b a back there m peer e (turned_holds a b there back k))) ∙ q);

@@ -1,5 +1,5 @@
 -- Packets that come, without ticks and offers, come to an end.
-use Rattle.std.proofs.Common.{◌≡◌, ◌⊎◌, ◌+◌, ◌<◌, ◌≤◌, ℕ, zero, suc, false, Option, Some, None}
+use Rattle.std.proofs.Common.{◌≡◌, ◌⊎◌, ◌+◌, ◌<◌, ◌≤◌, ℕ, false, Option, Some, None}
 use Rattle.std.proofs.Common.{List, [], ◌∷◌, ◌++◌, length, map, refl, sym, ap, subst, arith, inl}
 use Rattle.std.proofs.Common.{inr}
 use Rattle.std.specs.Prelude.{IsSome, slice_get}
@@ -31,6 +31,7 @@ use Rattle.link_settling.specs.Runs.{IsEmpty}
 use Rattle.link_settling.specs.Measure.{Falls, Measure, connects, ends_up, measure, total}
 use Rattle.link_settling.proofs.Counting.{pieces_alone, total-append, total_none, total_one}
 use Rattle.link_settling.proofs.Counting.{total_removed}
+use Rattle.link_settling.proofs.Inducting.{falls_inducts}
 use Rattle.link_settling.proofs.Lowering.{Lower, lowers}
 use Rattle.link_settling.proofs.Sent.{by_drained_offer, by_drained_rules}
 
@@ -192,53 +193,6 @@ offered Second m v k =
     (omega arith, omega arith)
 
 -- ---- so not more than so many come
-
--- what follows for each, where it follows from all that are below it, holds
-abbrev Inducts : {X : Type 0} → (X → X → Type 0) → Type 1
-Inducts {X} R =
-    (P : X → Type 0) → ((y : X) → ((x : X) → R x y → P x) → P y) → (y : X) → P y
-
--- first this number is compared, and where it isn't more, the rest
-abbrev Before : {X : Type 0} → (X → ℕ) → (X → X → Type 0) → X → X → Type 0
-Before f R x y = (f x < f y) ⊎ ((f x ≤ f y) × R x y)
-
-module _ {X : Type 0} (f : X → ℕ) (R : X → X → Type 0) (inducts : Inducts R) where
-  up_to : (P : X → Type 0) → ((y : X) → ((x : X) → Before f R x y → P x) → P y)
-      → (n : ℕ) (y : X) → f y ≤ n → P y
-  up_to P step zero =
-      inducts (λ y. f y ≤ 0 → P y) (λ y rest h.
-      step y (λ x before. elim before [
-        | inl less ↦ absurd (omega arith)
-        | inr same ↦ let le = same.0 in rest x same.1 (omega arith)
-      ]))
-  up_to P step (suc n) =
-      inducts (λ y. f y ≤ suc n → P y) (λ y rest h.
-      step y (λ x before. elim before [
-        | inl less ↦ up_to P step n x (omega arith)
-        | inr same ↦ let le = same.0 in rest x same.1 (omega arith)
-      ]))
-
-  inducts_before : Inducts (Before f R)
-  inducts_before P step y = up_to P step (f y) y (omega arith)
-
--- nothing is below
-inducts_never : {X : Type 0} → Inducts (λ (x y : X). ⊥)
-inducts_never P step y = step y (λ x never. absurd never)
-
-inducts_below : {X : Type 0} (f : X → ℕ) → Inducts (λ (x y : X). f x < f y)
-inducts_below {X} f P step =
-    inducts_before f (λ (x y : X). ⊥) inducts_never P
-    (λ y rest. step y (λ x less. rest x (inl less)))
-
-falls_inducts : Inducts Falls
-falls_inducts =
-    inducts_before (λ (m : Measure). m.connecting) _
-    (inducts_before (λ (m : Measure). m.up) _
-    (inducts_before (λ (m : Measure). m.untaken) _
-    (inducts_before (λ (m : Measure). m.unsent) _
-    (inducts_before (λ (m : Measure). m.asking) _
-    (inducts_before (λ (m : Measure). m.pieces) _
-    (inducts_below (λ (m : Measure). m.others)))))))
 
 -- not more than so many packets come
 abbrev IsBounded : LinkState → Type 0

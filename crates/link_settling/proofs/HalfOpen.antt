@@ -210,6 +210,10 @@ module _ (u d : HalfState) (up left : List Packet) (p : Packet)
   another_peer : (y : Session) → peer_of u.end ≡ Some y → y.0 ≡ p.src.0
   another_peer y e = number_of y p.src (same_Some y p.src (sym e ∙ peer))
 
+  replies : AreFrom u.end.talk.mine
+      (record { src = u.end.talk.mine; dst = p.src.0; part = Conn kinds.Ack } ∷ [])
+  replies = one_from u.end.talk.mine p.src.0 (Conn kinds.Ack)
+
   pub up_hears : UpHears u d up left p (input_of u.end p)
   up_hears =
       by_drained_rules (UpHears u d up left p) u.end p k.near.out (record {
@@ -221,7 +225,7 @@ module _ (u d : HalfState) (up left : List Packet) (p : Packet)
         up_greater = λ y e l. absurd (let n = another_peer y e in omega arith);
         up_connect = λ e q.
             record {
-              half = stays _ _ refl e (one_from u.end.talk.mine p.src.0 (Conn kinds.Ack));
+              half = stays _ _ refl e replies;
               ticks = omega arith;
               answers = λ z. (refl, inl (refl, number));
             };
@@ -234,7 +238,7 @@ module _ (u d : HalfState) (up left : List Packet) (p : Packet)
         up_reset = λ between q. absurd (never_resets q);
         up_connect_ack = λ between q.
             record {
-              half = stays _ _ refl between.from (one_from u.end.talk.mine p.src.0 (Conn kinds.Ack));
+              half = stays _ _ refl between.from replies;
               ticks = omega arith;
               answers = λ z. absurd (grind arith);
             };
@@ -287,14 +291,18 @@ module _ (u d : HalfState) (left down : List Packet) (p : Packet) (out : d.end.o
   is_connecting : IsBetween (drained d.end) p → ⊥
   is_connecting between = let none = h.asks in let up = between.from in grind arith
 
+  answers : AreFrom d.end.talk.mine
+      (record { src = d.end.talk.mine; dst = p.src.0; part = Conn kinds.ConnectAck } ∷ [])
+  answers = one_from d.end.talk.mine p.src.0 (Conn kinds.ConnectAck)
+
   pub down_hears : DownHears u d left down p (input_of d.end p)
   down_hears =
       by_drained_rules (DownHears u d left down p) d.end p out (record {
         connecting_connect = λ e q.
             record {
-              goes = inl (goes_on _ _ refl (one_from d.end.talk.mine p.src.0 (Conn kinds.ConnectAck)));
+              goes = inl (goes_on _ _ refl answers);
               acked = λ z. absurd (let other = z.0 in grind arith);
-              data_ignored = λ z. goes_on _ _ refl (one_from d.end.talk.mine p.src.0 (Conn kinds.ConnectAck));
+              data_ignored = λ z. goes_on _ _ refl answers;
             };
         connecting_connect_ack = λ e q to.
             record {

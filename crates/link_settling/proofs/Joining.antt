@@ -260,7 +260,8 @@ module _ (a b : HalfState) (left back : List Packet) (p : Packet)
             (inl (refl, number_of p.src a.end.talk.mine src));
       })
 
-  lifts_near_far : LiftsNear a b (p ∷ left) back → LiftsNear a (came b p) left (back ++ came_out b p)
+  lifts_near_far : LiftsNear a b (p ∷ left) back
+      → LiftsNear a (came b p) left (back ++ came_out b p)
   lifts_near_far h =
       record {
         half = (up_hears b a back left p (turned_holds a b (p ∷ left) back k) h.half).half;

@@ -2,6 +2,7 @@ pub mod Sent
 pub mod Steps
 pub mod Counting
 pub mod Lowering
+pub mod Inducting
 pub mod Ending
 pub mod Apart
 pub mod HalfOpen
