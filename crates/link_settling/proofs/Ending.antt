@@ -29,7 +29,7 @@ use Rattle.carrier.proofs.Links.{events_keep, seen_keeps}
 use Rattle.link_settling.specs.Laws.{AreInFlight, DeliveriesEnd, come_all}
 use Rattle.link_settling.specs.Runs.{IsEmpty}
 use Rattle.link_settling.specs.Measure.{Falls, Measure, connects, ends_up, measure, total}
-use Rattle.link_settling.proofs.Counting.{pieces_alone, total-append, total_none, total_one}
+use Rattle.link_settling.proofs.Counting.{no_length, pieces_alone, total-append, total_none, total_one}
 use Rattle.link_settling.proofs.Counting.{total_removed}
 use Rattle.link_settling.proofs.Inducting.{falls_inducts}
 use Rattle.link_settling.proofs.Lowering.{Lower, lowers}
@@ -248,10 +248,6 @@ bounded v k =
 abbrev IsEmptied : LinkState → Type 0
 IsEmptied v = (sides : List Side) × AreInFlight v sides × IsEmpty (come_all v sides)
 
-no_length : (ps : List Packet) → length ps ≤ 0 → ps ≡ []
-no_length [] h = refl
-no_length (p ∷ ps) h = absurd (omega arith)
-
 module _ (v : LinkState) (k : KeepsLink v)
     (rest : (w : LinkState) → KeepsLink w → Falls (measure w) (measure v) → IsEmptied w) where
   comes_first : (from : Side) → 0 < length (flight_from from v) → IsEmptied v
@@ -266,7 +262,7 @@ module _ (v : LinkState) (k : KeepsLink v)
         | inl some ↦ comes_first First some
         | inr there ↦ elim (some_or_none (length v.back)) [
           | inl some ↦ comes_first Second some
-          | inr back ↦ ([], tt, (no_length v.there there, no_length v.back back))
+          | inr back ↦ ([], tt, (no_length v.there (omega arith), no_length v.back (omega arith)))
         ]
       ]
 

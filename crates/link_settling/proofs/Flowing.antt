@@ -18,7 +18,7 @@ use Rattle.ethcm_window.proofs.Numbering.{no_frames, offered_answer, unchanged_c
 use Rattle.ethcm_end.specs.States.{EndState}
 use Rattle.ethcm_end.specs.Rules.{piece_packet}
 use Rattle.ethcm_end.proofs.Rising.{by_ack}
-use Rattle.link_settling.proofs.Counting.{coming_acked, entering}
+use Rattle.link_settling.proofs.Counting.{coming_acked, entering, no_length}
 
 -- ---- pieces in order
 
@@ -250,10 +250,6 @@ pub record AckedTo (s : EndState) (to : Session) (tx : Sender) (next : ℕ) (new
   pub upto : sent_end tx ≤ sent_end new
   pub run : RunsFrom (sent_end tx) (sent_end new) (map (piece_packet s to) (coming_in tx new))
   pub within : tx.base ≤ next → next ≤ sent_end tx → new.base ≡ next
-
-no_length : {X : Type 0} (xs : List X) → length xs ≡ 0 → xs ≡ []
-no_length [] e = refl
-no_length (x ∷ xs) e = absurd (omega arith)
 
 no_numbers : (n : ℕ) (frames : List Frame) → length frames ≡ 0 → numbered_from n frames ≡ []
 no_numbers n frames e = no_frames n frames (no_length frames e)

@@ -1,6 +1,6 @@
 -- Every link settles in six ticks.
 use Rattle.std.proofs.Common.{◌≡◌, ℕ, zero, suc, false, true, Option, Some, None}
-use Rattle.std.proofs.Common.{List, [], ◌∷◌, ◌++◌, refl, sym, subst, arith}
+use Rattle.std.proofs.Common.{List, [], ◌∷◌, ◌++◌, length, refl, sym, subst, arith}
 use Rattle.std.specs.Prelude.{IsSome, slice_get}
 use Rattle.linx_base.specs.Frames.{IsMessage}
 use Rattle.linx_base.specs.Sides.{other_of}
@@ -20,6 +20,7 @@ use Rattle.carrier.proofs.Links.{events_keep, seen_keeps}
 use Rattle.link_settling.specs.Laws.{LinksSettle}
 use Rattle.link_settling.specs.Runs.{IsEmpty, MayAllBe, MayBe, Move, SettlesIn, moved, moved_all}
 use Rattle.link_settling.specs.Runs.Move.{comes, offers}
+use Rattle.link_settling.proofs.Counting.{no_length}
 use Rattle.link_settling.proofs.Left.{Left, left_lasts, left_none, left_ticked}
 use Rattle.link_settling.proofs.Steps.{Holds, beaten, beaten_out}
 
@@ -136,6 +137,10 @@ left_ticks n First v empty k h =
     left_tick n v.first v.second v.there v.back empty.0 empty.1 k h
 left_ticks n Second v empty k h =
     left_tick n v.second v.first v.back v.there empty.1 empty.0 (seen_keeps Second v k) h
+
+-- by the numbers of packets
+pub empty_by : (v : LinkState) → length v.there ≡ 0 → length v.back ≡ 0 → IsEmpty v
+empty_by v there back = (no_length v.there there, no_length v.back back)
 
 -- it is quiet
 quiet_by : (v : LinkState) → IsEmpty v → has_work_in v.first.end ≡ false
