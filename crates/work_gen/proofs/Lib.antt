@@ -1,0 +1,6 @@
+pub mod Names
+pub mod Lists
+pub mod Nodes
+pub mod Links
+pub mod Fitting
+pub mod Worked

@@ -1,0 +1,7 @@
+use Rattle.std.proofs.Common.{◌≡◌, ◌++◌}
+use Rattle.work_gen.specs.Copies.{copies}
+use Rattle.work_gen.proofs.acting.add_copies.Given as goal
+
+-- so many copies stand behind the others
+abbrev pub invariant-loop : goal.invariant-loop
+invariant-loop l = l.commands ≡ l.initial.commands ++ copies l.counter l.block

@@ -1,0 +1,171 @@
+//! What the actors of the load do.
+
+ghost use Rattle.std.specs.Prelude.{◌≡◌, ◌++◌, codes, OnOk, IfOk};
+ghost use Rattle.script_words.specs.declared.target.Target.TheVariants as targets;
+ghost use Rattle.script_words.specs.Filling.{no_data};
+ghost use Rattle.work_gen.specs.Copies.{copies};
+ghost use Rattle.work_gen.specs.Generated.{receive, server_commands, finding, request, asking};
+ghost use Rattle.work_gen.specs.Generated.{leaving};
+
+use crate::naming::{name_of, numbered_name};
+use linx_base::{LinkNo, NoMemory, Path, TryCopy};
+use script_lang::{Command, Commands, Filling, Target};
+use sigsel::{Numbers, Sigsel};
+use std::alloc::Global;
+
+/// A request of a client.
+const REQUEST: u32 = 10;
+
+/// The answer of a server.
+const ANSWER: u32 = 11;
+
+/// The last word of a client.
+const DONE: u32 = 12;
+
+/// The signal that answers a hunt.
+const FOUND: u32 = 251;
+
+/// The signal of an attach.
+const ENDED: u32 = 252;
+
+/// The requests of a client.
+const REQUESTS: u32 = 100;
+
+/// The clients of a server.
+pub(crate) const CLIENTS: u32 = 8;
+
+fn nothing() -> Filling
+    ensures { result ≡ no_data }
+{
+    Filling::Repeat { count: 0, byte: 0 }
+}
+
+/// Receives signals of one number.
+fn receive_of(alloc: Global, number: u32) -> Result<Command, NoMemory>
+    ensures { IfOk result (λ command. command ≡ receive number) }
+{
+    let listed = Numbers::of(Vec::from_slice(alloc, &[number])?);
+    Ok(Command::Recv(Sigsel::Only(listed)))
+}
+
+/// The server, by the name that a client gives it.
+fn server_kept(alloc: Global) -> Result<Target, NoMemory>
+    ensures { IfOk result (λ target. target ≡ targets.Kept (codes "s")) }
+{
+    Ok(Target::Kept(name_of(alloc, b"s")?))
+}
+
+/// Adds some commands.
+fn add_block(commands: &mut Commands, block: &[Command]) -> Result<(), NoMemory>
+    ensures { OnOk result (commands.new ≡ commands.old ++ block.now) }
+{
+    for command in block {
+        commands.push(command.copy()?)?;
+    }
+    Ok(())
+}
+
+/// Adds so many copies of some commands.
+fn add_copies(commands: &mut Commands, times: u32, block: &[Command]) -> Result<(), NoMemory>
+    ensures { OnOk result (commands.new ≡ commands.old ++ copies times block.now) }
+{
+    for _ in 0..times {
+        add_block(commands, block)?;
+    }
+    Ok(())
+}
+
+/// What the server of link k does.
+#[tactic(auto, unfolding(crate::specs::Generated::server_commands))]
+pub(crate) fn serve(alloc: Global, k: u32) -> Result<Commands, NoMemory>
+    ensures { IfOk result (λ commands. commands ≡ server_commands k) }
+{
+    let mut commands = Commands::new(alloc);
+    commands.push(Command::Open(numbered_name(alloc, b"s", k)?))?;
+    let answer = Command::Send {
+        to: Target::Last,
+        number: ANSWER,
+        bytes: nothing(),
+    };
+    add_copies(
+        &mut commands,
+        CLIENTS * REQUESTS,
+        &[receive_of(alloc, REQUEST)?, answer],
+    )?;
+    add_copies(&mut commands, CLIENTS, &[receive_of(alloc, DONE)?])?;
+    Ok(commands)
+}
+
+/// How client i comes to know the server of link k.
+#[tactic(auto, unfolding(crate::specs::Generated::finding))]
+fn find(alloc: Global, k: u32, i: u32) -> Result<Commands, NoMemory>
+    ensures { IfOk result (λ commands. commands ≡ finding k i) }
+{
+    let mut commands = Commands::new(alloc);
+    commands.push(Command::Open(numbered_name(alloc, b"c", i)?))?;
+    commands.push(Command::Hunt {
+        path: Path::Over {
+            link: LinkNo(k),
+            name: numbered_name(alloc, b"s", k)?,
+        },
+        number: FOUND,
+        bytes: nothing(),
+    })?;
+    commands.push(receive_of(alloc, FOUND)?)?;
+    commands.push(Command::Keep(name_of(alloc, b"s")?))?;
+    commands.push(Command::Attach {
+        to: server_kept(alloc)?,
+        r: name_of(alloc, b"r")?,
+        number: ENDED,
+        bytes: nothing(),
+    })?;
+    Ok(commands)
+}
+
+/// The data of a request of client i.
+fn request_of(n: u32, i: u32) -> Filling
+    ensures { result ≡ request n i }
+{
+    Filling::Repeat {
+        count: ((97 * u64::from(n) + 131 * u64::from(i)) % 4001) as u32,
+        byte: (i % 256) as u8,
+    }
+}
+
+/// Adds what client i asks of its server.
+#[tactic(auto, unfolding(crate::specs::Generated::asking))]
+fn add_asking(alloc: Global, commands: &mut Commands, n: u32, i: u32) -> Result<(), NoMemory>
+    ensures { OnOk result (commands.new ≡ commands.old ++ asking n i) }
+{
+    let ask = Command::Send {
+        to: server_kept(alloc)?,
+        number: REQUEST,
+        bytes: request_of(n, i),
+    };
+    add_copies(commands, REQUESTS, &[ask, receive_of(alloc, ANSWER)?])?;
+    Ok(())
+}
+
+/// Adds how a client takes leave of its server.
+#[tactic(auto, unfolding(crate::specs::Generated::leaving))]
+fn add_leaving(alloc: Global, commands: &mut Commands) -> Result<(), NoMemory>
+    ensures { OnOk result (commands.new ≡ commands.old ++ leaving) }
+{
+    commands.push(Command::Detach(name_of(alloc, b"r")?))?;
+    commands.push(Command::Send {
+        to: server_kept(alloc)?,
+        number: DONE,
+        bytes: nothing(),
+    })?;
+    Ok(())
+}
+
+/// What client i does over link k.
+pub(crate) fn consult(alloc: Global, n: u32, k: u32, i: u32) -> Result<Commands, NoMemory>
+    ensures { IfOk result (λ commands. commands ≡ finding k i ++ (asking n i ++ leaving)) }
+{
+    let mut commands = find(alloc, k, i)?;
+    add_asking(alloc, &mut commands, n, i)?;
+    add_leaving(alloc, &mut commands)?;
+    Ok(commands)
+}
