@@ -3,8 +3,10 @@ ghost use Rattle.std.specs.Io.KnownBytes.{Appends};
 ghost use Rattle.linx_outside.specs.Counts.{HasFaulted, NeverFalls};
 ghost use Rattle.linx_outside.specs.Told.{AppendsFront};
 ghost use Rattle.journal_text.specs.Text.{text_of};
+ghost use Rattle.report.specs.Summary.{summary_of};
 ghost use Rattle.report.specs.declared.reports.ReportError.TheVariants as errors;
 
+use crate::summary::summary;
 use journal::Journal;
 use linx_base::NoMemory;
 use linx_outside::{Sink, WriteFault, write_all};
@@ -76,5 +78,30 @@ pub fn write_report<K: Sink>(
 {
     let text = journal_text::text(alloc, journal)?;
     write_all(out, &text)?;
+    Ok(())
+}
+
+/// Writes the summary of the journal. Faults, and want of memory, are as in `write_report`.
+pub fn write_summary<K: Sink>(
+    alloc: Global,
+    journal: &Journal,
+    out: &mut K,
+) -> Result<(), ReportError>
+    ensures written { OnOk result
+        (Appends (K.held out.old) (K.held out.new) (summary_of journal.now.log)) }
+    ensures counts_nothing { OnOk result (K.faults out.new ≡ K.faults out.old) }
+
+    ensures front { IfErr result (λ e. e ≡ ReportError.WriteFault
+        → AppendsFront (K.held out.old) (K.held out.new) (summary_of journal.now.log)) }
+    ensures faulted { IfErr result (λ e. e ≡ ReportError.WriteFault
+        → HasFaulted K.last_count (K.faults out.old) (K.faults out.new)) }
+    ensures no_memory { IfErr result (λ e. e ≡ ReportError.NoMemory → out.new ≡ out.old) }
+
+    ensures never_falls { NeverFalls K.last_count (K.faults out.old) (K.faults out.new) }
+    ensures takes { K.can_take out.old (length (summary_of journal.now.log))
+        → IfErr result (λ e. e ≡ ReportError.NoMemory) }
+{
+    let lines = summary(alloc, journal)?;
+    write_all(out, &lines)?;
     Ok(())
 }

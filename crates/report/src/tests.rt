@@ -1,4 +1,4 @@
-use crate::{ReportError, write_report};
+use crate::{ReportError, write_report, write_summary};
 use journal::{By, Effect, Effects, Head, Journal, SentTo, Step};
 use linx_base::{Blob, Inc, ItemAt, Name, NameList, Names, NoMemory, Peer, SigNote};
 use linx_outside::MemSink;
@@ -11,6 +11,9 @@ const A: Inc = Inc(4_294_967_297);
 const TEXT: &str = "log 1.1 a n\nsent 1.1 5 - queued\narrived 1.1 5 -\ntook 1.1 5 -\nclosed\n\
     journal 5\n1 A1 open a\n+ opened 1.1\n2 A1 send 1.1 5 - queued\n+ arrived 1.1 1.1 5 -\n\
     3 A1 take any 2.1\n4 A1 close\n+ closed 1.1\n5 A1 ended\n";
+
+const SUMMARY: &str = "nodes 1\nlinks 0\nendpoints 1\nsent 1\nbytes 0\narrived 1\nfound 0\n\
+    notified 0\ntaken 1\nnone 0\n";
 
 fn note(alloc: Global) -> Result<SigNote, NoMemory> {
     Ok(SigNote {
@@ -74,5 +77,14 @@ fn front_of_the_text_before_a_fault(rt: HostRuntime) -> Result<(), Fail> {
     let answer = write_report(alloc, &sends_to_itself(alloc)?, &mut sink);
     assert!(rt; answer == Err(ReportError::WriteFault));
     assert!(rt; sink.held() == b"log 1.1 a ".as_slice());
+    Ok(())
+}
+
+#[test]
+fn summary_of_a_run(rt: HostRuntime) -> Result<(), Fail> {
+    let alloc = rt.alloc();
+    let mut sink = MemSink::new(alloc, 10, 4096, Vec::new(alloc))?;
+    write_summary(alloc, &sends_to_itself(alloc)?, &mut sink)?;
+    assert!(rt; sink.held() == SUMMARY.as_bytes());
     Ok(())
 }
