@@ -32,15 +32,19 @@ up_to count = range_with_len 1 count
 abbrev pub numbered : List ℕ → ℕ → List ℕ
 numbered letter k = letter ++ decimal k
 
+-- the name of node k
 abbrev pub node_name : ℕ → List ℕ
 node_name k = numbered (codes "n") k
 
+-- the name of link k
 abbrev pub link_name : ℕ → List ℕ
 link_name k = numbered (codes "l") k
 
+-- the name of the server of link k
 abbrev pub server_name : ℕ → List ℕ
 server_name k = numbered (codes "s") k
 
+-- the name of client i
 abbrev pub client_name : ℕ → List ℕ
 client_name i = numbered (codes "c") i
 
@@ -134,6 +138,6 @@ built n nodes links peopled =
     (map joined (up_to links)) (map (plans_of n) (up_to links))
     (flat_map (actors_over n) (up_to peopled))
 
--- the generated script of a number
+-- the generated script of a number: four nodes, three links, and the actors over all of them
 abbrev pub generated : ℕ → ScriptParts
 generated n = built n 4 3 3

@@ -1,3 +1,4 @@
 pub mod Copies
 pub mod Generated
+pub mod Losses
 pub mod Building

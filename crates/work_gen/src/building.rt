@@ -3,6 +3,7 @@
 ghost use Rattle.std.specs.Prelude.{◌≡◌, ◌+◌, ◌<◌, ◌≤◌, [], ◌∷◌, OnOk, IfOk, IsTrue};
 ghost use Rattle.script_lang.specs.Fits.{is_node, has_end};
 ghost use Rattle.work_gen.specs.Generated.{server, client, clients, built, generated};
+ghost use Rattle.work_gen.specs.Losses.{EachLosesApart};
 ghost use Rattle.work_gen.specs.Building.{HasRoom, with_actors};
 
 use crate::acting::{CLIENTS, consult, serve};
@@ -112,9 +113,10 @@ fn add_actors(alloc: Global, script: &mut Script, n: u32) -> Result<(), NoMemory
     Ok(())
 }
 
-/// The generated script of the number n.
+/// The generated script of the number n. In no direction two packets in a row are lost.
 pub fn script(alloc: Global, n: u32) -> Result<Script, NoMemory>
-    ensures { IfOk result (λ s. s ≡ generated n) }
+    ensures is { IfOk result (λ s. s ≡ generated n) }
+    ensures loses_apart { IfOk result (λ s. EachLosesApart s) }
 {
     let mut script = Script::new(alloc);
     add_nodes(alloc, &mut script, n)?;
