@@ -28,3 +28,4 @@ pub mod Numbering
 pub mod Sending
 pub mod Resting
 pub mod Coming
+pub mod Publishing

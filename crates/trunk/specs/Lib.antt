@@ -5,4 +5,5 @@ pub mod Laws
 pub mod Notes
 pub mod Parts
 pub mod Promises
+pub mod Publishing
 pub mod Tells

@@ -1,14 +1,15 @@
-ghost use Rattle.std.specs.Prelude.{◌≡◌, ◌<◌, IfOk, OnOk, IsSome, Some};
+ghost use Rattle.std.specs.Prelude.{◌≡◌, ◌<◌, IfOk, OnOk, IsSome, Some, is_some};
 ghost use Rattle.std.specs.Option.{option_copied};
 ghost use Rattle.linx_base.specs.Both.{still};
 ghost use Rattle.link_addresses.specs.declared.meaning.Meaning.TheVariants.{Closing as ClosingOf};
-ghost use Rattle.link_addresses.specs.Meanings.{meaning_of, used_in};
+ghost use Rattle.link_addresses.specs.Meanings.{address_of, meaning_of, used_in};
 ghost use Rattle.rlnh_end.specs.declared.heard.Heard.{Heard as AnyHeard};
 ghost use Rattle.rlnh_end.specs.declared.up.Up.TheVariants.{Nothing as NothingUp};
 ghost use Rattle.rlnh_end.specs.Calls.{close_of, opened_of, publish_of, query_of, send_of};
 ghost use Rattle.rlnh_end.specs.Hearing.{IsRead, hears};
 ghost use Rattle.rlnh_end.specs.States.{RlnhTables, addr_met, after_out, inc_met, next_of};
 ghost use Rattle.trunk.specs.Events.{giving_all, given_of, new_trunk_side, told_up};
+ghost use Rattle.trunk.specs.Publishing.{newest_unpublished};
 ghost use Rattle.trunk.specs.Parts.{side_begins, side_ends, side_hears, side_says};
 
 use crate::history::History;
@@ -260,6 +261,27 @@ impl Half {
         ensures { result ≡ used_in self.now.is.end.tables.own }
     {
         self.end.used()
+    }
+
+    /// Whether a peer was met and isn't gone.
+    pub fn is_met(&self, inc: Inc) -> bool
+        ensures { result ≡ is_some (addr_met self.now.is.end.tables.met inc) }
+    {
+        self.end.is_met(inc)
+    }
+
+    /// Whether an endpoint of its node has an address.
+    pub fn is_published(&self, inc: Inc) -> bool
+        ensures { result ≡ is_some (address_of self.now.is.end.tables.own inc) }
+    {
+        self.end.is_published(inc)
+    }
+
+    /// The greatest number of an endpoint that it unpublished in its session, 0 where it did none.
+    pub fn newest_unpublished(&self) -> u64
+        ensures { result ≡ newest_unpublished self.now.is.kept.now.said }
+    {
+        self.kept.newest_unpublished()
     }
 
     /// What is now stays. It takes no memory.

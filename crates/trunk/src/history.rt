@@ -3,6 +3,7 @@ ghost use Rattle.linx_base.specs.Both.{still};
 ghost use Rattle.linx_base.specs.Numbers.{first_session};
 ghost use Rattle.trunk_record.specs.Changes.{new_side};
 ghost use Rattle.trunk.specs.Notes.{noted};
+ghost use Rattle.trunk.specs.Publishing.{newest_noted, newest_unpublished};
 
 use crate::note::Note;
 use linx_base::{NoMemory, UndoList};
@@ -15,16 +16,36 @@ use std::marker::Model;
 #[derive(Drop)]
 pub struct History {
     notes: UndoList<Note>,
+    /// The greatest number of an incarnation that was unpublished in the present session.
+    newest: u64,
+    old_newest: u64,
 }
 
 impl Model for History {
     ghost use Rattle.linx_base.specs.Both.{Both};
+    ghost use Rattle.std.specs.Prelude.{◌≡◌};
     ghost use Rattle.trunk_record.specs.Records.{SideRecord};
     ghost use Rattle.trunk.specs.Notes.{record_of};
+    ghost use Rattle.trunk.specs.Publishing.{newest_unpublished};
 
     ghost Value = { Both SideRecord };
 
     ghost view = { λ h. record { was = record_of h.notes.was; is = record_of h.notes.is } };
+
+    ghost invariant = { λ h.
+        (h.old_newest ≡ newest_unpublished (record_of h.notes.was).now.said)
+        × (h.newest ≡ newest_unpublished (record_of h.notes.is).now.said) };
+}
+
+/// The greatest number of an incarnation that was unpublished, once this is noted too.
+fn newest_with(newest: u64, note: &Note) -> u64
+    ensures { result ≡ newest_noted newest note.now }
+{
+    match note {
+        Note::Began(_) => 0,
+        Note::Unpublished(inc) => newest.max(inc.0),
+        _ => newest,
+    }
 }
 
 impl History {
@@ -34,6 +55,8 @@ impl History {
     {
         History {
             notes: UndoList::new(alloc),
+            newest: 0,
+            old_newest: 0,
         }
     }
 
@@ -42,8 +65,18 @@ impl History {
         ensures is { OnOk result (self.new.is ≡ noted self.old.is note) }
         ensures was { self.new.was ≡ self.old.was }
     {
+        let newest = newest_with(self.newest, &note);
         self.notes.push(note)?;
+        self.newest = newest;
         Ok(())
+    }
+
+    /// The greatest number of an incarnation that was unpublished in the present session, 0 where
+    /// none was.
+    pub fn newest_unpublished(&self) -> u64
+        ensures { result ≡ newest_unpublished self.now.is.now.said }
+    {
+        self.newest
     }
 
     /// What is now stays. It takes no memory.
@@ -51,6 +84,7 @@ impl History {
         ensures { self.new ≡ still self.old.is }
     {
         self.notes.keep();
+        self.old_newest = self.newest;
     }
 
     /// What was is again. It takes no memory.
@@ -58,5 +92,6 @@ impl History {
         ensures { self.new ≡ still self.old.was }
     {
         self.notes.undo();
+        self.newest = self.old_newest;
     }
 }

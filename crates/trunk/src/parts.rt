@@ -4,7 +4,7 @@ ghost use Rattle.linx_base.specs.Both.{still};
 ghost use Rattle.linx_base.specs.Frames.{IsMessage};
 ghost use Rattle.linx_base.specs.Numbers.{boot_of};
 ghost use Rattle.linx_base.specs.Sides.{other_of};
-ghost use Rattle.link_addresses.specs.Meanings.{used_in};
+ghost use Rattle.link_addresses.specs.Meanings.{address_of, used_in};
 ghost use Rattle.ethcm_session.specs.Table.{HasNext};
 ghost use Rattle.ethcm_window.specs.Sending.{left_of};
 ghost use Rattle.ethcm_end.specs.Sound.{IsPiece};
@@ -18,7 +18,8 @@ ghost use Rattle.rlnh_end.specs.Calls.{close_of, opened_of, publish_of, query_of
 ghost use Rattle.rlnh_end.specs.Hearing.{IsRead, hears};
 ghost use Rattle.rlnh_end.specs.States.{addr_met};
 ghost use Rattle.trunk.specs.Events.{new_trunk, side_of, tables_of, taken_out, told_up};
-ghost use Rattle.trunk.specs.Events.{lost_from, swapped_from, with_link};
+ghost use Rattle.trunk.specs.Events.{kept_of, lost_from, swapped_from, with_link};
+ghost use Rattle.trunk.specs.Publishing.{newest_unpublished};
 ghost use Rattle.trunk.specs.Parts.{OnlyGrownFrom, offers_to, sends_at, side_begins, side_ends, side_hears};
 ghost use Rattle.trunk.specs.Parts.{side_says, with_side};
 
@@ -373,6 +374,37 @@ impl Parts {
         match side {
             Side::First => self.first.used(),
             Side::Second => self.second.used(),
+        }
+    }
+
+    /// Whether a side has met an endpoint of the other side that isn't gone.
+    pub fn is_met(&self, side: Side, inc: Inc) -> bool
+        ensures { result ≡ is_some (addr_met (tables_of side self.now.is).met inc) }
+    {
+        match side {
+            Side::First => self.first.is_met(inc),
+            Side::Second => self.second.is_met(inc),
+        }
+    }
+
+    /// Whether an endpoint of a side has an address.
+    pub fn is_published(&self, side: Side, inc: Inc) -> bool
+        ensures { result ≡ is_some (address_of (tables_of side self.now.is).own inc) }
+    {
+        match side {
+            Side::First => self.first.is_published(inc),
+            Side::Second => self.second.is_published(inc),
+        }
+    }
+
+    /// The greatest number of an endpoint that a side unpublished in its session, 0 where it did
+    /// none.
+    pub fn newest_unpublished(&self, side: Side) -> u64
+        ensures { result ≡ newest_unpublished (kept_of side self.now.is).now.said }
+    {
+        match side {
+            Side::First => self.first.newest_unpublished(),
+            Side::Second => self.second.newest_unpublished(),
         }
     }
 

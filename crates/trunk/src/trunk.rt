@@ -1,4 +1,4 @@
-ghost use Rattle.std.specs.Prelude.{◌≡◌, ◌≢◌, ◌≤◌, ◌<◌, true, length, IfOk, OnOk, OnErr};
+ghost use Rattle.std.specs.Prelude.{◌≡◌, ◌≢◌, ◌≤◌, ◌<◌, true, ◌&&◌, length, map, IfOk, OnOk, OnErr};
 ghost use Rattle.std.specs.Prelude.{None, [], ◌∷◌};
 ghost use Rattle.linx_base.specs.declared.identity.Side.{Side as AnySide};
 ghost use Rattle.linx_base.specs.Both.{still};
@@ -12,7 +12,7 @@ ghost use Rattle.ethcm_end.specs.States.{peer_of};
 ghost use Rattle.carrier.specs.Events.{flight_from, half_of, handed_by, is_quiet};
 ghost use Rattle.carrier.specs.Events.{told_by as link_told_by};
 ghost use Rattle.trunk_record.specs.Changes.{beginning, sending};
-ghost use Rattle.trunk_record.specs.Sayings.{asked};
+ghost use Rattle.trunk_record.specs.Sayings.{asked, heard_as, is_live};
 ghost use Rattle.trunk_record.specs.Trunks.{IsQuiet, IsTrunk};
 ghost use Rattle.rlnh_end.specs.declared.heard.Heard.{Heard as AnyHeard};
 ghost use Rattle.rlnh_end.specs.States.{without_note};
@@ -23,6 +23,7 @@ ghost use Rattle.trunk.specs.Keeping.{KeepsTrunk};
 ghost use Rattle.trunk.specs.Laws.{MayPublish, MaySend};
 ghost use Rattle.trunk.specs.Parts.{OnlyGrownFrom};
 ghost use Rattle.trunk.specs.Promises.{Promises};
+ghost use Rattle.trunk.specs.Publishing.{can_publish};
 ghost use Rattle.trunk.specs.Tells.{DownForLater, Says, TellsNotes, TellsSide, closing, noted_of};
 ghost use Rattle.trunk.specs.Tells.{notes_opening, notes_sending, opening, publishing, up_of_tick};
 
@@ -53,6 +54,13 @@ impl Model for Trunk {
     ghost view = { λ t. t.parts };
 
     ghost invariant = { λ t. KeepsTrunk t.parts.was × KeepsTrunk t.parts.is };
+}
+
+/// The number of an incarnation, which fits 64 bits.
+fn number_of(inc: Inc) -> u64
+    ensures { result ≡ inc.0 }
+{
+    inc.0
 }
 
 impl Trunk {
@@ -343,6 +351,49 @@ impl Trunk {
         ensures { result ≡ used_in (tables_of side self.now.is).own }
     {
         self.parts.used(side)
+    }
+
+    /// Whether a side has met an endpoint of the other side, and wasn't told that it is gone.
+    pub fn is_met(&self, side: Side, inc: Inc) -> bool
+        ensures { result ≡ is_live inc (map heard_as (kept_of side self.now.is).now.given) }
+    {
+        self.parts.is_met(side, inc)
+    }
+
+    /// Whether a side has published an endpoint in its session, and not unpublished it since.
+    pub fn is_published(&self, side: Side, inc: Inc) -> bool
+        ensures { result ≡ is_live inc (kept_of side self.now.is).now.said }
+    {
+        self.parts.is_published(side, inc)
+    }
+
+    /// Whether it is sure, with no list of the endpoints that a side unpublished, that it may publish
+    /// one: that is published already, or is newer than each that it unpublished in its session.
+    pub fn may_publish(&self, side: Side, inc: Inc, name: &Name) -> bool
+        ensures value { result ≡ can_publish (side_of side self.now.is) inc }
+        ensures may { result ≡ true → MayPublish (side_of side self.now.is) inc name.now }
+    {
+        // The bytes of a name spell one.
+        name.bytes();
+        let number = number_of(inc);
+        if self.parts.used(side) == u32::MAX {
+            return false;
+        }
+        self.is_published(side, inc) || self.parts.newest_unpublished(side) < number
+    }
+
+    /// Whether it is sure that a side may send a signal from an endpoint to a peer: it may publish
+    /// the endpoint, and has met the peer.
+    pub fn may_send(&self, side: Side, from: Inc, name: &Name, to: Inc, signal: &Signal) -> bool
+        ensures value { result ≡ (can_publish (side_of side self.now.is) from
+            && is_live to (map heard_as (kept_of side self.now.is).now.given)) }
+        ensures may { result ≡ true
+            → MaySend (side_of side self.now.is) from name.now to signal.now }
+    {
+        // A signal's number and data are within bounds.
+        let _number = signal.number();
+        let _data = signal.bytes();
+        self.may_publish(side, from, name) && self.is_met(side, to)
     }
 
     /// Whether nothing is in flight, and neither end of the link has work. Then both sides are up
