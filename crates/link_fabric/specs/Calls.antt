@@ -1,0 +1,135 @@
+-- What an actor's call at its open endpoint makes of its node, of how it stands, and of the
+-- journal.
+use Rattle.std.specs.Prelude.{ℕ, ◌≡◌, ◌≤◌, ◌<◌, true, List, [], ◌∷◌, length, Option, None, Some}
+use Rattle.linx_base.specs.Content.{data_limit}
+use Rattle.linx_base.specs.declared.identity.Inc.{Inc}
+use Rattle.linx_base.specs.declared.signal.SigNote.{SigNote}
+use Rattle.journal.specs.declared.by.By.{By}
+use Rattle.journal.specs.declared.effect.Effect.{Effect}
+use Rattle.journal.specs.declared.event.Event.{Event}
+use Rattle.journal.specs.declared.event.Event.TheVariants as asks
+use Rattle.journal.specs.declared.head.Head.{Head}
+use Rattle.journal.specs.declared.head.Head.TheVariants as heads
+use Rattle.journal.specs.Effects.{arrivals_of, attached, closing, hunted, send_answer}
+use Rattle.journal.specs.Logs.{Log}
+use Rattle.node_kernel.specs.declared.answers.StepAnswer.{StepAnswer}
+use Rattle.node_kernel.specs.declared.answers.StepAnswer.TheVariants as answers
+use Rattle.node_kernel.specs.declared.ask.Ask.{Ask}
+use Rattle.node_kernel.specs.Calls.{after_attach, after_close, after_detach, after_hunt, after_send}
+use Rattle.node_kernel.specs.Calls.{detached}
+use Rattle.node_kernel.specs.Nodes.{NodeState, find_at, is_living}
+use Rattle.trunk_moves.specs.Steps.{HuntsName}
+use Rattle.link_fabric.specs.declared.call.Call.{Call}
+use Rattle.link_fabric.specs.declared.call.Call.TheVariants.{Attach, Close, Detach, End, Hunt, Send}
+use Rattle.link_fabric.specs.declared.standing.Standing.{Standing}
+use Rattle.link_fabric.specs.declared.stop.StepStop.{StepStop}
+use Rattle.link_fabric.specs.declared.stop.StopCause.TheVariants.{NoMemory}
+
+-- the event that a call is
+abbrev pub event_of : Call → Event
+event_of Close = asks.Close
+event_of End = asks.End
+event_of (Send q signal) = asks.Send q
+event_of (Hunt path signal) = asks.Hunt path
+event_of (Attach q signal) = asks.Attach q
+event_of (Detach r) = asks.Detach r
+
+-- the signal that goes with it
+abbrev pub hand_of : Call → Option SigNote
+hand_of Close = None
+hand_of End = None
+hand_of (Send q signal) = Some signal
+hand_of (Hunt path signal) = Some signal
+hand_of (Attach q signal) = Some signal
+hand_of (Detach r) = None
+
+-- what is asked by it
+abbrev pub ask_of : Call → Ask
+ask_of call = record { event = event_of call; hand = hand_of call }
+
+-- an attach has room for the reason
+abbrev pub HasRoom : Call → Type 0
+HasRoom (Attach q signal) = length signal.bytes < data_limit
+HasRoom _ = Unit {0}
+
+-- a signal has no more data than one may have
+abbrev pub IsBounded : Call → Type 0
+IsBounded (Send q signal) = length signal.bytes ≤ data_limit
+IsBounded (Hunt path signal) = length signal.bytes ≤ data_limit
+IsBounded _ = Unit {0}
+
+-- what the types of a call tell: a signal's number fits four bytes, and what is hunted over a link
+-- is a name
+abbrev pub IsTyped : Call → Type 0
+IsTyped (Send q signal) = signal.number < 4294967296
+IsTyped (Hunt path signal) = HuntsName (heads.Hunt path signal)
+IsTyped _ = Unit {0}
+
+-- what a call makes: its node after it, the head and the effects of its step, and its answer
+pub record CallMade : Type 0 where
+  pub node : NodeState
+  pub head : Head
+  pub effects : List Effect
+  pub answer : StepAnswer
+
+-- a call at endpoint j of a node, in step n
+abbrev pub call_made : NodeState → ℕ → Inc → Call → CallMade
+call_made k n j Close = record {
+  node = after_close k j n;
+  head = heads.Close;
+  effects = closing j k.attaches;
+  answer = answers.Closed;
+}
+call_made k n j End = record {
+  node = after_close k j n;
+  head = heads.Ended;
+  effects = closing j k.attaches;
+  answer = answers.Done;
+}
+call_made k n j (Send q signal) = record {
+  node = after_send k j q signal n;
+  head = heads.Send q signal (send_answer (is_living k q) q);
+  effects = arrivals_of j signal (is_living k q) q;
+  answer = answers.Sent (send_answer (is_living k q) q);
+}
+call_made k n j (Hunt path signal) = record {
+  node = after_hunt k (record { at = j; path = path; signal = signal; number = n });
+  head = heads.Hunt path signal;
+  effects = hunted (find_at k path)
+      (record { at = j; path = path; signal = signal; number = n });
+  answer = answers.Hunted n;
+}
+call_made k n j (Attach q signal) = record {
+  node = after_attach k
+      (record { at = j; peer = q; signal = signal; reference = record { 0 = n } });
+  head = heads.Attach q signal;
+  effects = attached (is_living k q)
+      (record { at = j; peer = q; signal = signal; reference = record { 0 = n } });
+  answer = answers.Attached (record { 0 = n });
+}
+call_made k n j (Detach r) = record {
+  node = after_detach k j r;
+  head = heads.Detach r (detached k j r);
+  effects = [];
+  answer = answers.Detached (detached k j r);
+}
+
+-- a maker has made this of a journal and a node, and it was answered
+pub record IsCallMade (made : CallMade) (by : By) (log new : Log) (node : NodeState)
+    (answer : StepAnswer) : Type 0 where
+  pub logged :
+      new ≡ record log
+      { steps = record { by = by; head = made.head; effects = made.effects } ∷ log.steps }
+  pub node_is : node ≡ made.node
+  pub answered : answer ≡ made.answer
+
+-- how an actor stands after step n, its call that was answered so
+abbrev pub stands_after : ℕ → StepAnswer → Standing → Standing
+stands_after n answers.Closed s = record s { endpoint = None; closed = n; waits = None }
+stands_after n answers.Done s =
+    record s { endpoint = None; closed = n; waits = None; ended = true }
+stands_after n _ s = record s { waits = None }
+
+-- memory was refused to a step with this in its hand
+abbrev pub refusal_with : Option SigNote → StepStop
+refusal_with hand = record { cause = NoMemory; hand = hand }
