@@ -1,0 +1,372 @@
+//! A plain account of what both sides of a trunk said and were given, which judges what is handed
+//! up.
+
+use linx_base::{Inc, Name, Session, Signal};
+use std::alloc::Global;
+use std::test::Fail;
+use trunk::TrunkUp;
+
+/// What a side says. A name is given by its number.
+#[derive(Clone, Copy, PartialEq, Eq)]
+pub enum Word {
+    Published(Inc),
+    Asked(u64),
+    Signaled { from: Inc, to: Inc, number: u32 },
+    Unpublished(Inc),
+}
+
+/// One session of a side.
+#[derive(Drop)]
+pub struct Told {
+    session: Session,
+    peer: Option<Session>,
+    said: Vec<Word>,
+    /// How many words of its peer came so far.
+    heard: usize,
+    /// The endpoints that it published and not unpublished, and those that it unpublished.
+    live: Vec<Inc>,
+    over: Vec<Inc>,
+    /// The peers that it met and that aren't gone.
+    met: Vec<Inc>,
+    /// The numbers of the names that it was asked for.
+    noted: Vec<u64>,
+}
+
+/// How often what happened.
+#[derive(Clone, Copy)]
+pub struct Tally {
+    pub ups: u32,
+    pub downs: u32,
+    pub met: u32,
+    pub gone: u32,
+    pub asked: u32,
+    pub arrived: u32,
+    pub freed: u32,
+}
+
+/// A node at one side of a trunk.
+#[derive(Drop)]
+pub struct Node {
+    /// Its open endpoints, and its sessions, the newest last.
+    pub open: Vec<Inc>,
+    sessions: Vec<Told>,
+    pub tally: Tally,
+}
+
+/// There are four names, and an endpoint has one by its number.
+pub fn name_of(inc: Inc) -> u64 {
+    inc.0 % 4
+}
+
+/// The data of a signal, by its number.
+pub fn data_of(alloc: Global, number: u32) -> Result<Vec<u8>, Fail> {
+    let size = if number % 31 == 0 { 300 } else { number % 97 };
+    let mut data = Vec::new(alloc);
+    for _ in 0..size {
+        data.push((number % 251) as u8)?;
+    }
+    Ok(data)
+}
+
+fn without(list: &mut Vec<Inc>, inc: Inc) {
+    if let Some(place) = list.iter().position(|other| *other == inc) {
+        list.swap_remove(place);
+    }
+}
+
+fn new_session(alloc: Global, session: Session) -> Told {
+    Told {
+        session,
+        peer: None,
+        said: Vec::new(alloc),
+        heard: 0,
+        live: Vec::new(alloc),
+        over: Vec::new(alloc),
+        met: Vec::new(alloc),
+        noted: Vec::new(alloc),
+    }
+}
+
+/// What a session said, where its peer is this one.
+fn said_to(sessions: &[Told], session: Session, peer: Session) -> Option<&[Word]> {
+    for told in sessions.iter().rev() {
+        if told.session == session && told.peer == Some(peer) {
+            return Some(told.said.as_slice());
+        }
+    }
+    None
+}
+
+/// Whether a word is a signal to an endpoint that was unpublished.
+fn is_freed(word: Word, over: &[Inc]) -> bool {
+    match word {
+        Word::Signaled { to, .. } => over.contains(&to),
+        _ => false,
+    }
+}
+
+/// The words of these that weren't heard.
+fn rest_of(said: &[Word], heard: usize) -> &[Word] {
+    said.get(heard..).unwrap_or(&[])
+}
+
+/// A session is given a word: it is the next one of its peer, but for signals that are freed. The
+/// answer is how many were.
+fn give(now: &mut Told, others: &[Told], word: Word) -> Result<u32, Fail> {
+    let peer = now.peer.ok_or("a word came while the side was down")?;
+    let said = said_to(others, peer, now.session).ok_or("a word came of a session not bound")?;
+    let mut freed: u32 = 0;
+    for next in rest_of(said, now.heard) {
+        now.heard = now.heard.wrapping_add(1);
+        if *next == word {
+            return Ok(freed);
+        }
+        if !is_freed(*next, now.over.as_slice()) {
+            return Err(Fail::from("a word came out of turn"));
+        }
+        freed = freed.wrapping_add(1);
+    }
+    Err(Fail::from("a word came that wasn't said"))
+}
+
+/// Whether a session's peer signals from an incarnation in what isn't heard yet.
+fn signals_on(now: &Told, others: &[Told], inc: Inc) -> bool {
+    let said = now.peer.and_then(|peer| said_to(others, peer, now.session));
+    let mut is_on = false;
+    for word in rest_of(said.unwrap_or(&[]), now.heard) {
+        if let Word::Signaled { from, .. } = *word {
+            is_on |= from == inc;
+        }
+    }
+    is_on
+}
+
+fn goes_up(now: &mut Told, others: &[Told], session: Session, peer: Session) -> Result<(), Fail> {
+    if now.session != session || now.peer.is_some() {
+        return Err(Fail::from("another session went up"));
+    }
+    if !others.iter().any(|told| told.session == peer) {
+        return Err(Fail::from("it went up with no session of the other side"));
+    }
+    now.peer = Some(peer);
+    Ok(())
+}
+
+fn meets(now: &mut Told, inc: Inc, name: &Name, names: &[Name]) -> Result<(), Fail> {
+    let called = names.get(name_of(inc) as usize).ok_or("no such name")?;
+    if !called.same(name) || now.met.contains(&inc) {
+        return Err(Fail::from("a peer was met twice, or by another name"));
+    }
+    now.met.push(inc)?;
+    Ok(())
+}
+
+fn parts(now: &mut Told, others: &[Told], inc: Inc) -> Result<(), Fail> {
+    if !now.met.contains(&inc) || signals_on(now, others, inc) {
+        return Err(Fail::from("a peer has gone that wasn't met, or before its last signal"));
+    }
+    without(&mut now.met, inc);
+    Ok(())
+}
+
+/// A name is noted once. The answer is its number.
+fn asks(now: &mut Told, name: &Name, names: &[Name]) -> Result<u64, Fail> {
+    let place = names
+        .iter()
+        .position(|other| other.same(name))
+        .ok_or("no such name")?;
+    let number = place as u64;
+    if !now.noted.contains(&number) {
+        now.noted.push(number)?;
+    }
+    Ok(number)
+}
+
+fn arrives(alloc: Global, now: &Told, to: Inc, signal: &Signal) -> Result<(), Fail> {
+    if !now.live.contains(&to) {
+        return Err(Fail::from("a signal arrived at an endpoint that isn't published"));
+    }
+    if signal.bytes() != data_of(alloc, signal.number())?.as_slice() {
+        return Err(Fail::from("a signal arrived with other data"));
+    }
+    Ok(())
+}
+
+fn one_more(count: &mut u32) {
+    *count = count.wrapping_add(1);
+}
+
+/// What a packet, or a tick, means to the present session of a side. Its session is `mine` then.
+pub fn judge(
+    alloc: Global,
+    near: &mut Node,
+    far: &Node,
+    up: TrunkUp,
+    mine: Session,
+    names: &[Name],
+) -> Result<(), Fail> {
+    let Some(now) = near.sessions.last_mut() else {
+        return Err(Fail::from("no session"));
+    };
+    let (others, tally) = (far.sessions.as_slice(), &mut near.tally);
+    match up {
+        TrunkUp::Nothing => Ok(()),
+        TrunkUp::WentUp { session, peer } => {
+            one_more(&mut tally.ups);
+            goes_up(now, others, session, peer)
+        }
+        TrunkUp::WentDown { session } => {
+            if now.session != session || now.peer.is_none() {
+                return Err(Fail::from("another session went down"));
+            }
+            one_more(&mut tally.downs);
+            begin(alloc, near, mine)
+        }
+        up => given(alloc, now, others, tally, up, names),
+    }
+}
+
+/// What the other side said comes to a session.
+fn given(
+    alloc: Global,
+    now: &mut Told,
+    others: &[Told],
+    tally: &mut Tally,
+    up: TrunkUp,
+    names: &[Name],
+) -> Result<(), Fail> {
+    let word = match up {
+        TrunkUp::Arrived { from, to, signal } => {
+            one_more(&mut tally.arrived);
+            arrives(alloc, now, to, &signal)?;
+            let number = signal.number();
+            Word::Signaled { from, to, number }
+        }
+        TrunkUp::Met { inc, name } => {
+            one_more(&mut tally.met);
+            meets(now, inc, &name, names)?;
+            Word::Published(inc)
+        }
+        TrunkUp::Asked { name } => {
+            one_more(&mut tally.asked);
+            Word::Asked(asks(now, &name, names)?)
+        }
+        TrunkUp::Gone { inc } => {
+            one_more(&mut tally.gone);
+            Word::Unpublished(inc)
+        }
+        _ => return Ok(()),
+    };
+    let freed = give(now, others, word)?;
+    tally.freed = tally.freed.wrapping_add(freed);
+    if let Word::Unpublished(inc) = word {
+        parts(now, others, inc)?;
+    }
+    Ok(())
+}
+
+/// A session of a side begins.
+pub fn begin(alloc: Global, node: &mut Node, session: Session) -> Result<(), Fail> {
+    node.sessions.push(new_session(alloc, session))?;
+    Ok(())
+}
+
+/// Where both sides are quiet, all that one said was given to the other, or freed.
+pub fn is_complete(near: &Node, far: &Node) -> bool {
+    let Some(now) = near.sessions.last() else {
+        return false;
+    };
+    let said = now
+        .peer
+        .and_then(|peer| said_to(far.sessions.as_slice(), peer, now.session));
+    let Some(said) = said else {
+        return false;
+    };
+    rest_of(said, now.heard)
+        .iter()
+        .all(|word| is_freed(*word, now.over.as_slice()))
+}
+
+/// An endpoint is published in the present session, where that is up; its name isn't noted then.
+pub fn publishes(node: &mut Node, inc: Inc) -> Result<(), Fail> {
+    let Some(now) = node.sessions.last_mut() else {
+        return Err(Fail::from("no session"));
+    };
+    if now.peer.is_none() {
+        return Ok(());
+    }
+    now.noted.retain(|name| *name != name_of(inc));
+    if !now.live.contains(&inc) {
+        now.live.push(inc)?;
+        now.said.push(Word::Published(inc))?;
+    }
+    Ok(())
+}
+
+/// One that opened is, where its name is noted.
+pub fn opens(node: &mut Node, inc: Inc) -> Result<(), Fail> {
+    node.open.push(inc)?;
+    match node.sessions.last() {
+        Some(now) if now.noted.contains(&name_of(inc)) => publishes(node, inc),
+        _ => Ok(()),
+    }
+}
+
+/// One that closes is unpublished, where it is published.
+pub fn closes(node: &mut Node, inc: Inc) -> Result<(), Fail> {
+    without(&mut node.open, inc);
+    let Some(now) = node.sessions.last_mut() else {
+        return Err(Fail::from("no session"));
+    };
+    if now.live.contains(&inc) {
+        without(&mut now.live, inc);
+        now.over.push(inc)?;
+        now.said.push(Word::Unpublished(inc))?;
+    }
+    Ok(())
+}
+
+/// This is said too, in a session that is up.
+pub fn says(node: &mut Node, word: Word) -> Result<(), Fail> {
+    let Some(now) = node.sessions.last_mut() else {
+        return Err(Fail::from("no session"));
+    };
+    if now.peer.is_some() {
+        now.said.push(word)?;
+    }
+    Ok(())
+}
+
+/// The peer of the present session that is met at a place, counted round.
+pub fn met_at(node: &Node, place: u64) -> Option<Inc> {
+    let met = node.sessions.last()?.met.as_slice();
+    met.get((place % (met.len() as u64).max(1)) as usize)
+        .copied()
+}
+
+/// Whether an endpoint is published in the present session.
+pub fn is_live(node: &Node, inc: Inc) -> bool {
+    match node.sessions.last() {
+        None => false,
+        Some(now) => now.live.contains(&inc),
+    }
+}
+
+/// A node with no endpoint, in this session.
+pub fn new_node(alloc: Global, session: Session) -> Result<Node, Fail> {
+    let mut node = Node {
+        open: Vec::new(alloc),
+        sessions: Vec::new(alloc),
+        tally: Tally {
+            ups: 0,
+            downs: 0,
+            met: 0,
+            gone: 0,
+            asked: 0,
+            arrived: 0,
+            freed: 0,
+        },
+    };
+    begin(alloc, &mut node, session)?;
+    Ok(node)
+}
