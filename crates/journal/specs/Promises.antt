@@ -1,4 +1,4 @@
--- What a legal journal promises, in the words of those who use it.
+-- What is promised of the signals between endpoints of one node.
 use Rattle.std.specs.Prelude.{ℕ, ◌≡◌, true, List, [], ◌∷◌}
 use Rattle.std.specs.List.{AllByRecursion}
 use Rattle.linx_base.specs.declared.identity.Inc.{Inc}
@@ -22,9 +22,8 @@ NeverFromTheDead shape [] = Unit {0}
 NeverFromTheDead shape (s ∷ P) =
     NeverFromTheDead shape P × AllByRecursion (IsFromLiving P (node_by shape s.by)) s.effects
 
--- On a node an endpoint has got just what another sent it, in order and complete, and nothing from
--- a
--- dead one
-pub record KeepsPromises (shape : Shape) (P : List Step) : Type 0 where
+-- on a node an endpoint has got just what another sent it, in order and complete, and nothing from
+-- a dead one
+pub record KeepsNodePromises (shape : Shape) (P : List Step) : Type 0 where
   pub arrived : (i j : Inc) → arrived_from P j (Here i) ≡ sent_to P i (Here j)
   pub living : NeverFromTheDead shape P

@@ -53,6 +53,7 @@ pub mod MovesSayAll
 pub mod MovesClose
 pub mod MovesOpen
 pub mod MovesRestart
+pub mod NodePromises
 pub mod Runs
 pub mod WorkedRuns
 pub mod Fitting

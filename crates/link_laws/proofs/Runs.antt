@@ -30,6 +30,7 @@ use Rattle.link_laws.proofs.MovesQuiet.{finding_good, quiet_good, resting_still}
 use Rattle.link_laws.proofs.MovesRestart.{restarting_good}
 use Rattle.link_laws.proofs.MovesSend.{sending_good}
 use Rattle.link_laws.proofs.New.{links_new}
+use Rattle.link_laws.proofs.NodePromises.{keeps-node_promises}
 use Rattle.link_laws.proofs.Stillness.{nothing_vanishes}
 use Rattle.link_laws.proofs.Unfound.{unfound}
 
@@ -117,6 +118,7 @@ pub runs_keep_promises : RunsKeepPromises
 runs_keep_promises shape P links whole =
     let kept = has_kept shape P links whole in
     record {
+      nodes = keeps-node_promises shape P kept.legal (short P whole.fits);
       carried = all_carried shape P (records_of links) kept.kept.trunks kept.kept.linked;
       packets = kept.promised;
       unfound = unfound shape P kept.legal (short P whole.fits);

@@ -11,6 +11,7 @@ use Rattle.trunk_record.specs.Records.{SideRecord}
 use Rattle.trunk_record.specs.Trunks.{IsQuiet}
 use Rattle.journal.specs.Living.{is_alive}
 use Rattle.journal.specs.Logs.{step_limit}
+use Rattle.journal.specs.Promises.{KeepsNodePromises}
 use Rattle.journal.specs.Shapes.{Shape}
 use Rattle.journal.specs.Traffic.{arrived_from, sent_to}
 use Rattle.journal.specs.declared.effect.Step.{Step}
@@ -76,6 +77,8 @@ AllUnfound P = (n : ℕ) (l : LinkNo) (v : List ℕ) → is_hunted P n l v ≡ t
 
 -- what is promised of a run
 pub record KeepsPromises (shape : Shape) (P : List Step) (links : Links) : Type 0 where
+  -- on a node an endpoint has got just what another sent it
+  pub nodes : KeepsNodePromises shape P
   -- arrivals are fronts of what was sent, complete once the close was told, and then over
   pub carried : AllCarried shape P
   -- sessions pair both ways and go forward, and nobody is met after its close
