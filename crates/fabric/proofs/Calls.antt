@@ -25,10 +25,11 @@ use Rattle.journal.proofs.Openings.{same_inc-refl}
 use Rattle.node_kernel.specs.Nodes.{NodeState, find_at, is_living}
 use Rattle.node_kernel.specs.Calls.{after_attach, after_hunt, after_send, with_attach, with_hunt}
 use Rattle.fabric.proofs.Effects.{OnlyItems, arrivals-answer_none, arrivals-notify_none}
-use Rattle.fabric.proofs.Effects.{attached-answer_none, hunted-notify_none, only-arrivals}
-use Rattle.fabric.proofs.Effects.{only-attached, only-hunted, only-none}
+use Rattle.fabric.proofs.Effects.{attached-answer_none, hunted-notify_none, leaves-none}
+use Rattle.fabric.proofs.Effects.{leaves_open, only-arrivals, only-attached, only-hunted}
 use Rattle.fabric.proofs.Leaving.{after_step}
-use Rattle.fabric.proofs.Putting.{TakesNone, endpoints-put, hunts-kept, openings-kept, owed-kept}
+use Rattle.fabric.proofs.Putting.{TakesNone, endpoints-put, hunts-kept, openings-kept}
+use Rattle.fabric.proofs.Putting.{owed-kept}
 use Rattle.fabric.proofs.Putting.{put-none, state_by_parts}
 
 -- a step that does nothing to its node
@@ -38,10 +39,10 @@ pub quiet-left : (k : ℕ) (me : Option Inc) (head : Head) (old : NodeState) →
 quiet-left k me head old takes hunts cancels attaches =
     let node : ℕ = old.node.0 in
     state_by_parts old.node _ _ _ _ _ _ _ _ _ _
-    (openings-kept node k me head [] only-none old.openings)
-    (endpoints-put node k me head [] only-none old.endpoints takes ∙ put-none k old.endpoints)
-    (hunts-kept node k me head [] only-none old.hunts (λ n. refl) hunts)
-    (owed-kept node k me head [] only-none old.attaches (λ r. refl) cancels attaches)
+    (openings-kept node k me head [] leaves-none old.openings)
+    (endpoints-put node k me head [] leaves-none old.endpoints takes ∙ put-none k old.endpoints)
+    (hunts-kept node k me head [] leaves-none old.hunts (λ n. refl) hunts)
+    (owed-kept node k me head [] leaves-none old.attaches (λ r. refl) cancels attaches)
     refl
 
 -- a send
@@ -55,10 +56,12 @@ send-left k j q note answer old =
     let head : Head = Send q note answer in
     let only : OnlyItems es = only-arrivals j note alive q in
     state_by_parts old.node _ _ _ _ _ _ _ _ _ _
-    (openings-kept node k (Some j) head es only old.openings)
-    (endpoints-put node k (Some j) head es only old.endpoints (λ x. refl))
-    (hunts-kept node k (Some j) head es only old.hunts (arrivals-answer_none j note alive q) refl)
-    (owed-kept node k (Some j) head es only old.attaches (arrivals-notify_none j note alive q)
+    (openings-kept node k (Some j) head es (leaves_open only) old.openings)
+    (endpoints-put node k (Some j) head es (leaves_open only) old.endpoints (λ x. refl))
+    (hunts-kept node k (Some j) head es (leaves_open only) old.hunts
+    (arrivals-answer_none j note alive q) refl)
+    (owed-kept node k (Some j) head es (leaves_open only) old.attaches
+    (arrivals-notify_none j note alive q)
     (λ a. refl) refl)
     (only.meets_none node old.met)
 
@@ -123,10 +126,11 @@ module _ (k : ℕ) (j : Inc) (path : Path) (note : SigNote) (old : NodeState)
       let head : Head = Hunt path note in
       let only : OnlyItems es = only-hunted q the_hunt in
       state_by_parts old.node _ _ _ _ _ _ _ _ _ _
-      (openings-kept node k (Some j) head es only old.openings)
-      (endpoints-put node k (Some j) head es only old.endpoints (λ x. refl))
+      (openings-kept node k (Some j) head es (leaves_open only) old.openings)
+      (endpoints-put node k (Some j) head es (leaves_open only) old.endpoints (λ x. refl))
       (hunts_with q)
-      (owed-kept node k (Some j) head es only old.attaches (hunted-notify_none q the_hunt)
+      (owed-kept node k (Some j) head es (leaves_open only) old.attaches
+      (hunted-notify_none q the_hunt)
       (λ a. refl) refl)
       (only.meets_none node old.met)
 
@@ -170,9 +174,10 @@ module _ (k : ℕ) (j : Inc) (q : Peer) (note : SigNote) (old : NodeState)
       let head : Head = Attach q note in
       let only : OnlyItems es = only-attached alive the_attach in
       state_by_parts old.node _ _ _ _ _ _ _ _ _ _
-      (openings-kept node k (Some j) head es only old.openings)
-      (endpoints-put node k (Some j) head es only old.endpoints (λ x. refl))
-      (hunts-kept node k (Some j) head es only old.hunts (attached-answer_none alive the_attach)
+      (openings-kept node k (Some j) head es (leaves_open only) old.openings)
+      (endpoints-put node k (Some j) head es (leaves_open only) old.endpoints (λ x. refl))
+      (hunts-kept node k (Some j) head es (leaves_open only) old.hunts
+      (attached-answer_none alive the_attach)
       refl)
       (owed_with alive)
       (only.meets_none node old.met)

@@ -3,14 +3,25 @@ use Rattle.std.proofs.Common.{◌≡◌, ◌≢◌, ℕ, zero, suc, ◌<◌, ◌
 use Rattle.std.proofs.Common.{◌∷◌, ◌++◌, length, map, take, drop, replicate, Some, get_or, set}
 use Rattle.std.proofs.Common.{refl, sym, ◌∙◌, ap, subst, arith}
 use Rattle.std.specs.Prelude.{◌==◌, slice_get}
+use Rattle.std.specs.List.{AllByRecursion}
 use Rattle.std.proofs.lemmas.Bool.{eq-eqb, eqb-true, true≢false}
+use Rattle.linx_base.specs.declared.frame.LinkDecl.{LinkDecl}
 use Rattle.linx_base.specs.declared.name.Names.{Names}
-use Rattle.journal.specs.Logs.{Log}
+use Rattle.journal.specs.Logs.{Log, step_limit}
 use Rattle.journal.specs.Shapes.{Shape}
+use Rattle.journal.specs.declared.effect.Step.{Step}
 use Rattle.journal.proofs.Steps.{slice_get-push}
 use Rattle.node_kernel.specs.Nodes.{NodeState, empty_node}
+use Rattle.run_trunks.specs.States.{AllFit, new_trunks, trunks_of}
+use Rattle.run_trunks.proofs.Numbered.{all-new}
+use Rattle.trunk.specs.Events.{TrunkState, new_trunk}
+use Rattle.trunk_moves.specs.Trunks.{AllNew}
+use Rattle.fabric.specs.declared.line.Line.{Line}
 use Rattle.fabric.specs.declared.standing.Standing.{Standing}
-use Rattle.fabric.specs.Remains.{AreNodesLeft, AreStandingsLeft, IsLaidOut, IsWellKept, node_left}
+use Rattle.fabric.specs.Lines.{fresh_line}
+use Rattle.fabric.specs.Remains.{AreBootsLeft, AreLeft, AreLinesLeft, AreNodesLeft}
+use Rattle.fabric.specs.Remains.{AreStandingsLeft, IsKept, IsLaidOut, IsLink, Parts, node_left}
+use Rattle.fabric.specs.Run.{IsReached, Layout}
 use Rattle.fabric.specs.Standings.{empty_nodes, fresh}
 
 -- a test of all below a number that fails at one, fails at each greater one
@@ -77,31 +88,71 @@ standings-left zero m under = absurd (omega arith)
 standings-left (suc n) zero under = refl
 standings-left (suc n) (suc m) under = standings-left n m (omega arith)
 
+pub boots-left : (n : ℕ) → AreBootsLeft [] (replicate n 1)
+boots-left zero m under = absurd (omega arith)
+boots-left (suc n) zero under = refl
+boots-left (suc n) (suc m) under = boots-left n m (omega arith)
+
+pub lines-left : (n : ℕ) → AreLinesLeft [] (replicate n fresh_line)
+lines-left zero m under = absurd (omega arith)
+lines-left (suc n) zero under = refl
+lines-left (suc n) (suc m) under = lines-left n m (omega arith)
+
+length-replicate : {X : Type 0} (x : X) (n : ℕ) → length (replicate n x) ≡ n
+length-replicate x zero = refl
+length-replicate x (suc n) = ap suc (length-replicate x n)
+
+fit-all : (nodes : ℕ) (links : List LinkDecl) → AllByRecursion (IsLink nodes) links → AllFit links
+fit-all nodes [] all = tt
+fit-all nodes (link ∷ links) all =
+    (record { window = all.0.window; piece = all.0.piece }, fit-all nodes links all.1)
+
+-- all links' trunks are new
+pub all-fit : (nodes : ℕ) (shape : Shape) → IsLaidOut nodes shape → AllFit shape.links
+all-fit nodes shape laid = fit-all nodes shape.links laid.linked
+
+length-mapped : {X Y : Type 0} (g : X → Y) (xs : List X) → length (map g xs) ≡ length xs
+length-mapped g [] = refl
+length-mapped g (x ∷ xs) = ap suc (length-mapped g xs)
+
 -- A FABRIC WITHOUT STEPS keeps what it has to
-pub kept-new : (shape : Shape) (log : Log) (kernels : List NodeState) (standings : List Standing)
-    (names : Names)
-    → IsLaidOut (length names.nodes) shape → log ≡ record { names = names; steps = [] }
-    → kernels ≡ empty_nodes (length names.nodes) → standings ≡ replicate (length shape.actors) fresh
-    → IsWellKept shape log kernels standings
-kept-new shape log kernels standings names laid_out log_is kernels_are standings_are =
-    subst (λ (l : Log). IsWellKept shape l kernels standings) (sym log_is)
-    (subst (λ (ks : List NodeState). IsWellKept shape
-    (record { names = names; steps = [] }) ks standings) (sym kernels_are)
-    (subst (λ (ss : List Standing). IsWellKept shape (record { names = names; steps = [] })
-    (empty_nodes (length names.nodes)) ss) (sym standings_are)
-    (record {
-      kept = record {
-        laid_out = laid_out;
-        legal = tt;
-        reached = tt;
-        nodes = length-empty_nodes (length names.nodes);
-        actors = length-replicate (length shape.actors);
-        kernels_left = nodes-left (length names.nodes);
-        standings_left = standings-left (length shape.actors);
+pub kept-new : (f : Layout) (parts : Parts) (names : Names)
+    → IsLaidOut (length names.nodes) f.shape → f.log ≡ record { names = names; steps = [] }
+    → f.trunks ≡ new_trunks f.shape.links
+    → parts.kernels ≡ empty_nodes (length names.nodes)
+    → parts.booted ≡ replicate (length names.nodes) 1
+    → parts.standings ≡ replicate (length f.shape.actors) fresh
+    → parts.lines ≡ replicate (length f.shape.links) fresh_line
+    → IsKept f parts
+kept-new f parts names laid_out log_is trunks_are kernels_are booted_are standings_are lines_are =
+    let nodes : ℕ = length names.nodes in
+    let named : length f.log.names.nodes ≡ nodes = ap (λ (l : Log). length l.names.nodes) log_is in
+    let steps : f.log.steps ≡ [] = ap (λ (l : Log). l.steps) log_is in
+    record {
+      laid_out = subst (λ (n : ℕ). IsLaidOut n f.shape) (sym named) laid_out;
+      reached =
+          subst (λ (P : List Step). IsReached f.shape P (trunks_of f.trunks)) (sym steps)
+          (subst (λ (ts : List TrunkState). AllNew f.shape (trunks_of ts)) (sym trunks_are)
+          (all-new f.shape (all-fit nodes f.shape laid_out)));
+      counted = record {
+        kernels = ap (λ (xs : List NodeState). length xs) kernels_are ∙ length-empty_nodes nodes
+            ∙ sym named;
+        booted = ap (λ (xs : List ℕ). length xs) booted_are ∙ length-replicate 1 nodes ∙ sym named;
+        standings = ap (λ (xs : List Standing). length xs) standings_are
+            ∙ length-replicate fresh (length f.shape.actors);
+        lines = ap (λ (xs : List Line). length xs) lines_are
+            ∙ length-replicate fresh_line (length f.shape.links);
+        trunks = ap (λ (xs : List TrunkState). length xs) trunks_are
+            ∙ length-mapped (λ (link : LinkDecl). new_trunk link.window link.piece) f.shape.links;
       };
-      short = omega arith;
-    })))
-  where
-    length-replicate : (n : ℕ) → length (replicate n fresh) ≡ n
-    length-replicate zero = refl
-    length-replicate (suc n) = ap suc (length-replicate n)
+      left =
+          subst (λ (P : List Step). AreLeft P parts) (sym steps)
+          (record {
+            kernels = subst (AreNodesLeft []) (sym kernels_are) (nodes-left nodes);
+            booted = subst (AreBootsLeft []) (sym booted_are) (boots-left nodes);
+            standings = subst (AreStandingsLeft []) (sym standings_are)
+                (standings-left (length f.shape.actors));
+            lines = subst (AreLinesLeft []) (sym lines_are) (lines-left (length f.shape.links));
+          });
+      short = subst (λ (P : List Step). length P ≤ step_limit) (sym steps) (omega arith);
+    }

@@ -1,21 +1,26 @@
--- A step changes one node: that of its maker, or the one that it restarts.
-use Rattle.std.proofs.Common.{◌≡◌, ◌≢◌, ℕ, suc, ◌+◌, Bool, true, false, not, List, [], ◌∷◌, ◌++◌}
-use Rattle.std.proofs.Common.{length, map, filter, Option, Some, None, refl, sym, ◌∙◌, ap, subst}
-use Rattle.std.proofs.Common.{arith}
+-- A step changes one node: that of its maker, the one that it restarts, or the one at the side of a
+-- link where its packet arrives or that ticks.
+use Rattle.std.proofs.Common.{◌≡◌, ◌≢◌, ℕ, zero, suc, ◌+◌, Bool, true, false, not, List, [], ◌∷◌}
+use Rattle.std.proofs.Common.{◌++◌, length, map, filter, Option, Some, None, refl, sym, ◌∙◌, ap}
+use Rattle.std.proofs.Common.{subst, arith}
 use Rattle.std.specs.List.{fold, list_any, AllByRecursion}
 use Rattle.std.specs.Prelude.{◌&&◌, ◌==◌}
 use Rattle.std.proofs.lemmas.Bool.{eqb-true, ne_eqb, true≢false}
 use Rattle.std.proofs.lemmas.List.{append-nil}
 use Rattle.linx_base.specs.Numbers.{is_on, node_of}
 use Rattle.linx_base.specs.Peers.{same_inc, same_peer}
+use Rattle.linx_base.specs.Sides.{other_of}
 use Rattle.linx_base.specs.declared.identity.AttRef.{AttRef}
 use Rattle.linx_base.specs.declared.identity.Inc.{Inc}
+use Rattle.linx_base.specs.declared.identity.LinkNo.{LinkNo}
 use Rattle.linx_base.specs.declared.identity.NodeNo.{NodeNo}
 use Rattle.linx_base.specs.declared.identity.Peer.{Peer}
 use Rattle.linx_base.specs.declared.identity.Peer.TheVariants.{Here, There}
+use Rattle.linx_base.specs.declared.identity.Session.{Session}
+use Rattle.linx_base.specs.declared.identity.Side.{Side}
 use Rattle.linx_base.specs.declared.item.Item.{Item}
 use Rattle.linx_base.specs.declared.name.Path.{Path}
-use Rattle.linx_base.specs.declared.name.Path.TheVariants.{Local}
+use Rattle.linx_base.specs.declared.name.Path.TheVariants.{Local, Over}
 use Rattle.linx_base.specs.declared.pending.MetPeer.{MetPeer}
 use Rattle.linx_base.specs.declared.pending.PendingAttach.{PendingAttach}
 use Rattle.linx_base.specs.declared.pending.PendingHunt.{PendingHunt}
@@ -32,23 +37,32 @@ use Rattle.journal.specs.declared.head.Head.{Head}
 use Rattle.journal.specs.declared.head.Head.TheVariants.{Open, Close, Send, Take, TakeNone, Waits}
 use Rattle.journal.specs.declared.head.Head.TheVariants.{Hunt, Attach, Detach, Cut, Mend, Settle}
 use Rattle.journal.specs.declared.head.Head.TheVariants.{Restart, Wire, Tick, Refused, Ended}
-use Rattle.journal.specs.Effects.{arrivals_of, attached, ending, found, founds, held_elsewhere}
-use Rattle.journal.specs.Effects.{hunted, hunts_for, notice, notices}
+use Rattle.journal.specs.Effects.{arrivals_of, attached, closings, ending, found, founds}
+use Rattle.journal.specs.Effects.{held_elsewhere, hunted, hunts_for, notice, notices}
 use Rattle.journal.specs.History.{closes, endpoint_by, open_endpoints, opened_by, opens}
-use Rattle.journal.specs.Laws.{IsLegal, attaching, effects_by, hunting_by, sending}
-use Rattle.journal.specs.Living.{find, is_alive, living_after}
+use Rattle.journal.specs.Laws.{attaching, effects_by, hunting_by, sending}
+use Rattle.journal.specs.Living.{find, is_alive, is_of_session, living_after}
 use Rattle.journal.specs.Pending.{answers_hunt, attach_at, attach_in, cancels, detaches, ends_hunt}
 use Rattle.journal.specs.Pending.{hunt_at, hunt_in, hunting, hunts_past, is_own_attach, notifies}
 use Rattle.journal.specs.Pending.{owed, owed_past, settles}
 use Rattle.journal.specs.Queues.{items_in, left_by}
+use Rattle.journal.specs.Sessions.{session_past, up_session}
 use Rattle.journal.specs.Shapes.{Shape, node_by}
 use Rattle.journal.specs.Traffic.{is_endpoint}
-use Rattle.journal.proofs.Lists.{all-filter, all-impl, filter-all}
-use Rattle.journal.proofs.Openings.{IsBelow, IsShort, all-among, endpoint-on, hunting-on, next_on}
-use Rattle.journal.proofs.Openings.{next_on-is_on, open-below, owed-on}
+use Rattle.journal.proofs.Lists.{all-append, all-filter, all-impl, filter-all}
+use Rattle.journal.proofs.Openings.{IsBelow, IsShort, all-among, hunting-on, next_on, owed-on}
+use Rattle.link_laws.specs.Brought.{Brought, MayBring, arrives, brought_at, goes_down, goes_up}
+use Rattle.link_laws.specs.Brought.{meets, nothing, parts}
+use Rattle.link_laws.specs.Ends.{node_at}
+use Rattle.link_laws.specs.Laws.{HasEffects, IsHandedOver, IsLegal, IsLegalStep, IsTick}
+use Rattle.link_laws.specs.Laws.{KeepsPackets, KeepsTicks, delivers, down_if, downs_of, loses}
+use Rattle.link_laws.specs.Laws.{restarting, stays as ticks_on}
+use Rattle.link_laws.proofs.Places.{endpoint-on, next_on-is_on, open-below}
 use Rattle.node_kernel.specs.Nodes.{NodeState, OpenEndpoint}
 use Rattle.fabric.specs.Remains.{endpoint_left, node_left}
-use Rattle.fabric.proofs.Leaving.{after_step, endpoint_past, new_endpoint, node_left-step, stays}
+use Rattle.fabric.proofs.Brings.{IsIdle, idle-restart, idle-tick, idle-wire}
+use Rattle.fabric.proofs.Leaving.{after_step, endpoint_past, new_endpoint, node_left-step}
+use Rattle.fabric.proofs.Leaving.{stays}
 use Rattle.fabric.proofs.Putting.{left_by-none, state_by_parts}
 
 -- the effect is one on this node
@@ -95,7 +109,7 @@ module _ (n m : ℕ) (other : n ≢ m) where
   open_none (Up k l x y ∷ es) all = open_none es all.1
   open_none (Down k l x ∷ es) all = open_none es all.1
 
-  meet_none : (es : List Effect) → AllByRecursion (IsAbout n) es → (met : List MetPeer)
+  pub meet_none : (es : List Effect) → AllByRecursion (IsAbout n) es → (met : List MetPeer)
       → fold (living_after m) met es ≡ met
   meet_none [] all met = refl
   meet_none (Opened i ∷ es) all met = meet_none es all.1 met
@@ -110,6 +124,26 @@ module _ (n m : ℕ) (other : n ≢ m) where
   meet_none (Up k l x y ∷ es) all met = meet_none es all.1 met
   meet_none (Down k l x ∷ es) all met = rw (ne_eqb k.0 m (λ e. other (sym all.0
       ∙ e))) (meet_none es all.1 met)
+
+  -- nor a session
+  off_side : (k : NodeNo) (l link : ℕ) → k.0 ≡ n → (k.0 == m && l == link) ≡ false
+  off_side k l link here =
+      rw (ne_eqb k.0 m (λ e. other (sym here ∙ e))) refl
+
+  pub sessions_none : (link : ℕ) (es : List Effect) → AllByRecursion (IsAbout n) es
+      → (up : Option Session) → session_past m link up es ≡ up
+  sessions_none link [] all up = refl
+  sessions_none link (Opened i ∷ es) all up = sessions_none link es all.1 up
+  sessions_none link (Closed i ∷ es) all up = sessions_none link es all.1 up
+  sessions_none link (Arrived i q note ∷ es) all up = sessions_none link es all.1 up
+  sessions_none link (Found i q note h ∷ es) all up = sessions_none link es all.1 up
+  sessions_none link (Notified i q note r reason ∷ es) all up = sessions_none link es all.1 up
+  sessions_none link (Met k q name ∷ es) all up = sessions_none link es all.1 up
+  sessions_none link (Gone k q ∷ es) all up = sessions_none link es all.1 up
+  sessions_none link (Up k l x y ∷ es) all up =
+      rw (off_side k l.0 link all.0) (sessions_none link es all.1 up)
+  sessions_none link (Down k l x ∷ es) all up =
+      rw (off_side k l.0 link all.0) (sessions_none link es all.1 up)
 
   module _ (j : Inc) (on : is_on m j ≡ true) where
     differs : (i : Inc) → is_on n i ≡ true → same_inc j i ≡ false
@@ -245,6 +279,8 @@ module _ (n m : ℕ) (other : n ≢ m) where
 -- THE EFFECTS OF A LEGAL STEP are on the node that it changes
 abbrev pub changed_node : Shape → By → Head → ℕ
 changed_node shape by (Restart n) = n.0
+changed_node shape by (Wire l from verdict) = node_at shape l (other_of from)
+changed_node shape by (Tick l side) = node_at shape l side
 changed_node shape by _ = node_by shape by
 
 all-map : {X Y : Type 0} (Q : Y → Type 0) (f : X → Y) (xs : List X)
@@ -252,46 +288,106 @@ all-map : {X Y : Type 0} (Q : Y → Type 0) (f : X → Y) (xs : List X)
 all-map Q f [] all = tt
 all-map Q f (x ∷ xs) all = (all.0, all-map Q f xs all.1)
 
-module _ (shape : Shape) (P : List Step) (legal : IsLegal shape P) (short : IsShort P) where
-  founds_about : (node : ℕ) (path : Path) (q : Peer)
+module _ (P : List Step) (node : ℕ) where
+  founds_about : (path : Path) (q : Peer)
       → AllByRecursion (IsAbout node) (founds path q (hunting P node))
-  founds_about node path q =
+  founds_about path q =
       all-map (IsAbout node) (found q) (hunts_for path (hunting P node))
       (all-filter (λ h. is_on node h.at ≡ true) _ (hunting P node) (hunting-on P node))
 
-  notices_about : (node : ℕ) (reason : Reason) (ended : Peer → Bool) (j : Inc)
-      → AllByRecursion (IsAbout node) (notices reason ended (held_elsewhere j (owed P node)))
-  notices_about node reason ended j =
-      all-map (IsAbout node) (notice reason) (filter (λ a. ended a.peer) (held_elsewhere j
-      (owed P node)))
-      (all-filter (λ a. is_on node a.at ≡ true) _ (held_elsewhere j (owed P node))
-      (all-filter (λ a. is_on node a.at ≡ true) _ (owed P node) (owed-on P node)))
+  notices_about : (reason : Reason) (ended : Peer → Bool) (attaches : List PendingAttach)
+      → AllByRecursion (λ a. is_on node a.at ≡ true) attaches
+      → AllByRecursion (IsAbout node) (notices reason ended attaches)
+  notices_about reason ended attaches on =
+      all-map (IsAbout node) (notice reason) (filter (λ a. ended a.peer) attaches)
+      (all-filter (λ a. is_on node a.at ≡ true) _ attaches on)
 
+  -- those of all that are owed, and of those that are held elsewhere
+  owed_about : (reason : Reason) (ended : Peer → Bool)
+      → AllByRecursion (IsAbout node) (notices reason ended (owed P node))
+  owed_about reason ended = notices_about reason ended (owed P node) (owed-on P node)
+
+  held_about : (reason : Reason) (ended : Peer → Bool) (j : Inc)
+      → AllByRecursion (IsAbout node) (notices reason ended (held_elsewhere j (owed P node)))
+  held_about reason ended j =
+      notices_about reason ended (held_elsewhere j (owed P node))
+      (all-filter (λ a. is_on node a.at ≡ true) _ (owed P node) (owed-on P node))
+
+  -- the sessions that a restart ends
+  down_about : (link : ℕ) (up : Option Session)
+      → AllByRecursion (IsAbout node) (down_if node link up)
+  down_about link None = tt
+  down_about link (Some x) = (refl, tt)
+
+  pub downs-about : (links : ℕ) → AllByRecursion (IsAbout node) (downs_of P node links)
+  downs-about zero = tt
+  downs-about (suc links) =
+      all-append (IsAbout node) (downs_of P node links)
+      (down_if node (suc links) (up_session P node (suc links)))
+      (downs-about links) (down_about (suc links) (up_session P node (suc links)))
+
+module _ (shape : Shape) (P : List Step) (legal : IsLegal shape P) (short : IsShort P) where
   pub opens_about : (node : ℕ) → AllByRecursion (λ i. is_on node i ≡ true) (open_endpoints P node)
   opens_about node =
       all-impl (IsBelow P node) (λ i. is_on node i ≡ true) (λ i h. h.0) (open_endpoints P node)
       (open-below shape P legal short node)
 
+  alive_on : (node : ℕ) (i : Inc) → is_alive P node (Here i) ≡ true → is_on node i ≡ true
+  alive_on node i is =
+      all-among (λ x. is_on node x ≡ true) i (open_endpoints P node) (opens_about node) is
+
   pub maker-on : (by : By) (j : Inc) → endpoint_by P by ≡ Some j → is_on (node_by shape by) j ≡ true
   maker-on (Actor k) j is = endpoint-on shape P legal short k j is
   maker-on (Pump link) j is = cc
+
+  -- what a restart closes, after the sessions that it ends
+  closings_about : (node : ℕ) → AllByRecursion (IsAbout node) (closings (open_endpoints P node))
+  closings_about node = all-map (IsAbout node) Closed (open_endpoints P node) (opens_about node)
+
+  pub restarting-about : (node : ℕ) → AllByRecursion (IsAbout node) (restarting shape P node)
+  restarting-about node =
+      all-append (IsAbout node) (downs_of P node (length shape.links))
+      (closings (open_endpoints P node)) (downs-about P node (length shape.links))
+      (closings_about node)
+
+  -- what a packet brings
+  pub brought-about : (n m : ℕ) (l : LinkNo) (what : Brought) → MayBring P n m l what
+      → AllByRecursion (IsAbout n) (brought_at P n l what)
+  brought-about n m l nothing may = tt
+  brought-about n m l (goes_up x y) may = (refl, tt)
+  brought-about n m l (goes_down x) may = (refl, owed_about P n reasons.Lost (is_of_session l x))
+  brought-about n m l (arrives x a b note) may = (alive_on n b may.receiver, tt)
+  brought-about n m l (meets x a name) may = (refl, founds_about P n (Over l name) (There l x a))
+  brought-about n m l (parts x a) may =
+      (refl, owed_about P n reasons.Closed (same_peer (There l x a)))
+
+  handed_about : (handed : Bool) (n m : ℕ) (l : LinkNo) (es : List Effect)
+      → IsHandedOver handed P n m l es → AllByRecursion (IsAbout n) es
+  handed_about true n m l es packet =
+      subst (AllByRecursion (IsAbout n)) (sym packet.effects)
+      (brought-about n m l packet.what packet.may)
+  handed_about false n m l es none = subst (AllByRecursion (IsAbout n)) (sym none) tt
+
+  -- what a tick does
+  tick_about : (n : ℕ) (l : LinkNo) (side : Side) (es : List Effect) → IsTick P n l side es
+      → AllByRecursion (IsAbout n) es
+  tick_about n l side es (ticks_on none) = subst (AllByRecursion (IsAbout n)) (sym none) tt
+  tick_about n l side es (loses x up silent same) =
+      subst (AllByRecursion (IsAbout n)) (sym same)
+      (refl, owed_about P n reasons.Lost (is_of_session l x))
 
   module _ (by : By) where
     ending_about : (me : Option Inc) → endpoint_by P by ≡ me
         → AllByRecursion (IsAbout (node_by shape by)) (ending me (owed P (node_by shape by)))
     ending_about None is = tt
     ending_about (Some j) is =
-        (maker-on by j is, notices_about (node_by shape by) reasons.Closed (same_peer (Here j)) j)
+        (maker-on by j is, held_about P (node_by shape by) reasons.Closed (same_peer (Here j)) j)
 
     arrivals_about : (j : Inc) (note : SigNote) (q : Peer) (alive : Bool)
         → is_alive P (node_by shape by) q ≡ alive
         → AllByRecursion (IsAbout (node_by shape by)) (arrivals_of j note alive q)
     arrivals_about j note q false is = tt
-    arrivals_about j note (Here i) true is = (
-      all-among (λ x. is_on (node_by shape by) x ≡ true) i (open_endpoints P (node_by shape by))
-          (opens_about (node_by shape by)) is,
-      tt,
-    )
+    arrivals_about j note (Here i) true is = (alive_on (node_by shape by) i is, tt)
     arrivals_about j note (There link session i) true is = tt
 
     sending_about : (me : Option Inc) (q : Peer) (note : SigNote)
@@ -331,13 +427,12 @@ module _ (shape : Shape) (P : List Step) (legal : IsLegal shape P) (short : IsSh
         })
         (is_alive P (node_by shape by) q) (maker-on by j is)
 
-    pub effects-about : (head : Head)
+    effects-about : (head : Head)
         → AllByRecursion (IsAbout (changed_node shape by head))
         (effects_by P (node_by shape by) (endpoint_by P by) head)
     effects-about (Open name) = (
       next_on-is_on shape P legal short (node_by shape by),
-      founds_about (node_by shape by)
-          (Local name) (Here (next_on P (node_by shape by))),
+      founds_about P (node_by shape by) (Local name) (Here (next_on P (node_by shape by))),
     )
     effects-about Close = ending_about (endpoint_by P by) refl
     effects-about (Send q note answer) = sending_about (endpoint_by P by) q note
@@ -350,12 +445,30 @@ module _ (shape : Shape) (P : List Step) (legal : IsLegal shape P) (short : IsSh
     effects-about (Cut l) = tt
     effects-about (Mend l) = tt
     effects-about (Settle l) = tt
-    effects-about (Restart n) = all-map (IsAbout n.0) Closed (open_endpoints P n.0)
-        (opens_about n.0)
+    effects-about (Restart n) = closings_about n.0
     effects-about (Wire l side verdict) = tt
     effects-about (Tick l side) = tt
     effects-about (Refused reason) = tt
     effects-about Ended = ending_about (endpoint_by P by) refl
+
+    head_about : (head : Head) (es : List Effect)
+        → HasEffects shape P (node_by shape by) (endpoint_by P by) head es
+        → KeepsPackets shape P head es → KeepsTicks shape P head es
+        → AllByRecursion (IsAbout (changed_node shape by head)) es
+    head_about (Restart n) es has packets ticks =
+        subst (AllByRecursion (IsAbout n.0)) (sym has) (restarting-about n.0)
+    head_about (Wire l from verdict) es has packets ticks =
+        handed_about (delivers verdict) (node_at shape l (other_of from)) (node_at shape l from) l
+        es packets
+    head_about (Tick l side) es has packets ticks =
+        tick_about (node_at shape l side) l side es ticks
+    head_about head es has packets ticks =
+        subst (AllByRecursion (IsAbout (node_by shape by))) (sym has) (effects-about head)
+
+  -- A LEGAL STEP is about the node that it changes
+  pub step-about : (s : Step) → IsLegalStep shape P s
+      → AllByRecursion (IsAbout (changed_node shape s.by s.head)) s.effects
+  step-about s step = head_about s.by s.head s.effects step.effects step.packets step.ticks
 
 -- AND ITS HEAD is none of another node
 abbrev IsOff : ℕ → Option Inc → Type 0
@@ -414,71 +527,37 @@ module _ (m k : ℕ) where
     cancels = cancels_off me off head;
   }
 
-  -- a restart of another node
-  apart-restart : (me : Option Inc) (n : NodeNo) → IsApart m k me (Restart n)
-  apart-restart me n = record {
-    takes = λ j on items. left_by-none (is_endpoint j me) (Restart n) items (λ x. refl);
-    hunts = refl;
-    attaches = refl;
-    cancels = λ a on. refl;
+  -- a head that does nothing of itself
+  apart-idle : (me : Option Inc) (head : Head) → IsIdle m k me head → IsApart m k me head
+  apart-idle me head idle = record {
+    takes = λ j on items. left_by-none (is_endpoint j me) head items idle.takes;
+    hunts = idle.hunts;
+    attaches = idle.attaches;
+    cancels = λ a on. idle.cancels a;
   }
 
 -- what is left of another node
 module _ (shape : Shape) (P : List Step) (legal : IsLegal shape P) (short : IsShort P) (s : Step)
-    (effects : s.effects ≡ effects_by P (node_by shape s.by) (endpoint_by P s.by) s.head) where
-  apart_from : (m : ℕ) → (head : Head) → changed_node shape s.by head ≢ m
-      → IsApart m (suc (length P)) (endpoint_by P s.by) head
-  apart_from m (Restart n) other = apart-restart m (suc (length P)) (endpoint_by P s.by) n
-  apart_from m (Open name) other = apart-off m (suc (length P)) (endpoint_by P s.by)
-      (λ i is. off (node_by shape s.by) m other i (maker-on shape P legal short s.by i is))
-      (Open name)
-  apart_from m Close other = apart-off m (suc (length P)) (endpoint_by P s.by) (λ i is. off
-      (node_by shape s.by) m other i (maker-on shape P legal short s.by i is)) Close
-  apart_from m (Send q note answer) other = apart-off m (suc (length P)) (endpoint_by P s.by)
-      (λ i is. off (node_by shape s.by) m other i (maker-on shape P legal short s.by i is))
-      (Send q note answer)
-  apart_from m (Take f position) other = apart-off m (suc (length P)) (endpoint_by P s.by)
-      (λ i is. off (node_by shape s.by) m other i (maker-on shape P legal short s.by i is))
-      (Take f position)
-  apart_from m (TakeNone f) other = apart-off m (suc (length P)) (endpoint_by P s.by)
-      (λ i is. off (node_by shape s.by) m other i (maker-on shape P legal short s.by i is))
-      (TakeNone f)
-  apart_from m (Waits f) other = apart-off m (suc (length P)) (endpoint_by P s.by) (λ i is. off
-      (node_by shape s.by) m other i (maker-on shape P legal short s.by i is)) (Waits f)
-  apart_from m (Hunt path note) other = apart-off m (suc (length P)) (endpoint_by P s.by)
-      (λ i is. off (node_by shape s.by) m other i (maker-on shape P legal short s.by i is))
-      (Hunt path note)
-  apart_from m (Attach q note) other = apart-off m (suc (length P)) (endpoint_by P s.by)
-      (λ i is. off (node_by shape s.by) m other i (maker-on shape P legal short s.by i is))
-      (Attach q note)
-  apart_from m (Detach r answer) other = apart-off m (suc (length P)) (endpoint_by P s.by)
-      (λ i is. off (node_by shape s.by) m other i (maker-on shape P legal short s.by i is))
-      (Detach r answer)
-  apart_from m (Cut l) other = apart-off m (suc (length P)) (endpoint_by P s.by) (λ i is. off
-      (node_by shape s.by) m other i (maker-on shape P legal short s.by i is)) (Cut l)
-  apart_from m (Mend l) other = apart-off m (suc (length P)) (endpoint_by P s.by) (λ i is. off
-      (node_by shape s.by) m other i (maker-on shape P legal short s.by i is)) (Mend l)
-  apart_from m (Settle l) other = apart-off m (suc (length P)) (endpoint_by P s.by) (λ i is. off
-      (node_by shape s.by) m other i (maker-on shape P legal short s.by i is)) (Settle l)
-  apart_from m (Wire l side v) other = apart-off m (suc (length P)) (endpoint_by P s.by)
-      (λ i is. off (node_by shape s.by) m other i (maker-on shape P legal short s.by i is))
-      (Wire l side v)
-  apart_from m (Tick l side) other = apart-off m (suc (length P)) (endpoint_by P s.by)
-      (λ i is. off (node_by shape s.by) m other i (maker-on shape P legal short s.by i is))
-      (Tick l side)
-  apart_from m (Refused reason) other = apart-off m (suc (length P)) (endpoint_by P s.by)
-      (λ i is. off (node_by shape s.by) m other i (maker-on shape P legal short s.by i is))
-      (Refused reason)
-  apart_from m Ended other = apart-off m (suc (length P)) (endpoint_by P s.by) (λ i is. off
-      (node_by shape s.by) m other i (maker-on shape P legal short s.by i is)) Ended
+    (about : AllByRecursion (IsAbout (changed_node shape s.by s.head)) s.effects) where
+  abbrev k : ℕ
+  k = suc (length P)
+
+  abbrev me : Option Inc
+  me = endpoint_by P s.by
+
+  apart_from : (m : ℕ) → (head : Head) → changed_node shape s.by head ≢ m → IsApart m k me head
+  apart_from m (Restart n) other = apart-idle m k me (Restart n) (idle-restart m k me n)
+  apart_from m (Wire l from verdict) other =
+      apart-idle m k me (Wire l from verdict) (idle-wire m k me l from verdict)
+  apart_from m (Tick l side) other = apart-idle m k me (Tick l side) (idle-tick m k me l side)
+  apart_from m head other =
+      apart-off m k me
+      (λ i is. off (node_by shape s.by) m other i (maker-on shape P legal short s.by i is)) head
 
   pub node_left-elsewhere : (node : NodeNo) → changed_node shape s.by s.head ≢ node.0
       → node_left (s ∷ P) node ≡ node_left P node
   node_left-elsewhere node other =
       let n : ℕ = changed_node shape s.by s.head in
-      let about : AllByRecursion (IsAbout n) s.effects =
-      subst (AllByRecursion (IsAbout n)) (sym effects)
-      (effects-about shape P legal short s.by s.head) in
       node_left-step P s node
       ∙ after-elsewhere n node.0 other (suc (length P)) (endpoint_by P s.by) s.head s.effects about
       (apart_from node.0 s.head other) (node_left P node) refl

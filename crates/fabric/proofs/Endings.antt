@@ -34,9 +34,11 @@ use Rattle.journal.proofs.Openings.{Rising, same_inc-refl, same_inc-true}
 use Rattle.node_kernel.specs.Nodes.{NodeState, OpenEndpoint, is_at, next_of, put_all, put_into}
 use Rattle.node_kernel.specs.Nodes.{without_endpoint}
 use Rattle.node_kernel.specs.Calls.{after_close, after_open, after_restart, apart_from}
-use Rattle.fabric.proofs.Effects.{OnlyItems, founds-notify_none, notices-answer_none, only-founds}
+use Rattle.fabric.proofs.Effects.{OnlyItems, founds-notify_none, notices-answer_none}
+use Rattle.fabric.proofs.Effects.{only-founds}
 use Rattle.fabric.proofs.Effects.{only-notices}
-use Rattle.fabric.proofs.Leaving.{after_step, endpoint_past, endpoints_past, new_endpoint, stays}
+use Rattle.fabric.proofs.Leaving.{after_step, endpoint_past, endpoints_past, new_endpoint}
+use Rattle.fabric.proofs.Leaving.{stays}
 use Rattle.fabric.proofs.Pendings.{Rises, answered-each, filter-agree, notified-each}
 use Rattle.fabric.proofs.Putting.{TakesNone, left_by-none, state_by_parts}
 use Rattle.fabric.proofs.Takings.{same_inc-above, same_inc-sym}
@@ -271,7 +273,12 @@ module _ (k : ℕ) (j : Inc) (head : Head) (old : NodeState) (F : Inc
       owed_settled
       (only_told.meets_none old.node.0 old.met)
 
--- A RESTART of the node, by any maker: all of it is closed
+-- A RESTART of the node, by any maker: the effects open none, and close all of these
+pub record ClosesAll (incs : List Inc) (es : List Effect) : Type 0 where
+  pub opened : filter_map opened_in es ≡ []
+  pub opens_none : (i : Inc) → list_any (opens i) es ≡ false
+  pub closes_all : (i : Inc) → list_any (same_inc i) incs ≡ true → list_any (closes i) es ≡ true
+
 closings-open_none : (i : Inc) (incs : List Inc) → list_any (opens i) (closings incs) ≡ false
 closings-open_none i [] = refl
 closings-open_none i (j ∷ incs) = closings-open_none i incs
@@ -280,7 +287,7 @@ closings-opened : (incs : List Inc) → filter_map opened_in (closings incs) ≡
 closings-opened [] = refl
 closings-opened (j ∷ incs) = closings-opened incs
 
-closings-meet_none : (node : ℕ) (met : List MetPeer) (incs : List Inc)
+pub closings-meet_none : (node : ℕ) (met : List MetPeer) (incs : List Inc)
     → fold (living_after node) met (closings incs) ≡ met
 closings-meet_none node met [] = refl
 closings-meet_none node met (j ∷ incs) = closings-meet_none node met incs
@@ -291,10 +298,17 @@ pub closes-closings : (i : Inc) (incs : List Inc)
 closes-closings i [] = refl
 closes-closings i (j ∷ incs) = ap (λ b. same_inc i j || b) (closes-closings i incs)
 
+pub closings-all : (incs : List Inc) → ClosesAll incs (closings incs)
+closings-all incs = record {
+  opened = closings-opened incs;
+  opens_none = λ i. closings-open_none i incs;
+  closes_all = λ i among. closes-closings i incs ∙ among;
+}
+
 itself-among : (i : Inc) (incs : List Inc) → list_any (same_inc i) (i ∷ incs) ≡ true
 itself-among i incs = or_left (same_inc i i) (list_any (same_inc i) incs) (same_inc-refl i)
 
-filter-no : {X : Type 0} (p : X → Bool) (xs : List X) → AllByRecursion (λ x. p x ≡ false) xs
+pub filter-no : {X : Type 0} (p : X → Bool) (xs : List X) → AllByRecursion (λ x. p x ≡ false) xs
     → filter p xs ≡ []
 filter-no p [] all = refl
 filter-no p (x ∷ xs) all = rw all.0 (filter-no p xs all.1)
@@ -315,27 +329,24 @@ module _ (k : ℕ) (me : Option Inc) (n : NodeNo) (old : NodeState) (F : Inc
     (named : (i : Inc) → (F i).inc ≡ i) (left : old.endpoints ≡ map F incs)
     (hunters : AllByRecursion (λ h. list_any (same_inc h.at) incs ≡ true) old.hunts)
     (holders : AllByRecursion (λ a. list_any (same_inc a.at) incs ≡ true) old.attaches)
-    (alone : old.met ≡ []) where
-  abbrev rs : List Effect
-  rs = closings incs
-
+    (rs : List Effect) (all : ClosesAll incs rs)
+    (lost : fold (living_after old.node.0) old.met rs ≡ []) where
   gone : (i : Inc) → list_any (same_inc i) incs ≡ true
       → stays rs (endpoint_past k me (Restart n) rs (F i)) ≡ false
   gone i among =
       let same : (endpoint_past k me (Restart n) rs (F i)).inc ≡ i =
-      rw (closings-open_none (F i).inc incs) (named i) in
-      ap (λ (x : Inc). not (list_any (closes x) rs)) same ∙ ap not (closes-closings i incs ∙ among)
+      rw (all.opens_none (F i).inc) (named i) in
+      ap (λ (x : Inc). not (list_any (closes x) rs)) same ∙ ap not (all.closes_all i among)
 
   all_gone : (is : List Inc) → AllByRecursion (λ i. list_any (same_inc i) incs ≡ true) is
       → AllByRecursion (λ e. stays rs e ≡ false) (map (endpoint_past k me (Restart n) rs)
       (map F is))
-  all_gone [] all = tt
-  all_gone (i ∷ is) all = (gone i all.0, all_gone is all.1)
+  all_gone [] among = tt
+  all_gone (i ∷ is) among = (gone i among.0, all_gone is among.1)
 
   pub restart-left : after_step k me (Restart n) rs old ≡ after_restart old
   restart-left =
-      let none : opened_by old.node.0 rs ≡ [] =
-      ap (filter (is_on old.node.0)) (closings-opened incs) in
+      let none : opened_by old.node.0 rs ≡ [] = ap (filter (is_on old.node.0)) all.opened in
       state_by_parts old.node _ _ _ _ _ _ _ _ _ _
       (rw none (omega arith))
       (ap (λ l. filter (stays rs) (map (endpoint_past k me (Restart n) rs) old.endpoints ++ map
@@ -347,12 +358,11 @@ module _ (k : ℕ) (me : Option Inc) (n : NodeNo) (old : NodeState) (F : Inc
       ∙ filter-no (λ h. not (ends_hunt rs h)) old.hunts
       (all-impl (λ h. list_any (same_inc h.at) incs ≡ true) (λ h. not (ends_hunt rs h) ≡ false)
       (λ h among. ap not (or_right (list_any (answers_hunt h) rs) (list_any (closes h.at) rs)
-      (closes-closings h.at incs ∙ among))) old.hunts hunters))
+      (all.closes_all h.at among))) old.hunts hunters))
       (ap (filter (λ a. not (settles me (Restart n) rs a))) (append-nil old.attaches)
       ∙ filter-no (λ a. not (settles me (Restart n) rs a)) old.attaches
       (all-impl (λ a. list_any (same_inc a.at) incs
       ≡ true) (λ a. not (settles me (Restart n) rs a) ≡ false)
       (λ a among. ap not (or_right (list_any (notifies a) rs || detaches me (Restart n) a)
-      (list_any (closes a.at) rs)
-      (closes-closings a.at incs ∙ among))) old.attaches holders))
-      (closings-meet_none old.node.0 old.met incs ∙ alone)
+      (list_any (closes a.at) rs) (all.closes_all a.at among))) old.attaches holders))
+      lost

@@ -1,4 +1,5 @@
--- THE NODE AFTER A STEP, head by head: what the kernel's call leaves of what the history left.
+-- THE NODE AFTER A STEP off the links, head by head: what the kernel's call leaves of what the
+-- history left.
 use Rattle.std.proofs.Common.{◌≡◌, ℕ, suc, ◌<◌, Bool, true, false, cond, ◌||◌, List, [], ◌∷◌}
 use Rattle.std.proofs.Common.{length, map, Option, Some, None, refl, sym, ◌∙◌, ap, subst}
 use Rattle.std.specs.List.{list_any, AllByRecursion}
@@ -23,25 +24,26 @@ use Rattle.journal.specs.declared.effect.Step.{Step}
 use Rattle.journal.specs.declared.head.Detached.{Detached}
 use Rattle.journal.specs.declared.head.Head.{Head}
 use Rattle.journal.specs.declared.head.Head.TheVariants.{Open, Close, Send, Take, Hunt, Attach}
-use Rattle.journal.specs.declared.head.Head.TheVariants.{Detach, Restart, Ended}
+use Rattle.journal.specs.declared.head.Head.TheVariants.{Detach, Ended}
 use Rattle.journal.specs.declared.head.SentTo.{SentTo}
 use Rattle.journal.specs.Effects.{arrivals_of, attached, closing, detach_answer, hunted}
 use Rattle.journal.specs.History.{endpoint_of, name_of, open_endpoints}
-use Rattle.journal.specs.Laws.{IsLegal, detached_as, effects_by, is_owed}
-use Rattle.journal.specs.Living.{find, is_alive, living}
+use Rattle.journal.specs.Laws.{detached_as, effects_by, is_owed}
+use Rattle.journal.specs.Living.{find, is_alive}
 use Rattle.journal.specs.Pending.{attach_in, detaches, hunt_in, owed}
 use Rattle.journal.specs.Queues.{queued}
 use Rattle.journal.specs.Shapes.{Shape, node_by}
-use Rattle.journal.proofs.Holders.{hunters-open, holders-open}
-use Rattle.journal.proofs.Openings.{IsBelow, IsShort, endpoint-on, endpoint-open, next_on-is_on}
-use Rattle.journal.proofs.Openings.{open-below, open-rising}
+use Rattle.journal.proofs.Openings.{IsBelow, IsShort}
+use Rattle.link_laws.specs.Laws.{IsLegal}
+use Rattle.link_laws.proofs.Places.{endpoint-on, endpoint-open, next_on-is_on, open-below}
+use Rattle.link_laws.proofs.Places.{open-rising}
 use Rattle.node_kernel.specs.Calls.{after_attach, after_close, after_detach_of, after_hunt}
-use Rattle.node_kernel.specs.Calls.{after_open, after_restart, after_send, detached}
+use Rattle.node_kernel.specs.Calls.{after_open, after_send, detached}
 use Rattle.node_kernel.specs.Nodes.{NodeState, OpenEndpoint, find_at, first_named, inc_if}
 use Rattle.node_kernel.specs.Nodes.{is_living, is_named, is_open, items_at, next_of, with_items}
 use Rattle.fabric.specs.Remains.{endpoint_left, node_left}
 use Rattle.fabric.proofs.Calls.{attach-left, hunt-left, quiet-left, send-left}
-use Rattle.fabric.proofs.Endings.{close-left, open-left, restart-left}
+use Rattle.fabric.proofs.Endings.{close-left, open-left}
 use Rattle.fabric.proofs.Leaving.{after_step, node_left-step}
 use Rattle.fabric.proofs.Pendings.{hunting-below, hunting-rises, owed-below, owed-rises}
 use Rattle.fabric.proofs.Putting.{TakesNone}
@@ -54,7 +56,7 @@ module _ (P : List Step) where
   open-left_of i [] = refl
   open-left_of i (j ∷ incs) = ap (λ b. same_inc i j || b) (open-left_of i incs)
 
-  named-left : (name : List ℕ) (incs : List Inc)
+  pub named-left : (name : List ℕ) (incs : List Inc)
       → first_named (map (endpoint_left P) incs) name
       ≡ first_match (λ i. bytes_eq name (name_of P i)) incs
   named-left name [] = refl
@@ -238,26 +240,3 @@ module _ (shape : Shape) (P : List Step) (legal : IsLegal shape P) (short : IsSh
       step-to (Detach r answer) (Some j) is
       ∙ detach-left P j (open_endpoints P node.0) now r old
       (open-rising shape P legal short node.0) refl (own-open j is) answer
-
--- A RESTART leaves nothing of the node that it restarts
-pub node-restart : (shape : Shape) (P : List Step) → IsLegal shape P → IsShort P
-    → (k : ℕ) (node : NodeNo)
-    → living P node.0 ≡ []
-    → (let s : Step = record {
-      by = Actor k;
-      head = Restart node;
-      effects =
-          effects_by P (node_by shape (Actor k)) (endpoint_of P k) (Restart node);
-    } in
-    node_left (s ∷ P) node)
-    ≡ after_restart (node_left P node)
-node-restart shape P legal short k node alone =
-    node_left-step P (record {
-      by = Actor k;
-      head = Restart node;
-      effects =
-          effects_by P (node_by shape (Actor k)) (endpoint_of P k) (Restart node);
-    }) node
-    ∙ restart-left (suc (length P)) (endpoint_of P k) node (node_left P node) (endpoint_left P)
-    (open_endpoints P node.0) (λ i. refl) refl
-    (hunters-open shape P legal short node.0) (holders-open shape P legal short node.0) alone

@@ -12,7 +12,7 @@ use Rattle.journal.specs.History.{closes, is_end, is_lost, last_opened, unless_c
 use Rattle.journal.specs.Rest.{waits_in}
 use Rattle.journal.proofs.Openings.{last_in, last_opened-opens, same_inc-refl}
 use Rattle.fabric.specs.declared.standing.Standing.{Standing}
-use Rattle.fabric.proofs.Effects.{OnlyItems}
+use Rattle.fabric.proofs.Effects.{LeavesOpen}
 use Rattle.fabric.proofs.Standings.{standing_past}
 
 -- a standing by its parts
@@ -22,8 +22,8 @@ standing_by_parts : (a b : Option Inc) (c d : ℕ) (v w : Option Sigsel) (x y : 
     ≡ record { endpoint = b; closed = d; waits = w; ended = y }
 standing_by_parts a b c d v w x y e f g h = rw (e, f, g, h) refl
 
-module _ (es : List Effect) (only : OnlyItems es) where
-  -- effects that only bring items open and close none
+module _ (es : List Effect) (only : LeavesOpen es) where
+  -- effects that open and close none leave an endpoint
   pub opens-same : (e : Option Inc) → last_opened e es ≡ e
   opens-same e = last_opened-opens e es ∙ ap (last_in e) only.opened
 

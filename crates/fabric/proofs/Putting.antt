@@ -1,4 +1,4 @@
--- What a step that only brings items leaves of a node.
+-- What a step that opens and closes no endpoint leaves of a node.
 use Rattle.std.proofs.Common.{◌≡◌, ℕ, ◌+◌, Bool, true, false, not, List, [], ◌∷◌, ◌++◌, length, map}
 use Rattle.std.proofs.Common.{filter, Option, refl, ◌∙◌, ap, arith}
 use Rattle.std.proofs.lemmas.List.{append-nil}
@@ -18,7 +18,7 @@ use Rattle.journal.specs.Queues.{items_in, left_by, removes}
 use Rattle.journal.specs.Traffic.{is_endpoint}
 use Rattle.journal.proofs.Lists.{filter-every}
 use Rattle.node_kernel.specs.Nodes.{NodeState, OpenEndpoint, put_all, put_into}
-use Rattle.fabric.proofs.Effects.{AnswersNone, NotifiesNone, OnlyItems}
+use Rattle.fabric.proofs.Effects.{AnswersNone, LeavesOpen, NotifiesNone}
 use Rattle.fabric.proofs.Leaving.{endpoint_past, endpoints_past, new_endpoint, stays}
 
 -- a node by its parts
@@ -42,7 +42,7 @@ state_by_parts node n m es fs hs is xs ys ps qs a b c d e = rw (a, b, c, d, e) r
 abbrev pub TakesNone : Head → Type 0
 TakesNone head = (x : Item) → removes head x ≡ false
 
--- an endpoint after a step that only brings items: its own step may take one out
+-- an endpoint after such a step: its own step may take an item out
 abbrev pub put_past : ℕ → Option Inc → Head → List Effect → OpenEndpoint → OpenEndpoint
 put_past k me head es e =
     record e { items = left_by (is_endpoint e.inc me) head e.items ++ items_in e.inc k 1 es }
@@ -67,18 +67,19 @@ pub put-none : (k : ℕ) (endpoints : List OpenEndpoint) → put_all k [] endpoi
 put-none k [] = refl
 put-none k (e ∷ es) = rw (append-nil e.items, put-none k es) refl
 
-module _ (node k : ℕ) (me : Option Inc) (head : Head) (es : List Effect) (only : OnlyItems es) where
+module _ (node k : ℕ) (me : Option Inc) (head : Head) (es : List Effect)
+    (leaves : LeavesOpen es) where
   past-put : (e : OpenEndpoint) → endpoint_past k me head es e ≡ put_past k me head es e
-  past-put e = rw (only.opens_none e.inc) refl
+  past-put e = rw (leaves.opens_none e.inc) refl
 
   pub endpoints-kept : (before : List OpenEndpoint)
       → endpoints_past node k me head es before ≡ map (put_past k me head es) before
   endpoints-kept before =
-      let new : opened_by node es ≡ [] = ap (filter (is_on node)) only.opened in
+      let new : opened_by node es ≡ [] = ap (filter (is_on node)) leaves.opened in
       ap (λ l. filter (stays es) (map (endpoint_past k me head es) before ++ map
       (new_endpoint k me head es) l)) new
       ∙ ap (filter (stays es)) (append-nil (map (endpoint_past k me head es) before))
-      ∙ filter-every (stays es) (λ e. ap not (only.closes_none e.inc)) (map
+      ∙ filter-every (stays es) (λ e. ap not (leaves.closes_none e.inc)) (map
       (endpoint_past k me head es) before)
       ∙ map-each (endpoint_past k me head es) (put_past k me head es) past-put before
 
@@ -94,7 +95,7 @@ module _ (node k : ℕ) (me : Option Inc) (head : Head) (es : List Effect) (only
       (left_by-none (is_endpoint e.inc me) head e.items none)) before
 
   pub openings-kept : (n : ℕ) → n + length (opened_by node es) ≡ n
-  openings-kept n = rw (ap (filter (is_on node)) only.opened) (omega arith)
+  openings-kept n = rw (ap (filter (is_on node)) leaves.opened) (omega arith)
 
   -- no hunt is begun or answered
   pub hunts-kept : (hs : List PendingHunt) → AnswersNone es → hunt_in node k me head ≡ []
@@ -102,7 +103,7 @@ module _ (node k : ℕ) (me : Option Inc) (head : Head) (es : List Effect) (only
   hunts-kept hs none begins =
       ap (λ l. filter (λ h. not (ends_hunt es h)) (hs ++ l)) begins
       ∙ ap (filter (λ h. not (ends_hunt es h))) (append-nil hs)
-      ∙ filter-every (λ h. not (ends_hunt es h)) (λ h. rw (none h, only.closes_none h.at) refl) hs
+      ∙ filter-every (λ h. not (ends_hunt es h)) (λ h. rw (none h, leaves.closes_none h.at) refl) hs
 
   -- no attach is begun, cancelled or notified
   pub owed-kept : (xs : List PendingAttach) → NotifiesNone es → ((a : PendingAttach)
@@ -112,4 +113,4 @@ module _ (node k : ℕ) (me : Option Inc) (head : Head) (es : List Effect) (only
       ap (λ l. filter (λ a. not (settles me head es a)) (xs ++ l)) begins
       ∙ ap (filter (λ a. not (settles me head es a))) (append-nil xs)
       ∙ filter-every (λ a. not (settles me head es a)) (λ a. rw
-      (none a, cancels_none a, only.closes_none a.at) refl) xs
+      (none a, cancels_none a, leaves.closes_none a.at) refl) xs

@@ -1,36 +1,57 @@
 -- A restart as the fabric's method makes it: its node may be another than its maker's.
-use Rattle.std.proofs.Common.{◌≡◌, ℕ, zero, suc, ◌+◌, ◌<◌, ◌≤◌, Bool, true, false, List, [], ◌∷◌}
-use Rattle.std.proofs.Common.{length, map, Option, Some, None, get_or, refl, sym, ◌∙◌, ap, subst}
-use Rattle.std.proofs.Common.{add-one, arith}
-use Rattle.std.specs.Prelude.{◌==◌, ◌≢◌, slice_get, slice_set}
+use Rattle.std.proofs.Common.{◌≡◌, ◌≢◌, ℕ, zero, suc, ◌+◌, ◌<◌, ◌≤◌, Bool, true, false, List, []}
+use Rattle.std.proofs.Common.{◌∷◌, ◌++◌, cond, length, map, Option, Some, None, get_or, refl, sym}
+use Rattle.std.proofs.Common.{◌∙◌, ap, subst, add-one, arith}
+use Rattle.std.specs.Prelude.{◌==◌, ◌-◌, slice_get, slice_set}
+use Rattle.std.specs.List.{AllByRecursion}
 use Rattle.std.proofs.lemmas.Bool.{eq-eqb, eqb-true, ne_eqb, true≢false}
 use Rattle.linx_base.specs.declared.identity.Inc.{Inc}
 use Rattle.linx_base.specs.declared.identity.NodeNo.{NodeNo}
+use Rattle.linx_base.specs.declared.identity.Side.{Side}
 use Rattle.journal.specs.declared.by.By.TheVariants.{Actor}
 use Rattle.journal.specs.declared.effect.Effect.{Effect}
 use Rattle.journal.specs.declared.effect.Step.{Step}
 use Rattle.journal.specs.declared.event.Event.TheVariants as asks
 use Rattle.journal.specs.declared.head.Head.TheVariants as heads
 use Rattle.journal.specs.Effects.{closings}
-use Rattle.journal.specs.History.{endpoint_of, is_by, last_opened, open_endpoints, unless_closed}
-use Rattle.journal.specs.Laws.{IsMaker}
+use Rattle.journal.specs.History.{endpoint_of, is_by, open_endpoints, unless_closed}
 use Rattle.journal.specs.Logs.{Log}
 use Rattle.journal.specs.Shapes.{Shape}
 use Rattle.journal.proofs.Openings.{IsShort}
+use Rattle.link_laws.specs.Laws.{downs_of}
+use Rattle.link_laws.specs.Sessions.{boots, restarts}
+use Rattle.link_laws.proofs.Places.{open-few}
 use Rattle.node_kernel.specs.declared.answers.StepAnswer.TheVariants as answers
 use Rattle.node_kernel.specs.Calls.{after_restart}
 use Rattle.node_kernel.specs.Nodes.{NodeState, OpenEndpoint}
+use Rattle.run_trunks.specs.Changes.{each_does}
+use Rattle.run_trunks.specs.Laws.{AreTrunksOf}
+use Rattle.run_trunks.specs.States.{trunks_of}
+use Rattle.run_trunks.proofs.Lists.{length-each}
+use Rattle.run_trunks.proofs.Numbered.{all-do}
+use Rattle.trunk.specs.Events.{TrunkState, restarted_at}
+use Rattle.trunk_moves.specs.Steps.{IsTrunkStep}
 use Rattle.fabric.specs.declared.standing.Standing.{Standing}
+use Rattle.fabric.specs.Actings.{HasMade}
+use Rattle.fabric.specs.Downs.{downs_on}
+use Rattle.fabric.specs.Links.{line_left}
 use Rattle.fabric.specs.Machine.{signal_in}
-use Rattle.fabric.specs.Remains.{AreStandingsLeft, IsKept, IsWellKept, endpoint_left, node_left}
-use Rattle.fabric.specs.Remains.{standing_left}
-use Rattle.fabric.specs.Standings.{GrantIsMade, past_effects}
-use Rattle.fabric.proofs.Kept.{get-set, get-set-other, kept-next, kernels-next, length-set}
-use Rattle.fabric.proofs.Kept.{living-none}
-use Rattle.fabric.proofs.Legal.{IsNext, granted-legal}
-use Rattle.fabric.proofs.Nodes.{node-restart}
+use Rattle.fabric.specs.Remains.{AreBootsLeft, AreStandingsLeft, IsKept, Parts, endpoint_left}
+use Rattle.fabric.specs.Remains.{node_left, standing_left}
+use Rattle.fabric.specs.Run.{Layout}
+use Rattle.fabric.specs.Standings.{past_effects}
+use Rattle.fabric.proofs.Brings.{IsDown}
+use Rattle.fabric.proofs.BringsLeft.{node-restart}
+use Rattle.fabric.proofs.Downs.{closings-open_none, downs-are, downs-open_none, past-downs}
+use Rattle.fabric.proofs.Kept.{get-set, get-set-other, kept-next, length-set, same-left}
+use Rattle.fabric.proofs.Kept.{set-left}
+use Rattle.fabric.proofs.Legal.{IsLawful, granted-lawful, granted-plain, made_by}
+use Rattle.fabric.proofs.Lines.{line-off}
+use Rattle.fabric.proofs.Living.{downs-are_downs}
+use Rattle.fabric.proofs.OnLinks.{kernels-set, laid}
+use Rattle.fabric.proofs.Placed.{Acts, IsAt, get-is, length-mapped}
+use Rattle.fabric.proofs.Reaching.{legal-kept}
 use Rattle.fabric.proofs.Standings.{standing_past}
-use Rattle.fabric.proofs.Placed.{Acts, get-is, length-mapped, well_kept}
 
 incs-left : (P : List Step) (incs : List Inc)
     → map (λ (e : OpenEndpoint). e.inc) (map (endpoint_left P) incs) ≡ incs
@@ -43,174 +64,283 @@ get-map f [] k x is = cc
 get-map f (y ∷ xs) zero x is = let same : y ≡ x = cc in ap (λ z. Some (f z)) same
 get-map f (y ∷ xs) (suc k) x is = get-map f xs k x is
 
-closings-open_none : (e : Option Inc) (incs : List Inc) → last_opened e (closings incs) ≡ e
-closings-open_none e [] = refl
-closings-open_none e (i ∷ incs) = closings-open_none e incs
+-- a node boots at most as often as there are steps
+boots-few : (P : List Step) (n : ℕ) → boots P n ≤ length P
+boots-few [] n = omega arith
+boots-few (s ∷ P) n = by_test (restarts n s.head) (boots-few P n)
+  where
+    by_test : (b : Bool) → boots P n ≤ length P
+        → cond b (suc (boots P n)) (boots P n) ≤ suc (length P)
+    by_test true few = omega arith
+    by_test false few = omega arith
 
-module _ {shape : Shape} {log : Log} {kernels : List NodeState} {standings : List Standing}
-    {actor place own_home : ℕ} (acts : Acts shape log kernels standings actor place own_home)
-    (n : NodeNo) (home : ℕ) (home_is : n.0 ≡ suc home) (there : home < length kernels)
-    (above : 0 < n.0) (below : n.0 ≤ length log.names.nodes) where
-  abbrev kept : IsKept shape log kernels standings
-  kept = acts.at.kept
+-- A NODE of a kept fabric
+module _ {f : Layout} {parts : Parts} (kept : IsKept f parts) (n : NodeNo) (above : 0 < n.0)
+    (below : n.0 ≤ length f.log.names.nodes) where
+  back : suc (n.0 - 1) ≡ n.0
+  back = omega arith
 
-  abbrev own : actor ≡ suc place
-  own = acts.at.own
+  pub node-there : n.0 - 1 < length parts.kernels
+  node-there = omega (arith, above, below, kept.counted.kernels)
 
-  abbrev inside : place < length standings
-  inside = acts.at.inside
+  pub boot-there : n.0 - 1 < length parts.booted
+  boot-there = omega (arith, above, below, kept.counted.booted)
 
-  abbrev maker : IsMaker shape log.steps (Actor actor)
-  maker = acts.maker
+  pub kernel-of : (kernel : NodeState) → kernel ≡ get_or parts.kernels (n.0 - 1) kernel
+      → kernel ≡ node_left f.log.steps n
+  kernel-of kernel is =
+      is ∙ get-is parts.kernels (n.0 - 1) kernel
+      (node_left f.log.steps (record { 0 = suc (n.0 - 1) }))
+      (kept.left.kernels (n.0 - 1) node-there)
+      ∙ ap (λ (k : ℕ). node_left f.log.steps (record { 0 = k })) back
 
-  abbrev Q : List Step
-  Q = log.steps
+  pub boot-of : (d : ℕ) → get_or parts.booted (n.0 - 1) d ≡ 1 + boots f.log.steps n.0
+  boot-of d =
+      get-is parts.booted (n.0 - 1) d (1 + boots f.log.steps (suc (n.0 - 1)))
+      (kept.left.booted (n.0 - 1) boot-there)
+      ∙ ap (λ (k : ℕ). 1 + boots f.log.steps k) back
+
+  -- one more boot of it fits
+  pub boot-fits : (d : ℕ) → get_or parts.booted (n.0 - 1) d + 1 < 4294967296
+  boot-fits d = omega (arith, boot-of d, boots-few f.log.steps n.0, kept.short)
+
+  -- it has no more endpoints than there are actors
+  pub endpoints-few : (kernel : NodeState) → kernel ≡ get_or parts.kernels (n.0 - 1) kernel
+      → length kernel.endpoints ≤ length f.shape.actors
+  endpoints-few kernel is =
+      let P : List Step = f.log.steps in
+      let short : IsShort P = let few = kept.short in omega arith in
+      let few : length (open_endpoints P n.0) ≤ length f.shape.actors =
+      open-few f.shape P (legal-kept f parts kept) short n.0 in
+      let all : length kernel.endpoints ≡ length (open_endpoints P n.0) =
+      ap (λ (k : NodeState). length k.endpoints) (kernel-of kernel is)
+      ∙ length-mapped (endpoint_left P) (open_endpoints P n.0) in
+      omega (arith, few, all)
+
+-- THE RESTART of a node
+module _ {f : Layout} {parts : Parts} {actor place own_home : ℕ}
+    (acts : Acts f parts actor place own_home) (n : NodeNo) (above : 0 < n.0)
+    (below : n.0 ≤ length f.log.names.nodes) where
+  abbrev at : IsAt f parts actor place own_home
+  at = acts.at
+
+  abbrev kept : IsKept f parts
+  kept = at.kept
+
+  abbrev shape : Shape
+  shape = f.shape
+
+  abbrev P : List Step
+  P = f.log.steps
+
+  abbrev now : ℕ
+  now = suc (length P)
+
+  -- what it closes
+  abbrev closed : List Effect
+  closed = closings (open_endpoints P n.0)
+
+  -- after the sessions that it ends
+  abbrev ended : List Effect
+  ended = downs_of P n.0 (length shape.links)
+
+  are_downs : AllByRecursion IsDown ended
+  are_downs = downs-are_downs P n.0 (length shape.links)
 
   abbrev restarted : Step
-  restarted = record {
-    by = Actor actor;
-    head = heads.Restart n;
-    effects = closings
-        (open_endpoints Q n.0);
+  restarted = made_by shape P (trunks_of f.trunks) actor acts.maker (heads.Restart n)
+
+  lawful : IsLawful shape P (trunks_of f.trunks) restarted
+  lawful =
+      granted-lawful shape P (trunks_of f.trunks) actor acts.maker f (asks.Restart n)
+      (signal_in None) (granted-plain (endpoint_of P actor) (asks.Restart n) refl refl) tt
+      (omega arith) (above, below)
+
+  -- its sides boot again
+  abbrev becomes : ℕ → List TrunkState
+  becomes boot = each_does shape.links n.0 (λ (side : Side). restarted_at side boot) f.trunks
+
+  run-step : IsTrunkStep shape P (trunks_of f.trunks) restarted
+      (trunks_of (becomes (2 + boots P n.0)))
+  run-step = record {
+    laws = lawful.laws;
+    named = lawful.named;
+    makes = all-do shape n.0 (λ (side : Side). restarted_at side (2 + boots P n.0)) f.trunks
+        kept.counted.trunks;
   }
 
-  brief : IsShort Q
-  brief = acts.at.short
+  -- the boots
+  boots-after : (boot : ℕ) → boot ≡ 2 + boots P n.0
+      → AreBootsLeft (restarted ∷ P) (slice_set parts.booted (n.0 - 1) boot)
+  boots-after boot is =
+      let more : 2 + boots P n.0 ≡ 1 + suc (boots P n.0) = omega arith in
+      set-left (λ k. 1 + boots P k) (λ k. 1 + boots (restarted ∷ P) k) parts.booted
+      kept.left.booted (n.0 - 1)
+      (λ k other. ap (λ (b : Bool). 1 + cond b (suc (boots P (suc k))) (boots P (suc k)))
+      (ne_eqb n.0 (suc k) (λ same. other (omega (arith, same)))))
+      boot (boot-there kept n above below)
+      (is ∙ more ∙ sym (ap (λ (b : Bool). 1 + cond b (suc (boots P n.0)) (boots P n.0))
+      (eq-eqb n.0 n.0 refl))
+      ∙ ap (λ (k : ℕ). 1 + boots (restarted ∷ P) k) (sym (back kept n above below)))
 
-  node_is : (let m : NodeNo = record { 0 = suc home } in m) ≡ n
-  node_is = ap (λ (x : ℕ). let m : NodeNo = record { 0 = x } in m) (sym home_is)
-
-  was-left : (kernel : NodeState) → kernel ≡ get_or kernels home kernel → kernel ≡ node_left Q n
-  was-left kernel is = is ∙ get-is kernels home kernel (node_left Q (record { 0 = suc home }))
-      (kept.kernels_left home there) ∙ ap (node_left Q) node_is
-
-  effects_are : (kernel : NodeState) → kernel ≡ get_or kernels home kernel
-      → closings (map (λ (e : OpenEndpoint). e.inc) kernel.endpoints) ≡ closings
-      (open_endpoints Q n.0)
-  effects_are kernel is =
-      ap (λ (k : NodeState). closings (map (λ (e : OpenEndpoint). e.inc) k.endpoints))
-      (was-left kernel is)
-      ∙ ap closings (incs-left Q (open_endpoints Q n.0))
-
-  legal_restart : IsNext shape Q restarted
-  legal_restart =
-      granted-legal shape Q actor maker kept.laid_out.unlinked (length log.names.nodes)
-      (asks.Restart n) (signal_in None)
-      (record {
-        opening = λ o. absurd (true≢false (sym o));
-        needing = λ m. absurd
-            (true≢false (sym m));
-      }) tt (omega arith) (above, below) refl
+  -- the standings
+  abbrev past : Standing → Standing
+  past = past_effects now closed
 
   standings-after : (then : Standing)
-      → then ≡ record (past_effects (suc (length Q)) restarted.effects (standing_left Q actor))
-      { waits = None }
-      → AreStandingsLeft (restarted ∷ Q)
-      (slice_set (map (past_effects (suc (length Q)) restarted.effects) standings) place then)
+      → then ≡ record (past (standing_left P actor)) { waits = None }
+      → AreStandingsLeft (restarted ∷ P) (slice_set (map past parts.standings) place then)
   standings-after then then_is m under = go (place == m) refl
     where
-      es : List Effect
-      es = restarted.effects
-
-      past : Standing → Standing
-      past = past_effects (suc (length Q)) es
-
-      within : m < length standings
+      within : m < length parts.standings
       within = omega (
         arith,
         under,
-        length-set
-            (map past standings) place then,
-        length-mapped past standings,
+        length-set (map past parts.standings) place then,
+        length-mapped past parts.standings,
       )
 
-      mine : is_by (Actor actor) actor ≡ true
-      mine = eq-eqb actor actor refl
-
-      own_is : then ≡ standing_left (restarted ∷ Q) actor
+      own_is : then ≡ standing_left (restarted ∷ P) actor
       own_is =
           then_is
+          ∙ ap (λ (s : Standing). let t : Standing = record s { waits = None } in t)
+          (sym (past-downs now ended are_downs closed (standing_left P actor)))
           ∙ ap (λ (e : Option Inc). let s : Standing = record
-          (past (standing_left Q actor)) { endpoint = unless_closed es e; waits = None } in s)
-          (sym (closings-open_none (endpoint_of Q actor) (open_endpoints Q n.0)))
-          ∙ ap (λ (b : Bool). standing_past b (suc (length Q)) (heads.Restart n) es
-          (standing_left Q actor)) (sym mine)
+          (past_effects now (ended ++ closed) (standing_left P actor))
+          { endpoint = unless_closed (ended ++ closed) e; waits = None } in s)
+          (sym (downs-open_none (endpoint_of P actor) ended are_downs closed
+          ∙ closings-open_none (endpoint_of P actor) (open_endpoints P n.0)))
+          ∙ ap (λ (b : Bool). standing_past b now (heads.Restart n) (ended ++ closed)
+          (standing_left P actor)) (sym (eq-eqb actor actor refl))
 
       go : (b : Bool) → (place == m) ≡ b
-          → slice_get (slice_set (map past standings) place then) m ≡ Some
-          (standing_left (restarted ∷ Q) (suc m))
+          → slice_get (slice_set (map past parts.standings) place then) m
+          ≡ Some (standing_left (restarted ∷ P) (suc m))
       go true e =
           let same : place ≡ m = eqb-true place m e in
-          subst (λ (x : ℕ). slice_get (slice_set (map past standings) place then) x ≡ Some
-          (standing_left (restarted ∷ Q) (suc x))) same
-          (get-set (map past standings) place then
-          (omega (arith, inside, length-mapped past standings))
-          ∙ ap (λ (s : Standing). Some s) (own_is ∙ ap (standing_left (restarted ∷ Q)) own))
+          subst (λ (x : ℕ). slice_get (slice_set (map past parts.standings) place then) x
+          ≡ Some (standing_left (restarted ∷ P) (suc x))) same
+          (get-set (map past parts.standings) place then
+          (omega (arith, at.inside, length-mapped past parts.standings))
+          ∙ ap (λ (s : Standing). Some s) (own_is ∙ ap (standing_left (restarted ∷ P)) at.own))
       go false e =
           let other : place ≢ m = λ same. true≢false (sym (eq-eqb place m same) ∙ e) in
-          let apart : is_by (Actor actor) (suc m) ≡ false = ap (λ (a : ℕ). a == suc m) own
+          let apart : is_by (Actor actor) (suc m) ≡ false = ap (λ (a : ℕ). a == suc m) at.own
           ∙ ne_eqb (suc place) (suc m) (λ same. other (omega arith)) in
-          get-set-other (map past standings) place m then other
-          ∙ get-map past standings m (standing_left Q (suc m)) (kept.standings_left m within)
-          ∙ ap (λ (b : Bool). Some (standing_past b (suc (length Q)) (heads.Restart n) es
-          (standing_left Q (suc m)))) (sym apart)
+          get-set-other (map past parts.standings) place m then other
+          ∙ get-map past parts.standings m (standing_left P (suc m))
+          (kept.left.standings m within)
+          ∙ ap (λ (s : Standing). Some s)
+          (sym (past-downs now ended are_downs closed (standing_left P (suc m))))
+          ∙ ap (λ (b : Bool). Some (standing_past b now (heads.Restart n) (ended ++ closed)
+          (standing_left P (suc m)))) (sym apart)
 
-  pub made-restart : (kernel next : NodeState) → kernel ≡ get_or kernels home kernel
-      → next ≡ after_restart kernel
-      → (lost : List Standing) → lost ≡ map
-      (past_effects (length Q + 1) (closings (map (λ (e : OpenEndpoint). e.inc) kernel.endpoints)))
-      standings
+  -- WHAT IT MAKES
+  pub made-restart : (kernel next : NodeState)
+      → kernel ≡ get_or parts.kernels (n.0 - 1) kernel → next ≡ after_restart kernel
+      → (d boot : ℕ) → boot ≡ get_or parts.booted (n.0 - 1) d + 1
+      → (downs : List Effect)
+      → downs ≡ downs_on shape.links n.0 f.trunks (length shape.links)
+      → (lost : List Standing)
+      → lost ≡ map (past_effects (length P + 1)
+      (closings (map (λ (e : OpenEndpoint). e.inc) kernel.endpoints))) parts.standings
       → (standing then : Standing) → standing ≡ get_or lost place standing
       → then ≡ record standing { waits = None }
-      → (new : Log) → new ≡ record log {
+      → (new : Log) → new ≡ record f.log {
         steps = record {
           by = Actor actor;
           head = heads.Restart n;
-          effects = closings
-              (map (λ (e : OpenEndpoint). e.inc) kernel.endpoints);
-        } ∷ Q;
+          effects = downs
+              ++ closings (map (λ (e : OpenEndpoint). e.inc) kernel.endpoints);
+        } ∷ P;
       }
-      → IsWellKept shape new (slice_set kernels home next) (slice_set lost place then)
-      × GrantIsMade shape Q actor (record { event = asks.Restart n; hand = None }) answers.Done
-      new.steps
-  made-restart kernel next is next_eq lost lost_eq standing then stands then_eq new new_eq =
-      let past : Standing → Standing = past_effects (suc (length Q)) restarted.effects in
-      let es_are = effects_are kernel is in
-      let lost_is : lost ≡ map past standings =
+      → (after : List TrunkState)
+      → after ≡ each_does shape.links n.0 (λ (side : Side). restarted_at side boot) f.trunks
+      → IsKept (laid f new after) (record parts {
+        kernels = slice_set parts.kernels (n.0 - 1) next;
+        booted = slice_set parts.booted (n.0 - 1) boot;
+        standings = slice_set lost place then;
+      })
+      × HasMade f (laid f new after) actor (record { event = asks.Restart n; hand = None })
+      answers.Done
+  made-restart kernel next is next_eq d boot boot_eq downs downs_eq lost lost_eq standing then
+      stands then_eq new new_eq after after_eq =
+      let kernel_is : kernel ≡ node_left P n = kernel-of kept n above below kernel is in
+      let closed_is : closings (map (λ (e : OpenEndpoint). e.inc) kernel.endpoints) ≡ closed =
+      ap (λ (k : NodeState). closings (map (λ (e : OpenEndpoint). e.inc) k.endpoints)) kernel_is
+      ∙ ap closings (incs-left P (open_endpoints P n.0)) in
+      let boot_is : boot ≡ 2 + boots P n.0 =
+      let was : get_or parts.booted (n.0 - 1) d ≡ 1 + boots P n.0 = boot-of kept n above below d in
+      omega arith in
+      let lost_is : lost ≡ map past parts.standings =
       lost_eq ∙ ap (λ (k : ℕ). map (past_effects k
-      (closings (map (λ (e : OpenEndpoint). e.inc) kernel.endpoints))) standings)
-      (add-one (length Q))
-      ∙ ap (λ (es : List Effect). map (past_effects (suc (length Q)) es) standings) es_are
-      in
-      let logged : new ≡ record log { steps = restarted ∷ Q } =
-      new_eq ∙ ap (λ (es : List Effect). let l : Log = record log
-      { steps = (record { by = Actor actor; head = heads.Restart n; effects = es }) ∷ Q } in l)
-      es_are
-      in
-      let was : standing ≡ past (standing_left Q actor) =
+      (closings (map (λ (e : OpenEndpoint). e.inc) kernel.endpoints))) parts.standings)
+      (add-one (length P))
+      ∙ ap (λ (es : List Effect). map (past_effects now es) parts.standings) closed_is in
+      let was : standing ≡ past (standing_left P actor) =
       stands ∙ ap (λ (xs : List Standing). get_or xs place standing) lost_is
-      ∙ get-is (map past standings) place standing (past (standing_left Q (suc place)))
-      (get-map past standings place (standing_left Q (suc place))
-      (kept.standings_left place inside))
-      ∙ ap (λ (a : ℕ). past (standing_left Q a)) (sym own)
+      ∙ get-is (map past parts.standings) place standing (past (standing_left P (suc place)))
+      (get-map past parts.standings place (standing_left P (suc place))
+      (kept.left.standings place at.inside))
+      ∙ ap (λ (a : ℕ). past (standing_left P a)) (sym at.own) in
+      let then_is : then ≡ record (past (standing_left P actor)) { waits = None } =
+      then_eq ∙ ap (λ (s : Standing). let t : Standing = record s { waits = None } in t) was in
+      let logged : new ≡ record f.log { steps = restarted ∷ P } =
+      new_eq ∙ ap (λ (ds : List Effect). let l : Log = record f.log {
+        steps = record {
+          by = Actor actor;
+          head = heads.Restart n;
+          effects = ds ++ closings (map (λ (e : OpenEndpoint). e.inc) kernel.endpoints);
+        } ∷ P;
+      } in l) (downs_eq ∙ downs-are kept n.0)
+      ∙ ap (λ (cs : List Effect). let l : Log = record f.log {
+        steps = record { by = Actor actor; head = heads.Restart n; effects = ended ++ cs } ∷ P;
+      } in l) closed_is in
+      let left : next ≡ node_left (restarted ∷ P) (record { 0 = suc (n.0 - 1) }) =
+      next_eq ∙ ap after_restart kernel_is
+      ∙ sym (node-restart shape P (legal-kept f parts kept) at.short (Actor actor) n above)
+      ∙ ap (λ (k : ℕ). node_left (restarted ∷ P) (record { 0 = k })) (sym (back kept n above below))
       in
-      let then_is : then ≡ record (past (standing_left Q actor)) { waits = None } = then_eq
-      ∙ ap (λ (s : Standing). let t : Standing = record s { waits = None } in t) was in
-      let left : next ≡ node_left (restarted ∷ Q) (record { 0 = suc home }) =
-      next_eq ∙ ap after_restart (was-left kernel is)
-      ∙ sym (node-restart shape Q kept.legal brief actor n (living-none shape Q kept.legal n.0))
-      ∙ ap (node_left (restarted ∷ Q)) (sym node_is)
-      in (
-        well_kept log new restarted logged acts.short (slice_set kernels home next)
-            (slice_set lost place then)
-            (subst (λ (xs : List Standing). IsKept shape (record log { steps = restarted ∷ Q })
-            (slice_set kernels home next) (slice_set xs place then)) (sym lost_is)
-            (kept-next shape log kernels (slice_set kernels home next) standings
-            (slice_set (map past standings) place then) restarted kept legal_restart
-            (length-set kernels home next) (length-set (map past standings) place then
-            ∙ length-mapped past standings)
-            (kernels-next shape Q kept.legal brief restarted refl home home_is kernels
-            kept.kernels_left next there left)
-            (standings-after then then_is))),
-        record { steps = ap (λ (l : Log). l.steps) logged; answered = refl },
+      let trunks_are : after ≡ becomes (2 + boots P n.0) = after_eq ∙ ap becomes boot_is in
+      let step : IsTrunkStep shape P (trunks_of f.trunks) restarted (trunks_of after) =
+      subst (λ (ts : List TrunkState). IsTrunkStep shape P (trunks_of f.trunks) restarted
+      (trunks_of ts)) (sym trunks_are) run-step in
+      let count : AreTrunksOf shape after =
+      ap (λ (ts : List TrunkState). length ts) after_eq
+      ∙ length-each _ shape.links f.trunks ∙ kept.counted.trunks in (
+        subst (λ (l : Log). IsKept (laid f l after) (record parts {
+          kernels = slice_set parts.kernels (n.0 - 1) next;
+          booted = slice_set parts.booted (n.0 - 1) boot;
+          standings = slice_set lost place then;
+        })) (sym logged)
+            (subst (λ (xs : List Standing). IsKept
+            (laid f (record f.log { steps = restarted ∷ P }) after) (record parts {
+              kernels = slice_set parts.kernels (n.0 - 1) next;
+              booted = slice_set parts.booted (n.0 - 1) boot;
+              standings = slice_set xs place then;
+            })) (sym lost_is)
+            (kept-next f parts restarted after _ kept acts.short step lawful.made
+            (record {
+              kernels = length-set parts.kernels (n.0 - 1) next ∙ kept.counted.kernels;
+              booted = length-set parts.booted (n.0 - 1) boot ∙ kept.counted.booted;
+              standings = length-set (map past parts.standings) place then
+                  ∙ length-mapped past parts.standings ∙ kept.counted.standings;
+              lines = kept.counted.lines;
+              trunks = count;
+            })
+            (record {
+              kernels = kernels-set kept acts.short restarted after step (n.0 - 1)
+                  (sym (back kept n above below)) (node-there kept n above below) next left;
+              booted = boots-after boot boot_is;
+              standings = standings-after then then_is;
+              lines = same-left (line_left P) (line_left (restarted ∷ P)) parts.lines
+                  kept.left.lines
+                  (λ k. line-off P (Actor actor) restarted.effects (suc k) (heads.Restart n) refl);
+            }))),
+        record {
+          effects = restarted.effects;
+          steps = ap (λ (l : Log). l.steps) logged;
+          makes = step;
+          answered = refl;
+        },
       )

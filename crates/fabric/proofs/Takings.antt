@@ -25,7 +25,7 @@ use Rattle.journal.proofs.Queueing.{left-take}
 use Rattle.node_kernel.specs.Nodes.{NodeState, OpenEndpoint, items_at, with_items}
 use Rattle.node_kernel.specs.Calls.{after_detach_of}
 use Rattle.fabric.specs.Remains.{endpoint_left}
-use Rattle.fabric.proofs.Effects.{only-none}
+use Rattle.fabric.proofs.Effects.{leaves-none}
 use Rattle.fabric.proofs.Leaving.{after_step}
 use Rattle.fabric.proofs.Pendings.{filter-agree}
 use Rattle.fabric.proofs.Putting.{endpoints-kept, endpoints-put, hunts-kept, openings-kept}
@@ -132,12 +132,12 @@ take-left P j incs k sel item position old rising left mine is at =
     let same : items ≡ without_first sel (items_at old.endpoints j) =
     ap (without_first sel) (sym (ap (λ es. items_at es j) left ∙ items_left P j incs mine)) in
     state_by_parts old.node _ _ _ _ _ _ _ _ _ _
-    (openings-kept node k (Some j) head [] only-none old.openings)
-    (endpoints-kept node k (Some j) head [] only-none old.endpoints
+    (openings-kept node k (Some j) head [] leaves-none old.openings)
+    (endpoints-kept node k (Some j) head [] leaves-none old.endpoints
     ∙ endpoints-taken P j incs k head old rising left items taken
     ∙ ap (with_items old.endpoints j) same)
-    (hunts-kept node k (Some j) head [] only-none old.hunts (λ n. refl) refl)
-    (owed-kept node k (Some j) head [] only-none old.attaches (λ r. refl) (λ a. refl) refl)
+    (hunts-kept node k (Some j) head [] leaves-none old.hunts (λ n. refl) refl)
+    (owed-kept node k (Some j) head [] leaves-none old.attaches (λ r. refl) (λ a. refl) refl)
     refl
 
 -- A DETACH, by its answer
@@ -154,10 +154,10 @@ module _ (P : List Step) (j : Inc) (incs : List Inc) (k : ℕ) (r : AttRef) (old
       let agree : (xs : List PendingAttach) → AllByRecursion (λ a. p a ≡ q a) xs =
       λ xs. every p q (λ a. ap not (or-false (is_attach j r a))) xs in
       state_by_parts old.node _ _ _ _ _ _ _ _ _ _
-      (openings-kept node k (Some j) head [] only-none old.openings)
-      (endpoints-put node k (Some j) head [] only-none old.endpoints (λ x. refl)
+      (openings-kept node k (Some j) head [] leaves-none old.openings)
+      (endpoints-put node k (Some j) head [] leaves-none old.endpoints (λ x. refl)
       ∙ put-none k old.endpoints)
-      (hunts-kept node k (Some j) head [] only-none old.hunts (λ n. refl) refl)
+      (hunts-kept node k (Some j) head [] leaves-none old.hunts (λ n. refl) refl)
       (ap (filter p) (append-nil old.attaches) ∙ filter-agree p q old.attaches (agree old.attaches))
       refl
     where
@@ -173,20 +173,20 @@ module _ (P : List Step) (j : Inc) (incs : List Inc) (k : ℕ) (r : AttRef) (old
       ap (filter (λ item. not (is_notice_of r item))) (sym (ap (λ es. items_at es j) left
       ∙ items_left P j incs mine)) in
       state_by_parts old.node _ _ _ _ _ _ _ _ _ _
-      (openings-kept node k (Some j) head [] only-none old.openings)
-      (endpoints-kept node k (Some j) head [] only-none old.endpoints
+      (openings-kept node k (Some j) head [] leaves-none old.openings)
+      (endpoints-kept node k (Some j) head [] leaves-none old.endpoints
       ∙ endpoints-taken P j incs k head old rising left items refl
       ∙ ap (with_items old.endpoints j) same)
-      (hunts-kept node k (Some j) head [] only-none old.hunts (λ n. refl) refl)
-      (owed-kept node k (Some j) head [] only-none old.attaches (λ r. refl) (λ a. refl) refl)
+      (hunts-kept node k (Some j) head [] leaves-none old.hunts (λ n. refl) refl)
+      (owed-kept node k (Some j) head [] leaves-none old.attaches (λ r. refl) (λ a. refl) refl)
       refl
   detach-left Neither =
       let node : ℕ = old.node.0 in
       let head : Head = Detach r Neither in
       state_by_parts old.node _ _ _ _ _ _ _ _ _ _
-      (openings-kept node k (Some j) head [] only-none old.openings)
-      (endpoints-put node k (Some j) head [] only-none old.endpoints (λ x. refl)
+      (openings-kept node k (Some j) head [] leaves-none old.openings)
+      (endpoints-put node k (Some j) head [] leaves-none old.endpoints (λ x. refl)
       ∙ put-none k old.endpoints)
-      (hunts-kept node k (Some j) head [] only-none old.hunts (λ n. refl) refl)
-      (owed-kept node k (Some j) head [] only-none old.attaches (λ r. refl) (λ a. refl) refl)
+      (hunts-kept node k (Some j) head [] leaves-none old.hunts (λ n. refl) refl)
+      (owed-kept node k (Some j) head [] leaves-none old.attaches (λ r. refl) (λ a. refl) refl)
       refl

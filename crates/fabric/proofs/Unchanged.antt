@@ -11,12 +11,11 @@ use Rattle.journal.specs.declared.by.By.{By}
 use Rattle.journal.specs.History.{endpoint_of}
 use Rattle.journal.specs.Logs.{Log}
 use Rattle.journal.specs.Rest.{queue_of}
-use Rattle.journal.specs.Shapes.{Shape}
 use Rattle.node_kernel.specs.Nodes.{NodeState, OpenEndpoint, is_at, items_of, with_items, items_at}
-use Rattle.fabric.specs.declared.standing.Standing.{Standing}
 use Rattle.fabric.specs.declared.makings.Looked.TheVariants.{Found, Vain}
 use Rattle.fabric.specs.Looks.{after_take, looked_at, with_take}
-use Rattle.fabric.specs.Remains.{IsWellKept}
+use Rattle.fabric.specs.Remains.{IsKept, Parts}
+use Rattle.fabric.specs.Run.{Layout}
 
 -- WHAT CHANGES NOTHING
 set-itself : {X : Type 0} (xs : List X) (k : ℕ) (x : X) → k < length xs → x ≡ get_or xs k x
@@ -25,17 +24,16 @@ set-itself [] k x within is = refl
 set-itself (y ∷ xs) zero x within is = ap (λ z. z ∷ xs) is
 set-itself (y ∷ xs) (suc k) x within is = ap (λ l. y ∷ l) (set-itself xs k x (omega arith) is)
 
-pub kept-same : (shape : Shape) (log new : Log) (kernels : List NodeState)
-    (standings : List Standing) → IsWellKept shape log kernels standings
-    → new ≡ log → (home : ℕ) → home < length log.names.nodes → (kernel next : NodeState)
-    → kernel ≡ get_or kernels home kernel → next ≡ kernel
-    → IsWellKept shape new (slice_set kernels home next) standings
-kept-same shape log new kernels standings well same home there kernel next is next_eq =
-    let there_too : home < length kernels = omega (arith, there, well.kept.nodes) in
-    let unchanged : slice_set kernels home next ≡ kernels = ap (slice_set kernels home) next_eq
-    ∙ set-itself kernels home kernel there_too is in
-    subst (λ (l : Log). IsWellKept shape l (slice_set kernels home next) standings) (sym same)
-    (subst (λ (ks : List NodeState). IsWellKept shape log ks standings) (sym unchanged) well)
+pub kept-same : (f g : Layout) (parts : Parts) → IsKept f parts → g ≡ f
+    → (home : ℕ) → home < length parts.kernels → (kernel next : NodeState)
+    → kernel ≡ get_or parts.kernels home kernel → next ≡ kernel
+    → IsKept g (record parts { kernels = slice_set parts.kernels home next })
+kept-same f g parts kept same home there kernel next is next_eq =
+    let unchanged : slice_set parts.kernels home next ≡ parts.kernels =
+    ap (slice_set parts.kernels home) next_eq ∙ set-itself parts.kernels home kernel there is in
+    subst (λ (l : Layout). IsKept l (record parts { kernels = slice_set parts.kernels home next }))
+    (sym same)
+    (subst (λ (ks : List NodeState). IsKept f (record parts { kernels = ks })) (sym unchanged) kept)
 
 -- a queue that is put back as it was changes nothing
 put_back : (es : List OpenEndpoint) (j : Inc) → with_items es j (items_at es j) ≡ es

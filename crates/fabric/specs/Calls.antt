@@ -1,4 +1,5 @@
--- What an actor's call at its open endpoint makes of its node, of how it stands, and of the journal.
+-- What an actor's call at its open endpoint makes of its node, of how it stands, and of the
+-- journal.
 use Rattle.std.specs.Prelude.{ℕ, ◌≡◌, ◌≤◌, ◌<◌, true, List, [], ◌∷◌, length, Option, None, Some}
 use Rattle.linx_base.specs.Content.{data_limit}
 use Rattle.linx_base.specs.declared.identity.Inc.{Inc}
@@ -17,6 +18,7 @@ use Rattle.node_kernel.specs.declared.ask.Ask.{Ask}
 use Rattle.node_kernel.specs.Calls.{after_attach, after_close, after_detach, after_hunt, after_send}
 use Rattle.node_kernel.specs.Calls.{detached}
 use Rattle.node_kernel.specs.Nodes.{NodeState, find_at, is_living}
+use Rattle.trunk_moves.specs.Steps.{HuntsName}
 use Rattle.fabric.specs.declared.call.Call.{Call}
 use Rattle.fabric.specs.declared.call.Call.TheVariants.{Attach, Close, Detach, End, Hunt, Send}
 use Rattle.fabric.specs.declared.standing.Standing.{Standing}
@@ -55,6 +57,13 @@ abbrev pub IsBounded : Call → Type 0
 IsBounded (Send q signal) = length signal.bytes ≤ data_limit
 IsBounded (Hunt path signal) = length signal.bytes ≤ data_limit
 IsBounded _ = Unit {0}
+
+-- what the types of a call tell: a signal's number fits four bytes, and what is hunted over a link
+-- is a name
+abbrev pub IsTyped : Call → Type 0
+IsTyped (Send q signal) = signal.number < 4294967296
+IsTyped (Hunt path signal) = HuntsName (heads.Hunt path signal)
+IsTyped _ = Unit {0}
 
 -- what a call makes: its node after it, the head and the effects of its step, and its answer
 pub record CallMade : Type 0 where

@@ -1,6 +1,14 @@
-pub mod Remains
+pub mod Links
+pub mod Lines
 pub mod Machine
+pub mod Run
+pub mod Remains
 pub mod Standings
+pub mod Asks
 pub mod Actings
 pub mod Looks
 pub mod Calls
+pub mod Tellings
+pub mod Brings
+pub mod Bringings
+pub mod Downs

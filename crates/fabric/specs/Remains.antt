@@ -1,20 +1,26 @@
--- What a history leaves of the nodes and the actors, and what a fabric keeps.
-use Rattle.std.specs.Prelude.{ℕ, suc, ◌≡◌, ◌≤◌, ◌<◌, List, [], length, map, slice_get, Some}
+-- What a history leaves of the nodes, the actors and the links, and what a fabric keeps.
+use Rattle.std.specs.Prelude.{ℕ, suc, ◌+◌, ◌≡◌, ◌≤◌, ◌<◌, ◌==◌, false, List, length, map}
+use Rattle.std.specs.Prelude.{slice_get, Some}
 use Rattle.std.specs.List.{AllByRecursion}
+use Rattle.linx_base.specs.declared.frame.LinkDecl.{LinkDecl}
 use Rattle.linx_base.specs.declared.identity.Inc.{Inc}
 use Rattle.linx_base.specs.declared.identity.NodeNo.{NodeNo}
 use Rattle.journal.specs.declared.effect.Step.{Step}
 use Rattle.journal.specs.History.{closed_step, endpoint_of, has_ended, name_of, open_endpoints}
 use Rattle.journal.specs.History.{opened_on}
-use Rattle.journal.specs.Laws.{IsLegal}
 use Rattle.journal.specs.Living.{living}
-use Rattle.journal.specs.Logs.{Log, step_limit}
+use Rattle.journal.specs.Logs.{step_limit}
 use Rattle.journal.specs.Pending.{hunting, owed}
 use Rattle.journal.specs.Queues.{queued}
 use Rattle.journal.specs.Rest.{waits_with}
 use Rattle.journal.specs.Shapes.{Shape}
 use Rattle.node_kernel.specs.Nodes.{NodeState, OpenEndpoint}
-use Rattle.fabric.specs.Machine.{IsReached}
+use Rattle.ethcm_end.specs.Sound.{IsPiece}
+use Rattle.link_laws.specs.Sessions.{boots}
+use Rattle.run_trunks.specs.States.{trunks_of}
+use Rattle.fabric.specs.Links.{line_left}
+use Rattle.fabric.specs.Run.{IsReached, Layout}
+use Rattle.fabric.specs.declared.line.Line.{Line}
 use Rattle.fabric.specs.declared.standing.Standing.{Standing}
 
 -- an open endpoint as the history leaves it
@@ -63,31 +69,65 @@ IsNode count node = (0 < node.0) × (node.0 ≤ count)
 abbrev pub actor_limit : ℕ
 actor_limit = 64
 
--- a layout that a fabric can have: at most 64 actors, each on one of the nodes, and as yet no link
+-- a link between two nodes of so many, with a window of at least one frame and pieces that fit
+pub record IsLink (nodes : ℕ) (link : LinkDecl) : Type 0 where
+  pub first : IsNode nodes link.first
+  pub second : IsNode nodes link.second
+  pub apart : (link.first.0 == link.second.0) ≡ false
+  pub window : 1 ≤ link.window
+  pub piece : IsPiece link.piece
+
+-- the most links of a run
+abbrev pub link_limit : ℕ
+link_limit = 32
+
+-- a layout that a fabric can have: at most 64 actors, each on one of the nodes, and at most 32
+-- links between two nodes each
 pub record IsLaidOut (nodes : ℕ) (shape : Shape) : Type 0 where
+  pub numbered : nodes < 4294967296
   pub few : length shape.actors ≤ actor_limit
   pub placed : AllByRecursion (IsNode nodes) shape.actors
-  pub unlinked : shape.links ≡ []
+  pub few_links : length shape.links ≤ link_limit
+  pub linked : AllByRecursion (IsLink nodes) shape.links
 
--- what a fabric is seen as: what it is laid out on, and its log
-pub record Layout : Type 0 where
-  pub shape : Shape
-  pub log : Log
+-- the lines are those of the links from 1 on, as the history leaves them
+abbrev pub AreLinesLeft : List Step → List Line → Type 0
+AreLinesLeft P lines =
+    (k : ℕ) → k < length lines → slice_get lines k ≡ Some (line_left P (suc k))
 
--- What a fabric keeps: its journal is legal, and reached; its kernels are what the journal leaves
--- of the nodes, and its standings what it leaves of the actors
-pub record IsKept (shape : Shape) (log : Log) (kernels : List NodeState)
-    (standings : List Standing) : Type 0 where
-  pub laid_out : IsLaidOut (length log.names.nodes) shape
-  pub legal : IsLegal shape log.steps
-  pub reached : IsReached shape log.steps
-  pub nodes : length kernels ≡ length log.names.nodes
-  pub actors : length standings ≡ length shape.actors
-  pub kernels_left : AreNodesLeft log.steps kernels
-  pub standings_left : AreStandingsLeft log.steps standings
+-- each node has booted once, and once more for each restart
+abbrev pub AreBootsLeft : List Step → List ℕ → Type 0
+AreBootsLeft P booted =
+    (k : ℕ) → k < length booted → slice_get booted k ≡ Some (1 + boots P (suc k))
 
--- it keeps this, and its journal has at most 200,000 steps
-pub record IsWellKept (shape : Shape) (log : Log) (kernels : List NodeState)
-    (standings : List Standing) : Type 0 where
-  pub kept : IsKept shape log kernels standings
-  pub short : length log.steps ≤ step_limit
+-- what a fabric holds: of each node its kernel and its boot, how each actor stands, and what is
+-- noted of each link
+pub record Parts : Type 0 where
+  pub kernels : List NodeState
+  pub booted : List ℕ
+  pub standings : List Standing
+  pub lines : List Line
+
+-- there are as many of each as the layout has
+pub record AreCounted (f : Layout) (parts : Parts) : Type 0 where
+  pub kernels : length parts.kernels ≡ length f.log.names.nodes
+  pub booted : length parts.booted ≡ length f.log.names.nodes
+  pub standings : length parts.standings ≡ length f.shape.actors
+  pub lines : length parts.lines ≡ length f.shape.links
+  pub trunks : length f.trunks ≡ length f.shape.links
+
+-- and each is what the journal leaves of it
+pub record AreLeft (P : List Step) (parts : Parts) : Type 0 where
+  pub kernels : AreNodesLeft P parts.kernels
+  pub booted : AreBootsLeft P parts.booted
+  pub standings : AreStandingsLeft P parts.standings
+  pub lines : AreLinesLeft P parts.lines
+
+-- WHAT A FABRIC KEEPS: its run is one of the machine's, and its parts are what its journal leaves
+pub record IsKept (f : Layout) (parts : Parts) : Type 0 where
+  pub laid_out : IsLaidOut (length f.log.names.nodes) f.shape
+  pub reached : IsReached f.shape f.log.steps (trunks_of f.trunks)
+  pub counted : AreCounted f parts
+  pub left : AreLeft f.log.steps parts
+  -- its journal has at most 200,000 steps
+  pub short : length f.log.steps ≤ step_limit

@@ -1,19 +1,17 @@
 -- How a step changes the standings of the actors.
-use Rattle.std.specs.Prelude.{ℕ, zero, suc, ◌≡◌, Bool, false, List, [], ◌∷◌, ◌++◌, is_none, Option}
-use Rattle.std.specs.Prelude.{Some, None, if◌then◌else◌}
+use Rattle.std.specs.Prelude.{ℕ, zero, suc, Bool, false, List, [], ◌∷◌, ◌++◌, is_none, Option}
+use Rattle.std.specs.Prelude.{Some, None, if◌then◌else◌, ◌-◌, ◌<◌, ◌≤◌, slice_get, slice_set}
+use Rattle.journal.specs.declared.by.By.{By}
+use Rattle.journal.specs.declared.by.By.TheVariants.{Actor, Pump}
 use Rattle.linx_base.specs.declared.identity.Inc.{Inc}
 use Rattle.sigsel.specs.Selection.{first_selected}
 use Rattle.sigsel.specs.declared.sigsel.Sigsel.{Sigsel}
 use Rattle.journal.specs.declared.effect.Effect.{Effect}
 use Rattle.journal.specs.declared.head.Refusal.{Refusal}
-use Rattle.journal.specs.declared.effect.Step.{Step}
 use Rattle.journal.specs.History.{is_lost, unless_closed}
-use Rattle.journal.specs.Shapes.{Shape}
 use Rattle.node_kernel.specs.Answers.{refused}
 use Rattle.node_kernel.specs.Nodes.{NodeState, empty_node, items_at}
-use Rattle.node_kernel.specs.declared.answers.StepAnswer.{StepAnswer}
 use Rattle.node_kernel.specs.declared.ask.Ask.{Ask}
-use Rattle.fabric.specs.Machine.{answer_with, granted_step, with_step}
 use Rattle.fabric.specs.declared.standing.Standing.{Standing}
 
 -- how an actor stands before its first step
@@ -38,13 +36,23 @@ vain_with k (Some filter) (Some j) = is_none (first_selected filter (items_at k.
 vain_with k (Some filter) None = false
 vain_with k None me = false
 
--- what is granted to actor k is made: its step, if there is one, and the answer
-pub record GrantIsMade (shape : Shape) (P : List Step) (k : ℕ) (ask : Ask) (answer : StepAnswer)
-    (after : List Step) : Type 0 where
-  pub steps : after ≡ with_step P (granted_step shape P k ask)
-  pub answered : answer ≡ answer_with P (granted_step shape P k ask)
-
 -- so many nodes before their first steps, from 1 on
 abbrev pub empty_nodes : ℕ → List NodeState
 empty_nodes zero = []
 empty_nodes (suc n) = empty_nodes n ++ empty_node (record { 0 = suc n }) ∷ []
+
+-- the maker of a step, where it is an actor, is one of so many
+abbrev pub IsStanding : ℕ → By → Type 0
+IsStanding count (Actor k) = (0 < k) × (k ≤ count)
+IsStanding count (Pump link) = Unit {0}
+
+-- a standing that waits no more, where there is one
+abbrev pub waiting_none : Option Standing → List Standing → ℕ → List Standing
+waiting_none None standings place = standings
+waiting_none (Some s) standings place = slice_set standings place (record s { waits = None })
+
+-- the maker of a step, where it is an actor, waits no more
+abbrev pub waiting_no_more : By → List Standing → List Standing
+waiting_no_more (Actor k) standings =
+    waiting_none (slice_get standings (k - 1)) standings (k - 1)
+waiting_no_more (Pump link) standings = standings

@@ -25,6 +25,20 @@ pub(crate) enum Call {
     Detach(AttRef),
 }
 
+impl Call {
+    /// The signal that goes with it, if one does.
+    pub(crate) fn into_hand(self) -> Option<Signal>
+        ensures { result ≡ hand_of self }
+    {
+        match self {
+            Call::Send(_to, signal) => Some(signal),
+            Call::Hunt(_path, signal) => Some(signal),
+            Call::Attach(_peer, signal) => Some(signal),
+            Call::Close | Call::End | Call::Detach(_) => None,
+        }
+    }
+}
+
 /// Makes a call at an open endpoint of the node. A refusal changes nothing, and gives the signal
 /// back.
 pub(crate) fn make_call(

@@ -1,56 +1,85 @@
-ghost use Rattle.std.specs.Prelude.{◌≡◌, ◌==◌, ◌||◌, ◌+◌, ◌<◌, ◌≤◌, Option, true, false, []};
-ghost use Rattle.std.specs.Prelude.{length, replicate, is_some, IfOk, IfErr, OnOk, IsSome};
-ghost use Rattle.std.specs.Prelude.{Some, None};
+ghost use Rattle.std.specs.Prelude.{◌≡◌, ◌==◌, ◌&&◌, ◌||◌, ◌+◌, ◌<◌, ◌≤◌, Option, true, false, []};
+ghost use Rattle.std.specs.Prelude.{length, replicate, is_some, IfOk, IfErr, OnErr, IsSome};
+ghost use Rattle.std.specs.Prelude.{Some, None, IsTrue};
 ghost use Rattle.linx_base.specs.declared.signal.SigNote.{SigNote};
 ghost use Rattle.sigsel.specs.Selection.{first_selected};
-ghost use Rattle.journal.specs.History.{endpoint_of, has_ended};
-ghost use Rattle.journal.specs.Laws.{IsLegal, IsMaker};
+ghost use Rattle.linx_base.specs.NameText.{is_name};
+ghost use Rattle.journal.specs.History.{endpoint_of, has_ended, next_inc, opened_on};
+ghost use Rattle.journal.specs.Laws.{IsMaker};
 ghost use Rattle.journal.specs.Logs.{is_full};
 ghost use Rattle.journal.specs.Rest.{is_idle, leaves_at_rest, queue_of, waits_with};
+ghost use Rattle.journal.specs.Shapes.{node_by};
+ghost use Rattle.journal.specs.declared.head.Head.TheVariants as heads;
+ghost use Rattle.link_laws.specs.Laws.{IsLegal};
+ghost use Rattle.link_laws.specs.Runs.{KeepsPromises};
 ghost use Rattle.node_kernel.specs.Answers.{granted, refused};
+ghost use Rattle.run_trunks.specs.States.{new_trunks, trunks_of};
+ghost use Rattle.trunk_moves.specs.Trunks.{links_of};
+ghost use Rattle.fabric.specs.Actings.{HasMade, IsHomeOf, LeavesAll, MayMake, OnlyRuns};
+ghost use Rattle.fabric.specs.Actings.{asking};
+ghost use Rattle.fabric.specs.Asks.{MayAsk};
+ghost use Rattle.trunk_moves.specs.Steps.{HuntsName};
+ghost use Rattle.fabric.specs.Calls.{IsTyped, ask_of, hand_of};
+ghost use Rattle.fabric.specs.Lines.{fresh_line};
+ghost use Rattle.fabric.specs.Links.{is_still};
+ghost use Rattle.fabric.specs.Machine.{all_have_ended, is_at_rest};
+ghost use Rattle.fabric.specs.Run.{IsReached, IsStepped};
 ghost use Rattle.fabric.specs.Standings.{empty_nodes, fresh, unless_refused};
-ghost use Rattle.fabric.specs.Actings.{HasMade, IsHomeOf, LeavesAll, MayMake, OnlySteps, asking};
-ghost use Rattle.fabric.specs.Calls.{ask_of, hand_of};
-ghost use Rattle.fabric.specs.Machine.{IsReached, MayAsk, all_have_ended, answer_to, is_at_rest};
-ghost use Rattle.fabric.specs.Machine.{steps_after};
 
 use crate::call::{Call, make_call};
 use crate::granting::refusal_of;
-use crate::makings::{Looked, make_open, make_quiet, make_restart, make_take, make_wait};
+use crate::line::{Line, Mark};
+use crate::makings::{Looked, downs_of, make_open, make_quiet, make_restart, make_take, make_wait};
 use crate::rest::is_vain;
 use crate::standing::Standing;
 use crate::stop::{StepStop, StopCause, no_memory};
+use crate::telling::tell_call;
 use journal::{By, Event, Head, Journal, Refusal};
-use linx_base::{Inc, LinkDecl, Name, Names, NoMemory, NodeNo, Signal};
+use linx_base::{Inc, LinkDecl, Name, Names, NoMemory, NodeNo, Path, Peer, Signal};
 use node_kernel::{Kernel, StepAnswer};
+use run_trunks::RunTrunks;
 use sigsel::Sigsel;
 use std::alloc::Global;
 use std::marker::Model;
 
-/// The nodes of a run, the standings of its actors, and its journal.
+/// The nodes of a run, the standings of its actors, its links, and its journal.
 #[derive(Drop)]
 pub struct Fabric {
-    alloc: Global,
-    links: Vec<LinkDecl>,
-    actors: Vec<NodeNo>,
-    journal: Journal,
-    kernels: Vec<Kernel>,
-    standings: Vec<Standing>,
+    pub(crate) alloc: Global,
+    pub(crate) actors: Vec<NodeNo>,
+    pub(crate) journal: Journal,
+    pub(crate) trunks: RunTrunks,
+    pub(crate) kernels: Vec<Kernel>,
+    /// How often each node has booted.
+    booted: Vec<u32>,
+    pub(crate) standings: Vec<Standing>,
+    pub(crate) lines: Vec<Line>,
     stop: Option<StopCause>,
 }
 
 impl Model for Fabric {
-    ghost use Rattle.fabric.specs.Remains.{Layout, IsWellKept};
+    ghost use Rattle.std.specs.Prelude.{◌≡◌};
+    ghost use Rattle.fabric.specs.Remains.{IsKept, Parts};
+    ghost use Rattle.fabric.specs.Run.{Layout};
 
     ghost Value = { Layout };
 
     ghost view = { λ f. record {
-      shape = record { links = f.links.items; actors = f.actors.items };
+      shape = record { links = f.trunks.links; actors = f.actors.items };
       log = f.journal.log;
+      trunks = f.trunks.is;
     } };
 
-    ghost invariant = { λ f. IsWellKept (record { links = f.links.items; actors = f.actors.items })
-        f.journal.log f.kernels.items f.standings.items };
+    ghost invariant = { λ f. IsKept (record {
+      shape = record { links = f.trunks.links; actors = f.actors.items };
+      log = f.journal.log;
+      trunks = f.trunks.is;
+    }) (record {
+      kernels = f.kernels.items;
+      booted = f.booted.items;
+      standings = f.standings.items;
+      lines = f.lines.items;
+    }) × (f.trunks.was ≡ f.trunks.is) };
 }
 
 /// A kernel for each node.
@@ -75,11 +104,49 @@ fn standings_of(alloc: Global, count: usize) -> Result<Vec<Standing>, NoMemory>
     Ok(standings)
 }
 
+/// The boots of so many nodes before their first steps: one each.
+fn boots_of(alloc: Global, count: u32) -> Result<Vec<u32>, NoMemory>
+    ensures { IfOk result (λ booted. booted.items ≡ replicate count 1) }
+{
+    let mut booted = Vec::new(alloc);
+    for _place in 0..count {
+        booted.push(1)?;
+    }
+    Ok(booted)
+}
+
+/// What is noted of so many links before the first step.
+fn lines_of(alloc: Global, count: usize) -> Result<Vec<Line>, NoMemory>
+    ensures { IfOk result (λ lines. lines.items ≡ replicate count fresh_line) }
+{
+    let mut lines = Vec::new(alloc);
+    for _place in 0..count {
+        lines.push(Line::new())?;
+    }
+    Ok(lines)
+}
+
+/// A path over a link has a name. It does nothing.
+fn name_path(path: &Path)
+    ensures { (signal : SigNote) → HuntsName (heads.Hunt path.now signal) }
+{
+    if let Path::Over { name, .. } = path {
+        let _bytes = name.bytes();
+    }
+}
+
+/// A name is one. It does nothing.
+fn is_named(name: &Name)
+    ensures { IsTrue (is_name name.now) }
+{
+    let _bytes = name.bytes();
+}
+
 impl Fabric {
     ghost use Rattle.fabric.specs.Remains.{IsLaidOut};
 
-    /// A fabric without steps: its nodes and links have these names, and each actor is on one of
-    /// the nodes. As yet there is no link.
+    /// A fabric without steps: its nodes and links have these names, each actor is on one of the
+    /// nodes, and each link is between two of them.
     pub fn new(
         alloc: Global,
         names: Names,
@@ -91,38 +158,50 @@ impl Fabric {
         ensures ok { IfOk result (λ fabric. fabric ≡ record {
           shape = record { links = links.now; actors = actors.now };
           log = record { names = names; steps = [] };
+          trunks = new_trunks links.now;
         }) }
     {
         let Ok(count) = u32::try_from(names.nodes.len()) else {
             return Err(NoMemory);
         };
+        let trunks = RunTrunks::new(alloc, links)?;
         let kernels = kernels_of(alloc, count)?;
+        let booted = boots_of(alloc, count)?;
         let standings = standings_of(alloc, actors.len())?;
+        let lines = lines_of(alloc, links.len())?;
         Ok(Fabric {
             alloc,
-            links: Vec::from_slice(alloc, links)?,
             actors: Vec::from_slice(alloc, actors)?,
             journal: Journal::new(alloc, names),
+            trunks,
             kernels,
+            booted,
             standings,
+            lines,
             stop: None,
         })
     }
 
-    /// The journal so far, which is legal, and whose steps are the machine's.
+    /// The journal so far, which is legal by the laws of nodes and links, keeps what is promised of
+    /// runs with links, and whose steps are the machine's.
     pub fn journal(&self) -> &Journal
         ensures log { result.now.log ≡ self.now.log }
         ensures legal { IsLegal self.now.shape self.now.log.steps }
-        ensures reached { IsReached self.now.shape self.now.log.steps }
+        ensures promises { KeepsPromises self.now.shape self.now.log.steps
+            (links_of (trunks_of self.now.trunks)) }
+        ensures reached { IsReached self.now.shape self.now.log.steps (trunks_of self.now.trunks) }
     {
         &self.journal
     }
 
-    /// The journal, which is legal, and whose steps are the machine's.
+    /// The journal, which is legal by the laws of nodes and links, keeps what is promised of runs
+    /// with links, and whose steps are the machine's.
     pub fn into_journal(self) -> Journal
         ensures log { result.log ≡ self.log }
         ensures legal { IsLegal self.shape self.log.steps }
-        ensures reached { IsReached self.shape self.log.steps }
+        ensures promises { KeepsPromises self.shape self.log.steps
+            (links_of (trunks_of self.trunks)) }
+        ensures reached { IsReached self.shape self.log.steps (trunks_of self.trunks) }
     {
         self.journal
     }
@@ -163,8 +242,28 @@ impl Fabric {
         self.actors[(actor - 1) as usize].0 as usize - 1
     }
 
+    /// The node of an actor.
+    fn node_of(&self, actor: u32) -> NodeNo
+        requires above { 0 < actor }
+        requires within { actor ≤ length self.now.shape.actors }
+        ensures { result ≡ record { 0 = node_by self.now.shape (By.Actor actor) } }
+    {
+        self.actors[(actor - 1) as usize]
+    }
+
+    /// The incarnation that an actor opens next.
+    fn next_inc(&self, actor: u32) -> Inc
+        requires above { 0 < actor }
+        requires within { actor ≤ length self.now.shape.actors }
+        ensures { result ≡ next_inc (node_by self.now.shape (By.Actor actor))
+            (opened_on self.now.log.steps (node_by self.now.shape (By.Actor actor))) }
+    {
+        let openings = self.kernels[self.kernel_of(actor)].openings();
+        Inc::of(self.node_of(actor), openings + 1)
+    }
+
     /// Whether every actor has made its last step.
-    pub fn is_over(&self) -> bool
+    fn have_ended(&self) -> bool
         ensures { result ≡ all_have_ended self.now.shape self.now.log.steps }
     {
         for place in 0..self.actor_count() {
@@ -175,6 +274,14 @@ impl Fabric {
         true
     }
 
+    /// Whether every actor has made its last step, and no link stirs.
+    pub fn is_over(&self) -> bool
+        ensures { result ≡ (all_have_ended self.now.shape self.now.log.steps
+            && is_still self.now.shape self.now.log.steps (trunks_of self.now.trunks)) }
+    {
+        self.have_ended() && self.is_still()
+    }
+
     /// The number of actors.
     fn actor_count(&self) -> u32
         ensures count { result ≡ length self.now.shape.actors }
@@ -183,8 +290,16 @@ impl Fabric {
     }
 
     /// Whether an actor is at rest: each other one has ended, or waits with nothing selected and
-    /// has a greater number.
+    /// has a greater number; and no link stirs.
     pub fn is_rest(&self, actor: u32) -> bool
+        ensures { result ≡ (is_at_rest self.now.shape self.now.log.steps actor
+            && is_still self.now.shape self.now.log.steps (trunks_of self.now.trunks)) }
+    {
+        self.all_leave_at_rest(actor) && self.is_still()
+    }
+
+    /// Whether each other actor leaves an actor at rest.
+    fn all_leave_at_rest(&self, actor: u32) -> bool
         ensures { result ≡ is_at_rest self.now.shape self.now.log.steps actor }
     {
         for place in 0..self.actor_count() {
@@ -244,15 +359,10 @@ impl Fabric {
         event: Event,
         hand: Option<Signal>,
     ) -> Result<StepAnswer, StepStop>
-        requires asked { MayAsk (length self.old.log.names.nodes) self.old.shape self.old.log.steps
-            by (record { event = event; hand = hand }) }
-        ensures answer { IfOk result (λ answer. answer
-            ≡ answer_to self.old.shape self.old.log.steps by
+        requires asked { MayAsk self.old by (record { event = event; hand = hand }) }
+        ensures ok { IfOk result (IsStepped self.old self.new by
             (record { event = event; hand = hand })) }
-        ensures ok { OnOk result (self.new.log.steps
-            ≡ steps_after self.old.shape self.old.log.steps by
-            (record { event = event; hand = hand })) }
-        ensures fixed { OnlySteps self.old self.new }
+        ensures fixed { OnlyRuns self.old self.new }
         ensures full { is_full self.old.log.steps ≡ true
             → result ≡ Err (record { cause = StopCause.JournalFull; hand = hand }) }
         ensures full_only { IfErr result (λ stop. stop.cause ≡ StopCause.JournalFull
@@ -267,7 +377,15 @@ impl Fabric {
         }
         match by {
             By::Actor(actor) => self.act(actor, event, hand),
-            By::Pump(_) => unreachable!(),
+            By::Pump(_) => match event {
+                Event::Wire {
+                    link,
+                    from,
+                    verdict,
+                } => self.wire(by, link, from, verdict),
+                Event::Tick { link, side } => self.tick(by, link, side),
+                _ => unreachable!(),
+            },
         }
     }
 
@@ -290,10 +408,10 @@ impl Fabric {
         event: Event,
         hand: Option<Signal>,
     ) -> Result<StepAnswer, StepStop>
-        requires asked { MayMake self.old actor (asking event hand) }
+        requires asked { MayMake self.old (By.Actor actor) (asking event hand) }
         ensures ok { IfOk result (HasMade self.old self.new actor
             (granted self.old.log.steps actor (asking event hand))) }
-        ensures fixed { OnlySteps self.old self.new }
+        ensures fixed { OnlyRuns self.old self.new }
         ensures err { IfErr result (LeavesAll self.old self.new hand) }
     {
         match self.refusal_of(actor, &event) {
@@ -309,23 +427,23 @@ impl Fabric {
         event: Event,
         hand: Option<Signal>,
     ) -> Result<StepAnswer, StepStop>
-        requires asked { MayMake self.old actor (asking event hand) }
+        requires asked { MayMake self.old (By.Actor actor) (asking event hand) }
         requires granted { granted self.old.log.steps actor (record { event = event; hand = hand })
             ≡ record { event = event; hand = hand } }
         ensures ok { IfOk result (HasMade self.old self.new actor (asking event hand)) }
-        ensures fixed { OnlySteps self.old self.new }
+        ensures fixed { OnlyRuns self.old self.new }
         ensures err { IfErr result (LeavesAll self.old self.new hand) }
     {
         match event {
             Event::Open(name) => self.open(actor, name),
             Event::Close => self.call(actor, Call::Close),
             Event::Send(to) => match hand {
-                Some(signal) => self.call(actor, Call::Send(to, signal)),
+                Some(signal) => self.send(actor, to, signal),
                 None => unreachable!(),
             },
             Event::Look(filter) => self.look(actor, filter),
             Event::Hunt(path) => match hand {
-                Some(signal) => self.call(actor, Call::Hunt(path, signal)),
+                Some(signal) => self.hunt(actor, path, signal),
                 None => unreachable!(),
             },
             Event::Attach(peer) => match hand {
@@ -333,44 +451,95 @@ impl Fabric {
                 None => unreachable!(),
             },
             Event::Detach(r) => self.call(actor, Call::Detach(r)),
+            Event::Cut(link) => self.mark(actor, Mark::Cut, link),
+            Event::Mend(link) => self.mark(actor, Mark::Mend, link),
+            Event::Settle(link) => self.mark(actor, Mark::Settle, link),
             Event::Restart(node) => self.restart(actor, node),
             Event::Refuse(reason) => self.refuse(actor, reason, None),
             Event::End => self.end(actor),
-            _ => unreachable!(),
+            Event::Wire {
+                link,
+                from,
+                verdict,
+            } => self.wire(By::Actor(actor), link, from, verdict),
+            Event::Tick { link, side } => self.tick(By::Actor(actor), link, side),
         }
     }
 
     /// An opening.
     fn open(&mut self, actor: u32, name: Name) -> Result<StepAnswer, StepStop>
-        requires asked { MayMake self.old actor (asking (Event.Open name) None) }
+        requires asked { MayMake self.old (By.Actor actor) (asking (Event.Open name) None) }
         requires granted { endpoint_of self.old.log.steps actor ≡ None }
         ensures ok { IfOk result (HasMade self.old self.new actor (asking (Event.Open name) None)) }
-        ensures fixed { OnlySteps self.old self.new }
+        ensures fixed { OnlyRuns self.old self.new }
         ensures err { IfErr result (LeavesAll self.old self.new None) }
     {
         let place = self.kernel_of(actor);
+        let node = self.node_of(actor);
+        let inc = self.next_inc(actor);
+        is_named(&name);
+        let Ok(()) = self.trunks.opened(node, inc, &name) else {
+            return Err(no_memory(None));
+        };
         let by = By::Actor(actor);
-        match make_open(&mut self.journal, &mut self.kernels[place], by, name) {
+        let made = make_open(&mut self.journal, &mut self.kernels[place], by, name);
+        match made {
             Ok(inc) => {
+                self.trunks.keep_all();
                 self.standings[(actor - 1) as usize].open(inc);
                 Ok(StepAnswer::Opened(inc))
             }
-            Err(NoMemory) => Err(no_memory(None)),
+            Err(NoMemory) => {
+                self.trunks.undo_all();
+                Err(no_memory(None))
+            }
         }
+    }
+
+    /// A send.
+    fn send(&mut self, actor: u32, to: Peer, signal: Signal) -> Result<StepAnswer, StepStop>
+        requires asked { MayMake self.old (By.Actor actor) (asking (Event.Send to) (Some signal)) }
+        requires granted { IsSome (endpoint_of self.old.log.steps actor) }
+        ensures ok { IfOk result (HasMade self.old self.new actor
+            (asking (Event.Send to) (Some signal))) }
+        ensures fixed { OnlyRuns self.old self.new }
+        ensures err { IfErr result (LeavesAll self.old self.new (Some signal)) }
+    {
+        let _number = signal.number();
+        self.call(actor, Call::Send(to, signal))
+    }
+
+    /// A hunt.
+    fn hunt(&mut self, actor: u32, path: Path, signal: Signal) -> Result<StepAnswer, StepStop>
+        requires asked { MayMake self.old (By.Actor actor)
+            (asking (Event.Hunt path) (Some signal)) }
+        requires granted { IsSome (endpoint_of self.old.log.steps actor) }
+        ensures ok { IfOk result (HasMade self.old self.new actor
+            (asking (Event.Hunt path) (Some signal))) }
+        ensures fixed { OnlyRuns self.old self.new }
+        ensures err { IfErr result (LeavesAll self.old self.new (Some signal)) }
+    {
+        name_path(&path);
+        self.call(actor, Call::Hunt(path, signal))
     }
 
     /// A call at an actor's open endpoint.
     fn call(&mut self, actor: u32, call: Call) -> Result<StepAnswer, StepStop>
-        requires asked { MayMake self.old actor (ask_of call) }
+        requires asked { MayMake self.old (By.Actor actor) (ask_of call) }
+        requires typed { IsTyped call }
         requires granted { IsSome (endpoint_of self.old.log.steps actor) }
         ensures ok { IfOk result (HasMade self.old self.new actor (ask_of call)) }
-        ensures fixed { OnlySteps self.old self.new }
+        ensures fixed { OnlyRuns self.old self.new }
         ensures err { IfErr result (LeavesAll self.old self.new (hand_of call)) }
     {
         let Some(at) = self.endpoint_of(actor) else {
             unreachable!()
         };
         let place = self.kernel_of(actor);
+        let node = self.node_of(actor);
+        let Ok(()) = tell_call(&mut self.trunks, &self.kernels[place], node, at, &call) else {
+            return Err(no_memory(call.into_hand()));
+        };
         let made = make_call(
             self.alloc,
             &mut self.journal,
@@ -381,21 +550,25 @@ impl Fabric {
         );
         match made {
             Ok(answer) => {
+                self.trunks.keep_all();
                 let step = self.journal.len();
                 self.standings[(actor - 1) as usize].call(step, &answer);
                 Ok(answer)
             }
-            Err(stop) => Err(stop),
+            Err(stop) => {
+                self.trunks.undo_all();
+                Err(stop)
+            }
         }
     }
 
     /// A look.
     fn look(&mut self, actor: u32, filter: Sigsel) -> Result<StepAnswer, StepStop>
-        requires asked { MayMake self.old actor (asking (Event.Look filter) None) }
+        requires asked { MayMake self.old (By.Actor actor) (asking (Event.Look filter) None) }
         requires granted { IsSome (endpoint_of self.old.log.steps actor) }
         ensures ok { IfOk result (HasMade self.old self.new actor
             (asking (Event.Look filter) None)) }
-        ensures fixed { OnlySteps self.old self.new }
+        ensures fixed { OnlyRuns self.old self.new }
         ensures err { IfErr result (LeavesAll self.old self.new None) }
     {
         let Some(at) = self.endpoint_of(actor) else {
@@ -422,13 +595,13 @@ impl Fabric {
 
     /// A look with nothing selected.
     fn look_in_vain(&mut self, actor: u32, filter: Sigsel) -> Result<StepAnswer, StepStop>
-        requires asked { MayMake self.old actor (asking (Event.Look filter) None) }
+        requires asked { MayMake self.old (By.Actor actor) (asking (Event.Look filter) None) }
         requires granted { IsSome (endpoint_of self.old.log.steps actor) }
         requires vain { first_selected filter (queue_of self.old.log.steps
             (endpoint_of self.old.log.steps actor)) ≡ None }
         ensures ok { IfOk result (HasMade self.old self.new actor
             (asking (Event.Look filter) None)) }
-        ensures fixed { OnlySteps self.old self.new }
+        ensures fixed { OnlyRuns self.old self.new }
         ensures err { IfErr result (LeavesAll self.old self.new None) }
     {
         if self.is_rest(actor) {
@@ -442,14 +615,15 @@ impl Fabric {
 
     /// A look with nothing selected, at rest.
     fn find_none(&mut self, actor: u32, filter: Sigsel) -> Result<StepAnswer, StepStop>
-        requires asked { MayMake self.old actor (asking (Event.Look filter) None) }
+        requires asked { MayMake self.old (By.Actor actor) (asking (Event.Look filter) None) }
         requires granted { IsSome (endpoint_of self.old.log.steps actor) }
         requires vain { first_selected filter (queue_of self.old.log.steps
             (endpoint_of self.old.log.steps actor)) ≡ None }
-        requires rest { is_at_rest self.old.shape self.old.log.steps actor ≡ true }
+        requires rest { (is_at_rest self.old.shape self.old.log.steps actor
+            && is_still self.old.shape self.old.log.steps (trunks_of self.old.trunks)) ≡ true }
         ensures ok { IfOk result (HasMade self.old self.new actor
             (asking (Event.Look filter) None)) }
-        ensures fixed { OnlySteps self.old self.new }
+        ensures fixed { OnlyRuns self.old self.new }
         ensures err { IfErr result (LeavesAll self.old self.new None) }
     {
         let by = By::Actor(actor);
@@ -464,15 +638,16 @@ impl Fabric {
 
     /// The first look with nothing selected, not at rest.
     fn wait(&mut self, actor: u32, filter: Sigsel) -> Result<StepAnswer, StepStop>
-        requires asked { MayMake self.old actor (asking (Event.Look filter) None) }
+        requires asked { MayMake self.old (By.Actor actor) (asking (Event.Look filter) None) }
         requires granted { IsSome (endpoint_of self.old.log.steps actor) }
         requires vain { first_selected filter (queue_of self.old.log.steps
             (endpoint_of self.old.log.steps actor)) ≡ None }
-        requires busy { is_at_rest self.old.shape self.old.log.steps actor ≡ false }
+        requires busy { (is_at_rest self.old.shape self.old.log.steps actor
+            && is_still self.old.shape self.old.log.steps (trunks_of self.old.trunks)) ≡ false }
         requires first { waits_with self.old.log.steps actor ≡ None }
         ensures ok { IfOk result (HasMade self.old self.new actor
             (asking (Event.Look filter) None)) }
-        ensures fixed { OnlySteps self.old self.new }
+        ensures fixed { OnlyRuns self.old self.new }
         ensures err { IfErr result (LeavesAll self.old self.new None) }
     {
         let by = By::Actor(actor);
@@ -487,25 +662,39 @@ impl Fabric {
 
     /// A restart of a node, which may be another than the actor's.
     fn restart(&mut self, actor: u32, node: NodeNo) -> Result<StepAnswer, StepStop>
-        requires asked { MayMake self.old actor (asking (Event.Restart node) None) }
+        requires asked { MayMake self.old (By.Actor actor) (asking (Event.Restart node) None) }
         ensures ok { IfOk result (HasMade self.old self.new actor
             (asking (Event.Restart node) None)) }
-        ensures fixed { OnlySteps self.old self.new }
+        ensures fixed { OnlyRuns self.old self.new }
         ensures err { IfErr result (LeavesAll self.old self.new None) }
     {
+        let place = node.0 as usize - 1;
+        let boot = self.booted[place] + 1;
+        let Ok(downs) = downs_of(self.alloc, &self.trunks, node, self.actors.len()) else {
+            return Err(no_memory(None));
+        };
+        let Ok(()) = self.trunks.restarted(node, boot) else {
+            return Err(no_memory(None));
+        };
         let made = make_restart(
             &mut self.journal,
-            &mut self.kernels[node.0 as usize - 1],
+            &mut self.kernels[place],
             &mut self.standings,
             By::Actor(actor),
             node,
+            downs,
         );
         match made {
             Ok(()) => {
+                self.trunks.keep_all();
+                self.booted[place] = boot;
                 self.standings[(actor - 1) as usize].wait(None);
                 Ok(StepAnswer::Done)
             }
-            Err(NoMemory) => Err(no_memory(None)),
+            Err(NoMemory) => {
+                self.trunks.undo_all();
+                Err(no_memory(None))
+            }
         }
     }
 
@@ -519,8 +708,22 @@ impl Fabric {
         requires maker { IsMaker self.old.shape self.old.log.steps (By.Actor actor) }
         requires short { length self.old.log.steps < 200000 }
         ensures ok { IfOk result (HasMade self.old self.new actor (refused reason)) }
-        ensures fixed { OnlySteps self.old self.new }
+        ensures fixed { OnlyRuns self.old self.new }
         ensures err { IfErr result (LeavesAll self.old self.new hand) }
+    {
+        match self.note_refusal(actor, reason) {
+            Ok(answer) => Ok(answer),
+            Err(NoMemory) => Err(no_memory(hand)),
+        }
+    }
+
+    /// The step of a refusal.
+    fn note_refusal(&mut self, actor: u32, reason: Refusal) -> Result<StepAnswer, NoMemory>
+        requires maker { IsMaker self.old.shape self.old.log.steps (By.Actor actor) }
+        requires short { length self.old.log.steps < 200000 }
+        ensures ok { IfOk result (HasMade self.old self.new actor (refused reason)) }
+        ensures fixed { OnlyRuns self.old self.new }
+        ensures err { OnErr result (self.new ≡ self.old) }
     {
         let by = By::Actor(actor);
         match make_quiet(self.alloc, &mut self.journal, by, Head::Refused(reason)) {
@@ -528,15 +731,15 @@ impl Fabric {
                 self.standings[(actor - 1) as usize].wait(None);
                 Ok(StepAnswer::Refused(reason))
             }
-            Err(NoMemory) => Err(no_memory(hand)),
+            Err(NoMemory) => Err(NoMemory),
         }
     }
 
     /// The end of an actor.
     fn end(&mut self, actor: u32) -> Result<StepAnswer, StepStop>
-        requires asked { MayMake self.old actor (asking Event.End None) }
+        requires asked { MayMake self.old (By.Actor actor) (asking Event.End None) }
         ensures ok { IfOk result (HasMade self.old self.new actor (asking Event.End None)) }
-        ensures fixed { OnlySteps self.old self.new }
+        ensures fixed { OnlyRuns self.old self.new }
         ensures err { IfErr result (LeavesAll self.old self.new None) }
     {
         match self.endpoint_of(actor) {
@@ -547,10 +750,10 @@ impl Fabric {
 
     /// The end of an actor that has no endpoint.
     fn end_closed(&mut self, actor: u32) -> Result<StepAnswer, StepStop>
-        requires asked { MayMake self.old actor (asking Event.End None) }
+        requires asked { MayMake self.old (By.Actor actor) (asking Event.End None) }
         requires granted { endpoint_of self.old.log.steps actor ≡ None }
         ensures ok { IfOk result (HasMade self.old self.new actor (asking Event.End None)) }
-        ensures fixed { OnlySteps self.old self.new }
+        ensures fixed { OnlyRuns self.old self.new }
         ensures err { IfErr result (LeavesAll self.old self.new None) }
     {
         let by = By::Actor(actor);

@@ -2,26 +2,34 @@
 //! changes last, and then the step is noted.
 
 ghost use Rattle.std.specs.Prelude.{◌≡◌, ◌+◌, ◌<◌, ◌≤◌, [], ◌∷◌, length, map, IfOk, IfErr, OnOk};
-ghost use Rattle.std.specs.Prelude.{OnErr, IsTrue, Some};
+ghost use Rattle.std.specs.Prelude.{OnErr, IsTrue, Some, ◌-◌, ◌++◌, option_to_list};
+ghost use Rattle.std.specs.Prelude.{vec_capacity, vec_len};
 ghost use Rattle.linx_base.specs.Content.{data_limit};
 ghost use Rattle.linx_base.specs.NameText.{is_name};
 ghost use Rattle.journal.specs.Effects.{arrivals_of, attached, closing, closings, hunted, opening};
 ghost use Rattle.journal.specs.Effects.{send_answer};
 ghost use Rattle.journal.specs.declared.head.Head.TheVariants as heads;
 ghost use Rattle.sigsel.specs.Selection.{first_selected};
+ghost use Rattle.link_laws.specs.Laws.{down_if};
+ghost use Rattle.run_trunks.specs.States.{HasLink, over, trunks_of};
+ghost use Rattle.trunk_moves.specs.Trunks.{side_on};
 ghost use Rattle.node_kernel.specs.Calls.{after_attach, after_close, after_detach, after_hunt};
 ghost use Rattle.node_kernel.specs.Calls.{after_open, after_restart, after_send, detached};
 ghost use Rattle.node_kernel.specs.Nodes.{endpoint_limit, find_at, is_living, is_open, items_at};
 ghost use Rattle.node_kernel.specs.Nodes.{next_of};
 ghost use Rattle.fabric.specs.Calls.{refusal_with};
 ghost use Rattle.fabric.specs.Standings.{past_effects};
+ghost use Rattle.fabric.specs.Downs.{downs_on, session_if};
 ghost use Rattle.fabric.specs.Looks.{after_take, looked_at, with_take};
 
 use crate::standing::{Standing, lose_all};
 use crate::stop::{StepStop, no_memory};
 use journal::{By, Detached, Effect, Effects, Head, Journal, SentTo, Step};
-use linx_base::{AttRef, Inc, Item, Name, NoMemory, NodeNo, Path, Peer, SigNote, Signal, TryCopy};
+use linx_base::{
+    AttRef, Inc, Item, LinkNo, Name, NoMemory, NodeNo, Path, Peer, SigNote, Signal, TryCopy,
+};
 use node_kernel::{Kernel, OpenError};
+use run_trunks::RunTrunks;
 use sigsel::Sigsel;
 use std::alloc::Global;
 
@@ -429,21 +437,77 @@ pub(crate) fn make_detach(
     Ok(answer)
 }
 
-/// The restart of a node: all of its endpoints are closed, and those whose they were lose them.
+/// The end of a node's session over a link, if one is up there.
+fn down_over(trunks: &RunTrunks, node: NodeNo, link: LinkNo) -> Option<Effect>
+    requires of_run { HasLink trunks.now link }
+    ensures { option_to_list result ≡ down_if node.0 link.0
+        (session_if (side_on (over trunks.now.links) node.0 link)
+        (trunks_of trunks.now.is link.0)) }
+{
+    let side = trunks.side_on(link, node)?;
+    if trunks.is_up(link, side) {
+        Some(Effect::Down(node, link, trunks.session(link, side)))
+    } else {
+        None
+    }
+}
+
+/// The ends of the sessions of a node that are up, by the numbers of their links, with room for so
+/// many more effects.
+pub(crate) fn downs_of(
+    alloc: Global,
+    trunks: &RunTrunks,
+    node: NodeNo,
+    room: usize,
+) -> Result<Vec<Effect>, NoMemory>
+    ensures downs { IfOk result (λ downs. downs.items
+        ≡ downs_on trunks.now.links node.0 trunks.now.is (length trunks.now.links)) }
+    ensures room { IfOk result (λ downs. room ≤ vec_capacity downs - vec_len downs) }
+{
+    let Ok(count) = u32::try_from(trunks.count()) else {
+        return Err(NoMemory);
+    };
+    let mut downs = Vec::new(alloc);
+    for place in 0..count {
+        if let Some(down) = down_over(trunks, node, LinkNo(place + 1)) {
+            downs.push(down)?;
+        }
+    }
+    downs.reserve(room)?;
+    Ok(downs)
+}
+
+/// Some effects, and further ones, for which there is room.
+fn joined(first: Vec<Effect>, rest: Effects) -> Effects
+    requires { length rest ≤ vec_capacity first - vec_len first }
+    ensures { result ≡ first.items ++ rest }
+{
+    let mut all = first;
+    let mut rest = rest.into_vec();
+    match all.append(&mut rest) {
+        Ok(()) => Effects::of(all),
+        Err(_) => unreachable!(),
+    }
+}
+
+/// The restart of a node: after these ends of its sessions, all of its endpoints are closed, and
+/// those whose they were lose them.
 pub(crate) fn make_restart(
     journal: &mut Journal,
     kernel: &mut Kernel,
     standings: &mut [Standing],
     by: By,
     node: NodeNo,
+    downs: Vec<Effect>,
 ) -> Result<(), NoMemory>
-    requires { length journal.old.log.steps < 200000 }
+    requires short { length journal.old.log.steps < 200000 }
+    requires room { length kernel.old.endpoints ≤ vec_capacity downs - vec_len downs }
     ensures kernel { OnOk result (kernel.new ≡ after_restart kernel.old) }
     ensures log { OnOk result (journal.new.log ≡ record journal.old.log {
       steps = record {
         by = by;
         head = heads.Restart node;
-        effects = closings (map (λ e. e.inc) kernel.old.endpoints);
+        effects = downs.items ++ closings (map (λ e. e.inc) kernel.old.endpoints);
       } ∷ journal.old.log.steps;
     }) }
     ensures standings { OnOk result (standings.new
@@ -453,12 +517,12 @@ pub(crate) fn make_restart(
         × (standings.new ≡ standings.old)) }
 {
     journal.reserve(1)?;
-    let effects = kernel.restart()?;
-    lose_all(standings, effects.as_slice(), journal.len() + 1);
+    let closings = kernel.restart()?;
+    lose_all(standings, closings.as_slice(), journal.len() + 1);
     journal.push(Step {
         by,
         head: Head::Restart(node),
-        effects,
+        effects: joined(downs, closings),
     });
     Ok(())
 }

@@ -1,10 +1,10 @@
-ghost use Rattle.std.specs.Prelude.{◌≡◌, map, Some, None, false, true};
+ghost use Rattle.std.specs.Prelude.{◌≡◌, length, map, Some, None, false, true};
 ghost use Rattle.std.specs.List.{list_any};
 ghost use Rattle.journal.specs.History.{closes};
 ghost use Rattle.fabric.specs.Calls.{stands_after};
-ghost use Rattle.fabric.specs.Standings.{fresh, past_effects};
+ghost use Rattle.fabric.specs.Standings.{IsStanding, fresh, past_effects, waiting_no_more};
 
-use journal::Effect;
+use journal::{By, Effect};
 use linx_base::Inc;
 use node_kernel::StepAnswer;
 use sigsel::Sigsel;
@@ -114,5 +114,16 @@ pub(crate) fn lose_all(standings: &mut [Standing], effects: &[Effect], step: u64
 {
     for standing in standings.iter_mut() {
         standing.lose(effects, step);
+    }
+}
+
+/// The maker of a step, if it is an actor, waits no more.
+pub(crate) fn wait_no_more(standings: &mut [Standing], by: By)
+    requires { IsStanding (length standings.old) by }
+    ensures { standings.new ≡ waiting_no_more by standings.old }
+{
+    match by {
+        By::Actor(actor) => standings[(actor - 1) as usize].wait(None),
+        By::Pump(_) => (),
     }
 }

@@ -2,3 +2,5 @@ mod Numbers
 pub mod Own
 pub mod Answering
 pub mod Calls
+pub mod Same
+mod Fresh

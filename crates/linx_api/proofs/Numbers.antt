@@ -8,9 +8,10 @@ use native.Mathlib.Decide.{ℕ_discrete}
 use Rattle.journal.specs.declared.by.By.{By}
 use Rattle.journal.specs.declared.by.By.TheVariants.{Actor, Pump}
 use Rattle.journal.specs.declared.effect.Step.{Step}
-use Rattle.journal.specs.Laws.{IsLegal, IsMaker}
+use Rattle.journal.specs.Laws.{IsMaker}
 use Rattle.journal.specs.Logs.{step_at}
 use Rattle.journal.specs.Shapes.{Shape}
+use Rattle.link_laws.specs.Laws.{IsLegal}
 use Rattle.turn_lock.specs.declared.story.Made.{Made}
 use Rattle.linx_api.specs.Telling.{IsCounted, maker_limit, number_of, told_by}
 

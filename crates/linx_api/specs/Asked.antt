@@ -1,31 +1,35 @@
 -- What one call under the lock did, seen from the caller's pass.
-use Rattle.std.specs.Prelude.{ℕ, ◌≡◌, ◌<◌, ◌≤◌, ◌⊎◌, true, false, List, ◌∷◌, ◌++◌, length}
-use Rattle.std.specs.Prelude.{Some, None, Result, Ok, Err}
+use Rattle.std.specs.Prelude.{ℕ, ◌≡◌, ◌<◌, ◌≤◌, ◌⊎◌, ◌&&◌, true, false, List, [], ◌∷◌, ◌++◌}
+use Rattle.std.specs.Prelude.{length, is_some, Some, None, Result, Ok, Err}
 use Rattle.sigsel.specs.Selection.{first_selected}
 use Rattle.sigsel.specs.declared.sigsel.Sigsel.{Sigsel}
+use Rattle.journal.specs.declared.by.By.{By}
 use Rattle.journal.specs.declared.by.By.TheVariants.{Actor}
 use Rattle.journal.specs.declared.effect.Step.{Step}
 use Rattle.journal.specs.declared.event.Event.TheVariants.{Look}
 use Rattle.journal.specs.History.{endpoint_of, has_ended}
-use Rattle.journal.specs.Laws.{IsLegal, IsLegalStep}
 use Rattle.journal.specs.Logs.{is_full}
-use Rattle.journal.specs.Rest.{queue_of}
-use Rattle.journal.specs.Shapes.{Shape}
+use Rattle.journal.specs.Rest.{queue_of, waits_with}
+use Rattle.link_laws.specs.Laws.{IsLegal, IsLegalStep}
+use Rattle.link_laws.specs.Runs.{KeepsPromises}
 use Rattle.node_kernel.specs.declared.answers.StepAnswer.{StepAnswer}
 use Rattle.node_kernel.specs.declared.answers.StepAnswer.TheVariants.{NotYet}
 use Rattle.node_kernel.specs.declared.ask.Ask.{Ask}
-use Rattle.node_kernel.specs.Answers.{answer_of}
+use Rattle.node_kernel.specs.Answers.{answer_of, is_pump_event}
+use Rattle.run_trunks.specs.States.{trunks_of}
+use Rattle.trunk_moves.specs.Steps.{IsTrunkStep}
+use Rattle.trunk_moves.specs.Trunks.{links_of}
 use Rattle.fabric.specs.declared.stop.StepStop.{StepStop}
 use Rattle.fabric.specs.declared.stop.StopCause.TheVariants.{JournalFull}
-use Rattle.fabric.specs.Machine.{IsReached, MayAsk, is_at_rest, step_of}
+use Rattle.fabric.specs.Actings.{OnlyRuns}
+use Rattle.fabric.specs.Asks.{MayAsk}
+use Rattle.fabric.specs.Links.{is_still}
+use Rattle.fabric.specs.Machine.{head_for, is_at_rest}
+use Rattle.fabric.specs.Run.{IsReached, Layout}
 use Rattle.turn_lock.specs.declared.story.Made.{Made}
 use Rattle.turn_lock.specs.Passes.{PassView, own_steps}
 use Rattle.turn_lock.specs.Stories.{RestsFor}
-use Rattle.linx_api.specs.Telling.{PlanParts, steps_in, told_by}
-
--- the steps that a pass has seen, the newest first
-abbrev pub seen : PassView Step PlanParts → List Step
-seen p = steps_in p.front
+use Rattle.linx_api.specs.Telling.{PlanParts, plan_of, steps_in, story_of}
 
 -- the pass is an actor's
 abbrev pub IsActors : PassView Step PlanParts → Type 0
@@ -35,61 +39,96 @@ IsActors p = (0 < p.number) × (p.number ≤ length p.fixed.shape.actors)
 abbrev pub IsRunning : PassView Step PlanParts → Type 0
 IsRunning p = has_ended (steps_in (own_steps p)) p.number ≡ false
 
--- What the actor of a pass may ask for, by its fixed part and its own steps
-abbrev pub CanAsk : PassView Step PlanParts → Ask → Type 0
-CanAsk p ask =
-    MayAsk (length p.fixed.names.nodes) p.fixed.shape (steps_in (own_steps p)) (Actor p.number) ask
+-- a fabric on what the pass has as its fixed part, with the pass's own steps alone; of trunks the
+-- pass knows nothing
+abbrev pub own_layout : PassView Step PlanParts → Layout
+own_layout p = record {
+  shape = p.fixed.shape;
+  log = record { names = p.fixed.names; steps = steps_in (own_steps p) };
+  trunks = [];
+}
 
--- A STEP WAS MADE of what actor k asked: the machine's, legal after P, and the reply is its answer
-pub record IsStepped (shape : Shape) (P : List Step) (k : ℕ) (ask : Ask) (answer : StepAnswer)
-    (new : List Step) : Type 0 where
-  pub step : Step
-  pub made : step_of shape P (Actor k) ask ≡ Some step
-  pub added : new ≡ step ∷ P
-  pub legal : IsLegalStep shape P step
-  pub reply : answer ≡ answer_of P step.head step.effects
+-- What the actor of a pass may ask for, by its fixed part and its own steps: anything but what the
+-- wires and the clock of a link do
+pub record CanAsk (p : PassView Step PlanParts) (ask : Ask) : Type 0 where
+  pub may : MayAsk (own_layout p) (Actor p.number) ask
+  pub unpumped : is_pump_event ask.event ≡ false
 
--- NOTHING IS THERE YET for actor k, which has said that it waits: its look selects nothing in its
--- queue, not all others are at rest, and no step was made
-pub record FindsNothing (shape : Shape) (P : List Step) (k : ℕ) (ask : Ask) (answer : StepAnswer)
-    (new : List Step) : Type 0 where
-  pub filter : Sigsel
-  pub looks : ask.event ≡ Look filter
-  pub none : first_selected filter (queue_of P (endpoint_of P k)) ≡ None
-  pub stirs : is_at_rest shape P k ≡ false
-  pub made : step_of shape P (Actor k) ask ≡ None
-  pub same : new ≡ P
-  pub reply : answer ≡ NotYet
+-- A LAWFUL RUN: its journal is legal by the laws of nodes and links, and keeps what is promised of
+-- runs with links, and each step is the machine's and made of the trunks what its kind makes
+pub record IsLawful (f : Layout) : Type 0 where
+  pub legal : IsLegal f.shape f.log.steps
+  pub promises : KeepsPromises f.shape f.log.steps (links_of (trunks_of f.trunks))
+  pub reached : IsReached f.shape f.log.steps (trunks_of f.trunks)
 
--- no step could be made: what was in hand is back
-pub record IsStopped (P : List Step) (ask : Ask) (stop : StepStop) (new : List Step) : Type 0 where
-  pub same : new ≡ P
-  pub hand : stop.hand ≡ ask.hand
-  pub full : stop.cause ≡ JournalFull → is_full P ≡ true
+module _ (old new : Layout) (by : By) (ask : Ask) where
+  -- A STEP WAS MADE of what a maker asked: its head is the machine's, it is legal, it made of the
+  -- trunks what its kind makes, and the reply is its answer
+  pub record MakesStep (answer : StepAnswer) : Type 0 where
+    pub step : Step
+    pub made_by : step.by ≡ by
+    pub head :
+        head_for old.shape old.log.steps
+        (is_still old.shape old.log.steps (trunks_of old.trunks)) by ask
+        ≡ Some step.head
+    pub added : new.log.steps ≡ step ∷ old.log.steps
+    pub legal : IsLegalStep old.shape old.log.steps step
+    pub makes :
+        IsTrunkStep old.shape old.log.steps (trunks_of old.trunks) step (trunks_of new.trunks)
+    pub reply : answer ≡ answer_of old.log.steps step.head step.effects
 
--- what the event of actor k gives after P
-abbrev pub Gives : Shape → List Step → ℕ → Ask → Result StepAnswer StepStop → List Step → Type 0
-Gives shape P k ask (Ok answer) new =
-    IsStepped shape P k ask answer new ⊎ FindsNothing shape P k ask answer new
-Gives shape P k ask (Err stop) new = IsStopped P ask stop new
+  -- NOTHING IS THERE YET for an actor, which has said that it waits: its look selects nothing in
+  -- its queue, not all other actors are at rest or a link stirs, and no step was made
+  pub record FindsNothing (answer : StepAnswer) : Type 0 where
+    pub actor : ℕ
+    pub is_actor : by ≡ Actor actor
+    pub filter : Sigsel
+    pub looks : ask.event ≡ Look filter
+    pub none :
+        first_selected filter (queue_of old.log.steps (endpoint_of old.log.steps actor)) ≡ None
+    pub stirs :
+        (is_at_rest old.shape old.log.steps actor
+        && is_still old.shape old.log.steps (trunks_of old.trunks))
+        ≡ false
+    pub waits : is_some (waits_with old.log.steps actor) ≡ true
+    pub head :
+        head_for old.shape old.log.steps
+        (is_still old.shape old.log.steps (trunks_of old.trunks)) by ask
+        ≡ None
+    pub same : new ≡ old
+    pub reply : answer ≡ NotYet
 
--- and a full journal takes no step
-pub record IsAnswered (shape : Shape) (P : List Step) (k : ℕ) (ask : Ask)
-    (result : Result StepAnswer StepStop) (new : List Step) : Type 0 where
-  pub gives : Gives shape P k ask result new
-  pub full : is_full P ≡ true → result ≡ Err (record { cause = JournalFull; hand = ask.hand })
+  -- no step could be made: what was in hand is back
+  pub record IsStopped (stop : StepStop) : Type 0 where
+    pub same : new ≡ old
+    pub hand : stop.hand ≡ ask.hand
+    pub full : stop.cause ≡ JournalFull → is_full old.log.steps ≡ true
 
--- ONE CALL. It found a journal that is legal and goes on from what the pass had seen, with no step
--- of this pass. It gave what the event gives there, and the pass has seen all of that. Its own
--- steps are those it had, and what this call added
+  -- what the event gives there
+  abbrev pub Gives : Result StepAnswer StepStop → Type 0
+  Gives (Ok answer) = MakesStep answer ⊎ FindsNothing answer
+  Gives (Err stop) = IsStopped stop
+
+  -- and a full journal takes no step
+  pub record IsAnswered (result : Result StepAnswer StepStop) : Type 0 where
+    pub gives : Gives result
+    pub full : is_full old.log.steps ≡ true
+        → result ≡ Err (record { cause = JournalFull; hand = ask.hand })
+
+-- ONE CALL. It found a lawful run, whose journal goes on from what the pass had seen with no step
+-- of this pass. It gave what the event gives there, and what it left is lawful and has the same
+-- fixed part. The pass has seen all of that journal; its own steps are those it had, and what this
+-- call added
 pub record IsAsked (before : PassView Step PlanParts) (ask : Ask)
     (result : Result StepAnswer StepStop) (after : PassView Step PlanParts) : Type 0 where
-  pub found : List Step
-  pub rests : RestsFor before.number (told_by before.fixed.shape found) before.front
-  pub legal : IsLegal before.fixed.shape found
-  pub reached : IsReached before.fixed.shape found
-  pub answered : IsAnswered before.fixed.shape found before.number ask result (seen after)
-  pub same : after ≡ record before { front = told_by before.fixed.shape (seen after) }
-  pub own : (added : List (Made Step))
-      → after.front ≡ added ++ told_by before.fixed.shape found
+  pub found : Layout
+  pub left : Layout
+  pub plan : plan_of found ≡ before.fixed
+  pub rests : RestsFor before.number (story_of found) before.front
+  pub lawful : IsLawful found
+  pub answered : IsAnswered found left (Actor before.number) ask result
+  pub stays : OnlyRuns found left
+  pub remains : IsLawful left
+  pub same : after ≡ record before { front = story_of left }
+  pub own : (added : List (Made Step)) → after.front ≡ added ++ story_of found
       → own_steps after ≡ added ++ own_steps before

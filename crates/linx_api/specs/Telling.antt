@@ -5,7 +5,7 @@ use Rattle.journal.specs.declared.by.By.{By}
 use Rattle.journal.specs.declared.by.By.TheVariants.{Actor, Pump}
 use Rattle.journal.specs.declared.effect.Step.{Step}
 use Rattle.journal.specs.Shapes.{Shape}
-use Rattle.fabric.specs.Remains.{Layout}
+use Rattle.fabric.specs.Run.{Layout}
 use Rattle.turn_lock.specs.declared.story.Made.{Made}
 use Rattle.turn_lock.specs.Stories.{made}
 

@@ -4,7 +4,7 @@ ghost use Rattle.linx_api.specs.Asked.{CanAsk, IsAsked};
 
 use crate::shared_fabric::SharedFabric;
 use fabric::StepStop;
-use journal::Event;
+use journal::{By, Event};
 use linx_base::Signal;
 use node_kernel::StepAnswer;
 use std::sync::Wait;
@@ -24,6 +24,6 @@ pub fn ask<R: Wait>(
 {
     let mut held = lock.take(rt, pass);
     let number = held.number();
-    let answer = held.state().step(number, event, hand);
+    let answer = held.state().step(By::Actor(number), event, hand);
     (lock.give(held), answer)
 }

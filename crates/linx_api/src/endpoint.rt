@@ -1,7 +1,10 @@
 ghost use Rattle.std.specs.Prelude.{◌≡◌, ◌<◌, false, length};
 ghost use Rattle.linx_base.specs.Content.{data_limit};
+ghost use Rattle.journal.specs.declared.by.By.TheVariants.{Actor};
+ghost use Rattle.journal.specs.Shapes.{node_by};
 ghost use Rattle.node_kernel.specs.Answers.{is_end_event};
 ghost use Rattle.fabric.specs.Actings.{asking};
+ghost use Rattle.fabric.specs.Asks.{LeavesBy};
 ghost use Rattle.turn_lock.specs.Passes.{IsPassOf};
 ghost use Rattle.linx_api.specs.Asked.{CanAsk, IsActors, IsAsked, IsRunning};
 
@@ -107,9 +110,12 @@ impl<'a> Endpoint<'a> {
         self.ask(rt, Event::Look(filter), None)
     }
 
-    /// Asks for an endpoint by its name, and hands over the signal that answers: linx_hunt.
+    /// Asks for an endpoint by its name, and hands over the signal that answers: linx_hunt. A path
+    /// over a link is over one of the actor's node.
     pub fn hunt<R: Wait>(self, rt: &R, path: Path, signal: Signal) -> Told<'a>
-        requires { IsRunning self }
+        requires running { IsRunning self }
+        requires link { LeavesBy self.fixed.shape
+            (node_by self.fixed.shape (Actor self.number)) path }
         ensures asked { IsAsked self.entry (asking (Event.Hunt path) (Some signal)) result.1
             result.0 }
         ensures running { IsRunning result.0 }

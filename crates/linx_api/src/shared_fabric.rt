@@ -1,10 +1,10 @@
 ghost use Rattle.std.specs.Prelude.{◌≡◌, ◌≤◌, [], true, length, IfOk};
-ghost use Rattle.journal.specs.Laws.{IsLegal};
 ghost use Rattle.journal.specs.Logs.{is_full};
-ghost use Rattle.fabric.specs.Actings.{MayAct, OnlySteps, asking};
-ghost use Rattle.fabric.specs.Machine.{IsReached};
+ghost use Rattle.run_trunks.specs.States.{new_trunks};
+ghost use Rattle.fabric.specs.Actings.{OnlyRuns, asking};
+ghost use Rattle.fabric.specs.Asks.{MayAsk};
 ghost use Rattle.fabric.specs.Remains.{IsLaidOut};
-ghost use Rattle.linx_api.specs.Asked.{IsAnswered};
+ghost use Rattle.linx_api.specs.Asked.{IsAnswered, IsLawful};
 ghost use Rattle.linx_api.specs.Telling.{number_of};
 
 use crate::plan::Plan;
@@ -24,7 +24,7 @@ pub struct SharedFabric {
 }
 
 impl Model for SharedFabric {
-    ghost use Rattle.fabric.specs.Remains.{Layout};
+    ghost use Rattle.fabric.specs.Run.{Layout};
     ghost use Rattle.linx_api.specs.Telling.{IsCounted};
 
     ghost Value = { Layout };
@@ -72,6 +72,7 @@ impl SharedFabric {
         ensures ok { IfOk result (λ shared. shared ≡ record {
           shape = record { links = links.now; actors = actors.now };
           log = record { names = names; steps = [] };
+          trunks = new_trunks links.now;
         }) }
     {
         let count = actors.len() as u32;
@@ -108,23 +109,22 @@ impl SharedFabric {
         }
     }
 
-    /// Makes the step of an actor's event, or none where it waits already, and answers, as
+    /// Makes the step of a maker's event, or none where an actor waits already, and answers, as
     /// `Fabric::step` does.
     pub fn step(
         &mut self,
-        actor: u32,
+        by: By,
         event: Event,
         hand: Option<Signal>,
     ) -> Result<StepAnswer, StepStop>
-        requires asked { MayAct self.old actor (asking event hand) }
-        ensures answered { IsAnswered self.old.shape self.old.log.steps actor (asking event hand)
-            result self.new.log.steps }
-        ensures legal { IsLegal self.old.shape self.old.log.steps }
-        ensures reached { IsReached self.old.shape self.old.log.steps }
-        ensures fixed { OnlySteps self.old self.new }
+        requires asked { MayAsk self.old by (asking event hand) }
+        ensures answered { IsAnswered self.old self.new by (asking event hand) result }
+        ensures found { IsLawful self.old }
+        ensures left { IsLawful self.new }
+        ensures fixed { OnlyRuns self.old self.new }
     {
         let _ = self.fabric.journal();
-        let answer = self.fabric.step(By::Actor(actor), event, hand);
+        let answer = self.fabric.step(by, event, hand);
         let _ = self.fabric.journal();
         answer
     }

@@ -1,16 +1,20 @@
 -- What a run of a script is, and what each status says of it.
-use Rattle.std.specs.Prelude.{ℕ, ◌≡◌, ◌≢◌, ◌<◌, ◌≤◌, ◌⊎◌, Bool, true, false, ◌==◌}
-use Rattle.std.specs.Prelude.{List, [], length, take, Option, Result, Ok, Err, IfSome}
+use Rattle.std.specs.Prelude.{ℕ, ◌≡◌, ◌≢◌, ◌⊎◌, Bool, true, false, not, List, [], take, Option}
+use Rattle.std.specs.Prelude.{Result, Ok, Err, IfSome}
+use Rattle.std.specs.List.{list_any}
 use Rattle.journal.specs.declared.effect.Step.{Step}
-use Rattle.journal.specs.History.{has_ended}
-use Rattle.journal.specs.Laws.{IsLegal}
 use Rattle.journal.specs.Logs.{Log, is_full}
 use Rattle.journal.specs.Shapes.{Shape}
+use Rattle.link_laws.specs.Laws.{IsLegal}
+use Rattle.fabric.specs.Run.{Layout}
+use Rattle.script_lang.specs.declared.actor_script.ActorScript.{ActorScript}
 use Rattle.script_lang.specs.Parts.{ScriptParts}
 use Rattle.script_lang.specs.Reading.{script_of}
+use Rattle.script_words.specs.declared.command.Command.{Command}
+use Rattle.script_words.specs.declared.command.Command.TheVariants.{Settle}
 use Rattle.script_words.specs.declared.bad_kind.BadKind.{BadKind}
 use Rattle.stage.specs.Plays.{AllFollowWhole, IsSoFar}
-use Rattle.stage.specs.Turns.{IsWhole}
+use Rattle.stage.specs.Turns.{IsWhole, is_over}
 use Rattle.linx_sim.specs.Statuses.{IsDoneOrRefused}
 use Rattle.linx_sim.specs.Streams.{read_most}
 use Rattle.linx_sim.specs.declared.outcome.Status.{Status}
@@ -18,35 +22,48 @@ use Rattle.linx_sim.specs.declared.outcome.Status.TheVariants.{Done, Usage, Scri
 use Rattle.linx_sim.specs.declared.outcome.Status.TheVariants.{WriteFault, JournalFull, NoMemory}
 use Rattle.linx_sim.specs.declared.outcome.Status.TheVariants.{NotBuilt}
 
--- a script that can be run as yet: it declares no link
+-- the command ends a link's plans, and isn't built as yet
+abbrev pub is_settle : Command → Bool
+is_settle (Settle link) = true
+is_settle _ = false
+
+-- one of an actor's commands does
+abbrev pub settles : ActorScript → Bool
+settles actor = list_any is_settle actor.commands
+
+-- one of a script's commands does
+abbrev pub has_settle : ScriptParts → Bool
+has_settle script = list_any settles script.actors
+
+-- a script that can be run as yet: none of its commands is a settle
 abbrev pub is_built : ScriptParts → Bool
-is_built script = length script.links == 0
+is_built script = not (has_settle script)
 
--- an actor has a turn to take: it hasn't ended
-pub record HasTurn (script : ScriptParts) (P : List Step) : Type 0 where
-  pub actor : ℕ
-  pub some : 0 < actor
-  pub within : actor ≤ length script.actors
-  pub running : has_ended P actor ≡ false
-
--- a journal so far of a script that can be run
-pub record IsRunSoFar (script : ScriptParts) (log : Log) : Type 0 where
+-- a run so far of a script that can be run, whose journal has this log
+pub record IsRunAs (script : ScriptParts) (run : Layout) (log : Log) : Type 0 where
   pub built : is_built script ≡ true
-  pub so_far : IsSoFar script log
+  pub logged : run.log ≡ log
+  pub so_far : IsSoFar script run
+
+-- a journal so far of such a script
+abbrev pub IsRunSoFar : ScriptParts → Log → Type 0
+IsRunSoFar script log = (run : Layout) × IsRunAs script run log
 
 -- A journal is the whole run of a script: each actor's steps are all that its commands ask for, and
 -- it is what the rounds of the fixed order make until all is over
 pub record IsRunOf (script : ScriptParts) (log : Log) : Type 0 where
-  pub so_far : IsRunSoFar script log
+  pub run : Layout
+  pub so_far : IsRunAs script run log
   pub follows : AllFollowWhole script log.steps
-  pub whole : IsWhole script log.steps
+  pub whole : IsWhole script run
 
--- a run of a script stopped where an actor has a turn to take, and the journal takes no further
--- step
+-- a run of a script stopped where an actor or a link has a turn to take, and the journal takes no
+-- further step
 pub record IsStopped (script : ScriptParts) (log : Log) : Type 0 where
-  pub so_far : IsRunSoFar script log
+  pub run : Layout
+  pub so_far : IsRunAs script run log
   pub full : is_full log.steps ≡ true
-  pub turn : HasTurn script log.steps
+  pub turn : is_over run ≡ false
 
 -- a journal is legal, whatever it was laid out on
 abbrev pub IsLegalSomehow : List Step → Type 0

@@ -1,7 +1,6 @@
 //! linx_sim reads a script of nodes, links, planned losses and actors, runs it, and writes each
-//! endpoint's log and the journal of all steps. As yet it runs the scripts that declare no link,
-//! with any nodes, actors and commands, in the fixed order; every other script is answered
-//! `NotBuilt`. `process` is the whole program, over the words and the streams of a
+//! endpoint's log and the journal of all steps. As yet it runs the scripts that have no `settle`, in
+//! the fixed order; every other script is answered `NotBuilt`. `process` is the whole program, over the words and the streams of a
 //! process. It alone gives a `Told`, so a `main` with this result can't end in any other way.
 #![tactic(auto)]
 
@@ -17,6 +16,10 @@ pub use program::process;
 pub use serving::{run, serial};
 pub use told::Told;
 
+#[cfg(test)]
+mod link_rows;
+#[cfg(test)]
+mod link_texts;
 #[cfg(test)]
 mod ring;
 #[cfg(test)]

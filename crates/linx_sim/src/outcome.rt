@@ -19,10 +19,10 @@ pub enum Status {
     ReadFault,
     /// The sink failed. A front of the text was written.
     WriteFault,
-    /// An actor had a turn to take while the journal was full.
+    /// An actor or a link had a turn to take while the journal was full.
     JournalFull,
     NoMemory,
-    /// The script declares a link, and can't be run as yet.
+    /// The script has a `settle`, and can't be run as yet.
     NotBuilt,
 }
 

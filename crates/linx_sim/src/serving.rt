@@ -5,6 +5,7 @@ ghost use Rattle.std.specs.Prelude.{IfOk, IfErr, OnOk, IfSome};
 ghost use Rattle.std.specs.Io.KnownBytes.{IsAtEnd};
 ghost use Rattle.journal_text.specs.Text.{text_of};
 ghost use Rattle.script_lang.specs.Reading.{script_of};
+ghost use Rattle.stage.specs.Turns.{first_layout};
 ghost use Rattle.linx_sim.specs.CommandLine.{IsCommand};
 ghost use Rattle.linx_sim.specs.Statuses.{IsUsageOrRefused};
 ghost use Rattle.linx_sim.specs.Streams.{Reads, Writes, TakesAtMost, read_most};
@@ -88,7 +89,7 @@ fn write_run<K: Sink>(alloc: Global, journal: Journal, out: &mut K) -> Outcome
 /// Plays a script in the fixed order, and writes the text of the whole run.
 fn play_script<K: Sink>(stage: Stage, alloc: Global, out: &mut K) -> Outcome
     requires built { is_built stage.script ≡ true }
-    requires unstarted { stage.log.steps ≡ [] }
+    requires unstarted { stage.run ≡ first_layout stage.script }
     ensures answer { IsAnswerTo result.status stage.script result.journal.log }
     ensures sink { Writes K.held K.faults K.last_count K.can_take out.old out.new
         result.status (text_of result.journal.log) }

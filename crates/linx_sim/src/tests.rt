@@ -18,10 +18,11 @@ use std::process::{ExitCode, Termination};
 use std::sync::Wait;
 use std::test::Fail;
 
-const A_LINK: &[u8] = b"node n\nnode m\nlink l n m\nactor p n\nopen a\nclose\nend\n";
+const A_SETTLE: &[u8] = b"node n\nnode m\nlink l n m\nactor p n\nopen a\nsettle l\nclose\nend\n";
 
-const A_PLAN: &[u8] =
-    b"node n\nnode m\nlink l n m\nplan l > D L\nactor p n\nopen a\nhunt l/b\nend\n";
+const A_LATER_SETTLE: &[u8] =
+    b"node n\nnode m\nlink l n m\nplan l > D L\nactor p n\nopen a\nhunt l/b\nend\n\
+      actor q m\nopen b\nrepeat 2\nrecv any\nsettle l\nend\nend\n";
 
 const LARGE_SENDS: &[u8] =
     b"node n\nactor p n\nopen a\nrepeat 600\nsend self 1 fill:65532:00\nend\nclose\nend\n";
@@ -75,10 +76,10 @@ fn not_built(alloc: Global, script: &[u8]) -> Result<bool, Fail> {
 }
 
 #[test]
-fn scripts_with_links_are_not_run(rt: HostRuntime) -> Result<(), Fail> {
+fn scripts_that_settle_a_link_are_not_run(rt: HostRuntime) -> Result<(), Fail> {
     let alloc = rt.alloc();
-    assert!(rt; not_built(alloc, A_LINK)?);
-    assert!(rt; not_built(alloc, A_PLAN)?);
+    assert!(rt; not_built(alloc, A_SETTLE)?);
+    assert!(rt; not_built(alloc, A_LATER_SETTLE)?);
     Ok(())
 }
 
@@ -273,7 +274,7 @@ fn the_whole_program(rt: HostRuntime) -> Result<(), Fail> {
     let bad_line = "linx_sim: script line 2\n";
     assert!(rt; is_all(&rt, alloc, &run, b"node n\nnode n\n", (2, "", bad_line))?);
     let not_built = "linx_sim: not built\n";
-    assert!(rt; is_all(&rt, alloc, &run, A_LINK, (10, "", not_built))?);
+    assert!(rt; is_all(&rt, alloc, &run, A_SETTLE, (10, "", not_built))?);
     Ok(())
 }
 

@@ -1,7 +1,10 @@
 mod Asking
+mod LaidOut
 mod Makings
 mod Waiting
+mod Pumping
 mod Rounds
+mod Planned
 mod Seats
 mod Turned
 mod Whole

@@ -1,9 +1,15 @@
--- What the machine makes of what an actor asks for is what its mind expects.
+-- What a step of an actor is: the one that its mind expects, or none where the actor waits already.
 use Rattle.std.proofs.Common.{◌≡◌, ℕ, Bool, true, false, cond, List, [], ◌∷◌, Option, Some, None}
-use Rattle.std.proofs.Common.{refl, sym, ◌∙◌, ap, inl, inr}
-use Rattle.std.specs.Prelude.{is_some, if◌then◌else◌}
+use Rattle.std.proofs.Common.{refl, sym, ◌∙◌, ap, subst, inl, inr}
+use Rattle.std.specs.Prelude.{◌&&◌, is_some, if◌then◌else◌}
+use Rattle.std.specs.List.{filter_map}
 use Rattle.std.proofs.lemmas.Bool.{true≢false}
+use Rattle.linx_base.specs.Sides.{other_of}
+use Rattle.linx_base.specs.declared.frame.Verdict.{Verdict}
+use Rattle.linx_base.specs.declared.frame.Verdict.TheVariants.{Deliver, Lose, Repeat, Swap}
 use Rattle.linx_base.specs.declared.identity.Inc.{Inc}
+use Rattle.linx_base.specs.declared.identity.LinkNo.{LinkNo}
+use Rattle.linx_base.specs.declared.identity.Side.{Side}
 use Rattle.linx_base.specs.declared.item.Item.{Item}
 use Rattle.linx_base.specs.declared.signal.SigNote.{SigNote}
 use Rattle.sigsel.specs.Selection.{first_selected}
@@ -16,22 +22,34 @@ use Rattle.journal.specs.declared.event.Event.TheVariants as asks
 use Rattle.journal.specs.declared.head.Head.{Head}
 use Rattle.journal.specs.declared.head.Head.TheVariants as heads
 use Rattle.journal.specs.declared.head.Refusal.{Refusal}
-use Rattle.journal.specs.History.{closed_step, endpoint_of, last_opened}
-use Rattle.journal.specs.Laws.{effects_by, is_opening as opens_one}
+use Rattle.journal.specs.History.{closed_step, endpoint_of, last_opened, opened_in}
+use Rattle.journal.specs.Laws.{is_opening as opens_one}
 use Rattle.journal.specs.Rest.{queue_of, waits_with}
 use Rattle.journal.specs.Shapes.{Shape, node_by}
 use Rattle.journal.proofs.Openings.{effects-open, last_in, last_opened-opens, next_on}
+use Rattle.link_laws.specs.Ends.{node_at}
+use Rattle.link_laws.specs.Laws.{HasEffects}
+use Rattle.link_laws.proofs.Fresh.{brought-opens_none, restarting-opens_none}
+use Rattle.node_kernel.specs.declared.answers.StepAnswer.{StepAnswer}
 use Rattle.node_kernel.specs.declared.ask.Ask.{Ask}
 use Rattle.node_kernel.specs.Answers.{answer_of, event_of, granted, granted_by, is_end_event}
-use Rattle.node_kernel.specs.Answers.{is_opening, is_waits, named, needs_endpoint, opened_as}
-use Rattle.node_kernel.specs.Answers.{refused}
+use Rattle.node_kernel.specs.Answers.{is_opening, is_pump_event, is_pumped, is_waits, named}
+use Rattle.node_kernel.specs.Answers.{needs_endpoint, opened_as, refused}
+use Rattle.script_words.specs.declared.command.Command.{Command}
 use Rattle.actor_run.specs.Asking.{is_sending}
-use Rattle.actor_run.specs.Following.{endpoint_after, Makes}
-use Rattle.fabric.specs.Machine.{answer_to, answer_with, hands_over, head_of, is_at_rest, look}
-use Rattle.fabric.specs.Machine.{signal_in, step_with, steps_after, vain_look, with_step}
-
-inner : {a b : Head} → Some a ≡ Some b → a ≡ b
-inner is = cc
+use Rattle.actor_run.specs.Following.{endpoint_after, next_ask, Makes}
+use Rattle.run_trunks.specs.States.{trunks_of}
+use Rattle.trunk.specs.Events.{TrunkState, kept_of, told_by}
+use Rattle.trunk.specs.Tells.{up_of_tick}
+use Rattle.trunk_moves.specs.Packets.{Meets, told_brings}
+use Rattle.trunk_moves.specs.Steps.{Makes as MakesOfTrunks}
+use Rattle.trunk_moves.specs.Trunks.{RunTrunks}
+use Rattle.carrier.specs.Events.{told_by as link_told_by}
+use Rattle.fabric.specs.Links.{is_still}
+use Rattle.fabric.specs.Machine.{hands_over, head_for, head_of, is_at_rest, look, signal_in}
+use Rattle.fabric.specs.Machine.{vain_look}
+use Rattle.fabric.specs.Run.{IsStepFor, IsStepOf, IsStepped, Layout}
+use Rattle.stage.proofs.Asking.{next-actors}
 
 -- THE HAND of what was asked
 none_is : (hand : Option SigNote) → is_some hand ≡ false → None ≡ hand
@@ -48,22 +66,22 @@ pub record IsHeadOf (P : List Step) (k : ℕ) (event : Event) (hand : Option Sig
   pub names : named head ≡ record { event = event; hand = hand }
   pub once : is_waits head ≡ true → is_some (waits_with P k) ≡ false
 
--- that no head was made of it: it is a look, by an actor that waits
-pub record IsVain (shape : Shape) (P : List Step) (k : ℕ) (me : Option Inc) (event : Event)
-    : Type 0 where
+-- that no head was made of it: it is a look, by an actor that waits, and not all is at rest
+pub record IsVain (shape : Shape) (P : List Step) (still : Bool) (k : ℕ) (me : Option Inc)
+    (event : Event) : Type 0 where
   pub filter : Sigsel
   pub looks : event ≡ asks.Look filter
   pub none : first_selected filter (queue_of P me) ≡ None
-  pub stirs : is_at_rest shape P k ≡ false
+  pub stirs : (is_at_rest shape P k && still) ≡ false
   pub waits : is_some (waits_with P k) ≡ true
 
 -- the head, or its want
-abbrev pub IsHeadOr : Shape → List Step → ℕ → Option Inc → Event → Option SigNote → Option Head
-    → Type 0
-IsHeadOr shape P k me event hand None = IsVain shape P k me event
-IsHeadOr shape P k me event hand (Some head) = IsHeadOf P k event hand head
+abbrev pub IsHeadOr : Shape → List Step → Bool → ℕ → Option Inc → Event → Option SigNote
+    → Option Head → Type 0
+IsHeadOr shape P still k me event hand None = IsVain shape P still k me event
+IsHeadOr shape P still k me event hand (Some head) = IsHeadOf P k event hand head
 
-module _ (shape : Shape) (P : List Step) (k : ℕ) (me : Option Inc) where
+module _ (shape : Shape) (P : List Step) (still : Bool) (k : ℕ) (me : Option Inc) where
   -- an event without a signal
   bare : (event : Event) (hand : Option SigNote) (head : Head) → is_some hand ≡ false
       → event_of head ≡ event → named head ≡ record { event = event; hand = None }
@@ -84,8 +102,8 @@ module _ (shape : Shape) (P : List Step) (k : ℕ) (me : Option Inc) where
 
   vain : (f : Sigsel) (hand : Option SigNote) → is_some hand ≡ false
       → first_selected f (queue_of P me) ≡ None → (rest waits : Bool)
-      → is_at_rest shape P k ≡ rest → is_some (waits_with P k) ≡ waits
-      → IsHeadOr shape P k me (asks.Look f) hand (vain_look rest waits f)
+      → (is_at_rest shape P k && still) ≡ rest → is_some (waits_with P k) ≡ waits
+      → IsHeadOr shape P still k me (asks.Look f) hand (vain_look rest waits f)
   vain f hand empty none true waits rests has =
       bare (asks.Look f) hand (heads.TakeNone f) empty refl refl refl
   vain f hand empty none false true rests has =
@@ -97,15 +115,16 @@ module _ (shape : Shape) (P : List Step) (k : ℕ) (me : Option Inc) where
 
   looks : (f : Sigsel) (hand : Option SigNote) → is_some hand ≡ false → (item : Option Item)
       → first_selected f (queue_of P me) ≡ item
-      → IsHeadOr shape P k me (asks.Look f) hand (look shape P k f item)
+      → IsHeadOr shape P still k me (asks.Look f) hand (look shape P still k f item)
   looks f hand empty None is =
-      vain f hand empty is (is_at_rest shape P k) (is_some (waits_with P k)) refl refl
+      vain f hand empty is (is_at_rest shape P k && still) (is_some (waits_with P k)) refl refl
   looks f hand empty (Some item) is =
       bare (asks.Look f) hand (heads.Take f item.pos) empty refl refl refl
 
-  pub head-made : (node : ℕ) (event : Event) (hand : Option SigNote)
+  head-made : (node : ℕ) (event : Event) (hand : Option SigNote)
       → is_some hand ≡ hands_over event
-      → IsHeadOr shape P k me event hand (head_of shape P k node me event (signal_in hand))
+      → IsHeadOr shape P still k me event hand
+      (head_of shape P still k node me event (signal_in hand))
   head-made node (asks.Open name) hand e = bare (asks.Open name) hand (heads.Open name) e refl refl
       refl
   head-made node asks.Close hand e = bare asks.Close hand heads.Close e refl refl refl
@@ -130,45 +149,61 @@ module _ (shape : Shape) (P : List Step) (k : ℕ) (me : Option Inc) where
   head-made node (asks.Tick link side) hand e =
       bare (asks.Tick link side) hand (heads.Tick link side) e refl refl refl
 
--- WHAT A STEP OPENS is what its answer says
-module _ (P : List Step) (node : ℕ) (me : Option Inc) where
-  abbrev brought : Head → List Effect
-  brought head = effects_by P node me head
+-- WHAT A STEP OPENS: the next incarnation of its maker's node where it is an opening, and else none
+meets-opens_none : (P : List Step) (n : ℕ) (l : LinkNo) (from : Side) (verdict : Verdict)
+    (es : List Effect) (before after : TrunkState) → Meets P n l from verdict es before after
+    → filter_map opened_in es ≡ []
+meets-opens_none P n l from Deliver es before after comes =
+    ap (filter_map opened_in) comes.effects
+    ∙ brought-opens_none P n l (told_brings (kept_of (other_of from) before).now.session
+    (told_by from 0 comes.heard before))
+meets-opens_none P n l from Repeat es before after comes =
+    ap (filter_map opened_in) comes.effects
+    ∙ brought-opens_none P n l (told_brings (kept_of (other_of from) before).now.session
+    (told_by from 0 comes.heard before))
+meets-opens_none P n l from Lose es before after lost = ap (filter_map opened_in) lost.effects
+meets-opens_none P n l from (Swap k) es before after swapped =
+    ap (filter_map opened_in) swapped.effects
 
-  abbrev after : Option Inc → Head → Option Inc
-  after m head = if opens_one head then Some (next_on P node) else m
+module _ (shape : Shape) (P : List Step) (before after : RunTrunks) (node : ℕ)
+    (me : Option Inc) where
+  head-opens : (head : Head) (es : List Effect) → HasEffects shape P node me head es
+      → MakesOfTrunks shape P before after node me head es
+      → filter_map opened_in es ≡ (if opens_one head then next_on P node ∷ [] else [])
+  head-opens (heads.Restart n) es has makes =
+      ap (filter_map opened_in) has ∙ restarting-opens_none shape P n.0
+  head-opens (heads.Wire l from verdict) es has makes =
+      meets-opens_none P (node_at shape l (other_of from)) l from verdict es (before l.0)
+      makes.trunk makes.meets
+  head-opens (heads.Tick l side) es has makes =
+      ap (filter_map opened_in) makes.beat.effects
+      ∙ brought-opens_none P (node_at shape l side) l
+      (told_brings (kept_of side (before l.0)).now.session
+      (up_of_tick (link_told_by side (before l.0).link)))
+  head-opens head es has makes = ap (filter_map opened_in) has ∙ effects-open P node me head
 
-  last_in-one : (m : Option Inc) (i : Inc) (b : Bool)
-      → last_in m (cond b (i ∷ []) []) ≡ cond b (Some i) m
-  last_in-one m i true = refl
-  last_in-one m i false = refl
+last_in-one : (m : Option Inc) (i : Inc) (b : Bool)
+    → last_in m (cond b (i ∷ []) []) ≡ cond b (Some i) m
+last_in-one m i true = refl
+last_in-one m i false = refl
 
-  opened_last : (head : Head) (m : Option Inc) → last_opened m (brought head) ≡ after m head
-  opened_last head m =
-      last_opened-opens m (brought head) ∙ ap (last_in m) (effects-open P node me head)
+-- and that is what its answer says
+module _ (P : List Step) (node : ℕ) (es : List Effect) where
+  opened_last : (head : Head)
+      → filter_map opened_in es ≡ (if opens_one head then next_on P node ∷ [] else [])
+      → (m : Option Inc)
+      → last_opened m es ≡ (if opens_one head then Some (next_on P node) else m)
+  opened_last head opens m =
+      last_opened-opens m es ∙ ap (last_in m) opens
       ∙ last_in-one m (next_on P node) (opens_one head)
 
-  pub opened-answered : (head : Head) (m : Option Inc)
-      → last_opened m (brought head) ≡ endpoint_after m (answer_of P head (brought head))
-  opened-answered (heads.Open name) m =
-      opened_last (heads.Open name) m
-      ∙ sym (ap (λ e. endpoint_after m (opened_as e)) (opened_last (heads.Open name) None))
-  opened-answered heads.Close m = opened_last heads.Close m
-  opened-answered (heads.Send q note answer) m = opened_last (heads.Send q note answer) m
-  opened-answered (heads.Take f position) m = opened_last (heads.Take f position) m
-  opened-answered (heads.TakeNone f) m = opened_last (heads.TakeNone f) m
-  opened-answered (heads.Waits f) m = opened_last (heads.Waits f) m
-  opened-answered (heads.Hunt path note) m = opened_last (heads.Hunt path note) m
-  opened-answered (heads.Attach q note) m = opened_last (heads.Attach q note) m
-  opened-answered (heads.Detach r answer) m = opened_last (heads.Detach r answer) m
-  opened-answered (heads.Cut link) m = opened_last (heads.Cut link) m
-  opened-answered (heads.Mend link) m = opened_last (heads.Mend link) m
-  opened-answered (heads.Settle link) m = opened_last (heads.Settle link) m
-  opened-answered (heads.Restart n) m = opened_last (heads.Restart n) m
-  opened-answered (heads.Wire link from verdict) m = opened_last (heads.Wire link from verdict) m
-  opened-answered (heads.Tick link side) m = opened_last (heads.Tick link side) m
-  opened-answered (heads.Refused reason) m = opened_last (heads.Refused reason) m
-  opened-answered heads.Ended m = opened_last heads.Ended m
+  opened-answered : (head : Head)
+      → filter_map opened_in es ≡ (if opens_one head then next_on P node ∷ [] else [])
+      → (m : Option Inc) → last_opened m es ≡ endpoint_after m (answer_of P head es)
+  opened-answered (heads.Open name) opens m =
+      opened_last (heads.Open name) opens m
+      ∙ sym (ap (λ e. endpoint_after m (opened_as e)) (opened_last (heads.Open name) opens None))
+  opened-answered head opens m = opened_last head opens m
 
 -- WHAT IS GRANTED. A look that is granted was asked for, by an actor with an endpoint
 pub granted_look : (e : Option Inc) (at : ℕ) (ask : Ask) (f : Sigsel)
@@ -201,67 +236,118 @@ granted_endpoint None at ask f is = go (needs_endpoint ask.event) refl is
     go true needs looks = cc
     go false needs looks = absurd (true≢false (sym (ap needs_endpoint looks) ∙ needs))
 
+-- what holds of a refusal and of what was asked holds of what is granted
+granted-holds : (Q : Ask → Type 0) → ((reason : Refusal) → Q (refused reason)) → (e : Option Inc)
+    (at : ℕ) (ask : Ask) → Q ask → Q (granted_by e at ask)
+granted-holds Q refuses (Some i) at ask holds = go (is_opening ask.event)
+  where
+    go : (b : Bool) → Q (cond b (refused (Refusal.IsOpen i)) ask)
+    go true = refuses (Refusal.IsOpen i)
+    go false = holds
+granted-holds Q refuses None at ask holds = go (needs_endpoint ask.event)
+  where
+    go : (b : Bool) → Q (cond b (refused (Refusal.NotOpen at)) ask)
+    go true = refuses (Refusal.NotOpen at)
+    go false = holds
+
 -- what is granted hands over what it has in hand
 granted_handed : (e : Option Inc) (at : ℕ) (ask : Ask) → is_some ask.hand ≡ hands_over ask.event
     → is_some (granted_by e at ask).hand ≡ hands_over (granted_by e at ask).event
-granted_handed (Some i) at ask handed = go (is_opening ask.event)
-  where
-    go : (b : Bool) → is_some (cond b (refused (Refusal.IsOpen i)) ask).hand
-        ≡ hands_over (cond b (refused (Refusal.IsOpen i)) ask).event
-    go true = refl
-    go false = handed
-granted_handed None at ask handed = go (needs_endpoint ask.event)
-  where
-    go : (b : Bool) → is_some (cond b (refused (Refusal.NotOpen at)) ask).hand
-        ≡ hands_over (cond b (refused (Refusal.NotOpen at)) ask).event
-    go true = refl
-    go false = handed
+granted_handed e at ask handed =
+    granted-holds (λ (a : Ask). is_some a.hand ≡ hands_over a.event) (λ reason. refl) e at ask
+    handed
 
--- WHAT THE MACHINE MAKES of an ask that hands over what it has in hand
-module _ (shape : Shape) (P : List Step) (k : ℕ) (ask : Ask)
+-- and is no pump's
+granted_unpumped : (e : Option Inc) (at : ℕ) (ask : Ask) → is_pump_event ask.event ≡ false
+    → is_pump_event (granted_by e at ask).event ≡ false
+granted_unpumped e at ask unpumped =
+    granted-holds (λ (a : Ask). is_pump_event a.event ≡ false) (λ reason. refl) e at ask unpumped
+
+-- THE HEAD that the machine gives to an ask that hands over what it has in hand
+module _ (shape : Shape) (P : List Step) (still : Bool) (k : ℕ) (ask : Ask)
     (handed : is_some ask.hand ≡ hands_over ask.event) where
   abbrev pub given : Ask
   given = granted P k ask
 
   abbrev pub the_head : Option Head
-  the_head = head_of shape P k (node_by shape (Actor k)) (endpoint_of P k) given.event
-      (signal_in given.hand)
+  the_head = head_for shape P still (Actor k) ask
 
-  pub the_head-made : IsHeadOr shape P k (endpoint_of P k) given.event given.hand the_head
+  pub the_head-made :
+      IsHeadOr shape P still k (endpoint_of P k) (granted P k ask).event (granted P k ask).hand
+      (head_for shape P still (Actor k) ask)
   the_head-made =
-      head-made shape P k (endpoint_of P k) (node_by shape (Actor k)) given.event given.hand
+      head-made shape P still k (endpoint_of P k) (node_by shape (Actor k)) given.event given.hand
       (granted_handed (endpoint_of P k) (closed_step P k) ask handed)
 
+  -- there is one
+  pub head-is : (head : Head) → head_for shape P still (Actor k) ask ≡ Some head
+      → IsHeadOf P k (granted P k ask).event (granted P k ask).hand head
+  head-is head is =
+      subst (IsHeadOr shape P still k (endpoint_of P k) given.event given.hand) is the_head-made
+
+  -- there is none: WHAT NO STEP MEANS
+  pub vain-is : head_for shape P still (Actor k) ask ≡ None
+      → IsVain shape P still k (endpoint_of P k) (granted P k ask).event
+  vain-is is =
+      subst (IsHeadOr shape P still k (endpoint_of P k) given.event given.hand) is the_head-made
+
+-- WHAT AN ACTOR ASKS FOR NEXT makes no step of a pump
+pub head-unpumped : (shape : Shape) (P : List Step) (still : Bool) (k : ℕ)
+    (commands : List Command) (head : Head)
+    → head_for shape P still (Actor k) (next_ask commands k P) ≡ Some head
+    → is_pumped head ≡ false
+head-unpumped shape P still k commands head is =
+    let ask : Ask = next_ask commands k P in
+    let asks = next-actors commands k P in
+    ap (λ (a : Ask). is_pump_event a.event) (head-is shape P still k ask asks.handed head is).names
+    ∙ granted_unpumped (endpoint_of P k) (closed_step P k) ask asks.unpumped
+
+-- WHAT A STEP OF AN ACTOR MAKES is what its mind expects
+module _ (old new : Layout) (k : ℕ) (ask : Ask) (answer : StepAnswer) where
+  abbrev P : List Step
+  P = old.log.steps
+
+  abbrev still : Bool
+  still = is_still old.shape P (trunks_of old.trunks)
+
+  step-opens : (head : Head) (step : IsStepOf old new (Actor k) head answer) (m : Option Inc)
+      → last_opened m step.effects ≡ endpoint_after m answer
+  step-opens head step m =
+      let node : ℕ = node_by old.shape (Actor k) in
+      opened-answered old.log.steps node step.effects head
+      (head-opens old.shape old.log.steps (trunks_of old.trunks) (trunks_of new.trunks) node
+      (endpoint_of old.log.steps k) head step.effects step.makes.laws.effects step.makes.makes) m
+      ∙ ap (endpoint_after m) (sym step.answered)
+
   made_with : (head : Option Head)
-      → IsHeadOr shape P k (endpoint_of P k) given.event given.hand head
-      → Makes P k ask (answer_with P (step_with shape P (Actor k) head))
-      (with_step P (step_with shape P (Actor k) head))
-  made_with None vain =
+      → IsHeadOr old.shape P still k (endpoint_of P k) (granted P k ask).event
+      (granted P k ask).hand head
+      → IsStepFor old new (Actor k) head answer → Makes P k ask answer new.log.steps
+  made_with None vain same =
       let looks : ask.event ≡ asks.Look vain.filter =
       granted_look (endpoint_of P k) (closed_step P k) ask vain.filter vain.looks in
       inr (record {
-        same = refl;
-        answered = refl;
+        same = ap (λ (f : Layout). f.log.steps) same.0;
+        answered = same.1;
         goes_on = ap is_end_event looks;
         keeps = ap is_sending looks;
         waits = vain.waits;
       })
-  made_with (Some head) made =
+  made_with (Some head) made step =
       inl (
-        record {
-          by = Actor k;
-          head = head;
-          effects = effects_by P (node_by shape (Actor k)) (endpoint_of P k) head;
-        },
-        refl,
+        record { by = Actor k; head = head; effects = step.effects },
+        step.steps,
         record {
           maker = refl;
           names = made.names;
-          answered = refl;
-          opened = opened-answered P (node_by shape (Actor k)) (endpoint_of P k) head;
-          once = λ waits. made.once waits;
+          answered = step.answered;
+          opened = step-opens head step;
+          once = made.once;
         },
       )
 
-  pub makes : Makes P k ask (answer_to shape P (Actor k) ask) (steps_after shape P (Actor k) ask)
-  makes = made_with the_head the_head-made
+  pub makes : is_some ask.hand ≡ hands_over ask.event → IsStepped old new (Actor k) ask answer
+      → Makes old.log.steps k ask answer new.log.steps
+  makes handed stepped =
+      made_with (head_for old.shape P still (Actor k) ask)
+      (the_head-made old.shape P still k ask handed) stepped

@@ -1,15 +1,19 @@
--- A round in which an actor hasn't ended makes a step.
-use Rattle.std.proofs.Common.{◌≡◌, ◌≢◌, ℕ, zero, suc, ◌<◌, ◌≤◌, ◌⊎◌, Bool, true, false, cond, List}
-use Rattle.std.proofs.Common.{length, Option, Some, None, is_none, refl, sym, ◌∙◌, ap, subst, inl}
-use Rattle.std.proofs.Common.{inr, arith}
-use Rattle.std.specs.Prelude.{◌==◌, is_some, slice_get}
+-- A round after which not all is over makes a step.
+use Rattle.std.proofs.Common.{◌≡◌, ◌≢◌, ℕ, zero, suc, ◌+◌, ◌-◌, ◌<◌, ◌≤◌, ◌⊎◌, Bool, true, false}
+use Rattle.std.proofs.Common.{List, length, Option, Some, None, is_none, refl, sym, ◌∙◌, ap}
+use Rattle.std.proofs.Common.{subst, inl, inr, arith}
+use Rattle.std.specs.Prelude.{◌&&◌, ◌==◌, is_some, nat_le, slice_get}
 use Rattle.std.proofs.lemmas.List.{length-map}
-use Rattle.std.proofs.lemmas.Bool.{and_parts, cases_lt, cases_order, eq-eqb, lt-ltb, true≢false}
+use Rattle.std.proofs.lemmas.Bool.{and_parts, cases_lt, cases_order, eq-eqb, le-leb, lt-leb, lt-ltb}
+use Rattle.std.proofs.lemmas.Bool.{true≢false}
 use Rattle.linx_base.specs.declared.identity.Inc.{Inc}
+use Rattle.linx_base.specs.declared.identity.LinkNo.{LinkNo}
 use Rattle.sigsel.specs.Selection.{first_selected}
 use Rattle.sigsel.specs.declared.sigsel.Sigsel.{Sigsel}
-use Rattle.journal.specs.declared.by.By.TheVariants.{Actor}
+use Rattle.journal.specs.declared.by.By.{By}
+use Rattle.journal.specs.declared.by.By.TheVariants.{Actor, Pump}
 use Rattle.journal.specs.declared.effect.Step.{Step}
+use Rattle.journal.specs.declared.event.Event.{Event}
 use Rattle.journal.specs.declared.event.Event.TheVariants as asks
 use Rattle.journal.specs.declared.head.Head.{Head}
 use Rattle.journal.specs.History.{closed_step, endpoint_of, has_ended, last_endpoint}
@@ -18,17 +22,75 @@ use Rattle.journal.specs.Shapes.{Shape}
 use Rattle.script_words.specs.declared.command.Command.{Command}
 use Rattle.script_words.specs.declared.command.Command.TheVariants.{Recv}
 use Rattle.script_lang.specs.Parts.{ScriptParts}
+use Rattle.node_kernel.specs.declared.answers.StepAnswer.{StepAnswer}
 use Rattle.node_kernel.specs.declared.ask.Ask.{Ask}
 use Rattle.node_kernel.specs.Answers.{granted}
 use Rattle.actor_run.specs.Asking.{ask_of}
 use Rattle.actor_run.specs.Following.{knows, next_ask, Follows}
-use Rattle.fabric.specs.Machine.{all_leave_at_rest, hands_over, have_ended, is_at_rest, step_of}
-use Rattle.fabric.specs.Machine.{step_with, steps_after, with_step}
+use Rattle.run_trunks.specs.States.{trunks_of}
+use Rattle.trunk_moves.specs.Trunks.{RunTrunks}
+use Rattle.fabric.specs.Links.{is_still, none_stirs, stirs}
+use Rattle.fabric.specs.Machine.{all_have_ended, all_leave_at_rest, hands_over, have_ended, head_for}
+use Rattle.fabric.specs.Machine.{is_at_rest, pumped_head}
+use Rattle.fabric.specs.Run.{IsStepFor, Layout}
 use Rattle.stage.specs.Plays.{AllFollow}
-use Rattle.stage.specs.Turns.{commands_of, all_is_over, round_of, shape_of, turn_of, turns_of}
-use Rattle.stage.proofs.Makings.{IsHeadOr, IsVain, granted_endpoint, granted_look, the_head}
-use Rattle.stage.proofs.Makings.{the_head-made}
+use Rattle.stage.specs.Pumps.{pump_event}
+use Rattle.stage.specs.Turns.{AreTurns, IsPumpIf, IsRound, IsTurnBy, IsTurnIf}
+use Rattle.stage.specs.Turns.{IsTurnOf, commands_of, is_over, makers, shape_of}
+use Rattle.stage.specs.declared.stage.Pump as pumps
+use Rattle.stage.specs.declared.stage.Turn.{Turn}
+use Rattle.stage.proofs.Makings.{IsVain, granted_endpoint, granted_look, vain-is}
+use Rattle.stage.proofs.Pumping.{pump-heads, pump-stirs}
 use Rattle.stage.proofs.Waiting.{waits_at}
+
+-- A STEP OR NONE. What a maker asks for adds a step, or changes nothing
+pub step-grows : (old new : Layout) (by : By) (head : Option Head) (answer : StepAnswer)
+    → IsStepFor old new by head answer
+    → (new ≡ old) ⊎ (length new.log.steps ≡ suc (length old.log.steps))
+step-grows old new by None answer made = inl made.0
+step-grows old new by (Some head) answer made = inr (ap length made.steps)
+
+-- where it adds none, there is no head
+step-none : (f : Layout) (by : By) (head : Option Head) (answer : StepAnswer)
+    → IsStepFor f f by head answer → head ≡ None
+step-none f by None answer made = refl
+step-none f by (Some head) answer made =
+    let long : length f.log.steps ≡ suc (length f.log.steps) = ap length made.steps in
+    absurd (omega arith)
+
+module _ (script : ScriptParts) (old new : Layout) where
+  turn-grows-if : (ended : Bool) (k : ℕ) (turn : Turn) → IsTurnIf ended script k old new turn
+      → (new ≡ old) ⊎ (length new.log.steps ≡ suc (length old.log.steps))
+  turn-grows-if true k turn made = inl made.0
+  turn-grows-if false k turn made =
+      step-grows old new (Actor k)
+      (head_for old.shape old.log.steps
+      (is_still old.shape old.log.steps (trunks_of old.trunks)) (Actor k)
+      (next_ask (commands_of script k) k old.log.steps)) made.answer made.stepped
+
+  pump-grows-if : (event : Option Event) (l : LinkNo) (pump : pumps.Pump)
+      → IsPumpIf event l old new pump
+      → (new ≡ old) ⊎ (length new.log.steps ≡ suc (length old.log.steps))
+  pump-grows-if None l pump made = inl made.0
+  pump-grows-if (Some event) l pump made =
+      step-grows old new (Pump l) (pumped_head event) made.answer made.stepped
+
+  turn-grows-by : (actor : Bool) (n : ℕ) → IsTurnBy actor script n old new
+      → (new ≡ old) ⊎ (length new.log.steps ≡ suc (length old.log.steps))
+  turn-grows-by true n made = turn-grows-if (has_ended old.log.steps n) n made.0 made.1
+  turn-grows-by false n made =
+      let l : LinkNo = record { 0 = n - length script.actors } in
+      pump-grows-if (pump_event script old.log.steps (trunks_of old.trunks) l) l made.0 made.1
+
+  -- A TURN adds a step, or changes nothing
+  pub turn-grows : (n : ℕ) → IsTurnOf script n old new
+      → (new ≡ old) ⊎ (length new.log.steps ≡ suc (length old.log.steps))
+  turn-grows n made = turn-grows-by (nat_le n (length script.actors)) n made
+
+-- STUCK. An actor whose ask makes no step is idle, and not at rest, unless a link stirs
+record IsStuck (shape : Shape) (P : List Step) (still : Bool) (k : ℕ) : Type 0 where
+  pub idle : is_idle P k ≡ true
+  pub stirs : (is_at_rest shape P k && still) ≡ false
 
 the_filter : (w : Option Sigsel) → is_some w ≡ true → (f : Sigsel) × (w ≡ Some f)
 the_filter None is = absurd (true≢false (sym is))
@@ -37,12 +99,7 @@ the_filter (Some f) is = (f, refl)
 look_filter : {f g : Sigsel} → asks.Look f ≡ asks.Look g → f ≡ g
 look_filter is = cc
 
--- an actor whose ask makes no step is idle, and not at rest
-record IsStuck (shape : Shape) (P : List Step) (k : ℕ) : Type 0 where
-  pub idle : is_idle P k ≡ true
-  pub stirs : is_at_rest shape P k ≡ false
-
-module _ (shape : Shape) (P : List Step) (k : ℕ) (commands : List Command)
+module _ (shape : Shape) (P : List Step) (still : Bool) (k : ℕ) (commands : List Command)
     (follows : Follows commands k P) where
   abbrev ask : Ask
   ask = next_ask commands k P
@@ -54,7 +111,8 @@ module _ (shape : Shape) (P : List Step) (k : ℕ) (commands : List Command)
       ap (λ x. first_selected f (queue_of P x)) (sym mine) ∙ none in
       rw (mine, waits) (ap is_none there)
 
-  vain-stuck : IsVain shape P k (endpoint_of P k) (granted P k ask).event → IsStuck shape P k
+  vain-stuck : IsVain shape P still k (endpoint_of P k) (granted P k ask).event
+      → IsStuck shape P still k
   vain-stuck vain =
       let f : Sigsel = vain.filter in
       let asked : ask.event ≡ asks.Look f =
@@ -72,19 +130,9 @@ module _ (shape : Shape) (P : List Step) (k : ℕ) (commands : List Command)
         stirs = vain.stirs;
       }
 
-  step-some : (head : Head) → with_step P (step_with shape P (Actor k) (Some head)) ≡ P → ⊥
-  step-some head same = let long = ap length same in absurd (omega arith)
-
-  still-stuck : is_some ask.hand ≡ hands_over ask.event
-      → steps_after shape P (Actor k) ask ≡ P → IsStuck shape P k
-  still-stuck handed same =
-      go (the_head shape P k ask handed) (the_head-made shape P k ask handed) same
-    where
-      go : (head : Option Head)
-          → IsHeadOr shape P k (endpoint_of P k) (granted P k ask).event (granted P k ask).hand head
-          → with_step P (step_with shape P (Actor k) head) ≡ P → IsStuck shape P k
-      go None vain still = vain-stuck vain
-      go (Some head) made still = absurd (step-some head still)
+  none-stuck : is_some ask.hand ≡ hands_over ask.event
+      → head_for shape P still (Actor k) ask ≡ None → IsStuck shape P still k
+  none-stuck handed none = vain-stuck (vain-is shape P still k ask handed none)
 
 -- ENDED. Each of so many has ended
 pub ended-each : (P : List Step) (n o : ℕ) → have_ended P n ≡ true → 0 < o → o ≤ n
@@ -149,126 +197,192 @@ rest-by_each P k (suc n) each =
         true≢false (sym (eq-eqb k (suc n) (sym same)) ∙ is) in
         rw (before, is, each (suc n) (omega arith) (omega arith) other) refl
 
--- A TURN makes a step, or none
+-- STILL. None of so many links stirs
+still-by_each : (P : List Step) (trunks : RunTrunks) (n : ℕ)
+    → ((l : ℕ) → 0 < l → l ≤ n → stirs P trunks l ≡ false) → none_stirs P trunks n ≡ true
+still-by_each P trunks zero each = refl
+still-by_each P trunks (suc n) each =
+    rw (
+      still-by_each P trunks n (λ l above within. each l above (omega arith)),
+      each (suc n) (omega arith) (omega arith),
+    ) refl
+
+-- TURNS THAT ADD NO STEP change nothing, nor would any of them
 module _ (script : ScriptParts) where
-  grows : (P : List Step) (o : Option Step) → length P ≤ length (with_step P o)
-  grows P None = omega arith
-  grows P (Some s) = omega arith
-
-  same_by_length : (P : List Step) (o : Option Step) → length (with_step P o) ≤ length P
-      → with_step P o ≡ P
-  same_by_length P None within = refl
-  same_by_length P (Some s) within = absurd (omega arith)
-
-  abbrev the_step : ℕ → List Step → Option Step
-  the_step k P = step_of (shape_of script) P (Actor k) (next_ask (commands_of script k) k P)
-
-  turn-grows : (k : ℕ) (P : List Step) → length P ≤ length (turn_of script k P)
-  turn-grows k P = go (has_ended P k)
-    where
-      go : (b : Bool) → length P ≤ length (cond b P (with_step P (the_step k P)))
-      go true = omega arith
-      go false = grows P (the_step k P)
-
-  turn-same : (k : ℕ) (P : List Step) → length (turn_of script k P) ≤ length P
-      → turn_of script k P ≡ P
-  turn-same k P within = go (has_ended P k) within
-    where
-      go : (b : Bool) → length (cond b P (with_step P (the_step k P))) ≤ length P
-          → cond b P (with_step P (the_step k P)) ≡ P
-      go true less = refl
-      go false less = same_by_length P (the_step k P) less
-
-  turns-grow : (n : ℕ) (P : List Step) → length P ≤ length (turns_of script n P)
-  turns-grow zero P = omega arith
-  turns-grow (suc n) P =
-      let before = turns-grow n P in
-      let last = turn-grows (suc n) (turns_of script n P) in
+  pub turns-grow : (n : ℕ) (old new : Layout) → AreTurns script n old new
+      → length old.log.steps ≤ length new.log.steps
+  turns-grow zero old new turns =
+      let same : length new.log.steps ≡ length old.log.steps =
+      ap (λ (f : Layout). length f.log.steps) turns in
       omega arith
+  turns-grow (suc n) old new turns =
+      let before = turns-grow n old turns.0 turns.1.0 in
+      elim (turn-grows script turns.0 new (suc n) turns.1.1) [
+        | inl same ↦
+            let long : length new.log.steps ≡ length turns.0.log.steps =
+            ap (λ (f : Layout). length f.log.steps) same in
+            omega arith
+        | inr more ↦ omega arith
+      ]
 
-  -- turns that make no step leave each actor where it was
-  record AreStill (n : ℕ) (P : List Step) : Type 0 where
-    pub same : turns_of script n P ≡ P
-    pub each : (k : ℕ) → 0 < k → k ≤ n → turn_of script k P ≡ P
+  record AreStill (n : ℕ) (old new : Layout) : Type 0 where
+    pub same : new ≡ old
+    pub each : (k : ℕ) → 0 < k → k ≤ n → IsTurnOf script k old old
 
-  turns-still : (n : ℕ) (P : List Step) → length (turns_of script n P) ≤ length P → AreStill n P
-  turns-still zero P within =
-      record { same = refl; each = λ k above below. absurd (omega arith) }
-  turns-still (suc n) P within =
-      let Q : List Step = turns_of script n P in
-      let grown = turn-grows (suc n) (turns_of script n P) in
-      let before = turns-still n P (omega arith) in
-      let less : length (turn_of script (suc n) P) ≤ length P =
-      subst (λ (R : List Step). length (turn_of script (suc n) R) ≤ length P) before.same within in
-      let last : turn_of script (suc n) P ≡ P = turn-same (suc n) P less in
-      record {
-        same = ap (turn_of script (suc n)) before.same ∙ last;
-        each = λ k above below. elim (cases_order k (suc n)) [
-          | inl same ↦ subst (λ (x : ℕ). turn_of script x P ≡ P) (sym same) last
-          | inr (inl under) ↦ before.each k above (omega arith)
-          | inr (inr over) ↦ absurd (omega arith)
-        ];
-      }
+  turns-still : (n : ℕ) (old new : Layout) → AreTurns script n old new
+      → length new.log.steps ≤ length old.log.steps → AreStill n old new
+  turns-still zero old new turns within =
+      record { same = turns; each = λ k above below. absurd (omega arith) }
+  turns-still (suc n) old new turns within =
+      elim (turn-grows script turns.0 new (suc n) turns.1.1) [
+        | inl same ↦ stays same (λ less. turns-still n old turns.0 turns.1.0 less)
+        | inr more ↦
+            let grown = turns-grow n old turns.0 turns.1.0 in
+            absurd (omega arith)
+      ]
+    where
+      stays : new ≡ turns.0
+          → (length turns.0.log.steps ≤ length old.log.steps → AreStill n old turns.0)
+          → AreStill (suc n) old new
+      stays same again =
+          let long : length new.log.steps ≡ length turns.0.log.steps =
+          ap (λ (f : Layout). length f.log.steps) same in
+          let before : AreStill n old turns.0 = again (omega arith) in
+          let all : new ≡ old = same ∙ before.same in
+          let last : IsTurnOf script (suc n) old old =
+          subst (λ (f : Layout). IsTurnOf script (suc n) old f) all
+          (subst (λ (f : Layout). IsTurnOf script (suc n) f new) before.same turns.1.1) in
+          record {
+            same = all;
+            each = λ k above below. elim (cases_order k (suc n)) [
+              | inl equal ↦ subst (λ (x : ℕ). IsTurnOf script x old old) (sym equal) last
+              | inr (inl under) ↦ before.each k above (omega arith)
+              | inr (inr over) ↦ absurd (omega arith)
+            ];
+          }
 
-  -- WHERE NO TURN MAKES A STEP all is over
-  module _ (P : List Step) (follows : AllFollow script P)
-      (handed : (k : ℕ) → is_some (next_ask (commands_of script k) k P).hand
-      ≡ hands_over (next_ask (commands_of script k) k P).event) where
-    abbrev count : ℕ
-    count = length script.actors
+-- WHERE NO TURN ADDS A STEP all is over
+module _ (script : ScriptParts) (f : Layout) (shape : f.shape ≡ shape_of script)
+    (follows : AllFollow script f.log.steps)
+    (handed : (k : ℕ) → 0 < k → k ≤ length script.actors
+    → is_some (next_ask (commands_of script k) k f.log.steps).hand
+    ≡ hands_over (next_ask (commands_of script k) k f.log.steps).event) where
+  abbrev P : List Step
+  P = f.log.steps
 
-    stuck : (k : ℕ) → 0 < k → k ≤ count → has_ended P k ≡ false → turn_of script k P ≡ P
-        → IsStuck (shape_of script) P k
-    stuck k above within running still =
-        still-stuck (shape_of script) P k (commands_of script k) (follows k above within) (handed k)
-        (sym (ap (λ b. cond b P (with_step P (the_step k P))) running) ∙ still)
+  abbrev trunks : RunTrunks
+  trunks = trunks_of f.trunks
 
-    others : (first : IsFirst P count) → AreStill count P
-        → (o : ℕ) → 0 < o → o ≤ count → o ≢ first.k → leaves_at_rest P first.k o ≡ true
-    others first still o above within other =
-        elim (cases_order o first.k) [
-          | inl same ↦ absurd (other same)
-          | inr (inl less) ↦ rw (first.before o above less) refl
-          | inr (inr more) ↦ behind more (has_ended P o) refl
-        ]
-      where
-        behind : first.k < o → (b : Bool) → has_ended P o ≡ b
-            → leaves_at_rest P first.k o ≡ true
-        behind more true is = rw is refl
-        behind more false is =
-            rw (
-              is,
-              (stuck o above within is (still.each o above within)).idle,
-              lt-ltb first.k o more,
-            ) refl
+  abbrev still : Bool
+  still = is_still f.shape P trunks
 
-    still-over : AreStill count P → have_ended P count ≡ true
-    still-over still =
-        elim (first-running P count) [
-          | inl all ↦ all
-          | inr first ↦
-              let moves = stuck first.k first.above first.within first.running
-              (still.each first.k first.above first.within) in
-              let rests : all_leave_at_rest P first.k count ≡ true =
-              rest-by_each P first.k count (others first still) in
-              absurd (true≢false (sym (at_rest first.k rests) ∙ moves.stirs))
-        ]
-      where
-        at_rest : (k : ℕ) → all_leave_at_rest P k count ≡ true
-            → is_at_rest (shape_of script) P k ≡ true
-        at_rest k all =
-            subst (λ (n : ℕ). all_leave_at_rest P k n ≡ true)
-            (sym (length-map script.actors (λ a. a.node))) all
+  abbrev count : ℕ
+  count = length script.actors
 
-    -- A ROUND MAKES A STEP until all is over
-    pub round-moves : all_is_over script P ≡ false → length P < length (round_of script P)
-    round-moves running =
-        elim (cases_lt (length P) (length (round_of script P))) [
-          | inl less ↦ less
-          | inr within ↦
-              let all : have_ended P count ≡ true = still-over (turns-still count P within) in
-              let over : all_is_over script P ≡ true =
-              subst (λ (n : ℕ). have_ended P n ≡ true)
-              (sym (length-map script.actors (λ a. a.node))) all in
-              absurd (true≢false (sym over ∙ running))
-        ]
+  -- a turn that an actor takes and that adds no step
+  stuck-if : (k : ℕ) → 0 < k → k ≤ count → (turn : Turn) (ended : Bool)
+      → has_ended P k ≡ ended → ended ≡ false → IsTurnIf ended script k f f turn
+      → IsStuck f.shape P still k
+  stuck-if k above within turn true is running made = absurd (true≢false running)
+  stuck-if k above within turn false is running made =
+      none-stuck f.shape P still k (commands_of script k) (follows k above within)
+      (handed k above within)
+      (step-none f (Actor k)
+      (head_for f.shape P still (Actor k) (next_ask (commands_of script k) k P)) made.answer
+      made.stepped)
+
+  stuck-by : (k : ℕ) → 0 < k → k ≤ count → has_ended P k ≡ false → (actor : Bool)
+      → actor ≡ true → IsTurnBy actor script k f f → IsStuck f.shape P still k
+  stuck-by k above within running true is made =
+      stuck-if k above within made.0 (has_ended P k) refl running made.1
+  stuck-by k above within running false is made = absurd (true≢false (sym is))
+
+  stuck : (k : ℕ) → 0 < k → k ≤ count → has_ended P k ≡ false → IsTurnOf script k f f
+      → IsStuck f.shape P still k
+  stuck k above within running made =
+      stuck-by k above within running (nat_le k count) (le-leb k count within) made
+
+  -- a turn of a link that adds no step
+  calm-if : (l : LinkNo) (pump : pumps.Pump) (event : Option Event)
+      → pump_event script P trunks l ≡ event → IsPumpIf event l f f pump
+      → is_some event ≡ false
+  calm-if l pump None is made = refl
+  calm-if l pump (Some event) is made =
+      let heads = pump-heads script f l event is f made.answer made.stepped in
+      let long : length P ≡ suc (length P) = ap length heads.1.0.steps in
+      absurd (omega arith)
+
+  calm-by : (l : ℕ) (actor : Bool) → actor ≡ false → IsTurnBy actor script (count + l) f f
+      → stirs P trunks l ≡ false
+  calm-by l true is made = absurd (true≢false is)
+  calm-by l false is made =
+      let link : LinkNo = record { 0 = count + l - count } in
+      let number : count + l - count ≡ l = omega arith in
+      subst (λ (n : ℕ). stirs P trunks n ≡ false) number
+      (sym (pump-stirs script P trunks link)
+      ∙ calm-if link made.0 (pump_event script P trunks link) refl made.1)
+
+  calm : (l : ℕ) → 0 < l → IsTurnOf script (count + l) f f → stirs P trunks l ≡ false
+  calm l above made =
+      calm-by l (nat_le (count + l) count) (lt-leb (count + l) count (omega arith)) made
+
+  all-still : AreStill script (makers script) f f → still ≡ true
+  all-still turns =
+      subst (λ (s : Shape). none_stirs P trunks (length s.links) ≡ true) (sym shape)
+      (still-by_each P trunks (length script.links)
+      (λ l above within. calm l above (turns.each (count + l) (omega arith) (omega arith))))
+
+  others : (first : IsFirst P count) → AreStill script (makers script) f f
+      → (o : ℕ) → 0 < o → o ≤ count → o ≢ first.k → leaves_at_rest P first.k o ≡ true
+  others first turns o above within other =
+      elim (cases_order o first.k) [
+        | inl same ↦ absurd (other same)
+        | inr (inl less) ↦ rw (first.before o above less) refl
+        | inr (inr more) ↦ behind more (has_ended P o) refl
+      ]
+    where
+      behind : first.k < o → (b : Bool) → has_ended P o ≡ b
+          → leaves_at_rest P first.k o ≡ true
+      behind more true is = rw is refl
+      behind more false is =
+          rw (
+            is,
+            (stuck o above within is (turns.each o above (omega arith))).idle,
+            lt-ltb first.k o more,
+          ) refl
+
+  actors-count : length f.shape.actors ≡ count
+  actors-count =
+      ap (λ (s : Shape). length s.actors) shape ∙ length-map script.actors (λ a. a.node)
+
+  still-over : AreStill script (makers script) f f → is_over f ≡ true
+  still-over turns =
+      elim (first-running P count) [
+        | inl all ↦
+            let ended : all_have_ended f.shape P ≡ true =
+            subst (λ (n : ℕ). have_ended P n ≡ true) (sym actors-count) all in
+            rw (ended, all-still turns) refl
+        | inr first ↦
+            let within = first.within in
+            let moves = stuck first.k first.above first.within first.running
+            (turns.each first.k first.above (omega arith)) in
+            let rests : is_at_rest f.shape P first.k ≡ true =
+            subst (λ (n : ℕ). all_leave_at_rest P first.k n ≡ true) (sym actors-count)
+            (rest-by_each P first.k count (others first turns)) in
+            let both : (is_at_rest f.shape P first.k && still) ≡ true =
+            rw (rests, all-still turns) refl in
+            absurd (true≢false (sym both ∙ moves.stirs))
+      ]
+
+  -- A ROUND ADDS A STEP until all is over
+  pub round-moves : is_over f ≡ false → (next : Layout) → IsRound script f next
+      → length f.log.steps < length next.log.steps
+  round-moves running next round =
+      elim (cases_lt (length f.log.steps) (length next.log.steps)) [
+        | inl less ↦ less
+        | inr within ↦
+            let turns : AreStill script (makers script) f next =
+            turns-still script (makers script) f next round within in
+            let over : is_over f ≡ true = still-over (record { same = refl; each = turns.each }) in
+            absurd (true≢false (sym over ∙ running))
+      ]

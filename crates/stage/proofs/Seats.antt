@@ -1,41 +1,51 @@
 -- The players of a stage, before and after a turn.
 use Rattle.std.proofs.Common.{◌≡◌, ◌≢◌, ℕ, zero, suc, ◌-◌, ◌<◌, ◌≤◌, Bool, Result, Ok, Err, IsErr}
-use Rattle.std.proofs.Common.{OnOk, OnErr, inl, inr, length-set, true, false, List, [], ◌∷◌, length}
-use Rattle.std.proofs.Common.{Option, Some, None, refl, sym, ◌∙◌, ap, subst, arith}
+use Rattle.std.proofs.Common.{IfOk, OnOk, OnErr, inl, inr, length-set, true, false, List, [], ◌∷◌}
+use Rattle.std.proofs.Common.{length, map, Option, Some, None, refl, sym, ◌∙◌, ap, subst, arith}
 use Rattle.std.specs.Prelude.{◌==◌, nat_le, slice_get, slice_set}
-use Rattle.std.proofs.lemmas.Bool.{cases_lt, eqb-true, eq-eqb, le-leb, ne_eqb, or_left, true≢false}
+use Rattle.std.proofs.lemmas.Bool.{and_parts, cases_lt, eqb-true, eq-eqb, le-leb, ne_eqb, or_left}
+use Rattle.std.proofs.lemmas.Bool.{true≢false}
 use Rattle.std.proofs.lemmas.List.{length-map}
 use Rattle.std.proofs.lemmas.List.Elements.{All-cons, All-nil}
 use Rattle.linx_base.specs.declared.frame.LinkDecl.{LinkDecl}
+use Rattle.linx_base.specs.declared.identity.LinkNo.{LinkNo}
 use Rattle.linx_base.specs.declared.identity.NodeNo.{NodeNo}
 use Rattle.linx_base.specs.declared.name.Names.{Names}
-use Rattle.journal.specs.declared.by.By.TheVariants.{Actor}
+use Rattle.journal.specs.declared.by.By.{By}
+use Rattle.journal.specs.declared.by.By.TheVariants.{Actor, Pump}
 use Rattle.journal.specs.declared.effect.Step.{Step}
+use Rattle.journal.specs.declared.event.Event.{Event}
 use Rattle.journal.specs.declared.head.Head.{Head}
-use Rattle.journal.specs.History.{endpoint_of, has_ended, is_by}
-use Rattle.journal.specs.Laws.{IsLegal}
+use Rattle.journal.specs.History.{has_ended, is_by}
 use Rattle.journal.specs.Logs.{is_full}
-use Rattle.journal.specs.Shapes.{Shape, node_by}
+use Rattle.journal.specs.Shapes.{Shape}
+use Rattle.link_laws.specs.Laws.{IsLegal}
+use Rattle.link_laws.specs.Runs.{KeepsPromises}
+use Rattle.run_trunks.specs.States.{new_trunks, trunks_of}
 use Rattle.script_lang.specs.declared.actor_script.ActorScript.{ActorScript}
 use Rattle.script_lang.specs.Fits.{IsScript}
 use Rattle.script_lang.specs.Parts.{ScriptParts}
-use Rattle.node_kernel.specs.declared.ask.Ask.{Ask}
-use Rattle.node_kernel.specs.Answers.{granted}
+use Rattle.node_kernel.specs.declared.answers.StepAnswer.{StepAnswer}
 use Rattle.actor_run.specs.Following.{Follows, IsTurned, Playing}
 use Rattle.actor_run.specs.Knowing.{knows_nothing}
 use Rattle.actor_run.proofs.Others.{GoesOn, has_ended_goes_on, playing_goes_on, whole_goes_on}
 use Rattle.actor_run.proofs.Turns.{playing_first}
-use Rattle.fabric.specs.Machine.{have_ended, head_of, signal_in, step_of, step_with, steps_after}
-use Rattle.fabric.specs.Machine.{with_step}
-use Rattle.fabric.specs.Remains.{Layout}
+use Rattle.trunk_moves.specs.Trunks.{links_of}
+use Rattle.fabric.specs.Actings.{OnlyRuns}
+use Rattle.fabric.specs.Links.{is_still}
+use Rattle.fabric.specs.Machine.{all_have_ended, have_ended}
+use Rattle.fabric.specs.Run.{IsReached, IsStepFor, IsStepped, Layout}
+use Rattle.fabric.specs.declared.stop.StepStop.{StepStop}
 use Rattle.fabric.proofs.Kept.{get-set, get-set-other}
 use Rattle.stage.specs.declared.player.Player.{Player}
 use Rattle.stage.specs.declared.stage.Turn.{Turn}
-use Rattle.journal.proofs.Promises.{keeps-promises}
-use Rattle.stage.specs.Plays.{AllFollow, AllFollowWhole, IsSoFar}
+use Rattle.stage.specs.Plays.{AllFollow, AllFollowWhole, IsPlanned, IsSoFar}
+use Rattle.stage.specs.Pumps.{pump_event}
 use Rattle.stage.specs.Seats.{AreSeated, IsSeated, IsStaged, unstarted}
-use Rattle.stage.specs.Turns.{commands_in, commands_of, all_is_over, round_of, shape_of}
-use Rattle.stage.proofs.Asking.{next-fit}
+use Rattle.stage.specs.Turns.{IsActed, IsRound, commands_in, commands_of, first_layout, is_over}
+use Rattle.stage.specs.Turns.{shape_of}
+use Rattle.stage.proofs.Asking.{next-handed}
+use Rattle.stage.proofs.Planned.{new-planned, planned-pumped, planned-turned}
 use Rattle.stage.proofs.Rounds.{ended-each, round-moves}
 
 -- BEFORE THE FIRST TURNS
@@ -69,33 +79,29 @@ first_seated (a ∷ actors) (suc n) player is = step (first_seated_at actors n p
 pub unstarted-seated : (script : ScriptParts) → AreSeated script [] (unstarted script.actors)
 unstarted-seated script n player is = first_seated script.actors n player is
 
--- A TURN OF ANOTHER ACTOR leaves an actor as it was
-pub step-goes_on : (P : List Step) (a k : ℕ) → a ≢ k → (s : Step) → s.by ≡ Actor a
-    → GoesOn k (s ∷ P) P
-step-goes_on P a k other s by =
-    let off : is_by s.by k ≡ false = ap (λ b. is_by b k) by ∙ ne_eqb a k other in (
-      s ∷ [],
-      refl,
-      All-cons (λ (x : Step). is_by x.by k ≡ false) s [] off
-          (All-nil (λ (x : Step). is_by x.by k ≡ false)),
-    )
+-- A TURN OF ANOTHER MAKER leaves an actor as it was
+step-goes_on : (P : List Step) (k : ℕ) (s : Step) → is_by s.by k ≡ false → GoesOn k (s ∷ P) P
+step-goes_on P k s off = (
+  s ∷ [],
+  refl,
+  All-cons (λ (x : Step). is_by x.by k ≡ false) s [] off
+      (All-nil (λ (x : Step). is_by x.by k ≡ false)),
+)
 
-pub none-goes_on : (P : List Step) (k : ℕ) → GoesOn k P P
+none-goes_on : (P : List Step) (k : ℕ) → GoesOn k P P
 none-goes_on P k = ([], refl, All-nil (λ (x : Step). is_by x.by k ≡ false))
 
--- the head of what the machine makes of an ask
-abbrev made : Shape → List Step → ℕ → Ask → Option Head
-made shape P a ask =
-    head_of shape P a (node_by shape (Actor a)) (endpoint_of P a) (granted P a ask).event
-    (signal_in (granted P a ask).hand)
-
-pub after-goes_on : (shape : Shape) (P : List Step) (a k : ℕ) (ask : Ask) → a ≢ k
-    → GoesOn k (steps_after shape P (Actor a) ask) P
-after-goes_on shape P a k ask other = go (made shape P a ask)
-  where
-    go : (head : Option Head) → GoesOn k (with_step P (step_with shape P (Actor a) head)) P
-    go None = none-goes_on P k
-    go (Some head) = step-goes_on P a k other _ refl
+-- what is made for another maker leaves an actor as it was
+pub after-goes_on : (old new : Layout) (by : By) (head : Option Head) (answer : StepAnswer) (k : ℕ)
+    → is_by by k ≡ false → IsStepFor old new by head answer
+    → GoesOn k new.log.steps old.log.steps
+after-goes_on old new by None answer k other made =
+    subst (λ (l : Layout). GoesOn k l.log.steps old.log.steps) (sym made.0)
+    (none-goes_on old.log.steps k)
+after-goes_on old new by (Some head) answer k other made =
+    subst (λ (P : List Step). GoesOn k P old.log.steps) (sym made.steps)
+    (step-goes_on old.log.steps k
+    (record { by = by; head = head; effects = made.effects }) other)
 
 seated-other : (script : ScriptParts) (now before : List Step) (k : ℕ) (player : Player)
     → GoesOn k now before → IsSeated script before k player → IsSeated script now k player
@@ -190,109 +196,134 @@ pub playing-seated : (script : ScriptParts) (P : List Step) (k : ℕ) (player : 
     → Playing (commands_of script k) k P player.mind player.me → IsSeated script P k player
 playing-seated script P k player playing = turned-seated script P k player false playing
 
--- A STAGE after a turn of actor k
-module _ (script : ScriptParts) (old now : Layout) (players : List Player) (k : ℕ)
-    (player : Player) (staged : IsStaged script old players) (above : 0 < k)
-    (within : k ≤ length script.actors)
-    (fixed : now ≡ record old { log = record old.log { steps = now.log.steps } }) where
-  staged-next : length now.log.steps ≤ 200000
-      → ((m : ℕ) → k ≢ m → GoesOn m now.log.steps old.log.steps)
-      → IsSeated script now.log.steps k player
-      → IsStaged script now (slice_set players (k - 1) player)
-  staged-next few on seated = record {
+-- A JOURNAL THAT ISN'T FULL takes one step more
+not_full : (P : List Step) → (is_full P ≡ true → ⊥) → length P < 200000
+not_full P room =
+    elim (cases_lt (length P) 200000) [
+      | inl less ↦ less
+      | inr full ↦
+          absurd (room (or_left (nat_le 200000 (length P)) _ (le-leb 200000 (length P) full)))
+    ]
+
+few-after : (old new : Layout) (by : By) (head : Option Head) (answer : StepAnswer)
+    → IsStepFor old new by head answer → length old.log.steps < 200000
+    → length new.log.steps ≤ 200000
+few-after old new by None answer made low =
+    let same : length new.log.steps ≡ length old.log.steps =
+    ap (λ (l : Layout). length l.log.steps) made.0 in
+    omega arith
+few-after old new by (Some head) answer made low =
+    let more : length new.log.steps ≡ suc (length old.log.steps) = ap length made.steps in
+    omega arith
+
+-- A STAGE after a step
+module _ (script : ScriptParts) (old new : Layout) (players : List Player)
+    (staged : IsStaged script old players) (fixed : OnlyRuns old new) where
+  staged-shape : new.shape ≡ shape_of script
+  staged-shape = ap (λ (l : Layout). l.shape) fixed ∙ staged.shape
+
+  staged-names : new.log.names ≡ script.names
+  staged-names = ap (λ (l : Layout). l.log.names) fixed ∙ staged.names
+
+  -- of an actor
+  module _ (k : ℕ) (player : Player) (above : 0 < k) (within : k ≤ length script.actors) where
+    staged-next : length new.log.steps ≤ 200000
+        → ((m : ℕ) → k ≢ m → GoesOn m new.log.steps old.log.steps)
+        → IsSeated script new.log.steps k player
+        → IsPlanned script new.log.steps (trunks_of new.trunks)
+        → IsStaged script new (slice_set players (k - 1) player)
+    staged-next few on seated planned = record {
+      declared = staged.declared;
+      shape = staged-shape;
+      names = staged-names;
+      few = few;
+      count = length-set players (k - 1) player ∙ staged.count;
+      seated = go k above within refl;
+      planned = planned;
+    }
+      where
+        go : (a : ℕ) → 0 < a → a ≤ length script.actors → k ≡ a
+            → AreSeated script new.log.steps (slice_set players (k - 1) player)
+        go zero low high is = absurd (omega arith)
+        go (suc n) low high is =
+            let place : k - 1 ≡ n = omega arith in
+            let count = staged.count in
+            subst (λ (i : ℕ). AreSeated script new.log.steps (slice_set players i player))
+            (sym place)
+            (seated-set script new.log.steps old.log.steps players n player (omega arith)
+            staged.seated (subst (λ (a : ℕ). (m : ℕ) → a ≢ m
+            → GoesOn m new.log.steps old.log.steps) is on)
+            (subst (λ (a : ℕ). IsSeated script new.log.steps a player) is seated))
+
+    -- whatever came of it
+    pub staged-turned : (r : Result Turn StepStop)
+        → IfOk r (IsActed script k old new)
+        → OnOk r (IsSeated script new.log.steps k player)
+        → (is_full old.log.steps ≡ true → IsErr r) → OnErr r (new ≡ old)
+        → has_ended old.log.steps k ≡ false
+        → (before : Player) → OnErr r (player ≡ before) → IsSeated script old.log.steps k before
+        → IsStaged script new (slice_set players (k - 1) player)
+    staged-turned (Ok turn) moved seated room still running before stays was =
+        let low : length old.log.steps < 200000 =
+        not_full old.log.steps (λ full. true≢false (sym (room full))) in
+        staged-next
+        (few-after old new (Actor k) _ moved.answer moved.stepped low)
+        (λ m other. after-goes_on old new (Actor k) _ moved.answer m (ne_eqb k m other)
+        moved.stepped)
+        seated
+        (planned-turned script old new staged.shape k running moved.answer moved.stepped
+        staged.planned)
+    staged-turned (Err stop) moved seated room still running before stays was =
+        staged-next
+        (subst (λ (l : Layout). length l.log.steps ≤ 200000) (sym still) staged.few)
+        (λ m other. subst (λ (l : Layout). GoesOn m l.log.steps old.log.steps) (sym still)
+        (none-goes_on old.log.steps m))
+        (subst (λ (l : Layout). IsSeated script l.log.steps k player) (sym still)
+        (subst (λ (p : Player). IsSeated script old.log.steps k p) (sym stays) was))
+        (subst (λ (l : Layout). IsPlanned script l.log.steps (trunks_of l.trunks)) (sym still)
+        staged.planned)
+
+  -- of a link's pump
+  pub staged-pumped : (l : LinkNo) (event : Event) (answer : StepAnswer)
+      → pump_event script old.log.steps (trunks_of old.trunks) l ≡ Some event
+      → IsStepped old new (Pump l) (record { event = event; hand = None }) answer
+      → (is_full old.log.steps ≡ true → ⊥) → IsStaged script new players
+  staged-pumped l event answer asks made room = record {
     declared = staged.declared;
-    unlinked = staged.unlinked;
-    shape = ap (λ (l : Layout). l.shape) fixed ∙ staged.shape;
-    names = ap (λ (l : Layout). l.log.names) fixed ∙ staged.names;
-    few = few;
-    count = length-set players (k - 1) player ∙ staged.count;
-    seated = go k above within refl;
+    shape = staged-shape;
+    names = staged-names;
+    few = few-after old new (Pump l) _ answer made (not_full old.log.steps room);
+    count = staged.count;
+    seated = λ n player is.
+        seated-other script new.log.steps old.log.steps (suc n) player
+        (after-goes_on old new (Pump l) _ answer (suc n) refl made) (staged.seated n player is);
+    planned = planned-pumped script old new staged.shape l event asks answer made staged.planned;
   }
-    where
-      go : (a : ℕ) → 0 < a → a ≤ length script.actors → k ≡ a
-          → AreSeated script now.log.steps (slice_set players (k - 1) player)
-      go zero low high is = absurd (omega arith)
-      go (suc n) low high is =
-          let place : k - 1 ≡ n = omega arith in
-          let count = staged.count in
-          subst (λ (i : ℕ). AreSeated script now.log.steps (slice_set players i player))
-          (sym place)
-          (seated-set script now.log.steps old.log.steps players n player (omega arith)
-          staged.seated (subst (λ (a : ℕ). (m : ℕ) → a ≢ m
-          → GoesOn m now.log.steps old.log.steps) is on)
-          (subst (λ (a : ℕ). IsSeated script now.log.steps a player) is seated))
-
-  one_more : (P : List Step) (o : Option Step) → length P < 200000
-      → length (with_step P o) ≤ 200000
-  one_more P None low = omega arith
-  one_more P (Some s) low = omega arith
-
-  not_full : (P : List Step) → (is_full P ≡ true → ⊥) → length P < 200000
-  not_full P room =
-      elim (cases_lt (length P) 200000) [
-        | inl less ↦ less
-        | inr full ↦
-            absurd (room (or_left (nat_le 200000 (length P)) _ (le-leb 200000 (length P) full)))
-      ]
-
-  -- whatever came of it
-  pub staged-turned : {E : Type 0} (r : Result Turn E) (ask : Ask)
-      → OnOk r (now.log.steps ≡ steps_after (shape_of script) old.log.steps (Actor k) ask)
-      → OnOk r (IsSeated script now.log.steps k player)
-      → (is_full old.log.steps ≡ true → IsErr r) → OnErr r (now ≡ old)
-      → (before : Player) → OnErr r (player ≡ before) → IsSeated script old.log.steps k before
-      → IsStaged script now (slice_set players (k - 1) player)
-  staged-turned (Ok turn) ask steps seated room still before stays was =
-      let low : length old.log.steps < 200000 =
-      not_full old.log.steps (λ full. true≢false (sym (room full))) in
-      staged-next
-      (subst (λ (P : List Step). length P ≤ 200000) (sym steps)
-      (one_more old.log.steps
-      (step_of (shape_of script) old.log.steps (Actor k) ask) low))
-      (λ m other. subst (λ (P : List Step). GoesOn m P old.log.steps) (sym steps)
-      (after-goes_on (shape_of script) old.log.steps k m ask other))
-      seated
-  staged-turned (Err stop) ask steps seated room still before stays was =
-      let same : now.log.steps ≡ old.log.steps = ap (λ (l : Layout). l.log.steps) still in
-      staged-next
-      (subst (λ (P : List Step). length P ≤ 200000) (sym same) staged.few)
-      (λ m other. subst (λ (P : List Step). GoesOn m P old.log.steps) (sym same)
-      (none-goes_on old.log.steps m))
-      (subst (λ (P : List Step). IsSeated script P k player) (sym same)
-      (subst (λ (p : Player). IsSeated script old.log.steps k p) (sym stays) was))
 
 -- A STAGE BEFORE ITS FIRST TURN
-pub laid-same : (links others : List LinkDecl) (nodes places : List NodeNo) (names titles : Names)
-    → links ≡ others → nodes ≡ places → names ≡ titles
+pub first-same : (script : ScriptParts) (links : List LinkDecl) (nodes : List NodeNo)
+    (names : Names) → links ≡ script.links → nodes ≡ map (λ a. a.node) script.actors
+    → names ≡ script.names
     → (let l : Layout = record {
       shape = record { links = links; actors = nodes };
       log = record { names = names; steps = [] };
-    } in l) ≡ record {
-      shape = record { links = others; actors = places };
-      log = record { names = titles; steps = [] };
-    }
-laid-same links others nodes places names titles a b c = rw (a, b, c) refl
+      trunks = new_trunks links;
+    } in l) ≡ first_layout script
+first-same script links nodes names a b c = rw (a, b, c) refl
 
 pub staged-first : (script : ScriptParts) (fabric : Layout) (players : List Player)
-    → IsScript script
-    → script.links ≡ []
-    → fabric ≡ record {
-      shape = shape_of script;
-      log = record { names = script.names; steps = [] };
-    }
-    → players ≡ unstarted script.actors → IsStaged script fabric players
-staged-first script fabric players declared unlinked is started =
-    let steps : fabric.log.steps ≡ [] = ap (λ (l : Layout). l.log.steps) is in record {
+    → IsScript script → fabric ≡ first_layout script → players ≡ unstarted script.actors
+    → IsStaged script fabric players
+staged-first script fabric players declared is started =
+    rw (is, started) (record {
       declared = declared;
-      unlinked = unlinked;
-      shape = ap (λ (l : Layout). l.shape) is;
-      names = ap (λ (l : Layout). l.log.names) is;
-      few = let none : length fabric.log.steps ≡ 0 = ap length steps in omega arith;
-      count = ap length started ∙ length-map script.actors _;
-      seated = subst (AreSeated script fabric.log.steps) (sym started)
-          (subst (λ (P : List Step). AreSeated script P (unstarted script.actors)) (sym steps)
-          (unstarted-seated script));
-    }
+      shape = refl;
+      names = refl;
+      few = omega arith;
+      count = length-map script.actors _;
+      seated = unstarted-seated script;
+      planned = new-planned script declared;
+    })
 
 -- WHAT A STAGE PROMISES of its journal
 module _ (script : ScriptParts) (fabric : Layout) (players : List Player)
@@ -300,27 +331,33 @@ module _ (script : ScriptParts) (fabric : Layout) (players : List Player)
   pub staged-follows : AllFollow script fabric.log.steps
   staged-follows = all-follow script fabric.log.steps players staged.count staged.seated
 
-  pub staged-so_far : IsLegal fabric.shape fabric.log.steps → IsSoFar script fabric.log
-  staged-so_far legal =
-      let laid : IsLegal (shape_of script) fabric.log.steps =
-      subst (λ (s : Shape). IsLegal s fabric.log.steps) staged.shape legal in
-      let few : length fabric.log.steps ≤ 200000 = staged.few in record {
-        names = staged.names;
-        legal = laid;
-        follows = staged-follows;
-        promises = keeps-promises (shape_of script) fabric.log.steps laid (omega arith);
-      }
+  pub staged-so_far : IsLegal fabric.shape fabric.log.steps
+      → KeepsPromises fabric.shape fabric.log.steps (links_of (trunks_of fabric.trunks))
+      → IsReached fabric.shape fabric.log.steps (trunks_of fabric.trunks)
+      → IsSoFar script fabric
+  staged-so_far legal promises reached = record {
+    shape = staged.shape;
+    names = staged.names;
+    legal = subst (λ (s : Shape). IsLegal s fabric.log.steps) staged.shape legal;
+    promises = subst (λ (s : Shape).
+        KeepsPromises s fabric.log.steps (links_of (trunks_of fabric.trunks))) staged.shape promises;
+    reached = subst (λ (s : Shape). IsReached s fabric.log.steps (trunks_of fabric.trunks))
+        staged.shape reached;
+    follows = staged-follows;
+    planned = staged.planned;
+  }
 
-  pub staged-moves : all_is_over script fabric.log.steps ≡ false
-      → length fabric.log.steps < length (round_of script fabric.log.steps)
-  staged-moves running =
-      round-moves script fabric.log.steps staged-follows
-      (λ k. (next-fit script staged.declared staged.unlinked fabric.log.steps k).handed) running
+  pub staged-moves : is_over fabric ≡ false → (next : Layout) → IsRound script fabric next
+      → length fabric.log.steps < length next.log.steps
+  staged-moves running next round =
+      round-moves script fabric staged.shape staged-follows
+      (λ k above within. next-handed script staged.declared fabric.log.steps k) running next round
 
-  pub staged-whole : all_is_over script fabric.log.steps ≡ true
-      → AllFollowWhole script fabric.log.steps
+  pub staged-whole : is_over fabric ≡ true → AllFollowWhole script fabric.log.steps
   staged-whole over =
       all-whole script fabric.log.steps players staged.count staged.seated
       (λ k above within. ended-each fabric.log.steps (length script.actors) k
       (subst (λ (n : ℕ). have_ended fabric.log.steps n ≡ true)
-      (length-map script.actors (λ a. a.node)) over) above within)
+      (ap (λ (s : Shape). length s.actors) staged.shape ∙ length-map script.actors (λ a. a.node))
+      (and_parts (all_have_ended fabric.shape fabric.log.steps)
+      (is_still fabric.shape fabric.log.steps (trunks_of fabric.trunks)) over).0) above within)

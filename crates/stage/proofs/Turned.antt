@@ -1,6 +1,6 @@
 -- A turn of an actor that hasn't ended.
-use Rattle.std.proofs.Common.{◌≡◌, ℕ, ◌<◌, ◌≤◌, Bool, true, false, cond, List, [], length, Option}
-use Rattle.std.proofs.Common.{None, refl, ◌∙◌, subst}
+use Rattle.std.proofs.Common.{◌≡◌, ℕ, ◌<◌, ◌≤◌, List, length, Option, refl, sym, ◌∙◌}
+use Rattle.std.proofs.Common.{subst}
 use Rattle.std.specs.Prelude.{is_some}
 use Rattle.linx_base.specs.declared.identity.Inc.{Inc}
 use Rattle.journal.specs.declared.by.By.TheVariants.{Actor}
@@ -11,63 +11,64 @@ use Rattle.script_lang.specs.Parts.{ScriptParts}
 use Rattle.node_kernel.specs.declared.answers.StepAnswer.{StepAnswer}
 use Rattle.node_kernel.specs.declared.ask.Ask.{Ask}
 use Rattle.node_kernel.specs.Answers.{is_end_event}
-use Rattle.actor_run.specs.Asking.{asked_by, handed, lends}
+use Rattle.actor_run.specs.Asking.{asked_by, handed}
 use Rattle.actor_run.specs.Following.{endpoint_after, next_ask, Makes, Playing}
 use Rattle.actor_run.specs.Knowing.{Knows, told}
 use Rattle.actor_run.proofs.Turns.{turned}
-use Rattle.fabric.specs.Machine.{MayAsk, answer_to, hands_over, steps_after}
-use Rattle.fabric.specs.Remains.{Layout}
+use Rattle.fabric.specs.Asks.{MayAsk}
+use Rattle.fabric.specs.Machine.{hands_over}
+use Rattle.fabric.specs.Run.{IsStepped, Layout}
 use Rattle.stage.specs.declared.player.Player.{Player}
+use Rattle.stage.specs.declared.stage.Turn.{Turn}
 use Rattle.stage.specs.Seats.{IsSeated}
-use Rattle.stage.specs.Turns.{commands_of, shape_of}
-use Rattle.stage.proofs.Asking.{may_ask}
+use Rattle.stage.specs.Turns.{IsActed, came_of, commands_of, shape_of}
+use Rattle.stage.proofs.Asking.{may_ask, next-handed}
 use Rattle.stage.proofs.Makings.{makes}
 use Rattle.stage.proofs.Seats.{turned-seated}
 
-pub asked-next : (commands : List Command) (k : ℕ) (P : List Step) (mind : Knows)
+asked-next : (commands : List Command) (k : ℕ) (P : List Step) (mind : Knows)
     (me : Option Inc) → Playing commands k P mind me
     → asked_by commands mind me ≡ next_ask commands k P
 asked-next commands k P mind me playing = rw (playing.known, playing.mine) refl
 
-pub handed-place : (commands : List Command) (mind : Knows) (me : Option Inc)
-    → (handed commands mind me).place ≡ mind.place
-handed-place commands mind me = go (lends commands mind me)
-  where
-    go : (b : Bool) → (cond b (record mind { held = None; lent = true }) mind).place ≡ mind.place
-    go true = refl
-    go false = refl
-
-module _ (script : ScriptParts) (declared : IsScript script) (unlinked : script.links ≡ [])
-    (P : List Step) (k : ℕ) (above : 0 < k) (within : k ≤ length script.actors) (mind : Knows)
-    (me : Option Inc) (playing : Playing (commands_of script k) k P mind me) (ask : Ask)
+module _ (script : ScriptParts) (declared : IsScript script) (old : Layout)
+    (shape : old.shape ≡ shape_of script) (names : old.log.names ≡ script.names) (k : ℕ)
+    (above : 0 < k) (within : k ≤ length script.actors) (mind : Knows) (me : Option Inc)
+    (playing : Playing (commands_of script k) k old.log.steps mind me) (ask : Ask)
     (is : ask ≡ asked_by (commands_of script k) mind me) where
-  abbrev commands : List Command
-  commands = commands_of script k
-
-  pub ask-next : ask ≡ next_ask (commands_of script k) k P
-  ask-next = is ∙ asked-next commands k P mind me playing
+  ask-next : ask ≡ next_ask (commands_of script k) k old.log.steps
+  ask-next = is ∙ asked-next (commands_of script k) k old.log.steps mind me playing
 
   -- IT MAY ASK for what it asks
-  pub turn-asks : (fabric : Layout) → fabric.shape ≡ shape_of script
-      → fabric.log.names ≡ script.names
-      → MayAsk (length fabric.log.names.nodes) fabric.shape P (Actor k) ask
-  turn-asks fabric shape names =
-      rw (shape, names, ask-next) (may_ask script declared unlinked P k above within
-      playing.running)
+  pub turn-asks : MayAsk old (Actor k) ask
+  turn-asks =
+      subst (MayAsk old (Actor k)) (sym ask-next)
+      (may_ask script declared old shape names k above within playing.running)
+
+  -- WHAT IT MAKES
+  pub turn-moves : (new : Layout) (answer : StepAnswer) (turn : Turn)
+      → IsStepped old new (Actor k) ask answer → turn ≡ came_of answer
+      → IsActed script k old new turn
+  turn-moves new answer turn stepped came = record {
+    answer = answer;
+    stepped = subst (λ (a : Ask). IsStepped old new (Actor k) a answer) ask-next stepped;
+    came = came;
+  }
 
   -- WHAT IT LEAVES
-  pub turn-seated : (answer : StepAnswer) → answer ≡ answer_to (shape_of script) P (Actor k) ask
-      → (now : List Step) → now ≡ steps_after (shape_of script) P (Actor k) ask
-      → (player : Player) → player.mind ≡ told (commands_of script k)
-      (handed (commands_of script k) mind me) answer → player.me ≡ endpoint_after me answer
-      → IsSeated script now k player
-  turn-seated answer answered now steps player mind_is me_is =
-      let may = may_ask script declared unlinked P k above within playing.running in
-      let handed_is : is_some ask.hand ≡ hands_over ask.event = rw ask-next may.handed in
-      let made : Makes P k ask answer now =
-      rw (answered, steps) (makes (shape_of script) P k ask handed_is) in
-      let asked : Makes P k (asked_by commands mind me) answer now =
-      subst (λ (a : Ask). Makes P k a answer now) is made in
-      let over : Bool = is_end_event (asked_by commands mind me).event in
-      turned-seated script now k player over
-      (rw (mind_is, me_is) (turned commands k P now mind me answer over playing refl asked))
+  pub turn-seated : (new : Layout) (answer : StepAnswer)
+      → IsStepped old new (Actor k) ask answer → (player : Player)
+      → player.mind ≡ told (commands_of script k) (handed (commands_of script k) mind me) answer
+      → player.me ≡ endpoint_after me answer → IsSeated script new.log.steps k player
+  turn-seated new answer stepped player mind_is me_is =
+      let P : List Step = old.log.steps in
+      let commands : List Command = commands_of script k in
+      let handed_is : is_some ask.hand ≡ hands_over ask.event =
+      subst (λ (a : Ask). is_some a.hand ≡ hands_over a.event) (sym ask-next)
+      (next-handed script declared P k) in
+      let made : Makes P k (asked_by commands mind me) answer new.log.steps =
+      subst (λ (a : Ask). Makes P k a answer new.log.steps) is
+      (makes old new k ask answer handed_is stepped) in
+      let over = is_end_event (asked_by commands mind me).event in
+      turned-seated script new.log.steps k player over
+      (rw (mind_is, me_is) (turned commands k P new.log.steps mind me answer over playing refl made))

@@ -1,97 +1,96 @@
 -- Turns make a round, and rounds a whole run.
-use Rattle.std.proofs.Common.{◌≡◌, ℕ, suc, ◌+◌, ◌<◌, Bool, true, false, List, [], ◌∷◌, length, map}
-use Rattle.std.proofs.Common.{sym, ◌∙◌, ap, subst, inl, inr, arith}
-use Rattle.std.specs.List.{list_all, AllByRecursion}
-use Rattle.std.proofs.lemmas.Bool.{and_parts, cases_lt}
+use Rattle.std.proofs.Common.{◌≡◌, ℕ, zero, suc, ◌+◌, ◌<◌, ◌≤◌, Bool, true, false, List}
+use Rattle.std.proofs.Common.{length, Result, Ok, Err, IfErr, refl, sym, ◌∙◌, ap, subst, inl, inr}
+use Rattle.std.proofs.Common.{arith}
+use Rattle.std.specs.Result.{IsErrAnd}
+use Rattle.std.specs.Prelude.{not}
+use Rattle.std.proofs.lemmas.Bool.{and_parts, cases_order, true≢false}
 use Rattle.std.proofs.lemmas.List.{length-map}
-use Rattle.std.specs.Prelude.{◌&&◌, nat_le}
-use Rattle.linx_base.specs.declared.frame.LinkDecl.{LinkDecl}
-use Rattle.linx_base.specs.declared.identity.NodeNo.{NodeNo}
-use Rattle.linx_base.specs.declared.name.Names.{Names}
+use Rattle.linx_base.specs.declared.identity.LinkNo.{LinkNo}
 use Rattle.journal.specs.declared.effect.Step.{Step}
-use Rattle.script_lang.specs.declared.actor_script.ActorScript.{ActorScript}
-use Rattle.script_lang.specs.Fits.{fits_actor, fits_command, is_node, IsScript}
+use Rattle.journal.specs.History.{has_ended}
+use Rattle.journal.specs.Shapes.{Shape}
+use Rattle.link_laws.specs.Ends.{IsLinkOf}
+use Rattle.run_trunks.specs.States.{trunks_of}
 use Rattle.script_lang.specs.Parts.{ScriptParts}
-use Rattle.fabric.specs.Remains.{IsLaidOut, IsNode}
-use Rattle.stage.specs.Plays.{Play}
-use Rattle.stage.specs.Turns.{all_is_over, round_of, rounds_of, shape_of, turn_of, turns_of}
-use Rattle.stage.proofs.Asking.{within_bounds}
+use Rattle.trunk_moves.specs.Trunks.{RunTrunks}
+use Rattle.fabric.specs.Links.{is_still, none_stirs, stirs}
+use Rattle.fabric.specs.Machine.{all_have_ended}
+use Rattle.fabric.specs.Run.{Layout}
+use Rattle.stage.specs.Turns.{AreRounds, AreTurns, IsRound, IsTurnOf, is_over, shape_of}
+use Rattle.stage.proofs.Rounds.{ended-each}
 
 -- one turn more
-pub turns-more : (start before now : Play) (n : ℕ)
-    → before ≡ record start { log = record start.log { steps = before.log.steps } }
-    → before.log.steps ≡ turns_of start.script n start.log.steps
-    → now.log.steps ≡ turn_of before.script (n + 1) before.log.steps
-    → now.log.steps ≡ turns_of start.script (n + 1) start.log.steps
-turns-more start before now n fixed turns turned =
+pub turns-more : (script : ScriptParts) (start before now : Layout) (n : ℕ)
+    → AreTurns script n start before → IsTurnOf script (n + 1) before now
+    → AreTurns script (n + 1) start now
+turns-more script start before now n turns turn =
     let next : n + 1 ≡ suc n = omega arith in
-    turned
-    ∙ ap (λ (s : ScriptParts). turn_of s (n + 1) before.log.steps)
-    (ap (λ (p : Play). p.script) fixed)
-    ∙ ap (turn_of start.script (n + 1)) turns
-    ∙ ap (λ (k : ℕ). turn_of start.script k (turns_of start.script n start.log.steps)) next
-    ∙ sym (ap (λ (k : ℕ). turns_of start.script k start.log.steps) next)
+    subst (λ (m : ℕ). AreTurns script m start now) (sym next)
+    (before, (turns, subst (λ (m : ℕ). IsTurnOf script m before now) next turn))
 
-pub fixed-more : (start before now : Play)
-    → before ≡ record start { log = record start.log { steps = before.log.steps } }
-    → now ≡ record before { log = record before.log { steps = now.log.steps } }
-    → now ≡ record start { log = record start.log { steps = now.log.steps } }
-fixed-more start before now fixed further =
-    further ∙ ap (λ (p : Play). record p { log = record p.log { steps = now.log.steps } }) fixed
+-- so many rounds, and one more
+abbrev pub HaveRounds : ScriptParts → Layout → Layout → Type 0
+HaveRounds script start now = (n : ℕ) × AreRounds script n start now
 
--- so many rounds, with all over before none of them
-abbrev pub AreRounds : ScriptParts → List Step → Type 0
-AreRounds script P =
-    (n : ℕ) × (P ≡ rounds_of script n)
-    × ((m : ℕ) → m < n → all_is_over script (rounds_of script m) ≡ false)
+pub rounds-more : (script : ScriptParts) (start before now : Layout)
+    → HaveRounds script start before → is_over before ≡ false → IsRound script before now
+    → HaveRounds script start now
+rounds-more script start before now rounds running round =
+    (suc rounds.0, (before, (rounds.1, (running, round))))
 
--- one round more
-pub rounds-more : (start before now : Play)
-    → before ≡ record start { log = record start.log { steps = before.log.steps } }
-    → AreRounds start.script before.log.steps
-    → now.log.steps ≡ round_of before.script before.log.steps
-    → all_is_over before.script before.log.steps ≡ false
-    → AreRounds start.script now.log.steps
-rounds-more start before now fixed rounds made running =
-    let script : before.script ≡ start.script = ap (λ (p : Play). p.script) fixed in
-    let last : all_is_over start.script (rounds_of start.script rounds.0) ≡ false =
-    sym (ap (λ (s : ScriptParts). all_is_over s before.log.steps) script
-    ∙ ap (all_is_over start.script) rounds.1) ∙ running in (
-      suc rounds.0,
-      made ∙ ap (λ (s : ScriptParts). round_of s before.log.steps) script
-          ∙ ap (round_of start.script) rounds.1,
-      λ m less. elim (cases_lt m rounds.0) [
-        | inl under ↦ rounds.2 m under
-        | inr over ↦
-            let same : rounds.0 ≡ m = omega arith in
-            subst (λ (k : ℕ). all_is_over start.script (rounds_of start.script k) ≡ false) same last
-      ],
-    )
+-- WHERE A MAKER HAS A TURN TO TAKE not all is over
+module _ (script : ScriptParts) (f : Layout) (shape : f.shape ≡ shape_of script) where
+  over_parts : is_over f ≡ true → (all_have_ended f.shape f.log.steps ≡ true)
+      × (is_still f.shape f.log.steps (trunks_of f.trunks) ≡ true)
+  over_parts over =
+      and_parts (all_have_ended f.shape f.log.steps)
+      (is_still f.shape f.log.steps (trunks_of f.trunks)) over
 
--- A SCRIPT without links can be laid out
-placed : (s : ScriptParts) (actors : List ActorScript) → list_all (fits_actor s) actors ≡ true
-    → AllByRecursion (IsNode (length s.names.nodes)) (map (λ a. a.node) actors)
-placed s [] all = tt
-placed s (a ∷ rest) all =
-    let parts = and_parts (fits_actor s a) (list_all (fits_actor s) rest) all in
-    let sized : Bool = is_node s a.node && nat_le (length a.commands) 20000 in
-    let both = and_parts sized (list_all (fits_command s a.node) a.commands) parts.0 in
-    let on = and_parts (is_node s a.node) (nat_le (length a.commands) 20000) both.0 in
-    let bounds = within_bounds 1 (length s.names.nodes) a.node.0 on.0 in
-    ((omega arith, bounds.1), placed s rest parts.1)
+  not_over : (is_over f ≡ true → ⊥) → is_over f ≡ false
+  not_over never = go (is_over f) refl
+    where
+      go : (b : Bool) → is_over f ≡ b → is_over f ≡ false
+      go true is = absurd (never is)
+      go false is = is
 
-pub laid_out : (s : ScriptParts) → IsScript s → s.links ≡ []
-    → IsLaidOut (length s.names.nodes) (shape_of s)
-laid_out s script unlinked = record {
-  few = let few = script.actors in
-      omega (arith, few, length-map s.actors (λ a. a.node));
-  placed = placed s s.actors script.each_actor;
-  unlinked = unlinked;
-}
+  pub running-not_over : (k : ℕ) → 0 < k → k ≤ length script.actors
+      → has_ended f.log.steps k ≡ false → is_over f ≡ false
+  running-not_over k above within running =
+      not_over (λ over.
+      let count : length f.shape.actors ≡ length script.actors =
+      ap (λ (s : Shape). length s.actors) shape ∙ length-map script.actors (λ a. a.node) in
+      true≢false (sym (ended-each f.log.steps (length f.shape.actors) k (over_parts over).0 above
+      (omega arith)) ∙ running))
 
-pub laid_out-as : (s : ScriptParts) → IsScript s → s.links ≡ [] → (names : Names)
-    → names ≡ s.names → (links : List LinkDecl) → links ≡ s.links → (actors : List NodeNo)
-    → actors ≡ map (λ a. a.node) s.actors
-    → IsLaidOut (length names.nodes) (record { links = links; actors = actors })
-laid_out-as s script unlinked names names_is links links_is actors actors_is =
-    rw (names_is, links_is, actors_is) (laid_out s script unlinked)
+  still_each : (P : List Step) (trunks : RunTrunks) (n l : ℕ) → none_stirs P trunks n ≡ true
+      → 0 < l → l ≤ n → stirs P trunks l ≡ false
+  still_each P trunks zero l none above within = absurd (omega arith)
+  still_each P trunks (suc n) l none above within =
+      let parts = and_parts (none_stirs P trunks n) (not (stirs P trunks (suc n))) none in
+      elim (cases_order l (suc n)) [
+        | inl same ↦ subst (λ (x : ℕ). stirs P trunks x ≡ false) (sym same)
+            (not_true (stirs P trunks (suc n)) parts.1)
+        | inr (inl less) ↦ still_each P trunks n l parts.0 above (omega arith)
+        | inr (inr more) ↦ absurd (omega arith)
+      ]
+    where
+      not_true : (b : Bool) → not b ≡ true → b ≡ false
+      not_true true is = absurd (true≢false (sym is))
+      not_true false is = refl
+
+  pub stirring-not_over : (l : LinkNo) → IsLinkOf (shape_of script) l
+      → stirs f.log.steps (trunks_of f.trunks) l.0 ≡ true → is_over f ≡ false
+  stirring-not_over l of_shape moves =
+      not_over (λ over.
+      let count : length f.shape.links ≡ length script.links =
+      ap (λ (s : Shape). length s.links) shape in
+      let within : l.0 ≤ length script.links = of_shape.1 in
+      true≢false (sym moves ∙ still_each f.log.steps (trunks_of f.trunks) (length f.shape.links) l.0
+      (over_parts over).1 of_shape.0 (omega arith)))
+
+-- a refusal that is handed on says what was said of it
+pub if_err-handed : {T E : Type 0} (r : Result T E) (e : E) (Says : E → Type 0)
+    → IsErrAnd r (λ x. x ≡ e) → Says e → IfErr r Says
+if_err-handed (Ok x) e Says is says = tt
+if_err-handed (Err x) e Says is says = subst Says (sym is) says

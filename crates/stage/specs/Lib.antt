@@ -1,3 +1,4 @@
+pub mod Pumps
 pub mod Turns
 pub mod Plays
 pub mod Seats

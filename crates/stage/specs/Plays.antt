@@ -1,24 +1,24 @@
--- What holds of a play, and what its calls answer.
-use Rattle.std.specs.Prelude.{ℕ, ◌≡◌, ◌≤◌, ◌<◌, Bool, true, false, List, length, if◌then◌else◌}
-use Rattle.journal.specs.declared.by.By.TheVariants.{Actor}
+-- What holds of a play.
+use Rattle.std.specs.Prelude.{ℕ, ◌≡◌, ◌≤◌, ◌<◌, List, [], ◌∷◌, Some, length}
 use Rattle.journal.specs.declared.effect.Step.{Step}
-use Rattle.journal.specs.History.{has_ended}
-use Rattle.journal.specs.Laws.{IsLegal}
-use Rattle.journal.specs.Logs.{Log}
-use Rattle.journal.specs.Promises.{KeepsPromises}
-use Rattle.actor_run.specs.Following.{Follows, FollowsWhole, next_ask}
-use Rattle.fabric.specs.Machine.{answer_to}
-use Rattle.node_kernel.specs.declared.answers.StepAnswer.{StepAnswer}
-use Rattle.node_kernel.specs.Answers.{is_not_yet}
+use Rattle.journal.specs.declared.event.Event.TheVariants as asks
+use Rattle.journal.specs.declared.head.Head.{Head}
+use Rattle.journal.specs.declared.head.Head.TheVariants.{Tick, Wire}
+use Rattle.link_laws.specs.Laws.{IsLegal}
+use Rattle.link_laws.specs.Runs.{KeepsPromises}
+use Rattle.actor_run.specs.Following.{Follows, FollowsWhole}
+use Rattle.run_trunks.specs.States.{trunks_of}
 use Rattle.script_lang.specs.Parts.{ScriptParts}
-use Rattle.stage.specs.declared.stage.Turn.{Turn}
-use Rattle.stage.specs.declared.stage.Turn.TheVariants.{Moved, Waits, Ended}
+use Rattle.trunk_moves.specs.Steps.{IsTrunkStep}
+use Rattle.trunk_moves.specs.Trunks.{AllNew, RunTrunks, links_of}
+use Rattle.fabric.specs.Run.{IsReached, Layout}
+use Rattle.stage.specs.Pumps.{pump_event}
 use Rattle.stage.specs.Turns.{commands_of, shape_of}
 
--- what a stage is seen as: the script, and the log so far
+-- what a stage is seen as: the script, and the run so far
 pub record Play : Type 0 where
   pub script : ScriptParts
-  pub log : Log
+  pub run : Layout
 
 -- each actor's steps are the first of its commands
 abbrev pub AllFollow : ScriptParts → List Step → Type 0
@@ -30,21 +30,31 @@ abbrev pub AllFollowWhole : ScriptParts → List Step → Type 0
 AllFollowWhole script P =
     (k : ℕ) → 0 < k → k ≤ length script.actors → FollowsWhole (commands_of script k) k P
 
--- A journal of the script so far: it has its names, is legal, keeps what is promised, and each
--- actor follows its commands
-pub record IsSoFar (script : ScriptParts) (log : Log) : Type 0 where
-  pub names : log.names ≡ script.names
-  pub legal : IsLegal (shape_of script) log.steps
-  pub follows : AllFollow script log.steps
-  pub promises : KeepsPromises (shape_of script) log.steps
+-- a step of a packet or of a side's clock is the one that the pump's rule asks for
+abbrev pub IsPlannedHead : ScriptParts → List Step → RunTrunks → Head → Type 0
+IsPlannedHead script P trunks (Wire l from verdict) =
+    pump_event script P trunks l ≡ Some (asks.Wire l from verdict)
+IsPlannedHead script P trunks (Tick l side) =
+    pump_event script P trunks l ≡ Some (asks.Tick l side)
+IsPlannedHead script P trunks head = Unit {0}
 
--- what came of a turn, by whether the actor had ended, and by the answer
-abbrev pub came_of : Bool → StepAnswer → Turn
-came_of true answer = Ended
-came_of false answer = if is_not_yet answer then Waits else Moved
+-- A RUN AS PLANNED: from new trunks on, each step makes of them what its kind makes, and each step
+-- of a packet or of a clock is the one that the pump's rule asks for before it
+abbrev pub IsPlanned : ScriptParts → List Step → RunTrunks → Type 0
+IsPlanned script [] trunks = AllNew (shape_of script) trunks
+IsPlanned script (s ∷ P) after =
+    (before : RunTrunks)
+    × (IsPlanned script P before × (IsTrunkStep (shape_of script) P before s after
+    × IsPlannedHead script P before s.head))
 
--- what comes of actor k's turn after P
-abbrev pub turn_answer : ScriptParts → ℕ → List Step → Turn
-turn_answer script k P =
-    came_of (has_ended P k)
-    (answer_to (shape_of script) P (Actor k) (next_ask (commands_of script k) k P))
+-- A RUN OF THE SCRIPT SO FAR: it has its names, is legal by the laws of nodes and links, keeps what
+-- is promised of such runs, each actor follows its commands, and the links do as is planned
+pub record IsSoFar (script : ScriptParts) (run : Layout) : Type 0 where
+  pub shape : run.shape ≡ shape_of script
+  pub names : run.log.names ≡ script.names
+  pub legal : IsLegal (shape_of script) run.log.steps
+  pub promises :
+      KeepsPromises (shape_of script) run.log.steps (links_of (trunks_of run.trunks))
+  pub reached : IsReached (shape_of script) run.log.steps (trunks_of run.trunks)
+  pub follows : AllFollow script run.log.steps
+  pub planned : IsPlanned script run.log.steps (trunks_of run.trunks)

@@ -1,5 +1,5 @@
 -- What a stage keeps of its actors between two turns.
-use Rattle.std.specs.Prelude.{ℕ, suc, ◌≡◌, ◌≤◌, List, length, map, slice_get, Some, None, []}
+use Rattle.std.specs.Prelude.{ℕ, suc, ◌≡◌, ◌≤◌, List, length, map, slice_get, Some, None}
 use Rattle.journal.specs.declared.effect.Step.{Step}
 use Rattle.journal.specs.History.{has_ended}
 use Rattle.script_lang.specs.declared.actor_script.ActorScript.{ActorScript}
@@ -7,8 +7,10 @@ use Rattle.script_lang.specs.Fits.{IsScript}
 use Rattle.script_lang.specs.Parts.{ScriptParts}
 use Rattle.actor_run.specs.Following.{IsTurned}
 use Rattle.actor_run.specs.Knowing.{knows_nothing}
-use Rattle.fabric.specs.Remains.{Layout}
+use Rattle.run_trunks.specs.States.{trunks_of}
+use Rattle.fabric.specs.Run.{Layout}
 use Rattle.stage.specs.declared.player.Player.{Player}
+use Rattle.stage.specs.Plays.{IsPlanned}
 use Rattle.stage.specs.Turns.{commands_of, shape_of}
 
 -- the players of actors before their first turns
@@ -26,13 +28,13 @@ AreSeated script P players =
     (n : ℕ) → (player : Player) → slice_get players n ≡ Some player
     → IsSeated script P (suc n) player
 
--- What a stage keeps: its script is one without links, its fabric is laid out as the script says,
--- has its names and no more steps than a journal takes, and each actor has its player
+-- What a stage keeps: its fabric is laid out as the script says, has its names and no more steps
+-- than a journal takes, each actor has its player, and the links do as is planned
 pub record IsStaged (script : ScriptParts) (fabric : Layout) (players : List Player) : Type 0 where
   pub declared : IsScript script
-  pub unlinked : script.links ≡ []
   pub shape : fabric.shape ≡ shape_of script
   pub names : fabric.log.names ≡ script.names
   pub few : length fabric.log.steps ≤ 200000
   pub count : length players ≡ length script.actors
   pub seated : AreSeated script fabric.log.steps players
+  pub planned : IsPlanned script fabric.log.steps (trunks_of fabric.trunks)

@@ -1,15 +1,26 @@
--- The fixed order: turns and rounds as functions of a script and a history.
-use Rattle.std.specs.Prelude.{ℕ, zero, suc, ◌≡◌, ◌<◌, Bool, true, false, List, [], length, map}
-use Rattle.std.specs.Prelude.{slice_get, Option, Some, None, if◌then◌else◌}
-use Rattle.journal.specs.declared.by.By.TheVariants.{Actor}
-use Rattle.journal.specs.declared.effect.Step.{Step}
+-- The fixed order: turns, rounds and whole runs, each as what it makes of a run's state.
+use Rattle.std.specs.Prelude.{ℕ, zero, suc, ◌+◌, ◌-◌, ◌≡◌, Bool, true, false, ◌&&◌, List, []}
+use Rattle.std.specs.Prelude.{length, map, nat_le, slice_get, Option, Some, None, if◌then◌else◌}
+use Rattle.linx_base.specs.declared.identity.LinkNo.{LinkNo}
+use Rattle.journal.specs.declared.by.By.TheVariants.{Actor, Pump}
+use Rattle.journal.specs.declared.event.Event.{Event}
 use Rattle.journal.specs.History.{has_ended}
 use Rattle.journal.specs.Shapes.{Shape}
+use Rattle.node_kernel.specs.Answers.{is_not_yet}
+use Rattle.node_kernel.specs.declared.answers.StepAnswer.{StepAnswer}
 use Rattle.script_words.specs.declared.command.Command.{Command}
 use Rattle.script_lang.specs.declared.actor_script.ActorScript.{ActorScript}
 use Rattle.script_lang.specs.Parts.{ScriptParts}
 use Rattle.actor_run.specs.Following.{next_ask}
-use Rattle.fabric.specs.Machine.{all_have_ended, steps_after}
+use Rattle.run_trunks.specs.States.{new_trunks, trunks_of}
+use Rattle.fabric.specs.Links.{is_still}
+use Rattle.fabric.specs.Machine.{all_have_ended}
+use Rattle.fabric.specs.Run.{IsStepped, Layout}
+use Rattle.stage.specs.declared.stage.Pump as pumps
+use Rattle.stage.specs.declared.stage.Pump.TheVariants as pumped
+use Rattle.stage.specs.declared.stage.Turn.{Turn}
+use Rattle.stage.specs.declared.stage.Turn.TheVariants.{Moved, Waits, Ended}
+use Rattle.stage.specs.Pumps.{pump_event}
 
 -- what a script is run on
 abbrev pub shape_of : ScriptParts → Shape
@@ -24,34 +35,95 @@ abbrev pub commands_of : ScriptParts → ℕ → List Command
 commands_of script zero = []
 commands_of script (suc k) = commands_in (slice_get script.actors k)
 
--- A TURN of an actor, which makes the event that its script asks for next, unless it has ended
-abbrev pub turn_of : ScriptParts → ℕ → List Step → List Step
-turn_of script k P =
-    if has_ended P k
-    then P
-    else steps_after (shape_of script) P (Actor k) (next_ask (commands_of script k) k P)
+-- ---- a turn of an actor
 
--- the turns of the first so many actors, by number
-abbrev pub turns_of : ScriptParts → ℕ → List Step → List Step
-turns_of script zero P = P
-turns_of script (suc n) P = turn_of script (suc n) (turns_of script n P)
+-- what came of a turn that was answered so
+abbrev pub came_of : StepAnswer → Turn
+came_of answer = if is_not_yet answer then Waits else Moved
 
--- A ROUND: each actor takes its turn
-abbrev pub round_of : ScriptParts → List Step → List Step
-round_of script P = turns_of script (length script.actors) P
+-- actor k makes what its script asks for next, and this comes of it
+pub record IsActed (script : ScriptParts) (k : ℕ) (old new : Layout) (turn : Turn) : Type 0 where
+  pub answer : StepAnswer
+  pub stepped :
+      IsStepped old new (Actor k) (next_ask (commands_of script k) k old.log.steps) answer
+  pub came : turn ≡ came_of answer
 
--- the history after so many rounds
-abbrev pub rounds_of : ScriptParts → ℕ → List Step
-rounds_of script zero = []
-rounds_of script (suc n) = round_of script (rounds_of script n)
+-- a turn of an actor, by whether it had ended
+abbrev pub IsTurnIf : Bool → ScriptParts → ℕ → Layout → Layout → Turn → Type 0
+IsTurnIf true script k old new turn = (new ≡ old) × (turn ≡ Ended)
+IsTurnIf false script k old new turn = IsActed script k old new turn
 
--- all is over: every actor has ended
-abbrev pub all_is_over : ScriptParts → List Step → Bool
-all_is_over script P = all_have_ended (shape_of script) P
+-- A TURN of actor k, which makes what its script asks for next, unless it had ended
+abbrev pub IsTurn : ScriptParts → ℕ → Layout → Layout → Turn → Type 0
+IsTurn script k old new turn = IsTurnIf (has_ended old.log.steps k) script k old new turn
 
--- the whole run in the fixed order: the history after the first round behind which all is over
-pub record IsWhole (script : ScriptParts) (P : List Step) : Type 0 where
+-- ---- a turn of a link
+
+-- the pump makes the event that it asks for
+pub record IsPumped (l : LinkNo) (event : Event) (old new : Layout) (pump : pumps.Pump)
+    : Type 0 where
+  pub answer : StepAnswer
+  pub stepped : IsStepped old new (Pump l) (record { event = event; hand = None }) answer
+  pub came : pump ≡ pumped.Moved
+
+-- a turn of a link, by what its pump asks for
+abbrev pub IsPumpIf : Option Event → LinkNo → Layout → Layout → pumps.Pump → Type 0
+IsPumpIf None l old new pump = (new ≡ old) × (pump ≡ pumped.NoWork)
+IsPumpIf (Some event) l old new pump = IsPumped l event old new pump
+
+-- A TURN of a link, whose pump makes what it asks for, if it asks for anything
+abbrev pub IsPump : ScriptParts → LinkNo → Layout → Layout → pumps.Pump → Type 0
+IsPump script l old new pump =
+    IsPumpIf (pump_event script old.log.steps (trunks_of old.trunks) l) l old new pump
+
+-- ---- rounds
+
+-- a turn of the maker of this number, by whether it is an actor's
+abbrev pub IsTurnBy : Bool → ScriptParts → ℕ → Layout → Layout → Type 0
+IsTurnBy true script n old new = (turn : Turn) × IsTurn script n old new turn
+IsTurnBy false script n old new =
+    (pump : pumps.Pump)
+    × IsPump script (record { 0 = n - length script.actors }) old new pump
+
+-- a turn of maker n: the numbers of the links come behind those of the actors
+abbrev pub IsTurnOf : ScriptParts → ℕ → Layout → Layout → Type 0
+IsTurnOf script n old new = IsTurnBy (nat_le n (length script.actors)) script n old new
+
+-- the turns of the first so many makers, by number
+abbrev pub AreTurns : ScriptParts → ℕ → Layout → Layout → Type 0
+AreTurns script zero old new = new ≡ old
+AreTurns script (suc n) old new =
+    (between : Layout) × (AreTurns script n old between × IsTurnOf script (suc n) between new)
+
+-- the makers of a script: its actors and its links
+abbrev pub makers : ScriptParts → ℕ
+makers script = length script.actors + length script.links
+
+-- A ROUND: each maker takes its turn
+abbrev pub IsRound : ScriptParts → Layout → Layout → Type 0
+IsRound script old new = AreTurns script (makers script) old new
+
+-- all is over: every actor has ended, and no link stirs
+abbrev pub is_over : Layout → Bool
+is_over f = all_have_ended f.shape f.log.steps && is_still f.shape f.log.steps (trunks_of f.trunks)
+
+-- so many rounds, none of them after all was over
+abbrev pub AreRounds : ScriptParts → ℕ → Layout → Layout → Type 0
+AreRounds script zero start new = new ≡ start
+AreRounds script (suc n) start new =
+    (before : Layout)
+    × (AreRounds script n start before × ((is_over before ≡ false) × IsRound script before new))
+
+-- before the first turn
+abbrev pub first_layout : ScriptParts → Layout
+first_layout script = record {
+  shape = shape_of script;
+  log = record { names = script.names; steps = [] };
+  trunks = new_trunks script.links;
+}
+
+-- A WHOLE RUN in the fixed order: from the first state on so many rounds, until all is over
+pub record IsWhole (script : ScriptParts) (f : Layout) : Type 0 where
   pub rounds : ℕ
-  pub made : P ≡ rounds_of script rounds
-  pub over : all_is_over script P ≡ true
-  pub first : (n : ℕ) → n < rounds → all_is_over script (rounds_of script n) ≡ false
+  pub made : AreRounds script rounds (first_layout script) f
+  pub over : is_over f ≡ true

@@ -1,15 +1,18 @@
-//! The stage: the actors of a script in the fixed order. A round gives each actor that hasn't ended
-//! one turn, by number, and rounds go on until all have ended. Whatever happens on the way, the
-//! journal is that of these turns so far: it is legal, and each actor's steps follow its commands.
-//! A whole run is one history, a function of the script alone, and it always comes to its end: a
-//! round in which an actor hasn't ended makes a step, and a journal takes no more than 200,000.
+//! The stage: the actors and the links of a script in the fixed order. A round gives each actor
+//! that hasn't ended one turn, by number, and then each link one turn of its pump, by number; rounds
+//! go on until all actors have ended and no link stirs. Whatever happens on the way, the journal is
+//! that of these turns so far: it is legal, each actor's steps follow its commands, and each packet
+//! meets the verdict that is planned for it. A whole run always comes to its end: a round after
+//! which not all is over made a step, and a journal takes no more than 200,000.
 #![tactic(auto)]
 
 mod player;
+mod pump;
 mod stage;
 
 pub use player::Player;
-pub use stage::{Stage, Turn};
+pub use pump::pump_event;
+pub use stage::{Pump, Stage, Turn};
 
 #[cfg(test)]
 mod tests;

@@ -1,12 +1,10 @@
-ghost use Rattle.std.specs.Prelude.{◌≡◌, ◌<◌, ◌≤◌, true, false, [], length, IfOk, IfErr, OnOk};
-ghost use Rattle.std.specs.Prelude.{OnErr, IsErr};
+ghost use Rattle.std.specs.Prelude.{◌≡◌, ◌<◌, ◌≤◌, true, length, IfOk, IfErr, OnOk, OnErr, IsErr};
 ghost use Rattle.journal.specs.Logs.{is_full};
 ghost use Rattle.actor_run.specs.Asking.{AreRunnable};
-ghost use Rattle.actor_run.specs.Following.{next_ask, Playing};
-ghost use Rattle.fabric.specs.Machine.{answer_to, steps_after};
+ghost use Rattle.actor_run.specs.Following.{Playing};
+ghost use Rattle.fabric.specs.Actings.{OnlyRuns};
 ghost use Rattle.script_lang.specs.Fits.{IsScript};
-ghost use Rattle.stage.specs.Plays.{came_of};
-ghost use Rattle.stage.specs.Turns.{commands_of, shape_of};
+ghost use Rattle.stage.specs.Turns.{IsActed, came_of, commands_of, shape_of};
 ghost use Rattle.stage.specs.Seats.{IsSeated};
 
 use crate::stage::Turn;
@@ -27,7 +25,7 @@ pub struct Player {
 
 /// What came of a turn that was answered so.
 fn came_of(answer: &StepAnswer) -> Turn
-    ensures { result ≡ came_of false answer.now }
+    ensures { result ≡ came_of answer.now }
 {
     match answer {
         StepAnswer::NotYet => Turn::Waits,
@@ -56,21 +54,14 @@ pub(crate) fn turn_of(
 ) -> Result<Turn, StepStop>
     requires above { 0 < actor }
     requires within { actor ≤ length script.now.actors }
-    requires unlinked { script.now.links ≡ [] }
     requires shape { fabric.old.shape ≡ shape_of script.now }
     requires names { fabric.old.log.names ≡ script.now.names }
     requires playing { Playing (commands_of script.now actor) actor fabric.old.log.steps
         player.old.mind player.old.me }
-    ensures came { IfOk result (λ turn. turn ≡ came_of false
-        (answer_to (shape_of script.now) fabric.old.log.steps (By.Actor actor)
-        (next_ask (commands_of script.now actor) actor fabric.old.log.steps))) }
-    ensures ok { OnOk result (fabric.new.log.steps ≡
-        steps_after (shape_of script.now) fabric.old.log.steps (By.Actor actor)
-        (next_ask (commands_of script.now actor) actor fabric.old.log.steps)) }
+    ensures ok { IfOk result (IsActed script.now actor fabric.old fabric.new) }
     ensures seated { OnOk result
         (IsSeated script.now fabric.new.log.steps actor player.new) }
-    ensures fixed { fabric.new ≡
-        record fabric.old { log = record fabric.old.log { steps = fabric.new.log.steps } } }
+    ensures fixed { OnlyRuns fabric.old fabric.new }
     ensures full { is_full fabric.old.log.steps ≡ true → IsErr result }
     ensures full_only { IfErr result (λ stop.
         stop.cause ≡ StopCause.JournalFull → is_full fabric.old.log.steps ≡ true) }

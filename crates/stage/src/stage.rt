@@ -2,20 +2,26 @@ ghost use Rattle.std.specs.Prelude.{◌≡◌, ℕ, ◌<◌, ◌≤◌, true, fa
 ghost use Rattle.std.specs.Prelude.{OnOk, OnErr, IsErr};
 ghost use Rattle.journal.specs.Logs.{is_full};
 ghost use Rattle.journal.specs.History.{has_ended};
-ghost use Rattle.stage.specs.Plays.{turn_answer, AllFollowWhole, IsSoFar};
+ghost use Rattle.link_laws.specs.Ends.{IsLinkOf};
+ghost use Rattle.run_trunks.specs.States.{trunks_of};
+ghost use Rattle.fabric.specs.Links.{stirs};
+ghost use Rattle.fabric.specs.Run.{Layout};
+ghost use Rattle.stage.specs.Plays.{AllFollowWhole, IsSoFar};
 ghost use Rattle.stage.specs.Seats.{unstarted};
-ghost use Rattle.stage.specs.Turns.{all_is_over, round_of, turn_of, turns_of, IsWhole};
+ghost use Rattle.stage.specs.Turns.{AreTurns, IsPump, IsRound, IsTurn, IsTurnOf, IsWhole};
+ghost use Rattle.stage.specs.Turns.{first_layout, is_over, makers, shape_of};
 
 use crate::player::{Player, turn_of};
+use crate::pump::pump_event;
 use actor_run::Mind;
 use fabric::{Fabric, StepStop, StopCause};
-use journal::Journal;
-use linx_base::{NoMemory, NodeNo, TryCopy};
+use journal::{By, Journal};
+use linx_base::{LinkNo, NoMemory, NodeNo, TryCopy};
 use script_lang::{ActorScript, Script};
 use std::alloc::Global;
 use std::marker::Model;
 
-/// What came of a turn.
+/// What came of an actor's turn.
 #[derive(Clone, Copy, Debug, PartialEq, Eq, Hash)]
 pub enum Turn {
     /// It made a step of the actor's script, or its end.
@@ -26,7 +32,16 @@ pub enum Turn {
     Ended,
 }
 
-/// The actors of a script on a fabric. Contracts see the script, and the log so far.
+/// What came of a link's turn.
+#[derive(Clone, Copy, Debug, PartialEq, Eq, Hash)]
+pub enum Pump {
+    /// It made a step.
+    Moved,
+    /// The link doesn't stir.
+    NoWork,
+}
+
+/// The actors and the links of a script on a fabric. Contracts see the script, and the run so far.
 #[derive(Drop)]
 pub struct Stage {
     alloc: Global,
@@ -41,7 +56,7 @@ impl Model for Stage {
 
     ghost Value = { Play };
 
-    ghost view = { λ s. record { script = s.script; log = s.fabric.log } };
+    ghost view = { λ s. record { script = s.script; run = s.fabric } };
 
     ghost invariant = { λ s. IsStaged s.script s.fabric s.players.items };
 }
@@ -72,12 +87,11 @@ fn players_of(alloc: Global, actors: &[ActorScript]) -> Result<Vec<Player>, NoMe
 }
 
 impl Stage {
-    /// A stage on which nothing was done yet. As yet its script has no link.
+    /// A stage on which nothing was done yet.
     pub fn new(alloc: Global, script: Script) -> Result<Stage, NoMemory>
-        requires unlinked { script.links ≡ [] }
         ensures ok { IfOk result (λ stage. stage ≡ record {
           script = script;
-          log = record { names = script.names; steps = [] };
+          run = first_layout script;
         }) }
     {
         let nodes = nodes_of(alloc, script.actors())?;
@@ -92,10 +106,11 @@ impl Stage {
         })
     }
 
-    /// The journal so far, which is legal, and in which each actor follows its commands.
+    /// The journal so far, which is legal, in which each actor follows its commands and the links
+    /// do as is planned.
     pub fn journal(&self) -> &Journal
-        ensures log { result.now.log ≡ self.now.log }
-        ensures so_far { IsSoFar self.now.script self.now.log }
+        ensures log { result.now.log ≡ self.now.run.log }
+        ensures so_far { IsSoFar self.now.script self.now.run }
     {
         let _ = &self.players;
         self.fabric.journal()
@@ -103,19 +118,18 @@ impl Stage {
 
     /// The journal. Where all is over, each actor has followed its commands to their end.
     pub fn into_journal(self) -> Journal
-        ensures log { result.log ≡ self.log }
-        ensures so_far { IsSoFar self.script self.log }
-        ensures whole { all_is_over self.script self.log.steps ≡ true
-            → AllFollowWhole self.script self.log.steps }
+        ensures log { result.log ≡ self.run.log }
+        ensures so_far { IsSoFar self.script self.run }
+        ensures whole { is_over self.run ≡ true → AllFollowWhole self.script self.run.log.steps }
     {
         self.fabric.into_journal()
     }
 
-    /// Whether every actor has ended. Until then the next round makes a step.
+    /// Whether every actor has ended, and no link stirs. Until then the next round makes a step.
     pub fn is_over(&self) -> bool
-        ensures over { result ≡ all_is_over self.now.script self.now.log.steps }
-        ensures moves { result ≡ false → length self.now.log.steps
-            < length (round_of self.now.script self.now.log.steps) }
+        ensures over { result ≡ is_over self.now.run }
+        ensures moves { result ≡ false → (next : Layout) → IsRound self.now.script self.now.run next
+            → length self.now.run.log.steps < length next.log.steps }
     {
         let _ = &self.players;
         self.fabric.is_over()
@@ -125,18 +139,14 @@ impl Stage {
     pub fn turn(&mut self, actor: u32) -> Result<Turn, StepStop>
         requires above { 0 < actor }
         requires within { actor ≤ length self.old.script.actors }
-        ensures ok { OnOk result
-            (self.new.log.steps ≡ turn_of self.old.script actor self.old.log.steps) }
-        ensures came { IfOk result (λ turn.
-            turn ≡ turn_answer self.old.script actor self.old.log.steps) }
-        ensures fixed { self.new ≡
-            record self.old { log = record self.old.log { steps = self.new.log.steps } } }
-        ensures full { is_full self.old.log.steps ≡ true
-            → has_ended self.old.log.steps actor ≡ false → IsErr result }
+        ensures ok { IfOk result (IsTurn self.old.script actor self.old.run self.new.run) }
+        ensures script { self.new.script ≡ self.old.script }
+        ensures full { is_full self.old.run.log.steps ≡ true
+            → has_ended self.old.run.log.steps actor ≡ false → IsErr result }
         ensures full_only { IfErr result (λ stop. stop.cause ≡ StopCause.JournalFull
-            → (is_full self.old.log.steps ≡ true)
-            × (has_ended self.old.log.steps actor ≡ false)) }
-        ensures few { length self.new.log.steps ≤ 200000 }
+            → (is_full self.old.run.log.steps ≡ true)
+            × (has_ended self.old.run.log.steps actor ≡ false)) }
+        ensures few { length self.new.run.log.steps ≤ 200000 }
         ensures err { OnErr result (self.new ≡ self.old) }
     {
         if self.fabric.has_ended(actor) {
@@ -146,39 +156,74 @@ impl Stage {
         turn_of(self.alloc, &mut self.fabric, &self.script, actor, player)
     }
 
-    /// A round: each actor takes its turn, by number. It answers whether all is over. A stop leaves
-    /// what the turns before it made.
-    pub fn round(&mut self) -> Result<bool, StepStop>
-        ensures ok { OnOk result
-            (self.new.log.steps ≡ round_of self.old.script self.old.log.steps) }
-        ensures over { IfOk result (λ over. over ≡ all_is_over self.old.script self.new.log.steps) }
-        ensures fixed { self.new ≡
-            record self.old { log = record self.old.log { steps = self.new.log.steps } } }
-        ensures front { OnErr result ((n : ℕ) × (n < length self.old.script.actors)
-            × (self.new.log.steps ≡ turns_of self.old.script n self.old.log.steps)) }
+    /// One turn of a link's pump. A stop leaves it to be made, and nothing changed.
+    pub fn pump(&mut self, link: LinkNo) -> Result<Pump, StepStop>
+        requires declared { IsLinkOf (shape_of self.old.script) link }
+        ensures ok { IfOk result (IsPump self.old.script link self.old.run self.new.run) }
+        ensures script { self.new.script ≡ self.old.script }
+        ensures full { is_full self.old.run.log.steps ≡ true
+            → stirs self.old.run.log.steps (trunks_of self.old.run.trunks) link.0 ≡ true
+            → IsErr result }
         ensures full_only { IfErr result (λ stop. stop.cause ≡ StopCause.JournalFull
-            → (is_full self.new.log.steps ≡ true) × ((k : ℕ) × (0 < k)
-            × (k ≤ length self.old.script.actors)
-            × (has_ended self.new.log.steps k ≡ false))) }
-        ensures few { length self.new.log.steps ≤ 200000 }
+            → (is_full self.old.run.log.steps ≡ true)
+            × (stirs self.old.run.log.steps (trunks_of self.old.run.trunks) link.0 ≡ true)) }
+        ensures few { length self.new.run.log.steps ≤ 200000 }
+        ensures err { OnErr result (self.new ≡ self.old) }
     {
-        let count = self.script.actors().len() as u32;
+        let _ = &self.players;
+        let Some(event) = pump_event(&self.fabric, &self.script, link) else {
+            return Ok(Pump::NoWork);
+        };
+        self.fabric.step(By::Pump(link), event, None)?;
+        Ok(Pump::Moved)
+    }
+
+    /// A turn of the maker of this number: an actor, or behind the actors a link.
+    fn take_turn(&mut self, number: u32) -> Result<(), StepStop>
+        requires above { 0 < number }
+        requires within { number ≤ makers self.old.script }
+        ensures ok { OnOk result (IsTurnOf self.old.script number self.old.run self.new.run) }
+        ensures script { self.new.script ≡ self.old.script }
+        ensures full_only { IfErr result (λ stop. stop.cause ≡ StopCause.JournalFull
+            → (is_full self.new.run.log.steps ≡ true) × (is_over self.new.run ≡ false)) }
+        ensures few { length self.new.run.log.steps ≤ 200000 }
+        ensures err { OnErr result (self.new ≡ self.old) }
+    {
+        let actors = self.script.actors().len() as u32;
+        if number <= actors {
+            self.turn(number)?;
+        } else {
+            self.pump(LinkNo(number - actors))?;
+        }
+        Ok(())
+    }
+
+    /// A round: each actor takes its turn, by number, and then each link. It answers whether all is
+    /// over. A stop leaves what the turns before it made.
+    pub fn round(&mut self) -> Result<bool, StepStop>
+        ensures ok { OnOk result (IsRound self.old.script self.old.run self.new.run) }
+        ensures over { IfOk result (λ over. over ≡ is_over self.new.run) }
+        ensures script { self.new.script ≡ self.old.script }
+        ensures front { OnErr result ((n : ℕ) × (n < makers self.old.script)
+            × AreTurns self.old.script n self.old.run self.new.run) }
+        ensures full_only { IfErr result (λ stop. stop.cause ≡ StopCause.JournalFull
+            → (is_full self.new.run.log.steps ≡ true) × (is_over self.new.run ≡ false)) }
+        ensures few { length self.new.run.log.steps ≤ 200000 }
+    {
+        let count = (self.script.actors().len() + self.script.links().len()) as u32;
         'turns: for place in 0..count {
-            self.turn(place + 1)?;
+            self.take_turn(place + 1)?;
         }
         Ok(self.is_over())
     }
 
     /// The whole run: rounds until all is over.
     pub fn play(&mut self) -> Result<(), StepStop>
-        requires unstarted { self.old.log.steps ≡ [] }
-        ensures whole { OnOk result (IsWhole self.old.script self.new.log.steps) }
-        ensures fixed { self.new ≡
-            record self.old { log = record self.old.log { steps = self.new.log.steps } } }
+        requires unstarted { self.old.run ≡ first_layout self.old.script }
+        ensures whole { OnOk result (IsWhole self.old.script self.new.run) }
+        ensures script { self.new.script ≡ self.old.script }
         ensures full_only { IfErr result (λ stop. stop.cause ≡ StopCause.JournalFull
-            → (is_full self.new.log.steps ≡ true) × ((k : ℕ) × (0 < k)
-            × (k ≤ length self.old.script.actors)
-            × (has_ended self.new.log.steps k ≡ false))) }
+            → (is_full self.new.run.log.steps ≡ true) × (is_over self.new.run ≡ false)) }
     {
         'rounds: while !self.is_over() {
             self.round()?;

@@ -103,7 +103,7 @@ fn come_to(stage: &mut Stage, rows: &[(u32, Turn, &str)]) -> bool
 fn turns_in_an_order_of_the_callers_own(rt: HostRuntime) -> Result<(), Fail> {
     let alloc = rt.alloc();
     let script = parse(alloc, TWO)?;
-    assert!(rt; script.actors().len() == 2 && script.links().is_empty());
+    assert!(rt; script.actors().len() == 2);
     let mut stage = Stage::new(alloc, script)?;
     assert!(rt; come_to(&mut stage, &TURNS) && stage.is_over());
     Ok(())
@@ -113,7 +113,6 @@ fn turns_in_an_order_of_the_callers_own(rt: HostRuntime) -> Result<(), Fail> {
 fn rounds_leave_nobody_out(rt: HostRuntime) -> Result<(), Fail> {
     let alloc = rt.alloc();
     let script = parse(alloc, THREE)?;
-    assert!(rt; script.links().is_empty());
     let mut stage = Stage::new(alloc, script)?;
     for over in [false, false, true] {
         assert!(rt; matches!(stage.round(), Ok(is) if is == over));

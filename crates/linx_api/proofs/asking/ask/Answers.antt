@@ -33,10 +33,9 @@ returns g c =
     ∙ ap (λ (p : PassView Step PlanParts). p.number) c.take-held.ensures.turn in
     let answered = rw (c.state.ensures.value, number) at c.step-answer.ensures.answered in
     let only = rw c.state.ensures.value at c.step-answer.ensures.fixed in
-    let legal = rw c.state.ensures.value at c.step-answer.ensures.legal in
-    let reached = rw c.state.ensures.value at c.step-answer.ensures.reached in
+    let found = rw c.state.ensures.value at c.step-answer.ensures.found in
     is-asked c.args.pass c.take-held.result.turn c.take-held.result.state
     c.step-answer.new.self (asking c.args.event c.args.hand) c.step-answer.result
     c.take-held.ensures.turn c.take-held.ensures.fixed only c.give.result
-    c.take-held.ensures.rests c.take-held.ensures.own legal reached answered c.give.ensures.pass
-    c.give.ensures.own
+    c.take-held.ensures.rests c.take-held.ensures.own found c.step-answer.ensures.left answered
+    c.give.ensures.pass c.give.ensures.own

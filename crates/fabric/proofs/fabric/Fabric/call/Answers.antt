@@ -1,45 +1,78 @@
-use Rattle.std.proofs.Common.{sym, ◌∙◌}
-use Rattle.fabric.proofs.Called.{made-call, room-fits}
-use Rattle.fabric.proofs.Placed.{acting, endpoint-seen, makes-seen, node-seen, own_open, sees}
-use Rattle.fabric.proofs.Unchanged.{kept-same}
+use Rattle.std.proofs.Common.{◌≡◌, ap, sym, subst, ◌∙◌}
+use Rattle.node_kernel.specs.Nodes.{NodeState}
+use Rattle.fabric.specs.Actings.{HasMade}
+use Rattle.fabric.specs.Calls.{ask_of}
+use Rattle.fabric.specs.Run.{Layout}
+use Rattle.fabric.proofs.Called.{made-call}
+use Rattle.fabric.proofs.Granted.{may-tell}
+use Rattle.fabric.proofs.Placed.{acting, endpoint-seen, kernel-is, makes-seen, may-seen}
+use Rattle.fabric.proofs.Placed.{node-is}
+use Rattle.fabric.proofs.Placed.{own_open, sees}
+use Rattle.fabric.proofs.Seen.{kept-told, seen-kept}
 use Rattle.fabric.proofs.fabric.Fabric.call.Goals as goal
+
+pub tell_call-requires-clause-is_open : goal.tell_call-requires-clause-is_open
+tell_call-requires-clause-is_open c =
+    let seen = sees c.self.invariant.0 c.self.view_is in
+    let acts = acting seen c.requires.asked c.kernel_of-place.ensures in
+    let mine = endpoint-seen seen c.args.actor _ (sym c.endpoint_of.ensures ∙ c.in-Some.is) in
+    own_open acts.at c.index.result.now c.index.ensures c.in-Some.at mine
+
+pub tell_call-requires-clause-node : goal.tell_call-requires-clause-node
+tell_call-requires-clause-node c =
+    let seen = sees c.self.invariant.0 c.self.view_is in
+    let acts = acting seen c.requires.asked c.kernel_of-place.ensures in
+    (rw (← c.self.view_is) at c.node_of-node.ensures)
+    ∙ sym (node-is acts.at c.index.result.now c.index.ensures)
+
+pub tell_call-requires-clause-may : goal.tell_call-requires-clause-may
+tell_call-requires-clause-may c =
+    let seen = sees c.self.invariant.0 c.self.view_is in
+    let acts = acting seen c.requires.asked c.kernel_of-place.ensures in
+    let mine = endpoint-seen seen c.args.actor _ (sym c.endpoint_of.ensures ∙ c.in-Some.is) in
+    may-tell acts c.in-Some.at mine c.index.result.now c.index.ensures c.self.inside.trunks.was
+    c.args.call (may-seen seen c.requires.asked).may.fits
 
 pub make_call-made-requires-clause-is_open : goal.make_call-made-requires-clause-is_open
 make_call-made-requires-clause-is_open c =
-    let seen = sees c.self.invariant c.self.view_is in
+    let seen = sees c.self.invariant.0 c.self.view_is in
     let acts = acting seen c.requires.asked c.kernel_of-place.ensures in
     let mine = endpoint-seen seen c.args.actor _ (sym c.endpoint_of.ensures ∙ c.in-Some.is) in
     own_open acts.at c.index_mut.result.now c.index_mut.ensures.value c.in-Some.at mine
 
-pub make_call-made-requires-clause-room : goal.make_call-made-requires-clause-room
-make_call-made-requires-clause-room c = room-fits _ c.args.call c.requires.asked.may.fits
-
-pub invariant_of-self-in-Err : goal.invariant_of-self-in-Err
-invariant_of-self-in-Err c =
-    let seen = sees c.self.invariant c.self.view_is in
-    kept-same _ _ c.make_call-made.new.journal.log _ _ c.self.invariant c.in-Err.ensures.err.0
-    c.kernel_of-place.result
-    (node-seen seen c.kernel_of-place.result c.kernel_of-place.ensures.there) c.index_mut.result.now
-    c.make_call-made.new.kernel c.index_mut.ensures.value c.in-Err.ensures.err.1
-
-pub invariant_of-self : goal.invariant_of-self
-invariant_of-self c =
-    let seen = sees c.self.invariant c.self.view_is in
+pub invariant_of-self-in-Ok-made : goal.invariant_of-self-in-Ok-made
+invariant_of-self-in-Ok-made c =
+    let seen = sees c.self.invariant.0 c.self.view_is in
     let acts = acting seen c.requires.asked c.kernel_of-place.ensures in
     let mine = endpoint-seen seen c.args.actor _ (sym c.endpoint_of.ensures ∙ c.in-Some.is) in
-    (made-call acts c.in-Some.at mine c.index_mut.result.now c.make_call-made.new.kernel
-    c.index_mut.ensures.value c.index_mut-in-Ok.result.now c.call.new.self
-    c.index_mut-in-Ok.ensures.value c.make_call-made.new.journal.log c.in-Ok.answer c.args.call
-    (room-fits _ c.args.call c.requires.asked.may.fits) c.in-Ok.ensures.bounded c.in-Ok.ensures.made
-    c.len-step.result c.len-step.ensures c.call.ensures).0
+    let asked = may-seen seen c.requires.asked in
+    let same = kernel-is acts.at c.index.result.now c.index.ensures
+    ∙ sym (kernel-is acts.at c.index_mut.result.now c.index_mut.ensures.value) in
+    let told = rw same at c.in-Ok.ensures.is in
+    let made = made-call acts c.in-Some.at mine c.index_mut.result.now c.make_call-made.new.kernel
+    c.index_mut.ensures.value c.index_mut-in-Ok-made.result.now
+    c.call.new.self c.index_mut-in-Ok-made.ensures.value c.make_call-made.new.journal.log
+    c.in-Ok-made.answer c.args.call asked.may.fits c.requires.typed c.in-Ok-made.ensures.bounded
+    c.in-Ok-made.ensures.made c.len-step.result c.len-step.ensures c.call.ensures in
+    kept-told _ c.make_call-made.new.journal.log c.tell_call.new.trunks c.keep_all.new.self _
+    c.in-Ok.ensures.links told c.keep_all.ensures _ made.0
 
-pub returns-in-Ok-clause-ok : goal.returns-in-Ok-clause-ok
-returns-in-Ok-clause-ok c =
-    let seen = sees c.self.invariant c.self.view_is in
+pub returns-in-Ok-made-clause-ok : goal.returns-in-Ok-made-clause-ok
+returns-in-Ok-made-clause-ok c =
+    let seen = sees c.self.invariant.0 c.self.view_is in
     let acts = acting seen c.requires.asked c.kernel_of-place.ensures in
     let mine = endpoint-seen seen c.args.actor _ (sym c.endpoint_of.ensures ∙ c.in-Some.is) in
-    makes-seen seen (made-call acts c.in-Some.at mine c.index_mut.result.now
-    c.make_call-made.new.kernel c.index_mut.ensures.value c.index_mut-in-Ok.result.now
-    c.call.new.self c.index_mut-in-Ok.ensures.value c.make_call-made.new.journal.log c.in-Ok.answer
-    c.args.call (room-fits _ c.args.call c.requires.asked.may.fits) c.in-Ok.ensures.bounded
-    c.in-Ok.ensures.made c.len-step.result c.len-step.ensures c.call.ensures).1
+    let asked = may-seen seen c.requires.asked in
+    let same = kernel-is acts.at c.index.result.now c.index.ensures
+    ∙ sym (kernel-is acts.at c.index_mut.result.now c.index_mut.ensures.value) in
+    let told = rw same at c.in-Ok.ensures.is in
+    let made = made-call acts c.in-Some.at mine c.index_mut.result.now c.make_call-made.new.kernel
+    c.index_mut.ensures.value c.index_mut-in-Ok-made.result.now
+    c.call.new.self c.index_mut-in-Ok-made.ensures.value c.make_call-made.new.journal.log
+    c.in-Ok-made.answer c.args.call asked.may.fits c.requires.typed c.in-Ok-made.ensures.bounded
+    c.in-Ok-made.ensures.made c.len-step.result c.len-step.ensures c.call.ensures in
+    subst (λ (g : Layout). HasMade c.args.self.now g c.args.actor (ask_of c.args.call)
+    c.in-Ok-made.answer)
+    (sym (seen-kept _ c.make_call-made.new.journal.log c.tell_call.new.trunks c.keep_all.new.self _
+    c.in-Ok.ensures.links told c.keep_all.ensures))
+    (makes-seen seen _ c.args.actor (ask_of c.args.call) c.in-Ok-made.answer made.1)

@@ -1,4 +1,5 @@
-use Rattle.std.proofs.Common.{◌≡◌, length, ◌∙◌, ap, arith}
+use Rattle.std.proofs.Common.{◌≡◌, length, replicate, refl, ◌∙◌, ap, arith}
+use Rattle.run_trunks.specs.States.{new_trunks}
 use Rattle.fabric.specs.Standings.{empty_nodes}
 use Rattle.fabric.proofs.Counting.{kept-new}
 use Rattle.fabric.proofs.fabric.Fabric.new.Goals as goal
@@ -7,8 +8,19 @@ pub invariant_of-result : goal.invariant_of-result
 invariant_of-result c =
     let counted : c.in-Ok.count ≡ length c.args.names.nodes = omega
     (arith, c.in-Ok.ensures, c.len.ensures) in
-    rw (c.in_ok-from_slice.ensures.items, c.in_ok-from_slice-2.ensures.items)
-    (kept-new (record { links = c.args.links.now; actors = c.args.actors.now }) c.new.result.log
-    c.in_ok-kernels.kernels.items c.in_ok-standings.standings.items
-    c.args.names c.requires.laid_out c.new.ensures.log (c.in_ok-kernels.ensures
-    ∙ ap empty_nodes counted) c.in_ok-standings.ensures)
+    rw (c.in_ok-trunks.ensures, c.in_ok-from_slice.ensures.items) (
+      kept-new (record {
+        shape = record { links = c.args.links.now; actors = c.args.actors.now };
+        log = c.new-2.result.log;
+        trunks = new_trunks c.args.links.now;
+      }) (record {
+        kernels = c.in_ok-kernels.kernels.items;
+        booted = c.in_ok-booted.booted.items;
+        standings = c.in_ok-standings.standings.items;
+        lines = c.in_ok-lines.lines.items;
+      }) c.args.names c.requires.laid_out c.new-2.ensures.log refl
+          (c.in_ok-kernels.ensures ∙ ap empty_nodes counted)
+          (c.in_ok-booted.ensures ∙ ap (λ n. replicate n 1) counted)
+          c.in_ok-standings.ensures c.in_ok-lines.ensures,
+      refl,
+    )

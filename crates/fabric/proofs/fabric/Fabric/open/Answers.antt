@@ -1,42 +1,75 @@
-use Rattle.std.proofs.Common.{◌∙◌, ap}
+use Rattle.std.proofs.Common.{None, ◌∙◌, sym, ap, subst}
+use Rattle.journal.specs.declared.event.Event.TheVariants as asks
+use Rattle.node_kernel.specs.declared.answers.StepAnswer.TheVariants as answers
+use Rattle.node_kernel.specs.Nodes.{next_of}
+use Rattle.fabric.specs.Actings.{HasMade, asking}
+use Rattle.fabric.specs.Run.{Layout}
+use Rattle.fabric.proofs.Granted.{granted-open}
+use Rattle.fabric.proofs.Opening.{made-opened}
 use Rattle.fabric.proofs.Own.{as_opened}
-use Rattle.fabric.proofs.Placed.{acting, endpoint-seen, endpoints_fit, makes-seen, openings_fit}
-use Rattle.fabric.proofs.Placed.{sees}
-use Rattle.fabric.proofs.Made.{made-open}
+use Rattle.fabric.proofs.Placed.{acting, endpoint-seen, endpoints_fit, makes-seen, next-at}
+use Rattle.fabric.proofs.Placed.{openings_fit, sees}
+use Rattle.fabric.proofs.Seen.{kept-told, seen-kept}
 use Rattle.fabric.proofs.fabric.Fabric.open.Goals as goal
 
-pub make_open-requires-clause-fits : goal.make_open-requires-clause-fits
-make_open-requires-clause-fits c =
-    let seen = sees c.self.invariant c.self.view_is in
+pub opened-requires : goal.opened-requires
+opened-requires c =
+    let seen = sees c.self.invariant.0 c.self.view_is in
+    let acts = acting seen c.requires.asked c.kernel_of-place.ensures in
+    let next = rw (← c.self.view_is) at c.next_inc-inc.ensures in
+    let node = rw (← c.self.view_is) at c.node_of-node.ensures in
+    record {
+      may = rw node (granted-open _ _ c.self.invariant.0 acts.short _ c.next_inc-inc.result next
+          c.args.name c.is_named.ensures);
+    }
+
+pub make_open-made-requires-clause-fits : goal.make_open-made-requires-clause-fits
+make_open-made-requires-clause-fits c =
+    let seen = sees c.self.invariant.0 c.self.view_is in
     let acts = acting seen c.requires.asked c.kernel_of-place.ensures in
     openings_fit acts.at c.index_mut.result.now c.index_mut.ensures.value
 
-pub make_open-requires-clause-room : goal.make_open-requires-clause-room
-make_open-requires-clause-room c =
-    let seen = sees c.self.invariant c.self.view_is in
+pub make_open-made-requires-clause-room : goal.make_open-made-requires-clause-room
+make_open-made-requires-clause-room c =
+    let seen = sees c.self.invariant.0 c.self.view_is in
     let acts = acting seen c.requires.asked c.kernel_of-place.ensures in
     endpoints_fit acts.at c.index_mut.result.now c.index_mut.ensures.value
 
-pub invariant_of-self : goal.invariant_of-self
-invariant_of-self c =
-    let seen = sees c.self.invariant c.self.view_is in
+pub invariant_of-self-in-Ok-made : goal.invariant_of-self-in-Ok-made
+invariant_of-self-in-Ok-made c =
+    let seen = sees c.self.invariant.0 c.self.view_is in
     let acts = acting seen c.requires.asked c.kernel_of-place.ensures in
     let mine = endpoint-seen seen c.args.actor _ c.requires.granted in
-    (made-open acts c.args.name mine c.in-Ok.ensures.name
-    c.index_mut.result.now c.make_open.new.kernel c.index_mut.ensures.value c.in-Ok.ensures.kernel
-    c.index_mut-in-Ok.result.now c.open.new.self
-    c.index_mut-in-Ok.ensures.value (c.open.ensures
-    ∙ ap (as_opened c.index_mut-in-Ok.result.now) c.in-Ok.ensures.inc)
-    c.make_open.new.journal.log c.in-Ok.ensures.log).0
+    let next = next-at acts.at c.index_mut.result.now c.index_mut.ensures.value
+    (rw (← c.self.view_is) at c.next_inc-inc.ensures) in
+    let told = rw (rw (← c.self.view_is) at c.node_of-node.ensures) at c.in-Ok.ensures.is in
+    let made = made-opened acts c.index_mut.result.now c.index_mut.ensures.value c.args.name
+    c.is_named.ensures c.next_inc-inc.result next mine c.make_open-made.new.kernel
+    c.in-Ok-made.ensures.kernel c.index_mut-in-Ok-made.result.now c.open.new.self
+    c.index_mut-in-Ok-made.ensures.value
+    (c.open.ensures ∙ ap (as_opened c.index_mut-in-Ok-made.result.now) c.in-Ok-made.ensures.inc)
+    c.make_open-made.new.journal.log c.in-Ok-made.ensures.log in
+    kept-told _ c.make_open-made.new.journal.log c.opened.new.self c.keep_all.new.self _
+    c.in-Ok.ensures.links told c.keep_all.ensures _ made.0
 
-pub returns-in-Ok-clause-ok : goal.returns-in-Ok-clause-ok
-returns-in-Ok-clause-ok c =
-    let seen = sees c.self.invariant c.self.view_is in
+pub returns-in-Ok-made-clause-ok : goal.returns-in-Ok-made-clause-ok
+returns-in-Ok-made-clause-ok c =
+    let seen = sees c.self.invariant.0 c.self.view_is in
     let acts = acting seen c.requires.asked c.kernel_of-place.ensures in
     let mine = endpoint-seen seen c.args.actor _ c.requires.granted in
-    rw (c.in-Ok.ensures.inc) (makes-seen seen (made-open acts c.args.name mine c.in-Ok.ensures.name
-    c.index_mut.result.now c.make_open.new.kernel c.index_mut.ensures.value c.in-Ok.ensures.kernel
-    c.index_mut-in-Ok.result.now c.open.new.self
-    c.index_mut-in-Ok.ensures.value (c.open.ensures
-    ∙ ap (as_opened c.index_mut-in-Ok.result.now) c.in-Ok.ensures.inc)
-    c.make_open.new.journal.log c.in-Ok.ensures.log).1)
+    let next = next-at acts.at c.index_mut.result.now c.index_mut.ensures.value
+    (rw (← c.self.view_is) at c.next_inc-inc.ensures) in
+    let told = rw (rw (← c.self.view_is) at c.node_of-node.ensures) at c.in-Ok.ensures.is in
+    let made = made-opened acts c.index_mut.result.now c.index_mut.ensures.value c.args.name
+    c.is_named.ensures c.next_inc-inc.result next mine c.make_open-made.new.kernel
+    c.in-Ok-made.ensures.kernel c.index_mut-in-Ok-made.result.now c.open.new.self
+    c.index_mut-in-Ok-made.ensures.value
+    (c.open.ensures ∙ ap (as_opened c.index_mut-in-Ok-made.result.now) c.in-Ok-made.ensures.inc)
+    c.make_open-made.new.journal.log c.in-Ok-made.ensures.log in
+    rw (c.in-Ok-made.ensures.inc)
+    (subst (λ (g : Layout). HasMade c.args.self.now g c.args.actor
+    (asking (asks.Open c.args.name) None) (answers.Opened (next_of c.index_mut.result.now)))
+    (sym (seen-kept _ c.make_open-made.new.journal.log c.opened.new.self c.keep_all.new.self _
+    c.in-Ok.ensures.links told c.keep_all.ensures))
+    (makes-seen seen _ c.args.actor (asking (asks.Open c.args.name) None)
+    (answers.Opened (next_of c.index_mut.result.now)) made.1))

@@ -2,7 +2,7 @@ use Rattle.std.proofs.Common.{◌≡◌, ◌≤◌, length, None, Some, sym, ◌
 use Rattle.std.specs.Option.{option_copied}
 use Rattle.std.proofs.lemmas.List.{length-map}
 use Rattle.journal.specs.Logs.{Log, step_at}
-use Rattle.fabric.specs.Remains.{Layout}
+use Rattle.fabric.specs.Run.{Layout}
 use Rattle.linx_api.specs.Telling.{numbered}
 use Rattle.linx_api.proofs.Numbers.{number-small, stands-told, there-found, there-none}
 use Rattle.linx_api.proofs.shared_fabric.SharedFabricStory.maker.Goals as goal

@@ -6,7 +6,8 @@ pub returns-clause-so_far : goal.returns-clause-so_far
 returns-clause-so_far c =
     let s = c.self.inside in
     rw (sym c.self.view_is)
-    (staged-so_far s.script s.fabric s.players.items c.self.invariant c.into_journal.ensures.legal)
+    (staged-so_far s.script s.fabric s.players.items c.self.invariant c.into_journal.ensures.legal
+    c.into_journal.ensures.promises c.into_journal.ensures.reached)
 
 pub returns-clause-whole : goal.returns-clause-whole
 returns-clause-whole c =

@@ -1,12 +1,15 @@
-use Rattle.std.proofs.Common.{sym, ◌∙◌}
-use Rattle.stage.proofs.Whole.{fixed-more, rounds-more}
+use Rattle.std.proofs.Common.{sym, ◌∙◌, subst}
+use Rattle.script_lang.specs.Parts.{ScriptParts}
+use Rattle.stage.specs.Turns.{IsRound}
+use Rattle.stage.proofs.Whole.{rounds-more}
 use Rattle.stage.proofs.stage.Stage.play.Goals as goal
 
 pub rounds-preserved : goal.rounds-preserved
 rounds-preserved c = record {
-  rounds = rounds-more c.args.self.now c.rounds.self c.round.new.self c.rounds.invariant.fixed
-      c.rounds.invariant.rounds c.in_ok-round.ensures.ok
-      (sym c.is_over.ensures.over ∙ c.rounds-test.true);
-  fixed = fixed-more c.args.self.now c.rounds.self c.round.new.self c.rounds.invariant.fixed
-      c.round.ensures.fixed;
+  rounds = rounds-more c.args.self.now.script c.args.self.now.run c.rounds.self.run
+      c.round.new.self.run c.rounds.invariant.rounds
+      (sym c.is_over.ensures.over ∙ c.rounds-test.true)
+      (subst (λ (s : ScriptParts). IsRound s c.rounds.self.run c.round.new.self.run)
+      c.rounds.invariant.script c.in_ok-round.ensures.ok);
+  script = c.round.ensures.script ∙ c.rounds.invariant.script;
 }

@@ -1,13 +1,11 @@
 use Rattle.std.proofs.Common.{◌≡◌, ◌≤◌, length}
-use Rattle.stage.specs.Turns.{turns_of}
+use Rattle.stage.specs.Turns.{AreTurns}
 use Rattle.stage.proofs.stage.Stage.round.Given as goal
 
--- so many actors took their turns
+-- so many makers took their turns
 abbrev pub invariant-turns : goal.invariant-turns
 invariant-turns l = record {
-  turns : l.self.log.steps ≡ turns_of l.initial.self.script l.place l.initial.self.log.steps;
-  few : length l.self.log.steps ≤ 200000;
-  fixed : l.self ≡ record l.initial.self {
-    log = record l.initial.self.log { steps = l.self.log.steps };
-  };
+  turns : AreTurns l.initial.self.script l.place l.initial.self.run l.self.run;
+  few : length l.self.run.log.steps ≤ 200000;
+  script : l.self.script ≡ l.initial.self.script;
 }

@@ -1,8 +1,6 @@
 use Rattle.std.proofs.Common.{◌-◌, ◌≤◌, length, refl, sym, ◌∙◌, subst, arith}
 use Rattle.std.proofs.lemmas.Option.{slice_get_read}
-use Rattle.actor_run.specs.Following.{next_ask}
 use Rattle.stage.specs.Plays.{Play}
-use Rattle.stage.specs.Turns.{commands_of}
 use Rattle.stage.proofs.Seats.{playing-seated, seat-playing, staged-turned}
 use Rattle.stage.proofs.stage.Stage.turn.Goals as goal
 
@@ -35,10 +33,12 @@ invariant_of-self c =
     (slice_get_read s.players.items (length s.players.items) (c.args.actor - 1)
     c.index_mut-player.result.now refl (omega (arith, within, count, above))
     c.index_mut-player.ensures.value) running in
-    staged-turned s.script s.fabric c.turn_of.new.fabric s.players.items c.args.actor
-    c.turn_of.new.player c.self.invariant c.requires.above within c.turn_of.ensures.fixed
-    c.turn_of.result
-    (next_ask (commands_of s.script c.args.actor) c.args.actor s.fabric.log.steps)
-    c.turn_of.ensures.ok c.turn_of.ensures.seated c.turn_of.ensures.full
-    c.turn_of.ensures.fabric_stays c.index_mut-player.result.now c.turn_of.ensures.player_stays
+    staged-turned s.script s.fabric c.turn_of.new.fabric s.players.items c.self.invariant
+    c.turn_of.ensures.fixed c.args.actor c.turn_of.new.player c.requires.above within
+    c.turn_of.result c.turn_of.ensures.ok c.turn_of.ensures.seated c.turn_of.ensures.full
+    c.turn_of.ensures.fabric_stays running c.index_mut-player.result.now
+    c.turn_of.ensures.player_stays
     (playing-seated s.script s.fabric.log.steps c.args.actor c.index_mut-player.result.now playing)
+
+pub returns-clause-few : goal.returns-clause-few
+returns-clause-few c = (invariant_of-self c).few

@@ -1,0 +1,43 @@
+-- How what is noted of a link changes, and what an actor does to a link as a whole.
+use Rattle.std.specs.Prelude.{suc, true, false, if◌then◌else◌}
+use Rattle.linx_base.specs.declared.identity.LinkNo.{LinkNo}
+use Rattle.linx_base.specs.declared.identity.Side.{Side}
+use Rattle.linx_base.specs.declared.identity.Side.TheVariants.{First, Second}
+use Rattle.journal.specs.declared.event.Event.{Event}
+use Rattle.journal.specs.declared.event.Event.TheVariants as asks
+use Rattle.journal.specs.declared.head.Head.{Head}
+use Rattle.journal.specs.declared.head.Head.TheVariants as heads
+use Rattle.fabric.specs.declared.line.Line.{Line}
+use Rattle.fabric.specs.declared.line.Mark.{Mark}
+use Rattle.fabric.specs.declared.line.Mark.TheVariants.{Cut, Mend, Settle}
+
+-- a link before the first step
+abbrev pub fresh_line : Line
+fresh_line = record { cut = false; settled = false; from_first = 0; from_second = 0; ticks = 0 }
+
+-- the event of a mark
+abbrev pub event_of : Mark → LinkNo → Event
+event_of Cut l = asks.Cut l
+event_of Mend l = asks.Mend l
+event_of Settle l = asks.Settle l
+
+-- its head
+abbrev pub head_of : Mark → LinkNo → Head
+head_of Cut l = heads.Cut l
+head_of Mend l = heads.Mend l
+head_of Settle l = heads.Settle l
+
+-- a link that an actor has marked
+abbrev pub marked : Mark → Line → Line
+marked Cut line = record line { cut = true }
+marked Mend line = record line { cut = false }
+marked Settle line = record line { settled = true }
+
+-- a packet from a side more, which counts where the link isn't cut
+abbrev pub counted : Side → Line → Line
+counted First line = if line.cut then line else record line { from_first = suc line.from_first }
+counted Second line = if line.cut then line else record line { from_second = suc line.from_second }
+
+-- one more tick
+abbrev pub ticked_more : Line → Line
+ticked_more line = record line { ticks = suc line.ticks }

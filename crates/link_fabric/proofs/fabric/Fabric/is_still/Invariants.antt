@@ -1,8 +1,0 @@
-use Rattle.std.proofs.Common.{◌≡◌, true}
-use Rattle.run_trunks.specs.States.{trunks_of}
-use Rattle.link_fabric.specs.Links.{none_stirs}
-use Rattle.link_fabric.proofs.fabric.Fabric.is_still.Given as goal
-
--- none of the links so far stirs
-abbrev pub invariant-loop-place : goal.invariant-loop-place
-invariant-loop-place l = none_stirs l.self.log.steps (trunks_of l.self.trunks) l.place ≡ true

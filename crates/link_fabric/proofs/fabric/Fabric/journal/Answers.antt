@@ -1,8 +1,0 @@
-use Rattle.link_fabric.proofs.Placed.{legal-seen, promises-seen, sees}
-use Rattle.link_fabric.proofs.fabric.Fabric.journal.Goals as goal
-
-pub returns-clause-legal : goal.returns-clause-legal
-returns-clause-legal c = legal-seen (sees c.self.invariant.0 c.self.view_is)
-
-pub returns-clause-promises : goal.returns-clause-promises
-returns-clause-promises c = promises-seen (sees c.self.invariant.0 c.self.view_is)
