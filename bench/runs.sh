@@ -12,14 +12,14 @@ trap 'rm -rf "$work"' EXIT
 # measure NAME FILE: processor seconds and peak memory of a run.
 measure() {
     /usr/bin/env python3 - "$1" "$program" "$2" <<'MEASURE'
-import resource, subprocess, sys
+import os, subprocess, sys
 name, program, script = sys.argv[1:]
 with open(script) as given:
-    run = subprocess.run([program, "serial"], stdin=given, stdout=subprocess.DEVNULL,
-                         stderr=subprocess.PIPE)
-used = resource.getrusage(resource.RUSAGE_CHILDREN)
+    run = subprocess.Popen([program, "serial"], stdin=given, stdout=subprocess.DEVNULL,
+                           stderr=subprocess.DEVNULL)
+    _, status, used = os.wait4(run.pid, 0)
 seconds = used.ru_utime + used.ru_stime
-print(f"{name}: exit {run.returncode}, {seconds:.2f} s, {used.ru_maxrss} kB")
+print(f"{name}: exit {os.waitstatus_to_exitcode(status)}, {seconds:.3f} s, {used.ru_maxrss} kB")
 MEASURE
 }
 
@@ -53,6 +53,49 @@ large() {
     printf 'node n\nactor p n\nopen a\nrepeat %d\nsend self 1 fill:65532:5a\nend\nend\n' "$1"
 }
 
+# unlike COUNT: signals of nearly that size, no two alike, so that each has a digest of its own.
+unlike() {
+    printf 'node n\nactor p n\nopen a\n'
+    for signal in $(seq 0 $(($1 - 1))); do
+        printf 'send self 1 fill:%d:%02x\n' $((65532 - signal / 256)) $((signal % 256))
+    done
+    echo 'end'
+}
+
+# load NUMBER: the generated load: 24 clients, each with a hundred requests of up to 4,000 bytes, over
+# three links that lose, repeat and exchange packets.
+load() {
+    /usr/bin/env python3 - "$1" <<'LOAD'
+import sys
+number = int(sys.argv[1])
+verdict = {0: "L", 3: "R", 6: "S2"}
+for node in range(1, 5):
+    print(f"node n{node}")
+for k in range(1, 4):
+    print(f"link l{k} n{k} n{k + 1}")
+for k in range(1, 4):
+    for d, arrow in enumerate("><"):
+        plan = [verdict.get((number + 3 * j + k + d) % 10, "D") for j in range(1, 201)]
+        print(f"plan l{k} {arrow}", *plan)
+for k in range(1, 4):
+    print(f"actor v{k} n{k + 1}\nopen s{k}\nrepeat 800\nrecv 10\nsend last 11\nend")
+    print("repeat 8\nrecv 12\nend\nend")
+    for i in range(8 * (k - 1) + 1, 8 * k + 1):
+        size, byte = (97 * number + 131 * i) % 4001, i % 256
+        print(f"actor c{i} n{k}\nopen c{i}\nhunt l{k}/s{k}\nrecv 251\nkeep s\nattach s r")
+        print(f"repeat 100\nsend s 10 fill:{size}:{byte:02x}\nrecv 11\nend")
+        print("detach r\nsend s 12\nend")
+LOAD
+}
+
+# ping_pong ROUNDS: two actors that send a signal to and fro over a link with a window of 1.
+ping_pong() {
+    printf 'node m\nnode n\nlink l m n window 1\n'
+    printf 'actor p m\nopen a\nhunt l/b\nrecv 251\nkeep b\n'
+    printf 'repeat %d\nsend b 1\nrecv 2\nend\nend\n' "$1"
+    printf 'actor q n\nopen b\nrepeat %d\nrecv 1\nsend last 2\nend\nend\n' "$1"
+}
+
 for count in 2500 5000 9998; do
     sends "$count" > "$work/script"
     measure "$((2 * count)) sends and receives of one actor" "$work/script"
@@ -68,4 +111,15 @@ done
 for count in 255 511; do
     large "$count" > "$work/script"
     measure "$count signals of 65532 bytes" "$work/script"
+done
+
+for count in 255 511; do
+    unlike "$count" > "$work/script"
+    measure "$count unlike signals of that size" "$work/script"
+done
+load 7 > "$work/script"
+measure "the load of 24 clients over three links" "$work/script"
+for rounds in 5000 9990; do
+    ping_pong "$rounds" > "$work/script"
+    measure "$rounds signals to and fro over a link with window 1" "$work/script"
 done

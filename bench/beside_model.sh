@@ -1,0 +1,43 @@
+#!/usr/bin/env bash
+# Runs the built program and the model of bench/model on the random scripts of the seeds 1 to COUNT
+# (500 if unsaid) and on every script in examples/, and compares what they write, byte by byte. It
+# says how many were alike, and the first that wasn't. `rt run` in crates/linx_program builds the
+# program, and leaves it in out/; `bench/random_script.py SEED` writes the script of a seed.
+#   bench/beside_model.sh [COUNT] [PROGRAM]
+set -euo pipefail
+top="$(cd "$(dirname "$0")/.." && pwd)"
+count="${1:-500}"
+program="$(realpath "${2:-$top/crates/linx_program/out/linx_program}")"
+[ -x "$program" ] || { echo "no program at $program" >&2; exit 1; }
+work="$(mktemp -d)"
+trap 'rm -rf "$work"' EXIT
+alike=0
+all=0
+first=""
+
+# compare NAME: runs both on $work/script; they are alike where both succeed and write the same.
+compare() {
+    all=$((all + 1))
+    if "$program" serial < "$work/script" > "$work/program" 2> "$work/error" \
+        && python3 "$top/bench/model" < "$work/script" > "$work/model" 2> "$work/error" \
+        && cmp "$work/program" "$work/model" > "$work/error" 2>&1; then
+        alike=$((alike + 1))
+    elif [ -z "$first" ]; then
+        first="$1: $(tail -n 1 "$work/error")"
+    fi
+}
+
+for script in "$top"/examples/*.linx; do
+    cp "$script" "$work/script"
+    compare "$(basename "$script")"
+done
+for seed in $(seq "$count"); do
+    python3 "$top/bench/random_script.py" "$seed" > "$work/script"
+    compare "seed $seed"
+done
+
+echo "$alike of $all alike"
+if [ -n "$first" ]; then
+    echo "first that differs: $first"
+    exit 1
+fi

@@ -1,0 +1,29 @@
+"""Reads a script on standard input, and writes the text that `linx_sim serial` writes for it.
+
+A plain interpreter of the scripts of docs/script.md, beside which bench/beside_model.sh runs the
+program. It is made for reading: no rule here is taken from the program's code. The script must be a
+good one; one with a `settle`, and one that fills a journal, is refused with exit status 2.
+
+    python3 bench/model < SCRIPT
+"""
+import sys
+
+sys.dont_write_bytecode = True
+
+from runs import Run
+from script import parse
+from values import Refused
+
+
+def main():
+    """The text of the script on standard input, or why there is none."""
+    try:
+        text = Run(parse(sys.stdin.read())).play()
+    except Refused as reason:
+        print(f"model: {reason}", file=sys.stderr)
+        return 2
+    sys.stdout.write(text)
+    return 0
+
+
+sys.exit(main())

@@ -1,0 +1,161 @@
+"""Turns: what an actor's next command does (docs/script.md)."""
+from values import Here, filter_of, signal_of
+
+NEED_PEER = ("send", "forward", "attach")
+NEED_ENDPOINT = ("close", "send", "forward", "recv", "hunt", "attach", "detach")
+FOUND, ENDED = 251, 252
+
+
+class Actor:
+    """An actor: its place in its commands, its endpoint, and what it took, kept and attached."""
+
+    def __init__(self, number, block, node, run):
+        self.number, self.maker, self.node, self.run = number, f"A{number}", node, run
+        self.commands, self.place = block.commands, 0
+        self.endpoint = None
+        self.last, self.buffer = None, None
+        self.kept, self.attaches = {}, {}
+        self.waits, self.has_ended = None, False
+
+    def has_endpoint(self):
+        """Whether the actor has an open endpoint."""
+        return self.endpoint is not None and self.endpoint.is_open
+
+    def waits_in_vain(self):
+        """Whether the actor waits, and nothing in its queue is selected."""
+        waiting = self.waits is not None and self.has_endpoint()
+        return waiting and self.endpoint.first(self.waits) is None
+
+    def peer(self, word):
+        """The peer that a TO spells, or None."""
+        if word == "self":
+            return Here(self.endpoint.incarnation) if self.endpoint else None
+        return self.last if word == "last" else self.kept.get(word)
+
+    def turn(self, journal):
+        """Makes the step of the next command, or the end behind the last one."""
+        if self.has_ended:
+            return
+        journal.want_room()
+        self.keep_silently()
+        if self.place == len(self.commands):
+            self.end()
+            head = ["ended"]
+        else:
+            head = self.do(self.commands[self.place])
+        if head:
+            journal.step(self.maker, *head)
+
+    def keep_silently(self):
+        """Does each `keep` that comes next, where an item was taken: it makes no step."""
+        while self.last is not None and self.place < len(self.commands):
+            words = self.commands[self.place]
+            if words[0] != "keep":
+                return
+            self.kept[words[1]] = self.last
+            self.place += 1
+
+    def end(self):
+        """Closes the endpoint, and has ended."""
+        if self.has_endpoint():
+            self.node.close(self.endpoint)
+        self.has_ended = True
+
+    def do(self, words):
+        """Does a command; the head of its step, or None where a waiting makes no step."""
+        reason = self.refusal(words)
+        if words[0] == "recv" and not reason:
+            return self.receive(filter_of(words[1:]))
+        self.place, self.waits = self.place + 1, None
+        if not reason:
+            return getattr(self, "do_" + words[0])(*words[1:])
+        if words[0] == "forward" and reason == "not-open":
+            self.buffer = None
+        return "refused", reason
+
+    def refusal(self, words):
+        """The first reason that holds why a command can't be done, or None."""
+        command = words[0]
+        if command == "forward" and self.buffer is None:
+            return "no-signal"
+        if command == "keep" or command in NEED_PEER and self.peer(words[1]) is None:
+            return "no-peer"
+        if command == "detach" and words[1] not in self.attaches:
+            return "no-ref"
+        if command == "open" and self.has_endpoint():
+            return "is-open"
+        if command in NEED_ENDPOINT and not self.has_endpoint():
+            return "not-open"
+        return None
+
+    def receive(self, selected):
+        """Takes the first selected item, finds none where all else is at rest, or waits."""
+        incarnation, journal = self.endpoint.incarnation, self.node.journal
+        item = self.endpoint.first(selected)
+        if item is None and not self.run.is_at_rest(self):
+            began, self.waits = self.waits is None, selected
+            return ("waits", selected) if began else None
+        self.place, self.waits = self.place + 1, None
+        if item is None:
+            journal.log(incarnation, "none")
+            return "none", selected
+        self.endpoint.queue.remove(item)
+        self.last, self.buffer = item.sender, item.signal
+        journal.log(incarnation, "took", item.sender, item.signal)
+        return "take", selected, "%d.%d" % item.position
+
+    def do_open(self, name):
+        """`open`."""
+        self.endpoint = self.node.open(name)
+        return "open", name
+
+    def do_close(self):
+        """`close`."""
+        self.node.close(self.endpoint)
+        return ("close",)
+
+    def do_send(self, to, *words):
+        """`send`."""
+        return self.send(self.peer(to), signal_of(words))
+
+    def do_forward(self, to):
+        """`forward`."""
+        signal, self.buffer = self.buffer, None
+        return self.send(self.peer(to), signal)
+
+    def send(self, peer, signal):
+        """Sends a signal."""
+        return "send", peer, signal, self.node.send(self.endpoint, peer, signal)
+
+    def do_hunt(self, path, *words):
+        """`hunt`."""
+        signal = signal_of(words, FOUND)
+        self.node.hunt(self.endpoint, path, signal)
+        return "hunt", path, signal
+
+    def do_attach(self, to, reference, *words):
+        """`attach`."""
+        peer, signal = self.peer(to), signal_of(words, ENDED)
+        self.attaches[reference] = self.node.journal.position()
+        self.node.attach(self.endpoint, peer, signal)
+        return "attach", peer, signal
+
+    def do_detach(self, reference):
+        """`detach`."""
+        step = self.attaches[reference]
+        return "detach", f"@{step}", self.node.detach(self.endpoint, step)
+
+    def do_cut(self, link):
+        """`cut`."""
+        self.run.link(link).is_cut = True
+        return "cut", link
+
+    def do_mend(self, link):
+        """`mend`."""
+        self.run.link(link).is_cut = False
+        return "mend", link
+
+    def do_restart(self, node):
+        """`restart`."""
+        self.run.node(node).restart()
+        return "restart", node
