@@ -46,14 +46,17 @@ printf 'node n\nnod m\n' > "$work/bad"
 printf '%s\n' 'node n' 'actor p n' 'open a' 'repeat 600' 'send self 1 fill:65532:00' 'end' \
     'close' 'end' > "$work/large"
 printf 'node a\nnode b\nlink l a b\nactor p a\nopen x\nsettle l\nend\n' > "$work/settle"
-usage=$'linx_sim: usage: linx_sim run or serial\n'
+usage=$'linx_sim: usage: linx_sim run, serial or gen N\n'
 
 row 'done' 0 '' "$script" "$work/text" "$program" run
 cmp -s "$work/text" "$top/crates/linx_self_send/stdout" || complain 'done: another text'
 row 'another name' 0 '' "$script" "$work/text" named $'\xff' run
 cmp -s "$work/text" "$top/crates/linx_self_send/stdout" || complain 'another name: another text'
+row 'a generated script' 0 '' / "$work/text" "$program" gen 7
+[ "$(wc -l < "$work/text")" = 10 ] || complain 'a generated script: no summary'
 row 'no words' 1 "$usage" "$script" "$work/text" "$program"
 row 'two words' 1 "$usage" "$script" "$work/text" "$program" run run
+row 'a number too large' 1 "$usage" "$script" "$work/text" "$program" gen 4294967296
 row 'a dashed word' 1 "$usage" "$script" "$work/text" "$program" -x
 row 'a word that is not UTF-8' 1 "$usage" "$script" "$work/text" "$program" $'run\xff'
 row 'a long word' 1 "$usage" "$script" "$work/text" "$program" "$(printf 'run%.0s' {1..40})"

@@ -1,3 +1,5 @@
 mod CommandLine
+mod Numbers
+mod Generated
 mod Causes
 mod Answering

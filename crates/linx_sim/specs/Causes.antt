@@ -1,9 +1,11 @@
 -- What each part of a run says to the status that it ends with.
-use Rattle.std.specs.Prelude.{ℕ, Bool, true, false, List, Option, IfSome}
+use Rattle.std.specs.Prelude.{ℕ, Bool, true, false, List, Option, IfSome, Result, Ok, Err}
 use Rattle.fabric.specs.declared.stop.StopCause.{StopCause}
 use Rattle.fabric.specs.declared.stop.StopCause.TheVariants as stops
 use Rattle.linx_outside.specs.declared.whole_reads.ReadStop.{ReadStop}
 use Rattle.linx_outside.specs.declared.whole_reads.ReadStop.TheVariants as reads
+use Rattle.report.specs.declared.reports.ReportError.{ReportError}
+use Rattle.report.specs.declared.reports.ReportError.TheVariants as reports
 use Rattle.script_lang.specs.declared.script_error.ScriptError.{ScriptError}
 use Rattle.script_lang.specs.declared.script_error.ScriptError.TheVariants as scripts
 use Rattle.script_lang.specs.Reading.{script_of}
@@ -40,3 +42,9 @@ script_status scripts.NoMemory = NoMemory
 abbrev pub stop_status : StopCause → Status
 stop_status stops.JournalFull = JournalFull
 stop_status stops.NoMemory = NoMemory
+
+-- the status of a report that was to be written
+abbrev pub report_status : Result (Unit {0}) ReportError → Status
+report_status (Ok written) = Done
+report_status (Err reports.WriteFault) = WriteFault
+report_status (Err reports.NoMemory) = NoMemory

@@ -78,6 +78,12 @@ IsAnswerTo NoMemory script log = IsRunSoFar script log
 IsAnswerTo NotBuilt script log = (is_built script ≡ false) × (log.steps ≡ [])
 IsAnswerTo _ script log = ⊥
 
+-- what each status says of a script that is at hand: its answer, or that memory was refused before
+-- the first step
+abbrev pub IsOutcomeOf : Status → ScriptParts → Log → Type 0
+IsOutcomeOf status script log =
+    ((status ≡ NoMemory) × (log.steps ≡ [])) ⊎ IsAnswerTo status script log
+
 -- the script of a source, whose bytes spell it where the source tells them
 pub record IsAnswered (status : Status) (told : Option (List ℕ)) (log : Log) : Type 0 where
   pub script : ScriptParts

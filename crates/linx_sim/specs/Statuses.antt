@@ -19,7 +19,7 @@ exit_of NotBuilt = 10
 -- what is said of a status, but for the number of a bad line
 abbrev pub phrase_of : Status → List ℕ
 phrase_of Done = []
-phrase_of Usage = codes "usage: linx_sim run or serial"
+phrase_of Usage = codes "usage: linx_sim run, serial or gen N"
 phrase_of (Script line) = codes "script line "
 phrase_of ReadFault = codes "read fault"
 phrase_of WriteFault = codes "write fault"

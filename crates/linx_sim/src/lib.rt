@@ -1,9 +1,12 @@
 //! linx_sim reads a script of nodes, links, planned losses and actors, runs it, and writes each
-//! endpoint's log and the journal of all steps. As yet it runs the scripts that have no `settle`, in
-//! the fixed order; every other script is answered `NotBuilt`. `process` is the whole program, over the words and the streams of a
-//! process. It alone gives a `Told`, so a `main` with this result can't end in any other way.
+//! endpoint's log and the journal of all steps; or it runs the generated script of a number, and
+//! writes the summary of the journal. As yet it runs the scripts that have no `settle`, in the
+//! fixed order; every other script is answered `NotBuilt`. `process` is the whole program, over the
+//! words and the streams of a process. It alone gives a `Told`, so a `main` with this result can't
+//! end in any other way.
 #![tactic(auto)]
 
+mod asked;
 mod building;
 mod outcome;
 mod program;
@@ -11,11 +14,14 @@ mod serving;
 mod told;
 mod words;
 
+pub use asked::Asked;
 pub use outcome::{Outcome, Status};
 pub use program::process;
 pub use serving::{run, serial};
 pub use told::Told;
 
+#[cfg(test)]
+mod gen_rows;
 #[cfg(test)]
 mod link_rows;
 #[cfg(test)]

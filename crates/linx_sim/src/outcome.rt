@@ -35,7 +35,7 @@ impl Status {
     {
         match self {
             Status::Done => "",
-            Status::Usage => "usage: linx_sim run or serial",
+            Status::Usage => "usage: linx_sim run, serial or gen N",
             Status::Script { .. } => "script line ",
             Status::ReadFault => "read fault",
             Status::WriteFault => "write fault",

@@ -181,6 +181,15 @@ const FORWARDS: (&str, &str) = (
      9 A1 send 1.1 9 0a queued\n+ arrived 1.1 1.1 9 0a\n10 A1 ended\n+ closed 1.1\n",
 );
 
+// The words of a command line.
+pub(crate) fn owned(alloc: Global, words: &[&str]) -> Result<Vec<String>, Fail> {
+    let mut owned = Vec::new(alloc);
+    for word in words {
+        owned.push(String::from_str(alloc, word)?)?;
+    }
+    Ok(owned)
+}
+
 // The outcome of a script under these words.
 pub(crate) fn outcome_under<R: Wait>(
     rt: &R,
@@ -189,12 +198,9 @@ pub(crate) fn outcome_under<R: Wait>(
     script: &[u8],
     sink: &mut MemSink,
 ) -> Result<Outcome, Fail> {
-    let mut owned = Vec::new(alloc);
-    for word in words {
-        owned.push(String::from_str(alloc, word)?)?;
-    }
+    let words = owned(alloc, words)?;
     let mut source = PlainSource::new(Vec::from_slice(alloc, script)?);
-    Ok(serving::run(rt, alloc, &owned, &mut source, sink, &OpenGate))
+    Ok(serving::run(rt, alloc, &words, &mut source, sink, &OpenGate))
 }
 
 // Whether the run of a script is done, and has written this text, under each word that runs one.

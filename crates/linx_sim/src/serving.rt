@@ -1,26 +1,29 @@
 //! The top call: words, script, run, text.
 
-ghost use Rattle.std.specs.Prelude.{◌≡◌, ◌≢◌, ◌⊎◌, true, [], Ok};
-ghost use Rattle.std.specs.Prelude.{IfOk, IfErr, OnOk, IfSome};
+ghost use Rattle.std.specs.Prelude.{◌≡◌, ◌≢◌, true, [], Ok, None};
+ghost use Rattle.std.specs.Prelude.{IfOk, IfErr, OnOk, IfSome, IfNone};
 ghost use Rattle.std.specs.Io.KnownBytes.{IsAtEnd};
 ghost use Rattle.journal_text.specs.Text.{text_of};
 ghost use Rattle.script_lang.specs.Reading.{script_of};
 ghost use Rattle.stage.specs.Turns.{first_layout};
-ghost use Rattle.linx_sim.specs.CommandLine.{IsCommand};
+ghost use Rattle.work_gen.specs.Generated.{generated};
+ghost use Rattle.linx_sim.specs.CommandLine.{asked_of};
 ghost use Rattle.linx_sim.specs.Statuses.{IsUsageOrRefused};
 ghost use Rattle.linx_sim.specs.Streams.{Reads, Writes, TakesAtMost, read_most};
-ghost use Rattle.linx_sim.specs.Runs.{is_built, IsAnswerTo, IsCaused, IsLegalSomehow, Completes};
+ghost use Rattle.linx_sim.specs.Runs.{is_built, IsAnswerTo, IsOutcomeOf, IsCaused, IsLegalSomehow};
+ghost use Rattle.linx_sim.specs.Runs.{Completes};
+ghost use Rattle.linx_sim.specs.Commands.{IsCausedUnder, CompletesUnder, ReadsUnder, written_under};
 ghost use Rattle.linx_sim.specs.Causes.{IsUnread, is_of_writing, read_status, script_status};
-ghost use Rattle.linx_sim.specs.Causes.{stop_status};
+ghost use Rattle.linx_sim.specs.Causes.{stop_status, report_status};
 
+use crate::asked::{Asked, asked_for};
 use crate::building::is_built;
 use crate::outcome::{Outcome, Status};
-use crate::words::ask_for_a_run;
 use fabric::StopCause;
 use journal::Journal;
 use linx_base::{NameList, Names, NoMemory};
 use linx_outside::{Gate, ReadStop, Sink, Source, read_up_to};
-use report::{ReportError, write_report};
+use report::{ReportError, write_report, write_summary};
 use script_lang::{Script, ScriptError, parse};
 use stage::Stage;
 use std::alloc::Global;
@@ -71,32 +74,45 @@ fn status_of_stop(cause: StopCause) -> Status
     }
 }
 
-/// The text of a whole run goes to the sink.
-fn write_run<K: Sink>(alloc: Global, journal: Journal, out: &mut K) -> Outcome
-    ensures journal { result.journal ≡ journal }
-    ensures kinds { is_of_writing result.status ≡ true }
-    ensures sink { Writes K.held K.faults K.last_count K.can_take out.old out.new
-        result.status (text_of journal.log) }
+fn status_of_report(written: Result<(), ReportError>) -> Status
+    ensures { result ≡ report_status written }
 {
-    let status = match write_report(alloc, &journal, out) {
+    match written {
         Ok(()) => Status::Done,
         Err(ReportError::WriteFault) => Status::WriteFault,
         Err(ReportError::NoMemory) => Status::NoMemory,
-    };
-    Outcome { status, journal }
+    }
 }
 
-/// Plays a script in the fixed order, and writes the text of the whole run.
-fn play_script<K: Sink>(stage: Stage, alloc: Global, out: &mut K) -> Outcome
+/// What is asked for of a whole run goes to the sink: its text, or its summary.
+fn write_run<K: Sink>(alloc: Global, asked: Asked, journal: &Journal, out: &mut K) -> Status
+    ensures kinds { is_of_writing result ≡ true }
+    ensures sink { Writes K.held K.faults K.last_count K.can_take out.old out.new
+        result (written_under asked journal.now.log) }
+{
+    match asked {
+        Asked::Run | Asked::Serial => status_of_report(write_report(alloc, journal, out)),
+        Asked::Gen(_) => status_of_report(write_summary(alloc, journal, out)),
+    }
+}
+
+/// Plays a script in the fixed order, and writes what is asked for of the whole run.
+fn play_script<K: Sink>(alloc: Global, asked: Asked, stage: Stage, out: &mut K) -> Outcome
     requires built { is_built stage.script ≡ true }
     requires unstarted { stage.run ≡ first_layout stage.script }
     ensures answer { IsAnswerTo result.status stage.script result.journal.log }
     ensures sink { Writes K.held K.faults K.last_count K.can_take out.old out.new
-        result.status (text_of result.journal.log) }
+        result.status (written_under asked result.journal.log) }
 {
     let mut stage = stage;
     match stage.play() {
-        Ok(()) => write_run(alloc, stage.into_journal(), out),
+        Ok(()) => {
+            let journal = stage.into_journal();
+            Outcome {
+                status: write_run(alloc, asked, &journal, out),
+                journal,
+            }
+        }
         Err(stop) => Outcome {
             status: status_of_stop(stop.cause),
             journal: stage.into_journal(),
@@ -105,18 +121,17 @@ fn play_script<K: Sink>(stage: Stage, alloc: Global, out: &mut K) -> Outcome
 }
 
 /// Runs a script, where it is one that can be run as yet.
-fn run_script<K: Sink>(alloc: Global, script: Script, out: &mut K) -> Outcome
-    ensures answer { ((result.status ≡ Status.NoMemory) × (result.journal.log.steps ≡ []))
-        ⊎ IsAnswerTo result.status script result.journal.log }
+fn run_script<K: Sink>(alloc: Global, asked: Asked, script: Script, out: &mut K) -> Outcome
+    ensures answer { IsOutcomeOf result.status script result.journal.log }
     ensures legal { IsLegalSomehow result.journal.log.steps }
     ensures sink { Writes K.held K.faults K.last_count K.can_take out.old out.new
-        result.status (text_of result.journal.log) }
+        result.status (written_under asked result.journal.log) }
 {
     if !is_built(&script) {
         return unstarted(alloc, Status::NotBuilt);
     }
     match Stage::new(alloc, script) {
-        Ok(stage) => play_script(stage, alloc, out),
+        Ok(stage) => play_script(alloc, asked, stage, out),
         Err(NoMemory) => unstarted(alloc, Status::NoMemory),
     }
 }
@@ -158,12 +173,43 @@ pub fn serial<S: Source, K: Sink>(alloc: Global, script: &mut S, out: &mut K) ->
         result.status (text_of result.journal.log) }
 {
     match read_script(alloc, script) {
-        Ok(script) => run_script(alloc, script, out),
+        Ok(script) => run_script(alloc, Asked::Serial, script, out),
         Err(status) => unstarted(alloc, status),
     }
 }
 
-/// Does what the words of the command line say. As yet `run` does what `serial` does.
+/// Runs the generated script of a number in the fixed order, and writes the summary of the whole
+/// run.
+fn generate<K: Sink>(alloc: Global, number: u32, out: &mut K) -> Outcome
+    ensures cause { IsOutcomeOf result.status (generated number) result.journal.log }
+    ensures legal { IsLegalSomehow result.journal.log.steps }
+    ensures sink { Writes K.held K.faults K.last_count K.can_take out.old out.new
+        result.status (written_under (Asked.Gen number) result.journal.log) }
+{
+    match work_gen::script(alloc, number) {
+        Ok(script) => run_script(alloc, Asked::Gen(number), script, out),
+        Err(NoMemory) => unstarted(alloc, Status::NoMemory),
+    }
+}
+
+/// Does what is asked for. As yet `run` does what `serial` does.
+fn serve<S: Source, K: Sink>(alloc: Global, asked: Asked, script: &mut S, out: &mut K) -> Outcome
+    ensures cause { IsCausedUnder asked result.status (S.left script.old) result.journal.log }
+    ensures legal { IsLegalSomehow result.journal.log.steps }
+    ensures never_usage { result.status ≢ Status.Usage }
+    ensures complete { CompletesUnder asked (S.left script.old) result.status result.journal.log }
+    ensures source { ReadsUnder asked S.left S.faults S.last_count S.is_faultless script.old
+        script.new result.status }
+    ensures sink { Writes K.held K.faults K.last_count K.can_take out.old out.new
+        result.status (written_under asked result.journal.log) }
+{
+    match asked {
+        Asked::Run | Asked::Serial => serial(alloc, script, out),
+        Asked::Gen(number) => generate(alloc, number, out),
+    }
+}
+
+/// Does what the words of the command line ask for.
 pub fn run<S: Source, K: Sink, G: Gate + Sync, R: Wait>(
     _rt: &R,
     alloc: Global,
@@ -172,27 +218,31 @@ pub fn run<S: Source, K: Sink, G: Gate + Sync, R: Wait>(
     out: &mut K,
     _gate: &G,
 ) -> Outcome
-    // Of the words.
-    ensures usage { result.status ≡ Status.Usage → ¬ (IsCommand words.now) }
-    ensures other_words { ¬ (IsCommand words.now) → IsUsageOrRefused result.status }
-    ensures untouched { ¬ (IsCommand words.now)
-        → (script.new ≡ script.old) × (out.new ≡ out.old) }
+    // Of words that are those of no command.
+    ensures usage { result.status ≡ Status.Usage → asked_of words.now ≡ None }
+    ensures other_words { IfNone (asked_of words.now)
+        (IsUsageOrRefused result.status × (result.journal.log.steps ≡ [])) }
+    ensures untouched { IfNone (asked_of words.now)
+        ((script.new ≡ script.old) × (out.new ≡ out.old)) }
 
-    // Of the bytes, the run and the journal.
-    ensures cause { IsCaused result.status (S.left script.old) result.journal.log }
+    // Of the script that is asked for, the run and the journal.
+    ensures cause { IfSome (asked_of words.now) (λ asked.
+        IsCausedUnder asked result.status (S.left script.old) result.journal.log) }
     ensures legal { IsLegalSomehow result.journal.log.steps }
-    ensures complete { IsCommand words.now → IfSome (S.left script.old) (λ told.
-        Completes told result.status result.journal.log) }
+    ensures complete { IfSome (asked_of words.now) (λ asked.
+        CompletesUnder asked (S.left script.old) result.status result.journal.log) }
 
     // Of the source and the sink.
-    ensures source { Reads S.left S.faults S.last_count S.is_faultless script.old script.new
-        result.status }
-    ensures sink { Writes K.held K.faults K.last_count K.can_take out.old out.new
-        result.status (text_of result.journal.log) }
+    ensures source { IfSome (asked_of words.now) (λ asked.
+        ReadsUnder asked S.left S.faults S.last_count S.is_faultless script.old script.new
+        result.status) }
+    ensures sink { IfSome (asked_of words.now) (λ asked.
+        Writes K.held K.faults K.last_count K.can_take out.old out.new
+        result.status (written_under asked result.journal.log)) }
 {
-    match ask_for_a_run(alloc, words) {
-        Ok(true) => serial(alloc, script, out),
-        Ok(false) => unstarted(alloc, Status::Usage),
+    match asked_for(alloc, words) {
+        Ok(Some(asked)) => serve(alloc, asked, script, out),
+        Ok(None) => unstarted(alloc, Status::Usage),
         Err(NoMemory) => unstarted(alloc, Status::NoMemory),
     }
 }

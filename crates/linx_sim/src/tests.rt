@@ -166,6 +166,10 @@ fn words_that_are_no_command(rt: HostRuntime) -> Result<(), Fail> {
     assert_eq!(rt; status_for(&rt, alloc, &["run", "run"])?, Status::Usage);
     assert_eq!(rt; status_for(&rt, alloc, &["-x"])?, Status::Usage);
     assert_eq!(rt; status_for(&rt, alloc, &["gen"])?, Status::Usage);
+    assert_eq!(rt;
+        status_for(&rt, alloc, &["gen", "4294967296"])?,
+        Status::Usage
+    );
     assert_eq!(rt; status_for(&rt, alloc, &[])?, Status::Usage);
     Ok(())
 }
@@ -176,7 +180,7 @@ const ROWS: [(Status, u8, &str); 8] = [
     (
         Status::Usage,
         1,
-        "linx_sim: usage: linx_sim run or serial\n",
+        "linx_sim: usage: linx_sim run, serial or gen N\n",
     ),
     (
         Status::Script {
@@ -266,7 +270,7 @@ fn is_all<R: Wait + Eprint>(
 fn the_whole_program(rt: HostRuntime) -> Result<(), Fail> {
     let alloc = rt.alloc();
     let run: [&[u8]; 2] = [b"linx_sim", b"run"];
-    let usage = "linx_sim: usage: linx_sim run or serial\n";
+    let usage = "linx_sim: usage: linx_sim run, serial or gen N\n";
     let script = SELF_SEND.0.as_bytes();
     assert!(rt; is_all(&rt, alloc, &run, script, (0, SELF_SEND.1, ""))?);
     assert!(rt; is_all(&rt, alloc, &[b"linx_sim"], script, (1, "", usage))?);
