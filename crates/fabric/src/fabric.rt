@@ -326,7 +326,7 @@ impl Fabric {
     }
 
     /// Whether an actor waits, and nothing that it waits for is in its queue.
-    fn is_idle(&self, actor: u32) -> bool
+    pub fn is_idle(&self, actor: u32) -> bool
         requires above { 0 < actor }
         requires within { actor ≤ length self.now.shape.actors }
         ensures { result ≡ is_idle self.now.log.steps actor }

@@ -2,6 +2,7 @@ mod Asking
 mod LaidOut
 mod Makings
 mod Waiting
+mod Idling
 mod Pumping
 mod Rounds
 mod Planned

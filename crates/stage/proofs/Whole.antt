@@ -18,6 +18,7 @@ use Rattle.fabric.specs.Links.{is_still, none_stirs, stirs}
 use Rattle.fabric.specs.Machine.{all_have_ended}
 use Rattle.fabric.specs.Run.{Layout}
 use Rattle.stage.specs.Turns.{AreRounds, AreTurns, IsRound, IsTurnOf, is_over, shape_of}
+use Rattle.stage.proofs.Idling.{not_true}
 use Rattle.stage.proofs.Rounds.{ended-each}
 
 -- one turn more
@@ -74,10 +75,6 @@ module _ (script : ScriptParts) (f : Layout) (shape : f.shape ≡ shape_of scrip
         | inr (inl less) ↦ still_each P trunks n l parts.0 above (omega arith)
         | inr (inr more) ↦ absurd (omega arith)
       ]
-    where
-      not_true : (b : Bool) → not b ≡ true → b ≡ false
-      not_true true is = absurd (true≢false (sym is))
-      not_true false is = refl
 
   pub stirring-not_over : (l : LinkNo) → IsLinkOf (shape_of script) l
       → stirs f.log.steps (trunks_of f.trunks) l.0 ≡ true → is_over f ≡ false

@@ -1,10 +1,12 @@
 ghost use Rattle.std.specs.Prelude.{◌≡◌, ℕ, ◌<◌, ◌≤◌, true, false, [], length, map, IfOk, IfErr};
-ghost use Rattle.std.specs.Prelude.{OnOk, OnErr, IsErr};
+ghost use Rattle.std.specs.Prelude.{OnOk, OnErr, IsErr, not, ◌&&◌};
 ghost use Rattle.journal.specs.Logs.{is_full};
 ghost use Rattle.journal.specs.History.{has_ended};
+ghost use Rattle.journal.specs.Rest.{is_idle};
 ghost use Rattle.link_laws.specs.Ends.{IsLinkOf};
 ghost use Rattle.run_trunks.specs.States.{trunks_of};
-ghost use Rattle.fabric.specs.Links.{stirs};
+ghost use Rattle.fabric.specs.Links.{is_still, stirs};
+ghost use Rattle.fabric.specs.Machine.{is_at_rest};
 ghost use Rattle.fabric.specs.Run.{Layout};
 ghost use Rattle.stage.specs.Plays.{AllFollowWhole, IsSoFar};
 ghost use Rattle.stage.specs.Seats.{unstarted};
@@ -152,8 +154,26 @@ impl Stage {
         if self.fabric.has_ended(actor) {
             return Ok(Turn::Ended);
         }
+        if self.waits_on(actor) {
+            return Ok(Turn::Waits);
+        }
         let player = &mut self.players[(actor - 1) as usize];
         turn_of(self.alloc, &mut self.fabric, &self.script, actor, player)
+    }
+
+    /// Whether an actor's turn would find nothing, as the one before did: it waits, nothing that it
+    /// waits for is in its queue, it isn't at rest, and the journal has room.
+    fn waits_on(&self, actor: u32) -> bool
+        requires above { 0 < actor }
+        requires within { actor ≤ length self.now.script.actors }
+        ensures { result ≡ (not (is_full self.now.run.log.steps)
+            && (is_idle self.now.run.log.steps actor
+            && not (is_at_rest self.now.run.shape self.now.run.log.steps actor
+            && is_still self.now.run.shape self.now.run.log.steps
+            (trunks_of self.now.run.trunks)))) }
+    {
+        let _ = &self.players;
+        !self.fabric.journal().full() && self.fabric.is_idle(actor) && !self.fabric.is_rest(actor)
     }
 
     /// One turn of a link's pump. A stop leaves it to be made, and nothing changed.
