@@ -2,5 +2,4 @@ mod Numbers
 pub mod Own
 pub mod Answering
 pub mod Calls
-pub mod Same
 mod Fresh
