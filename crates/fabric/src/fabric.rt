@@ -282,9 +282,10 @@ impl Fabric {
         self.have_ended() && self.is_still()
     }
 
-    /// The number of actors.
-    fn actor_count(&self) -> u32
+    /// The number of actors. With the links they are at most 96.
+    pub fn actor_count(&self) -> u32
         ensures count { result ≡ length self.now.shape.actors }
+        ensures few { length self.now.shape.actors + length self.now.shape.links ≤ 96 }
     {
         self.actors.len() as u32
     }
