@@ -15,13 +15,12 @@ use Rattle.node_kernel.specs.Nodes.{NodeState, empty_node}
 use Rattle.run_trunks.specs.States.{AllFit, new_trunks, trunks_of}
 use Rattle.run_trunks.proofs.Numbered.{all-new}
 use Rattle.trunk.specs.Events.{TrunkState, new_trunk}
-use Rattle.trunk_moves.specs.Trunks.{AllNew}
 use Rattle.fabric.specs.declared.line.Line.{Line}
 use Rattle.fabric.specs.declared.standing.Standing.{Standing}
 use Rattle.fabric.specs.Lines.{fresh_line}
 use Rattle.fabric.specs.Remains.{AreBootsLeft, AreLeft, AreLinesLeft, AreNodesLeft}
 use Rattle.fabric.specs.Remains.{AreStandingsLeft, IsKept, IsLaidOut, IsLink, Parts, node_left}
-use Rattle.fabric.specs.Run.{IsReached, Layout}
+use Rattle.fabric.specs.Run.{AreFirst, IsReached, Layout}
 use Rattle.fabric.specs.Standings.{empty_nodes, fresh}
 
 -- a test of all below a number that fails at one, fails at each greater one
@@ -132,8 +131,8 @@ kept-new f parts names laid_out log_is trunks_are kernels_are booted_are standin
       laid_out = subst (λ (n : ℕ). IsLaidOut n f.shape) (sym named) laid_out;
       reached =
           subst (λ (P : List Step). IsReached f.shape P (trunks_of f.trunks)) (sym steps)
-          (subst (λ (ts : List TrunkState). AllNew f.shape (trunks_of ts)) (sym trunks_are)
-          (all-new f.shape (all-fit nodes f.shape laid_out)));
+          (subst (λ (ts : List TrunkState). AreFirst f.shape (trunks_of ts)) (sym trunks_are)
+          (all-new f.shape (all-fit nodes f.shape laid_out), λ l of_shape. refl));
       counted = record {
         kernels = ap (λ (xs : List NodeState). length xs) kernels_are ∙ length-empty_nodes nodes
             ∙ sym named;

@@ -26,7 +26,7 @@ use Rattle.fabric.specs.Run.{IsReached, Layout}
 
 pub reached-run : (shape : Shape) (P : List Step) (trunks : RunTrunks) → IsReached shape P trunks
     → IsTrunkRun shape P trunks
-reached-run shape [] trunks reached = reached
+reached-run shape [] trunks reached = reached.0
 reached-run shape (s ∷ P) trunks reached =
     (reached.0, (reached-run shape P reached.0 reached.1.0, reached.1.1.0))
 

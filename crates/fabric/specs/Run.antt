@@ -11,10 +11,10 @@ use Rattle.node_kernel.specs.Answers.{answer_of, named}
 use Rattle.node_kernel.specs.declared.answers.StepAnswer.{StepAnswer}
 use Rattle.node_kernel.specs.declared.answers.StepAnswer.TheVariants.{NotYet}
 use Rattle.node_kernel.specs.declared.ask.Ask.{Ask}
-use Rattle.run_trunks.specs.States.{trunks_of}
+use Rattle.run_trunks.specs.States.{new_trunks, trunks_of}
 use Rattle.trunk.specs.Events.{TrunkState}
 use Rattle.trunk_moves.specs.Steps.{IsTrunkStep}
-use Rattle.trunk_moves.specs.Trunks.{AllNew, RunTrunks}
+use Rattle.trunk_moves.specs.Trunks.{AllNew, Become, RunTrunks}
 use Rattle.fabric.specs.Links.{is_still}
 use Rattle.fabric.specs.Machine.{head_for}
 
@@ -29,9 +29,14 @@ abbrev pub IsMade : Shape → List Step → RunTrunks → Step → Type 0
 IsMade shape P trunks s =
     head_for shape P (is_still shape P trunks) s.by (named s.head) ≡ Some s.head
 
--- THE RUNS: from new trunks on, each step is made, and makes of the trunks what its kind makes
+-- before the first step each link's trunk is new, with the window and the piece of its declaration
+abbrev pub AreFirst : Shape → RunTrunks → Type 0
+AreFirst shape trunks =
+    AllNew shape trunks × Become shape trunks (trunks_of (new_trunks shape.links))
+
+-- THE RUNS: from the first trunks on, each step is made, and makes of the trunks what its kind makes
 abbrev pub IsReached : Shape → List Step → RunTrunks → Type 0
-IsReached shape [] trunks = AllNew shape trunks
+IsReached shape [] trunks = AreFirst shape trunks
 IsReached shape (s ∷ P) after =
     (before : RunTrunks) × (IsReached shape P before × (IsTrunkStep shape P before s after
     × IsMade shape P before s))

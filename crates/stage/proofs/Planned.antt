@@ -107,5 +107,8 @@ module _ (script : ScriptParts) (old new : Layout) (shape : old.shape ≡ shape_
 pub new-planned : (script : ScriptParts) → IsScript script
     → IsPlanned script [] (trunks_of (new_trunks script.links))
 new-planned script declared =
-    all-new (shape_of script)
-    (all-fit (length script.names.nodes) (shape_of script) (laid_out script declared))
+    (
+      all-new (shape_of script)
+      (all-fit (length script.names.nodes) (shape_of script) (laid_out script declared)),
+      λ l of_shape. refl,
+    )

@@ -10,8 +10,8 @@ use Rattle.actor_run.specs.Following.{Follows, FollowsWhole}
 use Rattle.run_trunks.specs.States.{trunks_of}
 use Rattle.script_lang.specs.Parts.{ScriptParts}
 use Rattle.trunk_moves.specs.Steps.{IsTrunkStep}
-use Rattle.trunk_moves.specs.Trunks.{AllNew, RunTrunks, links_of}
-use Rattle.fabric.specs.Run.{IsReached, Layout}
+use Rattle.trunk_moves.specs.Trunks.{RunTrunks, links_of}
+use Rattle.fabric.specs.Run.{AreFirst, IsReached, Layout}
 use Rattle.stage.specs.Pumps.{pump_event}
 use Rattle.stage.specs.Turns.{commands_of, shape_of}
 
@@ -38,10 +38,10 @@ IsPlannedHead script P trunks (Tick l side) =
     pump_event script P trunks l ≡ Some (asks.Tick l side)
 IsPlannedHead script P trunks head = Unit {0}
 
--- A RUN AS PLANNED: from new trunks on, each step makes of them what its kind makes, and each step
+-- A RUN AS PLANNED: from the first trunks on, each step makes of them what its kind makes, and each step
 -- of a packet or of a clock is the one that the pump's rule asks for before it
 abbrev pub IsPlanned : ScriptParts → List Step → RunTrunks → Type 0
-IsPlanned script [] trunks = AllNew (shape_of script) trunks
+IsPlanned script [] trunks = AreFirst (shape_of script) trunks
 IsPlanned script (s ∷ P) after =
     (before : RunTrunks)
     × (IsPlanned script P before × (IsTrunkStep (shape_of script) P before s after
