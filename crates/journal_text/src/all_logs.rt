@@ -69,6 +69,7 @@ fn write_opened(
     Ok(())
 }
 
+/// The blocks of all opened incarnations, in order of opening.
 fn write_blocks(out: &mut Vec<u8>, journal: &Journal, logs: &Logs) -> Result<(), NoMemory>
     requires { Collects journal.now.log.names journal.now.log.steps journal.now.log.steps logs.now }
     ensures { OnOk result (out.new.items ≡ out.old.items ++ logs_text journal.now.log) }
@@ -84,21 +85,16 @@ fn write_blocks(out: &mut Vec<u8>, journal: &Journal, logs: &Logs) -> Result<(),
     Ok(())
 }
 
-/// The logs, with these digests at hand.
+/// The logs, with these digests at hand. After a refusal the buffer holds some front of them.
 pub(crate) fn write_logs_with(
     out: &mut Vec<u8>,
     journal: &Journal,
     digests: &Digests,
 ) -> Result<(), NoMemory>
-    ensures ok { OnOk result (out.new.items ≡ out.old.items ++ logs_text journal.now.log) }
-    ensures err { OnErr result (out.new.items ≡ out.old.items) }
+    ensures { OnOk result (out.new.items ≡ out.old.items ++ logs_text journal.now.log) }
 {
-    let alloc = *out.allocator();
-    let logs = collect(alloc, journal, digests)?;
-    let mut blocks = Vec::new(alloc);
-    write_blocks(&mut blocks, journal, &logs)?;
-    out.extend_from_slice(&blocks)?;
-    Ok(())
+    let logs = collect(*out.allocator(), journal, digests)?;
+    write_blocks(out, journal, &logs)
 }
 
 /// Appends the logs of all opened incarnations in order of opening. A refusal leaves the buffer as
@@ -107,6 +103,10 @@ pub fn write_logs(out: &mut Vec<u8>, journal: &Journal) -> Result<(), NoMemory>
     ensures ok { OnOk result (out.new.items ≡ out.old.items ++ logs_text journal.now.log) }
     ensures err { OnErr result (out.new.items ≡ out.old.items) }
 {
-    let digests = Digests::of(*out.allocator(), journal)?;
-    write_logs_with(out, journal, &digests)
+    let alloc = *out.allocator();
+    let digests = Digests::of(alloc, journal)?;
+    let mut blocks = Vec::new(alloc);
+    write_logs_with(&mut blocks, journal, &digests)?;
+    out.extend_from_slice(&blocks)?;
+    Ok(())
 }

@@ -14,7 +14,7 @@ ghost use Rattle.journal_text.specs.Collected.{Collects};
 use crate::digests::{Digested, Digests};
 use crate::entries::{concerns, write_effect_log, write_head_log};
 use crate::logs::name_of;
-use crate::texts::{Texts, append_at, kept_at};
+use crate::texts::{Text, Texts, kept_at};
 use journal::{Effect, Head, Journal, Step};
 use linx_base::{Inc, Name, Names, NoMemory, TryCopy};
 use std::alloc::Global;
@@ -74,6 +74,56 @@ fn keep_opened(
     Ok(())
 }
 
+/// Adds the line of the head of the step at a position to a text.
+fn add_head_line(
+    text: &mut Text,
+    journal: &Journal,
+    digests: &Digests,
+    position: u64,
+    head: &Head,
+) -> Result<(), NoMemory>
+    ensures { OnOk result (text.new
+        ≡ text.old ++ head_log journal.now.log.names journal.now.log.steps head.now) }
+{
+    write_head_log(&mut text.bytes, journal, digests, position, head)
+}
+
+/// Adds the line of an effect to a text.
+fn add_effect_line(
+    text: &mut Text,
+    names: &Names,
+    effect: &Effect,
+    known: Option<&Digested>,
+) -> Result<(), NoMemory>
+    ensures { OnOk result (text.new ≡ text.old ++ effect_log names.now effect.now) }
+{
+    write_effect_log(&mut text.bytes, names, effect, known)
+}
+
+/// Adds the line of the head of the step at a position to the log of an incarnation.
+fn add_head_at(
+    alloc: Global,
+    lines: &mut Texts,
+    journal: &Journal,
+    digests: &Digests,
+    inc: Inc,
+    position: u64,
+    head: &Head,
+) -> Result<(), NoMemory>
+    ensures { OnOk result ((q : ℕ) → kept lines.new q ≡ kept lines.old q ++ (if q == inc.0
+        then head_log journal.now.log.names journal.now.log.steps head.now else [])) }
+{
+    match lines.get_mut(&inc.0) {
+        Some(text) => add_head_line(text, journal, digests, position, head),
+        None => {
+            let mut text = Text::new(alloc);
+            add_head_line(&mut text, journal, digests, position, head)?;
+            lines.insert(inc.0, text)?;
+            Ok(())
+        }
+    }
+}
+
 /// Adds the line of the head of the step at a position to the log of its maker's endpoint.
 fn add_head(
     alloc: Global,
@@ -89,12 +139,31 @@ fn add_head(
         (head_log journal.now.log.names journal.now.log.steps head.now)) }
 {
     match owner {
-        Some(inc) => {
-            let mut line = Vec::new(alloc);
-            write_head_log(&mut line, journal, digests, position, head)?;
-            append_at(alloc, lines, inc.0, &line)
-        }
+        Some(inc) => add_head_at(alloc, lines, journal, digests, inc, position, head),
         None => Ok(()),
+    }
+}
+
+/// Adds the line of an effect to the log of an incarnation.
+fn add_effect_at(
+    alloc: Global,
+    lines: &mut Texts,
+    names: &Names,
+    inc: Inc,
+    effect: &Effect,
+    known: Option<&Digested>,
+) -> Result<(), NoMemory>
+    ensures { OnOk result ((q : ℕ) → kept lines.new q ≡ kept lines.old q
+        ++ (if q == inc.0 then effect_log names.now effect.now else [])) }
+{
+    match lines.get_mut(&inc.0) {
+        Some(text) => add_effect_line(text, names, effect, known),
+        None => {
+            let mut text = Text::new(alloc);
+            add_effect_line(&mut text, names, effect, known)?;
+            lines.insert(inc.0, text)?;
+            Ok(())
+        }
     }
 }
 
@@ -110,11 +179,7 @@ fn add_effect(
         ++ if_for (record { 0 = q }) (concerned effect.now) (effect_log names.now effect.now)) }
 {
     match concerns(effect) {
-        Some(inc) => {
-            let mut line = Vec::new(alloc);
-            write_effect_log(&mut line, names, effect, known)?;
-            append_at(alloc, lines, inc.0, &line)
-        }
+        Some(inc) => add_effect_at(alloc, lines, names, inc, effect, known),
         None => Ok(()),
     }
 }
@@ -132,7 +197,7 @@ fn add_effects(
         ++ effect_logs names.now (record { 0 = q }) effects.now) }
 {
     for (index, effect) in effects.iter().enumerate() {
-        let known = digests.of_effect(position, index);
+        let known = digests.of_effect(position, index, effect);
         add_effect(alloc, lines, names, effect, known)?;
     }
     Ok(())

@@ -4,7 +4,9 @@
 //! printed depends on nothing that is kept.
 ghost use Rattle.std.specs.Prelude.{◌≡◌, ◌↔◌, IsTrue, IfOk};
 ghost use Rattle.sha2.specs.Sha256.{sha256};
+ghost use Rattle.journal_text.specs.Values.{digest_text};
 
+use crate::digits::write_digest;
 use crate::reading::step_after;
 use journal::{Effect, Head, Journal, Step};
 use linx_base::{Blob, ItemAt, NoMemory, SigNote, TryCopy};
@@ -15,6 +17,9 @@ use std::marker::Model;
 
 /// The most data bytes that are spelled one by one.
 pub(crate) const SPELLED_MOST: usize = 32;
+
+/// The room for a spelled digest: a length of up to five digits, a colon and two digits a byte.
+const SPELLED_ROOM: usize = 70;
 
 /// Where a step's head stands; its effects stand at the places from 1 on.
 fn head_at(step: u64) -> ItemAt {
@@ -29,80 +34,88 @@ fn effect_at(step: u64, index: usize) -> ItemAt {
     }
 }
 
-fn digest_of(bytes: &[u8]) -> [u8; 32]
+pub(crate) fn digest_of(bytes: &[u8]) -> [u8; 32]
     ensures { result ≡ sha256 bytes.now }
 {
     Sha256::digest(bytes)
 }
 
-/// Bytes with their digest. Contracts see the bytes.
+/// Bytes with their digest as it is spelled. Contracts see the bytes.
 #[derive(Drop)]
 pub(crate) struct Digested {
     bytes: Blob,
-    digest: [u8; 32],
+    text: Blob,
 }
 
 impl Model for Digested {
     ghost use Rattle.std.specs.Prelude.{◌≡◌, List, ℕ};
-    ghost use Rattle.sha2.specs.Sha256.{sha256};
+    ghost use Rattle.journal_text.specs.Values.{digest_text};
 
     ghost Value = { List ℕ };
 
     ghost view = { λ d. d.bytes };
 
-    ghost invariant = { λ d. d.digest ≡ sha256 d.bytes };
+    ghost invariant = { λ d. d.text ≡ digest_text d.bytes };
 }
 
 impl TryCopy for Digested {
     fn copy(&self) -> Result<Digested, NoMemory> {
         Ok(Digested {
             bytes: self.bytes.copy()?,
-            digest: self.digest,
+            text: self.text.copy()?,
         })
     }
 }
 
+/// The digest of these bytes, as it is spelled.
+fn spelled(alloc: Global, bytes: &Blob) -> Result<Blob, NoMemory>
+    ensures { IfOk result (λ text. text ≡ digest_text bytes.now) }
+{
+    let mut text = Vec::with_capacity(alloc, SPELLED_ROOM)?;
+    write_digest(&mut text, bytes)?;
+    Blob::shared(text)
+}
+
 impl Digested {
-    fn of(bytes: &Blob) -> Result<Digested, NoMemory>
+    fn of(alloc: Global, bytes: &Blob) -> Result<Digested, NoMemory>
         ensures { IfOk result (λ made. made ≡ bytes.now) }
     {
         Ok(Digested {
             bytes: bytes.copy()?,
-            digest: digest_of(bytes.bytes()),
+            text: spelled(alloc, bytes)?,
         })
     }
 
-    fn is_of(&self, bytes: &Blob) -> bool
+    pub(crate) fn is_of(&self, bytes: &Blob) -> bool
         ensures { IsTrue result ↔ (self.now ≡ bytes.now) }
     {
         self.bytes.same(bytes)
     }
 
-    fn digest(&self) -> [u8; 32]
-        ensures { result ≡ sha256 self.now }
+    pub(crate) fn text(&self) -> &[u8]
+        ensures { result.now ≡ digest_text self.now }
     {
-        self.digest
-    }
-}
-
-/// The digest of these bytes: the known one, if it is of them.
-pub(crate) fn digest_with(known: Option<&Digested>, bytes: &Blob) -> [u8; 32]
-    ensures { result ≡ sha256 bytes.now }
-{
-    match known {
-        Some(digested) if digested.is_of(bytes) => digested.digest(),
-        _ => digest_of(bytes.bytes()),
+        self.text.bytes()
     }
 }
 
 /// These bytes with their digest: the known one, if it is of them.
-fn digested_with(known: Option<&Digested>, bytes: &Blob) -> Result<Digested, NoMemory>
+fn digested_with(
+    alloc: Global,
+    known: Option<&Digested>,
+    bytes: &Blob,
+) -> Result<Digested, NoMemory>
     ensures { IfOk result (λ made. made ≡ bytes.now) }
 {
     match known {
         Some(digested) if digested.is_of(bytes) => digested.copy(),
-        _ => Digested::of(bytes),
+        _ => Digested::of(alloc, bytes),
     }
+}
+
+/// Whether a signal is printed with a digest.
+fn is_digested(note: &SigNote) -> bool {
+    note.bytes.len() > SPELLED_MOST
 }
 
 /// The signal in a head.
@@ -171,19 +184,25 @@ impl Digests {
         let mut digests = Digests::none(alloc);
         let mut latest = Latest::new(alloc);
         for done in 0..journal.len() {
-            digests.add_step(&mut latest, done + 1, step_after(journal, done))?;
+            digests.add_step(alloc, &mut latest, done + 1, step_after(journal, done))?;
         }
         Ok(digests)
     }
 
-    /// That of the signal in the head of a step.
-    pub(crate) fn of_head(&self, step: u64) -> Option<&Digested> {
-        self.kept.get(&head_at(step))
+    /// That of the signal in the head of a step, if it is printed with one.
+    pub(crate) fn of_head(&self, step: u64, head: &Head) -> Option<&Digested> {
+        match signal_in(head) {
+            Some(note) if is_digested(note) => self.kept.get(&head_at(step)),
+            _ => None,
+        }
     }
 
-    /// That of the signal in the effect of an index.
-    pub(crate) fn of_effect(&self, step: u64, index: usize) -> Option<&Digested> {
-        self.kept.get(&effect_at(step, index))
+    /// That of the signal in the effect of an index, if it is printed with one.
+    pub(crate) fn of_effect(&self, step: u64, index: usize, effect: &Effect) -> Option<&Digested> {
+        match signal_brought(effect) {
+            Some(note) if is_digested(note) => self.kept.get(&effect_at(step, index)),
+            _ => None,
+        }
     }
 
     /// That of the signal in the effect at an item's position.
@@ -191,13 +210,19 @@ impl Digests {
         self.kept.get(&at)
     }
 
-    fn add_step(&mut self, latest: &mut Latest, step: u64, made: &Step) -> Result<(), NoMemory> {
+    fn add_step(
+        &mut self,
+        alloc: Global,
+        latest: &mut Latest,
+        step: u64,
+        made: &Step,
+    ) -> Result<(), NoMemory> {
         if let Some(note) = signal_in(&made.head) {
-            self.add(latest, head_at(step), note)?;
+            self.add(alloc, latest, head_at(step), note)?;
         }
         for (index, effect) in made.effects.as_slice().iter().enumerate() {
             if let Some(note) = signal_brought(effect) {
-                self.add(latest, effect_at(step, index), note)?;
+                self.add(alloc, latest, effect_at(step, index), note)?;
             }
         }
         Ok(())
@@ -205,12 +230,18 @@ impl Digests {
 
     /// Keeps the digest of a signal, if it is printed with one. It is made unless the latest bytes
     /// of the same glance are the same.
-    fn add(&mut self, latest: &mut Latest, at: ItemAt, note: &SigNote) -> Result<(), NoMemory> {
-        if note.bytes.len() <= SPELLED_MOST {
+    fn add(
+        &mut self,
+        alloc: Global,
+        latest: &mut Latest,
+        at: ItemAt,
+        note: &SigNote,
+    ) -> Result<(), NoMemory> {
+        if !is_digested(note) {
             return Ok(());
         }
         let glance = Glance::at(note.bytes.bytes());
-        let digested = digested_with(latest.get(&glance), &note.bytes)?;
+        let digested = digested_with(alloc, latest.get(&glance), &note.bytes)?;
         latest.insert(glance, digested.copy()?)?;
         self.kept.insert(at, digested)?;
         Ok(())

@@ -154,7 +154,12 @@ pub(crate) fn write_effects(
         ≡ out.old.items ++ flat_map (effect_line names.now) effects.now) }
 {
     for (index, effect) in effects.iter().enumerate() {
-        write_effect_line(out, names, effect, digests.of_effect(position, index))?;
+        write_effect_line(
+            out,
+            names,
+            effect,
+            digests.of_effect(position, index, effect),
+        )?;
     }
     Ok(())
 }

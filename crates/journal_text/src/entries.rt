@@ -156,7 +156,7 @@ pub(crate) fn write_head_log(
         ++ head_log journal.now.log.names journal.now.log.steps head.now) }
 {
     let names = journal.names();
-    let known = digests.of_head(position);
+    let known = digests.of_head(position, head);
     match head {
         Head::Send(peer, note, answer) => {
             write_sending(out, names, b"sent ", peer, note, known, *answer)?;

@@ -47,7 +47,7 @@ pub(crate) fn write_lines(
 ) -> Result<(), NoMemory>
     ensures { OnOk result (out.new.items ≡ out.old.items ++ step_text names.now position step.now) }
 {
-    let known = digests.of_head(position);
+    let known = digests.of_head(position, &step.head);
     write_first_line(out, names, position, step.by, &step.head, known)?;
     write_effects(out, names, digests, position, step.effects.as_slice())
 }
