@@ -13,7 +13,7 @@ use Rattle.journal.specs.Logs.{step_at}
 use Rattle.journal.specs.Shapes.{Shape}
 use Rattle.link_laws.specs.Laws.{IsLegal}
 use Rattle.turn_lock.specs.declared.story.Made.{Made}
-use Rattle.linx_api.specs.Telling.{IsCounted, maker_limit, number_of, told_by}
+use Rattle.linx_api.specs.Telling.{HasFewMakers, maker_limit, number_of, told_by}
 
 -- the numbers of the makers that a history tells
 abbrev pub numbers : Shape → List Step → List ℕ
@@ -66,20 +66,17 @@ there-none shape P k there none =
     let bad : Some there.step ≡ None = sym there.stands ∙ none in cc
 
 -- the number of a maker is small
-few : (shape : Shape) (actors : ℕ) (P : List Step) → IsCounted actors shape → (by : By)
-    → IsMaker shape P by → number_of shape by ≤ maker_limit
-few shape actors P counted (Actor a) maker =
-    let within = maker.1 in let most = counted.few in omega arith
-few shape actors P counted (Pump link) maker =
-    let within = maker.1 in let most = counted.few in omega arith
+few : (shape : Shape) (P : List Step) → HasFewMakers shape → (by : By) → IsMaker shape P by
+    → number_of shape by ≤ maker_limit
+few shape P most (Actor a) maker = let within = maker.1 in omega arith
+few shape P most (Pump link) maker = let within = maker.1 in omega arith
 
-pub number-small : (shape : Shape) (actors : ℕ) (P : List Step) (k : ℕ) (s : Step)
-    → IsCounted actors shape → IsLegal shape P → step_at P k ≡ Some s
-    → number_of shape s.by ≤ maker_limit
-number-small shape actors [] k s counted legal is = let bad : None ≡ Some s = is in cc
-number-small shape actors (x ∷ P) k s counted legal is = dite (ℕ_discrete k (suc (length P)))
+pub number-small : (shape : Shape) (P : List Step) (k : ℕ) (s : Step) → HasFewMakers shape
+    → IsLegal shape P → step_at P k ≡ Some s → number_of shape s.by ≤ maker_limit
+number-small shape [] k s most legal is = let bad : None ≡ Some s = is in cc
+number-small shape (x ∷ P) k s most legal is = dite (ℕ_discrete k (suc (length P)))
     (λ e. let both : Some x ≡ Some s = sym (at_top x P k e) ∙ is in
     let same : x ≡ s = cc in
     subst (λ (y : Step). number_of shape y.by ≤ maker_limit) same
-    (few shape actors P counted x.by legal.1.makers.maker))
-    (λ ne. number-small shape actors P k s counted legal.0 (sym (below_top x P k ne) ∙ is))
+    (few shape P most x.by legal.1.makers.maker))
+    (λ ne. number-small shape P k s most legal.0 (sym (below_top x P k ne) ∙ is))

@@ -1,4 +1,5 @@
 ghost use Rattle.std.specs.Prelude.{◌≡◌, ◌≤◌, [], true, length, IfOk};
+ghost use Rattle.std.specs.Borrow.{sem};
 ghost use Rattle.journal.specs.Logs.{is_full};
 ghost use Rattle.run_trunks.specs.States.{new_trunks};
 ghost use Rattle.fabric.specs.Actings.{OnlyRuns, asking};
@@ -20,18 +21,14 @@ use turn_lock::Story;
 #[derive(Drop)]
 pub struct SharedFabric {
     fabric: Fabric,
-    actors: u32,
 }
 
 impl Model for SharedFabric {
     ghost use Rattle.fabric.specs.Run.{Layout};
-    ghost use Rattle.linx_api.specs.Telling.{IsCounted};
 
     ghost Value = { Layout };
 
     ghost view = { λ s. s.fabric };
-
-    ghost invariant = { λ s. IsCounted s.actors s.fabric.shape };
 }
 
 impl Story for SharedFabric {
@@ -52,6 +49,7 @@ impl Story for SharedFabric {
     }
 
     fn maker(&self, k: u64) -> u32 {
+        let _few = self.fabric.actor_count();
         match self.fabric.journal().step(k) {
             Some(step) => self.number_of(step.by),
             None => unreachable!(),
@@ -60,6 +58,10 @@ impl Story for SharedFabric {
 }
 
 impl SharedFabric {
+    ghost use Rattle.std.specs.Borrow.{Lends};
+    ghost use Rattle.fabric.specs.contracts.fabric.Fabric.{the_row as fabric_row};
+    ghost use Rattle.linx_api.specs.contracts.shared_fabric.SharedFabric.{the_row};
+
     /// A fabric without steps, as `Fabric::new` makes it.
     pub fn new(
         alloc: Global,
@@ -75,12 +77,8 @@ impl SharedFabric {
           trunks = new_trunks links.now;
         }) }
     {
-        let count = actors.len() as u32;
         let fabric = Fabric::new(alloc, names, links, actors)?;
-        Ok(SharedFabric {
-            fabric,
-            actors: count,
-        })
+        Ok(SharedFabric { fabric })
     }
 
     /// The fabric, to look at.
@@ -88,6 +86,14 @@ impl SharedFabric {
         ensures { result.now ≡ self.now }
     {
         &self.fabric
+    }
+
+    /// The fabric, to make steps on.
+    pub fn fabric_mut(&mut self) -> &mut Fabric
+        ensures* writes_back { sem 𝓛 (Lends the_row fabric_row self.entry result (λ f. f)) }
+        ensures value { result.now ≡ self.old }
+    {
+        &mut self.fabric
     }
 
     /// The fabric, which no other maker shares any longer.
@@ -105,7 +111,7 @@ impl SharedFabric {
     {
         match by {
             By::Actor(actor) => actor,
-            By::Pump(link) => self.actors + link.0,
+            By::Pump(link) => self.fabric.actor_count() + link.0,
         }
     }
 

@@ -22,14 +22,13 @@ unreachable-requires c =
 
 pub number_of-requires : goal.number_of-requires
 number_of-requires c =
-    let s = c.self.inside in
-    let f = s.fabric in
+    let f = c.self.inside.fabric in
     let steps = ap (λ (l : Log). l.steps) c.journal.ensures.log in
     let here : step_at f.log.steps c.args.k ≡ Some c.in-Some.step.now =
     sym (ap (λ P. step_at P c.args.k) steps)
     ∙ (sym c.step.ensures ∙ ap option_copied c.in-Some.is) in
     rw (sym c.self.view_is)
-    (number-small f.shape s.actors f.log.steps c.args.k c.in-Some.step.now c.self.invariant
+    (number-small f.shape f.log.steps c.args.k c.in-Some.step.now c.actor_count-few.ensures.few
     c.journal.ensures.legal here)
 
 pub returns : goal.returns
