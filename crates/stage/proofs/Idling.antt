@@ -1,9 +1,10 @@
 -- An actor that waits in vain, and isn't at rest, makes no step in its turn.
 use Rattle.std.proofs.Common.{◌≡◌, ℕ, Bool, true, false, List, Option, Some, None, is_none, refl, sym}
 use Rattle.std.proofs.Common.{ap, subst}
-use Rattle.std.specs.Prelude.{not, ◌&&◌, is_some, slice_get}
+use Rattle.std.specs.Prelude.{not, ◌&&◌, slice_get}
 use Rattle.std.proofs.lemmas.Bool.{true≢false}
 use Rattle.linx_base.specs.declared.identity.Inc.{Inc}
+use Rattle.linx_base.specs.declared.identity.LinkNo.{LinkNo}
 use Rattle.linx_base.specs.declared.item.Item.{Item}
 use Rattle.sigsel.specs.Selection.{first_selected}
 use Rattle.sigsel.specs.declared.sigsel.Sigsel.{Sigsel}
@@ -26,7 +27,8 @@ use Rattle.fabric.specs.Links.{is_still}
 use Rattle.fabric.specs.Machine.{head_for, is_at_rest}
 use Rattle.fabric.specs.Run.{IsStepFor, Layout}
 use Rattle.stage.specs.declared.stage.Turn.TheVariants.{Waits}
-use Rattle.stage.specs.Turns.{IsActed, commands_of}
+use Rattle.stage.specs.Settlings.{GoesOnAfter, settled_by}
+use Rattle.stage.specs.Turns.{IsActed, asked_next, commands_of}
 use Rattle.stage.proofs.Waiting.{waits_at}
 
 pub not_true : (b : Bool) → not b ≡ true → b ≡ false
@@ -63,14 +65,35 @@ module _ (script : ScriptParts) (f : Layout) (k : ℕ)
       none_selected (first_selected filter (queued P i)) vain in
       rw (asked, at, none, busy, waits) refl
 
+  -- a look settles no link
+  no_settle : (filter : Sigsel) → asked_next script k f
+      ≡ record { event = asks.Look filter; hand = None }
+      → settled_by (asked_next script k f).event ≡ None
+  no_settle filter asked = ap (λ (a : Ask). settled_by a.event) asked
+
+  looks : (w : Option Sigsel) (me : Option Inc) → waits_with P k ≡ w → endpoint_of P k ≡ me
+      → waits_in_vain P w me ≡ true → settled_by (asked_next script k f).event ≡ None
+  looks None me waits at vain = absurd (true≢false (sym vain))
+  looks (Some filter) me waits at vain =
+      no_settle filter
+      (ap (λ (c : Option Command).
+      ask_of (knows (commands_of script k) k P) (last_endpoint P k) c)
+      (waits_at (commands_of script k) k P follows filter waits))
+
   -- IT WAITS ON
   pub idle-turn : is_idle P k ≡ true → (is_at_rest f.shape P k && still) ≡ false
       → IsActed script k f f Waits
   idle-turn idle busy =
       let none = no_head (waits_with P k) (endpoint_of P k) refl refl idle busy in
+      let calm = looks (waits_with P k) (endpoint_of P k) refl refl idle in
       record {
         answer = NotYet;
-        stepped = subst (λ (h : Option Head). IsStepFor f f (Actor k) h NotYet) (sym none)
-            (refl, refl);
+        done = record {
+          between = f;
+          stepped = subst (λ (h : Option Head). IsStepFor f f (Actor k) h NotYet) (sym none)
+              (refl, refl);
+          fixed = refl;
+          goes_on = subst (λ (o : Option LinkNo). GoesOnAfter o k f f) (sym calm) refl;
+        };
         came = refl;
       }

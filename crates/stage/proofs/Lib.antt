@@ -1,11 +1,16 @@
 mod Asking
-mod LaidOut
-mod Makings
+pub mod LaidOut
+pub mod Makings
 mod Waiting
 mod Idling
-mod Pumping
+pub mod Pumping
+pub mod Settling
+mod Settled
+mod Latest
+pub mod Going
 mod Rounds
-mod Planned
-mod Seats
-mod Turned
+pub mod Planned
+pub mod Players
+pub mod Seats
+pub mod Turned
 mod Whole

@@ -310,7 +310,7 @@ module _ (old new : Layout) (k : ℕ) (ask : Ask) (answer : StepAnswer) where
   abbrev still : Bool
   still = is_still old.shape P (trunks_of old.trunks)
 
-  step-opens : (head : Head) (step : IsStepOf old new (Actor k) head answer) (m : Option Inc)
+  pub step-opens : (head : Head) (step : IsStepOf old new (Actor k) head answer) (m : Option Inc)
       → last_opened m step.effects ≡ endpoint_after m answer
   step-opens head step m =
       let node : ℕ = node_by old.shape (Actor k) in

@@ -67,7 +67,8 @@ quiet_not true b r = refl
 quiet_not false true r = refl
 quiet_not false false r = refl
 
-module _ (script : ScriptParts) (P : List Step) (trunks : RunTrunks) (l : LinkNo) where
+-- WHATEVER THE VERDICTS are
+module _ (verdicts : Side → Verdict) (P : List Step) (trunks : RunTrunks) (l : LinkNo) where
   abbrev t : TrunkState
   t = trunks l.0
 
@@ -81,7 +82,8 @@ module _ (script : ScriptParts) (P : List Step) (trunks : RunTrunks) (l : LinkNo
   works = not (has_work_in t.link.first.end) && not (has_work_in t.link.second.end)
 
   event_some : (o : Option Side)
-      → is_some (event_with script P trunks l o) ≡ (is_some o || is_some (next_ticking P trunks l))
+      → is_some (event_with verdicts P trunks l o)
+      ≡ (is_some o || is_some (next_ticking P trunks l))
   event_some None = ticked_some l (next_ticking P trunks l)
   event_some (Some from) = refl
 
@@ -104,21 +106,24 @@ module _ (script : ScriptParts) (P : List Step) (trunks : RunTrunks) (l : LinkNo
       ∙ ap (λ q. (first_flies || second_flies) || not q) quiet_as
       ∙ quiet_not first_flies second_flies works ∙ ap not (sym quiet_as)
 
-  -- A PUMP ASKS FOR SOMETHING exactly where its link stirs
-  pub pump-stirs : is_some (pump_event script P trunks l) ≡ stirs P trunks l.0
-  pump-stirs =
+  -- SOMETHING IS ASKED FOR exactly where the link stirs
+  pub event-stirs : is_some (event_with verdicts P trunks l (flying_side t)) ≡ stirs P trunks l.0
+  event-stirs =
       event_some (flying_side t)
       ∙ ap (λ u. u || is_some (next_ticking P trunks l)) (first_some first_flies second_flies)
       ∙ ticking_some (is_cut P l.0)
 
-  -- WHAT IT ASKS FOR: that a packet in flight meets its verdict, or that a side ticks
+  -- WHAT IS ASKED FOR: that a packet in flight meets its verdict, or, where none is, that a side
+  -- ticks
   pub record IsWire (event : Event) : Type 0 where
     pub from : Side
     pub flies : 0 < length (flight_from from t.link)
-    pub is : event ≡ asks.Wire l from (verdict_for script P l from)
+    pub is : event ≡ asks.Wire l from (verdicts from)
 
   pub record IsTick (event : Event) : Type 0 where
     pub side : Side
+    pub none : flying_side t ≡ None
+    pub next : next_ticking P trunks l ≡ Some side
     pub is : event ≡ asks.Tick l side
 
   flown : (a b : Bool) → flies_from First t ≡ a → flies_from Second t ≡ b → (from : Side)
@@ -130,13 +135,16 @@ module _ (script : ScriptParts) (P : List Step) (trunks : RunTrunks) (l : LinkNo
       let its : Second ≡ from = cc in subst (λ (side : Side). flies_from side t ≡ true) its second
   flown false false first second from is = cc
 
-  ticked_is : (event : Event) (o : Option Side) → ticked_by l o ≡ Some event → IsTick event
-  ticked_is event None is = cc
-  ticked_is event (Some side) is = record { side = side; is = cc }
+  ticked_is : (event : Event) (o : Option Side) → flying_side t ≡ None
+      → next_ticking P trunks l ≡ o → ticked_by l o ≡ Some event → IsTick event
+  ticked_is event None none next is = cc
+  ticked_is event (Some side) none next is =
+      record { side = side; none = none; next = next; is = cc }
 
   asked_is : (event : Event) (flying : Option Side) → flying_side t ≡ flying
-      → event_with script P trunks l flying ≡ Some event → IsWire event ⊎ IsTick event
-  asked_is event None flying is = inr (ticked_is event (next_ticking P trunks l) is)
+      → event_with verdicts P trunks l flying ≡ Some event → IsWire event ⊎ IsTick event
+  asked_is event None flying is =
+      inr (ticked_is event (next_ticking P trunks l) flying refl is)
   asked_is event (Some from) flying is = inl (record {
     from = from;
     flies = ltb-true 0 (length (flight_from from t.link))
@@ -144,9 +152,21 @@ module _ (script : ScriptParts) (P : List Step) (trunks : RunTrunks) (l : LinkNo
     is = cc;
   })
 
-  pub pump-asked : (event : Event) → pump_event script P trunks l ≡ Some event
+  pub event-asked : (event : Event) → event_with verdicts P trunks l (flying_side t) ≡ Some event
       → IsWire event ⊎ IsTick event
-  pump-asked event is = asked_is event (flying_side t) refl is
+  event-asked event is = asked_is event (flying_side t) refl is
+
+-- A PUMP ASKS FOR SOMETHING exactly where its link stirs
+pub pump-stirs : (script : ScriptParts) (P : List Step) (trunks : RunTrunks) (l : LinkNo)
+    → is_some (pump_event script P trunks l) ≡ stirs P trunks l.0
+pump-stirs script P trunks l = event-stirs (verdict_for script P l) P trunks l
+
+-- what it asks for
+pub pump-asked : (script : ScriptParts) (P : List Step) (trunks : RunTrunks) (l : LinkNo)
+    (event : Event) → pump_event script P trunks l ≡ Some event
+    → IsWire (verdict_for script P l) P trunks l event
+    ⊎ IsTick (verdict_for script P l) P trunks l event
+pump-asked script P trunks l event is = event-asked (verdict_for script P l) P trunks l event is
 
 -- ITS VERDICTS are in range
 verdict_fits : (v : Verdict) → fits_verdict v ≡ true → IsVerdict v

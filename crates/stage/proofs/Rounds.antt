@@ -36,19 +36,13 @@ use Rattle.fabric.specs.Run.{IsStepFor, Layout}
 use Rattle.stage.specs.Plays.{AllFollow}
 use Rattle.stage.specs.Pumps.{pump_event}
 use Rattle.stage.specs.Turns.{AreTurns, IsPumpIf, IsRound, IsTurnBy, IsTurnIf}
-use Rattle.stage.specs.Turns.{IsTurnOf, commands_of, is_over, makers, shape_of}
+use Rattle.stage.specs.Turns.{IsTurnOf, asked_next, commands_of, is_over, makers, shape_of}
 use Rattle.stage.specs.declared.stage.Pump as pumps
 use Rattle.stage.specs.declared.stage.Turn.{Turn}
+use Rattle.stage.proofs.Going.{done-far, done-still, far-grows, step-grows}
 use Rattle.stage.proofs.Makings.{IsVain, granted_endpoint, granted_look, vain-is}
 use Rattle.stage.proofs.Pumping.{pump-heads, pump-stirs}
 use Rattle.stage.proofs.Waiting.{waits_at}
-
--- A STEP OR NONE. What a maker asks for adds a step, or changes nothing
-pub step-grows : (old new : Layout) (by : By) (head : Option Head) (answer : StepAnswer)
-    → IsStepFor old new by head answer
-    → (new ≡ old) ⊎ (length new.log.steps ≡ suc (length old.log.steps))
-step-grows old new by None answer made = inl made.0
-step-grows old new by (Some head) answer made = inr (ap length made.steps)
 
 -- where it adds none, there is no head
 step-none : (f : Layout) (by : By) (head : Option Head) (answer : StepAnswer)
@@ -60,31 +54,29 @@ step-none f by (Some head) answer made =
 
 module _ (script : ScriptParts) (old new : Layout) where
   turn-grows-if : (ended : Bool) (k : ℕ) (turn : Turn) → IsTurnIf ended script k old new turn
-      → (new ≡ old) ⊎ (length new.log.steps ≡ suc (length old.log.steps))
+      → (new ≡ old) ⊎ (length old.log.steps < length new.log.steps)
   turn-grows-if true k turn made = inl made.0
   turn-grows-if false k turn made =
-      step-grows old new (Actor k)
-      (head_for old.shape old.log.steps
-      (is_still old.shape old.log.steps (trunks_of old.trunks)) (Actor k)
-      (next_ask (commands_of script k) k old.log.steps)) made.answer made.stepped
+      far-grows old new k (asked_next script k old) made.answer
+      (done-far old new k (asked_next script k old) made.answer made.done)
 
   pump-grows-if : (event : Option Event) (l : LinkNo) (pump : pumps.Pump)
       → IsPumpIf event l old new pump
-      → (new ≡ old) ⊎ (length new.log.steps ≡ suc (length old.log.steps))
+      → (new ≡ old) ⊎ (length old.log.steps < length new.log.steps)
   pump-grows-if None l pump made = inl made.0
   pump-grows-if (Some event) l pump made =
       step-grows old new (Pump l) (pumped_head event) made.answer made.stepped
 
   turn-grows-by : (actor : Bool) (n : ℕ) → IsTurnBy actor script n old new
-      → (new ≡ old) ⊎ (length new.log.steps ≡ suc (length old.log.steps))
+      → (new ≡ old) ⊎ (length old.log.steps < length new.log.steps)
   turn-grows-by true n made = turn-grows-if (has_ended old.log.steps n) n made.0 made.1
   turn-grows-by false n made =
       let l : LinkNo = record { 0 = n - length script.actors } in
       pump-grows-if (pump_event script old.log.steps (trunks_of old.trunks) l) l made.0 made.1
 
-  -- A TURN adds a step, or changes nothing
+  -- A TURN adds steps, or changes nothing
   pub turn-grows : (n : ℕ) → IsTurnOf script n old new
-      → (new ≡ old) ⊎ (length new.log.steps ≡ suc (length old.log.steps))
+      → (new ≡ old) ⊎ (length old.log.steps < length new.log.steps)
   turn-grows n made = turn-grows-by (nat_le n (length script.actors)) n made
 
 -- STUCK. An actor whose ask makes no step is idle, and not at rest, unless a link stirs
@@ -289,7 +281,7 @@ module _ (script : ScriptParts) (f : Layout) (shape : f.shape ≡ shape_of scrip
       (handed k above within)
       (step-none f (Actor k)
       (head_for f.shape P still (Actor k) (next_ask (commands_of script k) k P)) made.answer
-      made.stepped)
+      (done-still f k (asked_next script k f) made.answer made.done))
 
   stuck-by : (k : ℕ) → 0 < k → k ≤ count → has_ended P k ≡ false → (actor : Bool)
       → actor ≡ true → IsTurnBy actor script k f f → IsStuck f.shape P still k

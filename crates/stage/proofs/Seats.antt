@@ -1,23 +1,18 @@
 -- The players of a stage, before and after a turn.
 use Rattle.std.proofs.Common.{◌≡◌, ◌≢◌, ℕ, zero, suc, ◌-◌, ◌<◌, ◌≤◌, Bool, Result, Ok, Err, IsErr}
-use Rattle.std.proofs.Common.{IfOk, OnOk, OnErr, inl, inr, length-set, true, false, List, [], ◌∷◌}
+use Rattle.std.proofs.Common.{IfOk, OnErr, inl, inr, length-set, true, false, List, [], ◌∷◌}
 use Rattle.std.proofs.Common.{length, map, Option, Some, None, refl, sym, ◌∙◌, ap, subst, arith}
-use Rattle.std.specs.Prelude.{◌==◌, nat_le, slice_get, slice_set}
-use Rattle.std.proofs.lemmas.Bool.{and_parts, cases_lt, eqb-true, eq-eqb, le-leb, ne_eqb, or_left}
-use Rattle.std.proofs.lemmas.Bool.{true≢false}
+use Rattle.std.specs.Prelude.{◌==◌, is_some, slice_get, slice_set}
+use Rattle.std.proofs.lemmas.Bool.{and_parts, eqb-true, eq-eqb, true≢false}
 use Rattle.std.proofs.lemmas.List.{length-map}
-use Rattle.std.proofs.lemmas.List.Elements.{All-cons, All-nil}
 use Rattle.linx_base.specs.declared.frame.LinkDecl.{LinkDecl}
 use Rattle.linx_base.specs.declared.identity.LinkNo.{LinkNo}
 use Rattle.linx_base.specs.declared.identity.NodeNo.{NodeNo}
 use Rattle.linx_base.specs.declared.name.Names.{Names}
-use Rattle.journal.specs.declared.by.By.{By}
 use Rattle.journal.specs.declared.by.By.TheVariants.{Actor, Pump}
 use Rattle.journal.specs.declared.effect.Step.{Step}
 use Rattle.journal.specs.declared.event.Event.{Event}
-use Rattle.journal.specs.declared.head.Head.{Head}
-use Rattle.journal.specs.History.{has_ended, is_by}
-use Rattle.journal.specs.Logs.{is_full}
+use Rattle.journal.specs.History.{has_ended}
 use Rattle.journal.specs.Shapes.{Shape}
 use Rattle.link_laws.specs.Laws.{IsLegal}
 use Rattle.link_laws.specs.Runs.{KeepsPromises}
@@ -28,24 +23,29 @@ use Rattle.script_lang.specs.Parts.{ScriptParts}
 use Rattle.node_kernel.specs.declared.answers.StepAnswer.{StepAnswer}
 use Rattle.actor_run.specs.Following.{Follows, IsTurned, Playing}
 use Rattle.actor_run.specs.Knowing.{knows_nothing}
-use Rattle.actor_run.proofs.Others.{GoesOn, has_ended_goes_on, playing_goes_on, whole_goes_on}
+use Rattle.actor_run.proofs.Others.{GoesOn}
 use Rattle.actor_run.proofs.Turns.{playing_first}
 use Rattle.trunk_moves.specs.Trunks.{links_of}
 use Rattle.fabric.specs.Actings.{OnlyRuns}
 use Rattle.fabric.specs.Links.{is_still}
 use Rattle.fabric.specs.Machine.{all_have_ended, have_ended}
-use Rattle.fabric.specs.Run.{IsReached, IsStepFor, IsStepped, Layout}
+use Rattle.fabric.specs.Asks.{MayAsk}
+use Rattle.fabric.specs.Run.{IsReached, Layout}
 use Rattle.fabric.specs.declared.stop.StepStop.{StepStop}
 use Rattle.fabric.proofs.Kept.{get-set, get-set-other}
 use Rattle.stage.specs.declared.player.Player.{Player}
+use Rattle.stage.specs.declared.stage.Pump as pumps
 use Rattle.stage.specs.declared.stage.Turn.{Turn}
 use Rattle.stage.specs.Plays.{AllFollow, AllFollowWhole, IsPlanned, IsSoFar}
 use Rattle.stage.specs.Pumps.{pump_event}
 use Rattle.stage.specs.Seats.{AreSeated, IsSeated, IsStaged, unstarted}
-use Rattle.stage.specs.Turns.{IsActed, IsRound, commands_in, commands_of, first_layout, is_over}
-use Rattle.stage.specs.Turns.{shape_of}
-use Rattle.stage.proofs.Asking.{next-handed}
-use Rattle.stage.proofs.Planned.{new-planned, planned-pumped, planned-turned}
+use Rattle.stage.specs.Settlings.{Settler, settler_in}
+use Rattle.stage.specs.Turns.{IsActed, IsPump, IsPumpIf, IsRound, IsTurnStopped, asked_next}
+use Rattle.stage.specs.Turns.{commands_in, commands_of, first_layout, is_over, shape_of}
+use Rattle.stage.proofs.Asking.{may_ask, next-handed}
+use Rattle.stage.proofs.Going.{GoesFar, done-far, half-far}
+use Rattle.stage.proofs.Planned.{far-planned, new-planned, planned-pumped}
+use Rattle.stage.proofs.Players.{after-goes_on, far-goes_on, none-goes_on, seated-other}
 use Rattle.stage.proofs.Rounds.{ended-each, round-moves}
 
 -- BEFORE THE FIRST TURNS
@@ -78,43 +78,6 @@ first_seated (a ∷ actors) (suc n) player is = step (first_seated_at actors n p
 
 pub unstarted-seated : (script : ScriptParts) → AreSeated script [] (unstarted script.actors)
 unstarted-seated script n player is = first_seated script.actors n player is
-
--- A TURN OF ANOTHER MAKER leaves an actor as it was
-step-goes_on : (P : List Step) (k : ℕ) (s : Step) → is_by s.by k ≡ false → GoesOn k (s ∷ P) P
-step-goes_on P k s off = (
-  s ∷ [],
-  refl,
-  All-cons (λ (x : Step). is_by x.by k ≡ false) s [] off
-      (All-nil (λ (x : Step). is_by x.by k ≡ false)),
-)
-
-none-goes_on : (P : List Step) (k : ℕ) → GoesOn k P P
-none-goes_on P k = ([], refl, All-nil (λ (x : Step). is_by x.by k ≡ false))
-
--- what is made for another maker leaves an actor as it was
-pub after-goes_on : (old new : Layout) (by : By) (head : Option Head) (answer : StepAnswer) (k : ℕ)
-    → is_by by k ≡ false → IsStepFor old new by head answer
-    → GoesOn k new.log.steps old.log.steps
-after-goes_on old new by None answer k other made =
-    subst (λ (l : Layout). GoesOn k l.log.steps old.log.steps) (sym made.0)
-    (none-goes_on old.log.steps k)
-after-goes_on old new by (Some head) answer k other made =
-    subst (λ (P : List Step). GoesOn k P old.log.steps) (sym made.steps)
-    (step-goes_on old.log.steps k
-    (record { by = by; head = head; effects = made.effects }) other)
-
-seated-other : (script : ScriptParts) (now before : List Step) (k : ℕ) (player : Player)
-    → GoesOn k now before → IsSeated script before k player → IsSeated script now k player
-seated-other script now before k player on seated =
-    let ended : has_ended now k ≡ has_ended before k = has_ended_goes_on k now before on in
-    subst (λ (b : Bool). IsTurned (commands_of script k) k now player.mind player.me b) (sym ended)
-    (go (has_ended before k) seated)
-  where
-    go : (b : Bool) → IsTurned (commands_of script k) k before player.mind player.me b
-        → IsTurned (commands_of script k) k now player.mind player.me b
-    go true whole = whole_goes_on (commands_of script k) k now before on whole
-    go false playing =
-        playing_goes_on (commands_of script k) k now before player.mind player.me on playing
 
 same_player : {p q : Player} → Some p ≡ Some q → p ≡ q
 same_player is = cc
@@ -196,25 +159,10 @@ pub playing-seated : (script : ScriptParts) (P : List Step) (k : ℕ) (player : 
     → Playing (commands_of script k) k P player.mind player.me → IsSeated script P k player
 playing-seated script P k player playing = turned-seated script P k player false playing
 
--- A JOURNAL THAT ISN'T FULL takes one step more
-not_full : (P : List Step) → (is_full P ≡ true → ⊥) → length P < 200000
-not_full P room =
-    elim (cases_lt (length P) 200000) [
-      | inl less ↦ less
-      | inr full ↦
-          absurd (room (or_left (nat_le 200000 (length P)) _ (le-leb 200000 (length P) full)))
-    ]
-
-few-after : (old new : Layout) (by : By) (head : Option Head) (answer : StepAnswer)
-    → IsStepFor old new by head answer → length old.log.steps < 200000
-    → length new.log.steps ≤ 200000
-few-after old new by None answer made low =
-    let same : length new.log.steps ≡ length old.log.steps =
-    ap (λ (l : Layout). length l.log.steps) made.0 in
-    omega arith
-few-after old new by (Some head) answer made low =
-    let more : length new.log.steps ≡ suc (length old.log.steps) = ap length made.steps in
-    omega arith
+-- nobody settles a link where that would be refused
+pub none-settles : (o : Option Settler) → (is_some o ≡ true → ⊥) → o ≡ None
+none-settles None never = refl
+none-settles (Some w) never = absurd (never refl)
 
 -- A STAGE after a step
 module _ (script : ScriptParts) (old new : Layout) (players : List Player)
@@ -224,6 +172,10 @@ module _ (script : ScriptParts) (old new : Layout) (players : List Player)
 
   staged-names : new.log.names ≡ script.names
   staged-names = ap (λ (l : Layout). l.log.names) fixed ∙ staged.names
+
+  -- nothing changed
+  staged-kept : new ≡ old → IsStaged script new players
+  staged-kept same = subst (λ (l : Layout). IsStaged script l players) (sym same) staged
 
   -- of an actor
   module _ (k : ℕ) (player : Player) (above : 0 < k) (within : k ≤ length script.actors) where
@@ -255,50 +207,75 @@ module _ (script : ScriptParts) (old new : Layout) (players : List Player)
             → GoesOn m new.log.steps old.log.steps) is on)
             (subst (λ (a : ℕ). IsSeated script new.log.steps a player) is seated))
 
-    -- whatever came of it
-    pub staged-turned : (r : Result Turn StepStop)
-        → IfOk r (IsActed script k old new)
-        → OnOk r (IsSeated script new.log.steps k player)
-        → (is_full old.log.steps ≡ true → IsErr r) → OnErr r (new ≡ old)
-        → has_ended old.log.steps k ≡ false
-        → (before : Player) → OnErr r (player ≡ before) → IsSeated script old.log.steps k before
+    -- whatever came of it: the actor went so far
+    staged-far : settler_in old ≡ None → (answer : StepAnswer)
+        → GoesFar old new k (asked_next script k old) answer → length new.log.steps ≤ 200000
+        → MayAsk old (Actor k) (asked_next script k old)
+        → IsSeated script new.log.steps k player
         → IsStaged script new (slice_set players (k - 1) player)
-    staged-turned (Ok turn) moved seated room still running before stays was =
-        let low : length old.log.steps < 200000 =
-        not_full old.log.steps (λ full. true≢false (sym (room full))) in
+    staged-far calm answer far few may seated =
+        staged-next few (far-goes_on old new k (asked_next script k old) answer far) seated
+        (far-planned script old new staged.shape calm k answer far may staged.planned)
+
+    -- or nothing changed
+    staged-same : new ≡ old → IsSeated script new.log.steps k player
+        → IsStaged script new (slice_set players (k - 1) player)
+    staged-same same seated =
         staged-next
-        (few-after old new (Actor k) _ moved.answer moved.stepped low)
-        (λ m other. after-goes_on old new (Actor k) _ moved.answer m (ne_eqb k m other)
-        moved.stepped)
-        seated
-        (planned-turned script old new staged.shape k running moved.answer moved.stepped
-        staged.planned)
-    staged-turned (Err stop) moved seated room still running before stays was =
-        staged-next
-        (subst (λ (l : Layout). length l.log.steps ≤ 200000) (sym still) staged.few)
-        (λ m other. subst (λ (l : Layout). GoesOn m l.log.steps old.log.steps) (sym still)
+        (subst (λ (l : Layout). length l.log.steps ≤ 200000) (sym same) staged.few)
+        (λ m other. subst (λ (l : Layout). GoesOn m l.log.steps old.log.steps) (sym same)
         (none-goes_on old.log.steps m))
-        (subst (λ (l : Layout). IsSeated script l.log.steps k player) (sym still)
-        (subst (λ (p : Player). IsSeated script old.log.steps k p) (sym stays) was))
-        (subst (λ (l : Layout). IsPlanned script l.log.steps (trunks_of l.trunks)) (sym still)
+        seated
+        (subst (λ (l : Layout). IsPlanned script l.log.steps (trunks_of l.trunks)) (sym same)
         staged.planned)
 
+    pub staged-turned : (r : Result Turn StepStop) → settler_in old ≡ None
+        → has_ended old.log.steps k ≡ false → IfOk r (IsActed script k old new)
+        → OnErr r (IsTurnStopped script k old new) → length new.log.steps ≤ 200000
+        → IsSeated script new.log.steps k player
+        → IsStaged script new (slice_set players (k - 1) player)
+    staged-turned r calm running acted stopped few seated = go r acted stopped
+      where
+        may : MayAsk old (Actor k) (asked_next script k old)
+        may = may_ask script staged.declared old staged.shape staged.names k above within running
+
+        go : (r : Result Turn StepStop) → IfOk r (IsActed script k old new)
+            → OnErr r (IsTurnStopped script k old new)
+            → IsStaged script new (slice_set players (k - 1) player)
+        go (Ok turn) acted stopped =
+            staged-far calm acted.answer
+            (done-far old new k (asked_next script k old) acted.answer acted.done) few may seated
+        go (Err stop) acted (inl same) = staged-same same seated
+        go (Err stop) acted (inr half) =
+            staged-far calm half.0 (half-far old new k (asked_next script k old) half.0 half.1) few
+            may seated
+
   -- of a link's pump
-  pub staged-pumped : (l : LinkNo) (event : Event) (answer : StepAnswer)
-      → pump_event script old.log.steps (trunks_of old.trunks) l ≡ Some event
-      → IsStepped old new (Pump l) (record { event = event; hand = None }) answer
-      → (is_full old.log.steps ≡ true → ⊥) → IsStaged script new players
-  staged-pumped l event answer asks made room = record {
+  pumped-if : (o : Option Event) (l : LinkNo) (pump : pumps.Pump)
+      → pump_event script old.log.steps (trunks_of old.trunks) l ≡ o → settler_in old ≡ None
+      → length new.log.steps ≤ 200000 → IsPumpIf o l old new pump → IsStaged script new players
+  pumped-if None l pump asks calm few made = staged-kept (made.0)
+  pumped-if (Some event) l pump asks calm few made = record {
     declared = staged.declared;
     shape = staged-shape;
     names = staged-names;
-    few = few-after old new (Pump l) _ answer made (not_full old.log.steps room);
+    few = few;
     count = staged.count;
     seated = λ n player is.
         seated-other script new.log.steps old.log.steps (suc n) player
-        (after-goes_on old new (Pump l) _ answer (suc n) refl made) (staged.seated n player is);
-    planned = planned-pumped script old new staged.shape l event asks answer made staged.planned;
+        (after-goes_on old new (Pump l) _ made.answer (suc n) refl made.stepped)
+        (staged.seated n player is);
+    planned = planned-pumped script old new staged.shape calm l event asks made.answer made.stepped
+        staged.planned;
   }
+
+  pub staged-pumped : (r : Result pumps.Pump StepStop) (l : LinkNo)
+      → (is_some (settler_in old) ≡ true → IsErr r) → length new.log.steps ≤ 200000
+      → IfOk r (IsPump script l old new) → OnErr r (new ≡ old) → IsStaged script new players
+  staged-pumped (Ok pump) l settling few made stopped =
+      pumped-if (pump_event script old.log.steps (trunks_of old.trunks) l) l pump refl
+      (none-settles (settler_in old) (λ is. true≢false (sym (settling is)))) few made
+  staged-pumped (Err stop) l settling few made stopped = staged-kept stopped
 
 -- A STAGE BEFORE ITS FIRST TURN
 pub first-same : (script : ScriptParts) (links : List LinkDecl) (nodes : List NodeNo)

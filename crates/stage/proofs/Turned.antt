@@ -1,8 +1,9 @@
 -- A turn of an actor that hasn't ended.
-use Rattle.std.proofs.Common.{◌≡◌, ℕ, ◌<◌, ◌≤◌, List, length, Option, refl, sym, ◌∙◌}
-use Rattle.std.proofs.Common.{subst}
+use Rattle.std.proofs.Common.{◌≡◌, ℕ, ◌<◌, ◌≤◌, Bool, false, List, length, Option, refl, sym, ◌∙◌}
+use Rattle.std.proofs.Common.{ap, subst, inl, inr}
 use Rattle.std.specs.Prelude.{is_some}
 use Rattle.linx_base.specs.declared.identity.Inc.{Inc}
+use Rattle.linx_base.specs.declared.signal.SigNote.{SigNote}
 use Rattle.journal.specs.declared.by.By.TheVariants.{Actor}
 use Rattle.journal.specs.declared.effect.Step.{Step}
 use Rattle.script_words.specs.declared.command.Command.{Command}
@@ -12,18 +13,23 @@ use Rattle.node_kernel.specs.declared.answers.StepAnswer.{StepAnswer}
 use Rattle.node_kernel.specs.declared.ask.Ask.{Ask}
 use Rattle.node_kernel.specs.Answers.{is_end_event}
 use Rattle.actor_run.specs.Asking.{asked_by, handed}
-use Rattle.actor_run.specs.Following.{endpoint_after, next_ask, Makes, Playing}
-use Rattle.actor_run.specs.Knowing.{Knows, told}
-use Rattle.actor_run.proofs.Turns.{turned}
+use Rattle.actor_run.specs.Following.{IsTurned, endpoint_after, next_ask, Makes, Playing}
+use Rattle.actor_run.specs.Knowing.{Knows, stopped_with, told}
+use Rattle.actor_run.proofs.Turns.{stopped_same, turned}
 use Rattle.fabric.specs.Asks.{MayAsk}
 use Rattle.fabric.specs.Machine.{hands_over}
+use Rattle.fabric.specs.Remains.{IsLaidOut}
 use Rattle.fabric.specs.Run.{IsStepped, Layout}
 use Rattle.stage.specs.declared.player.Player.{Player}
 use Rattle.stage.specs.declared.stage.Turn.{Turn}
 use Rattle.stage.specs.Seats.{IsSeated}
-use Rattle.stage.specs.Turns.{IsActed, came_of, commands_of, shape_of}
+use Rattle.stage.specs.Settlings.{IsDone, IsHalfDone}
+use Rattle.stage.specs.Turns.{IsActed, IsTurnStopped, came_of, commands_of, shape_of}
 use Rattle.stage.proofs.Asking.{may_ask, next-handed}
+use Rattle.stage.proofs.Going.{GoesFar, begun-calm, begun-runs, settle-made}
+use Rattle.stage.proofs.LaidOut.{laid_out}
 use Rattle.stage.proofs.Makings.{makes}
+use Rattle.stage.proofs.Players.{settlings-playing}
 use Rattle.stage.proofs.Seats.{turned-seated}
 
 asked-next : (commands : List Command) (k : ℕ) (P : List Step) (mind : Knows)
@@ -45,22 +51,29 @@ module _ (script : ScriptParts) (declared : IsScript script) (old : Layout)
       subst (MayAsk old (Actor k)) (sym ask-next)
       (may_ask script declared old shape names k above within playing.running)
 
+  pub turn-laid_out : IsLaidOut (length old.log.names.nodes) old.shape
+  turn-laid_out = rw (names, shape) (laid_out script declared)
+
   -- WHAT IT MAKES
   pub turn-moves : (new : Layout) (answer : StepAnswer) (turn : Turn)
-      → IsStepped old new (Actor k) ask answer → turn ≡ came_of answer
-      → IsActed script k old new turn
-  turn-moves new answer turn stepped came = record {
+      → IsDone old new k ask answer → turn ≡ came_of answer → IsActed script k old new turn
+  turn-moves new answer turn done came = record {
     answer = answer;
-    stepped = subst (λ (a : Ask). IsStepped old new (Actor k) a answer) ask-next stepped;
+    done = subst (λ (a : Ask). IsDone old new k a answer) ask-next done;
     came = came;
   }
 
-  -- WHAT IT LEAVES
-  pub turn-seated : (new : Layout) (answer : StepAnswer)
+  pub turn-stops : (new : Layout) (answer : StepAnswer) → IsHalfDone old new k ask answer
+      → IsTurnStopped script k old new
+  turn-stops new answer half =
+      inr (answer, subst (λ (a : Ask). IsHalfDone old new k a answer) ask-next half)
+
+  -- WHAT ITS STEP LEAVES
+  step-seated : (new : Layout) (answer : StepAnswer)
       → IsStepped old new (Actor k) ask answer → (player : Player)
       → player.mind ≡ told (commands_of script k) (handed (commands_of script k) mind me) answer
       → player.me ≡ endpoint_after me answer → IsSeated script new.log.steps k player
-  turn-seated new answer stepped player mind_is me_is =
+  step-seated new answer stepped player mind_is me_is =
       let P : List Step = old.log.steps in
       let commands : List Command = commands_of script k in
       let handed_is : is_some ask.hand ≡ hands_over ask.event =
@@ -72,3 +85,38 @@ module _ (script : ScriptParts) (declared : IsScript script) (old : Layout)
       let over = is_end_event (asked_by commands mind me).event in
       turned-seated script new.log.steps k player over
       (rw (mind_is, me_is) (turned commands k P new.log.steps mind me answer over playing refl made))
+
+  -- WHAT IT LEAVES, as far as it goes
+  pub turn-seated : (new : Layout) (answer : StepAnswer) → GoesFar old new k ask answer
+      → (player : Player)
+      → player.mind ≡ told (commands_of script k) (handed (commands_of script k) mind me) answer
+      → player.me ≡ endpoint_after me answer → IsSeated script new.log.steps k player
+  turn-seated new answer far player mind_is me_is =
+      let first : IsSeated script far.between.log.steps k player =
+      step-seated far.between answer far.stepped player mind_is me_is in
+      elim far.rest [
+        | inl same ↦ subst (λ (f : Layout). IsSeated script f.log.steps k player) (sym same) first
+        | inr on ↦
+            let step = settle-made old far.between k ask answer on.link on.asked far.stepped in
+            let runs = begun-runs old far.between k on.link answer step playing.running in
+            turned-seated script new.log.steps k player false
+            (settlings-playing (commands_of script k) k on.link player.mind player.me on.steps
+            far.between new on.made (begun-calm old far.between k on.link answer step)
+            (subst (λ (b : Bool). IsTurned (commands_of script k) k far.between.log.steps player.mind
+            player.me b) runs first))
+      ]
+
+  -- WHAT A STOP LEAVES where nothing was done
+  pub turn-stays : (new : Layout) → new ≡ old → (player : Player)
+      → player.mind ≡ mind → player.me ≡ me → IsSeated script new.log.steps k player
+  turn-stays new same player mind_is me_is =
+      subst (λ (f : Layout). IsSeated script f.log.steps k player) (sym same)
+      (turned-seated script old.log.steps k player false (rw (mind_is, me_is) playing))
+
+  -- the buffer is back
+  pub turn-back : (hand : Option SigNote) → hand ≡ ask.hand
+      → stopped_with (handed (commands_of script k) mind me) hand ≡ mind
+  turn-back hand back =
+      ap (stopped_with (handed (commands_of script k) mind me))
+      (back ∙ ap (λ (a : Ask). a.hand) is)
+      ∙ stopped_same (commands_of script k) k old.log.steps mind me playing

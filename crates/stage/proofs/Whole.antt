@@ -1,25 +1,39 @@
 -- Turns make a round, and rounds a whole run.
-use Rattle.std.proofs.Common.{◌≡◌, ℕ, zero, suc, ◌+◌, ◌<◌, ◌≤◌, Bool, true, false, List}
-use Rattle.std.proofs.Common.{length, Result, Ok, Err, IfErr, refl, sym, ◌∙◌, ap, subst, inl, inr}
-use Rattle.std.proofs.Common.{arith}
+use Rattle.std.proofs.Common.{◌≡◌, ℕ, zero, suc, ◌+◌, ◌<◌, ◌≤◌, ◌⊎◌, Bool, true, false, List}
+use Rattle.std.proofs.Common.{length, Result, Ok, Err, IfErr, OnErr, Option, Some, None, refl, sym, ◌∙◌, ap}
+use Rattle.std.proofs.Common.{subst, inl, inr, arith}
 use Rattle.std.specs.Result.{IsErrAnd}
-use Rattle.std.specs.Prelude.{not}
-use Rattle.std.proofs.lemmas.Bool.{and_parts, cases_order, true≢false}
+use Rattle.std.specs.Prelude.{not, ◌&&◌, is_some, nat_le, nat_lt, if◌then◌else◌}
+use Rattle.std.proofs.lemmas.Bool.{and_parts, cases_order, leb-true, ltb-true, true≢false}
 use Rattle.std.proofs.lemmas.List.{length-map}
 use Rattle.linx_base.specs.declared.identity.LinkNo.{LinkNo}
+use Rattle.journal.specs.declared.by.By.TheVariants.{Actor}
 use Rattle.journal.specs.declared.effect.Step.{Step}
+use Rattle.journal.specs.declared.event.Event.TheVariants as asks
 use Rattle.journal.specs.History.{has_ended}
+use Rattle.journal.specs.Logs.{is_full}
 use Rattle.journal.specs.Shapes.{Shape}
 use Rattle.link_laws.specs.Ends.{IsLinkOf}
+use Rattle.node_kernel.specs.declared.answers.StepAnswer.{StepAnswer}
+use Rattle.node_kernel.specs.declared.ask.Ask.{Ask}
 use Rattle.run_trunks.specs.States.{trunks_of}
 use Rattle.script_lang.specs.Parts.{ScriptParts}
 use Rattle.trunk_moves.specs.Trunks.{RunTrunks}
+use Rattle.fabric.specs.Actings.{OnlyRuns}
+use Rattle.fabric.specs.Asks.{MayAsk}
 use Rattle.fabric.specs.Links.{is_still, none_stirs, stirs}
 use Rattle.fabric.specs.Machine.{all_have_ended}
 use Rattle.fabric.specs.Run.{Layout}
-use Rattle.stage.specs.Turns.{AreRounds, AreTurns, IsRound, IsTurnOf, is_over, shape_of}
+use Rattle.fabric.specs.declared.stop.StepStop.{StepStop}
+use Rattle.fabric.specs.declared.stop.StopCause.TheVariants.{JournalFull}
+use Rattle.stage.specs.declared.stage.Turn.{Turn}
+use Rattle.stage.specs.Settlings.{IsHalfDone, Settler, if_stirs, settler_in, settler_of, stirs_on}
+use Rattle.stage.specs.Turns.{AreRounds, AreTurns, IsFullForActor, IsFullForLink, IsRound, IsTurnOf}
+use Rattle.stage.specs.Turns.{IsTurnStopped, asked_next, is_over, shape_of}
+use Rattle.stage.proofs.Going.{begun-under, settle-made, settles-there, settles_it}
 use Rattle.stage.proofs.Idling.{not_true}
 use Rattle.stage.proofs.Rounds.{ended-each}
+use Rattle.stage.proofs.Settling.{IsUnder, settles-now, settlings-fixed, settlings-under}
 
 -- one turn more
 pub turns-more : (script : ScriptParts) (start before now : Layout) (n : ℕ)
@@ -86,8 +100,104 @@ module _ (script : ScriptParts) (f : Layout) (shape : f.shape ≡ shape_of scrip
       true≢false (sym moves ∙ still_each f.log.steps (trunks_of f.trunks) (length f.shape.links) l.0
       (over_parts over).1 of_shape.0 (omega arith)))
 
+  -- WHERE AN ACTOR SETTLES A LINK not all is over
+  pub settling-not_over : is_some (settler_in f) ≡ true → is_over f ≡ false
+  settling-not_over is = go (settler_of f.log.steps) is
+    where
+      go : (o : Option Settler)
+          → is_some (if_stirs f.shape f.log.steps (trunks_of f.trunks) o) ≡ true → is_over f ≡ false
+      go None is = absurd (true≢false (sym is))
+      go (Some w) is = on w (stirs_on f.shape f.log.steps (trunks_of f.trunks) w.link) refl is
+        where
+          on : (w : Settler) (b : Bool)
+              → stirs_on f.shape f.log.steps (trunks_of f.trunks) w.link ≡ b
+              → is_some (if b then Some w else None) ≡ true → is_over f ≡ false
+          on w true stirs_so is =
+              let parts = and_parts (nat_lt 0 w.link.0 && nat_le w.link.0 (length f.shape.links))
+              (stirs f.log.steps (trunks_of f.trunks) w.link.0) stirs_so in
+              let bounds = and_parts (nat_lt 0 w.link.0)
+              (nat_le w.link.0 (length f.shape.links)) parts.0 in
+              stirring-not_over w.link
+              (subst (λ (s : Shape). IsLinkOf s w.link) shape
+              (ltb-true 0 w.link.0 bounds.0, leb-true w.link.0 (length f.shape.links) bounds.1))
+              parts.1
+          on w false stirs_so is = absurd (true≢false (sym is))
+
+  -- so a full journal is only said to be full before the end
+  pub full-actor : (k : ℕ) → 0 < k → k ≤ length script.actors → IsFullForActor f k
+      → (is_full f.log.steps ≡ true) × (is_over f ≡ false)
+  full-actor k above within full =
+      elim full.1 [
+        | inl running ↦ (full.0, running-not_over k above within running)
+        | inr settles ↦ (full.0, settling-not_over settles)
+      ]
+
+  pub full-link : (l : LinkNo) → IsLinkOf (shape_of script) l → IsFullForLink f l
+      → (is_full f.log.steps ≡ true) × (is_over f ≡ false)
+  full-link l of_shape full =
+      elim full.1 [
+        | inl moves ↦ (full.0, stirring-not_over l of_shape moves)
+        | inr settles ↦ (full.0, settling-not_over settles)
+      ]
+
+-- WHERE A SETTLE IS HALF DONE its actor settles the link
+pub half-settles : (old new : Layout) (k : ℕ) (ask : Ask) (answer : StepAnswer)
+    → MayAsk old (Actor k) ask → IsHalfDone old new k ask answer
+    → is_some (settler_in new) ≡ true
+half-settles old new k ask answer may half =
+    let on = half.stops in
+    let l : LinkNo = on.link in
+    let event : ask.event ≡ asks.Settle l = settles_it ask.event l on.asked in
+    let step = settle-made old half.between k ask answer l event half.stepped in
+    let under : IsUnder k l half.between.log.steps =
+    begun-under old half.between k l answer step on.whole in
+    let far = settlings-under k l on.stops.steps half.between new on.stops.made under in
+    let fixed : OnlyRuns half.between new =
+    settlings-fixed (Actor k) l on.stops.steps half.between new on.stops.made in
+    let same : new.shape ≡ old.shape =
+    ap (λ (f : Layout). f.shape) fixed ∙ ap (λ (f : Layout). f.shape) half.fixed in
+    let there : IsLinkOf new.shape l =
+    subst (λ (s : Shape). IsLinkOf s l) (sym same) (settles-there old k ask l may event) in
+    ap is_some
+    (settles-now new.shape k l new.log.steps (trunks_of new.trunks) far.settler there
+    on.stops.due)
+
+-- so where an actor's turn stopped, its turn is due
+pub stopped-due : (script : ScriptParts) (old new : Layout) (k : ℕ)
+    → MayAsk old (Actor k) (asked_next script k old) → has_ended old.log.steps k ≡ false
+    → IsTurnStopped script k old new
+    → (has_ended new.log.steps k ≡ false) ⊎ (is_some (settler_in new) ≡ true)
+stopped-due script old new k may running (inl same) =
+    inl (subst (λ (f : Layout). has_ended f.log.steps k ≡ false) (sym same) running)
+stopped-due script old new k may running (inr half) =
+    inr (half-settles old new k (asked_next script k old) half.0 may half.1)
+
+pub turn-full : (script : ScriptParts) (old new : Layout) (k : ℕ) (r : Result Turn StepStop)
+    → MayAsk old (Actor k) (asked_next script k old) → has_ended old.log.steps k ≡ false
+    → IfErr r (λ stop. stop.cause ≡ JournalFull → is_full new.log.steps ≡ true)
+    → OnErr r (IsTurnStopped script k old new)
+    → IfErr r (λ stop. stop.cause ≡ JournalFull → IsFullForActor new k)
+turn-full script old new k (Ok turn) may running full stopped = tt
+turn-full script old new k (Err stop) may running full stopped =
+    λ is. (full is, stopped-due script old new k may running stopped)
+
+-- what a stop changes is the run alone
+pub stopped-shape : (script : ScriptParts) (k : ℕ) (old new : Layout)
+    → IsTurnStopped script k old new → new.shape ≡ old.shape
+stopped-shape script k old new (inl same) = ap (λ (f : Layout). f.shape) same
+stopped-shape script k old new (inr half) =
+    let between : Layout = half.1.between in
+    ap (λ (f : Layout). f.shape)
+    (settlings-fixed (Actor k) half.1.stops.link half.1.stops.stops.steps between new
+    half.1.stops.stops.made)
+    ∙ ap (λ (f : Layout). f.shape) half.1.fixed
+
 -- a refusal that is handed on says what was said of it
 pub if_err-handed : {T E : Type 0} (r : Result T E) (e : E) (Says : E → Type 0)
     → IsErrAnd r (λ x. x ≡ e) → Says e → IfErr r Says
 if_err-handed (Ok x) e Says is says = tt
 if_err-handed (Err x) e Says is says = subst Says (sym is) says
+
+pub on_err-said : {T E : Type 0} (r : Result T E) (Says : Type 0) → Says → OnErr r Says
+on_err-said (Ok x) Says says = tt
+on_err-said (Err x) Says says = says

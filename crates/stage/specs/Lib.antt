@@ -1,4 +1,5 @@
 pub mod Pumps
+pub mod Settlings
 pub mod Turns
 pub mod Plays
 pub mod Seats

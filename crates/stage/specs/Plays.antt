@@ -1,11 +1,14 @@
 -- What holds of a play.
-use Rattle.std.specs.Prelude.{ℕ, ◌≡◌, ◌≤◌, ◌<◌, List, [], ◌∷◌, Some, length}
+use Rattle.std.specs.Prelude.{ℕ, ◌≡◌, ◌≤◌, ◌<◌, false, List, [], ◌∷◌, Option, Some, None, length}
+use Rattle.journal.specs.declared.by.By.{By}
+use Rattle.journal.specs.declared.by.By.TheVariants.{Actor, Pump}
 use Rattle.journal.specs.declared.effect.Step.{Step}
 use Rattle.journal.specs.declared.event.Event.TheVariants as asks
 use Rattle.journal.specs.declared.head.Head.{Head}
 use Rattle.journal.specs.declared.head.Head.TheVariants.{Tick, Wire}
 use Rattle.link_laws.specs.Laws.{IsLegal}
 use Rattle.link_laws.specs.Runs.{KeepsPromises}
+use Rattle.node_kernel.specs.Answers.{event_of, is_pumped}
 use Rattle.actor_run.specs.Following.{Follows, FollowsWhole}
 use Rattle.run_trunks.specs.States.{trunks_of}
 use Rattle.script_lang.specs.Parts.{ScriptParts}
@@ -13,6 +16,7 @@ use Rattle.trunk_moves.specs.Steps.{IsTrunkStep}
 use Rattle.trunk_moves.specs.Trunks.{RunTrunks, links_of}
 use Rattle.fabric.specs.Run.{AreFirst, IsReached, Layout}
 use Rattle.stage.specs.Pumps.{pump_event}
+use Rattle.stage.specs.Settlings.{Settler, settler_now}
 use Rattle.stage.specs.Turns.{commands_of, shape_of}
 
 -- what a stage is seen as: the script, and the run so far
@@ -38,14 +42,31 @@ IsPlannedHead script P trunks (Tick l side) =
     pump_event script P trunks l ≡ Some (asks.Tick l side)
 IsPlannedHead script P trunks head = Unit {0}
 
--- A RUN AS PLANNED: from the first trunks on, each step makes of them what its kind makes, and each step
--- of a packet or of a clock is the one that the pump's rule asks for before it
+-- A STEP IN ITS TURN. While an actor settles a link and isn't done, the next step is this actor's,
+-- and the one that the pump's rule asks for of this link; else no actor makes a step of a packet or
+-- of a clock
+abbrev pub IsInTurn : ScriptParts → List Step → RunTrunks → Option Settler → By → Head → Type 0
+IsInTurn script P trunks (Some w) by head =
+    (by ≡ Actor w.actor) × (pump_event script P trunks w.link ≡ Some (event_of head))
+IsInTurn script P trunks None (Actor k) head = is_pumped head ≡ false
+IsInTurn script P trunks None (Pump l) head = Unit {0}
+
+-- a step as planned
+pub record IsPlannedStep (script : ScriptParts) (P : List Step) (before : RunTrunks) (s : Step)
+    : Type 0 where
+  pub planned : IsPlannedHead script P before s.head
+  pub in_turn :
+      IsInTurn script P before (settler_now (shape_of script) P before) s.by s.head
+
+-- A RUN AS PLANNED: from the first trunks on, each step makes of them what its kind makes, each
+-- step of a packet or of a clock is the one that the pump's rule asks for before it, and who settles
+-- a link is not disturbed until it is done
 abbrev pub IsPlanned : ScriptParts → List Step → RunTrunks → Type 0
 IsPlanned script [] trunks = AreFirst (shape_of script) trunks
 IsPlanned script (s ∷ P) after =
     (before : RunTrunks)
     × (IsPlanned script P before × (IsTrunkStep (shape_of script) P before s after
-    × IsPlannedHead script P before s.head))
+    × IsPlannedStep script P before s))
 
 -- A RUN OF THE SCRIPT SO FAR: it has its names, is legal by the laws of nodes and links, keeps what
 -- is promised of such runs, each actor follows its commands, and the links do as is planned

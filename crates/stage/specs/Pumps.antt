@@ -67,10 +67,16 @@ ticked_by l None = None
 ticked_by l (Some side) = Some (Tick l side)
 
 -- the next packet meets its verdict, where one is in flight; else a side ticks
-abbrev pub event_with : ScriptParts → List Step → RunTrunks → LinkNo → Option Side → Option Event
-event_with script P trunks l None = ticked_by l (next_ticking P trunks l)
-event_with script P trunks l (Some from) = Some (Wire l from (verdict_for script P l from))
+abbrev pub event_with : (Side → Verdict) → List Step → RunTrunks → LinkNo → Option Side
+    → Option Event
+event_with verdicts P trunks l None = ticked_by l (next_ticking P trunks l)
+event_with verdicts P trunks l (Some from) = Some (Wire l from (verdicts from))
 
 -- WHAT THE PUMP OF A LINK ASKS FOR: none where the link doesn't stir
 abbrev pub pump_event : ScriptParts → List Step → RunTrunks → LinkNo → Option Event
-pump_event script P trunks l = event_with script P trunks l (flying_side (trunks l.0))
+pump_event script P trunks l =
+    event_with (verdict_for script P l) P trunks l (flying_side (trunks l.0))
+
+-- what it asks for of a settled link that isn't cut: each packet is delivered
+abbrev pub settling_event : List Step → RunTrunks → LinkNo → Option Event
+settling_event P trunks l = event_with (λ from. Deliver) P trunks l (flying_side (trunks l.0))

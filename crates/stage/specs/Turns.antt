@@ -1,18 +1,22 @@
 -- The fixed order: turns, rounds and whole runs, each as what it makes of a run's state.
-use Rattle.std.specs.Prelude.{ℕ, zero, suc, ◌+◌, ◌-◌, ◌≡◌, Bool, true, false, ◌&&◌, List, []}
-use Rattle.std.specs.Prelude.{length, map, nat_le, slice_get, Option, Some, None, if◌then◌else◌}
+use Rattle.std.specs.Prelude.{ℕ, zero, suc, ◌+◌, ◌-◌, ◌≡◌, ◌⊎◌, Bool, true, false, ◌&&◌, List}
+use Rattle.std.specs.Prelude.{[], length, map, nat_le, slice_get, is_some, Option, Some, None}
+use Rattle.std.specs.Prelude.{if◌then◌else◌}
 use Rattle.linx_base.specs.declared.identity.LinkNo.{LinkNo}
-use Rattle.journal.specs.declared.by.By.TheVariants.{Actor, Pump}
+use Rattle.journal.specs.declared.by.By.TheVariants.{Pump}
 use Rattle.journal.specs.declared.event.Event.{Event}
 use Rattle.journal.specs.History.{has_ended}
+use Rattle.journal.specs.Logs.{is_full}
 use Rattle.journal.specs.Shapes.{Shape}
 use Rattle.node_kernel.specs.Answers.{is_not_yet}
 use Rattle.node_kernel.specs.declared.answers.StepAnswer.{StepAnswer}
+use Rattle.node_kernel.specs.declared.ask.Ask.{Ask}
 use Rattle.script_words.specs.declared.command.Command.{Command}
 use Rattle.script_lang.specs.declared.actor_script.ActorScript.{ActorScript}
 use Rattle.script_lang.specs.Parts.{ScriptParts}
 use Rattle.actor_run.specs.Following.{next_ask}
 use Rattle.run_trunks.specs.States.{new_trunks, trunks_of}
+use Rattle.fabric.specs.Actings.{OnlyRuns}
 use Rattle.fabric.specs.Links.{is_still}
 use Rattle.fabric.specs.Machine.{all_have_ended}
 use Rattle.fabric.specs.Run.{IsStepped, Layout}
@@ -21,6 +25,7 @@ use Rattle.stage.specs.declared.stage.Pump.TheVariants as pumped
 use Rattle.stage.specs.declared.stage.Turn.{Turn}
 use Rattle.stage.specs.declared.stage.Turn.TheVariants.{Moved, Waits, Ended}
 use Rattle.stage.specs.Pumps.{pump_event}
+use Rattle.stage.specs.Settlings.{IsDone, IsHalfDone, settler_in, stirs_in}
 
 -- what a script is run on
 abbrev pub shape_of : ScriptParts → Shape
@@ -41,12 +46,28 @@ commands_of script (suc k) = commands_in (slice_get script.actors k)
 abbrev pub came_of : StepAnswer → Turn
 came_of answer = if is_not_yet answer then Waits else Moved
 
--- actor k makes what its script asks for next, and this comes of it
+-- what actor k's script asks for next
+abbrev pub asked_next : ScriptParts → ℕ → Layout → Ask
+asked_next script k f = next_ask (commands_of script k) k f.log.steps
+
+-- actor k does what its script asks for next, and this comes of it
 pub record IsActed (script : ScriptParts) (k : ℕ) (old new : Layout) (turn : Turn) : Type 0 where
   pub answer : StepAnswer
-  pub stepped :
-      IsStepped old new (Actor k) (next_ask (commands_of script k) k old.log.steps) answer
+  pub done : IsDone old new k (asked_next script k old) answer
   pub came : turn ≡ came_of answer
+
+-- A TURN THAT STOPPED: nothing was done, or a settle is half done, and then no further turn is
+-- taken
+abbrev pub IsTurnStopped : ScriptParts → ℕ → Layout → Layout → Type 0
+IsTurnStopped script k old new =
+    (new ≡ old) ⊎ ((answer : StepAnswer) × IsHalfDone old new k (asked_next script k old) answer)
+
+-- the journal takes no further step, and one is due: of an actor that hasn't ended, or of one that
+-- settles a link
+abbrev pub IsFullForActor : Layout → ℕ → Type 0
+IsFullForActor f k =
+    (is_full f.log.steps ≡ true)
+    × ((has_ended f.log.steps k ≡ false) ⊎ (is_some (settler_in f) ≡ true))
 
 -- a turn of an actor, by whether it had ended
 abbrev pub IsTurnIf : Bool → ScriptParts → ℕ → Layout → Layout → Turn → Type 0
@@ -64,7 +85,14 @@ pub record IsPumped (l : LinkNo) (event : Event) (old new : Layout) (pump : pump
     : Type 0 where
   pub answer : StepAnswer
   pub stepped : IsStepped old new (Pump l) (record { event = event; hand = None }) answer
+  pub fixed : OnlyRuns old new
   pub came : pump ≡ pumped.Moved
+
+-- the journal takes no further step, and one is due: of a link that stirs, or of an actor that
+-- settles one
+abbrev pub IsFullForLink : Layout → LinkNo → Type 0
+IsFullForLink f l =
+    (is_full f.log.steps ≡ true) × ((stirs_in f l ≡ true) ⊎ (is_some (settler_in f) ≡ true))
 
 -- a turn of a link, by what its pump asks for
 abbrev pub IsPumpIf : Option Event → LinkNo → Layout → Layout → pumps.Pump → Type 0
@@ -89,11 +117,24 @@ IsTurnBy false script n old new =
 abbrev pub IsTurnOf : ScriptParts → ℕ → Layout → Layout → Type 0
 IsTurnOf script n old new = IsTurnBy (nat_le n (length script.actors)) script n old new
 
+-- a turn of maker n that stopped
+abbrev pub IsStoppedBy : Bool → ScriptParts → ℕ → Layout → Layout → Type 0
+IsStoppedBy true script n old new = IsTurnStopped script n old new
+IsStoppedBy false script n old new = new ≡ old
+
+abbrev pub IsStoppedOf : ScriptParts → ℕ → Layout → Layout → Type 0
+IsStoppedOf script n old new = IsStoppedBy (nat_le n (length script.actors)) script n old new
+
 -- the turns of the first so many makers, by number
 abbrev pub AreTurns : ScriptParts → ℕ → Layout → Layout → Type 0
 AreTurns script zero old new = new ≡ old
 AreTurns script (suc n) old new =
     (between : Layout) × (AreTurns script n old between × IsTurnOf script (suc n) between new)
+
+-- so many turns, and the next one stopped
+abbrev pub IsStoppedRound : ScriptParts → ℕ → Layout → Layout → Type 0
+IsStoppedRound script n old new =
+    (between : Layout) × (AreTurns script n old between × IsStoppedOf script (suc n) between new)
 
 -- the makers of a script: its actors and its links
 abbrev pub makers : ScriptParts → ℕ

@@ -1,26 +1,27 @@
-ghost use Rattle.std.specs.Prelude.{◌≡◌, ◌<◌, ◌≤◌, true, length, IfOk, IfErr, OnOk, OnErr, IsErr};
+ghost use Rattle.std.specs.Prelude.{◌≡◌, ◌<◌, ◌≤◌, true, length, IfOk, IfErr, OnErr, IsErr};
 ghost use Rattle.journal.specs.Logs.{is_full};
 ghost use Rattle.actor_run.specs.Asking.{AreRunnable};
-ghost use Rattle.actor_run.specs.Following.{Playing};
+ghost use Rattle.actor_run.specs.Following.{Playing, endpoint_after};
+ghost use Rattle.actor_run.specs.Knowing.{told};
 ghost use Rattle.fabric.specs.Actings.{OnlyRuns};
 ghost use Rattle.script_lang.specs.Fits.{IsScript};
-ghost use Rattle.stage.specs.Turns.{IsActed, came_of, commands_of, shape_of};
+ghost use Rattle.stage.specs.Turns.{IsActed, IsTurnStopped, came_of, commands_of, shape_of};
 ghost use Rattle.stage.specs.Seats.{IsSeated};
 
+use crate::acting::{Acted, act};
 use crate::stage::Turn;
 use actor_run::{Mind, endpoint_after};
 use fabric::{Fabric, StepStop, StopCause};
-use journal::By;
 use linx_base::Inc;
-use node_kernel::{Ask, StepAnswer};
+use node_kernel::StepAnswer;
 use script_lang::{ActorScript, Script};
 use std::alloc::Global;
 
 /// An actor between two turns: what it knows, and the endpoint that it opened last.
 #[derive(Drop)]
 pub struct Player {
-    pub(crate) mind: Mind,
-    pub(crate) me: Option<Inc>,
+    pub mind: Mind,
+    pub me: Option<Inc>,
 }
 
 /// What came of a turn that was answered so.
@@ -44,7 +45,21 @@ fn actor_of(script: &Script, actor: u32) -> &ActorScript
     &script.actors()[(actor - 1) as usize]
 }
 
-/// A turn of an actor that hasn't ended. A stop leaves it to be made: nothing changed.
+impl Player {
+    /// Learns what the answer to a command tells.
+    fn told(&mut self, script: &ActorScript, answer: StepAnswer)
+        requires runnable { AreRunnable script.now.commands }
+        requires place { self.old.mind.place ≤ length script.now.commands }
+        ensures mind { self.new.mind ≡ told script.now.commands self.old.mind answer }
+        ensures me { self.new.me ≡ endpoint_after self.old.me answer }
+    {
+        self.me = endpoint_after(self.me, &answer);
+        self.mind.told(script, answer);
+    }
+}
+
+/// A turn of an actor that hasn't ended. A stop leaves it to be made and nothing changed, or a
+/// settle is half done.
 pub(crate) fn turn_of(
     alloc: Global,
     fabric: &mut Fabric,
@@ -59,14 +74,13 @@ pub(crate) fn turn_of(
     requires playing { Playing (commands_of script.now actor) actor fabric.old.log.steps
         player.old.mind player.old.me }
     ensures ok { IfOk result (IsActed script.now actor fabric.old fabric.new) }
-    ensures seated { OnOk result
-        (IsSeated script.now fabric.new.log.steps actor player.new) }
-    ensures fixed { OnlyRuns fabric.old fabric.new }
+    ensures err { OnErr result (IsTurnStopped script.now actor fabric.old fabric.new) }
+    ensures seated { IsSeated script.now fabric.new.log.steps actor player.new }
     ensures full { is_full fabric.old.log.steps ≡ true → IsErr result }
-    ensures full_only { IfErr result (λ stop.
-        stop.cause ≡ StopCause.JournalFull → is_full fabric.old.log.steps ≡ true) }
-    ensures fabric_stays { OnErr result (fabric.new ≡ fabric.old) }
-    ensures player_stays { OnErr result (player.new ≡ player.old) }
+    ensures full_only { IfErr result (λ stop. stop.cause ≡ StopCause.JournalFull
+        → is_full fabric.new.log.steps ≡ true) }
+    ensures few { length fabric.old.log.steps ≤ 200000 → length fabric.new.log.steps ≤ 200000 }
+    ensures fixed { OnlyRuns fabric.old fabric.new }
 {
     let commands = actor_of(script, actor);
     let Ok(ask) = player.mind.next(alloc, commands, player.me) else {
@@ -75,15 +89,17 @@ pub(crate) fn turn_of(
             hand: None,
         });
     };
-    let Ask { event, hand } = ask;
-    match fabric.step(By::Actor(actor), event, hand) {
-        Ok(answer) => {
+    match act(fabric, actor, ask) {
+        Acted::Done(answer) => {
             let turn = came_of(&answer);
-            player.me = endpoint_after(player.me, &answer);
-            player.mind.told(commands, answer);
+            player.told(commands, answer);
             Ok(turn)
         }
-        Err(StepStop { cause, hand }) => {
+        Acted::Halfway(answer, cause) => {
+            player.told(commands, answer);
+            Err(StepStop { cause, hand: None })
+        }
+        Acted::Stopped(StepStop { cause, hand }) => {
             player.mind.stopped(hand);
             Err(StepStop { cause, hand: None })
         }

@@ -1,15 +1,20 @@
 //! The pump's rule: what a link does next by itself, as its plans say.
 
-ghost use Rattle.std.specs.Prelude.{◌≡◌, ◌<◌, length};
+ghost use Rattle.std.specs.Prelude.{◌≡◌, ◌<◌, ◌≤◌, true, length, is_some, IfOk, IfErr, OnErr, IsErr};
 ghost use Rattle.carrier.specs.Events.{flight_from};
+ghost use Rattle.journal.specs.Logs.{is_full};
 ghost use Rattle.link_laws.specs.Ends.{IsLinkOf};
 ghost use Rattle.run_trunks.specs.States.{trunks_of};
-ghost use Rattle.stage.specs.Pumps.{flying_side, in_turn, next_ticking, pump_event, up_side};
-ghost use Rattle.stage.specs.Pumps.{verdict_for, verdict_or};
-ghost use Rattle.stage.specs.Turns.{shape_of};
+ghost use Rattle.fabric.specs.Actings.{OnlyRuns};
+ghost use Rattle.stage.specs.Pumps.{flying_side, in_turn, next_ticking, pump_event};
+ghost use Rattle.stage.specs.Pumps.{settling_event, ticked_by, up_side, verdict_for, verdict_or};
+ghost use Rattle.stage.specs.Settlings.{settler_in, stirs_in};
+ghost use Rattle.stage.specs.Turns.{IsFullForLink, IsPump, shape_of};
 
-use fabric::Fabric;
-use journal::Event;
+use crate::acting::{is_settling, unsettled};
+use crate::stage::Pump;
+use fabric::{Fabric, StepStop, StopCause};
+use journal::{By, Event};
 use linx_base::{LinkNo, Side, Verdict};
 use script_lang::Script;
 
@@ -20,14 +25,41 @@ pub fn pump_event(fabric: &Fabric, script: &Script, link: LinkNo) -> Option<Even
     ensures { result ≡ pump_event script.now fabric.now.log.steps
         (trunks_of fabric.now.trunks) link }
 {
-    if let Some(from) = flying_side(fabric, link) {
-        let verdict = verdict_for(fabric, script, link, from);
-        return Some(Event::Wire {
+    match flying_side(fabric, link) {
+        Some(from) => {
+            let verdict = verdict_for(fabric, script, link, from);
+            Some(Event::Wire {
+                link,
+                from,
+                verdict,
+            })
+        }
+        None => tick_event(fabric, link),
+    }
+}
+
+/// What the steps that settle a link that isn't cut are: each packet is delivered, and where none is
+/// in flight, a side ticks. None exactly where the link doesn't stir.
+pub(crate) fn settling_event(fabric: &Fabric, link: LinkNo) -> Option<Event>
+    requires declared { IsLinkOf fabric.now.shape link }
+    ensures { result ≡ settling_event fabric.now.log.steps (trunks_of fabric.now.trunks) link }
+{
+    match flying_side(fabric, link) {
+        Some(from) => Some(Event::Wire {
             link,
             from,
-            verdict,
-        });
+            verdict: Verdict::Deliver,
+        }),
+        None => tick_event(fabric, link),
     }
+}
+
+/// The tick of the side that ticks next, if one does.
+fn tick_event(fabric: &Fabric, link: LinkNo) -> Option<Event>
+    requires declared { IsLinkOf fabric.now.shape link }
+    ensures { result ≡ ticked_by link
+        (next_ticking fabric.now.log.steps (trunks_of fabric.now.trunks) link) }
+{
     match next_ticking(fabric, link) {
         Some(side) => Some(Event::Tick { link, side }),
         None => None,
@@ -114,4 +146,31 @@ fn planned(plan: &[Verdict], used: u64) -> Verdict
         Some(verdict) => *verdict,
         None => Verdict::Deliver,
     }
+}
+
+/// One turn of a link's pump, on a fabric that is at hand. A stop leaves it to be made, and nothing
+/// changed: the journal is full, memory was refused, or an actor settles a link and isn't done.
+pub fn pump_on(fabric: &mut Fabric, script: &Script, link: LinkNo) -> Result<Pump, StepStop>
+    requires shape { fabric.old.shape ≡ shape_of script.now }
+    requires declared { IsLinkOf fabric.old.shape link }
+    ensures ok { IfOk result (IsPump script.now link fabric.old fabric.new) }
+    ensures settling { is_some (settler_in fabric.old) ≡ true → IsErr result }
+    ensures full { is_full fabric.old.log.steps ≡ true → stirs_in fabric.old link ≡ true
+        → IsErr result }
+    ensures full_only { IfErr result (λ stop. stop.cause ≡ StopCause.JournalFull
+        → IsFullForLink fabric.old link) }
+    ensures few { length fabric.old.log.steps ≤ 200000 → length fabric.new.log.steps ≤ 200000 }
+    ensures fixed { OnlyRuns fabric.old fabric.new }
+    ensures err { OnErr result (fabric.new ≡ fabric.old) }
+{
+    if is_settling(fabric, script) {
+        return Err(unsettled(fabric));
+    }
+    // a script's verdicts are within their limits
+    let _ = script.links();
+    let Some(event) = pump_event(fabric, script, link) else {
+        return Ok(Pump::NoWork);
+    };
+    fabric.step(By::Pump(link), event, None)?;
+    Ok(Pump::Moved)
 }

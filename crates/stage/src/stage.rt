@@ -1,23 +1,26 @@
 ghost use Rattle.std.specs.Prelude.{◌≡◌, ℕ, ◌<◌, ◌≤◌, true, false, [], length, map, IfOk, IfErr};
-ghost use Rattle.std.specs.Prelude.{OnOk, OnErr, IsErr, not, ◌&&◌};
+ghost use Rattle.std.specs.Prelude.{OnOk, OnErr, IsErr, is_some, not, ◌&&◌};
 ghost use Rattle.journal.specs.Logs.{is_full};
 ghost use Rattle.journal.specs.History.{has_ended};
 ghost use Rattle.journal.specs.Rest.{is_idle};
 ghost use Rattle.link_laws.specs.Ends.{IsLinkOf};
 ghost use Rattle.run_trunks.specs.States.{trunks_of};
-ghost use Rattle.fabric.specs.Links.{is_still, stirs};
+ghost use Rattle.fabric.specs.Links.{is_still};
 ghost use Rattle.fabric.specs.Machine.{is_at_rest};
 ghost use Rattle.fabric.specs.Run.{Layout};
 ghost use Rattle.stage.specs.Plays.{AllFollowWhole, IsSoFar};
-ghost use Rattle.stage.specs.Seats.{unstarted};
-ghost use Rattle.stage.specs.Turns.{AreTurns, IsPump, IsRound, IsTurn, IsTurnOf, IsWhole};
-ghost use Rattle.stage.specs.Turns.{first_layout, is_over, makers, shape_of};
+ghost use Rattle.stage.specs.Seats.{IsStaged, unstarted};
+ghost use Rattle.stage.specs.Settlings.{settler_in, stirs_in};
+ghost use Rattle.stage.specs.Turns.{AreRounds, IsFullForActor, IsFullForLink, IsPump, IsRound};
+ghost use Rattle.stage.specs.Turns.{IsStoppedOf, IsStoppedRound, IsTurn, IsTurnOf, IsTurnStopped};
+ghost use Rattle.stage.specs.Turns.{IsWhole, first_layout, is_over, makers, shape_of};
 
+use crate::acting::{is_settling, unsettled};
 use crate::player::{Player, turn_of};
-use crate::pump::pump_event;
+use crate::pump::pump_on;
 use actor_run::Mind;
 use fabric::{Fabric, StepStop, StopCause};
-use journal::{By, Journal};
+use journal::Journal;
 use linx_base::{LinkNo, NoMemory, NodeNo, TryCopy};
 use script_lang::{ActorScript, Script};
 use std::alloc::Global;
@@ -75,7 +78,7 @@ fn nodes_of(alloc: Global, actors: &[ActorScript]) -> Result<Vec<NodeNo>, NoMemo
 }
 
 /// The actors before their first turns.
-fn players_of(alloc: Global, actors: &[ActorScript]) -> Result<Vec<Player>, NoMemory>
+pub fn players_of(alloc: Global, actors: &[ActorScript]) -> Result<Vec<Player>, NoMemory>
     ensures { IfOk result (λ players. players.items ≡ unstarted actors.now) }
 {
     let mut players = Vec::with_capacity(alloc, actors.len())?;
@@ -108,6 +111,19 @@ impl Stage {
         })
     }
 
+    /// A stage that goes on with a run, where fabric and players stand as the script has it.
+    pub fn resume(alloc: Global, script: Script, fabric: Fabric, players: Vec<Player>) -> Stage
+        requires { IsStaged script fabric players.items }
+        ensures { result ≡ record { script = script; run = fabric } }
+    {
+        Stage {
+            alloc,
+            script,
+            fabric,
+            players,
+        }
+    }
+
     /// The journal so far, which is legal, in which each actor follows its commands and the links
     /// do as is planned.
     pub fn journal(&self) -> &Journal
@@ -137,20 +153,26 @@ impl Stage {
         self.fabric.is_over()
     }
 
-    /// One turn of an actor. A stop leaves it to be made, and nothing changed.
+    /// One turn of an actor. A stop leaves it to be made, and nothing changed; or a settle is half
+    /// done, and then no further turn is taken.
     pub fn turn(&mut self, actor: u32) -> Result<Turn, StepStop>
         requires above { 0 < actor }
         requires within { actor ≤ length self.old.script.actors }
         ensures ok { IfOk result (IsTurn self.old.script actor self.old.run self.new.run) }
         ensures script { self.new.script ≡ self.old.script }
+        ensures settling { is_some (settler_in self.old.run) ≡ true
+            → IsErr result × (self.new ≡ self.old) }
         ensures full { is_full self.old.run.log.steps ≡ true
             → has_ended self.old.run.log.steps actor ≡ false → IsErr result }
         ensures full_only { IfErr result (λ stop. stop.cause ≡ StopCause.JournalFull
-            → (is_full self.old.run.log.steps ≡ true)
-            × (has_ended self.old.run.log.steps actor ≡ false)) }
+            → IsFullForActor self.new.run actor) }
         ensures few { length self.new.run.log.steps ≤ 200000 }
-        ensures err { OnErr result (self.new ≡ self.old) }
+        ensures err { OnErr result
+            (IsTurnStopped self.old.script actor self.old.run self.new.run) }
     {
+        if is_settling(&self.fabric, &self.script) {
+            return Err(unsettled(&self.fabric));
+        }
         if self.fabric.has_ended(actor) {
             return Ok(Turn::Ended);
         }
@@ -181,21 +203,16 @@ impl Stage {
         requires declared { IsLinkOf (shape_of self.old.script) link }
         ensures ok { IfOk result (IsPump self.old.script link self.old.run self.new.run) }
         ensures script { self.new.script ≡ self.old.script }
+        ensures settling { is_some (settler_in self.old.run) ≡ true → IsErr result }
         ensures full { is_full self.old.run.log.steps ≡ true
-            → stirs self.old.run.log.steps (trunks_of self.old.run.trunks) link.0 ≡ true
-            → IsErr result }
+            → stirs_in self.old.run link ≡ true → IsErr result }
         ensures full_only { IfErr result (λ stop. stop.cause ≡ StopCause.JournalFull
-            → (is_full self.old.run.log.steps ≡ true)
-            × (stirs self.old.run.log.steps (trunks_of self.old.run.trunks) link.0 ≡ true)) }
+            → IsFullForLink self.old.run link) }
         ensures few { length self.new.run.log.steps ≤ 200000 }
         ensures err { OnErr result (self.new ≡ self.old) }
     {
         let _ = &self.players;
-        let Some(event) = pump_event(&self.fabric, &self.script, link) else {
-            return Ok(Pump::NoWork);
-        };
-        self.fabric.step(By::Pump(link), event, None)?;
-        Ok(Pump::Moved)
+        pump_on(&mut self.fabric, &self.script, link)
     }
 
     /// A turn of the maker of this number: an actor, or behind the actors a link.
@@ -207,7 +224,8 @@ impl Stage {
         ensures full_only { IfErr result (λ stop. stop.cause ≡ StopCause.JournalFull
             → (is_full self.new.run.log.steps ≡ true) × (is_over self.new.run ≡ false)) }
         ensures few { length self.new.run.log.steps ≤ 200000 }
-        ensures err { OnErr result (self.new ≡ self.old) }
+        ensures err { OnErr result
+            (IsStoppedOf self.old.script number self.old.run self.new.run) }
     {
         let actors = self.script.actors().len() as u32;
         if number <= actors {
@@ -219,13 +237,13 @@ impl Stage {
     }
 
     /// A round: each actor takes its turn, by number, and then each link. It answers whether all is
-    /// over. A stop leaves what the turns before it made.
+    /// over. A stop leaves what the turns before it made, and what the one that stopped did.
     pub fn round(&mut self) -> Result<bool, StepStop>
         ensures ok { OnOk result (IsRound self.old.script self.old.run self.new.run) }
         ensures over { IfOk result (λ over. over ≡ is_over self.new.run) }
         ensures script { self.new.script ≡ self.old.script }
         ensures front { OnErr result ((n : ℕ) × (n < makers self.old.script)
-            × AreTurns self.old.script n self.old.run self.new.run) }
+            × IsStoppedRound self.old.script n self.old.run self.new.run) }
         ensures full_only { IfErr result (λ stop. stop.cause ≡ StopCause.JournalFull
             → (is_full self.new.run.log.steps ≡ true) × (is_over self.new.run ≡ false)) }
         ensures few { length self.new.run.log.steps ≤ 200000 }
@@ -237,10 +255,11 @@ impl Stage {
         Ok(self.is_over())
     }
 
-    /// The whole run: rounds until all is over.
-    pub fn play(&mut self) -> Result<(), StepStop>
-        requires unstarted { self.old.run ≡ first_layout self.old.script }
-        ensures whole { OnOk result (IsWhole self.old.script self.new.run) }
+    /// Rounds until all is over, from whatever was done.
+    pub fn finish(&mut self) -> Result<(), StepStop>
+        ensures over { OnOk result (is_over self.new.run ≡ true) }
+        ensures rounds { OnOk result ((n : ℕ)
+            × AreRounds self.old.script n self.old.run self.new.run) }
         ensures script { self.new.script ≡ self.old.script }
         ensures full_only { IfErr result (λ stop. stop.cause ≡ StopCause.JournalFull
             → (is_full self.new.run.log.steps ≡ true) × (is_over self.new.run ≡ false)) }
@@ -249,5 +268,16 @@ impl Stage {
             self.round()?;
         }
         Ok(())
+    }
+
+    /// The whole run: rounds until all is over.
+    pub fn play(&mut self) -> Result<(), StepStop>
+        requires unstarted { self.old.run ≡ first_layout self.old.script }
+        ensures whole { OnOk result (IsWhole self.old.script self.new.run) }
+        ensures script { self.new.script ≡ self.old.script }
+        ensures full_only { IfErr result (λ stop. stop.cause ≡ StopCause.JournalFull
+            → (is_full self.new.run.log.steps ≡ true) × (is_over self.new.run ≡ false)) }
+    {
+        self.finish()
     }
 }

@@ -1,4 +1,4 @@
-use Rattle.std.proofs.Common.{◌≡◌, ◌-◌, ◌≤◌, Bool, true, false, length, refl, sym, ◌∙◌, subst, arith}
+use Rattle.std.proofs.Common.{◌≡◌, ◌-◌, ◌≤◌, Bool, true, false, length, None, refl, sym, ◌∙◌, subst, arith}
 use Rattle.std.specs.Prelude.{not, ◌&&◌}
 use Rattle.std.proofs.lemmas.Bool.{and_parts, true≢false}
 use Rattle.std.proofs.lemmas.Option.{slice_get_read}
@@ -10,9 +10,12 @@ use Rattle.fabric.specs.Links.{is_still}
 use Rattle.fabric.specs.Machine.{is_at_rest}
 use Rattle.stage.specs.declared.stage.Turn.TheVariants.{Waits}
 use Rattle.stage.specs.Plays.{Play}
+use Rattle.stage.specs.Settlings.{settler_in}
 use Rattle.stage.specs.Turns.{IsTurn, IsTurnIf}
 use Rattle.stage.proofs.Idling.{idle-turn, not_true}
-use Rattle.stage.proofs.Seats.{playing-seated, seat-playing, staged-follows, staged-turned}
+use Rattle.stage.proofs.Asking.{may_ask}
+use Rattle.stage.proofs.Seats.{none-settles, seat-playing, staged-follows, staged-turned}
+use Rattle.stage.proofs.Whole.{turn-full}
 use Rattle.stage.proofs.stage.Stage.turn.Goals as goal
 
 pub turn_of-requires-clause-playing : goal.turn_of-requires-clause-playing
@@ -36,23 +39,26 @@ invariant_of-self c =
     let within : c.args.actor ≤ length s.script.actors =
     subst (λ (p : Play). c.args.actor ≤ length p.script.actors) (sym c.self.view_is)
     c.requires.within in
-    let count = c.self.invariant.count in
-    let above = c.requires.above in
     let running = sym c.has_ended.ensures ∙ c.if-has_ended.false in
-    let playing = seat-playing s.script s.fabric.log.steps s.players.items
-    c.self.invariant.seated c.args.actor c.requires.above c.index_mut-player.result.now
-    (slice_get_read s.players.items (length s.players.items) (c.args.actor - 1)
-    c.index_mut-player.result.now refl (omega (arith, within, count, above))
-    c.index_mut-player.ensures.value) running in
+    let calm : settler_in s.fabric ≡ None =
+    none-settles (settler_in s.fabric)
+    (λ is. true≢false (sym is ∙ sym c.is_settling.ensures ∙ c.if-is_settling.false)) in
     staged-turned s.script s.fabric c.turn_of.new.fabric s.players.items c.self.invariant
     c.turn_of.ensures.fixed c.args.actor c.turn_of.new.player c.requires.above within
-    c.turn_of.result c.turn_of.ensures.ok c.turn_of.ensures.seated c.turn_of.ensures.full
-    c.turn_of.ensures.fabric_stays running c.index_mut-player.result.now
-    c.turn_of.ensures.player_stays
-    (playing-seated s.script s.fabric.log.steps c.args.actor c.index_mut-player.result.now playing)
+    c.turn_of.result calm running c.turn_of.ensures.ok c.turn_of.ensures.err
+    (c.turn_of.ensures.few c.self.invariant.few) c.turn_of.ensures.seated
 
-pub returns-clause-few : goal.returns-clause-few
-returns-clause-few c = (invariant_of-self c).few
+pub returns-clause-full_only : goal.returns-clause-full_only
+returns-clause-full_only c =
+    let s = c.self.inside in
+    let within : c.args.actor ≤ length s.script.actors =
+    subst (λ (p : Play). c.args.actor ≤ length p.script.actors) (sym c.self.view_is)
+    c.requires.within in
+    let running = sym c.has_ended.ensures ∙ c.if-has_ended.false in
+    turn-full s.script s.fabric c.turn_of.new.fabric c.args.actor c.turn_of.result
+    (may_ask s.script c.self.invariant.declared s.fabric c.self.invariant.shape
+    c.self.invariant.names c.args.actor c.requires.above within running) running
+    c.turn_of.ensures.full_only c.turn_of.ensures.err
 
 pub returns-then-waits_on-clause-ok : goal.returns-then-waits_on-clause-ok
 returns-then-waits_on-clause-ok c =

@@ -1,6 +1,6 @@
 use Rattle.std.proofs.Common.{◌≡◌, ◌-◌, length}
 use Rattle.stage.proofs.Whole.{HaveRounds}
-use Rattle.stage.proofs.stage.Stage.play.Given as goal
+use Rattle.stage.proofs.stage.Stage.finish.Given as goal
 
 -- so many rounds were made, and all wasn't over before any of them
 abbrev pub invariant-rounds : goal.invariant-rounds

@@ -2,7 +2,7 @@ use Rattle.std.proofs.Common.{sym, ◌∙◌, subst}
 use Rattle.script_lang.specs.Parts.{ScriptParts}
 use Rattle.stage.specs.Turns.{IsRound}
 use Rattle.stage.proofs.Whole.{rounds-more}
-use Rattle.stage.proofs.stage.Stage.play.Goals as goal
+use Rattle.stage.proofs.stage.Stage.finish.Goals as goal
 
 pub rounds-preserved : goal.rounds-preserved
 rounds-preserved c = record {

@@ -1,0 +1,55 @@
+use Rattle.std.proofs.Common.{ℕ, ◌+◌, ◌<◌, length, sym, subst, arith}
+use Rattle.fabric.specs.Run.{Layout}
+use Rattle.stage.specs.Settlings.{StopsSettling}
+use Rattle.stage.proofs.Going.{not_full}
+use Rattle.stage.proofs.Settled.{IsUnderWay, way-begins, way-ends, way-grows, way-more, way-stops}
+use Rattle.stage.proofs.Settling.{settle-asks}
+use Rattle.stage.proofs.Whole.{on_err-said}
+use Rattle.stage.proofs.acting.settle.Goals as goal
+
+pub steps-init : goal.steps-init
+steps-init c =
+    way-begins c.runs_settle.ensures c.args.by c.args.link c.args.fabric.now c.requires.declared
+    c.requires.maker c.requires.whole c.requires.settled c.requires.laid_out c.requires.few
+    c.journal.ensures.reached
+
+pub step-requires : goal.step-requires
+step-requires c = record {
+  asked = settle-asks c.steps.fabric c.args.by c.args.link c.steps.invariant.of_shape
+      c.steps.invariant.maker c.steps.invariant.whole c.requires.may c.in-Some.event
+      (sym c.in-Some.ensures);
+}
+
+pub returns-in_err-step-clause-err : goal.returns-in_err-step-clause-err
+returns-in_err-step-clause-err c =
+    on_err-said c.from_residual.result
+    (StopsSettling c.args.by c.args.link c.args.fabric.now c.step.new.self)
+    (subst (λ (f : Layout). StopsSettling c.args.by c.args.link c.args.fabric.now f)
+    (sym c.in_err-step.ensures.err.1)
+    (way-stops c.args.by c.args.link c.args.fabric.now c.steps.fabric c.steps.ticks
+    c.steps.invariant c.in-Some.event (sym c.in-Some.ensures)))
+
+pub steps-smaller : goal.steps-smaller
+steps-smaller c =
+    let room : length c.steps.fabric.log.steps < 200000 =
+    not_full c.steps.fabric.log.steps (λ full. let no = c.in_ok-step.ensures.full full in cc) in
+    let more = way-grows c.runs_settle.ensures c.args.by c.args.link c.args.fabric.now
+    c.steps.fabric c.step.new.self c.steps.ticks c.steps.invariant c.in-Some.event
+    (sym c.in-Some.ensures) c.in_ok-step.field-0 c.in_ok-step.ensures.ok
+    c.in_ok-step.ensures.fixed room in
+    omega (arith, room, more)
+
+pub steps-preserved : goal.steps-preserved
+steps-preserved c =
+    let room : length c.steps.fabric.log.steps < 200000 =
+    not_full c.steps.fabric.log.steps (λ full. let no = c.in_ok-step.ensures.full full in cc) in
+    subst (λ (n : ℕ). IsUnderWay c.args.by c.args.link c.args.fabric.now c.step.new.self
+    (c.steps.ticks + n)) (sym c.ticks_of-more.ensures)
+    (way-more c.runs_settle.ensures c.args.by c.args.link c.args.fabric.now c.steps.fabric
+    c.step.new.self c.steps.ticks c.steps.invariant c.in-Some.event (sym c.in-Some.ensures)
+    c.in_ok-step.field-0 c.in_ok-step.ensures.ok c.in_ok-step.ensures.fixed room)
+
+pub returns-clause-ok : goal.returns-clause-ok
+returns-clause-ok c =
+    way-ends c.runs_settle.ensures c.args.by c.args.link c.args.fabric.now c.steps.fabric
+    c.steps.ticks c.steps.invariant (sym c.in_default.ensures)
