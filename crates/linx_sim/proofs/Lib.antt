@@ -1,5 +1,4 @@
 mod CommandLine
 mod Numbers
-mod Generated
 mod Causes
 mod Answering

@@ -16,12 +16,12 @@ use Rattle.linx_sim.specs.declared.outcome.Status.TheVariants.{WriteFault}
 -- The cause of each status under a command: what it says of the script that the source's bytes
 -- spell, where it told them, or of the generated one, and of the journal
 abbrev pub IsCausedUnder : Asked → Status → Option (List ℕ) → Log → Type 0
-IsCausedUnder Run status told log = IsCaused status told log
-IsCausedUnder Serial status told log = IsCaused status told log
-IsCausedUnder (Gen n) status told log = IsOutcomeOf status (generated n) log
+IsCausedUnder Run status told log = IsCaused Run status told log
+IsCausedUnder Serial status told log = IsCaused Serial status told log
+IsCausedUnder (Gen n) status told log = IsOutcomeOf (Gen n) status (generated n) log
 
--- the run that a command asks for is done, or memory was refused, where its script can be run as
--- yet, neither a read nor a write failed, and the journal has room
+-- the run that a command asks for is done, or memory was refused, where neither a read nor a write
+-- failed, and the journal has room
 abbrev pub CompletesUnder : Asked → Option (List ℕ) → Status → Log → Type 0
 CompletesUnder Run told status log = IfSome told (λ bytes. Completes bytes status log)
 CompletesUnder Serial told status log = IfSome told (λ bytes. Completes bytes status log)

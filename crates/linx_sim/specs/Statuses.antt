@@ -3,7 +3,6 @@ use Rattle.std.specs.Prelude.{ℕ, Bool, true, false, List, [], ◌++◌, codes,
 use Rattle.linx_sim.specs.declared.outcome.Status.{Status}
 use Rattle.linx_sim.specs.declared.outcome.Status.TheVariants.{Done, Usage, Script, ReadFault}
 use Rattle.linx_sim.specs.declared.outcome.Status.TheVariants.{WriteFault, JournalFull, NoMemory}
-use Rattle.linx_sim.specs.declared.outcome.Status.TheVariants.{NotBuilt}
 
 -- the exit status of the program
 abbrev pub exit_of : Status → ℕ
@@ -14,7 +13,6 @@ exit_of ReadFault = 3
 exit_of WriteFault = 4
 exit_of JournalFull = 5
 exit_of NoMemory = 6
-exit_of NotBuilt = 10
 
 -- what is said of a status, but for the number of a bad line
 abbrev pub phrase_of : Status → List ℕ
@@ -25,7 +23,6 @@ phrase_of ReadFault = codes "read fault"
 phrase_of WriteFault = codes "write fault"
 phrase_of JournalFull = codes "journal full"
 phrase_of NoMemory = codes "out of memory"
-phrase_of NotBuilt = codes "not built"
 
 -- that number
 abbrev pub line_number_of : Status → List ℕ
@@ -54,7 +51,6 @@ abbrev pub is_of_whole : Status → Bool
 is_of_whole Done = true
 is_of_whole WriteFault = true
 is_of_whole JournalFull = true
-is_of_whole NotBuilt = true
 is_of_whole _ = false
 
 -- nothing is written at this status

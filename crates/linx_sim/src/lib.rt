@@ -1,13 +1,11 @@
 //! linx_sim reads a script of nodes, links, planned losses and actors, runs it, and writes each
 //! endpoint's log and the journal of all steps; or it runs the generated script of a number, and
-//! writes the summary of the journal. As yet it runs the scripts that have no `settle`, in the
-//! fixed order; every other script is answered `NotBuilt`. `process` is the whole program, over the
-//! words and the streams of a process. It alone gives a `Told`, so a `main` with this result can't
-//! end in any other way.
+//! writes the summary of the journal. `process` is the whole program, over the words and the
+//! streams of a process. It alone gives a `Told`, so a `main` with this result can't end in any
+//! other way.
 #![tactic(auto)]
 
 mod asked;
-mod building;
 mod outcome;
 mod program;
 mod serving;
@@ -21,6 +19,8 @@ pub use serving::{run, serial};
 pub use told::Told;
 
 #[cfg(test)]
+mod example_rows;
+#[cfg(test)]
 mod gen_rows;
 #[cfg(test)]
 mod link_rows;
@@ -30,5 +30,9 @@ mod link_texts;
 mod ring;
 #[cfg(test)]
 mod rows;
+#[cfg(test)]
+mod settle_rows;
+#[cfg(test)]
+mod settle_texts;
 #[cfg(test)]
 mod tests;

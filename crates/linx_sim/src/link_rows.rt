@@ -67,7 +67,12 @@ const RESTARTED_WHILE_SENDING: &str =
      attach last r\nsend last 2\nrecv 252\nend\n";
 
 // The text of a script's run under a word.
-fn text_under<R: Wait>(rt: &R, alloc: Global, word: &str, script: &str) -> Result<String, Fail> {
+pub(crate) fn text_under<R: Wait>(
+    rt: &R,
+    alloc: Global,
+    word: &str,
+    script: &str,
+) -> Result<String, Fail> {
     let mut sink = MemSink::new(alloc, 4096, 262_144, Vec::new(alloc))?;
     let outcome = outcome_under(rt, alloc, &[word], script.as_bytes(), &mut sink)?;
     if outcome.status != Status::Done {
@@ -90,7 +95,12 @@ fn begins(line: &str, kinds: &[&str]) -> bool {
 }
 
 // Of the part of a text whose first line begins so, a log or the journal, the lines of these kinds.
-fn lines_of(alloc: Global, text: &str, part: &str, kinds: &[&str]) -> Result<String, Fail> {
+pub(crate) fn lines_of(
+    alloc: Global,
+    text: &str,
+    part: &str,
+    kinds: &[&str],
+) -> Result<String, Fail> {
     let mut lines = String::new(alloc);
     let mut is_within = false;
     for line in text.lines() {
@@ -119,7 +129,7 @@ fn tells_under<R: Wait>(
 }
 
 // The same under each word.
-fn tells<R: Wait>(
+pub(crate) fn tells<R: Wait>(
     rt: &R,
     alloc: Global,
     script: &str,
@@ -144,7 +154,7 @@ fn logs<R: Wait>(
 }
 
 // How many lines of a text end so.
-fn count_ending(text: &str, end: &str) -> usize {
+pub(crate) fn count_ending(text: &str, end: &str) -> usize {
     text.lines().filter(|line| line.ends_with(end)).count()
 }
 

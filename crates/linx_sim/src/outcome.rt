@@ -22,8 +22,6 @@ pub enum Status {
     /// An actor or a link had a turn to take while the journal was full.
     JournalFull,
     NoMemory,
-    /// The script has a `settle`, and can't be run as yet.
-    NotBuilt,
 }
 
 impl Status {
@@ -41,7 +39,6 @@ impl Status {
             Status::WriteFault => "write fault",
             Status::JournalFull => "journal full",
             Status::NoMemory => "out of memory",
-            Status::NotBuilt => "not built",
         }
     }
 

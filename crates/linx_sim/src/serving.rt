@@ -10,14 +10,12 @@ ghost use Rattle.work_gen.specs.Generated.{generated};
 ghost use Rattle.linx_sim.specs.CommandLine.{asked_of};
 ghost use Rattle.linx_sim.specs.Statuses.{IsUsageOrRefused};
 ghost use Rattle.linx_sim.specs.Streams.{Reads, Writes, TakesAtMost, read_most};
-ghost use Rattle.linx_sim.specs.Runs.{is_built, IsAnswerTo, IsOutcomeOf, IsCaused, IsLegalSomehow};
-ghost use Rattle.linx_sim.specs.Runs.{Completes};
+ghost use Rattle.linx_sim.specs.Runs.{IsAnswerTo, IsOutcomeOf, IsCaused, IsLegalSomehow, Completes};
 ghost use Rattle.linx_sim.specs.Commands.{IsCausedUnder, CompletesUnder, ReadsUnder, written_under};
 ghost use Rattle.linx_sim.specs.Causes.{IsUnread, is_of_writing, read_status, script_status};
 ghost use Rattle.linx_sim.specs.Causes.{stop_status, report_status};
 
 use crate::asked::{Asked, asked_for};
-use crate::building::is_built;
 use crate::outcome::{Outcome, Status};
 use fabric::StopCause;
 use journal::Journal;
@@ -98,9 +96,8 @@ fn write_run<K: Sink>(alloc: Global, asked: Asked, journal: &Journal, out: &mut 
 
 /// Plays a script in the fixed order, and writes what is asked for of the whole run.
 fn play_script<K: Sink>(alloc: Global, asked: Asked, stage: Stage, out: &mut K) -> Outcome
-    requires built { is_built stage.script ≡ true }
     requires unstarted { stage.run ≡ first_layout stage.script }
-    ensures answer { IsAnswerTo result.status stage.script result.journal.log }
+    ensures answer { IsAnswerTo asked result.status stage.script result.journal.log }
     ensures sink { Writes K.held K.faults K.last_count K.can_take out.old out.new
         result.status (written_under asked result.journal.log) }
 {
@@ -120,16 +117,13 @@ fn play_script<K: Sink>(alloc: Global, asked: Asked, stage: Stage, out: &mut K) 
     }
 }
 
-/// Runs a script, where it is one that can be run as yet.
+/// Runs a script in the fixed order, and writes what is asked for of the whole run.
 fn run_script<K: Sink>(alloc: Global, asked: Asked, script: Script, out: &mut K) -> Outcome
-    ensures answer { IsOutcomeOf result.status script result.journal.log }
+    ensures answer { IsOutcomeOf asked result.status script result.journal.log }
     ensures legal { IsLegalSomehow result.journal.log.steps }
     ensures sink { Writes K.held K.faults K.last_count K.can_take out.old out.new
         result.status (written_under asked result.journal.log) }
 {
-    if !is_built(&script) {
-        return unstarted(alloc, Status::NotBuilt);
-    }
     match Stage::new(alloc, script) {
         Ok(stage) => play_script(alloc, asked, stage, out),
         Err(NoMemory) => unstarted(alloc, Status::NoMemory),
@@ -160,9 +154,32 @@ fn read_script<S: Source>(alloc: Global, source: &mut S) -> Result<Script, Statu
     }
 }
 
+/// Reads a script, runs it in the fixed order, and writes what is asked for of the whole run.
+fn read_and_run<S: Source, K: Sink>(
+    alloc: Global,
+    asked: Asked,
+    script: &mut S,
+    out: &mut K,
+) -> Outcome
+    ensures cause { IsCaused asked result.status (S.left script.old) result.journal.log }
+    ensures legal { IsLegalSomehow result.journal.log.steps }
+    ensures never_usage { result.status ≢ Status.Usage }
+    ensures complete { IfSome (S.left script.old) (λ told.
+        Completes told result.status result.journal.log) }
+    ensures source { Reads S.left S.faults S.last_count S.is_faultless script.old script.new
+        result.status }
+    ensures sink { Writes K.held K.faults K.last_count K.can_take out.old out.new
+        result.status (written_under asked result.journal.log) }
+{
+    match read_script(alloc, script) {
+        Ok(script) => run_script(alloc, asked, script, out),
+        Err(status) => unstarted(alloc, status),
+    }
+}
+
 /// Reads a script, runs it in the fixed order, and writes the text of the whole run.
 pub fn serial<S: Source, K: Sink>(alloc: Global, script: &mut S, out: &mut K) -> Outcome
-    ensures cause { IsCaused result.status (S.left script.old) result.journal.log }
+    ensures cause { IsCaused Asked.Serial result.status (S.left script.old) result.journal.log }
     ensures legal { IsLegalSomehow result.journal.log.steps }
     ensures never_usage { result.status ≢ Status.Usage }
     ensures complete { IfSome (S.left script.old) (λ told.
@@ -172,16 +189,14 @@ pub fn serial<S: Source, K: Sink>(alloc: Global, script: &mut S, out: &mut K) ->
     ensures sink { Writes K.held K.faults K.last_count K.can_take out.old out.new
         result.status (text_of result.journal.log) }
 {
-    match read_script(alloc, script) {
-        Ok(script) => run_script(alloc, Asked::Serial, script, out),
-        Err(status) => unstarted(alloc, status),
-    }
+    read_and_run(alloc, Asked::Serial, script, out)
 }
 
 /// Runs the generated script of a number in the fixed order, and writes the summary of the whole
 /// run.
 fn generate<K: Sink>(alloc: Global, number: u32, out: &mut K) -> Outcome
-    ensures cause { IsOutcomeOf result.status (generated number) result.journal.log }
+    ensures cause { IsOutcomeOf (Asked.Gen number) result.status (generated number)
+        result.journal.log }
     ensures legal { IsLegalSomehow result.journal.log.steps }
     ensures sink { Writes K.held K.faults K.last_count K.can_take out.old out.new
         result.status (written_under (Asked.Gen number) result.journal.log) }
@@ -192,7 +207,7 @@ fn generate<K: Sink>(alloc: Global, number: u32, out: &mut K) -> Outcome
     }
 }
 
-/// Does what is asked for. As yet `run` does what `serial` does.
+/// Does what is asked for. As yet the turns under `run` come in the fixed order too.
 fn serve<S: Source, K: Sink>(alloc: Global, asked: Asked, script: &mut S, out: &mut K) -> Outcome
     ensures cause { IsCausedUnder asked result.status (S.left script.old) result.journal.log }
     ensures legal { IsLegalSomehow result.journal.log.steps }
@@ -204,7 +219,8 @@ fn serve<S: Source, K: Sink>(alloc: Global, asked: Asked, script: &mut S, out: &
         result.status (written_under asked result.journal.log) }
 {
     match asked {
-        Asked::Run | Asked::Serial => serial(alloc, script, out),
+        Asked::Run => read_and_run(alloc, Asked::Run, script, out),
+        Asked::Serial => serial(alloc, script, out),
         Asked::Gen(number) => generate(alloc, number, out),
     }
 }

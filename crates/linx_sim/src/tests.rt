@@ -1,9 +1,8 @@
-ghost use Rattle.std.specs.Prelude.{◌≡◌, ◌+◌, ◌<◌, ◌≤◌, [], false, length};
+ghost use Rattle.std.specs.Prelude.{◌≡◌, ◌+◌, ◌<◌, ◌≤◌, [], false, length, IsOk};
 ghost use Rattle.journal.specs.Logs.{is_full};
 ghost use Rattle.journal_text.specs.Text.{text_of};
 ghost use Rattle.script_lang.specs.Reading.{script_of};
 ghost use Rattle.linx_sim.specs.Statuses.{IsDoneOrRefused};
-ghost use Rattle.linx_sim.specs.Runs.{IsBuilt};
 
 use crate::outcome::{Outcome, Status};
 use crate::program::program;
@@ -18,21 +17,15 @@ use std::process::{ExitCode, Termination};
 use std::sync::Wait;
 use std::test::Fail;
 
-const A_SETTLE: &[u8] = b"node n\nnode m\nlink l n m\nactor p n\nopen a\nsettle l\nclose\nend\n";
-
-const A_LATER_SETTLE: &[u8] =
-    b"node n\nnode m\nlink l n m\nplan l > D L\nactor p n\nopen a\nhunt l/b\nend\n\
-      actor q m\nopen b\nrepeat 2\nrecv any\nsettle l\nend\nend\n";
-
 const LARGE_SENDS: &[u8] =
     b"node n\nactor p n\nopen a\nrepeat 600\nsend self 1 fill:65532:00\nend\nclose\nend\n";
 
 const MOST_COMMANDS: &[u8] =
     b"node n\nactor p n\nopen a\nrepeat 9998\nsend self 5\nrecv any\nend\nclose\nend\n";
 
-// A run over memory ends as it should, whatever the script that can be run.
+// A run over memory ends as it should, whatever the script.
 fn run_in_memory(alloc: Global, source: &mut PlainSource, sink: &mut MemSink) -> Outcome
-    ensures { IsBuilt (script_of source.old) → is_full result.journal.log.steps ≡ false
+    ensures { IsOk (script_of source.old) → is_full result.journal.log.steps ≡ false
         → sink.old.plan.fails ≡ []
         → length sink.old.held + length (text_of result.journal.log) ≤ sink.old.room
         → IsDoneOrRefused result.status }
@@ -66,20 +59,6 @@ fn read_that_fails(rt: HostRuntime) -> Result<(), Fail> {
     let outcome = serving::serial(alloc, &mut source, &mut sink);
     assert_eq!(rt; outcome.status, Status::ReadFault);
     assert!(rt; sink.held().is_empty() && outcome.journal.is_empty());
-    Ok(())
-}
-
-fn not_built(alloc: Global, script: &[u8]) -> Result<bool, Fail> {
-    let mut sink = MemSink::new(alloc, 10, 4096, Vec::new(alloc))?;
-    let outcome = outcome_of(alloc, script, &mut sink)?;
-    Ok(outcome.status == Status::NotBuilt && outcome.journal.is_empty() && sink.held().is_empty())
-}
-
-#[test]
-fn scripts_that_settle_a_link_are_not_run(rt: HostRuntime) -> Result<(), Fail> {
-    let alloc = rt.alloc();
-    assert!(rt; not_built(alloc, A_SETTLE)?);
-    assert!(rt; not_built(alloc, A_LATER_SETTLE)?);
     Ok(())
 }
 
@@ -175,7 +154,7 @@ fn words_that_are_no_command(rt: HostRuntime) -> Result<(), Fail> {
 }
 
 // The rows of the statuses: the exit status, and the line on standard error.
-const ROWS: [(Status, u8, &str); 8] = [
+const ROWS: [(Status, u8, &str); 7] = [
     (Status::Done, 0, ""),
     (
         Status::Usage,
@@ -193,7 +172,6 @@ const ROWS: [(Status, u8, &str); 8] = [
     (Status::WriteFault, 4, "linx_sim: write fault\n"),
     (Status::JournalFull, 5, "linx_sim: journal full\n"),
     (Status::NoMemory, 6, "linx_sim: out of memory\n"),
-    (Status::NotBuilt, 10, "linx_sim: not built\n"),
 ];
 
 #[test]
@@ -277,8 +255,6 @@ fn the_whole_program(rt: HostRuntime) -> Result<(), Fail> {
     assert!(rt; is_all(&rt, alloc, &[b"linx_sim", b"\xff"], script, (1, "", usage))?);
     let bad_line = "linx_sim: script line 2\n";
     assert!(rt; is_all(&rt, alloc, &run, b"node n\nnode n\n", (2, "", bad_line))?);
-    let not_built = "linx_sim: not built\n";
-    assert!(rt; is_all(&rt, alloc, &run, A_SETTLE, (10, "", not_built))?);
     Ok(())
 }
 

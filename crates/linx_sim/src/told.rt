@@ -38,7 +38,6 @@ fn exit_code(status: Status) -> u8
         Status::WriteFault => 4,
         Status::JournalFull => 5,
         Status::NoMemory => 6,
-        Status::NotBuilt => 10,
     }
 }
 

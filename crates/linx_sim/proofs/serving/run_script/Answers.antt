@@ -1,15 +1,11 @@
 use Rattle.linx_sim.proofs.Answering.{legal-answered, legal-none}
 use Rattle.linx_sim.proofs.serving.run_script.Goals as goal
 
-pub returns-then-not-is_built-clause-legal : goal.returns-then-not-is_built-clause-legal
-returns-then-not-is_built-clause-legal g c =
-    legal-none c.unstarted.result.journal.log.steps c.unstarted.ensures.no_steps
-
 pub returns-in-Ok-clause-legal : goal.returns-in-Ok-clause-legal
 returns-in-Ok-clause-legal g c =
-    legal-answered c.play_script.result.status _ c.play_script.result.journal.log
+    legal-answered c.args.asked c.play_script.result.status _ c.play_script.result.journal.log
     c.play_script.ensures.answer
 
 pub returns-in-Err-clause-legal : goal.returns-in-Err-clause-legal
 returns-in-Err-clause-legal g c =
-    legal-none c.unstarted-in-Err.result.journal.log.steps c.unstarted-in-Err.ensures.no_steps
+    legal-none c.unstarted.result.journal.log.steps c.unstarted.ensures.no_steps
