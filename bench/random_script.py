@@ -1,7 +1,7 @@
-"""Writes one random script with links, the same one for the same seed; none has a `settle`.
+"""Writes one random script with links, the same one for the same seed.
 
 Its links lose, repeat and exchange packets by plans, have small windows and pieces, and are cut
-and mended; its nodes are restarted. Of four seeds in a row two give a sensible script: its actors
+and mended; its nodes are restarted. In two of five scripts links are settled too. Of four seeds in a row two give a sensible script: its actors
 find another one's endpoint and go on with what makes sense then; one a varied one: they do
 anything, and more of it is refused; and one a restless one: nodes restart and endpoints open and
 close again and again, while packets are repeated and exchanged.
@@ -33,6 +33,7 @@ class Writer:
         self.commands = COMMANDS[seed % len(COMMANDS)]
         self.sensible = self.commands is not VARIED
         self.restless = self.commands is RESTLESS
+        self.settles = self.chance(0.4)
         self.lines, self.nodes, self.links, self.actors = [], [], [], []
 
     def chance(self, share):
@@ -102,8 +103,9 @@ class Writer:
             self.lines.append(f"  open {name}")
         if self.commands is SENSIBLE and self.chance(0.8):
             self.write_found(number)
+        commands = self.commands + ["settle"] * (2 if self.settles else 0)
         for _ in range(self.random.randint(2, 20)):
-            self.write_command(number, self.random.choice(self.commands))
+            self.write_command(number, self.random.choice(commands))
         if self.chance(0.5):
             self.lines.append("  recv any")
         self.lines.append("end")
@@ -111,6 +113,8 @@ class Writer:
     def write_found(self, number):
         """A hunt, the taking of its answer, and a name for who was found."""
         self.write_hunt(number)
+        if self.settles and self.chance(0.3):
+            self.lines.append("  " + self.line("settle"))
         self.lines += ["  recv 251", f"  keep {self.pick(*'ssv')}"]
 
     def write_pause(self):
@@ -185,6 +189,7 @@ class Writer:
             "keep": list("sv"),
             "cut": [name for name, _ in self.links],
             "mend": [name for name, _ in self.links],
+            "settle": [name for name, _ in self.links],
         }[command]
         return f"{command} {self.random.choice(words)}" if words else command
 

@@ -2,7 +2,7 @@
 
 A plain interpreter of the scripts of docs/script.md, beside which bench/beside_model.sh runs the
 program. It is made for reading: no rule here is taken from the program's code. The script must be a
-good one; one with a `settle`, and one that fills a journal, is refused with exit status 2.
+good one; one that fills a journal is refused with exit status 2.
 
     python3 bench/model < SCRIPT
 """

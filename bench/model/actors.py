@@ -43,8 +43,11 @@ class Actor:
             head = ["ended"]
         else:
             head = self.do(self.commands[self.place])
-        if head:
-            journal.step(self.maker, *head)
+        if not head:
+            return
+        journal.step(self.maker, *head)
+        if head[0] == "settle":
+            self.run.link(head[1]).settle(journal, self.maker)
 
     def keep_silently(self):
         """Does each `keep` that comes next, where an item was taken: it makes no step."""
@@ -154,6 +157,11 @@ class Actor:
         """`mend`."""
         self.run.link(link).is_cut = False
         return "mend", link
+
+    def do_settle(self, link):
+        """`settle`: the link's plans end; the turn goes on behind the step."""
+        self.run.link(link).is_settled = True
+        return "settle", link
 
     def do_restart(self, node):
         """`restart`."""

@@ -3,7 +3,8 @@ from dataclasses import dataclass, field
 
 from values import Refused
 
-COMMANDS = ("open close send forward recv hunt attach detach keep cut mend restart").split()
+COMMANDS = ("open close send forward recv hunt attach detach keep cut mend settle "
+            "restart").split()
 
 
 @dataclass
