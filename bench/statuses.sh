@@ -45,7 +45,6 @@ script="$top/crates/linx_self_send/stdin"
 printf 'node n\nnod m\n' > "$work/bad"
 printf '%s\n' 'node n' 'actor p n' 'open a' 'repeat 600' 'send self 1 fill:65532:00' 'end' \
     'close' 'end' > "$work/large"
-printf 'node a\nnode b\nlink l a b\nactor p a\nopen x\nsettle l\nend\n' > "$work/settle"
 usage=$'linx_sim: usage: linx_sim run, serial or gen N\n'
 
 row 'done' 0 '' "$script" "$work/text" "$program" run
@@ -66,6 +65,5 @@ row 'a write fault' 4 $'linx_sim: write fault\n' "$script" /dev/full "$program" 
 row 'a full journal' 5 $'linx_sim: journal full\n' "$work/large" "$work/text" "$program" run
 [ -s "$work/text" ] && complain 'a full journal: something was written'
 row 'out of memory' 6 $'linx_sim: out of memory\n' "$work/large" "$work/text" limited 30000 run
-row 'not built' 10 $'linx_sim: not built\n' "$work/settle" "$work/text" "$program" run
 [ "$wrong" = 0 ] && echo 'all as they should be'
 exit "$((wrong > 0))"
