@@ -25,7 +25,7 @@ use std::sync::Wait;
 
 // How often a thread looks at the word before it sleeps: about as long as it takes to sleep and be
 // woken.
-const LOOKS: u32 = 100;
+const LOOKS: u32 = 1000;
 
 /// A state that one pass at a time may hold.
 #[derive(Drop)]
