@@ -10,8 +10,8 @@ import sys
 
 WIDTH = 98
 HEAD = """\
-//! The scripts of `examples/` with the texts that stand beside them, under each word that runs a
-//! script. `bench/example_rows.py` writes this file.
+//! The scripts of `examples/` with the texts that stand beside them, in the fixed order.
+//! `bench/example_rows.py` writes this file.
 
 use crate::rows::prints;
 use std::test::Fail;

@@ -1,5 +1,7 @@
 -- From what a play and the writing of its text say to the answer of a status.
-use Rattle.std.proofs.Common.{◌≡◌, true, false, List, [], refl, sym, subst}
+use Rattle.std.proofs.Common.{◌≡◌, ◌∙◌, ℕ, true, false, List, [], ap, refl, sym, subst}
+use Rattle.std.specs.Prelude.{Some, None, Result, Ok, Err, IfOk}
+use Rattle.linx_base.specs.declared.memory.NoMemory.{NoMemory as Refused}
 use Rattle.journal.specs.declared.effect.Step.{Step}
 use Rattle.journal.specs.Logs.{Log, is_full}
 use Rattle.journal.specs.Shapes.{Shape}
@@ -9,9 +11,10 @@ use Rattle.fabric.specs.declared.stop.StopCause.{StopCause}
 use Rattle.fabric.specs.declared.stop.StopCause.TheVariants as stops
 use Rattle.script_lang.specs.Parts.{ScriptParts}
 use Rattle.stage.specs.Plays.{AllFollowWhole, IsSoFar, Play}
-use Rattle.stage.specs.Turns.{IsWhole, is_over, shape_of}
+use Rattle.stage.specs.Turns.{is_over, shape_of}
+use Rattle.workers.specs.declared.ran.Ran.{Ran}
 use Rattle.linx_sim.specs.Causes.{is_of_writing, stop_status}
-use Rattle.linx_sim.specs.Runs.{IsAnswerTo, IsLegalSomehow, IsRunAs, IsRunInOrder, IsRunOf}
+use Rattle.linx_sim.specs.Runs.{IsAnswerTo, IsLegalSomehow, IsOverUnder, IsRan, IsRunAs, IsRunOf}
 use Rattle.linx_sim.specs.Runs.{IsRunUnder}
 use Rattle.linx_sim.specs.declared.asked.Asked.{Asked}
 use Rattle.linx_sim.specs.declared.asked.Asked.TheVariants.{Run, Serial, Gen}
@@ -19,26 +22,42 @@ use Rattle.linx_sim.specs.declared.outcome.Status.{Status}
 use Rattle.linx_sim.specs.declared.outcome.Status.TheVariants.{Done, Usage, Script, ReadFault}
 use Rattle.linx_sim.specs.declared.outcome.Status.TheVariants.{WriteFault, JournalFull, NoMemory}
 
--- a run in the fixed order is a whole run under each command
-run-under : (asked : Asked) (script : ScriptParts) (log : Log) → IsRunInOrder script log
-    → IsRunUnder asked script log
-run-under Run script log run = (run.run, run.is)
-run-under Serial script log run = run
-run-under (Gen n) script log run = (run.run, run.is)
+-- a whole run under a command is one in some order
+run-of : (asked : Asked) (script : ScriptParts) (log : Log) → IsRunUnder asked script log
+    → IsRunOf script log
+run-of Run script log run = run
+run-of Serial script log run = (run.run, run.is)
+run-of (Gen n) script log run = run
 
 -- a whole run whose text was written, or was to be
-pub answers-written : (asked : Asked) (status : Status) (script : ScriptParts) (log : Log)
-    → is_of_writing status ≡ true → IsRunInOrder script log → IsAnswerTo asked status script log
-answers-written asked Done script log writes run = run-under asked script log run
-answers-written asked WriteFault script log writes run = run-under asked script log run
-answers-written asked NoMemory script log writes run = (run.run, run.is.so_far)
+answers-written : (asked : Asked) (status : Status) (script : ScriptParts) (log : Log)
+    → is_of_writing status ≡ true → IsRunUnder asked script log → IsAnswerTo asked status script log
+answers-written asked Done script log writes run = run
+answers-written asked WriteFault script log writes run = run
+answers-written asked NoMemory script log writes run =
+    let some = run-of asked script log run in
+    (some.0, some.1.so_far)
 answers-written asked JournalFull script log writes run = cc
 answers-written asked Usage script log writes run = cc
 answers-written asked (Script line) script log writes run = cc
 answers-written asked ReadFault script log writes run = cc
 
+-- a run that is over is the whole one that a command asks for
+whole-under : (asked : Asked) (script : ScriptParts) (run : Layout) (log : Log)
+    → IsRunAs script run log → (is_over run ≡ true → AllFollowWhole script log.steps)
+    → IsOverUnder asked script run → IsRunUnder asked script log
+whole-under Run script run log so_far follows over =
+    (run, record { so_far = so_far; follows = follows over; over = over })
+whole-under Serial script run log so_far follows whole = record {
+  run = run;
+  is = record { so_far = so_far; follows = follows whole.over; over = whole.over };
+  whole = whole;
+}
+whole-under (Gen n) script run log so_far follows over =
+    (run, record { so_far = so_far; follows = follows over; over = over })
+
 -- a run that stopped
-pub answers-stopped : (asked : Asked) (cause : StopCause) (script : ScriptParts) (run : Layout)
+answers-stopped : (asked : Asked) (cause : StopCause) (script : ScriptParts) (run : Layout)
     (log : Log) → IsRunAs script run log
     → (cause ≡ stops.JournalFull → (is_full run.log.steps ≡ true) × (is_over run ≡ false))
     → IsAnswerTo asked (stop_status cause) script log
@@ -50,44 +69,42 @@ answers-stopped asked stops.JournalFull script run log so_far full = record {
 }
 answers-stopped asked stops.NoMemory script run log so_far full = (run, so_far)
 
--- a play that was stopped
-pub answers-halted : (asked : Asked) (cause : StopCause) (before after : Play) (log : Log)
-    → after.script ≡ before.script
-    → IsSoFar after.script after.run → log ≡ after.run.log
-    → (cause ≡ stops.JournalFull
-    → (is_full after.run.log.steps ≡ true) × (is_over after.run ≡ false))
-    → IsAnswerTo asked (stop_status cause) before.script log
-answers-halted asked cause before after log same so_far is full =
-    answers-stopped asked cause before.script after.run log
-    (record {
-      logged = sym is;
-      so_far = subst (λ (s : ScriptParts). IsSoFar s after.run) same so_far;
-    }) full
+-- what a stage hands out is a run so far of the script that was played
+run-as : (script : ScriptParts) (stage : Play) (log : Log) → stage.script ≡ script
+    → IsSoFar stage.script stage.run → log ≡ stage.run.log → IsRunAs script stage.run log
+run-as script stage log of so_far is = record {
+  logged = sym is;
+  so_far = subst (λ (s : ScriptParts). IsSoFar s stage.run) of so_far;
+}
 
--- a play that came to its end, and whose text was written, or was to be
-pub answers-played : (asked : Asked) (status : Status) (before after : Play) (log : Log)
-    → after.script ≡ before.script
-    → IsWhole before.script after.run → IsSoFar after.script after.run
-    → (is_over after.run ≡ true → AllFollowWhole after.script after.run.log.steps)
-    → log ≡ after.run.log → is_of_writing status ≡ true
-    → IsAnswerTo asked status before.script log
-answers-played asked status before after log same whole so_far follows is writes =
-    let run : IsRunInOrder before.script after.run.log = record {
-      run = after.run;
-      is = record {
-        so_far = record {
-          logged = refl;
-          so_far = subst (λ (s : ScriptParts). IsSoFar s after.run) same so_far;
-        };
-        follows = subst (λ (s : ScriptParts). AllFollowWhole s after.run.log.steps) same
-            (follows whole.over);
-        over = whole.over;
-      };
-      whole = whole;
-    }
-    in
-    subst (λ (l : Log). IsAnswerTo asked status before.script l) (sym is)
-    (answers-written asked status before.script after.run.log writes run)
+-- a script that was run to its end, and whose text was written, or was to be
+pub answers-played : (asked : Asked) (status : Status) (script : ScriptParts) (ran : Ran) (log : Log)
+    → IsRan asked script ran → ran.stop ≡ None → IsSoFar ran.stage.script ran.stage.run
+    → (is_over ran.stage.run ≡ true → AllFollowWhole ran.stage.script ran.stage.run.log.steps)
+    → log ≡ ran.stage.run.log → is_of_writing status ≡ true → IsAnswerTo asked status script log
+answers-played asked status script ran log is_ran none so_far whole is writes =
+    answers-written asked status script log writes
+    (whole-under asked script ran.stage.run log
+    (run-as script ran.stage log is_ran.of so_far is)
+    (λ over. subst (λ (s : ScriptParts). AllFollowWhole s log.steps) is_ran.of
+    (subst (λ (l : Log). AllFollowWhole ran.stage.script l.steps) (sym is) (whole over)))
+    (is_ran.over none))
+
+-- a script that was run until it was stopped
+pub answers-halted : (asked : Asked) (cause : StopCause) (script : ScriptParts) (ran : Ran)
+    (log : Log) → IsRan asked script ran → ran.stop ≡ Some cause
+    → IsSoFar ran.stage.script ran.stage.run → log ≡ ran.stage.run.log
+    → IsAnswerTo asked (stop_status cause) script log
+answers-halted asked cause script ran log is_ran stopped so_far is =
+    answers-stopped asked cause script ran.stage.run log
+    (run-as script ran.stage log is_ran.of so_far is)
+    (λ full. is_ran.full (stopped ∙ ap Some full))
+
+-- a generated script is run as any other one
+pub ran-generated : (n : ℕ) (script : ScriptParts) (played : Result Ran Refused)
+    → IfOk played (IsRan Run script) → IfOk played (IsRan (Gen n) script)
+ran-generated n script (Ok ran) is = record { of = is.of; over = is.over; full = is.full }
+ran-generated n script (Err refused) is = tt
 
 -- A JOURNAL IS LEGAL whatever the answer: one without steps is
 pub legal-none : (P : List Step) → P ≡ [] → IsLegalSomehow P
@@ -95,33 +112,8 @@ legal-none P none =
     let nowhere : Shape = record { links = []; actors = [] } in
     (nowhere, subst (IsLegal nowhere) (sym none) tt)
 
-legal-run : (script : ScriptParts) (run : Layout) (log : Log) → IsRunAs script run log
-    → IsLegalSomehow log.steps
-legal-run script run log is = (
-  shape_of script,
-  subst (λ (l : Log). IsLegal (shape_of script) l.steps) is.logged is.so_far.legal,
-)
-
--- a whole run under a command is one in some order
-run-of : (asked : Asked) (script : ScriptParts) (log : Log) → IsRunUnder asked script log
-    → IsRunOf script log
-run-of Run script log run = run
-run-of Serial script log run = (run.run, run.is)
-run-of (Gen n) script log run = run
-
-legal-whole : (asked : Asked) (script : ScriptParts) (log : Log) → IsRunUnder asked script log
-    → IsLegalSomehow log.steps
-legal-whole asked script log is =
-    let run = run-of asked script log is in
-    legal-run script run.0 log run.1.so_far
-
-pub legal-answered : (asked : Asked) (status : Status) (script : ScriptParts) (log : Log)
-    → IsAnswerTo asked status script log → IsLegalSomehow log.steps
-legal-answered asked Done script log answer = legal-whole asked script log answer
-legal-answered asked WriteFault script log answer = legal-whole asked script log answer
-legal-answered asked NoMemory script log answer = legal-run script answer.0 log answer.1
-legal-answered asked JournalFull script log answer =
-    legal-run script answer.run log answer.so_far
-legal-answered asked Usage script log answer = absurd answer
-legal-answered asked (Script line) script log answer = absurd answer
-legal-answered asked ReadFault script log answer = absurd answer
+-- and so is that of a run so far
+pub legal-run : (script : ScriptParts) (run : Layout) (log : Log) → IsSoFar script run
+    → log ≡ run.log → IsLegalSomehow log.steps
+legal-run script run log so_far is =
+    (shape_of script, subst (λ (l : Log). IsLegal (shape_of script) l.steps) (sym is) so_far.legal)

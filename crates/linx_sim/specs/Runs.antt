@@ -1,16 +1,18 @@
 -- What a run of a script is, and what each status says of it.
 use Rattle.std.specs.Prelude.{ℕ, ◌≡◌, ◌≢◌, ◌⊎◌, true, false, List, [], take, Option}
-use Rattle.std.specs.Prelude.{Result, Ok, Err, IfSome, IsOk}
+use Rattle.std.specs.Prelude.{Some, None, Result, Ok, Err, IfSome, IsOk}
 use Rattle.journal.specs.declared.effect.Step.{Step}
 use Rattle.journal.specs.Logs.{Log, is_full}
 use Rattle.journal.specs.Shapes.{Shape}
 use Rattle.link_laws.specs.Laws.{IsLegal}
+use Rattle.fabric.specs.declared.stop.StopCause.TheVariants as stops
 use Rattle.fabric.specs.Run.{Layout}
 use Rattle.script_lang.specs.Parts.{ScriptParts}
 use Rattle.script_lang.specs.Reading.{script_of}
 use Rattle.script_words.specs.declared.bad_kind.BadKind.{BadKind}
 use Rattle.stage.specs.Plays.{AllFollowWhole, IsSoFar}
 use Rattle.stage.specs.Turns.{IsWhole, is_over}
+use Rattle.workers.specs.declared.ran.Ran.{Ran}
 use Rattle.linx_sim.specs.Statuses.{IsDoneOrRefused}
 use Rattle.linx_sim.specs.Streams.{read_most}
 use Rattle.linx_sim.specs.declared.asked.Asked.{Asked}
@@ -50,6 +52,19 @@ abbrev pub IsRunUnder : Asked → ScriptParts → Log → Type 0
 IsRunUnder Run script log = IsRunOf script log
 IsRunUnder Serial script log = IsRunInOrder script log
 IsRunUnder (Gen n) script log = IsRunOf script log
+
+-- a run is over: under `serial` it is that of the fixed order
+abbrev pub IsOverUnder : Asked → ScriptParts → Layout → Type 0
+IsOverUnder Run script run = is_over run ≡ true
+IsOverUnder Serial script run = IsWhole script run
+IsOverUnder (Gen n) script run = is_over run ≡ true
+
+-- a script was run: until all was over, or as far as memory and the journal let it
+pub record IsRan (asked : Asked) (script : ScriptParts) (ran : Ran) : Type 0 where
+  pub of : ran.stage.script ≡ script
+  pub over : ran.stop ≡ None → IsOverUnder asked script ran.stage.run
+  pub full : ran.stop ≡ Some stops.JournalFull
+      → (is_full ran.stage.run.log.steps ≡ true) × (is_over ran.stage.run ≡ false)
 
 -- a run of a script stopped where an actor or a link has a turn to take, and the journal takes no
 -- further step

@@ -1,8 +1,8 @@
-//! linx_sim reads a script of nodes, links, planned losses and actors, runs it, and writes each
-//! endpoint's log and the journal of all steps; or it runs the generated script of a number, and
-//! writes the summary of the journal. `process` is the whole program, over the words and the
-//! streams of a process. It alone gives a `Told`, so a `main` with this result can't end in any
-//! other way.
+//! linx_sim reads a script of nodes, links, planned losses and actors, runs it with a thread for
+//! each actor and each link, or in the fixed order, and writes each endpoint's log and the journal
+//! of all steps; or it runs the generated script of a number with such threads, and writes the
+//! summary of the journal. `process` is the whole program, over the words and the streams of a
+//! process. It alone gives a `Told`, so a `main` with this result can't end in any other way.
 #![tactic(auto)]
 
 mod asked;

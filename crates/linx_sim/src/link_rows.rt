@@ -11,6 +11,7 @@ use std::fmt::Write;
 use std::str;
 use std::sync::Wait;
 use std::test::Fail;
+use std::thread::Threads;
 
 // A body of 65,536 bytes, which goes in 1,024 pieces of 64 bytes.
 const LARGEST: &str = "node m\nnode n\nlink l m n piece 64\nactor p m\nopen a\nhunt l/b\nrecv 251\n\
@@ -67,7 +68,7 @@ const RESTARTED_WHILE_SENDING: &str =
      attach last r\nsend last 2\nrecv 252\nend\n";
 
 // The text of a script's run under a word.
-pub(crate) fn text_under<R: Wait>(
+pub(crate) fn text_under<R: Threads + Wait + Sync>(
     rt: &R,
     alloc: Global,
     word: &str,
@@ -116,7 +117,7 @@ pub(crate) fn lines_of(
 }
 
 // Whether the lines of these kinds in a part of the text are those wanted, under a word.
-fn tells_under<R: Wait>(
+fn tells_under<R: Threads + Wait + Sync>(
     rt: &R,
     alloc: Global,
     run: (&str, &str),
@@ -129,7 +130,7 @@ fn tells_under<R: Wait>(
 }
 
 // The same under each word.
-pub(crate) fn tells<R: Wait>(
+pub(crate) fn tells<R: Threads + Wait + Sync>(
     rt: &R,
     alloc: Global,
     script: &str,
@@ -143,7 +144,7 @@ pub(crate) fn tells<R: Wait>(
 }
 
 // Whether a whole log of the text is the one wanted, under each word.
-fn logs<R: Wait>(
+fn logs<R: Threads + Wait + Sync>(
     rt: &R,
     alloc: Global,
     script: &str,

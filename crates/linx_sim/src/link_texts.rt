@@ -1,5 +1,4 @@
-//! Worked scripts over links with their whole texts, in the fixed order of rounds, under each word
-//! that runs a script.
+//! Worked scripts over links with their whole texts, in the fixed order of rounds.
 
 use crate::rows::prints;
 use std::test::Fail;

@@ -13,10 +13,11 @@ use std::alloc::Global;
 use std::env::Env;
 use std::io::{Stderr, Stdin, Stdout};
 use std::sync::Wait;
+use std::thread::Threads;
 
 /// Runs the script as the words say, writes its text, and tells the status that `run` answered.
 /// Words that can't be had end it before `run`.
-pub(crate) fn program<R: Wait, E: Env, S: Source, K: Sink, L: Sink>(
+pub(crate) fn program<R: Threads + Wait + Sync, E: Env, S: Source, K: Sink, L: Sink>(
     rt: &R,
     env: &E,
     alloc: Global,
@@ -36,7 +37,7 @@ pub(crate) fn program<R: Wait, E: Env, S: Source, K: Sink, L: Sink>(
 
 /// The whole program with its words and the standard streams. Nothing is known of what these give
 /// or take, so no clause speaks of them; the programs' runs show that they are put to their use.
-pub fn process<R: Wait + Env + AllocGlobal>(
+pub fn process<R: Threads + Wait + Sync + Env + AllocGlobal>(
     rt: &R,
     script: Stdin,
     text: Stdout,

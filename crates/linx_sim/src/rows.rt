@@ -1,4 +1,5 @@
-//! Worked scripts with their whole texts, under each word that runs a script.
+//! Worked scripts with their whole texts in the fixed order; where the order of the turns doesn't
+//! show in the text, under each word that runs a script.
 
 use crate::outcome::{Outcome, Status};
 use crate::serving;
@@ -6,6 +7,7 @@ use linx_outside::{MemSink, OpenGate, PlainSource};
 use std::alloc::Global;
 use std::sync::Wait;
 use std::test::Fail;
+use std::thread::Threads;
 
 pub(crate) const SELF_SEND: (&str, &str) = (
     "node n\nactor p n\nopen a\nsend self 5\nrecv any\nclose\nend\n",
@@ -191,7 +193,7 @@ pub(crate) fn owned(alloc: Global, words: &[&str]) -> Result<Vec<String>, Fail> 
 }
 
 // The outcome of a script under these words.
-pub(crate) fn outcome_under<R: Wait>(
+pub(crate) fn outcome_under<R: Threads + Wait + Sync>(
     rt: &R,
     alloc: Global,
     words: &[&str],
@@ -203,44 +205,63 @@ pub(crate) fn outcome_under<R: Wait>(
     Ok(serving::run(rt, alloc, &words, &mut source, sink, &OpenGate))
 }
 
-// Whether the run of a script is done, and has written this text, under each word that runs one.
-pub(crate) fn prints<R: Wait>(rt: &R, alloc: Global, row: (&str, &str)) -> Result<bool, Fail> {
-    for word in ["run", "serial"] {
-        let mut sink = MemSink::new(alloc, 100, row.1.len(), Vec::new(alloc))?;
-        let outcome = outcome_under(rt, alloc, &[word], row.0.as_bytes(), &mut sink)?;
-        if outcome.status != Status::Done || sink.held() != row.1.as_bytes() {
-            return Ok(false);
-        }
-    }
-    Ok(true)
+// Whether the run of a script under a word is done, and has written this text.
+fn prints_under<R: Threads + Wait + Sync>(
+    rt: &R,
+    alloc: Global,
+    word: &str,
+    row: (&str, &str),
+) -> Result<bool, Fail> {
+    let mut sink = MemSink::new(alloc, 100, row.1.len(), Vec::new(alloc))?;
+    let outcome = outcome_under(rt, alloc, &[word], row.0.as_bytes(), &mut sink)?;
+    Ok(outcome.status == Status::Done && sink.held() == row.1.as_bytes())
+}
+
+// Whether the run of a script in the fixed order is done, and has written this text.
+pub(crate) fn prints<R: Threads + Wait + Sync>(
+    rt: &R,
+    alloc: Global,
+    row: (&str, &str),
+) -> Result<bool, Fail> {
+    prints_under(rt, alloc, "serial", row)
+}
+
+// The same under each word that runs a script, for a text in which the order of the turns doesn't
+// show.
+fn prints_in_any_order<R: Threads + Wait + Sync>(
+    rt: &R,
+    alloc: Global,
+    row: (&str, &str),
+) -> Result<bool, Fail> {
+    Ok(prints_under(rt, alloc, "run", row)? && prints_under(rt, alloc, "serial", row)?)
 }
 
 #[test]
 fn a_signal_that_is_sent_to_itself_is_taken(rt: HostRuntime) -> Result<(), Fail> {
     let alloc = rt.alloc();
-    assert!(rt; prints(&rt, alloc, SELF_SEND)?);
+    assert!(rt; prints_in_any_order(&rt, alloc, SELF_SEND)?);
     Ok(())
 }
 
 #[test]
 fn scripts_without_actors_print_nothing(rt: HostRuntime) -> Result<(), Fail> {
     let alloc = rt.alloc();
-    assert!(rt; prints(&rt, alloc, ("", ""))?);
-    assert!(rt; prints(&rt, alloc, ("node n", ""))?);
+    assert!(rt; prints_in_any_order(&rt, alloc, ("", ""))?);
+    assert!(rt; prints_in_any_order(&rt, alloc, ("node n", ""))?);
     Ok(())
 }
 
 #[test]
 fn a_filtered_receive_keeps_the_order_of_the_others(rt: HostRuntime) -> Result<(), Fail> {
     let alloc = rt.alloc();
-    assert!(rt; prints(&rt, alloc, FILTERED)?);
+    assert!(rt; prints_in_any_order(&rt, alloc, FILTERED)?);
     Ok(())
 }
 
 #[test]
 fn a_negated_filter_finds_none_and_the_signal_stays(rt: HostRuntime) -> Result<(), Fail> {
     let alloc = rt.alloc();
-    assert!(rt; prints(&rt, alloc, NEGATED)?);
+    assert!(rt; prints_in_any_order(&rt, alloc, NEGATED)?);
     Ok(())
 }
 
@@ -320,7 +341,7 @@ fn each_refusal_has_its_word_and_a_command_that_was_refused_is_done(
     rt: HostRuntime,
 ) -> Result<(), Fail> {
     let alloc = rt.alloc();
-    assert!(rt; prints(&rt, alloc, REFUSED)?);
+    assert!(rt; prints_in_any_order(&rt, alloc, REFUSED)?);
     Ok(())
 }
 
@@ -329,6 +350,6 @@ fn each_refusal_has_its_word_and_a_command_that_was_refused_is_done(
 #[test]
 fn a_forward_sends_the_buffer_that_was_taken_once(rt: HostRuntime) -> Result<(), Fail> {
     let alloc = rt.alloc();
-    assert!(rt; prints(&rt, alloc, FORWARDS)?);
+    assert!(rt; prints_in_any_order(&rt, alloc, FORWARDS)?);
     Ok(())
 }

@@ -4,13 +4,13 @@ ghost use Rattle.std.specs.Prelude.{◌≡◌, ◌≢◌, true, [], Ok, None};
 ghost use Rattle.std.specs.Prelude.{IfOk, IfErr, OnOk, IfSome, IfNone};
 ghost use Rattle.std.specs.Io.KnownBytes.{IsAtEnd};
 ghost use Rattle.journal_text.specs.Text.{text_of};
+ghost use Rattle.script_lang.specs.Parts.{ScriptParts};
 ghost use Rattle.script_lang.specs.Reading.{script_of};
-ghost use Rattle.stage.specs.Turns.{first_layout};
 ghost use Rattle.work_gen.specs.Generated.{generated};
 ghost use Rattle.linx_sim.specs.CommandLine.{asked_of};
 ghost use Rattle.linx_sim.specs.Statuses.{IsUsageOrRefused};
 ghost use Rattle.linx_sim.specs.Streams.{Reads, Writes, TakesAtMost, read_most};
-ghost use Rattle.linx_sim.specs.Runs.{IsAnswerTo, IsOutcomeOf, IsCaused, IsLegalSomehow, Completes};
+ghost use Rattle.linx_sim.specs.Runs.{Completes, IsCaused, IsLegalSomehow, IsOutcomeOf, IsRan};
 ghost use Rattle.linx_sim.specs.Commands.{IsCausedUnder, CompletesUnder, ReadsUnder, written_under};
 ghost use Rattle.linx_sim.specs.Causes.{IsUnread, is_of_writing, read_status, script_status};
 ghost use Rattle.linx_sim.specs.Causes.{stop_status, report_status};
@@ -26,6 +26,8 @@ use script_lang::{Script, ScriptError, parse};
 use stage::Stage;
 use std::alloc::Global;
 use std::sync::Wait;
+use std::thread::Threads;
+use workers::Ran;
 
 /// One byte more than a script may have.
 const READ_MOST: usize = 1_048_577;
@@ -94,39 +96,56 @@ fn write_run<K: Sink>(alloc: Global, asked: Asked, journal: &Journal, out: &mut 
     }
 }
 
-/// Plays a script in the fixed order, and writes what is asked for of the whole run.
-fn play_script<K: Sink>(alloc: Global, asked: Asked, stage: Stage, out: &mut K) -> Outcome
-    requires unstarted { stage.run ≡ first_layout stage.script }
-    ensures answer { IsAnswerTo asked result.status stage.script result.journal.log }
-    ensures sink { Writes K.held K.faults K.last_count K.can_take out.old out.new
-        result.status (written_under asked result.journal.log) }
+/// Plays a script in the fixed order.
+fn play_in_order(alloc: Global, script: Script) -> Result<Ran, NoMemory>
+    ensures { IfOk result (IsRan Asked.Serial script) }
 {
-    let mut stage = stage;
-    match stage.play() {
-        Ok(()) => {
-            let journal = stage.into_journal();
-            Outcome {
-                status: write_run(alloc, asked, &journal, out),
-                journal,
-            }
-        }
-        Err(stop) => Outcome {
-            status: status_of_stop(stop.cause),
-            journal: stage.into_journal(),
-        },
-    }
+    let mut stage = Stage::new(alloc, script)?;
+    let stop = match stage.play() {
+        Ok(()) => None,
+        Err(stop) => Some(stop.cause),
+    };
+    Ok(Ran { stage, stop })
 }
 
-/// Runs a script in the fixed order, and writes what is asked for of the whole run.
-fn run_script<K: Sink>(alloc: Global, asked: Asked, script: Script, out: &mut K) -> Outcome
-    ensures answer { IsOutcomeOf asked result.status script result.journal.log }
+/// Plays a script with a thread for each actor and each link.
+fn play_in_threads<R: Threads + Wait + Sync, G: Gate + Sync>(
+    rt: &R,
+    alloc: Global,
+    script: Script,
+    gate: &G,
+) -> Result<Ran, NoMemory>
+    ensures { IfOk result (IsRan Asked.Run script) }
+{
+    workers::run(rt, alloc, script, gate)
+}
+
+/// What is asked for of a run that came to its end goes to the sink.
+fn conclude<K: Sink>(
+    alloc: Global,
+    asked: Asked,
+    played: Result<Ran, NoMemory>,
+    out: &mut K,
+) -> Outcome
+    ensures answer { (script : ScriptParts) → IfOk played (IsRan asked script)
+        → IsOutcomeOf asked result.status script result.journal.log }
     ensures legal { IsLegalSomehow result.journal.log.steps }
     ensures sink { Writes K.held K.faults K.last_count K.can_take out.old out.new
         result.status (written_under asked result.journal.log) }
 {
-    match Stage::new(alloc, script) {
-        Ok(stage) => play_script(alloc, asked, stage, out),
-        Err(NoMemory) => unstarted(alloc, Status::NoMemory),
+    let Ok(Ran { stage, stop }) = played else {
+        return unstarted(alloc, Status::NoMemory);
+    };
+    let journal = stage.into_journal();
+    match stop {
+        None => Outcome {
+            status: write_run(alloc, asked, &journal, out),
+            journal,
+        },
+        Some(cause) => Outcome {
+            status: status_of_stop(cause),
+            journal,
+        },
     }
 }
 
@@ -154,29 +173,6 @@ fn read_script<S: Source>(alloc: Global, source: &mut S) -> Result<Script, Statu
     }
 }
 
-/// Reads a script, runs it in the fixed order, and writes what is asked for of the whole run.
-fn read_and_run<S: Source, K: Sink>(
-    alloc: Global,
-    asked: Asked,
-    script: &mut S,
-    out: &mut K,
-) -> Outcome
-    ensures cause { IsCaused asked result.status (S.left script.old) result.journal.log }
-    ensures legal { IsLegalSomehow result.journal.log.steps }
-    ensures never_usage { result.status ≢ Status.Usage }
-    ensures complete { IfSome (S.left script.old) (λ told.
-        Completes told result.status result.journal.log) }
-    ensures source { Reads S.left S.faults S.last_count S.is_faultless script.old script.new
-        result.status }
-    ensures sink { Writes K.held K.faults K.last_count K.can_take out.old out.new
-        result.status (written_under asked result.journal.log) }
-{
-    match read_script(alloc, script) {
-        Ok(script) => run_script(alloc, asked, script, out),
-        Err(status) => unstarted(alloc, status),
-    }
-}
-
 /// Reads a script, runs it in the fixed order, and writes the text of the whole run.
 pub fn serial<S: Source, K: Sink>(alloc: Global, script: &mut S, out: &mut K) -> Outcome
     ensures cause { IsCaused Asked.Serial result.status (S.left script.old) result.journal.log }
@@ -189,12 +185,49 @@ pub fn serial<S: Source, K: Sink>(alloc: Global, script: &mut S, out: &mut K) ->
     ensures sink { Writes K.held K.faults K.last_count K.can_take out.old out.new
         result.status (text_of result.journal.log) }
 {
-    read_and_run(alloc, Asked::Serial, script, out)
+    match read_script(alloc, script) {
+        Ok(script) => conclude(alloc, Asked::Serial, play_in_order(alloc, script), out),
+        Err(status) => unstarted(alloc, status),
+    }
 }
 
-/// Runs the generated script of a number in the fixed order, and writes the summary of the whole
-/// run.
-fn generate<K: Sink>(alloc: Global, number: u32, out: &mut K) -> Outcome
+/// Reads a script, runs it with a thread for each actor and each link, and writes the text of the
+/// whole run.
+fn threaded<R: Threads + Wait + Sync, G: Gate + Sync, S: Source, K: Sink>(
+    rt: &R,
+    alloc: Global,
+    script: &mut S,
+    out: &mut K,
+    gate: &G,
+) -> Outcome
+    ensures cause { IsCaused Asked.Run result.status (S.left script.old) result.journal.log }
+    ensures legal { IsLegalSomehow result.journal.log.steps }
+    ensures never_usage { result.status ≢ Status.Usage }
+    ensures complete { IfSome (S.left script.old) (λ told.
+        Completes told result.status result.journal.log) }
+    ensures source { Reads S.left S.faults S.last_count S.is_faultless script.old script.new
+        result.status }
+    ensures sink { Writes K.held K.faults K.last_count K.can_take out.old out.new
+        result.status (text_of result.journal.log) }
+{
+    match read_script(alloc, script) {
+        Ok(script) => {
+            let played = play_in_threads(rt, alloc, script, gate);
+            conclude(alloc, Asked::Run, played, out)
+        }
+        Err(status) => unstarted(alloc, status),
+    }
+}
+
+/// Runs the generated script of a number with a thread for each actor and each link, and writes the
+/// summary of the whole run.
+fn generate<R: Threads + Wait + Sync, G: Gate + Sync, K: Sink>(
+    rt: &R,
+    alloc: Global,
+    number: u32,
+    out: &mut K,
+    gate: &G,
+) -> Outcome
     ensures cause { IsOutcomeOf (Asked.Gen number) result.status (generated number)
         result.journal.log }
     ensures legal { IsLegalSomehow result.journal.log.steps }
@@ -202,13 +235,23 @@ fn generate<K: Sink>(alloc: Global, number: u32, out: &mut K) -> Outcome
         result.status (written_under (Asked.Gen number) result.journal.log) }
 {
     match work_gen::script(alloc, number) {
-        Ok(script) => run_script(alloc, Asked::Gen(number), script, out),
+        Ok(script) => {
+            let played = play_in_threads(rt, alloc, script, gate);
+            conclude(alloc, Asked::Gen(number), played, out)
+        }
         Err(NoMemory) => unstarted(alloc, Status::NoMemory),
     }
 }
 
-/// Does what is asked for. As yet the turns under `run` come in the fixed order too.
-fn serve<S: Source, K: Sink>(alloc: Global, asked: Asked, script: &mut S, out: &mut K) -> Outcome
+/// Does what is asked for.
+fn serve<R: Threads + Wait + Sync, G: Gate + Sync, S: Source, K: Sink>(
+    rt: &R,
+    alloc: Global,
+    asked: Asked,
+    script: &mut S,
+    out: &mut K,
+    gate: &G,
+) -> Outcome
     ensures cause { IsCausedUnder asked result.status (S.left script.old) result.journal.log }
     ensures legal { IsLegalSomehow result.journal.log.steps }
     ensures never_usage { result.status ≢ Status.Usage }
@@ -219,20 +262,20 @@ fn serve<S: Source, K: Sink>(alloc: Global, asked: Asked, script: &mut S, out: &
         result.status (written_under asked result.journal.log) }
 {
     match asked {
-        Asked::Run => read_and_run(alloc, Asked::Run, script, out),
+        Asked::Run => threaded(rt, alloc, script, out, gate),
         Asked::Serial => serial(alloc, script, out),
-        Asked::Gen(number) => generate(alloc, number, out),
+        Asked::Gen(number) => generate(rt, alloc, number, out, gate),
     }
 }
 
 /// Does what the words of the command line ask for.
-pub fn run<S: Source, K: Sink, G: Gate + Sync, R: Wait>(
-    _rt: &R,
+pub fn run<S: Source, K: Sink, G: Gate + Sync, R: Threads + Wait + Sync>(
+    rt: &R,
     alloc: Global,
     words: &[String],
     script: &mut S,
     out: &mut K,
-    _gate: &G,
+    gate: &G,
 ) -> Outcome
     // Of words that are those of no command.
     ensures usage { result.status ≡ Status.Usage → asked_of words.now ≡ None }
@@ -257,7 +300,7 @@ pub fn run<S: Source, K: Sink, G: Gate + Sync, R: Wait>(
         result.status (written_under asked result.journal.log)) }
 {
     match asked_for(alloc, words) {
-        Ok(Some(asked)) => serve(alloc, asked, script, out),
+        Ok(Some(asked)) => serve(rt, alloc, asked, script, out, gate),
         Ok(None) => unstarted(alloc, Status::Usage),
         Err(NoMemory) => unstarted(alloc, Status::NoMemory),
     }

@@ -1,8 +1,6 @@
 //! Worked scripts that settle a link, with their whole texts in the fixed order of rounds.
 
-use crate::link_rows::text_under;
-use std::alloc::Global;
-use std::sync::Wait;
+use crate::rows::prints;
 use std::test::Fail;
 
 const SETTLED_BEFORE_THE_RECEIVE: (&str, &str) = (
@@ -135,17 +133,12 @@ const LOST_WHILE_SETTLED: (&str, &str) = (
      72 A2 ended\n+ closed 2.1\n",
 );
 
-// Whether the text of a script's run in the fixed order is this one.
-fn prints_in_order<R: Wait>(rt: &R, alloc: Global, row: (&str, &str)) -> Result<bool, Fail> {
-    Ok(text_under(rt, alloc, "serial", row.0)?.as_str() == row.1)
-}
-
 // The link is connecting when it is settled. The actor makes the steps of its pump, without a
 // tick, and then finds the answer of its hunt.
 #[test]
 fn what_a_settle_brings_is_taken_at_once(rt: HostRuntime) -> Result<(), Fail> {
     let alloc = rt.alloc();
-    assert!(rt; prints_in_order(&rt, alloc, SETTLED_BEFORE_THE_RECEIVE)?);
+    assert!(rt; prints(&rt, alloc, SETTLED_BEFORE_THE_RECEIVE)?);
     Ok(())
 }
 
@@ -155,7 +148,7 @@ fn what_a_settle_brings_is_taken_at_once(rt: HostRuntime) -> Result<(), Fail> {
 #[test]
 fn each_link_that_connects_is_settled_in_one_tick(rt: HostRuntime) -> Result<(), Fail> {
     let alloc = rt.alloc();
-    assert!(rt; prints_in_order(&rt, alloc, SETTLED_FROM_A_THIRD_NODE)?);
+    assert!(rt; prints(&rt, alloc, SETTLED_FROM_A_THIRD_NODE)?);
     Ok(())
 }
 
@@ -163,7 +156,7 @@ fn each_link_that_connects_is_settled_in_one_tick(rt: HostRuntime) -> Result<(),
 #[test]
 fn a_cut_link_is_not_settled_but_its_plans_end(rt: HostRuntime) -> Result<(), Fail> {
     let alloc = rt.alloc();
-    assert!(rt; prints_in_order(&rt, alloc, SETTLED_WHILE_CUT)?);
+    assert!(rt; prints(&rt, alloc, SETTLED_WHILE_CUT)?);
     Ok(())
 }
 
@@ -174,7 +167,7 @@ fn a_link_is_settled_whose_one_end_is_up_with_a_session_that_connects(
     rt: HostRuntime,
 ) -> Result<(), Fail> {
     let alloc = rt.alloc();
-    assert!(rt; prints_in_order(&rt, alloc, SETTLED_WITH_ONE_END_UP)?);
+    assert!(rt; prints(&rt, alloc, SETTLED_WITH_ONE_END_UP)?);
     Ok(())
 }
 
@@ -186,7 +179,7 @@ fn a_link_is_settled_whose_one_end_is_up_with_an_ended_session(
     rt: HostRuntime,
 ) -> Result<(), Fail> {
     let alloc = rt.alloc();
-    assert!(rt; prints_in_order(&rt, alloc, SETTLED_BEHIND_A_RESTART)?);
+    assert!(rt; prints(&rt, alloc, SETTLED_BEHIND_A_RESTART)?);
     Ok(())
 }
 
@@ -198,6 +191,6 @@ fn a_session_that_is_lost_while_its_link_is_settled_is_followed_by_another(
     rt: HostRuntime,
 ) -> Result<(), Fail> {
     let alloc = rt.alloc();
-    assert!(rt; prints_in_order(&rt, alloc, LOST_WHILE_SETTLED)?);
+    assert!(rt; prints(&rt, alloc, LOST_WHILE_SETTLED)?);
     Ok(())
 }

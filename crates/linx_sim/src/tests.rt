@@ -16,6 +16,7 @@ use std::env::{Env, FillError};
 use std::process::{ExitCode, Termination};
 use std::sync::Wait;
 use std::test::Fail;
+use std::thread::Threads;
 
 const LARGE_SENDS: &[u8] =
     b"node n\nactor p n\nopen a\nrepeat 600\nsend self 1 fill:65532:00\nend\nclose\nend\n";
@@ -74,7 +75,11 @@ fn eleven_senders(alloc: Global) -> Result<Vec<u8>, Fail> {
 }
 
 // Whether eleven senders fill the journal under a word, so that nothing is written.
-fn fill_the_journal<R: Wait>(rt: &R, alloc: Global, word: &str) -> Result<bool, Fail> {
+fn fill_the_journal<R: Threads + Wait + Sync>(
+    rt: &R,
+    alloc: Global,
+    word: &str,
+) -> Result<bool, Fail> {
     let script = eleven_senders(alloc)?;
     let mut sink = MemSink::new(alloc, 10, 4096, Vec::new(alloc))?;
     let outcome = outcome_under(rt, alloc, &[word], &script, &mut sink)?;
@@ -132,7 +137,11 @@ fn as_many_commands_as_an_actor_may_have(rt: HostRuntime) -> Result<(), Fail> {
     Ok(())
 }
 
-fn status_for<R: Wait>(rt: &R, alloc: Global, words: &[&str]) -> Result<Status, Fail> {
+fn status_for<R: Threads + Wait + Sync>(
+    rt: &R,
+    alloc: Global,
+    words: &[&str],
+) -> Result<Status, Fail> {
     let mut sink = MemSink::new(alloc, 10, 4096, Vec::new(alloc))?;
     Ok(outcome_under(rt, alloc, words, SELF_SEND.0.as_bytes(), &mut sink)?.status)
 }
@@ -225,7 +234,7 @@ impl Env for Given<'_> {
 
 // What the whole program does with these words and this script: its exit status, and what it wrote
 // to standard output and standard error.
-fn is_all<R: Wait + Eprint>(
+fn is_all<R: Threads + Wait + Sync + Eprint>(
     rt: &R,
     alloc: Global,
     words: &[&[u8]],

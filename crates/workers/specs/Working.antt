@@ -1,0 +1,83 @@
+-- What the workers of a run know by their passes.
+use Rattle.std.specs.Prelude.{ℕ, ◌≡◌, ◌<◌, ◌≤◌, true, List, [], ◌∷◌, length}
+use Rattle.std.specs.Prelude.{Option, Some, None, slice_index_or}
+use Rattle.journal.specs.declared.effect.Step.{Step}
+use Rattle.journal.specs.Logs.{is_full}
+use Rattle.turn_lock.specs.Passes.{IsPassOf, IsSamePass, LockView, PassView}
+use Rattle.linx_api.specs.Telling.{PlanParts, number_of, steps_in}
+use Rattle.script_lang.specs.Parts.{ScriptParts}
+use Rattle.trunk_moves.specs.Trunks.{RunTrunks}
+use Rattle.fabric.specs.declared.stop.StopCause.TheVariants.{JournalFull}
+use Rattle.fabric.specs.Run.{IsReached}
+use Rattle.stage.specs.declared.player.Player.{Player}
+use Rattle.stage.specs.Plays.{IsPlannedStep}
+use Rattle.stage.specs.Seats.{IsSeated}
+use Rattle.stage.specs.Turns.{makers, shape_of}
+use Rattle.workers.specs.declared.worker.Job.{Job}
+use Rattle.workers.specs.declared.worker.Worked.{Worked}
+
+-- the steps that a pass has seen
+abbrev pub seen : PassView Step PlanParts → List Step
+seen p = steps_in p.front
+
+-- what no step of a script's run changes
+abbrev pub plan_for : ScriptParts → PlanParts
+plan_for script = record { names = script.names; shape = shape_of script }
+
+-- the step is as planned in whatever state the steps before it reach
+abbrev pub IsPlannedThen : ScriptParts → List Step → Step → Type 0
+IsPlannedThen script P s =
+    (trunks : RunTrunks) → IsReached (shape_of script) P trunks → IsPlannedStep script P trunks s
+
+-- THE STEPS OF ONE MAKER, by its number, are as planned
+abbrev pub OwnPlanned : ScriptParts → ℕ → List Step → Type 0
+OwnPlanned script n [] = Unit {0}
+OwnPlanned script n (s ∷ P) =
+    OwnPlanned script n P × (number_of (shape_of script) s.by ≡ n → IsPlannedThen script P s)
+
+-- an actor is between two turns, or has ended; a link has no player
+abbrev pub IsPlayedBy : ScriptParts → List Step → ℕ → Option Player → Type 0
+IsPlayedBy script P n (Some player) = (n ≤ length script.actors) × IsSeated script P n player
+IsPlayedBy script P n None = length script.actors < n
+
+-- what a worker knows between two turns: its maker's steps are as planned, and follow its commands
+-- where it is an actor
+pub record IsWorking (script : ScriptParts) (p : PassView Step PlanParts) (player : Option Player)
+    : Type 0 where
+  pub fixed : p.fixed ≡ plan_for script
+  pub above : 0 < p.number
+  pub within : p.number ≤ makers script
+  pub played : IsPlayedBy script (seen p) p.number player
+  pub planned : OwnPlanned script p.number (seen p)
+
+-- A WORKER IS DONE: its pass is back, it knows what it knew between two turns, and it met a full
+-- journal only where its pass has seen one
+pub record IsWorked (script : ScriptParts) (before : PassView Step PlanParts) (done : Worked)
+    : Type 0 where
+  pub same : IsSamePass before done.pass
+  pub working : IsWorking script done.pass done.player
+  pub full : done.stop ≡ Some JournalFull → is_full (seen done.pass) ≡ true
+
+-- a pass of this lock, with this plan, that has seen nothing
+pub record IsReady (lock : LockView) (script : ScriptParts) (p : PassView Step PlanParts) : Type 0
+  where
+    pub of_lock : IsPassOf lock p
+    pub fixed : p.fixed ≡ plan_for script
+    pub above : 0 < p.number
+    pub within : p.number ≤ makers script
+    pub fresh : p.front ≡ []
+
+-- ---- the workers
+
+-- A JOB before its worker starts: a pass that has seen nothing, and for an actor its player between
+-- two turns
+pub record IsReadyJob (lock : LockView) (script : ScriptParts) (job : Job) : Type 0 where
+  pub of_lock : IsPassOf lock job.pass
+  pub working : IsWorking script job.pass job.player
+  pub fresh : job.pass.front ≡ []
+
+-- these are done, each at its place
+pub record AreWorkedJobs (script : ScriptParts) (jobs : List Job) (all : List Worked) : Type 0 where
+  pub many : length all ≡ length jobs
+  pub each : (k : ℕ) (job : Job) (done : Worked) → k < length jobs
+      → IsWorked script (slice_index_or jobs k job).pass (slice_index_or all k done)

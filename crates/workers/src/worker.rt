@@ -1,0 +1,504 @@
+//! A worker: what it does in a turn, and its turns until it is done.
+ghost use Rattle.std.specs.Prelude.{◌≡◌, ◌<◌, ◌≤◌, ◌+◌, true, false, length, IfOk, IfErr, All};
+ghost use Rattle.std.specs.Prelude.{Some, None};
+ghost use Rattle.journal.specs.declared.by.By.TheVariants.{Actor};
+ghost use Rattle.journal.specs.History.{has_ended};
+ghost use Rattle.journal.specs.Logs.{is_full};
+ghost use Rattle.actor_run.specs.Asking.{AreRunnable};
+ghost use Rattle.run_trunks.specs.States.{trunks_of};
+ghost use Rattle.script_lang.specs.Fits.{IsScript};
+ghost use Rattle.turn_lock.specs.Passes.{IsPassOf, IsSamePass};
+ghost use Rattle.fabric.specs.Actings.{OnlyRuns};
+ghost use Rattle.fabric.specs.Asks.{MayAsk};
+ghost use Rattle.fabric.specs.Remains.{IsLaidOut};
+ghost use Rattle.fabric.specs.Run.{IsReached};
+ghost use Rattle.link_laws.specs.Ends.{IsLinkOf};
+ghost use Rattle.stage.specs.Settlings.{IsActedAs, settler_in};
+ghost use Rattle.stage.specs.Turns.{commands_of, shape_of};
+ghost use Rattle.workers.specs.Turning.{Asks, IsActedIn, IsCalm, IsPumpTurn, IsPumpedAs};
+ghost use Rattle.workers.specs.Turning.{IsRightlyFull, IsRightlyFullOn, Learns, goes_on, stop_in, stop_of};
+ghost use Rattle.workers.specs.Working.{AreWorkedJobs, IsReadyJob, IsWorked};
+ghost use Rattle.workers.specs.Working.{IsWorking, seen};
+
+use crate::bells::Bells;
+use crate::rings::{Rings, first_running, rings_since};
+use actor_run::endpoint_after;
+use fabric::{Fabric, StepStop, StopCause};
+use linx_api::SharedFabric;
+use linx_base::{LinkNo, NoMemory};
+use linx_outside::Gate;
+use node_kernel::{Ask, StepAnswer};
+use run_states::runs_reach_one_state;
+use script_lang::{ActorScript, Script};
+use stage::{Acted, Player, Pump, act, is_settling, pump_on};
+use std::alloc::Global;
+use std::sync::Wait;
+use std::thread;
+use std::thread::Threads;
+use turn_lock::{Pass, TurnLock};
+
+/// A pass before its worker starts, with its player where it is an actor's.
+#[derive(Drop)]
+pub struct Job {
+    pub(crate) pass: Pass<SharedFabric>,
+    pub(crate) player: Option<Player>,
+}
+
+/// A pass after its worker's last turn, with its player where it is an actor's, and the stop that
+/// the worker met.
+#[derive(Drop)]
+pub struct Worked {
+    pub(crate) pass: Pass<SharedFabric>,
+    pub(crate) player: Option<Player>,
+    pub(crate) stop: Option<StopCause>,
+}
+
+/// What came of a turn.
+#[derive(Clone, Copy, PartialEq, Eq)]
+pub(crate) enum Turned {
+    /// There may be more to do.
+    Goes,
+    /// Nothing can be done until the bell rings.
+    Waits,
+    /// The worker is done, with this stop, if it met one.
+    Done(Option<StopCause>),
+}
+
+/// What was done under the lock, and whom to ring then.
+#[derive(Drop)]
+struct InTurn {
+    acted: Acted,
+    ended: bool,
+    rings: Rings,
+}
+
+/// The stop that a worker meets where the run was stopped before. Then none makes a further step.
+fn stop_before(fabric: &Fabric, script: &Script) -> Option<StopCause>
+    requires shape { fabric.now.shape ≡ shape_of script.now }
+    ensures calm { result ≡ None → settler_in fabric.now ≡ None }
+    ensures full { result ≡ Some StopCause.JournalFull → is_full fabric.now.log.steps ≡ true }
+{
+    if fabric.stopped().is_none() && !is_settling(fabric, script) {
+        return None;
+    }
+    if fabric.journal().full() {
+        return Some(StopCause::JournalFull);
+    }
+    Some(StopCause::NoMemory)
+}
+
+/// What an actor asks for is done, unless the run was stopped.
+fn act_on(fabric: &mut Fabric, script: &Script, actor: u32, ask: Ask) -> Acted
+    requires shape { fabric.old.shape ≡ shape_of script.now }
+    requires asks { MayAsk fabric.old (Actor actor) ask }
+    requires laid_out { IsLaidOut (length fabric.old.log.names.nodes) fabric.old.shape }
+    ensures came { IsActedAs fabric.old fabric.new actor ask result }
+    ensures calm { IsCalm fabric.old fabric.new }
+    ensures fixed { OnlyRuns fabric.old fabric.new }
+{
+    if let Some(cause) = stop_before(fabric, script) {
+        return Acted::Stopped(StepStop {
+            cause,
+            hand: ask.hand,
+        });
+    }
+    act(fabric, actor, ask)
+}
+
+/// Notes the stop that an actor met, if it met one.
+fn note_stop(fabric: &mut Fabric, acted: &Acted)
+    requires { stop_of acted.now ≡ Some StopCause.JournalFull
+        → is_full fabric.old.log.steps ≡ true }
+    ensures { fabric.new ≡ fabric.old }
+{
+    match acted {
+        Acted::Done(_) => {}
+        Acted::Halfway(_, cause) => fabric.stop(*cause),
+        Acted::Stopped(stop) => fabric.stop(stop.cause),
+    }
+}
+
+/// Whom to ring where this came of what an actor asked for: everybody at a stop.
+fn rings_of(fabric: &Fabric, links: u32, before: u64, acted: &Acted) -> Rings
+    requires { links ≡ length fabric.now.shape.links }
+{
+    match acted {
+        Acted::Done(_) => rings_since(fabric, links, before),
+        _ => Rings::all(),
+    }
+}
+
+/// What an actor asks for is done; and whom to ring then, and whether the actor has ended.
+fn take_turn(fabric: &mut Fabric, script: &Script, actor: u32, ask: Ask) -> InTurn
+    requires shape { fabric.old.shape ≡ shape_of script.now }
+    requires asks { MayAsk fabric.old (Actor actor) ask }
+    requires laid_out { IsLaidOut (length fabric.old.log.names.nodes) fabric.old.shape }
+    ensures came { IsActedAs fabric.old fabric.new actor ask result.acted }
+    ensures calm { IsCalm fabric.old fabric.new }
+    ensures over { result.ended ≡ has_ended fabric.new.log.steps actor }
+    ensures reached { IsReached fabric.old.shape fabric.old.log.steps
+        (trunks_of fabric.old.trunks) }
+    ensures fixed { OnlyRuns fabric.old fabric.new }
+{
+    let before = fabric.journal().len();
+    let links = script.links().len() as u32;
+    let acted = act_on(fabric, script, actor, ask);
+    note_stop(fabric, &acted);
+    let rings = rings_of(fabric, links, before, &acted);
+    InTurn {
+        ended: fabric.has_ended(actor),
+        acted,
+        rings,
+    }
+}
+
+/// Takes the fabric, does what an actor asks for, and gives the fabric back.
+fn act_in_turn<R: Wait>(
+    rt: &R,
+    lock: &TurnLock<SharedFabric>,
+    script: &Script,
+    pass: Pass<SharedFabric>,
+    ask: Ask,
+) -> (Pass<SharedFabric>, InTurn)
+    requires lock { IsPassOf lock.now pass }
+    requires script { IsScript script.now }
+    requires asks { Asks script.now pass ask }
+    ensures { IsActedIn pass ask result.1.acted result.1.ended result.0 }
+{
+    let mut held = lock.take(rt, pass);
+    let actor = held.number();
+    let turn = take_turn(held.state().fabric_mut(), script, actor, ask);
+    (lock.give(held), turn)
+}
+
+/// Notes a refusal of memory that was met outside the lock.
+fn note_no_memory<R: Wait>(
+    rt: &R,
+    lock: &TurnLock<SharedFabric>,
+    script: &Script,
+    pass: Pass<SharedFabric>,
+    player: &Player,
+) -> Pass<SharedFabric>
+    requires lock { IsPassOf lock.now pass }
+    requires working { IsWorking script.now pass (Some player.now) }
+    ensures same { IsSamePass pass result }
+    ensures working { IsWorking script.now result (Some player.now) }
+{
+    let mut held = lock.take(rt, pass);
+    held.state().fabric_mut().stop(StopCause::NoMemory);
+    lock.give(held)
+}
+
+/// What an actor does.
+fn actor_of(script: &Script, actor: u32) -> &ActorScript
+    requires above { 0 < actor }
+    requires within { actor ≤ length script.now.actors }
+    ensures commands { result.now.commands ≡ commands_of script.now actor }
+    ensures runnable { AreRunnable result.now.commands }
+    ensures script { IsScript script.now }
+{
+    &script.actors()[(actor - 1) as usize]
+}
+
+/// What came of a turn that was answered so.
+fn turned_by(answer: &StepAnswer, ended: bool) -> Turned
+    ensures goes { goes_on result ≡ true → ended ≡ false }
+    ensures stop { stop_in result ≡ None }
+{
+    if ended {
+        return Turned::Done(None);
+    }
+    match answer {
+        StepAnswer::NotYet => Turned::Waits,
+        _ => Turned::Goes,
+    }
+}
+
+/// The player learns what came of its turn.
+fn learn(player: &mut Player, commands: &ActorScript, acted: Acted, ended: bool) -> Turned
+    requires runnable { AreRunnable commands.now.commands }
+    requires place { player.old.mind.place ≤ length commands.now.commands }
+    ensures learns { Learns commands.now.commands player.old acted player.new }
+    ensures goes { goes_on result ≡ true → ended ≡ false }
+    ensures stop { stop_in result ≡ stop_of acted }
+{
+    match acted {
+        Acted::Done(answer) => {
+            let turned = turned_by(&answer, ended);
+            player.me = endpoint_after(player.me, &answer);
+            player.mind.told(commands, answer);
+            turned
+        }
+        Acted::Halfway(answer, cause) => {
+            player.me = endpoint_after(player.me, &answer);
+            player.mind.told(commands, answer);
+            Turned::Done(Some(cause))
+        }
+        Acted::Stopped(StepStop { cause, hand }) => {
+            player.mind.stopped(hand);
+            Turned::Done(Some(cause))
+        }
+    }
+}
+
+/// One turn of an actor that hasn't ended: what its script asks for next.
+fn turn_of<R: Wait>(
+    rt: &R,
+    alloc: Global,
+    lock: &TurnLock<SharedFabric>,
+    script: &Script,
+    bells: &Bells,
+    pass: Pass<SharedFabric>,
+    player: &mut Player,
+) -> (Pass<SharedFabric>, Turned)
+    requires lock { IsPassOf lock.now pass }
+    requires working { IsWorking script.now pass (Some player.old) }
+    requires running { has_ended (seen pass) pass.number ≡ false }
+    ensures same { IsSamePass pass result.0 }
+    ensures working { IsWorking script.now result.0 (Some player.new) }
+    ensures running { goes_on result.1 ≡ true
+        → has_ended (seen result.0) result.0.number ≡ false }
+    ensures full { IsRightlyFull result.0 (stop_in result.1) }
+{
+    runs_reach_one_state();
+    let commands = actor_of(script, pass.number());
+    let Ok(ask) = player.mind.next(alloc, commands, player.me) else {
+        let pass = note_no_memory(rt, lock, script, pass, player);
+        bells.ring_all();
+        return (pass, Turned::Done(Some(StopCause::NoMemory)));
+    };
+    let (pass, turn) = act_in_turn(rt, lock, script, pass, ask);
+    let InTurn {
+        acted,
+        ended,
+        rings,
+    } = turn;
+    bells.ring(rings);
+    let turned = learn(player, commands, acted, ended);
+    (pass, turned)
+}
+
+/// Takes turns for an actor until it has ended, or a stop comes.
+fn work_for_actor<R: Wait, G: Gate>(
+    rt: &R,
+    alloc: Global,
+    lock: &TurnLock<SharedFabric>,
+    script: &Script,
+    gate: &G,
+    bells: &Bells,
+    pass: Pass<SharedFabric>,
+    player: Player,
+) -> Worked
+    requires lock { IsPassOf lock.now pass }
+    requires working { IsWorking script.now pass (Some player) }
+    requires running { has_ended (seen pass) pass.number ≡ false }
+    ensures { IsWorked script.now pass result }
+{
+    let mut pass = pass;
+    let mut player = player;
+    let mut turn = 0u64;
+    'turns: for _ in rt.forever() {
+        turn = turn.wrapping_add(1);
+        let number = pass.number();
+        gate.pass(rt, number, turn);
+        let heard = bells.heard(number);
+        let (back, turned) = turn_of(rt, alloc, lock, script, bells, pass, &mut player);
+        pass = back;
+        if !goes_past(rt, bells, number, heard, turned) {
+            return Worked {
+                pass,
+                player: Some(player),
+                stop: stop_in(turned),
+            };
+        }
+    }
+    unreachable!()
+}
+
+/// Waits for the bell where nothing can be done before it rings. It answers whether further turns
+/// follow.
+fn goes_past<R: Wait>(rt: &R, bells: &Bells, number: u32, heard: u64, turned: Turned) -> bool
+    ensures { result ≡ true → goes_on turned ≡ true }
+{
+    match turned {
+        Turned::Goes => true,
+        Turned::Waits => bells.wait(rt, number, heard),
+        Turned::Done(_) => false,
+    }
+}
+
+/// The stop of a turn that is the last one, if it met one.
+fn stop_in(turned: Turned) -> Option<StopCause>
+    ensures { result ≡ stop_in turned }
+{
+    match turned {
+        Turned::Goes | Turned::Waits => None,
+        Turned::Done(stop) => stop,
+    }
+}
+
+/// A turn of a link's pump, unless the run was stopped.
+fn pump_in(fabric: &mut Fabric, script: &Script, link: LinkNo) -> Result<Pump, StepStop>
+    requires shape { fabric.old.shape ≡ shape_of script.now }
+    requires declared { IsLinkOf fabric.old.shape link }
+    ensures came { IsPumpedAs script.now link fabric.old fabric.new result }
+    ensures calm { IsCalm fabric.old fabric.new }
+    ensures fixed { OnlyRuns fabric.old fabric.new }
+{
+    if let Some(cause) = stop_before(fabric, script) {
+        return Err(StepStop { cause, hand: None });
+    }
+    pump_on(fabric, script, link)
+}
+
+/// What came of a pump's turn: it is done once all actors have ended and its link doesn't stir. A
+/// stop is noted.
+fn pumped_by(fabric: &mut Fabric, pumped: Result<Pump, StepStop>) -> Turned
+    requires { IfErr pumped (λ stop. stop.cause ≡ StopCause.JournalFull
+        → is_full fabric.old.log.steps ≡ true) }
+    ensures same { fabric.new ≡ fabric.old }
+    ensures full { stop_in result ≡ Some StopCause.JournalFull
+        → is_full fabric.old.log.steps ≡ true }
+{
+    match pumped {
+        Ok(Pump::Moved) => Turned::Goes,
+        Ok(Pump::NoWork) => match first_running(fabric) {
+            Some(_) => Turned::Waits,
+            None => Turned::Done(None),
+        },
+        Err(stop) => {
+            fabric.stop(stop.cause);
+            Turned::Done(Some(stop.cause))
+        }
+    }
+}
+
+/// Whom to ring after a pump's turn: everybody at a stop.
+fn rings_of_pump(fabric: &Fabric, links: u32, before: u64, turned: Turned) -> Rings
+    requires { links ≡ length fabric.now.shape.links }
+{
+    match turned {
+        Turned::Done(Some(_)) => Rings::all(),
+        _ => rings_since(fabric, links, before),
+    }
+}
+
+/// A turn of the pump of this number, and whom to ring then.
+fn take_pump_turn(fabric: &mut Fabric, script: &Script, number: u32) -> (Turned, Rings)
+    requires shape { fabric.old.shape ≡ shape_of script.now }
+    requires above { length script.now.actors < number }
+    requires within { number ≤ length script.now.actors + length script.now.links }
+    ensures came { IsPumpTurn script.now number fabric.old fabric.new }
+    ensures full { IsRightlyFullOn fabric.new (stop_in result.0) }
+    ensures calm { IsCalm fabric.old fabric.new }
+    ensures reached { IsReached fabric.old.shape fabric.old.log.steps
+        (trunks_of fabric.old.trunks) }
+    ensures fixed { OnlyRuns fabric.old fabric.new }
+{
+    let before = fabric.journal().len();
+    let links = script.links().len() as u32;
+    let link = LinkNo(number - script.actors().len() as u32);
+    let pumped = pump_in(fabric, script, link);
+    let turned = pumped_by(fabric, pumped);
+    (turned, rings_of_pump(fabric, links, before, turned))
+}
+
+/// Takes the fabric for a turn of a link's pump, and gives it back.
+fn pump_in_turn<R: Wait>(
+    rt: &R,
+    lock: &TurnLock<SharedFabric>,
+    script: &Script,
+    bells: &Bells,
+    pass: Pass<SharedFabric>,
+) -> (Pass<SharedFabric>, Turned)
+    requires lock { IsPassOf lock.now pass }
+    requires working { IsWorking script.now pass None }
+    ensures same { IsSamePass pass result.0 }
+    ensures working { IsWorking script.now result.0 None }
+    ensures full { IsRightlyFull result.0 (stop_in result.1) }
+{
+    runs_reach_one_state();
+    let _ = script.actors();
+    let mut held = lock.take(rt, pass);
+    let number = held.number();
+    let (turned, rings) = take_pump_turn(held.state().fabric_mut(), script, number);
+    let pass = lock.give(held);
+    bells.ring(rings);
+    (pass, turned)
+}
+
+/// Takes turns for a link's pump until all actors have ended and the link doesn't stir, or a stop
+/// comes.
+fn work_for_link<R: Wait, G: Gate>(
+    rt: &R,
+    lock: &TurnLock<SharedFabric>,
+    script: &Script,
+    gate: &G,
+    bells: &Bells,
+    pass: Pass<SharedFabric>,
+) -> Worked
+    requires lock { IsPassOf lock.now pass }
+    requires working { IsWorking script.now pass None }
+    ensures { IsWorked script.now pass result }
+{
+    let mut pass = pass;
+    let mut turn = 0u64;
+    'turns: for _ in rt.forever() {
+        turn = turn.wrapping_add(1);
+        let number = pass.number();
+        gate.pass(rt, number, turn);
+        let heard = bells.heard(number);
+        let (back, turned) = pump_in_turn(rt, lock, script, bells, pass);
+        pass = back;
+        if !goes_past(rt, bells, number, heard, turned) {
+            return Worked {
+                pass,
+                player: None,
+                stop: stop_in(turned),
+            };
+        }
+    }
+    unreachable!()
+}
+
+/// Takes the turns of a maker until it is done.
+fn work<R: Wait, G: Gate>(
+    rt: &R,
+    alloc: Global,
+    lock: &TurnLock<SharedFabric>,
+    script: &Script,
+    gate: &G,
+    bells: &Bells,
+    job: Job,
+) -> Worked
+    requires { IsReadyJob lock.now script.now job }
+    ensures { IsWorked script.now job.pass result }
+{
+    bells.start();
+    let Job { pass, player } = job;
+    match player {
+        Some(player) => work_for_actor(rt, alloc, lock, script, gate, bells, pass, player),
+        None => work_for_link(rt, lock, script, gate, bells, pass),
+    }
+}
+
+/// Runs a worker for each pass, and joins them.
+pub(crate) fn workers<R: Threads + Wait + Sync, G: Gate + Sync>(
+    rt: &R,
+    alloc: Global,
+    lock: &TurnLock<SharedFabric>,
+    script: &Script,
+    gate: &G,
+    bells: &Bells,
+    jobs: Vec<Job>,
+) -> Result<Vec<Worked>, NoMemory>
+    requires { All (IsReadyJob lock.now script.now) jobs.items }
+    ensures { IfOk result (λ all. AreWorkedJobs script.now jobs.items all.items) }
+{
+    let each = |job: Job| -> Worked
+        requires { IsReadyJob lock.now script.now job }
+        ensures { IsWorked script.entry.now job.pass result }
+    { work(rt, alloc, lock, script, gate, bells, job) };
+    let all = thread::map_vec(rt, jobs, &each)?;
+    Ok(all)
+}
