@@ -1,12 +1,14 @@
 #!/usr/bin/env python3
 """Runs the built program on crowded scripts, each of 64 actors on 16 nodes with 32 links that lose.
 
-Goes on with the next seed until the runs have taken so many processor seconds together. Each must
-be done, or say that its journal is full; one that is done has the logs of its endpoints and as many
-steps as its journal says. With --model, the text is compared with that of bench/model, too. Prints
-how many runs were as they should be, how many lines they wrote, and the first that was wrong.
+Goes on with the next seed until the runs have taken so many processor seconds together: in the
+fixed order, or with --threads with a thread for each actor and each link. Each must end within a
+minute, and be done, or say that its journal is full; one that is done has the logs of its endpoints
+and as many steps as its journal says. With --model, the text is compared with that of bench/model,
+too, which takes the turns in the order of that journal. Prints how many runs were as they should
+be, how many lines they wrote, and the first that was wrong.
 
-    bench/crowds.py [--model] [SECONDS [PROGRAM]]       SECONDS is 600 if unsaid
+    bench/crowds.py [--threads] [--model] [SECONDS [PROGRAM]]       SECONDS is 600 if unsaid
     bench/crowds.py --write SEED                        writes the script of a seed
 """
 import os
@@ -22,12 +24,14 @@ HERE = pathlib.Path(__file__).resolve().parent
 sys.path.insert(0, str(HERE / "model"))
 
 import random_script
+import threads
 from runs import Run
 from script import parse
 from values import Refused
 
 PROGRAM = HERE.parent / "crates/linx_program/out/linx_program"
-FULL = (5, b"linx_sim: journal full\n", b"")
+FULL = threads.FULL
+SECONDS = 60
 
 
 class Crowd(random_script.Writer):
@@ -60,21 +64,24 @@ def is_whole(text):
     return steps == [str(step) for step in range(1, int(lines[at][8:]) + 1)]
 
 
-def model_ends(script):
-    """How the model ends: its text, or as the program does where the journal is full."""
+def is_model_end(word, script, end):
+    """Whether the model ends so, too: in the fixed order, or in that of the journal."""
+    if word == "run":
+        return end == FULL or threads.wrong_of(script, end) is None
     try:
-        return 0, b"", Run(parse(script)).play().encode()
+        return end == (0, b"", Run(parse(script)).play().encode())
     except Refused:
-        return FULL
+        return end == FULL
 
 
-def run(program, script):
+def run(program, word, script):
     """How the program ended, and the processor seconds that it took."""
     with tempfile.TemporaryFile() as given, tempfile.TemporaryFile() as said, \
             tempfile.TemporaryFile() as written:
         given.write(script.encode())
         given.seek(0)
-        started = subprocess.Popen([program, "serial"], stdin=given, stdout=written, stderr=said)
+        started = subprocess.Popen(["timeout", str(SECONDS), program, word], stdin=given,
+                                   stdout=written, stderr=said)
         _, status, used = os.wait4(started.pid, 0)
         started.returncode = os.waitstatus_to_exitcode(status)
         said.seek(0)
@@ -85,19 +92,20 @@ def run(program, script):
 
 def main(words):
     """Runs them until the time is over."""
-    with_model = words[:1] == ["--model"]
-    words = words[with_model:]
+    word = "run" if "--threads" in words else "serial"
+    with_model = "--model" in words
+    words = [given for given in words if not given.startswith("--")]
     seconds = float(words[0]) if words else 600
     program = pathlib.Path(words[1] if len(words) > 1 else PROGRAM).resolve()
     seed, taken, lines, wrongs = 0, 0, 0, []
     while taken < seconds:
         seed += 1
         script = Crowd(seed).script()
-        end, used = run(program, script)
+        end, used = run(program, word, script)
         taken += used
         right = end == FULL or end[:2] == (0, b"") and is_whole(end[2])
         if right and with_model:
-            right = end == model_ends(script)
+            right = is_model_end(word, script, end)
         if not right:
             wrongs.append(f"seed {seed}: ended with {end[0]}")
         lines += end[2].count(b"\n") - end[2].count(b"\n+ ")

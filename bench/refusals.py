@@ -1,12 +1,14 @@
 #!/usr/bin/env python3
-"""Refuses each call for memory, each read and each write of some runs in turn.
+"""Refuses each call for memory, for a thread, to read and to write of some runs in turn.
 
 A small library in C, which is built with `cc` and loaded before the C library, refuses the call of
-a number: of memory that call alone, or it and all behind it; of reads and writes it fails, is
-interrupted, or moves one byte. A run without memory is `out of memory` and writes nothing, or ends
-as it would have; a read that fails or is interrupted is `read fault`, and such a write `write
-fault` behind a front of the text; one that is short changes nothing. Prints for each script how
-many calls were refused, and the first run that didn't end as it should.
+a number: of memory and threads that call alone, or it and all behind it; of reads and writes it
+fails, is interrupted, or moves one byte. A run without memory is `out of memory` and writes
+nothing, or ends as it would have; a read that fails or is interrupted is `read fault`, and such a
+write `write fault` behind a front of the text; a short one and a thread that isn't made change
+nothing. Each script runs in the fixed order, and with a thread for each actor and each link; there
+any text is right that the model has in the order of its journal. Prints for each how many calls
+were refused, and the first run that didn't end as it should.
 
     bench/refusals.py [PROGRAM]
 """
@@ -19,6 +21,8 @@ import tempfile
 
 sys.dont_write_bytecode = True
 
+import threads
+
 TOP = pathlib.Path(__file__).resolve().parent.parent
 PROGRAM = TOP / "crates/linx_program/out/linx_program"
 EXAMPLES = ["self_send", "hunt_and_attach", "link", "lost_link", "restarted_node", "chain"]
@@ -27,6 +31,7 @@ LIBRARY = r"""
 #define _GNU_SOURCE
 #include <dlfcn.h>
 #include <errno.h>
+#include <pthread.h>
 #include <stdlib.h>
 #include <string.h>
 #include <sys/syscall.h>
@@ -40,8 +45,8 @@ static const char *said(const char *name) { const char *is = getenv(name); retur
 static int is_refused(const char *kind) {
     if (strcmp(said("REFUSED_KIND"), kind) != 0) return 0;
     long at = atol(said("REFUSED_CALL"));
-    calls += 1;
-    if (calls != at && !(calls > at && strcmp(said("REFUSED_WAY"), "from") == 0)) return 0;
+    long call = __atomic_add_fetch(&calls, 1, __ATOMIC_SEQ_CST);
+    if (call != at && !(call > at && strcmp(said("REFUSED_WAY"), "from") == 0)) return 0;
     syscall(SYS_write, atoi(said("REFUSED_MARK")), "!", 1);
     return 1;
 }
@@ -56,6 +61,12 @@ void *realloc(void *old, size_t size) {
     static void *(*real)(void *, size_t);
     if (!real) real = dlsym(RTLD_NEXT, "realloc");
     return is_refused("memory") ? NULL : real(old, size);
+}
+
+int pthread_create(pthread_t *made, const pthread_attr_t *how, void *(*what)(void *), void *with) {
+    static int (*real)(pthread_t *, const pthread_attr_t *, void *(*)(void *), void *);
+    if (!real) real = dlsym(RTLD_NEXT, "pthread_create");
+    return is_refused("thread") ? EAGAIN : real(made, how, what, with);
 }
 
 /* What a refused read or write does: it fails, or moves one byte. */
@@ -77,7 +88,8 @@ ssize_t write(int file, const void *bytes, size_t size) {
 }
 """
 WAYS = [("memory", "once"), ("memory", "from"), ("read", "failed"), ("read", "short"),
-        ("read", "interrupted"), ("write", "failed"), ("write", "short"), ("write", "interrupted")]
+        ("read", "interrupted"), ("write", "failed"), ("write", "short"), ("write", "interrupted"),
+        ("thread", "once"), ("thread", "from")]
 
 
 def built(folder):
@@ -93,27 +105,30 @@ def ran(command, script, library, kind, way, call):
     reader, writer = os.pipe()
     refused = {"REFUSED_KIND": kind, "REFUSED_WAY": way, "REFUSED_CALL": str(call),
                "REFUSED_MARK": str(writer), "LD_PRELOAD": str(library)}
-    end = subprocess.run(command, input=script, capture_output=True, timeout=SECONDS, check=False,
-                         env=refused, pass_fds=[writer])
+    try:
+        ended = subprocess.run(command, input=script, capture_output=True, timeout=SECONDS,
+                               check=False, env=refused, pass_fds=[writer])
+        end = ended.returncode, ended.stderr, ended.stdout
+    except subprocess.TimeoutExpired:
+        end = "no end", b"", b""
     os.close(writer)
     was_refused = bool(os.read(reader, 1))
     os.close(reader)
     return end, was_refused
 
 
-def is_right(kind, way, end, text):
+def is_right(kind, way, end, is_whole, is_front):
     """Whether a run with a refused call ended as it should."""
-    got = end.returncode, end.stderr, end.stdout
-    if kind == "memory" and got == (6, b"linx_sim: out of memory\n", b""):
+    if kind == "memory" and end == (6, b"linx_sim: out of memory\n", b""):
         return True
-    if kind == "memory" or way == "short":
-        return got == (0, b"", text)
+    if kind in ("memory", "thread") or way == "short":
+        return is_whole(end)
     if kind == "read":
-        return got == (3, b"linx_sim: read fault\n", b"")
-    return got[:2] == (4, b"linx_sim: write fault\n") and text.startswith(end.stdout)
+        return end == (3, b"linx_sim: read fault\n", b"")
+    return end[:2] == (4, b"linx_sim: write fault\n") and is_front(end[2])
 
 
-def tried(name, command, script, text, library):
+def tried(name, command, script, library, is_whole, is_front):
     """Refuses all calls of one script's runs; whether all was right."""
     count, wrong = 0, None
     for kind, way in WAYS:
@@ -122,11 +137,25 @@ def tried(name, command, script, text, library):
             if not was_refused:
                 break
             count += 1
-            if not is_right(kind, way, end, text):
-                wrong = wrong or f"{kind}, call {call} {way}: ended with {end.returncode}"
+            if not is_right(kind, way, end, is_whole, is_front):
+                wrong = wrong or f"{kind}, call {call} {way}: ended with {end[0]}"
     found = f"wrong: {wrong}" if wrong else "all as they should be"
-    print(f"{name}: {count} refused calls, {found}", flush=True)
+    print(f"{name}, {command[1]}: {count} refused calls, {found}", flush=True)
     return wrong is None
+
+
+def tried_in_order(name, program, script, text, library):
+    """The same in the fixed order, in which a script has one text."""
+    return tried(name, [program, "serial"], script, library, lambda end: end == (0, b"", text),
+                 text.startswith)
+
+
+def tried_in_threads(name, program, script, library):
+    """The same in threads, where a text is right if the model has it in this order."""
+    spelled = script.decode()
+    return tried(name, [program, "run"], script, library,
+                 lambda end: threads.wrong_of(spelled, end) is None,
+                 lambda front: not front or front.startswith(b"log "))
 
 
 def main(words):
@@ -138,8 +167,8 @@ def main(words):
         for name in EXAMPLES:
             script = TOP / "examples" / f"{name}.linx"
             text = script.with_suffix(".txt").read_bytes()
-            command = [program, "serial"]
-            right &= tried(name, command, script.read_bytes(), text, library)
+            right &= tried_in_order(name, program, script.read_bytes(), text, library)
+            right &= tried_in_threads(name, program, script.read_bytes(), library)
     return 0 if right else 1
 
 

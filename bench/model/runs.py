@@ -1,8 +1,10 @@
-"""A run: rounds, in which each actor takes a turn and then each link makes a step."""
+"""A run: rounds, in which each actor takes a turn and then each link makes a step, or turns in any
+order that is given."""
 from actors import Actor
 from journal import Journal
 from links import Link
 from nodes import Node
+from values import Refused
 
 
 class Run:
@@ -48,4 +50,17 @@ class Run:
                 actor.turn(self.journal)
             for link in self.links:
                 link.pump(self.journal)
+        return self.journal.text()
+
+    def replay(self, makers):
+        """Takes the turns of these makers, one for each step, until all is over; the text."""
+        turns = {actor.maker: actor.turn for actor in self.actors}
+        turns.update((link.maker, link.pump) for link in self.links)
+        while not self.is_over():
+            made = self.journal.steps
+            if made >= len(makers):
+                raise Refused(f"not over after {made} steps")
+            turns[makers[made]](self.journal)
+            if self.journal.steps == made:
+                raise Refused(f"{makers[made]} makes no step {made + 1}")
         return self.journal.text()
