@@ -7,8 +7,9 @@ fails, is interrupted, or moves one byte. A run without memory is `out of memory
 nothing, or ends as it would have; a read that fails or is interrupted is `read fault`, and such a
 write `write fault` behind a front of the text; a short one and a thread that isn't made change
 nothing. Each script runs in the fixed order, and with a thread for each actor and each link; there
-any text is right that the model has in the order of its journal. Prints for each how many calls
-were refused, and the first run that didn't end as it should.
+any text is right that the model has in the order of its journal, and of a front it is only looked
+at how it begins. Prints for each how many calls were refused, and the first run that didn't end as
+it should.
 
     bench/refusals.py [PROGRAM]
 """
