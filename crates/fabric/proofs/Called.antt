@@ -14,7 +14,6 @@ use Rattle.linx_base.specs.declared.name.Path.TheVariants.{Local, Over}
 use Rattle.linx_base.specs.declared.signal.SigNote.{SigNote}
 use Rattle.journal.specs.declared.by.By.TheVariants.{Actor}
 use Rattle.journal.specs.declared.event.Event.TheVariants as asks
-use Rattle.journal.specs.declared.effect.Step.{Step}
 use Rattle.journal.specs.declared.head.Head.TheVariants as heads
 use Rattle.journal.specs.Effects.{send_answer}
 use Rattle.journal.specs.History.{endpoint_of}
@@ -33,7 +32,7 @@ use Rattle.trunk_moves.specs.Trunks.{Become}
 use Rattle.trunk_moves.proofs.Peers.{peer-end}
 use Rattle.fabric.specs.Actings.{HasMade}
 use Rattle.fabric.specs.Asks.{FitsEvent, HasSideOn, LeavesBy}
-use Rattle.fabric.specs.Calls.{CallMade, HasRoom, IsBounded, IsCallMade, IsTyped, ask_of}
+use Rattle.fabric.specs.Calls.{CallMade, IsBounded, IsCallMade, IsTyped, ask_of}
 use Rattle.fabric.specs.Calls.{call_made}
 use Rattle.fabric.specs.Calls.{event_of, hand_of, stands_after}
 use Rattle.fabric.specs.declared.call.Call.{Call}
@@ -45,31 +44,21 @@ use Rattle.fabric.specs.Run.{Layout}
 use Rattle.fabric.specs.Tellings.{asked_over, sent_over, told_of_call}
 use Rattle.fabric.proofs.Kept.{length-set}
 use Rattle.fabric.proofs.Legal.{IsNamedEvent}
-use Rattle.fabric.proofs.Made.{lay, made-attach, made-close, made-detach, made-end_open}
+use Rattle.fabric.proofs.Made.{made-attach, made-close, made-detach, made-end_open}
 use Rattle.fabric.proofs.Made.{made-hunt}
 use Rattle.fabric.proofs.Made.{made-send, with_own}
 use Rattle.fabric.proofs.Nodes.{find-left, living-left}
-use Rattle.fabric.proofs.Placed.{Acts, kernel-is, own_open}
+use Rattle.fabric.proofs.Placed.{Acts, own_kernel-is, own_open}
 use Rattle.fabric.proofs.Reaching.{whole-run}
 use Rattle.fabric.proofs.Told.{told-closes, told-hunts, told-sends}
-
--- what an attach asks for has room for the reason
-pub room-fits : (f : Layout) (node : ℕ) (call : Call)
-    → FitsEvent f node (event_of call) (signal_in (hand_of call)) → HasRoom call
-room-fits f node Close fits = tt
-room-fits f node End fits = tt
-room-fits f node (Send q signal) fits = tt
-room-fits f node (Hunt path signal) fits = tt
-room-fits f node (Attach q signal) fits = fits
-room-fits f node (Detach r) fits = tt
+use Rattle.fabric.proofs.OnLinks.{laid}
 
 module _ {f : Layout} {parts : Parts} {actor place home : ℕ} (acts : Acts f parts actor place home)
     (j : Inc) (mine : endpoint_of f.log.steps actor ≡ Some j) (kernel next : NodeState)
     (is : kernel ≡ get_or parts.kernels home kernel) (standing then : Standing)
     (stands : standing ≡ get_or parts.standings place standing) (new : Log) (answer : StepAnswer)
   where
-    abbrev P : List Step
-    P = f.log.steps
+    open f use {log.{steps as P}}
 
     abbrev n : ℕ
     n = node_by f.shape (Actor actor)
@@ -82,8 +71,7 @@ module _ {f : Layout} {parts : Parts} {actor place home : ℕ} (acts : Acts f pa
 
     -- the kernel is what the history left of the actor's node
     left : kernel ≡ node_left P node
-    left = kernel-is acts.at kernel is
-        ∙ ap (λ (x : ℕ). node_left P (record { 0 = x })) (sym acts.at.home_is)
+    left = own_kernel-is acts.at kernel is
 
     open_it : Rattle.node_kernel.specs.Nodes.is_open kernel.endpoints j ≡ true
     open_it = own_open acts.at kernel is j mine
@@ -99,8 +87,8 @@ module _ {f : Layout} {parts : Parts} {actor place home : ℕ} (acts : Acts f pa
     -- so what is kept is kept, and what is granted is made
     abbrev IsMadeSo : Call → StepAnswer → Type 0
     IsMadeSo call a =
-        IsKept (lay acts new (after call)) (with_own acts next then)
-        × HasMade f (lay acts new (after call)) actor (ask_of call) a
+        IsKept (laid f new (after call)) (with_own acts next then)
+        × HasMade f (laid f new (after call)) actor (ask_of call) a
 
     counted : (made : CallMade) → MakesIt made → length P + 1 ≡ length new.steps
     counted made c = add-one (length P) ∙ sym (ap (λ (l : Log). length l.steps) c.logged)
@@ -192,27 +180,26 @@ module _ {f : Layout} {parts : Parts} {actor place home : ℕ} (acts : Acts f pa
         MakesIt made → then ≡ stands_after (length P + 1) made.answer standing
         → IsMadeSo call made.answer)
     made-with Close fits typed bounded c then_is =
-        made-close acts j mine kernel next is c.node_is standing then (length P + 1) stands
-        then_is new
-        (counted _ c) c.logged (after Close) (trunks-count Close) closes
+        made-close acts kernel next is standing then stands new (after Close) (trunks-count Close) j
+        mine c.node_is (length P + 1) (counted _ c) then_is c.logged closes
     made-with End fits typed bounded c then_is =
-        made-end_open acts j mine kernel next is c.node_is standing then (length P + 1) stands
-        then_is
-        new (counted _ c) c.logged (after End) (trunks-count End) closes
+        made-end_open acts kernel next is standing then stands new (after End) (trunks-count End) j
+        mine c.node_is (length P + 1) (counted _ c) then_is c.logged closes
     made-with (Send q signal) fits typed bounded c then_is =
-        made-send acts j q signal mine bounded kernel next is c.node_is standing then stands then_is
-        new c.logged (after (Send q signal)) (trunks-count (Send q signal))
+        made-send acts kernel next is standing then stands new (after (Send q signal))
+        (trunks-count (Send q signal)) j q signal mine bounded c.node_is then_is c.logged
         (sends q signal typed bounded)
     made-with (Hunt path signal) fits typed bounded c then_is =
-        made-hunt acts j path signal (length P + 1) mine fits (named path signal typed) bounded refl
-        kernel next is c.node_is standing then stands then_is new c.logged
-        (after (Hunt path signal)) (trunks-count (Hunt path signal)) (hunts path fits)
+        made-hunt acts kernel next is standing then stands new (after (Hunt path signal))
+        (trunks-count (Hunt path signal)) j path signal (length P + 1) mine fits
+        (named path signal typed) bounded refl c.node_is then_is c.logged (hunts path fits)
     made-with (Attach q signal) fits typed bounded c then_is =
-        made-attach acts j q signal (record { 0 = length P + 1 }) mine fits refl kernel next is
-        c.node_is standing then stands then_is new c.logged f.trunks count (λ l of_shape. refl)
+        made-attach acts kernel next is standing then stands new f.trunks count j q signal
+        (record { 0 = length P + 1 }) mine fits refl c.node_is then_is c.logged
+        (λ l of_shape. refl)
     made-with (Detach r) fits typed bounded c then_is =
-        made-detach acts j r mine kernel next is c.node_is standing then stands then_is new c.logged
-        f.trunks count (λ l of_shape. refl)
+        made-detach acts kernel next is standing then stands new f.trunks count j r mine c.node_is
+        then_is c.logged (λ l of_shape. refl)
 
     pub made-call : (call : Call) → FitsEvent f n (event_of call) (signal_in (hand_of call))
         → IsTyped call → IsBounded call

@@ -11,11 +11,9 @@ use Rattle.linx_base.specs.declared.identity.Side.{Side}
 use Rattle.linx_base.specs.declared.identity.Side.TheVariants.{First, Second}
 use Rattle.journal.specs.declared.effect.Effect.{Effect}
 use Rattle.journal.specs.declared.effect.Effect.TheVariants.{Down}
-use Rattle.journal.specs.declared.effect.Step.{Step}
 use Rattle.journal.specs.Effects.{closings}
 use Rattle.journal.specs.History.{closes, last_opened}
 use Rattle.journal.specs.Sessions.{up_session}
-use Rattle.journal.specs.Shapes.{Shape}
 use Rattle.link_laws.specs.Ends.{IsLinkOf, node_at}
 use Rattle.link_laws.specs.Laws.{down_if, downs_of}
 use Rattle.run_trunks.specs.States.{over, trunks_of}
@@ -40,11 +38,7 @@ session-is None x = refl
 session-is (Some y) x = refl
 
 module _ {f : Layout} {parts : Parts} (kept : IsKept f parts) (n : ℕ) where
-  abbrev shape : Shape
-  shape = f.shape
-
-  abbrev P : List Step
-  P = f.log.steps
+  open f use {shape, log.{steps as P}}
 
   abbrev trunks : RunTrunks
   trunks = trunks_of f.trunks

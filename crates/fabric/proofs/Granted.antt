@@ -21,7 +21,6 @@ use Rattle.journal.specs.Living.{is_alive}
 use Rattle.journal.specs.Logs.{step_limit}
 use Rattle.journal.specs.Shapes.{Shape, node_by}
 use Rattle.journal.specs.declared.by.By.TheVariants.{Actor}
-use Rattle.journal.specs.declared.effect.Step.{Step}
 use Rattle.link_laws.specs.Ends.{node_at}
 use Rattle.node_kernel.specs.Nodes.{NodeState, is_living, is_open}
 use Rattle.run_trunks.specs.Changes.{AllGrant}
@@ -39,7 +38,7 @@ use Rattle.fabric.specs.Remains.{IsKept, Parts, node_left}
 use Rattle.fabric.specs.Run.{Layout}
 use Rattle.fabric.specs.Tellings.{HasSide, MaySendTo, MayTell, MayTellHunt, MayTellSend}
 use Rattle.fabric.proofs.Nodes.{living-left}
-use Rattle.fabric.proofs.Placed.{Acts, kernel-is, own_open}
+use Rattle.fabric.proofs.Placed.{Acts, own_kernel-is, own_open}
 use Rattle.fabric.proofs.Reaching.{grants-side, whole-run}
 use Rattle.fabric.proofs.Told.{named-is, node-over, side-over, side-there}
 
@@ -64,8 +63,7 @@ side-at shape n l side is = go (node_at shape l First == n) (node_at shape l Sec
 module _ (f : Layout) (parts : Parts) (kept : IsKept f parts) (room : length f.log.steps <
     step_limit)
   where
-    abbrev P : List Step
-    P = f.log.steps
+    open f use {log.{steps as P}}
 
     -- an opening, on each side of its node
     pub granted-open : (n : ℕ) (i : Inc) → i ≡ next_inc n (opened_on P n) → (name : List ℕ)
@@ -98,8 +96,7 @@ module _ (f : Layout) (parts : Parts) (kept : IsKept f parts) (room : length f.l
 module _ {f : Layout} {parts : Parts} {actor place home : ℕ} (acts : Acts f parts actor place home)
     (j : Inc) (mine : endpoint_of f.log.steps actor ≡ Some j) (kernel : NodeState)
     (is : kernel ≡ get_or parts.kernels home kernel) (was : List TrunkState) where
-  abbrev Q : List Step
-  Q = f.log.steps
+  open f use {log.{steps as Q}}
 
   abbrev n : ℕ
   n = node_by f.shape (Actor actor)
@@ -112,8 +109,7 @@ module _ {f : Layout} {parts : Parts} {actor place home : ℕ} (acts : Acts f pa
   at_rest = record { links = f.shape.links; was = was; is = f.trunks }
 
   left : kernel ≡ node_left Q node
-  left = kernel-is acts.at kernel is
-      ∙ ap (λ (x : ℕ). node_left Q (record { 0 = x })) (sym acts.at.home_is)
+  left = own_kernel-is acts.at kernel is
 
   node-is : kernel.node.0 ≡ n
   node-is = ap (λ (k : NodeState). k.node.0) left

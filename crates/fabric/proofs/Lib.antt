@@ -39,3 +39,5 @@ pub mod Tells
 pub mod OneLink
 pub mod Opening
 pub mod Seen
+pub mod Idling
+pub mod Leading

@@ -1,5 +1,5 @@
 -- What a step on a link leaves of the parts of a fabric, whoever makes it.
-use Rattle.std.proofs.Common.{◌≡◌, ◌≢◌, ℕ, zero, suc, ◌+◌, ◌<◌, ◌≤◌, false, List, [], ◌∷◌}
+use Rattle.std.proofs.Common.{◌≡◌, ◌≢◌, ℕ, zero, suc, ◌+◌, ◌<◌, false, List, [], ◌∷◌}
 use Rattle.std.proofs.Common.{length, Option, Some, None, inl, inr, refl, sym, ◌∙◌, ap, subst}
 use Rattle.std.proofs.Common.{arith}
 use Rattle.std.specs.Prelude.{◌-◌, slice_get, slice_set}
@@ -35,7 +35,6 @@ use Rattle.link_laws.specs.Brought.{nothing, parts as parts_from}
 use Rattle.link_laws.specs.Ends.{IsLinkOf, end_of, node_at}
 use Rattle.link_laws.specs.Laws.{IsLegal}
 use Rattle.link_laws.specs.Sessions.{boots}
-use Rattle.node_kernel.specs.declared.answers.StepAnswer.{StepAnswer}
 use Rattle.node_kernel.specs.declared.answers.StepAnswer.TheVariants as answers
 use Rattle.node_kernel.specs.Answers.{answer_of}
 use Rattle.node_kernel.specs.Nodes.{NodeState}
@@ -44,6 +43,8 @@ use Rattle.run_trunks.specs.States.{TrunksState, resting, trunks_of}
 use Rattle.trunk.specs.Events.{TrunkState}
 use Rattle.trunk_moves.specs.Steps.{IsTrunkStep}
 use Rattle.fabric.specs.declared.line.Line.{Line}
+use Rattle.fabric.specs.declared.line.Mark.{Mark}
+use Rattle.fabric.specs.declared.line.Mark.TheVariants.{Cut, Mend, Settle}
 use Rattle.fabric.specs.declared.standing.Standing.{Standing}
 use Rattle.fabric.specs.Links.{line_left}
 use Rattle.fabric.specs.Remains.{AreBootsLeft, AreNodesLeft, AreStandingsLeft, IsKept}
@@ -51,6 +52,7 @@ use Rattle.fabric.specs.Remains.{IsLaidOut}
 use Rattle.fabric.specs.Remains.{IsLink, IsNode, Parts, node_left, standing_left}
 use Rattle.fabric.specs.Run.{IsStepOf, Layout}
 use Rattle.fabric.specs.Standings.{IsStanding, waiting_no_more, waiting_none}
+use Rattle.fabric.specs.Lines.{head_of}
 use Rattle.fabric.proofs.Brings.{leaves_down, leaves_gone, leaves_met, only-up}
 use Rattle.fabric.proofs.Effects.{LeavesOpen, leaves-none, leaves_open, only-arrived}
 use Rattle.fabric.proofs.Effects.{only-founds}
@@ -59,9 +61,11 @@ use Rattle.fabric.proofs.Elsewhere.{changed_node, node_left-elsewhere, step-abou
 use Rattle.fabric.proofs.Kept.{kept-next, length-set, same-left, set-left, standings-next}
 use Rattle.fabric.proofs.Kept.{standings-same}
 use Rattle.fabric.proofs.Legal.{IsLawful, boots-none, is_restart}
-use Rattle.fabric.proofs.Lines.{line-cut, line-mend, line-settle, line-tick, line-wire}
+use Rattle.fabric.proofs.Lines.{IsApart, line-apart}
 use Rattle.fabric.proofs.Own.{loses-none, own-quiet}
-use Rattle.fabric.proofs.Reaching.{legal-kept, legal-next, link-is}
+use Rattle.fabric.proofs.Reaching.{declared-at, legal-kept, legal-next}
+use Rattle.fabric.proofs.Seen.{seen, parts_of, refilled}
+use Rattle.fabric.specs.declared.fabric.Fabric.TheInside.{Inside}
 
 -- THE EFFECTS of what is brought open and close none
 pub brought-leaves : (P : List Step) (n : ℕ) (l : LinkNo) (what : Brought)
@@ -82,21 +86,16 @@ brought-leaves P n l (parts_from x a) =
 
 -- THE NODE AT A SIDE of a link is one of the layout
 module _ (nodes : ℕ) (shape : Shape) (laid : IsLaidOut nodes shape) where
-  end-at : (k : ℕ) → 0 < k → k ≤ length shape.links → (side : Side)
-      → IsNode nodes (record { 0 = node_at shape (record { 0 = k }) side })
-  end-at zero above within side = absurd (omega arith)
-  end-at (suc k) above within side =
-      let at = link-is nodes shape.links k laid.linked (omega arith) in
+  pub end-is : (l : LinkNo) → IsLinkOf shape l → (side : Side)
+      → IsNode nodes (record { 0 = node_at shape l side })
+  end-is l of_shape side =
+      let at = declared-at nodes shape laid l.0 of_shape.0 of_shape.1 in
       rw (at.1.0) (ends at.0 at.1.1 side)
     where
       ends : (link : LinkDecl) → IsLink nodes link → (s : Side)
           → IsNode nodes (record { 0 = end_of link s })
       ends link is First = is.first
       ends link is Second = is.second
-
-  pub end-is : (l : LinkNo) → IsLinkOf shape l → (side : Side)
-      → IsNode nodes (record { 0 = node_at shape l side })
-  end-is l of_shape side = end-at l.0 of_shape.0 of_shape.1 side
 
 -- THE STANDINGS once the maker of a step waits no more
 pub length-waiting : (by : By) (standings : List Standing)
@@ -144,54 +143,27 @@ pub record IsOnLink (l : LinkNo) (head : Head) : Type 0 where
   pub quiet : waits_in head ≡ None
   pub goes_on : is_end head ≡ false
   pub done : (P : List Step) (es : List Effect) → answer_of P head es ≡ answers.Done
-  pub others : (P : List Step) (by : By) (es : List Effect) (n : ℕ) → l.0 ≢ n
-      → line_left (record { by = by; head = head; effects = es } ∷ P) n ≡ line_left P n
+  pub others : (n : ℕ) → l.0 ≢ n → IsApart n head
+
+on-link : (l : LinkNo) (head : Head) → is_restart head ≡ false → waits_in head ≡ None
+    → is_end head ≡ false
+    → ((P : List Step) (es : List Effect) → answer_of P head es ≡ answers.Done)
+    → ((n : ℕ) → l.0 ≢ n → IsApart n head) → IsOnLink l head
+on-link l head calm quiet goes_on done others =
+    record { calm = calm; quiet = quiet; goes_on = goes_on; done = done; others = others }
 
 pub wire-on : (l : LinkNo) (from : Side) (verdict : Verdict)
     → IsOnLink l (heads.Wire l from verdict)
-wire-on l from verdict = record {
-  calm = refl;
-  quiet = refl;
-  goes_on = refl;
-  done = λ P es. refl;
-  others = λ P by es n other. line-wire P by es n l other from verdict;
-}
+wire-on l from verdict =
+    on-link l (heads.Wire l from verdict) refl refl refl (λ P es. refl) (λ n other. other)
 
 pub tick-on : (l : LinkNo) (side : Side) → IsOnLink l (heads.Tick l side)
-tick-on l side = record {
-  calm = refl;
-  quiet = refl;
-  goes_on = refl;
-  done = λ P es. refl;
-  others = λ P by es n other. line-tick P by es n l other side;
-}
+tick-on l side = on-link l (heads.Tick l side) refl refl refl (λ P es. refl) (λ n other. other)
 
-pub cut-on : (l : LinkNo) → IsOnLink l (heads.Cut l)
-cut-on l = record {
-  calm = refl;
-  quiet = refl;
-  goes_on = refl;
-  done = λ P es. refl;
-  others = λ P by es n other. line-cut P by es n l other;
-}
-
-pub mend-on : (l : LinkNo) → IsOnLink l (heads.Mend l)
-mend-on l = record {
-  calm = refl;
-  quiet = refl;
-  goes_on = refl;
-  done = λ P es. refl;
-  others = λ P by es n other. line-mend P by es n l other;
-}
-
-pub settle-on : (l : LinkNo) → IsOnLink l (heads.Settle l)
-settle-on l = record {
-  calm = refl;
-  quiet = refl;
-  goes_on = refl;
-  done = λ P es. refl;
-  others = λ P by es n other. line-settle P by es n l other;
-}
+pub mark-on : (l : LinkNo) (mark : Mark) → IsOnLink l (head_of mark l)
+mark-on l Cut = on-link l (heads.Cut l) refl refl refl (λ P es. refl) (λ n other. other)
+mark-on l Mend = on-link l (heads.Mend l) refl refl refl (λ P es. refl) (λ n other. other)
+mark-on l Settle = on-link l (heads.Settle l) refl refl refl (λ P es. refl) (λ n other. other)
 
 -- THE FABRIC after a step
 abbrev pub laid : Layout → Log → List TrunkState → Layout
@@ -206,42 +178,50 @@ with_line parts by l kernels line =
       lines = slice_set parts.lines (l.0 - 1) line;
     }
 
--- AS THE FABRIC IS SEEN after it: by its trunks, which are at rest
-abbrev pub seen_as : Layout → Log → TrunksState → Layout
-seen_as f new after = record {
-  shape = record { links = after.links; actors = f.shape.actors };
-  log = new;
-  trunks = after.is;
-}
+-- A STEP ON A LINK AS ITS METHOD SEES IT: by its trunks, which are at rest
+pub record IsMadeThere (f old : Layout) (new : Log) (after : TrunksState) (next : Parts) (by : By)
+    (head : Head) : Type 0 where
+  pub keeps : IsKept (seen f.shape new after) next × (after.was ≡ after.is)
+  pub steps : IsStepOf old (seen f.shape new after) by head answers.Done
 
-pub as-seen : {f : Layout} {before : Parts} (kept : IsKept f before) (new : Log)
-    (after : TrunksState) (ts : List TrunkState) → after ≡ resting f.shape.links ts
-    → (parts : Parts) (by : By) (head : Head) (answer : StepAnswer)
-    → IsKept (laid f new after.is) parts × IsStepOf f (laid f new after.is) by head answer
-    → (IsKept (seen_as f new after) parts × (after.was ≡ after.is))
-    × IsStepOf f (seen_as f new after) by head answer
-as-seen {f = f} kept new after ts rests parts by head answer made =
-    let links : f.shape.links ≡ after.links = sym (ap (λ (s : TrunksState). s.links) rests) in
-    let with_links : List LinkDecl → Layout = λ ls. record {
+-- with these kernels, this line, and the standings that are there now
+abbrev pub parts_there : Inside → List NodeState → LinkNo → Line → List Standing → Parts
+parts_there s kernels l line now =
+    record (parts_of s) {
+      kernels = kernels;
+      standings = refilled s.standings.len s.standings.items now;
+      lines = slice_set s.lines.items (l.0 - 1) line;
+    }
+
+pub made-there : {f old : Layout} → f ≡ old → (new : Log) (after : TrunksState)
+    (ts : List TrunkState) → after ≡ resting f.shape.links ts
+    → (next : Parts) (by : By) (head : Head)
+    → IsKept (laid f new after.is) next × IsStepOf f (laid f new after.is) by head answers.Done
+    → (ss : List Standing) → ss ≡ next.standings
+    → IsMadeThere f old new after (record next { standings = ss }) by head
+made-there {f = f} {old = old} view_is new after ts rests next by head made ss ss_are =
+    let same : laid f new after.is ≡ seen f.shape new after =
+    ap (λ (ls : List LinkDecl). let g : Layout = record {
       shape = record { links = ls; actors = f.shape.actors };
       log = new;
       trunks = after.is;
-    } in (
-      (
-        subst (λ (ls : List LinkDecl). IsKept (with_links ls) parts) links made.0,
+    } in g) (sym (ap (λ (s : TrunksState). s.links) rests)) in
+    record {
+      keeps = (
+        subst (λ (g : Layout). IsKept g (record next { standings = ss })) same
+            (subst (λ (xs : List Standing). IsKept (laid f new after.is)
+            (record next { standings = xs })) (sym ss_are) made.0),
         ap (λ (s : TrunksState). s.was) rests ∙ sym (ap (λ (s : TrunksState). s.is) rests),
-      ),
-      subst (λ (ls : List LinkDecl). IsStepOf f (with_links ls) by head answer) links made.1,
-    )
+      );
+      steps = subst (λ (g : Layout). IsStepOf old g by head answers.Done) same
+          (subst (λ (g : Layout). IsStepOf g (laid f new after.is) by head answers.Done) view_is
+          made.1);
+    }
 
 -- A STEP OF A KEPT FABRIC
 module _ {f : Layout} {parts : Parts} (kept : IsKept f parts)
     (room : length f.log.steps < step_limit) where
-  abbrev shape : Shape
-  shape = f.shape
-
-  abbrev P : List Step
-  P = f.log.steps
+  open f use {shape, log.{steps as P}}
 
   legal_log : IsLegal shape P
   legal_log = legal-kept f parts kept
@@ -338,7 +318,8 @@ module _ {f : Layout} {parts : Parts} (kept : IsKept f parts)
                 booted = boots-same on.calm;
                 standings = standings-waiting P s leaves on.quiet on.goes_on parts.standings
                     kept.left.standings s.by refl (maker-stands s.by maker);
-                lines = lines-set l of_shape (on.others P s.by s.effects) line line_is;
+                lines = lines-set l of_shape (λ n other. line-apart P s.by s.effects n s.head
+                    (on.others n other)) line line_is;
               }))),
           record {
             effects = s.effects;

@@ -1,5 +1,5 @@
 -- An opening as the fabric's method makes it, which tells the trunks first.
-use Rattle.std.proofs.Common.{◌≡◌, ℕ, ◌+◌, List, ◌∷◌, length, Some, None, get_or, sym}
+use Rattle.std.proofs.Common.{◌≡◌, ℕ, ◌+◌, List, length, Some, None, get_or}
 use Rattle.std.proofs.Common.{◌∙◌, ap, subst}
 use Rattle.std.specs.Bool.{IsTrue}
 use Rattle.linx_base.specs.NameText.{is_name}
@@ -14,21 +14,20 @@ use Rattle.journal.specs.Shapes.{node_by}
 use Rattle.node_kernel.specs.declared.answers.StepAnswer.TheVariants as answers
 use Rattle.node_kernel.specs.Calls.{after_open}
 use Rattle.node_kernel.specs.Nodes.{NodeState, next_of}
-use Rattle.run_trunks.specs.Changes.{AllGrant, each_does}
-use Rattle.run_trunks.specs.States.{kept, trunks_of}
+use Rattle.run_trunks.specs.Changes.{each_does}
+use Rattle.run_trunks.specs.States.{trunks_of}
 use Rattle.run_trunks.proofs.Lists.{length-each}
 use Rattle.run_trunks.proofs.Numbered.{all-do}
-use Rattle.trunk.specs.Events.{TrunkState, opened_at, side_of}
-use Rattle.trunk.specs.Laws.{MayPublish}
+use Rattle.trunk.specs.Events.{TrunkState, opened_at}
 use Rattle.trunk_moves.specs.Steps.{opening as trunks_opening}
 use Rattle.trunk_moves.specs.Trunks.{Become}
 use Rattle.fabric.specs.Actings.{HasMade, asking}
 use Rattle.fabric.specs.declared.standing.Standing.{Standing}
-use Rattle.fabric.specs.Remains.{IsKept, Parts, node_left}
+use Rattle.fabric.specs.Remains.{IsKept, Parts}
 use Rattle.fabric.specs.Run.{Layout}
-use Rattle.fabric.proofs.Granted.{granted-open}
-use Rattle.fabric.proofs.Made.{lay, made-open, with_own}
-use Rattle.fabric.proofs.Placed.{Acts, kernel-is}
+use Rattle.fabric.proofs.Made.{made-open, with_own, IsLogged}
+use Rattle.fabric.proofs.Placed.{Acts, own_kernel-is}
+use Rattle.fabric.proofs.OnLinks.{laid}
 
 module _ {f : Layout} {parts : Parts} {actor place home : ℕ} (acts : Acts f parts actor place home)
     (kernel : NodeState) (is : kernel ≡ get_or parts.kernels home kernel) (name : List ℕ)
@@ -37,16 +36,9 @@ module _ {f : Layout} {parts : Parts} {actor place home : ℕ} (acts : Acts f pa
   abbrev n : ℕ
   n = node_by f.shape (Actor actor)
 
-  left : kernel ≡ node_left f.log.steps (record { 0 = n })
-  left = kernel-is acts.at kernel is
-      ∙ ap (λ (x : ℕ). node_left f.log.steps (record { 0 = x })) (sym acts.at.home_is)
-
   next-is : i ≡ next_inc n (opened_on f.log.steps n)
-  next-is = i_is ∙ ap (λ (k : NodeState). next_inc n k.openings) left
-
-  -- what the trunks grant
-  pub may-open : AllGrant f.shape.links n f.trunks (λ side t. MayPublish (side_of side t) i name)
-  may-open = granted-open f parts acts.at.kept acts.short n i next-is name named
+  next-is =
+      i_is ∙ ap (λ (k : NodeState). next_inc n k.openings) (own_kernel-is acts.at kernel is)
 
   -- the trunks once they were told
   abbrev pub told_opened : List TrunkState
@@ -63,17 +55,12 @@ module _ {f : Layout} {parts : Parts} {actor place home : ℕ} (acts : Acts f pa
       → (next : NodeState) → next ≡ after_open kernel name (length f.log.steps + 1)
       → (standing then : Standing) → standing ≡ get_or parts.standings place standing
       → then ≡ record standing { endpoint = Some (next_of kernel); waits = None }
-      → (new : Log) → new ≡ record f.log {
-        steps = record {
-          by = Actor actor;
-          head = heads.Open name;
-          effects = opening (next_of kernel) name kernel.hunts;
-        } ∷ f.log.steps;
-      }
-      → IsKept (lay acts new told_opened) (with_own acts next then)
-      × HasMade f (lay acts new told_opened) actor (asking (asks.Open name) None)
+      → (new : Log)
+      → IsLogged acts new (heads.Open name) (opening (next_of kernel) name kernel.hunts)
+      → IsKept (laid f new told_opened) (with_own acts next then)
+      × HasMade f (laid f new told_opened) actor (asking (asks.Open name) None)
       (answers.Opened (next_of kernel))
   made-opened none next next_eq standing then stands then_eq new new_eq =
-      made-open acts name none named kernel next is next_eq standing then stands then_eq new new_eq
-      told_opened
-      (length-each _ f.shape.links f.trunks ∙ acts.at.kept.counted.trunks) makes
+      made-open acts kernel next is standing then stands new told_opened
+      (length-each _ f.shape.links f.trunks ∙ acts.at.kept.counted.trunks) name none named next_eq
+      then_eq new_eq makes

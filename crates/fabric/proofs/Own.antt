@@ -87,10 +87,7 @@ own-none k head old = go old.endpoint refl
     go None is = rw is refl
     go (Some i) is = rw is refl
 
--- a standing that ended, that has an endpoint, and that waits
-abbrev pub as_ended : Standing → Standing
-as_ended s = record s { waits = None; ended = true }
-
+-- a standing that has an endpoint, and one that waits
 abbrev pub as_opened : Standing → Inc → Standing
 as_opened s i = record s { endpoint = Some i; waits = None }
 

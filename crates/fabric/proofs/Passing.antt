@@ -28,7 +28,6 @@ use Rattle.journal.specs.History.{open_endpoints}
 use Rattle.journal.specs.Laws.{may_make}
 use Rattle.journal.specs.Living.{is_alive}
 use Rattle.journal.specs.Logs.{Log}
-use Rattle.journal.specs.Shapes.{Shape}
 use Rattle.node_kernel.specs.declared.answers.StepAnswer.TheVariants as answers
 use Rattle.node_kernel.specs.Nodes.{NodeState}
 use Rattle.link_laws.specs.Brought.{Brought, MayBring, arrives, brought_at, goes_down}
@@ -124,11 +123,7 @@ arrival-may P n m l x a b note (parts_from y c) is may = absurd cc
 module _ {f : Layout} {parts : Parts} (kept : IsKept f parts) (by : By) (l : LinkNo) (from : Side)
     (verdict : Verdict)
     (asked : MayMake f by (record { event = asks.Wire l from verdict; hand = None })) where
-  abbrev shape : Shape
-  shape = f.shape
-
-  abbrev P : List Step
-  P = f.log.steps
+  open f use {shape, log.{steps as P}}
 
   abbrev trunks : RunTrunks
   trunks = trunks_of f.trunks

@@ -1,5 +1,6 @@
 -- Where the kernel and the standing of an actor stand, and what stands there.
-use Rattle.std.proofs.Common.{◌≡◌, ℕ, zero, suc, ◌+◌, ◌<◌, ◌≤◌, true, List, [], ◌∷◌, length, map}
+use Rattle.std.proofs.Common.{◌≡◌, ℕ, zero, suc, ◌+◌, ◌<◌, ◌≤◌, Bool, true, List, [], ◌∷◌, length}
+use Rattle.std.proofs.Common.{map}
 use Rattle.std.proofs.Common.{Option, Some, None, get_or, refl, sym, ◌∙◌, ap, subst, add-one, arith}
 use Rattle.std.proofs.Common.{is_none}
 use Rattle.std.specs.Prelude.{◌-◌, slice_get}
@@ -13,7 +14,9 @@ use Rattle.sigsel.specs.Selection.{first_selected}
 use Rattle.sigsel.specs.declared.sigsel.Sigsel.{Sigsel}
 use Rattle.journal.specs.declared.by.By.{By}
 use Rattle.journal.specs.declared.by.By.TheVariants.{Actor}
+use Rattle.journal.specs.declared.effect.Step.{Step}
 use Rattle.journal.specs.declared.head.Head.{Head}
+use Rattle.journal.proofs.Openings.{IsShort}
 use Rattle.linx_base.specs.Numbers.{inc_of}
 use Rattle.journal.specs.History.{endpoint_of, next_inc, open_endpoints, opened_on}
 use Rattle.journal.specs.Laws.{IsMaker}
@@ -26,15 +29,17 @@ use Rattle.node_kernel.specs.declared.ask.Ask.{Ask}
 use Rattle.node_kernel.specs.Nodes.{NodeState, endpoint_limit, is_open, items_at}
 use Rattle.fabric.specs.declared.standing.Standing.{Standing}
 use Rattle.fabric.specs.Actings.{HasMade, IsHomeOf, MayMake}
+use Rattle.fabric.specs.Links.{is_still}
 use Rattle.fabric.specs.Remains.{IsKept, IsNode, Parts, actor_limit, endpoint_left, node_left}
 use Rattle.fabric.specs.Remains.{standing_left}
-use Rattle.fabric.specs.Run.{IsStepOf, Layout}
+use Rattle.fabric.specs.Run.{Layout}
 use Rattle.fabric.specs.Standings.{vain_with}
 use Rattle.fabric.proofs.Nodes.{own-is_open, own-items}
 use Rattle.link_laws.specs.Laws.{IsLegal}
 use Rattle.link_laws.specs.Runs.{KeepsPromises}
 use Rattle.run_trunks.specs.States.{trunks_of}
-use Rattle.trunk_moves.specs.Trunks.{links_of}
+use Rattle.trunk_moves.specs.Trunks.{RunTrunks, links_of}
+use Rattle.fabric.proofs.Legal.{made_by}
 use Rattle.fabric.proofs.Reaching.{keeps-all, legal-kept}
 
 -- a list read at a place
@@ -119,11 +124,15 @@ module _ {f : Layout} {parts : Parts}
       (record { 0 = suc home }) at.home_is j mine
 
   -- it is the kernel of the actor's node
+  pub own_kernel-is : (kernel : NodeState) → kernel ≡ get_or parts.kernels home kernel
+      → kernel ≡ node_left f.log.steps (record { 0 = node_by f.shape (Actor actor) })
+  own_kernel-is kernel is =
+      kernel-is kernel is
+      ∙ ap (λ (n : ℕ). node_left f.log.steps (record { 0 = n })) (sym at.home_is)
+
   pub node-is : (kernel : NodeState) → kernel ≡ get_or parts.kernels home kernel
       → kernel.node ≡ record { 0 = node_by f.shape (Actor actor) }
-  node-is kernel is =
-      ap (λ (k : NodeState). k.node) (kernel-is kernel is)
-      ∙ ap (λ (n : ℕ). let m : NodeNo = record { 0 = n } in m) (sym at.home_is)
+  node-is kernel is = ap (λ (k : NodeState). k.node) (own_kernel-is kernel is)
 
   -- what it opens next
   pub openings-at : (kernel : NodeState) → kernel ≡ get_or parts.kernels home kernel
@@ -132,9 +141,7 @@ module _ {f : Layout} {parts : Parts}
       (opened_on f.log.steps (node_by f.shape (Actor actor)))
   openings-at kernel is =
       ap (λ (k : NodeState). inc_of (node_by f.shape (Actor actor)) (k.openings + 1))
-      (kernel-is kernel is)
-      ∙ ap (λ (n : ℕ). inc_of (node_by f.shape (Actor actor)) (opened_on f.log.steps n + 1))
-      (sym at.home_is)
+      (own_kernel-is kernel is)
 
   pub next-at : (kernel : NodeState) → kernel ≡ get_or parts.kernels home kernel → {i : Inc}
       → i ≡ next_inc (node_by f.shape (Actor actor))
@@ -173,6 +180,33 @@ pub record Acts (f : Layout) (parts : Parts)
   pub maker : IsMaker f.shape f.log.steps (Actor actor)
   pub short : length f.log.steps < 200000
 
+-- WHAT IT FINDS: the trunks, what is left of its node and of itself, and the step by its next head
+abbrev pub before : {f : Layout} {parts : Parts} {actor place home : ℕ}
+    → Acts f parts actor place home → record {
+      trunks : RunTrunks;
+      calm_links : Bool;
+      node : NodeNo;
+      now : ℕ;
+      old : NodeState;
+      stood : Standing;
+      me : Option Inc;
+      step_by : Head → Step;
+      legal_log : IsLegal f.shape f.log.steps;
+      fits : IsShort f.log.steps;
+    }
+before {f = f} {parts = parts} {actor = actor} {home = home} acts = record {
+  trunks = trunks_of f.trunks;
+  calm_links = is_still f.shape f.log.steps (trunks_of f.trunks);
+  node = record { 0 = suc home };
+  now = suc (length f.log.steps);
+  old = node_left f.log.steps (record { 0 = suc home });
+  stood = standing_left f.log.steps actor;
+  me = endpoint_of f.log.steps actor;
+  step_by = λ head. made_by f.shape f.log.steps (trunks_of f.trunks) actor acts.maker head;
+  legal_log = legal-kept f parts acts.at.kept;
+  fits = acts.at.short;
+}
+
 -- A FABRIC AS ITS METHODS SEE IT: the parts, which keep what they have to, and their value
 pub record IsSeen (f : Layout) (parts : Parts)
     (value : Layout) : Type 0 where
@@ -186,6 +220,10 @@ module _ {f : Layout} {parts : Parts}
       → IsSeen f parts value
   sees well view = record { well = well; view = view }
 
+  -- the value keeps it too
+  pub at-value : IsKept f parts → f ≡ value → IsKept value parts
+  at-value well view = subst (λ (l : Layout). IsKept l parts) view well
+
   module _ (seen : IsSeen f parts value) where
     pub back : (F : Layout → Type 0) → F value → F f
     back F x = subst F (sym seen.view) x
@@ -194,11 +232,6 @@ module _ {f : Layout} {parts : Parts}
         → HasMade f new k ask answer → HasMade value new k ask answer
     makes-seen new k ask answer made =
         subst (λ (l : Layout). HasMade l new k ask answer) seen.view made
-
-    pub step-seen : (new : Layout) (by : By) (head : Head) (answer : StepAnswer)
-        → IsStepOf f new by head answer → IsStepOf value new by head answer
-    step-seen new by head answer made =
-        subst (λ (l : Layout). IsStepOf l new by head answer) seen.view made
 
     pub may-seen : {by : By} {ask : Ask} → MayMake value by ask → MayMake f by ask
     may-seen {by = by} {ask = ask} may = back (λ l. MayMake l by ask) may

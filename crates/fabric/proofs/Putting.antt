@@ -58,10 +58,6 @@ left_by-none true head items none = filter-every (λ x. not (removes head x)) (�
     (none x)) items
 left_by-none false head items none = refl
 
-pub left_by-empty : (mine : Bool) (head : Head) → left_by mine head [] ≡ []
-left_by-empty true head = refl
-left_by-empty false head = refl
-
 -- no effect puts nothing
 pub put-none : (k : ℕ) (endpoints : List OpenEndpoint) → put_all k [] endpoints ≡ endpoints
 put-none k [] = refl

@@ -13,14 +13,14 @@ use Rattle.linx_base.specs.declared.identity.Side.TheVariants.{First, Second}
 use Rattle.journal.specs.Logs.{step_limit}
 use Rattle.journal.specs.Shapes.{Shape}
 use Rattle.journal.specs.declared.effect.Step.{Step}
-use Rattle.link_laws.specs.Ends.{HasTwoEnds, IsLinkOf, end_of, node_at}
+use Rattle.link_laws.specs.Ends.{HasTwoEnds, IsLinkOf, end_of, link_at, node_at}
 use Rattle.link_laws.specs.Laws.{IsLegal, IsLegalStep}
 use Rattle.run_trunks.specs.States.{trunks_of}
 use Rattle.trunk_moves.specs.Grants.{GrantsAnswer, GrantsSide}
-use Rattle.trunk_moves.specs.Laws.{IsCarried, KeepsAll}
+use Rattle.trunk_moves.specs.Laws.{KeepsAll}
 use Rattle.trunk_moves.specs.Steps.{IsTrunkRun, IsTrunkStep, IsWholeTrunkRun}
 use Rattle.trunk_moves.specs.Trunks.{NodesFit, RunTrunks}
-use Rattle.trunk_moves.proofs.Runs.{trunk_runs_are_runs, trunk_runs_grant, trunk_runs_keep_all}
+use Rattle.trunk_moves.proofs.Runs.{trunk_runs_grant, trunk_runs_keep_all}
 use Rattle.fabric.specs.Remains.{IsKept, IsLaidOut, IsLink, Parts}
 use Rattle.fabric.specs.Run.{IsReached, Layout}
 
@@ -56,26 +56,19 @@ module _ (nodes : ℕ) (shape : Shape) (laid : IsLaidOut nodes shape) where
         let n : nodes < 4294967296 = laid.numbered in
         omega arith
 
-  two-at : (k : ℕ) → 0 < k → k ≤ length shape.links → (side : Side)
-      → (node_at shape (record { 0 = k }) side == node_at shape (record { 0 = k }) (other_of side))
-      ≡ false
-  two-at zero above within side = absurd (omega arith)
-  two-at (suc k) above within side =
-      let at = link-is nodes shape.links k laid.linked (omega arith) in
-      rw (at.1.0) (differ at.0 at.1.1 side)
+  -- a link of the shape is one that was declared
+  pub declared-at : (k : ℕ) → 0 < k → k ≤ length shape.links
+      → (link : LinkDecl) × ((link_at shape k ≡ Some link) × IsLink nodes link)
+  declared-at zero above within = absurd (omega arith)
+  declared-at (suc k) above within = link-is nodes shape.links k laid.linked (omega arith)
 
   pub two-ends : HasTwoEnds shape
-  two-ends l of_shape side = two-at l.0 of_shape.0 of_shape.1 side
-
-  fit-at : (k : ℕ) → 0 < k → k ≤ length shape.links → (side : Side)
-      → node_at shape (record { 0 = k }) side < 4294967296
-  fit-at zero above within side = absurd (omega arith)
-  fit-at (suc k) above within side =
-      let at = link-is nodes shape.links k laid.linked (omega arith) in
-      rw (at.1.0) (fits at.0 at.1.1 side)
+  two-ends l of_shape side =
+      let at = declared-at l.0 of_shape.0 of_shape.1 in rw (at.1.0) (differ at.0 at.1.1 side)
 
   pub nodes-fit : NodesFit shape
-  nodes-fit l of_shape side = fit-at l.0 of_shape.0 of_shape.1 side
+  nodes-fit l of_shape side =
+      let at = declared-at l.0 of_shape.0 of_shape.1 in rw (at.1.0) (fits at.0 at.1.1 side)
 
 -- A RUN on such a layout is whole, and legal
 module _ (nodes : ℕ) (shape : Shape) (laid : IsLaidOut nodes shape) (P : List Step)
@@ -107,9 +100,6 @@ module _ (f : Layout) (parts : Parts) (kept : IsKept f parts) where
   -- its journal is legal
   pub legal-kept : IsLegal f.shape f.log.steps
   legal-kept = keeps-all.sound.legal
-
-  pub carried : IsCarried f.shape f.log.steps (trunks_of f.trunks)
-  carried = trunk_runs_are_runs f.shape f.log.steps (trunks_of f.trunks) whole-run
 
   -- the next step is legal
   pub legal-next : (s : Step) (after : RunTrunks) → length f.log.steps < step_limit

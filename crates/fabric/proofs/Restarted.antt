@@ -16,7 +16,6 @@ use Rattle.journal.specs.declared.head.Head.TheVariants as heads
 use Rattle.journal.specs.Effects.{closings}
 use Rattle.journal.specs.History.{endpoint_of, is_by, open_endpoints, unless_closed}
 use Rattle.journal.specs.Logs.{Log}
-use Rattle.journal.specs.Shapes.{Shape}
 use Rattle.journal.proofs.Openings.{IsShort}
 use Rattle.link_laws.specs.Laws.{downs_of}
 use Rattle.link_laws.specs.Sessions.{boots, restarts}
@@ -46,10 +45,10 @@ use Rattle.fabric.proofs.Downs.{closings-open_none, downs-are, downs-open_none, 
 use Rattle.fabric.proofs.Kept.{get-set, get-set-other, kept-next, length-set, same-left}
 use Rattle.fabric.proofs.Kept.{set-left}
 use Rattle.fabric.proofs.Legal.{IsLawful, granted-lawful, granted-plain, made_by}
-use Rattle.fabric.proofs.Lines.{line-off}
+use Rattle.fabric.proofs.Lines.{line-apart}
 use Rattle.fabric.proofs.Living.{downs-are_downs}
 use Rattle.fabric.proofs.OnLinks.{kernels-set, laid}
-use Rattle.fabric.proofs.Placed.{Acts, IsAt, get-is, length-mapped}
+use Rattle.fabric.proofs.Placed.{Acts, before, get-is, length-mapped}
 use Rattle.fabric.proofs.Reaching.{legal-kept}
 use Rattle.fabric.proofs.Standings.{standing_past}
 
@@ -121,20 +120,9 @@ module _ {f : Layout} {parts : Parts} (kept : IsKept f parts) (n : NodeNo) (abov
 module _ {f : Layout} {parts : Parts} {actor place own_home : ℕ}
     (acts : Acts f parts actor place own_home) (n : NodeNo) (above : 0 < n.0)
     (below : n.0 ≤ length f.log.names.nodes) where
-  abbrev at : IsAt f parts actor place own_home
-  at = acts.at
-
-  abbrev kept : IsKept f parts
-  kept = at.kept
-
-  abbrev shape : Shape
-  shape = f.shape
-
-  abbrev P : List Step
-  P = f.log.steps
-
-  abbrev now : ℕ
-  now = suc (length P)
+  open f use {shape, log.{steps as P}}
+  open acts use {at, at.{kept}}
+  open before acts use {now}
 
   -- what it closes
   abbrev closed : List Effect
@@ -335,7 +323,7 @@ module _ {f : Layout} {parts : Parts} {actor place own_home : ℕ}
               standings = standings-after then then_is;
               lines = same-left (line_left P) (line_left (restarted ∷ P)) parts.lines
                   kept.left.lines
-                  (λ k. line-off P (Actor actor) restarted.effects (suc k) (heads.Restart n) refl);
+                  (λ k. line-apart P (Actor actor) restarted.effects (suc k) (heads.Restart n) tt);
             }))),
         record {
           effects = restarted.effects;

@@ -1,20 +1,17 @@
--- The fabric's value once its trunks were told: what is now of them stays, or what was is again.
-use Rattle.std.proofs.Common.{◌≡◌, ℕ, List, refl, sym, ◌∙◌, ap, subst}
-use Rattle.linx_base.specs.declared.frame.LinkDecl.{LinkDecl}
-use Rattle.linx_base.specs.declared.identity.LinkNo.{LinkNo}
-use Rattle.linx_base.specs.declared.signal.SigNote.{SigNote}
+-- The fabric as its methods see it: by their fields, and by what is now of its trunks once they were
+-- told, which stays.
+use Rattle.std.proofs.Common.{◌≡◌, ℕ, List, refl, sym, ◌∙◌, ap, subst, ◌++◌, length, take, drop}
 use Rattle.journal.specs.Logs.{Log}
 use Rattle.journal.specs.Shapes.{Shape}
-use Rattle.run_trunks.specs.States.{TrunksState, kept, resting}
+use Rattle.run_trunks.specs.States.{TrunksState, kept}
 use Rattle.trunk.specs.Events.{TrunkState}
-use Rattle.link_laws.specs.Ends.{IsLinkOf}
-use Rattle.fabric.specs.Asks.{FitsEvent}
-use Rattle.fabric.specs.declared.line.Mark.{Mark}
-use Rattle.fabric.specs.declared.line.Mark.TheVariants.{Cut, Mend, Settle}
-use Rattle.fabric.specs.declared.standing.Standing.{Standing}
-use Rattle.fabric.specs.Lines.{event_of}
 use Rattle.fabric.specs.Remains.{IsKept, Parts}
 use Rattle.fabric.specs.Run.{Layout}
+use Rattle.fabric.specs.declared.fabric.Fabric.TheInside.{Inside}
+use Rattle.fabric.specs.declared.fabric.Fabric.TheView.{view}
+use Rattle.fabric.specs.Actings.{HasMade}
+use Rattle.node_kernel.specs.declared.ask.Ask.{Ask}
+use Rattle.node_kernel.specs.declared.answers.StepAnswer.{StepAnswer}
 
 -- a fabric's value by its log and its trunks
 abbrev pub seen : Shape → Log → TrunksState → Layout
@@ -24,58 +21,53 @@ seen shape new T = record {
   trunks = T.is;
 }
 
-module _ (shape : Shape) (new : Log) (told then : TrunksState) (after : List TrunkState)
-    (links : told.links ≡ shape.links) (is : told.is ≡ after) where
-  -- where what was told stays
-  pub seen-kept : then ≡ kept told
-      → seen shape new then ≡ record { shape = shape; log = new; trunks = after }
-  seen-kept then_is = rw (then_is, links, is) refl
+-- its parts, by its fields
+abbrev pub parts_of : Inside → Parts
+parts_of s = record {
+  kernels = s.kernels.items;
+  booted = s.booted.items;
+  standings = s.standings.items;
+  lines = s.lines.items;
+}
 
-  pub kept-told : then ≡ kept told → (next : Parts)
-      → IsKept (record { shape = shape; log = new; trunks = after }) next
-      → IsKept (seen shape new then) next × (then.was ≡ then.is)
-  kept-told then_is next keeps = (
-    subst (λ (g : Layout). IsKept g next) (sym (seen-kept then_is)) keeps,
-    ap (λ (T : TrunksState). T.was) then_is ∙ sym (ap (λ (T : TrunksState). T.is) then_is),
-  )
+-- the items of a vector of so many, once its first ones were set
+abbrev pub refilled : {X : Type 0} → ℕ → List X → List X → List X
+refilled count xs now = take count (now ++ drop (length now) xs)
 
--- where the trunks rest with this
-pub seen-resting : (shape : Shape) (new : Log) (then : TrunksState) (links : List LinkDecl)
-    (after : List TrunkState) → links ≡ shape.links → then ≡ resting links after
-    → seen shape new then ≡ record { shape = shape; log = new; trunks = after }
-seen-resting shape new then links after same then_is = rw (then_is, same) refl
+-- A STEP AS ITS METHOD SEES IT: what is kept, and that what was asked for was made and answered
+pub record IsMadeSeen (f old : Layout) (new : Log) (then : TrunksState) (next : Parts) (actor : ℕ)
+    (ask : Ask) (answer : StepAnswer) : Type 0 where
+  pub keeps : IsKept (seen f.shape new then) next × (then.was ≡ then.is)
+  pub makes : HasMade old (seen f.shape new then) actor ask answer
 
-pub kept-resting : (shape : Shape) (new : Log) (then : TrunksState) (links : List LinkDecl)
-    (after : List TrunkState) → links ≡ shape.links → then ≡ resting links after
-    → (next : Parts) → IsKept (record { shape = shape; log = new; trunks = after }) next
-    → IsKept (seen shape new then) next × (then.was ≡ then.is)
-kept-resting shape new then links after same then_is next keeps = (
-  subst (λ (g : Layout). IsKept g next)
-      (sym (seen-resting shape new then links after same then_is)) keeps,
-  ap (λ (T : TrunksState). T.was) then_is ∙ sym (ap (λ (T : TrunksState). T.is) then_is),
-)
+-- one that leaves the trunks
+pub made-still : (s : Inside) {old : Layout} → view s ≡ old → s.trunks.was ≡ s.trunks.is
+    → (new : Log) (next : Parts) (actor : ℕ) (ask : Ask) (answer : StepAnswer)
+    → (let g : Layout = seen (view s).shape new s.trunks in
+    IsKept g next × HasMade (view s) g actor ask answer
+    → IsMadeSeen (view s) old new s.trunks next actor ask answer)
+made-still s view_is rests new next actor ask answer made = record {
+  keeps = (made.0, rests);
+  makes = subst (λ (v : Layout). HasMade v (seen (view s).shape new s.trunks) actor ask answer)
+      view_is made.1;
+}
 
--- where the trunks rest, and their links are the same
-module _ (shape : Shape) (new : Log) (then : TrunksState) (links : List LinkDecl)
-    (ts : List TrunkState) (same : links ≡ shape.links) (then_is : then ≡ resting links ts) where
-  pub seen-still : seen shape new then ≡ record { shape = shape; log = new; trunks = then.is }
-  seen-still = rw (ap (λ (T : TrunksState). T.links) then_is, same) refl
-
-  -- what is kept, with the standings that the method has now
-  pub kept-still : (next : Parts) (ss : List Standing) → ss ≡ next.standings
-      → IsKept (record { shape = shape; log = new; trunks = then.is }) next
-      → IsKept (seen shape new then) (record next { standings = ss }) × (then.was ≡ then.is)
-  kept-still next ss ss_are keeps = (
-    subst (λ (g : Layout). IsKept g (record next { standings = ss })) (sym seen-still)
-        (subst (λ (xs : List Standing). IsKept
-        (record { shape = shape; log = new; trunks = then.is }) (record next { standings = xs }))
-        (sym ss_are) keeps),
-    ap (λ (T : TrunksState). T.was) then_is ∙ sym (ap (λ (T : TrunksState). T.is) then_is),
-  )
-
--- a mark speaks of a link of the shape
-pub mark-fits : (f : Layout) (n : ℕ) (mark : Mark) (l : LinkNo) (note : SigNote)
-    → FitsEvent f n (event_of mark l) note → IsLinkOf f.shape l
-mark-fits f n Cut l note fits = fits
-mark-fits f n Mend l note fits = fits
-mark-fits f n Settle l note fits = fits
+-- one whose trunks were told first, where that stays
+pub made-told : {f old : Layout} → f ≡ old → (new : Log) (told then : TrunksState)
+    (after : List TrunkState) → told.links ≡ f.shape.links → told.is ≡ after → then ≡ kept told
+    → (next : Parts) (actor : ℕ) (ask : Ask) (answer : StepAnswer)
+    → (let g : Layout = record { shape = f.shape; log = new; trunks = after } in
+    IsKept g next × HasMade f g actor ask answer → IsMadeSeen f old new then next actor ask answer)
+made-told {f = f} {old = old} view_is new told then after links is then_is next actor ask answer
+    made =
+    let same : record { shape = f.shape; log = new; trunks = after } ≡ seen f.shape new then =
+    rw (then_is, links, is) refl in
+    record {
+      keeps = (
+        subst (λ (g : Layout). IsKept g next) same made.0,
+        ap (λ (T : TrunksState). T.was) then_is ∙ sym (ap (λ (T : TrunksState). T.is) then_is),
+      );
+      makes = subst (λ (g : Layout). HasMade old g actor ask answer) same
+          (subst (λ (g : Layout). HasMade g (record { shape = f.shape; log = new; trunks = after })
+          actor ask answer) view_is made.1);
+    }

@@ -18,7 +18,6 @@ use Rattle.journal.specs.declared.head.Head.{Head}
 use Rattle.journal.specs.declared.head.Head.TheVariants as heads
 use Rattle.journal.specs.Laws.{may_make}
 use Rattle.journal.specs.Logs.{Log}
-use Rattle.journal.specs.Shapes.{Shape}
 use Rattle.node_kernel.specs.declared.answers.StepAnswer.TheVariants as answers
 use Rattle.node_kernel.specs.Nodes.{NodeState}
 use Rattle.link_laws.specs.Brought.{Brought, brought_at}
@@ -60,11 +59,7 @@ makes-tick (Pump link) l side may = may
 
 module _ {f : Layout} {parts : Parts} (kept : IsKept f parts) (by : By) (l : LinkNo) (side : Side)
     (asked : MayMake f by (record { event = asks.Tick l side; hand = None })) where
-  abbrev shape : Shape
-  shape = f.shape
-
-  abbrev P : List Step
-  P = f.log.steps
+  open f use {shape, log.{steps as P}}
 
   abbrev t : TrunkState
   t = trunks_of f.trunks l.0

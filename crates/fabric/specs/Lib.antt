@@ -2,6 +2,7 @@ pub mod Links
 pub mod Lines
 pub mod Machine
 pub mod Run
+pub mod Idle
 pub mod Remains
 pub mod Standings
 pub mod Asks

@@ -13,13 +13,15 @@ use Rattle.journal.specs.History.{name_or_none}
 use Rattle.link_laws.specs.Ends.{IsLinkOf}
 use Rattle.node_kernel.specs.Nodes.{NodeState, find_at, is_living, name_at}
 use Rattle.run_trunks.specs.Changes.{at_link, each_does}
-use Rattle.run_trunks.specs.States.{TrunksState, over, trunks_of}
+use Rattle.run_trunks.specs.States.{HasLink, OnlyChangedAt, TrunksState, over, trunks_of}
 use Rattle.trunk.specs.Events.{TrunkState, asked_at, closed_at, sent_at, side_of}
 use Rattle.trunk.specs.Laws.{MayPublish}
 use Rattle.trunk_record.specs.Sayings.{heard_as, is_live}
 use Rattle.trunk_moves.specs.Trunks.{does, side_on}
 use Rattle.fabric.specs.declared.call.Call.{Call}
 use Rattle.fabric.specs.declared.call.Call.TheVariants.{Attach, Close, Detach, End, Hunt, Send}
+use Rattle.fabric.specs.declared.telling.Hearing.{Hearing}
+use Rattle.fabric.specs.declared.telling.Hearing.TheVariants.{Nobody, One, Several}
 
 -- a signal from endpoint j of a node to a living peer over a link: the node's side there sends it
 abbrev pub sent_over : List LinkDecl → NodeState → Inc → Bool → Peer → SigNote → List TrunkState
@@ -46,6 +48,12 @@ told_of_call links k j (Send q signal) ts = sent_over links k j (is_living k q) 
 told_of_call links k j (Hunt path signal) ts = asked_over links k (find_at k path) path ts
 told_of_call links k j (Attach q signal) ts = ts
 told_of_call links k j (Detach r) ts = ts
+
+-- no other trunks have changed since the event began than those that hear of a call
+abbrev pub IsHeardBy : TrunksState → Hearing → Type 0
+IsHeardBy s Nobody = s.was ≡ s.is
+IsHeardBy s (One l) = HasLink s l × OnlyChangedAt l s
+IsHeardBy s Several = Unit {0}
 
 -- ---- what the trunks must grant for it
 

@@ -16,8 +16,9 @@ ghost use Rattle.fabric.specs.Bringings.{answers_told, asks_over, comes_by, node
 ghost use Rattle.fabric.specs.Bringings.{passes_by};
 ghost use Rattle.fabric.specs.Bringings.{told_on};
 
+use crate::watched_journal::WatchedJournal;
 use carrier::TickedSide;
-use journal::{By, Effect, Effects, Head, Journal, Step};
+use journal::{By, Effect, Effects, Head, Step};
 use linx_base::{LinkNo, Name, NoMemory, NodeNo, Peer, Session, Side, Verdict};
 use node_kernel::Kernel;
 use run_trunks::RunTrunks;
@@ -139,7 +140,7 @@ fn bring(
 /// What is now of the trunks stays; a refusal undoes the event.
 pub(crate) fn make_told(
     alloc: Global,
-    journal: &mut Journal,
+    journal: &mut WatchedJournal,
     trunks: &mut RunTrunks,
     kernel: &mut Kernel,
     by: By,
@@ -191,7 +192,7 @@ fn up_of(ticked: TickedSide) -> TrunkUp
 /// changes nothing.
 pub(crate) fn make_delivery(
     alloc: Global,
-    journal: &mut Journal,
+    journal: &mut WatchedJournal,
     trunks: &mut RunTrunks,
     kernel: &mut Kernel,
     by: By,
@@ -223,7 +224,7 @@ pub(crate) fn make_delivery(
 /// The step of a tick of a side. A refusal changes nothing.
 pub(crate) fn make_tick(
     alloc: Global,
-    journal: &mut Journal,
+    journal: &mut WatchedJournal,
     trunks: &mut RunTrunks,
     kernel: &mut Kernel,
     by: By,

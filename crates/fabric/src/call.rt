@@ -8,7 +8,8 @@ ghost use Rattle.fabric.specs.Calls.{refusal_with};
 
 use crate::makings::{make_attach, make_close, make_detach, make_hunt, make_send};
 use crate::stop::StepStop;
-use journal::{By, Head, Journal};
+use crate::watched_journal::WatchedJournal;
+use journal::{By, Head};
 use linx_base::{AttRef, Inc, Path, Peer, Signal};
 use node_kernel::{Kernel, StepAnswer};
 use std::alloc::Global;
@@ -43,7 +44,7 @@ impl Call {
 /// back.
 pub(crate) fn make_call(
     alloc: Global,
-    journal: &mut Journal,
+    journal: &mut WatchedJournal,
     kernel: &mut Kernel,
     by: By,
     at: Inc,

@@ -22,7 +22,7 @@ ghost use Rattle.trunk_moves.specs.Steps.{HuntsName};
 ghost use Rattle.fabric.specs.Calls.{IsTyped, ask_of, hand_of};
 ghost use Rattle.fabric.specs.Lines.{fresh_line};
 ghost use Rattle.fabric.specs.Links.{is_still};
-ghost use Rattle.fabric.specs.Machine.{all_have_ended, is_at_rest};
+ghost use Rattle.fabric.specs.Machine.{all_have_ended, have_ended, is_at_rest};
 ghost use Rattle.fabric.specs.Run.{IsReached, IsStepped};
 ghost use Rattle.fabric.specs.Standings.{empty_nodes, fresh, unless_refused};
 
@@ -33,7 +33,8 @@ use crate::makings::{Looked, downs_of, make_open, make_quiet, make_restart, make
 use crate::rest::is_vain;
 use crate::standing::Standing;
 use crate::stop::{StepStop, StopCause, no_memory};
-use crate::telling::tell_call;
+use crate::telling::{keep_told, tell_call};
+use crate::watched_journal::WatchedJournal;
 use journal::{By, Event, Head, Journal, Refusal};
 use linx_base::{Inc, LinkDecl, Name, Names, NoMemory, NodeNo, Path, Peer, Signal};
 use node_kernel::{Kernel, StepAnswer};
@@ -47,13 +48,15 @@ use std::marker::Model;
 pub struct Fabric {
     pub(crate) alloc: Global,
     pub(crate) actors: Vec<NodeNo>,
-    pub(crate) journal: Journal,
+    pub(crate) journal: WatchedJournal,
     pub(crate) trunks: RunTrunks,
     pub(crate) kernels: Vec<Kernel>,
     /// How often each node has booted.
     booted: Vec<u32>,
     pub(crate) standings: Vec<Standing>,
     pub(crate) lines: Vec<Line>,
+    /// The place of the actor that was the first that hadn't ended, when one ended last.
+    front: u32,
     stop: Option<StopCause>,
 }
 
@@ -164,6 +167,7 @@ impl Fabric {
         let Ok(count) = u32::try_from(names.nodes.len()) else {
             return Err(NoMemory);
         };
+        let journal = WatchedJournal::new(alloc, names, actors.len())?;
         let trunks = RunTrunks::new(alloc, links)?;
         let kernels = kernels_of(alloc, count)?;
         let booted = boots_of(alloc, count)?;
@@ -172,12 +176,13 @@ impl Fabric {
         Ok(Fabric {
             alloc,
             actors: Vec::from_slice(alloc, actors)?,
-            journal: Journal::new(alloc, names),
+            journal,
             trunks,
             kernels,
             booted,
             standings,
             lines,
+            front: 0,
             stop: None,
         })
     }
@@ -191,7 +196,7 @@ impl Fabric {
             (links_of (trunks_of self.now.trunks)) }
         ensures reached { IsReached self.now.shape self.now.log.steps (trunks_of self.now.trunks) }
     {
-        &self.journal
+        self.journal.journal()
     }
 
     /// The journal, which is legal by the laws of nodes and links, keeps what is promised of runs
@@ -203,7 +208,7 @@ impl Fabric {
             (links_of (trunks_of self.trunks)) }
         ensures reached { IsReached self.shape self.log.steps (trunks_of self.trunks) }
     {
-        self.journal
+        self.journal.into_journal()
     }
 
     /// Whether an actor has made its last step.
@@ -266,12 +271,35 @@ impl Fabric {
     fn have_ended(&self) -> bool
         ensures { result ≡ all_have_ended self.now.shape self.now.log.steps }
     {
+        if self.is_led() {
+            return false;
+        }
         for place in 0..self.actor_count() {
             if !self.has_ended(place + 1) {
                 return false;
             }
         }
         true
+    }
+
+    /// Whether the actor at the front hasn't ended.
+    fn is_led(&self) -> bool
+        ensures { result ≡ true
+            → all_have_ended self.now.shape self.now.log.steps ≡ false }
+    {
+        self.front < self.actor_count() && !self.has_ended(self.front + 1)
+    }
+
+    /// How many actors have ended before the first that hasn't.
+    fn first_left(&self) -> u32
+        ensures { have_ended self.now.log.steps result ≡ true }
+    {
+        for place in 0..self.actor_count() {
+            if !self.has_ended(place + 1) {
+                return place;
+            }
+        }
+        self.actor_count()
     }
 
     /// Whether every actor has made its last step, and no link stirs.
@@ -296,7 +324,14 @@ impl Fabric {
         ensures { result ≡ (is_at_rest self.now.shape self.now.log.steps actor
             && is_still self.now.shape self.now.log.steps (trunks_of self.now.trunks)) }
     {
-        self.all_leave_at_rest(actor) && self.is_still()
+        !self.is_behind(actor) && self.is_still() && self.all_leave_at_rest(actor)
+    }
+
+    /// Whether the actor at the front keeps another one from rest.
+    fn is_behind(&self, actor: u32) -> bool
+        ensures { result ≡ true → is_at_rest self.now.shape self.now.log.steps actor ≡ false }
+    {
+        self.front < self.actor_count() && !self.leaves_at_rest(actor, self.front + 1)
     }
 
     /// Whether each other actor leaves an actor at rest.
@@ -332,6 +367,9 @@ impl Fabric {
         requires within { actor ≤ length self.now.shape.actors }
         ensures { result ≡ is_idle self.now.log.steps actor }
     {
+        if self.journal.is_known_idle(actor) {
+            return true;
+        }
         let place = self.kernel_of(actor);
         let standing = &self.standings[(actor - 1) as usize];
         is_vain(standing, &self.kernels[place])
@@ -538,7 +576,7 @@ impl Fabric {
         };
         let place = self.kernel_of(actor);
         let node = self.node_of(actor);
-        let Ok(()) = tell_call(&mut self.trunks, &self.kernels[place], node, at, &call) else {
+        let Ok(hearing) = tell_call(&mut self.trunks, &self.kernels[place], node, at, &call) else {
             return Err(no_memory(call.into_hand()));
         };
         let made = make_call(
@@ -551,7 +589,7 @@ impl Fabric {
         );
         match made {
             Ok(answer) => {
-                self.trunks.keep_all();
+                keep_told(&mut self.trunks, hearing);
                 let step = self.journal.len();
                 self.standings[(actor - 1) as usize].call(step, &answer);
                 Ok(answer)
@@ -611,7 +649,22 @@ impl Fabric {
         if self.is_waiting(actor) {
             return Ok(StepAnswer::NotYet);
         }
-        self.wait(actor, filter)
+        let answer = self.wait(actor, filter)?;
+        self.note_idle(actor);
+        Ok(answer)
+    }
+
+    /// Notes that an actor waits in vain, if it does.
+    fn note_idle(&mut self, actor: u32)
+        requires above { 0 < actor }
+        requires within { actor ≤ length self.old.shape.actors }
+        ensures { self.new ≡ self.old }
+    {
+        if let Some(at) = self.endpoint_of(actor) {
+            if self.is_idle(actor) {
+                self.journal.note_idle(actor, at);
+            }
+        }
     }
 
     /// A look with nothing selected, at rest.
@@ -736,8 +789,27 @@ impl Fabric {
         }
     }
 
-    /// The end of an actor.
+    /// The end of an actor, after which another one may be at the front.
     fn end(&mut self, actor: u32) -> Result<StepAnswer, StepStop>
+        requires asked { MayMake self.old (By.Actor actor) (asking Event.End None) }
+        ensures ok { IfOk result (HasMade self.old self.new actor (asking Event.End None)) }
+        ensures fixed { OnlyRuns self.old self.new }
+        ensures err { IfErr result (LeavesAll self.old self.new None) }
+    {
+        let answer = self.make_end(actor)?;
+        self.find_front();
+        Ok(answer)
+    }
+
+    /// Notes what actor is at the front.
+    fn find_front(&mut self)
+        ensures { self.new ≡ self.old }
+    {
+        self.front = self.first_left();
+    }
+
+    /// The step of an actor's end.
+    fn make_end(&mut self, actor: u32) -> Result<StepAnswer, StepStop>
         requires asked { MayMake self.old (By.Actor actor) (asking Event.End None) }
         ensures ok { IfOk result (HasMade self.old self.new actor (asking Event.End None)) }
         ensures fixed { OnlyRuns self.old self.new }

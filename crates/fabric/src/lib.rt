@@ -18,6 +18,7 @@ mod rest;
 mod standing;
 mod stop;
 mod telling;
+mod watched_journal;
 mod wires;
 
 pub use fabric::Fabric;

@@ -24,7 +24,8 @@ ghost use Rattle.fabric.specs.Looks.{after_take, looked_at, with_take};
 
 use crate::standing::{Standing, lose_all};
 use crate::stop::{StepStop, no_memory};
-use journal::{By, Detached, Effect, Effects, Head, Journal, SentTo, Step};
+use crate::watched_journal::WatchedJournal;
+use journal::{By, Detached, Effect, Effects, Head, SentTo, Step};
 use linx_base::{
     AttRef, Inc, Item, LinkNo, Name, NoMemory, NodeNo, Path, Peer, SigNote, Signal, TryCopy,
 };
@@ -36,7 +37,7 @@ use std::alloc::Global;
 /// A step without effects.
 pub(crate) fn make_quiet(
     alloc: Global,
-    journal: &mut Journal,
+    journal: &mut WatchedJournal,
     by: By,
     head: Head,
 ) -> Result<(), NoMemory>
@@ -55,7 +56,7 @@ pub(crate) fn make_quiet(
 
 /// An opening.
 pub(crate) fn make_open(
-    journal: &mut Journal,
+    journal: &mut WatchedJournal,
     kernel: &mut Kernel,
     by: By,
     name: Name,
@@ -95,7 +96,7 @@ pub(crate) fn make_open(
 
 /// The closing of an endpoint, by this head.
 pub(crate) fn make_close(
-    journal: &mut Journal,
+    journal: &mut WatchedJournal,
     kernel: &mut Kernel,
     by: By,
     head: Head,
@@ -127,7 +128,7 @@ pub(crate) enum Looked {
 /// Takes the first selected item of an endpoint, and notes it. Where there is none nothing changes.
 pub(crate) fn make_take(
     alloc: Global,
-    journal: &mut Journal,
+    journal: &mut WatchedJournal,
     kernel: &mut Kernel,
     by: By,
     at: Inc,
@@ -160,7 +161,7 @@ pub(crate) fn make_take(
 /// A step that waits with a filter, which comes back.
 pub(crate) fn make_wait(
     alloc: Global,
-    journal: &mut Journal,
+    journal: &mut WatchedJournal,
     by: By,
     filter: Sigsel,
 ) -> Result<Sigsel, NoMemory>
@@ -213,7 +214,7 @@ fn effects_of_send(
 }
 
 /// Room for a step, and the note of its signal.
-fn prepare(journal: &mut Journal, signal: &Signal) -> Result<SigNote, NoMemory>
+fn prepare(journal: &mut WatchedJournal, signal: &Signal) -> Result<SigNote, NoMemory>
     ensures room { OnOk result (0 < journal.new.spare) }
     ensures log { journal.new.log ≡ journal.old.log }
     ensures note { IfOk result (λ note. note ≡ signal.now) }
@@ -227,7 +228,7 @@ fn prepare(journal: &mut Journal, signal: &Signal) -> Result<SigNote, NoMemory>
 /// Room for a step, the note of its signal, and its effects.
 fn prepare_send(
     alloc: Global,
-    journal: &mut Journal,
+    journal: &mut WatchedJournal,
     from: Inc,
     signal: &Signal,
     living: bool,
@@ -247,7 +248,7 @@ fn prepare_send(
 /// A send. A refusal gives the signal back.
 pub(crate) fn make_send(
     alloc: Global,
-    journal: &mut Journal,
+    journal: &mut WatchedJournal,
     kernel: &mut Kernel,
     by: By,
     from: Inc,
@@ -290,7 +291,7 @@ pub(crate) fn make_send(
 
 /// Room for a step, the note of its signal, and its path.
 fn prepare_hunt(
-    journal: &mut Journal,
+    journal: &mut WatchedJournal,
     signal: &Signal,
     path: &Path,
 ) -> Result<(SigNote, Path), NoMemory>
@@ -305,7 +306,7 @@ fn prepare_hunt(
 
 /// A hunt. The number is the position of its step. A refusal gives the signal back.
 pub(crate) fn make_hunt(
-    journal: &mut Journal,
+    journal: &mut WatchedJournal,
     kernel: &mut Kernel,
     by: By,
     at: Inc,
@@ -358,7 +359,7 @@ pub(crate) fn make_hunt(
 
 /// An attach. The reference is the position of its step. A refusal gives the signal back.
 pub(crate) fn make_attach(
-    journal: &mut Journal,
+    journal: &mut WatchedJournal,
     kernel: &mut Kernel,
     by: By,
     at: Inc,
@@ -412,7 +413,7 @@ pub(crate) fn make_attach(
 /// A detach.
 pub(crate) fn make_detach(
     alloc: Global,
-    journal: &mut Journal,
+    journal: &mut WatchedJournal,
     kernel: &mut Kernel,
     by: By,
     at: Inc,
@@ -493,7 +494,7 @@ fn joined(first: Vec<Effect>, rest: Effects) -> Effects
 /// The restart of a node: after these ends of its sessions, all of its endpoints are closed, and
 /// those whose they were lose them.
 pub(crate) fn make_restart(
-    journal: &mut Journal,
+    journal: &mut WatchedJournal,
     kernel: &mut Kernel,
     standings: &mut [Standing],
     by: By,

@@ -1,15 +1,14 @@
-use Rattle.std.proofs.Common.{◌≡◌, ap, sym, subst, ◌∙◌}
-use Rattle.node_kernel.specs.Nodes.{NodeState}
-use Rattle.fabric.specs.Actings.{HasMade}
+use Rattle.std.proofs.Common.{◌-◌, sym, ◌∙◌}
+use Rattle.std.specs.Prelude.{slice_set}
 use Rattle.fabric.specs.Calls.{ask_of}
-use Rattle.fabric.specs.Run.{Layout}
+use Rattle.fabric.specs.declared.fabric.Fabric.TheView.{view}
 use Rattle.fabric.proofs.Called.{made-call}
 use Rattle.fabric.proofs.Granted.{may-tell}
-use Rattle.fabric.proofs.Placed.{acting, endpoint-seen, kernel-is, makes-seen, may-seen}
-use Rattle.fabric.proofs.Placed.{node-is}
-use Rattle.fabric.proofs.Placed.{own_open, sees}
-use Rattle.fabric.proofs.Seen.{kept-told, seen-kept}
+use Rattle.fabric.proofs.Placed.{acting, endpoint-seen, kernel-is, may-seen, node-is, own_open}
+use Rattle.fabric.proofs.Placed.{sees}
+use Rattle.fabric.proofs.Seen.{IsMadeSeen, made-told, parts_of}
 use Rattle.fabric.proofs.fabric.Fabric.call.Goals as goal
+use Rattle.fabric.proofs.fabric.Fabric.call.Goals.{After-call}
 
 pub tell_call-requires-clause-is_open : goal.tell_call-requires-clause-is_open
 tell_call-requires-clause-is_open c =
@@ -40,39 +39,31 @@ make_call-made-requires-clause-is_open c =
     let mine = endpoint-seen seen c.args.actor _ (sym c.endpoint_of.ensures ∙ c.in-Some.is) in
     own_open acts.at c.index_mut.result.now c.index_mut.ensures.value c.in-Some.at mine
 
-pub invariant_of-self-in-Ok-made : goal.invariant_of-self-in-Ok-made
-invariant_of-self-in-Ok-made c =
+-- what it makes
+made : (c : After-call) → IsMadeSeen (view c.self.inside) c.args.self.now
+    c.make_call-made.new.journal.log c.keep_told.new.trunks (record (parts_of c.self.inside) {
+      kernels = slice_set c.self.inside.kernels.items c.kernel_of-place.result
+          c.make_call-made.new.kernel;
+      standings = slice_set c.self.inside.standings.items (c.args.actor - 1) c.call.new.self;
+    }) c.args.actor (ask_of c.args.call) c.in-Ok-made.answer
+made c =
     let seen = sees c.self.invariant.0 c.self.view_is in
     let acts = acting seen c.requires.asked c.kernel_of-place.ensures in
     let mine = endpoint-seen seen c.args.actor _ (sym c.endpoint_of.ensures ∙ c.in-Some.is) in
-    let asked = may-seen seen c.requires.asked in
     let same = kernel-is acts.at c.index.result.now c.index.ensures
     ∙ sym (kernel-is acts.at c.index_mut.result.now c.index_mut.ensures.value) in
-    let told = rw same at c.in-Ok.ensures.is in
-    let made = made-call acts c.in-Some.at mine c.index_mut.result.now c.make_call-made.new.kernel
-    c.index_mut.ensures.value c.index_mut-in-Ok-made.result.now
-    c.call.new.self c.index_mut-in-Ok-made.ensures.value c.make_call-made.new.journal.log
-    c.in-Ok-made.answer c.args.call asked.may.fits c.requires.typed c.in-Ok-made.ensures.bounded
-    c.in-Ok-made.ensures.made c.len-step.result c.len-step.ensures c.call.ensures in
-    kept-told _ c.make_call-made.new.journal.log c.tell_call.new.trunks c.keep_all.new.self _
-    c.in-Ok.ensures.links told c.keep_all.ensures _ made.0
+    made-told c.self.view_is c.make_call-made.new.journal.log c.tell_call.new.trunks
+    c.keep_told.new.trunks _ c.in-Ok.ensures.links (rw same at c.in-Ok.ensures.is) c.keep_told.ensures _
+    c.args.actor (ask_of c.args.call) c.in-Ok-made.answer
+    (made-call acts c.in-Some.at mine c.index_mut.result.now c.make_call-made.new.kernel
+    c.index_mut.ensures.value c.index_mut-in-Ok-made.result.now c.call.new.self
+    c.index_mut-in-Ok-made.ensures.value c.make_call-made.new.journal.log c.in-Ok-made.answer
+    c.args.call (may-seen seen c.requires.asked).may.fits c.requires.typed
+    c.in-Ok-made.ensures.bounded c.in-Ok-made.ensures.made c.len-step.result c.len-step.ensures
+    c.call.ensures)
+
+pub invariant_of-self-in-Ok-made : goal.invariant_of-self-in-Ok-made
+invariant_of-self-in-Ok-made c = (made (goal.at.invariant_of-self-in-Ok-made c).After-call).keeps
 
 pub returns-in-Ok-made-clause-ok : goal.returns-in-Ok-made-clause-ok
-returns-in-Ok-made-clause-ok c =
-    let seen = sees c.self.invariant.0 c.self.view_is in
-    let acts = acting seen c.requires.asked c.kernel_of-place.ensures in
-    let mine = endpoint-seen seen c.args.actor _ (sym c.endpoint_of.ensures ∙ c.in-Some.is) in
-    let asked = may-seen seen c.requires.asked in
-    let same = kernel-is acts.at c.index.result.now c.index.ensures
-    ∙ sym (kernel-is acts.at c.index_mut.result.now c.index_mut.ensures.value) in
-    let told = rw same at c.in-Ok.ensures.is in
-    let made = made-call acts c.in-Some.at mine c.index_mut.result.now c.make_call-made.new.kernel
-    c.index_mut.ensures.value c.index_mut-in-Ok-made.result.now
-    c.call.new.self c.index_mut-in-Ok-made.ensures.value c.make_call-made.new.journal.log
-    c.in-Ok-made.answer c.args.call asked.may.fits c.requires.typed c.in-Ok-made.ensures.bounded
-    c.in-Ok-made.ensures.made c.len-step.result c.len-step.ensures c.call.ensures in
-    subst (λ (g : Layout). HasMade c.args.self.now g c.args.actor (ask_of c.args.call)
-    c.in-Ok-made.answer)
-    (sym (seen-kept _ c.make_call-made.new.journal.log c.tell_call.new.trunks c.keep_all.new.self _
-    c.in-Ok.ensures.links told c.keep_all.ensures))
-    (makes-seen seen _ c.args.actor (ask_of c.args.call) c.in-Ok-made.answer made.1)
+returns-in-Ok-made-clause-ok c = (made (goal.at.returns-in-Ok-made-clause-ok c).After-call).makes

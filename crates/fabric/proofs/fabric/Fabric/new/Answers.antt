@@ -11,14 +11,14 @@ invariant_of-result c =
     rw (c.in_ok-trunks.ensures, c.in_ok-from_slice.ensures.items) (
       kept-new (record {
         shape = record { links = c.args.links.now; actors = c.args.actors.now };
-        log = c.new-2.result.log;
+        log = c.in_ok-journal.journal.log;
         trunks = new_trunks c.args.links.now;
       }) (record {
         kernels = c.in_ok-kernels.kernels.items;
         booted = c.in_ok-booted.booted.items;
         standings = c.in_ok-standings.standings.items;
         lines = c.in_ok-lines.lines.items;
-      }) c.args.names c.requires.laid_out c.new-2.ensures.log refl
+      }) c.args.names c.requires.laid_out c.in_ok-journal.ensures refl
           (c.in_ok-kernels.ensures ∙ ap empty_nodes counted)
           (c.in_ok-booted.ensures ∙ ap (λ n. replicate n 1) counted)
           c.in_ok-standings.ensures c.in_ok-lines.ensures,

@@ -1,16 +1,17 @@
-use Rattle.std.proofs.Common.{None, ◌∙◌, sym, ap, subst}
+use Rattle.std.proofs.Common.{None, ◌-◌, ◌∙◌, ap}
+use Rattle.std.specs.Prelude.{slice_set}
 use Rattle.journal.specs.declared.event.Event.TheVariants as asks
 use Rattle.node_kernel.specs.declared.answers.StepAnswer.TheVariants as answers
 use Rattle.node_kernel.specs.Nodes.{next_of}
-use Rattle.fabric.specs.Actings.{HasMade, asking}
-use Rattle.fabric.specs.Run.{Layout}
+use Rattle.fabric.specs.Actings.{asking}
+use Rattle.fabric.specs.declared.fabric.Fabric.TheView.{view}
 use Rattle.fabric.proofs.Granted.{granted-open}
 use Rattle.fabric.proofs.Opening.{made-opened}
 use Rattle.fabric.proofs.Own.{as_opened}
-use Rattle.fabric.proofs.Placed.{acting, endpoint-seen, endpoints_fit, makes-seen, next-at}
-use Rattle.fabric.proofs.Placed.{openings_fit, sees}
-use Rattle.fabric.proofs.Seen.{kept-told, seen-kept}
+use Rattle.fabric.proofs.Placed.{acting, endpoint-seen, endpoints_fit, next-at, openings_fit, sees}
+use Rattle.fabric.proofs.Seen.{IsMadeSeen, made-told, parts_of}
 use Rattle.fabric.proofs.fabric.Fabric.open.Goals as goal
+use Rattle.fabric.proofs.fabric.Fabric.open.Goals.{After-open}
 
 pub opened-requires : goal.opened-requires
 opened-requires c =
@@ -35,41 +36,35 @@ make_open-made-requires-clause-room c =
     let acts = acting seen c.requires.asked c.kernel_of-place.ensures in
     endpoints_fit acts.at c.index_mut.result.now c.index_mut.ensures.value
 
-pub invariant_of-self-in-Ok-made : goal.invariant_of-self-in-Ok-made
-invariant_of-self-in-Ok-made c =
+-- what it makes
+made : (c : After-open) → IsMadeSeen (view c.self.inside) c.args.self.now
+    c.make_open-made.new.journal.log c.keep_all.new.self (record (parts_of c.self.inside) {
+      kernels = slice_set c.self.inside.kernels.items c.kernel_of-place.result
+          c.make_open-made.new.kernel;
+      standings = slice_set c.self.inside.standings.items (c.args.actor - 1) c.open.new.self;
+    }) c.args.actor (asking (asks.Open c.args.name) None)
+    (answers.Opened (next_of c.index_mut.result.now))
+made c =
     let seen = sees c.self.invariant.0 c.self.view_is in
     let acts = acting seen c.requires.asked c.kernel_of-place.ensures in
-    let mine = endpoint-seen seen c.args.actor _ c.requires.granted in
-    let next = next-at acts.at c.index_mut.result.now c.index_mut.ensures.value
-    (rw (← c.self.view_is) at c.next_inc-inc.ensures) in
-    let told = rw (rw (← c.self.view_is) at c.node_of-node.ensures) at c.in-Ok.ensures.is in
-    let made = made-opened acts c.index_mut.result.now c.index_mut.ensures.value c.args.name
-    c.is_named.ensures c.next_inc-inc.result next mine c.make_open-made.new.kernel
+    made-told c.self.view_is c.make_open-made.new.journal.log c.opened.new.self c.keep_all.new.self
+    _ c.in-Ok.ensures.links
+    (rw (rw (← c.self.view_is) at c.node_of-node.ensures) at c.in-Ok.ensures.is) c.keep_all.ensures
+    _ c.args.actor (asking (asks.Open c.args.name) None)
+    (answers.Opened (next_of c.index_mut.result.now))
+    (made-opened acts c.index_mut.result.now c.index_mut.ensures.value c.args.name
+    c.is_named.ensures c.next_inc-inc.result
+    (next-at acts.at c.index_mut.result.now c.index_mut.ensures.value
+    (rw (← c.self.view_is) at c.next_inc-inc.ensures))
+    (endpoint-seen seen c.args.actor _ c.requires.granted) c.make_open-made.new.kernel
     c.in-Ok-made.ensures.kernel c.index_mut-in-Ok-made.result.now c.open.new.self
     c.index_mut-in-Ok-made.ensures.value
     (c.open.ensures ∙ ap (as_opened c.index_mut-in-Ok-made.result.now) c.in-Ok-made.ensures.inc)
-    c.make_open-made.new.journal.log c.in-Ok-made.ensures.log in
-    kept-told _ c.make_open-made.new.journal.log c.opened.new.self c.keep_all.new.self _
-    c.in-Ok.ensures.links told c.keep_all.ensures _ made.0
+    c.make_open-made.new.journal.log c.in-Ok-made.ensures.log)
+
+pub invariant_of-self-in-Ok-made : goal.invariant_of-self-in-Ok-made
+invariant_of-self-in-Ok-made c = (made (goal.at.invariant_of-self-in-Ok-made c).After-open).keeps
 
 pub returns-in-Ok-made-clause-ok : goal.returns-in-Ok-made-clause-ok
 returns-in-Ok-made-clause-ok c =
-    let seen = sees c.self.invariant.0 c.self.view_is in
-    let acts = acting seen c.requires.asked c.kernel_of-place.ensures in
-    let mine = endpoint-seen seen c.args.actor _ c.requires.granted in
-    let next = next-at acts.at c.index_mut.result.now c.index_mut.ensures.value
-    (rw (← c.self.view_is) at c.next_inc-inc.ensures) in
-    let told = rw (rw (← c.self.view_is) at c.node_of-node.ensures) at c.in-Ok.ensures.is in
-    let made = made-opened acts c.index_mut.result.now c.index_mut.ensures.value c.args.name
-    c.is_named.ensures c.next_inc-inc.result next mine c.make_open-made.new.kernel
-    c.in-Ok-made.ensures.kernel c.index_mut-in-Ok-made.result.now c.open.new.self
-    c.index_mut-in-Ok-made.ensures.value
-    (c.open.ensures ∙ ap (as_opened c.index_mut-in-Ok-made.result.now) c.in-Ok-made.ensures.inc)
-    c.make_open-made.new.journal.log c.in-Ok-made.ensures.log in
-    rw (c.in-Ok-made.ensures.inc)
-    (subst (λ (g : Layout). HasMade c.args.self.now g c.args.actor
-    (asking (asks.Open c.args.name) None) (answers.Opened (next_of c.index_mut.result.now)))
-    (sym (seen-kept _ c.make_open-made.new.journal.log c.opened.new.self c.keep_all.new.self _
-    c.in-Ok.ensures.links told c.keep_all.ensures))
-    (makes-seen seen _ c.args.actor (asking (asks.Open c.args.name) None)
-    (answers.Opened (next_of c.index_mut.result.now)) made.1))
+    rw (c.in-Ok-made.ensures.inc) (made (goal.at.returns-in-Ok-made-clause-ok c).After-open).makes
