@@ -10,15 +10,15 @@ const EXAMPLES: [(&str, &str); 15] = [
         "# Three nodes in a chain of two links. A link joins two nodes, and nothing is passed on \
          by itself: a\n# router on the middle node hunts the server, forwards what the client \
          sends, and answers for it.\nnode station\nnode exchange\nnode office\nlink west station \
-         exchange\nlink east exchange office\nplan west > D D D L D     # each link loses and \
-         repeats by its own plan\nplan east > D D R D S1\n\nactor client station\n  open \
-         client\n  hunt west/router\n  recv 251\n  keep router\n  attach router watch\n  send \
-         router 1 hex:c0de\n  recv 2                  # the server's answer, as the router passed \
-         it on\n  recv 252                # the router closed: 00\nend\n\nactor router \
-         exchange\n  open router\n  hunt east/server\n  recv 251\n  keep server\n  recv 1\n  keep \
-         client\n  forward server          # the same signal, now sent by the router\n  recv 2\n  \
-         forward client\n  close\nend\n\nactor server office\n  open server\n  recv 1\n  send \
-         last 2 hex:600d\nend\n",
+         exchange\nlink east exchange office\nplan west > D D D L D     # west loses a packet\n\
+         plan east > D D R D S1    # east repeats one, and exchanges two\n\nactor client \
+         station\n  open client\n  hunt west/router\n  recv 251\n  keep router\n  attach router \
+         watch\n  send router 1 hex:c0de\n  recv 2                  # the server's answer, as the \
+         router passed it on\n  recv 252                # the router closed: 00\nend\n\nactor \
+         router exchange\n  open router\n  hunt east/server\n  recv 251\n  keep server\n  recv \
+         1\n  keep client\n  forward server          # the same signal, now sent by the router\n  \
+         recv 2\n  forward client\n  close\nend\n\nactor server office\n  open server\n  recv \
+         1\n  send last 2 hex:600d\nend\n",
         "log 1.1 client station\nhunt west/router 251 -\nfound west:1.1:2.1 251 -\ntook \
          west:1.1:2.1 251 -\nattach west:1.1:2.1 252 -\nsent west:1.1:2.1 1 c0de link\narrived \
          west:1.1:2.1 2 600d\ntook west:1.1:2.1 2 600d\nnotified west:1.1:2.1 252 00 closed\ntook \
@@ -427,21 +427,22 @@ const EXAMPLES: [(&str, &str); 15] = [
          endpoint at a time\n  send last 1     # no-peer: nothing was taken yet, so `last` is \
          nobody\n  send friend 1   # no-peer: no `keep` gave this name\n  forward self    # \
          no-signal: nothing was taken yet\n  detach watch    # no-ref: no `attach` gave this \
-         name\n  send self 1\n  recv 1\n  forward last    # now the taken signal goes on ..\n  \
-         forward last    # .. but only once: no-signal\n  keep friend\n  send friend 2\n  attach \
-         friend watch\n  detach watch\n  close\n  send friend 3   # not-open: the mailbox is \
-         closed\n  open another    # now it can be opened\n  send friend 3   # and this is sent, \
-         to a mailbox that is dead\nend\n",
+         name\n  send self 1\n  recv 1\n  forward friend  # no-peer: no `keep` gave this name; \
+         the taken signal is still held\n  forward last    # so now it goes on ..\n  forward \
+         last    # .. but only once: no-signal\n  keep friend\n  send friend 2\n  attach friend \
+         watch\n  detach watch\n  close\n  send friend 3   # not-open: the mailbox is closed\n  \
+         open another    # now it can be opened\n  send friend 3   # and this is sent, to a \
+         mailbox that is dead\nend\n",
         "log 1.1 mailbox station\nsent 1.1 1 - queued\narrived 1.1 1 -\ntook 1.1 1 -\nsent 1.1 1 \
          - queued\narrived 1.1 1 -\nsent 1.1 2 - queued\narrived 1.1 2 -\nattach 1.1 252 -\n\
-         detach pending\nclosed\nlog 1.2 another station\nsent 1.1 3 - dead\nclosed\njournal 20\n\
+         detach pending\nclosed\nlog 1.2 another station\nsent 1.1 3 - dead\nclosed\njournal 21\n\
          1 A1 refused no-peer\n2 A1 refused not-open\n3 A1 open mailbox\n+ opened 1.1\n4 A1 \
          refused is-open\n5 A1 refused no-peer\n6 A1 refused no-peer\n7 A1 refused no-signal\n8 \
          A1 refused no-ref\n9 A1 send 1.1 1 - queued\n+ arrived 1.1 1.1 1 -\n10 A1 take only:1 \
-         9.1\n11 A1 send 1.1 1 - queued\n+ arrived 1.1 1.1 1 -\n12 A1 refused no-signal\n13 A1 \
-         send 1.1 2 - queued\n+ arrived 1.1 1.1 2 -\n14 A1 attach 1.1 252 -\n15 A1 detach @14 \
-         pending\n16 A1 close\n+ closed 1.1\n17 A1 refused not-open\n18 A1 open another\n+ opened \
-         1.2\n19 A1 send 1.1 3 - dead\n20 A1 ended\n+ closed 1.2\n",
+         9.1\n11 A1 refused no-peer\n12 A1 send 1.1 1 - queued\n+ arrived 1.1 1.1 1 -\n13 A1 \
+         refused no-signal\n14 A1 send 1.1 2 - queued\n+ arrived 1.1 1.1 2 -\n15 A1 attach 1.1 \
+         252 -\n16 A1 detach @15 pending\n17 A1 close\n+ closed 1.1\n18 A1 refused not-open\n19 \
+         A1 open another\n+ opened 1.2\n20 A1 send 1.1 3 - dead\n21 A1 ended\n+ closed 1.2\n",
     ),
     // repeated_send.linx
     (
@@ -541,7 +542,13 @@ const EXAMPLES: [(&str, &str); 15] = [
     ),
     // self_send.linx
     (
-        "node n\nactor p n\nopen a\nsend self 5\nrecv any\nclose\nend\n",
+        "# The smallest exchange: an actor opens an endpoint, sends a signal to it, and takes the \
+         signal.\nnode n            # a computer\nactor p n         # a program on it, whose \
+         commands follow\n  open a          # an endpoint with the name `a`, and a queue; now it \
+         is `self`\n  send self 5     # a signal of number 5, without data: it comes into that \
+         queue\n  recv any        # takes the earliest signal of the queue, whatever its \
+         number\n  close           # the endpoint ends\nend               # and the actor with \
+         it\n",
         "log 1.1 a n\nsent 1.1 5 - queued\narrived 1.1 5 -\ntook 1.1 5 -\nclosed\njournal 5\n1 A1 \
          open a\n+ opened 1.1\n2 A1 send 1.1 5 - queued\n+ arrived 1.1 1.1 5 -\n3 A1 take any \
          2.1\n4 A1 close\n+ closed 1.1\n5 A1 ended\n",
