@@ -14,7 +14,7 @@ import sys
 
 CRATES = pathlib.Path(__file__).resolve().parent.parent / "crates"
 DOCUMENT = CRATES.parent / "docs/definitions.md"
-CALLS = ["run", "serial", "tell", "report", "process"]
+CALLS = ["run", "serial", "tell", "report", "program"]
 BEGINS = re.compile(r" *(?:abbrev pub|unfoldable pub|pub record|pub data|abbrev) ([\w']+)")
 IMPORT = re.compile(r"use\s+(Rattle\.[\w.]+)\.\{([^}]*)\}")
 WORD = re.compile(r"[A-Za-z_][\w']*")
@@ -92,7 +92,7 @@ def clauses(text):
 
 def cited(specs):
     """The definitions that the clauses of the calls cite."""
-    for name in ("serving", "told", "program"):
+    for name in ("serving", "told", "whole_program"):
         text = (CRATES / f"linx_sim/src/{name}.rt").read_text()
         known = imports(text)
         for clause in clauses(text):

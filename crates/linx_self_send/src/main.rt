@@ -1,9 +1,13 @@
-//! The program `linx_sim`: the words and the streams of this process go to `process`, which alone
+//! The program `linx_sim`: the words and the streams of this process go to `program`, which alone
 //! gives the result.
 #![tactic(auto)]
 
-use linx_sim::{Told, process};
+use linx_outside::{ReadFrom, WriteTo};
+use linx_sim::{Told, program};
 
 fn main(rt: HostRuntime) -> Told {
-    process(&rt, rt.stdin(), rt.stdout(), rt.stderr())
+    let mut script = ReadFrom::new(rt.stdin());
+    let mut text = WriteTo::new(rt.stdout());
+    let mut errors = WriteTo::new(rt.stderr());
+    program(&rt, &rt, rt.alloc(), &mut script, &mut text, &mut errors)
 }

@@ -1,5 +1,5 @@
 -- From what each part of a run says to the cause of the status.
-use Rattle.std.proofs.Common.{◌≡◌, ℕ, ◌≤◌, inl, inr, true, false, List, [], length, refl, sym}
+use Rattle.std.proofs.Common.{◌≡◌, ℕ, ◌≤◌, inl, inr, true, false, List, length, refl, sym}
 use Rattle.std.proofs.Common.{◌∙◌, subst, arith}
 use Rattle.std.specs.Prelude.{◌≢◌, Option, Some, None, Result, Ok, Err, IfSome, IsOk}
 use Rattle.std.proofs.lemmas.List.{take_all}
@@ -9,24 +9,25 @@ use Rattle.script_lang.specs.Parts.{ScriptParts}
 use Rattle.script_lang.specs.Reading.{script_of}
 use Rattle.script_lang.proofs.Sizes.{script_within}
 use Rattle.linx_sim.specs.Streams.{read_most}
-use Rattle.linx_sim.specs.Runs.{IsCaused, IsBadAt, IsOutcomeOf, Completes, read_of}
+use Rattle.linx_sim.specs.Runs.{IsCaused, IsBadAt, IsEmptyLog, IsOutcomeOf, Completes, read_of}
 use Rattle.linx_sim.specs.Causes.{IsUnread}
 use Rattle.linx_sim.specs.Statuses.{IsDoneOrRefused}
 use Rattle.linx_sim.specs.declared.asked.Asked.{Asked}
+use Rattle.linx_sim.specs.declared.asked.Asked.TheVariants.{Run}
 use Rattle.linx_sim.specs.declared.outcome.Status.{Status}
 use Rattle.linx_sim.specs.declared.outcome.Status.TheVariants.{Done, Usage, Script, ReadFault}
 use Rattle.linx_sim.specs.declared.outcome.Status.TheVariants.{WriteFault, JournalFull, NoMemory}
 
 -- the cause of a status that no script gave
 pub caused_unread : (asked : Asked) (status : Status) (told : Option (List ℕ)) (log : Log)
-    → IsUnread status told → log.steps ≡ [] → IsCaused asked status told log
-caused_unread asked (Script line) told log unread none = (unread, none)
-caused_unread asked ReadFault told log unread none = none
-caused_unread asked NoMemory told log unread none = inl none
-caused_unread asked Usage told log unread none = absurd unread
-caused_unread asked Done told log unread none = absurd unread
-caused_unread asked WriteFault told log unread none = absurd unread
-caused_unread asked JournalFull told log unread none = absurd unread
+    → IsUnread status told → IsEmptyLog log → IsCaused asked status told log
+caused_unread asked (Script line) told log unread empty = (unread, empty)
+caused_unread asked ReadFault told log unread empty = empty
+caused_unread asked NoMemory told log unread empty = inl empty
+caused_unread asked Usage told log unread empty = absurd unread
+caused_unread asked Done told log unread empty = absurd unread
+caused_unread asked WriteFault told log unread empty = absurd unread
+caused_unread asked JournalFull told log unread empty = absurd unread
 
 spelled_not_bad : (line : ℕ) (spells : Result ScriptParts (ℕ × BadKind)) → IsOk spells
     → IsBadAt line spells → ⊥
@@ -42,26 +43,32 @@ read_whole bytes (Err fault) is spelled = cc
 
 -- what the cause of a status says of a script
 pub completes : (asked : Asked) (status : Status) (bytes : List ℕ) (log : Log)
-    → IsCaused asked status (Some bytes) log → status ≢ Usage → Completes bytes status log
-completes asked Done bytes log cause known spelled room read write = tt
-completes asked NoMemory bytes log cause known spelled room read write = tt
-completes asked Usage bytes log cause known spelled room read write = absurd (known refl)
-completes asked ReadFault bytes log cause known spelled room read write = absurd (read refl)
-completes asked WriteFault bytes log cause known spelled room read write = absurd (write refl)
-completes asked JournalFull bytes log cause known spelled room read write =
+    → IsCaused asked status (Some bytes) log → Completes bytes status log
+completes asked Done bytes log cause spelled room read write = tt
+completes asked NoMemory bytes log cause spelled room read write = tt
+completes asked Usage bytes log cause spelled room read write = absurd cause
+completes asked ReadFault bytes log cause spelled room read write = absurd (read refl)
+completes asked WriteFault bytes log cause spelled room read write = absurd (write refl)
+completes asked JournalFull bytes log cause spelled room read write =
     absurd (let no : true ≡ false = sym cause.answer.full ∙ room in cc)
-completes asked (Script line) bytes log cause known spelled room read write =
+completes asked (Script line) bytes log cause spelled room read write =
     let whole : read_of bytes ≡ bytes = read_whole bytes (script_of bytes) refl spelled in
     absurd (spelled_not_bad line (script_of bytes) spelled
     (subst (λ (read : List ℕ). IsBadAt line (script_of read)) whole cause.0))
 
 -- the same where the bytes may be untold
 pub completes_told : (asked : Asked) (status : Status) (told : Option (List ℕ)) (log : Log)
-    → IsCaused asked status told log
-    → status ≢ Usage → IfSome told (λ bytes. Completes bytes status log)
-completes_told asked status None log cause known = tt
-completes_told asked status (Some bytes) log cause known =
-    completes asked status bytes log cause known
+    → IsCaused asked status told log → IfSome told (λ bytes. Completes bytes status log)
+completes_told asked status None log cause = tt
+completes_told asked status (Some bytes) log cause = completes asked status bytes log cause
+
+-- and where no script was read of them
+pub completes_unread : (ended status : Status) (told : Option (List ℕ)) (log : Log)
+    → ended ≡ status → IsUnread status told → IsEmptyLog log
+    → IfSome told (λ bytes. Completes bytes ended log)
+completes_unread ended status told log is unread empty =
+    completes_told Run ended told log (caused_unread Run ended told log
+    (subst (λ (s : Status). IsUnread s told) (sym is) unread) empty)
 
 -- what the outcome of a script that is at hand says of its status
 pub completes_outcome : (asked : Asked) (status : Status) (script : ScriptParts) (log : Log)

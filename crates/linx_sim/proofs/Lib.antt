@@ -2,3 +2,4 @@ mod CommandLine
 mod Numbers
 mod Causes
 mod Answering
+mod Scanning

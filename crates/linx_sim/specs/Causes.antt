@@ -11,7 +11,7 @@ use Rattle.script_lang.specs.declared.script_error.ScriptError.TheVariants as sc
 use Rattle.script_lang.specs.Reading.{script_of}
 use Rattle.linx_sim.specs.Runs.{IsBadAt, read_of}
 use Rattle.linx_sim.specs.declared.outcome.Status.{Status}
-use Rattle.linx_sim.specs.declared.outcome.Status.TheVariants.{Done, Script, ReadFault}
+use Rattle.linx_sim.specs.declared.outcome.Status.TheVariants.{Done, Usage, Script, ReadFault}
 use Rattle.linx_sim.specs.declared.outcome.Status.TheVariants.{WriteFault, JournalFull, NoMemory}
 
 -- what each status says of a source's bytes that gave no script
@@ -24,9 +24,12 @@ IsUnread _ told = ⊥
 -- the status of a text's writing
 abbrev pub is_of_writing : Status → Bool
 is_of_writing Done = true
+is_of_writing Usage = false
+is_of_writing (Script line) = false
+is_of_writing ReadFault = false
 is_of_writing WriteFault = true
+is_of_writing JournalFull = false
 is_of_writing NoMemory = true
-is_of_writing _ = false
 
 -- the status of a read that stopped short
 abbrev pub read_status : ReadStop → Status

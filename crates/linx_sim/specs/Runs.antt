@@ -68,11 +68,15 @@ pub record IsRan (asked : Asked) (script : ScriptParts) (ran : Ran) : Type 0 whe
 
 -- a run of a script stopped where an actor or a link has a turn to take, and the journal takes no
 -- further step
-pub record IsStopped (script : ScriptParts) (log : Log) : Type 0 where
+pub record IsStoppedFull (script : ScriptParts) (log : Log) : Type 0 where
   pub run : Layout
   pub so_far : IsRunAs script run log
   pub full : is_full log.steps ≡ true
   pub turn : is_over run ≡ false
+
+-- an empty journal: it has no names and no steps
+abbrev pub IsEmptyLog : Log → Type 0
+IsEmptyLog log = log ≡ record { names = record { nodes = []; links = [] }; steps = [] }
 
 -- a journal is legal, whatever it was laid out on
 abbrev pub IsLegalSomehow : List Step → Type 0
@@ -82,7 +86,7 @@ IsLegalSomehow P = (shape : Shape) × IsLegal shape P
 abbrev pub IsAnswerTo : Asked → Status → ScriptParts → Log → Type 0
 IsAnswerTo asked Done script log = IsRunUnder asked script log
 IsAnswerTo asked WriteFault script log = IsRunUnder asked script log
-IsAnswerTo asked JournalFull script log = IsStopped script log
+IsAnswerTo asked JournalFull script log = IsStoppedFull script log
 IsAnswerTo asked NoMemory script log = IsRunSoFar script log
 IsAnswerTo asked _ script log = ⊥
 
@@ -90,10 +94,11 @@ IsAnswerTo asked _ script log = ⊥
 -- the first step
 abbrev pub IsOutcomeOf : Asked → Status → ScriptParts → Log → Type 0
 IsOutcomeOf asked status script log =
-    ((status ≡ NoMemory) × (log.steps ≡ [])) ⊎ IsAnswerTo asked status script log
+    ((status ≡ NoMemory) × IsEmptyLog log) ⊎ IsAnswerTo asked status script log
 
--- the script of a source, whose bytes spell it where the source tells them
-pub record IsAnswered (asked : Asked) (status : Status) (told : Option (List ℕ)) (log : Log)
+-- the status and the journal are those of a run of the source's script, which its bytes spell where
+-- the source tells them
+pub record IsOfSource (asked : Asked) (status : Status) (told : Option (List ℕ)) (log : Log)
     : Type 0 where
   pub script : ScriptParts
   pub spelled : IfSome told (λ bytes. script_of bytes ≡ Ok script)
@@ -111,12 +116,14 @@ IsBadAt line (Err bad) = bad.0 ≡ line
 -- The cause of each status under a command that reads a script: what it says of the bytes that a
 -- source had, where it told them, and of the journal
 abbrev pub IsCaused : Asked → Status → Option (List ℕ) → Log → Type 0
-IsCaused asked Usage told log = log.steps ≡ []
-IsCaused asked ReadFault told log = log.steps ≡ []
+IsCaused asked Done told log = IsOfSource asked Done told log
+IsCaused asked Usage told log = ⊥
 IsCaused asked (Script line) told log =
-    IfSome told (λ bytes. IsBadAt line (script_of (read_of bytes))) × (log.steps ≡ [])
-IsCaused asked NoMemory told log = (log.steps ≡ []) ⊎ IsAnswered asked NoMemory told log
-IsCaused asked status told log = IsAnswered asked status told log
+    IfSome told (λ bytes. IsBadAt line (script_of (read_of bytes))) × IsEmptyLog log
+IsCaused asked ReadFault told log = IsEmptyLog log
+IsCaused asked WriteFault told log = IsOfSource asked WriteFault told log
+IsCaused asked JournalFull told log = IsOfSource asked JournalFull told log
+IsCaused asked NoMemory told log = IsEmptyLog log ⊎ IsOfSource asked NoMemory told log
 
 -- where bytes spell a script, neither a read nor a write failed and the journal has room, the run
 -- is done, or memory was refused

@@ -49,12 +49,29 @@ IsUsageOrRefused _ = ⊥
 -- the status comes only where the source was read to its end
 abbrev pub is_of_whole : Status → Bool
 is_of_whole Done = true
+is_of_whole Usage = false
+is_of_whole (Script line) = false
+is_of_whole ReadFault = false
 is_of_whole WriteFault = true
 is_of_whole JournalFull = true
-is_of_whole _ = false
+is_of_whole NoMemory = false
+
+-- the bytes that were read are no script
+abbrev pub is_script : Status → Bool
+is_script Done = false
+is_script Usage = false
+is_script (Script line) = true
+is_script ReadFault = false
+is_script WriteFault = false
+is_script JournalFull = false
+is_script NoMemory = false
 
 -- nothing is written at this status
 abbrev pub is_silent : Status → Bool
 is_silent Done = false
+is_silent Usage = true
+is_silent (Script line) = true
+is_silent ReadFault = true
 is_silent WriteFault = false
-is_silent _ = true
+is_silent JournalFull = true
+is_silent NoMemory = true

@@ -9,7 +9,7 @@ use journal::Journal;
 /// How a run ended.
 #[derive(Clone, Copy, Debug, PartialEq, Eq, Hash)]
 pub enum Status {
-    /// All actors have ended, and the text was written.
+    /// All actors have ended, no link stirs, and the text, or the summary, was written.
     Done,
     /// The words aren't those of a command.
     Usage,
@@ -17,10 +17,11 @@ pub enum Status {
     Script { line: u32 },
     /// The source failed.
     ReadFault,
-    /// The sink failed. A front of the text was written.
+    /// The sink failed. A front of the text, or of the summary, was written.
     WriteFault,
     /// An actor or a link had a turn to take while the journal was full.
     JournalFull,
+    /// Memory was refused.
     NoMemory,
 }
 

@@ -1,6 +1,6 @@
 //! The top call: words, script, run, text.
 
-ghost use Rattle.std.specs.Prelude.{◌≡◌, ◌≢◌, true, [], Ok, None};
+ghost use Rattle.std.specs.Prelude.{◌≡◌, true, Ok};
 ghost use Rattle.std.specs.Prelude.{IfOk, IfErr, OnOk, IfSome, IfNone};
 ghost use Rattle.std.specs.Io.KnownBytes.{IsAtEnd};
 ghost use Rattle.journal_text.specs.Text.{text_of};
@@ -10,7 +10,8 @@ ghost use Rattle.work_gen.specs.Generated.{generated};
 ghost use Rattle.linx_sim.specs.CommandLine.{asked_of};
 ghost use Rattle.linx_sim.specs.Statuses.{IsUsageOrRefused};
 ghost use Rattle.linx_sim.specs.Streams.{Reads, Writes, TakesAtMost, read_most};
-ghost use Rattle.linx_sim.specs.Runs.{Completes, IsCaused, IsLegalSomehow, IsOutcomeOf, IsRan};
+ghost use Rattle.linx_sim.specs.Runs.{Completes, IsCaused, IsEmptyLog, IsLegalSomehow};
+ghost use Rattle.linx_sim.specs.Runs.{IsOutcomeOf, IsRan};
 ghost use Rattle.linx_sim.specs.Commands.{IsCausedUnder, CompletesUnder, ReadsUnder, written_under};
 ghost use Rattle.linx_sim.specs.Causes.{IsUnread, is_of_writing, read_status, script_status};
 ghost use Rattle.linx_sim.specs.Causes.{stop_status, report_status};
@@ -35,16 +36,15 @@ const READ_MOST: usize = 1_048_577;
 /// A run that made no step, and why.
 fn unstarted(alloc: Global, status: Status) -> Outcome
     ensures status { result.status ≡ status }
-    ensures no_steps { result.journal.log.steps ≡ [] }
+    ensures empty { IsEmptyLog result.journal.log }
+    ensures legal { IsLegalSomehow result.journal.log.steps }
 {
     let names = Names {
         nodes: NameList::new(alloc),
         links: NameList::new(alloc),
     };
-    Outcome {
-        status,
-        journal: Journal::new(alloc, names),
-    }
+    let journal = Journal::new(alloc, names);
+    Outcome { status, journal }
 }
 
 fn status_of_read(stop: ReadStop) -> Status
@@ -151,6 +151,7 @@ fn conclude<K: Sink>(
 
 /// Reads a source to its end, and gives the script that its bytes spell, or the status that says
 /// why there is none.
+#[tactic(auto, using(crate::proofs::Scanning::scanned))]
 fn read_script<S: Source>(alloc: Global, source: &mut S) -> Result<Script, Status>
     ensures spelled { IfOk result (λ script.
         IfSome (S.left source.old) (λ told. script_of told ≡ Ok script)) }
@@ -177,7 +178,6 @@ fn read_script<S: Source>(alloc: Global, source: &mut S) -> Result<Script, Statu
 pub fn serial<S: Source, K: Sink>(alloc: Global, script: &mut S, out: &mut K) -> Outcome
     ensures cause { IsCaused Asked.Serial result.status (S.left script.old) result.journal.log }
     ensures legal { IsLegalSomehow result.journal.log.steps }
-    ensures never_usage { result.status ≢ Status.Usage }
     ensures complete { IfSome (S.left script.old) (λ told.
         Completes told result.status result.journal.log) }
     ensures source { Reads S.left S.faults S.last_count S.is_faultless script.old script.new
@@ -202,7 +202,6 @@ fn threaded<R: Threads + Wait + Sync, G: Gate + Sync, S: Source, K: Sink>(
 ) -> Outcome
     ensures cause { IsCaused Asked.Run result.status (S.left script.old) result.journal.log }
     ensures legal { IsLegalSomehow result.journal.log.steps }
-    ensures never_usage { result.status ≢ Status.Usage }
     ensures complete { IfSome (S.left script.old) (λ told.
         Completes told result.status result.journal.log) }
     ensures source { Reads S.left S.faults S.last_count S.is_faultless script.old script.new
@@ -254,7 +253,6 @@ fn serve<R: Threads + Wait + Sync, G: Gate + Sync, S: Source, K: Sink>(
 ) -> Outcome
     ensures cause { IsCausedUnder asked result.status (S.left script.old) result.journal.log }
     ensures legal { IsLegalSomehow result.journal.log.steps }
-    ensures never_usage { result.status ≢ Status.Usage }
     ensures complete { CompletesUnder asked (S.left script.old) result.status result.journal.log }
     ensures source { ReadsUnder asked S.left S.faults S.last_count S.is_faultless script.old
         script.new result.status }
@@ -277,10 +275,9 @@ pub fn run<S: Source, K: Sink, G: Gate + Sync, R: Threads + Wait + Sync>(
     out: &mut K,
     gate: &G,
 ) -> Outcome
-    // Of words that are those of no command.
-    ensures usage { result.status ≡ Status.Usage → asked_of words.now ≡ None }
+    // Of words that are those of no command. Those of one are never told Usage (`IsCausedUnder`).
     ensures other_words { IfNone (asked_of words.now)
-        (IsUsageOrRefused result.status × (result.journal.log.steps ≡ [])) }
+        (IsUsageOrRefused result.status × IsEmptyLog result.journal.log) }
     ensures untouched { IfNone (asked_of words.now)
         ((script.new ≡ script.old) × (out.new ≡ out.old)) }
 

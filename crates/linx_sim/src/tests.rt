@@ -5,10 +5,10 @@ ghost use Rattle.script_lang.specs.Reading.{script_of};
 ghost use Rattle.linx_sim.specs.Statuses.{IsDoneOrRefused};
 
 use crate::outcome::{Outcome, Status};
-use crate::program::program;
 use crate::rows::{SELF_SEND, outcome_under};
 use crate::serving;
 use crate::told::tell;
+use crate::whole_program::program;
 use crate::words::words_behind_name;
 use linx_outside::{MemSink, MemSource, OpenGate, PlainSource};
 use std::alloc::Global;

@@ -10,7 +10,7 @@ use crate::outcome::Status;
 use linx_outside::{Sink, write_all};
 use std::process::{ExitCode, Termination};
 
-/// The status that the program told, by which it ends. Only `process` gives one out.
+/// The status that the program told, by which it ends. Only `program` gives one out.
 #[derive(Drop)]
 pub struct Told {
     pub(crate) status: Status,

@@ -4,12 +4,8 @@ use Rattle.linx_base.specs.declared.memory.NoMemory.{NoMemory}
 use Rattle.workers.specs.declared.ran.Ran.{Ran}
 use Rattle.linx_sim.specs.Runs.{IsOutcomeOf, IsRan}
 use Rattle.linx_sim.specs.declared.outcome.Status.{Status}
-use Rattle.linx_sim.proofs.Answering.{answers-halted, answers-played, legal-none, legal-run}
+use Rattle.linx_sim.proofs.Answering.{answers-halted, answers-played, legal-run}
 use Rattle.linx_sim.proofs.serving.conclude.Goals as goal
-
-pub returns-in_default-clause-legal : goal.returns-in_default-clause-legal
-returns-in_default-clause-legal g c =
-    legal-none c.unstarted.result.journal.log.steps c.unstarted.ensures.no_steps
 
 pub returns-in-None-clause-answer : goal.returns-in-None-clause-answer
 returns-in-None-clause-answer g c script is_ran =

@@ -4,7 +4,7 @@ use Rattle.script_lang.specs.Parts.{ScriptParts}
 use Rattle.work_gen.specs.Generated.{generated}
 use Rattle.linx_sim.specs.Runs.{IsRan}
 use Rattle.linx_sim.specs.declared.asked.Asked.TheVariants.{Run}
-use Rattle.linx_sim.proofs.Answering.{legal-none, ran-generated}
+use Rattle.linx_sim.proofs.Answering.{ran-generated}
 use Rattle.linx_sim.proofs.serving.generate.Goals as goal
 
 pub returns-in-Ok-clause-cause : goal.returns-in-Ok-clause-cause
@@ -15,7 +15,3 @@ returns-in-Ok-clause-cause g c =
     (ran-generated number (generated number) played
     (subst (λ (s : ScriptParts). IfOk played (IsRan Run s)) c.in-Ok.ensures.is
     c.play_in_threads-played.ensures))
-
-pub returns-in-Err-clause-legal : goal.returns-in-Err-clause-legal
-returns-in-Err-clause-legal g c =
-    legal-none c.unstarted.result.journal.log.steps c.unstarted.ensures.no_steps
