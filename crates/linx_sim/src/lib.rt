@@ -21,6 +21,8 @@ pub use whole_program::program;
 #[cfg(test)]
 mod example_rows;
 #[cfg(test)]
+mod fault_rows;
+#[cfg(test)]
 mod gen_rows;
 #[cfg(test)]
 mod link_rows;

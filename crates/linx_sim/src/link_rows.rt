@@ -130,7 +130,7 @@ fn tells_under<R: Threads + Wait + Sync>(
 }
 
 // The same under each word.
-pub(crate) fn tells<R: Threads + Wait + Sync>(
+fn tells<R: Threads + Wait + Sync>(
     rt: &R,
     alloc: Global,
     script: &str,
@@ -152,6 +152,18 @@ fn logs<R: Threads + Wait + Sync>(
     wanted: &str,
 ) -> Result<bool, Fail> {
     tells(rt, alloc, script, (log, &[""]), wanted)
+}
+
+// Whether the second endpoint gets five signals in the order of their numbers, each once, under
+// each word.
+pub(crate) fn gets_five_in_order<R: Threads + Wait + Sync>(
+    rt: &R,
+    alloc: Global,
+    script: &str,
+) -> Result<bool, Fail> {
+    let wanted = "arrived l:1.1:1.1 1 -\narrived l:1.1:1.1 2 -\narrived l:1.1:1.1 3 -\n\
+         arrived l:1.1:1.1 4 -\narrived l:1.1:1.1 5 -\n";
+    tells(rt, alloc, script, ("log 2.1 ", &["arrived "]), wanted)
 }
 
 // How many lines of a text end so.
@@ -202,16 +214,7 @@ fn a_signal_that_is_one_byte_too_large_is_a_bad_line(rt: HostRuntime) -> Result<
 #[test]
 fn signals_arrive_in_order_and_once_over_a_lossy_link(rt: HostRuntime) -> Result<(), Fail> {
     let alloc = rt.alloc();
-    assert!(rt;
-        tells(
-            &rt,
-            alloc,
-            FIVE_SENDS,
-            ("log 2.1 ", &["arrived "]),
-            "arrived l:1.1:1.1 1 -\narrived l:1.1:1.1 2 -\narrived l:1.1:1.1 3 -\n\
-             arrived l:1.1:1.1 4 -\narrived l:1.1:1.1 5 -\n"
-        )?
-    );
+    assert!(rt; gets_five_in_order(&rt, alloc, FIVE_SENDS)?);
     Ok(())
 }
 
@@ -323,12 +326,12 @@ fn a_restart_of_the_sender_is_told_as_lost_and_a_front_of_a_signal_never_arrives
     Ok(())
 }
 
-// A plan of 200 verdicts for each direction.
-fn write_plans(script: &mut String) -> Result<(), Fail> {
+// A plan for each direction, which has these verdicts so many times.
+pub(crate) fn write_plans(script: &mut String, verdicts: &str, times: u32) -> Result<(), Fail> {
     for direction in [">", "<"] {
         write!(script, "plan l {direction}")?;
-        for _ in 0..25u32 {
-            script.push_str(" D D L D R D D S2")?;
+        for _ in 0..times {
+            script.push_str(verdicts)?;
         }
         script.push_str("\n")?;
     }
@@ -336,10 +339,10 @@ fn write_plans(script: &mut String) -> Result<(), Fail> {
 }
 
 // A client that asks a hundred times, and the server that answers it, over a lossy link.
-fn script_of_requests(alloc: Global) -> Result<String, Fail> {
+pub(crate) fn script_of_requests(alloc: Global) -> Result<String, Fail> {
     let mut script = String::new(alloc);
     script.push_str("node m\nnode n\nlink l m n\n")?;
-    write_plans(&mut script)?;
+    write_plans(&mut script, " D D L D R D D S2", 25)?;
     script.push_str(
         "actor c m\nopen client\nhunt l/server\nrecv 251\nkeep s\nattach s r\nrepeat 100\n\
          send s 10 hex:71\nrecv 11\nend\ndetach r\nsend s 12\nclose\nend\n",
@@ -361,24 +364,34 @@ fn log_of_requests(alloc: Global, first: &str, again: &str, last: &str) -> Resul
     Ok(log)
 }
 
-#[test]
-fn a_hundred_requests_are_answered_in_turn_over_a_lossy_link(rt: HostRuntime) -> Result<(), Fail> {
-    let alloc = rt.alloc();
-    let script = script_of_requests(alloc)?;
-    let client = log_of_requests(
+// The log of the client.
+pub(crate) fn log_of_client(alloc: Global) -> Result<String, Fail> {
+    log_of_requests(
         alloc,
         "log 1.1 client m\nhunt l/server 251 -\nfound l:1.1:2.1 251 -\ntook l:1.1:2.1 251 -\n\
          attach l:1.1:2.1 252 -\n",
         "sent l:1.1:2.1 10 71 link\narrived l:1.1:2.1 11 61\ntook l:1.1:2.1 11 61\n",
         "detach pending\nsent l:1.1:2.1 12 - link\nclosed\n",
-    )?;
-    assert!(rt; logs(&rt, alloc, script.as_str(), "log 1.1 ", client.as_str())?);
-    let server = log_of_requests(
+    )
+}
+
+// The log of the server.
+pub(crate) fn log_of_server(alloc: Global) -> Result<String, Fail> {
+    log_of_requests(
         alloc,
         "log 2.1 server n\n",
         "arrived l:1.1:1.1 10 71\ntook l:1.1:1.1 10 71\nsent l:1.1:1.1 11 61 link\n",
         "arrived l:1.1:1.1 12 -\ntook l:1.1:1.1 12 -\nclosed\n",
-    )?;
+    )
+}
+
+#[test]
+fn a_hundred_requests_are_answered_in_turn_over_a_lossy_link(rt: HostRuntime) -> Result<(), Fail> {
+    let alloc = rt.alloc();
+    let script = script_of_requests(alloc)?;
+    let client = log_of_client(alloc)?;
+    assert!(rt; logs(&rt, alloc, script.as_str(), "log 1.1 ", client.as_str())?);
+    let server = log_of_server(alloc)?;
     assert!(rt; logs(&rt, alloc, script.as_str(), "log 2.1 ", server.as_str())?);
     Ok(())
 }

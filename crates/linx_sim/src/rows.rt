@@ -34,7 +34,7 @@ const NEGATED: (&str, &str) = (
      3 A1 none not:8\n4 A1 ended\n+ closed 1.1\n",
 );
 
-const PENDING_HUNT: (&str, &str) = (
+pub(crate) const PENDING_HUNT: (&str, &str) = (
     "node n\nactor p n\nopen a\nhunt b\nrecv 251\nend\nactor q n\nopen c\nclose\nopen b\n\
      end\n",
     "log 1.1 a n\nhunt b 251 -\nfound 1.3 251 -\ntook 1.3 251 -\nclosed\nlog 1.2 c n\n\

@@ -1,9 +1,8 @@
 //! What is told of runs in which a link is settled after losses, or while much waits: read off the
 //! lines of the text.
 
-use crate::link_rows::{count_ending, lines_of, tells, text_under};
+use crate::link_rows::{count_ending, gets_five_in_order, lines_of, text_under, write_plans};
 use std::alloc::Global;
-use std::fmt::Write;
 use std::test::Fail;
 
 // Each plan would lose twenty packets, so that the session would be lost too.
@@ -33,16 +32,7 @@ fn signals_arrive_in_order_and_once_over_a_link_that_was_settled_among_losses(
     rt: HostRuntime,
 ) -> Result<(), Fail> {
     let alloc = rt.alloc();
-    assert!(rt;
-        tells(
-            &rt,
-            alloc,
-            FIVE_SENDS_OVER_A_SETTLED_LINK,
-            ("log 2.1 ", &["arrived "]),
-            "arrived l:1.1:1.1 1 -\narrived l:1.1:1.1 2 -\narrived l:1.1:1.1 3 -\n\
-             arrived l:1.1:1.1 4 -\narrived l:1.1:1.1 5 -\n"
-        )?
-    );
+    assert!(rt; gets_five_in_order(&rt, alloc, FIVE_SENDS_OVER_A_SETTLED_LINK)?);
     Ok(())
 }
 
@@ -51,13 +41,7 @@ fn signals_arrive_in_order_and_once_over_a_link_that_was_settled_among_losses(
 fn script_of_losses(alloc: Global) -> Result<String, Fail> {
     let mut script = String::new(alloc);
     script.push_str("node m\nnode n\nlink l m n\n")?;
-    for direction in [">", "<"] {
-        write!(script, "plan l {direction}")?;
-        for _ in 0..1005u32 {
-            script.push_str(" L")?;
-        }
-        script.push_str("\n")?;
-    }
+    write_plans(&mut script, " L", 1005)?;
     script.push_str(
         "actor p m\nopen a\nhunt l/b\nrepeat 3998\ndetach x\nend\nsettle l\nrecv 251\nend\n\
          actor q n\nopen b\nrecv any\nend\n",

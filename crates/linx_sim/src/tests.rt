@@ -22,7 +22,7 @@ const LARGE_SENDS: &[u8] =
     b"node n\nactor p n\nopen a\nrepeat 600\nsend self 1 fill:65532:00\nend\nclose\nend\n";
 
 const MOST_COMMANDS: &[u8] =
-    b"node n\nactor p n\nopen a\nrepeat 9998\nsend self 5\nrecv any\nend\nclose\nend\n";
+    b"node n\nactor p n\nopen a\nrepeat 9999\nsend self 5\nrecv any\nend\nclose\nend\n";
 
 // A run over memory ends as it should, whatever the script.
 fn run_in_memory(alloc: Global, source: &mut PlainSource, sink: &mut MemSink) -> Outcome
@@ -40,7 +40,7 @@ fn outcome_of(alloc: Global, script: &[u8], sink: &mut MemSink) -> Result<Outcom
 }
 
 #[test]
-fn write_that_fails(rt: HostRuntime) -> Result<(), Fail> {
+fn a_write_that_fails_leaves_a_front_of_the_text(rt: HostRuntime) -> Result<(), Fail> {
     let alloc = rt.alloc();
     let mut sink = MemSink::new(alloc, 10, 4096, Vec::from_slice(alloc, &[2u64])?)?;
     assert_eq!(rt;
@@ -52,7 +52,7 @@ fn write_that_fails(rt: HostRuntime) -> Result<(), Fail> {
 }
 
 #[test]
-fn read_that_fails(rt: HostRuntime) -> Result<(), Fail> {
+fn a_read_that_fails_writes_nothing(rt: HostRuntime) -> Result<(), Fail> {
     let alloc = rt.alloc();
     let bytes = Vec::from_slice(alloc, SELF_SEND.0.as_bytes())?;
     let mut source = MemSource::new(bytes, 4, Vec::from_slice(alloc, &[2u64])?);
@@ -129,7 +129,7 @@ fn as_many_commands_as_an_actor_may_have(rt: HostRuntime) -> Result<(), Fail> {
     let mut sink = MemSink::new(alloc, 4096, 4_194_304, Vec::new(alloc))?;
     let outcome = outcome_of(alloc, MOST_COMMANDS, &mut sink)?;
     assert_eq!(rt; outcome.status, Status::Done);
-    assert_eq!(rt; outcome.journal.len(), 19_999);
+    assert_eq!(rt; outcome.journal.len(), 20_001);
     assert!(rt;
         sink.held()
             .starts_with(b"log 1.1 a n\nsent 1.1 5 - queued\n")
@@ -254,7 +254,9 @@ fn is_all<R: Threads + Wait + Sync + Eprint>(
 }
 
 #[test]
-fn the_whole_program(rt: HostRuntime) -> Result<(), Fail> {
+fn the_program_writes_its_text_or_its_line_and_ends_with_its_number(
+    rt: HostRuntime,
+) -> Result<(), Fail> {
     let alloc = rt.alloc();
     let run: [&[u8]; 2] = [b"linx_sim", b"run"];
     let usage = "linx_sim: usage: linx_sim run, serial or gen N\n";
