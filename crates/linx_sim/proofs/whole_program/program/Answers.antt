@@ -6,10 +6,10 @@ use Rattle.linx_sim.proofs.whole_program.program.Goals as goal
 
 pub returns-in-Ok-clause-served : goal.returns-in-Ok-clause-served
 returns-in-Ok-clause-served g c =
-    let run = c.run.ensures in
+    let run = c.run-status.ensures in
     rw c.tell.ensures.status (record {
-      asked = asked_of c.in-Ok.words.items;
-      log = c.run.result.journal.log;
+      asked = asked_of c.deref.result.now;
+      log = c.run-status.result.journal.log;
       other_words = run.other_words;
       untouched = run.untouched;
       cause = run.cause;
