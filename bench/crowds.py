@@ -1,37 +1,27 @@
 #!/usr/bin/env python3
 """Runs the built program on crowded scripts, each of 64 actors on 16 nodes with 32 links that lose.
 
-Goes on with the next seed until the runs have taken so many processor seconds together: in the
-fixed order, or with --threads with a thread for each actor and each link. Each must end within a
-minute, and be done, or say that its journal is full; one that is done has the logs of its endpoints
-and as many steps as its journal says. With --model, the text is compared with that of bench/model,
-too, which takes the turns in the order of that journal. Prints how many runs were as they should
-be, how many lines they wrote, and the first that was wrong.
+Goes on with the next seed until the runs have taken so many processor seconds together, or one was
+wrong: in the fixed order, or with --threads with a thread for each actor and each link. Each must
+end within a minute. One that is done has a log and, in order, as many steps as its journal says;
+with --model its whole text must be that of bench/model, which in threads takes the turns in the
+order of that journal. One may say that its journal is full only where the model's is in the fixed
+order, asked for or not. Prints how many runs were as they should be, how many lines they wrote, and
+the one that was wrong.
 
     bench/crowds.py [--threads] [--model] [SECONDS [PROGRAM]]       SECONDS is 600 if unsaid
     bench/crowds.py --write SEED                        writes the script of a seed
 """
-import os
-import pathlib
 import re
-import subprocess
 import sys
 import tempfile
 
 sys.dont_write_bytecode = True
 
-HERE = pathlib.Path(__file__).resolve().parent
-sys.path.insert(0, str(HERE / "model"))
-
+import arguments
+import judge
 import random_script
-import threads
-from runs import Run
-from script import parse
-from values import Refused
-
-PROGRAM = HERE.parent / "crates/linx_program/out/linx_program"
-FULL = threads.FULL
-SECONDS = 60
+import timed
 
 
 class Crowd(random_script.Writer):
@@ -56,68 +46,69 @@ class Crowd(random_script.Writer):
 
 def is_whole(text):
     """Whether a text has the steps that it says, in order, and before them a log at least."""
-    lines = text.decode("ascii").split("\n")
+    lines = text.decode("ascii", "replace").split("\n")
     at = next((at for at, line in enumerate(lines) if line.startswith("journal ")), None)
     if at is None or lines[-1] or not re.match(r"log \d+\.1 \S+ n\d+\Z", lines[0]):
         return False
     steps = [line.split(" ")[0] for line in lines[at + 1:-1] if not line.startswith("+ ")]
-    return steps == [str(step) for step in range(1, int(lines[at][8:]) + 1)]
+    return lines[at] == f"journal {len(steps)}" and (
+        steps == [str(step) for step in range(1, len(steps) + 1)])
 
 
-def is_model_end(word, script, end):
-    """Whether the model ends so, too: in the fixed order, or in that of the journal."""
-    if word == "run":
-        return end == FULL or threads.wrong_of(script, end) is None
-    try:
-        return end == (0, b"", Run(parse(script)).play().encode())
-    except Refused:
-        return end == FULL
+def fault(word, script, end, with_model):
+    """What is wrong with how a run under this word ended, or None."""
+    if end[:2] == (0, b"") and not is_whole(end[2]):
+        return "its text isn't whole"
+    if end[:2] == (0, b"") and not with_model:
+        return None
+    return (judge.wrong_in_threads if word == "run" else judge.wrong_in_order)(script, end)
 
 
 def run(program, word, script):
     """How the program ended, and the processor seconds that it took."""
     with tempfile.TemporaryFile() as given, tempfile.TemporaryFile() as said, \
             tempfile.TemporaryFile() as written:
-        given.write(script.encode())
-        given.seek(0)
-        started = subprocess.Popen(["timeout", str(SECONDS), program, word], stdin=given,
-                                   stdout=written, stderr=said)
-        _, status, used = os.wait4(started.pid, 0)
-        started.returncode = os.waitstatus_to_exitcode(status)
+        given.write(script)
+        took = timed.once([program, word], given, written, said)
         said.seek(0)
         written.seek(0)
-        end = started.returncode, said.read(), written.read()
-        return end, used.ru_utime + used.ru_stime
+        return (took.status, said.read(), written.read()), took.processor
 
 
-def main(words):
-    """Runs them until the time is over."""
-    word = "run" if "--threads" in words else "serial"
-    with_model = "--model" in words
-    words = [given for given in words if not given.startswith("--")]
-    seconds = float(words[0]) if words else 600
-    program = pathlib.Path(words[1] if len(words) > 1 else PROGRAM).resolve()
-    seed, taken, lines, wrongs = 0, 0, 0, []
-    while taken < seconds:
+def tried(program, word, with_model, seconds):
+    """Runs them until the time is over or one is wrong: how many, time, lines, what is wrong."""
+    seed, taken, lines, wrong = 0, 0, 0, None
+    while taken < seconds and not wrong:
         seed += 1
-        script = Crowd(seed).script()
+        script = Crowd(seed).script().encode()
         end, used = run(program, word, script)
+        wrong = fault(word, script, end, with_model)
         taken += used
-        right = end == FULL or end[:2] == (0, b"") and is_whole(end[2])
-        if right and with_model:
-            right = is_model_end(word, script, end)
-        if not right:
-            wrongs.append(f"seed {seed}: ended with {end[0]}")
         lines += end[2].count(b"\n") - end[2].count(b"\n+ ")
-    print(f"{seed - len(wrongs)} of {seed} crowded runs as they should be, {lines} lines of logs "
+    return seed, taken, lines, wrong
+
+
+def main():
+    """Runs them, or writes one script."""
+    parser = arguments.parser(__doc__)
+    parser.add_argument("--threads", action="store_true", help="with a thread for each maker")
+    parser.add_argument("--model", action="store_true", help="compare the texts, too")
+    parser.add_argument("--write", type=int, metavar="SEED", help="only write the script of a seed")
+    parser.add_argument("seconds", type=float, nargs="?", default=600)
+    arguments.add_program(parser)
+    given = parser.parse_args()
+    if given.write is not None:
+        sys.stdout.write(Crowd(given.write).script())
+        return 0
+    program = arguments.found_program(parser, given)
+    word = "run" if given.threads else "serial"
+    count, taken, lines, wrong = tried(program, word, given.model, given.seconds)
+    print(f"{count - bool(wrong)} of {count} crowded runs as they should be, {lines} lines of logs "
           f"and steps, {taken:.0f} s")
-    for wrong in wrongs[:1]:
-        print(f"first that is wrong: {wrong}")
-    return 1 if wrongs else 0
+    if wrong:
+        print(f"wrong: seed {count}: {wrong}")
+    return 1 if wrong else 0
 
 
 if __name__ == "__main__":
-    if sys.argv[1:2] == ["--write"]:
-        sys.stdout.write(Crowd(int(sys.argv[2])).script())
-        sys.exit(0)
-    sys.exit(main(sys.argv[1:]))
+    sys.exit(main())

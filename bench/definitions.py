@@ -16,8 +16,8 @@ CRATES = pathlib.Path(__file__).resolve().parent.parent / "crates"
 DOCUMENT = CRATES.parent / "docs/definitions.md"
 CALLS = ["run", "serial", "tell", "report", "program"]
 BEGINS = re.compile(r" *(?:abbrev pub|unfoldable pub|pub record|pub data|abbrev) ([\w']+)")
-IMPORT = re.compile(r"use\s+(Rattle\.[\w.]+)\.\{([^}]*)\}")
-WORD = re.compile(r"[A-Za-z_][\w']*")
+IMPORT = re.compile(r"use\s+(Rattle\.[\w.]+?)(?:\.\{([^}]*)\}|\s+as\s+([\w']+))")
+CITED = re.compile(r"(?:([A-Za-z_][\w']*)\.)?([A-Za-z_][\w']*)")
 
 
 def definitions(text):
@@ -35,30 +35,44 @@ def definitions(text):
     return found
 
 
-def imports(text):
-    """What a file imports from which file, by its word here."""
-    return {word.strip(): line[1] for line in IMPORT.finditer(text)
-            for word in line[2].split(",")}
+class Imports:
+    """What a file imports: words, each maybe under another name here, and files under a name."""
+
+    def __init__(self, text):
+        self.words, self.files = {}, {}
+        for module, listed, file in IMPORT.findall(text):
+            if file:
+                self.files[file] = module
+            for entry in filter(None, map(str.strip, listed.split(","))):
+                there, _, here = entry.partition(" as ")
+                self.words[here or there] = module, there
+
+    def cited(self, text, here):
+        """The file and the word there of each word of a text; what isn't imported is of `here`."""
+        for before, word in set(CITED.findall(text)):
+            if before in self.files:
+                yield self.files[before], word
+            else:
+                for one in before, word:
+                    yield self.words.get(one, (here, one))
 
 
 class Specs:
     """All definitions of the crates."""
 
     def __init__(self):
-        self.defined, self.imported = {}, {}
+        self.defined, self.imports = {}, {}
         for path in sorted(CRATES.glob("*/specs/**/*.antt")):
             crate = path.relative_to(CRATES).parts[0]
             rest = path.relative_to(CRATES / crate / "specs").with_suffix("")
             module = ".".join(["Rattle", crate, "specs", *rest.parts])
             text = path.read_text()
-            self.defined[module], self.imported[module] = definitions(text), imports(text)
+            self.defined[module], self.imports[module] = definitions(text), Imports(text)
 
-    def owner(self, module, word):
-        """The file that defines a word that stands in another one, or None."""
-        if word in self.defined[module]:
-            return module
-        there = self.imported[module].get(word)
-        return there if word in self.defined.get(there, {}) else None
+    def cited(self, imports, text, here=None):
+        """The definitions, each by its file and its word, that a text cites by these imports."""
+        return {(module, word) for module, word in imports.cited(text, here)
+                if word in self.defined.get(module, {})}
 
     def reached(self, roots):
         """Of these and the definitions that they reach those that another file cites."""
@@ -68,12 +82,9 @@ class Specs:
             if one in seen:
                 continue
             seen.add(one)
-            for word in set(WORD.findall(self.defined[module][name])):
-                owner = self.owner(module, word)
-                if owner:
-                    next_ones.append((owner, word))
-                if owner not in (None, module):
-                    shared.add((owner, word))
+            cited = self.cited(self.imports[module], self.defined[module][name], module)
+            next_ones += cited
+            shared |= {other for other in cited if other[0] != module}
         return shared
 
 
@@ -90,15 +101,14 @@ def clauses(text):
             yield found[0]
 
 
-def cited(specs):
+def cited_by_calls(specs):
     """The definitions that the clauses of the calls cite."""
+    found = set()
     for name in ("serving", "told", "whole_program"):
         text = (CRATES / f"linx_sim/src/{name}.rt").read_text()
-        known = imports(text)
         for clause in clauses(text):
-            for word in set(WORD.findall(clause)):
-                if word in specs.defined.get(known.get(word), {}):
-                    yield known[word], word
+            found |= specs.cited(Imports(text), clause)
+    return found
 
 
 def documented():
@@ -123,8 +133,7 @@ def main():
     wrongs = [f"{word} isn't defined in {' or '.join(named)}" for word, named in rows
               if not any(word in files.get(name, ()) for name in named)]
     known = {(name, word) for word, named in rows for name in named}
-    roots = set(cited(specs))
-    reached = {(path_of(module), word) for module, word in specs.reached(roots)}
+    reached = {(path_of(module), word) for module, word in specs.reached(cited_by_calls(specs))}
     wrongs += [f"{word} of {name} isn't there" for name, word in sorted(reached - known)]
     print(f"{len(reached & known)} of {len(reached)} reached definitions are there, "
           f"{len(rows)} words stand there, {len(wrongs)} things are wrong")

@@ -1,21 +1,14 @@
 #!/usr/bin/env bash
 # What a piece of 1,400 bytes costs on its way from one end of a link to the other, in memory: cut,
 # sent, written, read, taken, joined and acknowledged. The sender has twice its window ahead, so the
-# window is always full; a message has 40 pieces. The program that measures it is built in a copy of
-# the crates, so that the gate knows nothing of it. `bench/end.sh try 4000` builds it unproved and
-# checked, which is slow, and sends so many pieces: there only the ratios mean something.
+# window is always full; a message has 40 pieces. COUNT pieces are sent, 1,000,000 if unsaid.
+#   bench/end.sh [run|try [COUNT]]
 set -euo pipefail
-top="$(cd "$(dirname "$0")/.." && pwd)"
-work="$(mktemp -d)"
-trap 'rm -rf "$work"' EXIT
-mkdir -p "$work/crates/end_bench/src"
-crates="linx_base ethcm_headers fragmenter ethcm_window ethcm_session link_supervisor ethcm_end"
-for crate in $crates; do
-    (cd "$top/crates" && tar cf - --exclude=out --exclude=must-fail "$crate") | tar xf - -C "$work/crates"
-    grep "^$crate:" "$top/crates.txt" >> "$work/crates.txt"
-done
-echo "end_bench: $crates anyhow" >> "$work/crates.txt"
-cat > "$work/crates/end_bench/src/main.rt" <<'PROGRAM'
+# shellcheck source-path=SCRIPTDIR source=copied.sh
+. "$(dirname "$0")/copied.sh"
+begin end_bench linx_base ethcm_headers fragmenter ethcm_window ethcm_session link_supervisor \
+    ethcm_end
+cat > src/main.rt <<'PROGRAM'
 #![tactic(auto)]
 
 use anyhow::Context;
@@ -160,6 +153,4 @@ fn main(rt: HostRuntime) -> anyhow::Result<()> {
     Ok(())
 }
 PROGRAM
-sed -i "s/MOST: u64 = 1_000_000/MOST: u64 = ${2:-1_000_000}/" "$work/crates/end_bench/src/main.rt"
-cd "$work/crates/end_bench"
-rt "${1:-run}"
+finish "$@"

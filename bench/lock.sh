@@ -1,21 +1,13 @@
 #!/usr/bin/env bash
 # What a turn of the lock costs, a take and a give that add nothing: on one thread, and on several
-# that want it at once. The program that measures it is built in a copy of the crates, so that the
-# gate knows nothing of it. `bench/lock.sh try` builds it unproved.
+# that want it at once. They take COUNT turns together, 1,000,000 if unsaid.
+#   bench/lock.sh [run|try [COUNT]]
 set -euo pipefail
-top="$(cd "$(dirname "$0")/.." && pwd)"
-work="$(mktemp -d)"
-trap 'rm -rf "$work"' EXIT
-mkdir -p "$work/crates/lock_bench/src" "$work/crates/lock_bench/proofs/turns"
-for crate in linx_base turn_lock; do
-    (cd "$top/crates" && tar cf - --exclude=out --exclude=must-fail "$crate") | tar xf - -C "$work/crates"
-done
-cat > "$work/crates.txt" <<'CRATES'
-linx_base:
-turn_lock: linx_base atomic_table
-lock_bench: linx_base turn_lock anyhow
-CRATES
-cat > "$work/crates/lock_bench/src/main.rt" <<'PROGRAM'
+# shellcheck source-path=SCRIPTDIR source=copied.sh
+. "$(dirname "$0")/copied.sh"
+begin lock_bench linx_base turn_lock
+mkdir -p proofs/turns
+cat > src/main.rt <<'PROGRAM'
 #![tactic(auto)]
 
 ghost use Rattle.std.specs.Prelude.{◌<◌, ◌≤◌};
@@ -29,6 +21,9 @@ use std::thread::Threads;
 use std::time::Instant;
 use turn_lock::{Log, Pass, TurnLock};
 
+/// The turns that are taken.
+const MOST: u64 = 1_000_000;
+
 // So many turns of a pass.
 fn turns<R: Wait>(rt: &R, lock: &TurnLock<Log>, pass: Pass<Log>, times: u64) -> Pass<Log>
     requires { IsPassOf lock.now pass }
@@ -41,7 +36,8 @@ fn turns<R: Wait>(rt: &R, lock: &TurnLock<Log>, pass: Pass<Log>, times: u64) -> 
     pass
 }
 
-/// All threads together take so many turns, each as many. The answer is how many threads there were.
+/// All threads together take so many turns, each as many. The answer is how many threads there
+/// were.
 fn measured<R: Threads + Wait + Sync>(
     rt: &R,
     alloc: Global,
@@ -67,20 +63,22 @@ fn main(rt: HostRuntime) -> anyhow::Result<()> {
     for _ in 0..3 {
         for threads in [1, 2, 4, 24] {
             let start = Instant::now(&rt).context("clock")?;
-            let done = measured(&rt, rt.alloc(), threads, 1_000_000)?;
+            let done = measured(&rt, rt.alloc(), threads, MOST)?;
             let spent = start.elapsed(&rt).context("clock")?.as_nanos();
-            println!(rt; "{done} threads: {} ns a turn", spent / 1_000_000)?;
+            println!(rt;
+                "{done} threads: {} ns a turn",
+                spent / u128::from(MOST.max(1))
+            )?;
         }
     }
     Ok(())
 }
 PROGRAM
-cat > "$work/crates/lock_bench/proofs/turns/Invariants.antt" <<'INVARIANTS'
+cat > proofs/turns/Invariants.antt <<'INVARIANTS'
 use Rattle.turn_lock.specs.Passes.{IsPassOf}
 use Rattle.lock_bench.proofs.turns.Given as goal
 
 abbrev pub invariant-loop : goal.invariant-loop
 invariant-loop g l = IsPassOf l.lock l.pass
 INVARIANTS
-cd "$work/crates/lock_bench"
-rt "${1:-run}"
+finish "$@"

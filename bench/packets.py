@@ -12,9 +12,14 @@ The program that reads them is built in a copy of the crates, so that the gate k
 import pathlib
 import random
 import re
+import shutil
 import subprocess
 import sys
 import tempfile
+
+sys.dont_write_bytecode = True
+
+import arguments
 
 TOP = pathlib.Path(__file__).resolve().parent.parent
 CRATES = ["linx_base", "ethcm_headers", "rlnh_messages"]
@@ -232,12 +237,10 @@ class Maker:
 def build(folder):
     """The program's crate, beside copies of those that it stands on."""
     for crate in CRATES:
-        (folder / "crates").mkdir(exist_ok=True)
-        subprocess.run(["cp", "-r", TOP / "crates" / crate, folder / "crates"], check=True)
-        for name in ("out", "must-fail"):
-            subprocess.run(["rm", "-rf", folder / "crates" / crate / name], check=True)
+        shutil.copytree(TOP / "crates" / crate, folder / "crates" / crate,
+                        ignore=shutil.ignore_patterns("out", "must-fail"))
     wanted = [line for line in (TOP / "crates.txt").read_text().split("\n")
-              if line.split(":")[0] in CRATES]
+              if re.split("[ :]", line)[0] in CRATES]
     wanted.append(f"packet_bench: {' '.join(CRATES)} anyhow hex")
     (folder / "crates.txt").write_text("\n".join(wanted) + "\n")
     source = folder / "crates/packet_bench/src"
@@ -246,17 +249,20 @@ def build(folder):
     return source.parent
 
 
-def main(words):
+def main():
     """Makes them, has them read, and compares."""
-    way = words[0] if words else "run"
-    count = int(words[1]) if len(words) > 1 else 100_000
+    parser = arguments.parser(__doc__)
+    parser.add_argument("way", choices=["run", "try"], nargs="?", default="run")
+    parser.add_argument("count", type=arguments.count, nargs="?", default=100_000)
+    given = parser.parse_args()
+    count = given.count
     maker = Maker(1)
     cases = [maker.line() for _ in range(count)]
     text = "".join(f"{letter}{data.hex()}\n" for letter, data in cases)
     with tempfile.TemporaryDirectory() as folder:
         crate = build(pathlib.Path(folder))
-        ran = subprocess.run(["rt", way], cwd=crate, input=text, stdout=subprocess.PIPE, text=True,
-                             check=False)
+        ran = subprocess.run(["rt", given.way], cwd=crate, input=text, stdout=subprocess.PIPE,
+                             text=True, check=False)
     answers = next((line for line in ran.stdout.split("\n") if re.match(r"[GB]+\Z", line)), "")
     wanted = "".join("G" if JUDGES[letter](data) else "B" for letter, data in cases)
     wrong = [at for at in range(count) if answers[at:at + 1] != wanted[at]]
@@ -270,4 +276,4 @@ def main(words):
 
 
 if __name__ == "__main__":
-    sys.exit(main(sys.argv[1:]))
+    sys.exit(main())

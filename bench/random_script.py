@@ -1,10 +1,11 @@
 """Writes one random script with links, the same one for the same seed.
 
 Its links lose, repeat and exchange packets by plans, have small windows and pieces, and are cut
-and mended; its nodes are restarted. In two of five scripts links are settled too. Of four seeds in a row two give a sensible script: its actors
-find another one's endpoint and go on with what makes sense then; one a varied one: they do
-anything, and more of it is refused; and one a restless one: nodes restart and endpoints open and
-close again and again, while packets are repeated and exchanged.
+and mended; its nodes are restarted. In two of five scripts links are settled too. Of four seeds in
+a row two give a sensible script: its actors find another one's endpoint and go on with what makes
+sense then; one a varied one: they do anything, and more of it is refused; and one a restless one:
+nodes restart and endpoints open and close again and again, while packets are repeated and
+exchanged.
 
     python3 bench/random_script.py SEED
 """

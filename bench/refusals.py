@@ -22,10 +22,10 @@ import tempfile
 
 sys.dont_write_bytecode = True
 
-import threads
+import arguments
+import judge
 
 TOP = pathlib.Path(__file__).resolve().parent.parent
-PROGRAM = TOP / "crates/linx_program/out/linx_program"
 EXAMPLES = ["self_send", "hunt_and_attach", "link", "lost_link", "restarted_node", "chain"]
 SECONDS = 10
 LIBRARY = r"""
@@ -106,12 +106,7 @@ def ran(command, script, library, kind, way, call):
     reader, writer = os.pipe()
     refused = {"REFUSED_KIND": kind, "REFUSED_WAY": way, "REFUSED_CALL": str(call),
                "REFUSED_MARK": str(writer), "LD_PRELOAD": str(library)}
-    try:
-        ended = subprocess.run(command, input=script, capture_output=True, timeout=SECONDS,
-                               check=False, env=refused, pass_fds=[writer])
-        end = ended.returncode, ended.stderr, ended.stdout
-    except subprocess.TimeoutExpired:
-        end = "no end", b"", b""
+    end = judge.ended(command, script, SECONDS, env=refused, pass_fds=[writer])
     os.close(writer)
     was_refused = bool(os.read(reader, 1))
     os.close(reader)
@@ -139,7 +134,7 @@ def tried(name, command, script, library, is_whole, is_front):
                 break
             count += 1
             if not is_right(kind, way, end, is_whole, is_front):
-                wrong = wrong or f"{kind}, call {call} {way}: ended with {end[0]}"
+                wrong = wrong or f"{kind}, call {call} {way}: {judge.ending(end)}"
     found = f"wrong: {wrong}" if wrong else "all as they should be"
     print(f"{name}, {command[1]}: {count} refused calls, {found}", flush=True)
     return wrong is None
@@ -153,15 +148,16 @@ def tried_in_order(name, program, script, text, library):
 
 def tried_in_threads(name, program, script, library):
     """The same in threads, where a text is right if the model has it in this order."""
-    spelled = script.decode()
     return tried(name, [program, "run"], script, library,
-                 lambda end: threads.wrong_of(spelled, end) is None,
+                 lambda end: judge.wrong_in_threads(script, end) is None,
                  lambda front: not front or front.startswith(b"log "))
 
 
-def main(words):
+def main():
     """Runs all scripts."""
-    program = pathlib.Path(words[0] if words else PROGRAM).resolve()
+    parser = arguments.parser(__doc__)
+    arguments.add_program(parser)
+    program = arguments.found_program(parser, parser.parse_args())
     right = True
     with tempfile.TemporaryDirectory() as folder:
         library = built(pathlib.Path(folder))
@@ -174,4 +170,4 @@ def main(words):
 
 
 if __name__ == "__main__":
-    sys.exit(main(sys.argv[1:]))
+    sys.exit(main())

@@ -8,13 +8,12 @@ and its bell wasn't rung since. What comes next is drawn by chance: also whether
 until other turns have passed. After each turn, whoever sleeps unrung must have nothing to do; never
 may all that aren't done sleep unrung; and at the end all is over, or the run was stopped: in one of
 eight runs the memory of a turn is refused. It says how many runs ended so, and the first that
-didn't. With --without WORD a step with that head, or an item that came by that effect, calls nobody:
-then a missing ring must be found, but for the words attach, detach, tick and settle, whose own calls
-no run needs.
+didn't. With --without WORD a step with that head, or an item that came by that effect, calls
+nobody: then a missing ring must be found, but for the words attach, detach, tick and settle, whose
+own calls no run needs.
 
     bench/rings.py [COUNT [FIRST]] [--without WORD]     scripts of COUNT seeds, 200 if unsaid
 """
-import argparse
 import pathlib
 import random
 import sys
@@ -24,6 +23,7 @@ sys.dont_write_bytecode = True
 HERE = pathlib.Path(__file__).resolve().parent
 sys.path.insert(0, str(HERE / "model"))
 
+import arguments
 import random_script
 from journal import Journal
 from runs import Run
@@ -178,7 +178,7 @@ class Workers:
                 yield True
 
     def check(self, asleep):
-        """Whoever sleeps unrung, and isn't to be rung, has nothing to do, unless the run stopped."""
+        """Whoever sleeps unrung and isn't to be rung has nothing to do, unless the run stopped."""
         due = {place for places in self.late for place in places}
         for place in asleep:
             if place not in due and (self.stopped or self.has_work(place)):
@@ -209,7 +209,7 @@ class Workers:
 
 def main():
     """Plays the scripts of the seeds."""
-    given = argparse.ArgumentParser(description=__doc__.split("\n\n", maxsplit=1)[0])
+    given = arguments.parser(__doc__)
     given.add_argument("count", type=int, nargs="?", default=200)
     given.add_argument("first", type=int, nargs="?", default=1)
     given.add_argument("--without")

@@ -4,19 +4,18 @@
 Each line is a script, run under `serial`: the least processor seconds of some runs, from the
 program's start to the end of its text, with the whole work and with half of it, how many times as
 long the whole takes, and the most memory with each. Time that grows with the work alone makes that
-about 2, or less where starting counts. A run that isn't done is said, and the exit status is 1.
+about 2, or less where starting counts. Memory below that of Python, some 20 MB, is told as that. A
+run has a minute. One that isn't done is said, and the exit status is 1.
 
     bench/speeds.py [RUNS [PROGRAM]]       RUNS is 3 if unsaid
 """
-import os
-import pathlib
-import subprocess
 import sys
-import tempfile
 
 sys.dont_write_bytecode = True
 
-PROGRAM = pathlib.Path(__file__).resolve().parent.parent / "crates/linx_program/out/linx_program"
+import arguments
+import timed
+
 VERDICTS = {0: "L", 3: "R", 6: "S2"}
 
 
@@ -56,6 +55,32 @@ def queues(actors):
         lines += actor(f"p{k}", "n", "open a", *repeat(9990, "send self 5"),
                        *repeat(9990, "recv any"), "close")
     return lines
+
+
+def sends(count):
+    """One actor sends itself so many signals, and receives each at once."""
+    return ["node n", *actor("p", "n", "open a", *repeat(count, "send self 5", "recv any"))]
+
+
+def ring(rounds):
+    """64 actors; each waits so often for the one before it and then sends to the one behind it."""
+    lines = ["node n"]
+    for k in range(64):
+        begins = ["send next 1"] if k == 0 else []
+        lines += actor(f"p{k}", "n", f"open e{k}", f"hunt e{(k + 1) % 64}", "recv 251", "keep next",
+                       *begins, *repeat(rounds, "recv 1", "send next 1"))
+    return lines
+
+
+def alike(count):
+    """One actor sends itself so many equal signals of the largest size."""
+    return ["node n", *actor("p", "n", "open a", *repeat(count, "send self 1 fill:65532:5a"))]
+
+
+def unlike(count):
+    """The same of nearly that size, no two alike, so that each has a digest of its own."""
+    kinds = [f"send self 1 fill:{65_532 - k // 256}:{k % 256:02x}" for k in range(count)]
+    return ["node n", *actor("p", "n", "open a", *kinds)]
 
 
 def middle(count, selection):
@@ -127,48 +152,51 @@ LINES = [
     ("ping-pong over a window of 1", ping_pong(9990), ping_pong(4995)),
     ("a script of 1 MB", long_script(1_000_000), long_script(500_000)),
     ("the text of 200,000 steps with long data", long_data(10), long_data(5)),
+    ("20,000 sends and receives of one actor", sends(9998), sends(4999)),
+    ("64 actors in a ring, 200 or 100 rounds", ring(200), ring(100)),
+    ("511 or 255 signals of 65,532 bytes", alike(511), alike(255)),
+    ("as many of about that size, no two alike", unlike(511), unlike(255)),
 ]
 
 
-def once(program, words, given):
-    """The exit status, the processor seconds and the kilobytes of a run."""
-    given.seek(0)
-    ran = subprocess.Popen([program, *words], stdin=given, stdout=subprocess.DEVNULL)
-    _, status, used = os.wait4(ran.pid, 0)
-    ran.returncode = os.waitstatus_to_exitcode(status)
-    return ran.returncode, used.ru_utime + used.ru_stime, used.ru_maxrss
+def text_of(lines):
+    """The bytes of a script of these lines."""
+    return "".join(f"{line}\n" for line in lines).encode()
 
 
-def measured(program, words, lines, runs):
-    """The greatest exit status, the least seconds and the most kilobytes of some runs."""
-    with tempfile.TemporaryFile() as given:
-        given.write("".join(line + "\n" for line in lines or []).encode())
-        given.flush()
-        taken = list(zip(*(once(program, words, given) for _ in range(runs))))
-    return max(taken[0]), min(taken[1]), max(taken[2])
+def measured(command, script, runs):
+    """The least seconds of some runs, the most kilobytes, and how one ended that wasn't done."""
+    took = timed.several(command, script, runs)
+    return (min(ran.processor for ran in took), max(ran.kilobytes for ran in took),
+            timed.failure(took))
 
 
-def main(words):
+def measure(program, runs, name, whole, half):
+    """Prints a line; whether all runs were done."""
+    if whole is None:
+        seconds, size, failed = measured([program, "gen", "7"], b"", runs)
+        print(f"{name:44} {seconds:7.3f} s{'':17} {size:9} kB{failed}", flush=True)
+        return not failed
+    command = [program, "serial"]
+    seconds, size, failed = measured(command, text_of(whole), runs)
+    half_seconds, half_size, half_failed = measured(command, text_of(half), runs)
+    times = seconds / max(half_seconds, 0.000_001)
+    print(f"{name:44} {seconds:7.3f} s {half_seconds:7.3f} s {times:6.2f}"
+          f" {size:9} kB {half_size:9} kB{failed or half_failed}", flush=True)
+    return not failed and not half_failed
+
+
+def main():
     """Measures all lines."""
-    runs = int(words[0]) if words else 3
-    program = pathlib.Path(words[1] if len(words) > 1 else PROGRAM).resolve()
-    failed = 0
+    parser = arguments.parser(__doc__)
+    parser.add_argument("runs", type=arguments.count, nargs="?", default=3)
+    arguments.add_program(parser)
+    given = parser.parse_args()
+    program = arguments.found_program(parser, given)
     print(f"{'':44}     whole      half  times        whole         half")
-    for name, whole, half in LINES:
-        command = ["serial"] if whole else ["gen", "7"]
-        status, seconds, size = measured(program, command, whole, runs)
-        line = f"{name:44} {seconds:7.3f} s"
-        if half:
-            half_status, half_seconds, half_size = measured(program, command, half, runs)
-            status = max(status, half_status)
-            line += f" {half_seconds:7.3f} s {seconds / half_seconds:6.2f}"
-            line += f" {size:9} kB {half_size:9} kB"
-        else:
-            line += f"{'':17} {size:9} kB"
-        failed += status != 0
-        print(line + (f"   ended with {status}" if status else ""), flush=True)
-    return 1 if failed else 0
+    done = [measure(program, given.runs, *line) for line in LINES]
+    return 0 if all(done) else 1
 
 
 if __name__ == "__main__":
-    sys.exit(main(sys.argv[1:]))
+    sys.exit(main())

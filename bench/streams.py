@@ -2,7 +2,10 @@
 """Runs the built program on streams that fail, that end early or that move a few bytes at a time.
 
 Each row says how the run must end: its exit status, its line on standard error, and what the reader
-of its output has. Prints how many rows were as they should be, and each one that wasn't.
+of its output has. The texts are those that stand beside the examples or that bench/model writes,
+and of a script that is cut off the line is the first bad one by bench/model. Each run has ten
+seconds, and is ended with 124 then. Prints how many rows were as they should be, and each one that
+wasn't.
 
     bench/streams.py [PROGRAM]
 """
@@ -17,24 +20,36 @@ import tempfile
 
 sys.dont_write_bytecode = True
 
-HERE = pathlib.Path(__file__).resolve().parent
-PROGRAM = HERE.parent / "crates/linx_program/out/linx_program"
-EXAMPLE = HERE.parent / "examples/link.linx"
+import arguments
+import judge
+
+EXAMPLE = pathlib.Path(__file__).resolve().parent.parent / "examples/link.linx"
 SCRIPT, TEXT = EXAMPLE.read_bytes(), EXAMPLE.with_suffix(".txt").read_bytes()
 LARGE = b"node n\nactor p n\nopen a\nrepeat 9990\nsend self 5\nrecv any\nend\nend\n"
 SECONDS = 10
-LINES = {0: b"", 2: None, 3: b"linx_sim: read fault\n", 4: b"linx_sim: write fault\n"}
+READ_FAULT = 3, b"linx_sim: read fault\n", b""
+
+
+def write_fault(front):
+    """How a run ends where no more than this front of its text can be written."""
+    return 4, b"linx_sim: write fault\n", front
+
+
+def done(text):
+    """How a run ends that is done and has written this, or anything."""
+    return 0, b"", text
 
 
 def run(program, words, before=None, **streams):
-    """Starts the program; `before` is called in it before it begins."""
-    return subprocess.Popen([program, *words], stderr=subprocess.PIPE, preexec_fn=before, **streams)
+    """Starts the program for at most so many seconds; `before` is called before it begins."""
+    return subprocess.Popen(["timeout", str(SECONDS), program, *words], stderr=subprocess.PIPE,
+                            preexec_fn=before, **streams)
 
 
 def ended(started):
     """The exit status and the standard error of a started program."""
     said = started.stderr.read()
-    return started.wait(timeout=SECONDS), said
+    return started.wait(), said
 
 
 @contextlib.contextmanager
@@ -85,11 +100,10 @@ def never_ready(program, words):
 def fed(program, words, script, step):
     """Standard input is a pipe into which a few bytes come at a time; all of them, or a part."""
     started = run(program, words, stdin=subprocess.PIPE, stdout=subprocess.PIPE)
-    with contextlib.suppress(BrokenPipeError):
+    with contextlib.suppress(BrokenPipeError), started.stdin as given:
         for at in range(0, len(script), step):
-            started.stdin.write(script[at:at + step])
-            started.stdin.flush()
-    started.stdin.close()
+            given.write(script[at:at + step])
+            given.flush()
     text = started.stdout.read()
     return *ended(started), text
 
@@ -153,58 +167,51 @@ def never_taken(program, words):
     return *status, text
 
 
-def whole_text(program, script):
-    """What the program writes where nothing fails."""
-    return subprocess.run([program, "serial"], input=script, stdout=subprocess.PIPE,
-                          check=True).stdout
-
-
-def rows(program):
-    """Each row: its name, what it runs, the exit status, and what is written or None."""
-    whole = whole_text(program, LARGE)
-    word = ["serial"]
-    yield "input open for writing alone", lambda: write_only(program, word), 3, b""
-    yield "closed input", lambda: closed_input(program, word), 3, b""
-    yield "a directory as input", lambda: directory(program, word), 3, b""
-    yield "input that is never ready", lambda: never_ready(program, word), 3, b""
-    yield "a directory that isn't read", lambda: directory(program, ["gen", "7"]), 0, None
-    yield "closed input that isn't read", lambda: closed_input(program, ["gen", "7"]), 0, b""
+def input_rows(program):
+    """Each row of inputs: its name, what it runs, and how that must end."""
+    word, gen = ["serial"], ["gen", "7"]
+    yield "input open for writing alone", lambda: write_only(program, word), READ_FAULT
+    yield "closed input", lambda: closed_input(program, word), READ_FAULT
+    yield "a directory as input", lambda: directory(program, word), READ_FAULT
+    yield "input that is never ready", lambda: never_ready(program, word), READ_FAULT
+    yield "a directory that isn't read", lambda: directory(program, gen), done(None)
+    yield "closed input that isn't read", lambda: closed_input(program, gen), done(None)
     for step in (1, 2, 3, 100):
-        yield f"{step} bytes at a time", lambda n=step: fed(program, word, SCRIPT, n), 0, TEXT
-    for part in (len(SCRIPT) // 2, len(SCRIPT) - 5):
-        yield f"the first {part} bytes", lambda n=part: fed(program, word, SCRIPT[:n], 7), 2, b""
-    yield "closed output", lambda: closed_output(program, word), 4, b""
-    yield "output that takes nothing", lambda: full_output(program, word), 4, b""
-    yield "output open for reading alone", lambda: read_only(program, word), 4, b""
+        yield f"{step} bytes at a time", lambda n=step: fed(program, word, SCRIPT, n), done(TEXT)
+    for most in (len(SCRIPT) // 2, len(SCRIPT) - 5):
+        front = SCRIPT[:most]
+        yield (f"the first {most} bytes", lambda part=front: fed(program, word, part, 7),
+               judge.serial_end(front))
+
+
+def output_rows(program):
+    """Each row of outputs, in the same way."""
+    word, (_, _, whole) = ["serial"], judge.serial_end(LARGE)
+    yield "closed output", lambda: closed_output(program, word), write_fault(b"")
+    yield "output that takes nothing", lambda: full_output(program, word), write_fault(b"")
+    yield "output open for reading alone", lambda: read_only(program, word), write_fault(b"")
     for most in (0, 1, 1000, len(TEXT) - 1):
-        yield f"room for {most} bytes", lambda n=most: limited(program, word, n), 4, TEXT[:most]
-    yield "just room enough", lambda: limited(program, word, len(TEXT)), 0, TEXT
+        yield (f"room for {most} bytes", lambda n=most: limited(program, word, n),
+               write_fault(TEXT[:most]))
+    yield "just room enough", lambda: limited(program, word, len(TEXT)), done(TEXT)
     for most in (0, 1, 70_000):
-        front = whole[:most]
-        yield f"{most} bytes are read", lambda n=most: read_slowly(program, word, n), 4, front
-    yield "all is read slowly", lambda: read_slowly(program, word, len(whole) + 1), 0, whole
-    yield "output that is never taken", lambda: never_taken(program, word), 4, whole[:2**16]
+        yield (f"{most} bytes are read", lambda n=most: read_slowly(program, word, n),
+               write_fault(whole[:most]))
+    yield ("all is read slowly", lambda: read_slowly(program, word, len(whole) + 1),
+           done(whole))
+    yield ("output that is never taken", lambda: never_taken(program, word),
+           write_fault(whole[:2**16]))
 
 
-def fault(line, got, status, text):
-    """What is wrong with a row, or None."""
-    got_status, said, got_text = got
-    if got_status != status:
-        return f"ended with {got_status}, not with {status}"
-    if line is not None and said != line:
-        return f"said {said!r}"
-    if text is not None and got_text != text:
-        return f"wrote {len(got_text)} bytes, and not the {len(text)} that it should"
-    return None
-
-
-def main(words):
+def main():
     """Runs all rows."""
-    program = pathlib.Path(words[0] if words else PROGRAM).resolve()
+    parser = arguments.parser(__doc__)
+    arguments.add_program(parser)
+    program = arguments.found_program(parser, parser.parse_args())
     count, wrongs = 0, []
-    for name, runs, status, text in rows(program):
+    for name, runs, wanted in [*input_rows(program), *output_rows(program)]:
         count += 1
-        wrong = fault(LINES[status], runs(), status, text)
+        wrong = judge.difference(runs(), wanted)
         if wrong:
             wrongs.append(f"{name}: {wrong}")
     print(f"{count - len(wrongs)} of {count} rows of streams as they should be")
@@ -214,4 +221,4 @@ def main(words):
 
 
 if __name__ == "__main__":
-    sys.exit(main(sys.argv[1:]))
+    sys.exit(main())

@@ -1,26 +1,13 @@
 #!/usr/bin/env bash
-# What a call on the tables of names, hunts and attaches costs with 10, 1,000 and 100,000 entries that
-# it doesn't touch. The program that measures it is built in a copy of the crates, so that the gate
-# knows nothing of it.
+# What a call on the tables of names, hunts and attaches costs with entries that it doesn't touch:
+# COUNT of them, 100,000 if unsaid, a hundredth of these, and a hundredth of that. On each table a
+# fifth of COUNT calls is measured.
+#   bench/tables.sh [run|try [COUNT]]
 set -euo pipefail
-top="$(cd "$(dirname "$0")/.." && pwd)"
-work="$(mktemp -d)"
-trap 'rm -rf "$work"' EXIT
-mkdir -p "$work/crates/tables_bench/src"
-for crate in linx_base sorted_set keyed_list name_key name_table hunt_table attach_table; do
-    (cd "$top/crates" && tar cf - --exclude=out --exclude=must-fail "$crate") | tar xf - -C "$work/crates"
-done
-cat > "$work/crates.txt" <<'CRATES'
-linx_base:
-sorted_set: linx_base
-keyed_list: linx_base sorted_set
-name_key: linx_base arrayvec
-name_table: linx_base sorted_set keyed_list name_key arrayvec
-hunt_table: linx_base sorted_set keyed_list name_key arrayvec
-attach_table: linx_base sorted_set keyed_list
-tables_bench: linx_base sorted_set keyed_list name_key name_table hunt_table attach_table anyhow
-CRATES
-cat > "$work/crates/tables_bench/src/main.rt" <<'PROGRAM'
+# shellcheck source-path=SCRIPTDIR source=copied.sh
+. "$(dirname "$0")/copied.sh"
+begin tables_bench linx_base sorted_set keyed_list name_key name_table hunt_table attach_table
+cat > src/main.rt <<'PROGRAM'
 #![tactic(auto)]
 
 use anyhow::{Context, anyhow};
@@ -31,7 +18,11 @@ use name_table::NameTable;
 use std::alloc::Global;
 use std::time::Instant;
 
-const ROUNDS: u64 = 20_000;
+/// The most entries that aren't touched.
+const MOST: u64 = 100_000;
+
+/// The calls on a table that are measured together.
+const ROUNDS: u64 = MOST / 5;
 
 fn name(alloc: Global, k: u64) -> anyhow::Result<Name> {
     let text = format!(in alloc; "endpoint_{k}")?;
@@ -67,20 +58,24 @@ fn names(rt: &HostRuntime, entries: u64) -> anyhow::Result<()> {
     let alloc = rt.alloc();
     let mut table = NameTable::new(alloc);
     for k in 0..entries {
-        table.add(name(alloc, k)?, Inc(k)).map_err(|_| anyhow!("add"))?;
+        table
+            .add(name(alloc, k)?, Inc(k))
+            .map_err(|_| anyhow!("add"))?;
     }
     let sought = name(alloc, 1_000_000)?;
     let start = Instant::now(rt).context("clock")?;
     let mut found: u64 = 0;
     for round in 0..ROUNDS {
-        let inc = Inc(1_000_000 + round);
-        table.add(name(alloc, 1_000_000)?, inc).map_err(|_| anyhow!("add"))?;
+        let inc = Inc(round.saturating_add(1_000_000));
+        table
+            .add(name(alloc, 1_000_000)?, inc)
+            .map_err(|_| anyhow!("add"))?;
         if table.first(&sought).is_some() && table.name_of(inc).is_some() && table.remove(inc) {
             found = found.wrapping_add(1);
         }
     }
-    let spent = start.elapsed(rt).context("clock")?.as_nanos();
-    println!(rt; "{entries} names: {} ns an add, two looks and a removal, {found} found", spent / 20_000)?;
+    let spent = start.elapsed(rt).context("clock")?.as_nanos() / u128::from(ROUNDS.max(1));
+    println!(rt; "{entries} names: {spent} ns an add, two looks and a removal, {found} found")?;
     Ok(())
 }
 
@@ -95,7 +90,9 @@ fn hunts(rt: &HostRuntime, entries: u64) -> anyhow::Result<()> {
     let start = Instant::now(rt).context("clock")?;
     let mut found: u64 = 0;
     for round in 0..ROUNDS {
-        table.pend(hunt(alloc, 1_000_000)?).map_err(|_| anyhow!("pend"))?;
+        table
+            .pend(hunt(alloc, 1_000_000)?)
+            .map_err(|_| anyhow!("pend"))?;
         if table.nth_for(&sought, 0).is_some() && table.nth_over(LinkNo(0), 0).is_some() {
             found = found.wrapping_add(1);
         }
@@ -105,42 +102,51 @@ fn hunts(rt: &HostRuntime, entries: u64) -> anyhow::Result<()> {
             table.drop_of(Inc(1_000_000));
         }
     }
-    let spent = start.elapsed(rt).context("clock")?.as_nanos();
-    println!(rt; "{entries} hunts: {} ns a hunt, two looks and its end, {found} found", spent / 20_000)?;
+    let spent = start.elapsed(rt).context("clock")?.as_nanos() / u128::from(ROUNDS.max(1));
+    println!(rt; "{entries} hunts: {spent} ns a hunt, two looks and its end, {found} found")?;
     Ok(())
 }
 
-/// Each round attaches, looks at the attach, and takes it out in one of four ways.
+/// Each round attaches, looks at the attach, and takes it out in one of three ways.
 fn attaches(rt: &HostRuntime, entries: u64) -> anyhow::Result<()> {
     let alloc = rt.alloc();
     let mut table = AttachTable::new(alloc);
     for k in 0..entries {
         let signal = Signal::alloc(alloc, 252, b"")?;
-        table.attach(Inc(k), remote(k), signal, AttRef(k)).map_err(|_| anyhow!("attach"))?;
+        table
+            .attach(Inc(k), remote(k), signal, AttRef(k))
+            .map_err(|_| anyhow!("attach"))?;
     }
     let peer = remote(1_000_001);
     let start = Instant::now(rt).context("clock")?;
     let mut found: u64 = 0;
     for round in 0..ROUNDS {
-        let reference = AttRef(1_000_000 + round);
+        let reference = AttRef(round.saturating_add(1_000_000));
         let signal = Signal::alloc(alloc, 252, b"")?;
-        table.attach(Inc(1_000_000), peer, signal, reference).map_err(|_| anyhow!("attach"))?;
-        if table.nth_ended(peer, 0).is_some() && table.nth_lost(LinkNo(1), Session(1), 0).is_some() {
+        table
+            .attach(Inc(1_000_000), peer, signal, reference)
+            .map_err(|_| anyhow!("attach"))?;
+        let lost = table.nth_lost(LinkNo(1), Session(1), 0).is_some();
+        if table.nth_ended(peer, 0).is_some() && lost {
             found = found.wrapping_add(1);
         }
         match round % 3 {
-            0 => { table.detach(Inc(1_000_000), reference); }
-            1 => { table.next_ended(peer); }
+            0 => {
+                table.detach(Inc(1_000_000), reference);
+            }
+            1 => {
+                table.next_ended(peer);
+            }
             _ => table.drop_of(Inc(1_000_000)),
         }
     }
-    let spent = start.elapsed(rt).context("clock")?.as_nanos();
-    println!(rt; "{entries} attaches: {} ns an attach, two looks and its end, {found} found", spent / 20_000)?;
+    let spent = start.elapsed(rt).context("clock")?.as_nanos() / u128::from(ROUNDS.max(1));
+    println!(rt; "{entries} attaches: {spent} ns an attach, two looks and its end, {found} found")?;
     Ok(())
 }
 
 fn main(rt: HostRuntime) -> anyhow::Result<()> {
-    for entries in [10, 1_000, 100_000] {
+    for entries in [MOST / 10_000, MOST / 100, MOST] {
         names(&rt, entries)?;
         hunts(&rt, entries)?;
         attaches(&rt, entries)?;
@@ -148,5 +154,4 @@ fn main(rt: HostRuntime) -> anyhow::Result<()> {
     Ok(())
 }
 PROGRAM
-cd "$work/crates/tables_bench"
-rt run
+finish "$@"

@@ -1,33 +1,28 @@
 #!/usr/bin/env bash
-# How long the text of a full journal takes, by the number of incarnations in it, and that of large
-# signals, of which digests are printed, by how many kinds they are of. The program that measures it
-# is built in a copy of the crates, so that the gate knows nothing of it.
+# How long the text of a journal of COUNT steps takes, 200,000 if unsaid, by the number of
+# incarnations in it, and that of large signals, one for 400 or 800 of these steps, of which digests
+# are printed, by how many kinds they are of.
+#   bench/text.sh [run|try [COUNT]]
 set -euo pipefail
-top="$(cd "$(dirname "$0")/.." && pwd)"
-work="$(mktemp -d)"
-trap 'rm -rf "$work"' EXIT
-mkdir -p "$work/crates/text_bench/src"
-for crate in linx_base sigsel journal journal_text; do
-    (cd "$top/crates" && tar cf - --exclude=out --exclude=must-fail "$crate") | tar xf - -C "$work/crates"
-done
-cat > "$work/crates.txt" <<'CRATES'
-linx_base:
-sigsel: linx_base
-journal: linx_base sigsel
-journal_text: linx_base sigsel journal itoa hex sha2
-text_bench: linx_base sigsel journal journal_text anyhow
-CRATES
-cat > "$work/crates/text_bench/src/main.rt" <<'PROGRAM'
+# shellcheck source-path=SCRIPTDIR source=copied.sh
+. "$(dirname "$0")/copied.sh"
+begin text_bench linx_base sigsel journal journal_text
+cat > src/main.rt <<'PROGRAM'
 #![tactic(auto)]
 
 ghost use Rattle.std.specs.Prelude.{◌<◌, ◌≤◌};
 
 use anyhow::Context;
 use journal::{By, Effect, Effects, Head, Journal, SentTo, Step};
-use linx_base::{Blob, Inc, ItemAt, Name, NameList, Names, NoMemory, Peer, SigNote, TryCopy};
+use linx_base::{
+    Blob, Inc, ItemAt, Name, NameList, Names, NoMemory, NodeNo, Peer, SigNote, TryCopy,
+};
 use sigsel::Sigsel;
 use std::alloc::Global;
 use std::time::Instant;
+
+/// The steps of a journal.
+const MOST: u32 = 200_000;
 
 /// A small signal.
 fn small(alloc: Global) -> Result<SigNote, NoMemory> {
@@ -49,7 +44,7 @@ fn large(alloc: Global, kind: u32) -> anyhow::Result<SigNote> {
 }
 
 fn inc_of(actor: u32) -> Inc {
-    Inc(4_294_967_296 + actor as u64)
+    Inc::of(NodeNo(1), actor)
 }
 
 fn push(journal: &mut Journal, actor: u32, head: Head, effects: Effects) -> anyhow::Result<()> {
@@ -74,7 +69,12 @@ fn send(alloc: Global, journal: &mut Journal, actor: u32, note: SigNote) -> anyh
     let arrived = note.copy().context("note")?;
     let mut effects = Vec::new(alloc);
     effects.push(Effect::Arrived(inc_of(actor), me, arrived))?;
-    push(journal, actor, Head::Send(me, note, SentTo::Queued), Effects::of(effects))
+    push(
+        journal,
+        actor,
+        Head::Send(me, note, SentTo::Queued),
+        Effects::of(effects),
+    )
 }
 
 fn take(alloc: Global, journal: &mut Journal, actor: u32) -> anyhow::Result<()> {
@@ -82,12 +82,19 @@ fn take(alloc: Global, journal: &mut Journal, actor: u32) -> anyhow::Result<()> 
         step: journal.len(),
         place: 1,
     };
-    push(journal, actor, Head::Take(Sigsel::Any, position), Effects::new(alloc))
+    push(
+        journal,
+        actor,
+        Head::Take(Sigsel::Any, position),
+        Effects::new(alloc),
+    )
 }
 
 fn empty_journal(alloc: Global) -> anyhow::Result<Journal> {
     let mut nodes = NameList::new(alloc);
-    nodes.push(Name::of(alloc, b"node").context("name")?).context("names")?;
+    nodes
+        .push(Name::of(alloc, b"node").context("name")?)
+        .context("names")?;
     let names = Names {
         nodes,
         links: NameList::new(alloc),
@@ -95,7 +102,7 @@ fn empty_journal(alloc: Global) -> anyhow::Result<Journal> {
     Ok(Journal::new(alloc, names))
 }
 
-/// A journal of 200,000 steps: each incarnation is opened, and then sends to itself and receives.
+/// A journal of so many steps: each incarnation is opened, and then sends to itself and receives.
 fn full_journal(alloc: Global, incarnations: u32) -> anyhow::Result<Journal>
     requires some { 0 < incarnations }
     requires bounded { incarnations ≤ 1000 }
@@ -104,7 +111,7 @@ fn full_journal(alloc: Global, incarnations: u32) -> anyhow::Result<Journal>
     for actor in 1..incarnations + 1 {
         open(alloc, &mut journal, actor)?;
     }
-    for pair in 0..(200_000 - incarnations) / 2 {
+    for pair in 0..MOST.saturating_sub(incarnations) / 2 {
         let actor = pair % incarnations + 1;
         send(alloc, &mut journal, actor, small(alloc).context("note")?)?;
         take(alloc, &mut journal, actor)?;
@@ -135,9 +142,12 @@ fn main(rt: HostRuntime) -> anyhow::Result<()> {
     for incarnations in [1, 10, 100, 1_000] {
         let journal = full_journal(rt.alloc(), incarnations)?;
         let spent = measure(&rt, &journal)?;
-        println!(rt; "{} steps, {incarnations} incarnations: {spent} ms", journal.len())?;
+        println!(rt;
+            "{} steps, {incarnations} incarnations: {spent} ms",
+            journal.len()
+        )?;
     }
-    for signals in [255, 511] {
+    for signals in [MOST / 800, MOST / 400] {
         for kinds in [1, 2, signals] {
             let spent = measure(&rt, &large_journal(rt.alloc(), signals, kinds)?)?;
             println!(rt; "{signals} signals of 65532 bytes of {kinds} kinds: {spent} ms")?;
@@ -146,5 +156,4 @@ fn main(rt: HostRuntime) -> anyhow::Result<()> {
     Ok(())
 }
 PROGRAM
-cd "$work/crates/text_bench"
-rt "${1:-run}"
+finish "$@"

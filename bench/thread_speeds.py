@@ -3,24 +3,21 @@
 
 Each line is a script: the least elapsed seconds of some runs, and the processor seconds of that
 run, under `serial` and under `run` (of the generated load: under `gen 7`). The waiting actors wait
-for what comes at the end alone, so they should cost next to nothing. A run that isn't done is said,
-and the exit status is 1.
+for what comes at the end alone, so they should cost next to nothing. A run has a minute. One that
+isn't done is said, and the exit status is 1.
 
     bench/thread_speeds.py [RUNS [PROGRAM]]       RUNS is 10 if unsaid
 """
-import os
 import pathlib
-import subprocess
 import sys
-import tempfile
-import time
 
 sys.dont_write_bytecode = True
 
-from speeds import actor, load, ping_pong, queues, repeat
+import arguments
+import timed
+from speeds import actor, load, ping_pong, queues, repeat, text_of
 
-TOP = pathlib.Path(__file__).resolve().parent.parent
-PROGRAM = TOP / "crates/linx_program/out/linx_program"
+EXAMPLES = pathlib.Path(__file__).resolve().parent.parent / "examples"
 
 
 def crowd():
@@ -50,52 +47,36 @@ LINES = [
 ]
 
 
-def once(program, words, given):
-    """The elapsed and the processor seconds of a run, and its exit status."""
-    given.seek(0)
-    began = time.monotonic()
-    ran = subprocess.Popen([program, *words], stdin=given, stdout=subprocess.DEVNULL)
-    _, status, used = os.wait4(ran.pid, 0)
-    elapsed = time.monotonic() - began
-    ran.returncode = os.waitstatus_to_exitcode(status)
-    return elapsed, used.ru_utime + used.ru_stime, ran.returncode
+def measured(command, script, runs):
+    """The fastest of some runs, as it is printed, and how one ended that wasn't done."""
+    took = timed.several(command, script, runs)
+    fastest = min(took, key=lambda ran: ran.elapsed)
+    return f" {fastest.elapsed:9.4f} {fastest.processor:9.4f}", timed.failure(took)
 
 
-def measured(program, words, text, runs):
-    """The fastest of some runs, and the greatest exit status."""
-    with tempfile.TemporaryFile() as given:
-        given.write(text)
-        given.flush()
-        taken = [once(program, words, given) for _ in range(runs)]
-    return min(taken)[:2], max(status for *_, status in taken)
-
-
-def measure(program, name, text, words, runs):
+def measure(program, runs, name, script, words):
     """Prints a line; whether all runs were done."""
-    serial, first = measured(program, ["serial"], text, runs)
-    threads, second = measured(program, words, text, runs)
-    line = f"{name:44}"
-    for elapsed, used in serial, threads:
-        line += f" {elapsed:9.4f} {used:9.4f}"
-    status = max(first, second)
-    print(line + (f"   ended with {status}" if status else ""), flush=True)
-    return status == 0
+    serial, failed = measured([program, "serial"], script, runs)
+    threads, also_failed = measured([program, *words], script, runs)
+    print(f"{name:44}{serial}{threads}{failed or also_failed}", flush=True)
+    return not failed and not also_failed
 
 
-def main(words):
+def main():
     """Measures all lines, and the examples one by one."""
-    runs = int(words[0]) if words else 10
-    program = pathlib.Path(words[1] if len(words) > 1 else PROGRAM).resolve()
+    parser = arguments.parser(__doc__)
+    parser.add_argument("runs", type=arguments.count, nargs="?", default=10)
+    arguments.add_program(parser)
+    given = parser.parse_args()
+    program = arguments.found_program(parser, given)
     print(f"{'':44}         serial             threads\n{'seconds':44}"
           f"   elapsed processor   elapsed processor")
-    done = True
-    for name, lines, command in LINES:
-        text = "".join(line + "\n" for line in lines).encode()
-        done = measure(program, name, text, command, runs) and done
-    for file in sorted((TOP / "examples").glob("*.linx")):
-        done = measure(program, f"examples/{file.name}", file.read_bytes(), ["run"], runs) and done
-    return 0 if done else 1
+    lines = [(name, text_of(script), words) for name, script, words in LINES]
+    lines += [(f"examples/{file.name}", file.read_bytes(), ["run"])
+              for file in sorted(EXAMPLES.glob("*.linx"))]
+    done = [measure(program, given.runs, *line) for line in lines]
+    return 0 if all(done) else 1
 
 
 if __name__ == "__main__":
-    sys.exit(main(sys.argv[1:]))
+    sys.exit(main())

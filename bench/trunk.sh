@@ -1,24 +1,14 @@
 #!/usr/bin/env bash
 # What a signal of 100 bytes costs on its way over a trunk, in memory: said, recorded, cut, sent,
-# taken, joined, read, recorded again and acknowledged. The second half of the signals is measured by
-# itself too: it costs what the first half does, however much was said before. The program that
-# measures it is built in a copy of the crates, so that the gate knows nothing of it.
-# `bench/trunk.sh try 400` builds it unproved and checked, which is slow, and sends so many signals:
-# there only the ratios mean something.
+# taken, joined, read, recorded again and acknowledged. The second half of the signals is measured
+# by itself too: it costs what the first half does, however much was said before. COUNT signals are
+# sent, 100,000 if unsaid.
+#   bench/trunk.sh [run|try [COUNT]]
 set -euo pipefail
-top="$(cd "$(dirname "$0")/.." && pwd)"
-work="$(mktemp -d)"
-trap 'rm -rf "$work"' EXIT
-mkdir -p "$work/crates/trunk_bench/src"
-crates="linx_base sorted_set keyed_list name_key lossy_wire fragmenter ethcm_window link_supervisor
-    ethcm_session ethcm_headers ethcm_end carrier rlnh_messages link_addresses trunk_record rlnh_end
-    rlnh_laws trunk"
-for crate in $crates; do
-    (cd "$top/crates" && tar cf - --exclude=out --exclude=must-fail "$crate") | tar xf - -C "$work/crates"
-    grep "^$crate:" "$top/crates.txt" >> "$work/crates.txt"
-done
-echo "trunk_bench: linx_base carrier trunk anyhow" >> "$work/crates.txt"
-cat > "$work/crates/trunk_bench/src/main.rt" <<'PROGRAM'
+# shellcheck source-path=SCRIPTDIR source=copied.sh
+. "$(dirname "$0")/copied.sh"
+begin trunk_bench linx_base carrier trunk
+cat > src/main.rt <<'PROGRAM'
 #![tactic(auto)]
 
 use anyhow::Context;
@@ -76,7 +66,14 @@ fn connected(alloc: Global, window: u32, inc: Inc, name: &Name) -> anyhow::Resul
 
 /// So many signals go from an endpoint of the first side to one of the second, eight at a time. The
 /// answer is how many arrived.
-fn send(t: &mut Trunk, from: Inc, name: &Name, to: Inc, signal: &Signal, count: u32) -> anyhow::Result<u32> {
+fn send(
+    t: &mut Trunk,
+    from: Inc,
+    name: &Name,
+    to: Inc,
+    signal: &Signal,
+    count: u32,
+) -> anyhow::Result<u32> {
     let mut arrived: u32 = 0;
     for k in 0..count {
         if t.frames_left(Side::First) >= 4_096 && t.may_send(Side::First, from, name, to, signal) {
@@ -99,7 +96,7 @@ fn measured(rt: &HostRuntime, window: u32, count: u32) -> anyhow::Result<()> {
         let start = Instant::now(rt).context("clock")?;
         let arrived = send(&mut t, from, &name, to, &signal, count / 2)?;
         let spent = start.elapsed(rt).context("clock")?.as_nanos() / (u128::from(count) / 2).max(1);
-        println!(rt; "window {window}, {half} half of {count} signals: {spent} ns a signal, {arrived} arrived")?;
+        println!(rt; "window {window}, {half} half of {count}: {spent} ns, {arrived} arrived")?;
     }
     Ok(())
 }
@@ -115,6 +112,4 @@ fn main(rt: HostRuntime) -> anyhow::Result<()> {
     Ok(())
 }
 PROGRAM
-sed -i "s/MOST: u32 = 100_000/MOST: u32 = ${2:-100_000}/" "$work/crates/trunk_bench/src/main.rt"
-cd "$work/crates/trunk_bench"
-rt "${1:-run}"
+finish "$@"

@@ -1,5 +1,5 @@
 """The text: the journal of all steps, and the log of each incarnation."""
-from values import Refused, Signal
+from values import Full, Signal
 
 MOST_STEPS = 200_000
 MOST_NOTED = 67_108_864
@@ -24,7 +24,7 @@ class Journal:
     def want_room(self):
         """Refuses a turn where the journal is full."""
         if self.steps >= MOST_STEPS or self.noted >= MOST_NOTED:
-            raise Refused("journal full")
+            raise Full("journal full")
 
     def line(self, words):
         """The words as a line; the signals among them are counted."""

@@ -60,6 +60,8 @@ class Run:
             made = self.journal.steps
             if made >= len(makers):
                 raise Refused(f"not over after {made} steps")
+            if makers[made] not in turns:
+                raise Refused(f"nobody is {makers[made]}, the maker of step {made + 1}")
             turns[makers[made]](self.journal)
             if self.journal.steps == made:
                 raise Refused(f"{makers[made]} makes no step {made + 1}")

@@ -7,6 +7,10 @@ class Refused(Exception):
     """Why the model writes no text for a script."""
 
 
+class Full(Refused):
+    """The journal is full, and somebody has a turn to take."""
+
+
 class Incarnation(NamedTuple):
     """An opening of an endpoint: the number of the node, and which opening on it."""
 

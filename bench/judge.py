@@ -1,0 +1,97 @@
+"""How a run of the program must end, by bench/model and its rules of docs/script.md.
+
+An end is an exit status, what was said on standard error and what was written. The status is None
+where the run didn't end in its time and was stopped.
+"""
+import os
+import pathlib
+import subprocess
+import sys
+
+sys.path.insert(0, str(pathlib.Path(__file__).resolve().parent / "model"))
+
+from lines import first_bad_line
+from runs import Run
+from script import parse
+from values import Full, Refused
+
+FULL = 5, b"linx_sim: journal full\n", b""
+
+
+def ended(command, script, seconds, **options):
+    """How a command ends on these bytes, at most so many seconds after it began."""
+    try:
+        ran = subprocess.run(command, input=script, capture_output=True, timeout=seconds,
+                             check=False, **options)
+    except subprocess.TimeoutExpired:
+        return None, b"", b""
+    return ran.returncode, ran.stderr, ran.stdout
+
+
+def is_script(script):
+    """Whether these bytes are a script."""
+    return first_bad_line(script) is None
+
+
+def model_of(script):
+    """The model's run of a script, before its first turn."""
+    return Run(parse(script.decode("ascii")))
+
+
+def serial_end(script):
+    """How `serial` must end on these bytes."""
+    bad = first_bad_line(script)
+    if bad is not None:
+        return 2, b"linx_sim: script line %d\n" % bad, b""
+    try:
+        return 0, b"", model_of(script).play().encode()
+    except Full:
+        return FULL
+
+
+def ending(end):
+    """How a run ended, in words."""
+    return "didn't end in its time" if end[0] is None else f"ended with {end[0]}"
+
+
+def difference(end, wanted):
+    """What is wrong with an end where another is wanted, or None; a wanted text of None is any."""
+    status, said, text = wanted
+    if end[0] != status:
+        return f"{ending(end)}, and should have with {status}"
+    if end[1] != said:
+        return f"said {end[1]!r}, not {said!r}"
+    if text is not None and end[2] != text:
+        same = len(os.path.commonprefix([end[2], text]))
+        return f"wrote {len(end[2])} bytes in place of {len(text)}, right up to byte {same}"
+    return None
+
+
+def wrong_in_order(script, end):
+    """What is wrong with how `serial` ended on these bytes, or None."""
+    try:
+        return difference(end, serial_end(script))
+    except Refused as reason:
+        return f"the model refuses the script: {reason}"
+
+
+def makers_of(text):
+    """Who made each step of a text's journal."""
+    lines = text[text.find("journal "):].split("\n")[1:-1] if text else []
+    return [line.partition(" ")[2].partition(" ")[0] for line in lines if not line.startswith("+ ")]
+
+
+def wrong_in_threads(script, end):
+    """What is wrong with how `run` ended on these bytes of a script, or None.
+
+    The text must be the one of the model that takes its turns in the order of this text's journal.
+    A full journal isn't written, so it has no order that is known: it is right where the model's
+    is full in the fixed order.
+    """
+    if end[:2] != (0, b""):
+        return wrong_in_order(script, end)
+    try:
+        text = model_of(script).replay(makers_of(end[2].decode("ascii", "replace")))
+    except Refused as reason:
+        return str(reason)
+    return None if text.encode() == end[2] else "its text isn't the model's in this order"
