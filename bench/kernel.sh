@@ -11,148 +11,176 @@ begin kernel_bench $(stands_on node_kernel) node_kernel
 cat > src/main.rt <<'PROGRAM'
 #![tactic(auto)]
 
-ghost use Rattle.std.specs.Prelude.{◌<◌, ◌≤◌};
-
 use anyhow::Context;
-use journal::{By, Effect, Effects, Head, Journal, SentTo, Step};
-use linx_base::{
-    Blob, Inc, ItemAt, Name, NameList, Names, NoMemory, NodeNo, Peer, SigNote, TryCopy,
-};
-use sigsel::Sigsel;
+use linx_base::{AttRef, Inc, Name, NodeNo, Path, Peer, Signal};
+use node_kernel::Kernel;
 use std::alloc::Global;
 use std::time::Instant;
 
-/// The steps of a journal.
-const MOST: u32 = 200_000;
+/// The most hunts, and as many attaches, that are pending.
+const MOST: u64 = 100_000;
 
-/// A small signal.
-fn small(alloc: Global) -> Result<SigNote, NoMemory> {
-    Ok(SigNote {
-        number: 5,
-        bytes: Blob::of(alloc, b"8 bytes.")?,
-    })
+/// The calls of a kind that are measured together.
+const ROUNDS: u64 = MOST / 100;
+
+/// The name of a number.
+fn name(alloc: Global, number: u64) -> anyhow::Result<Name> {
+    let text = format!(in alloc; "n{number}")?;
+    Name::of(alloc, text.as_bytes()).context("name")
 }
 
-/// A signal of the largest size, unlike those of another kind. It shares no bytes with any other.
-fn large(alloc: Global, kind: u32) -> anyhow::Result<SigNote> {
-    let mut bytes = Vec::new(alloc);
-    bytes.extend_from_slice(&kind.to_be_bytes())?;
-    bytes.resize(65_532, 0x5a)?;
-    Ok(SigNote {
-        number: 1,
-        bytes: Blob::shared(bytes).context("large signal")?,
-    })
+fn opened(alloc: Global, kernel: &mut Kernel, number: u64) -> anyhow::Result<Inc> {
+    let name = name(alloc, number)?;
+    if kernel.openings() > 1_000_000 {
+        return Err(anyhow::anyhow!("too many"));
+    }
+    match kernel.open(name, 1) {
+        Ok(opened) => Ok(opened.inc),
+        Err(_) => Err(anyhow::anyhow!("opening")),
+    }
 }
 
-fn inc_of(actor: u32) -> Inc {
-    Inc::of(NodeNo(1), actor)
-}
-
-fn push(journal: &mut Journal, actor: u32, head: Head, effects: Effects) -> anyhow::Result<()> {
-    journal.reserve(1).context("reserve")?;
-    journal.push(Step {
-        by: By::Actor(actor),
-        head,
-        effects,
-    });
+fn closed(kernel: &mut Kernel, at: Inc) -> anyhow::Result<()> {
+    if !kernel.is_open(at) {
+        return Err(anyhow::anyhow!("closed"));
+    }
+    kernel.close(at, 1).context("close")?;
     Ok(())
 }
 
-fn open(alloc: Global, journal: &mut Journal, actor: u32) -> anyhow::Result<()> {
-    let mut effects = Vec::new(alloc);
-    effects.push(Effect::Opened(inc_of(actor)))?;
-    let name = Name::of(alloc, b"endpoint").context("name")?;
-    push(journal, actor, Head::Open(name), Effects::of(effects))
-}
-
-fn send(alloc: Global, journal: &mut Journal, actor: u32, note: SigNote) -> anyhow::Result<()> {
-    let me = Peer::Here(inc_of(actor));
-    let arrived = note.copy().context("note")?;
-    let mut effects = Vec::new(alloc);
-    effects.push(Effect::Arrived(inc_of(actor), me, arrived))?;
-    push(
-        journal,
-        actor,
-        Head::Send(me, note, SentTo::Queued),
-        Effects::of(effects),
-    )
-}
-
-fn take(alloc: Global, journal: &mut Journal, actor: u32) -> anyhow::Result<()> {
-    let position = ItemAt {
-        step: journal.len(),
-        place: 1,
-    };
-    push(
-        journal,
-        actor,
-        Head::Take(Sigsel::Any, position),
-        Effects::new(alloc),
-    )
-}
-
-fn empty_journal(alloc: Global) -> anyhow::Result<Journal> {
-    let mut nodes = NameList::new(alloc);
-    nodes
-        .push(Name::of(alloc, b"node").context("name")?)
-        .context("names")?;
-    let names = Names {
-        nodes,
-        links: NameList::new(alloc),
-    };
-    Ok(Journal::new(alloc, names))
-}
-
-/// A journal of so many steps: each incarnation is opened, and then sends to itself and receives.
-fn full_journal(alloc: Global, incarnations: u32) -> anyhow::Result<Journal>
-    requires some { 0 < incarnations }
-    requires bounded { incarnations ≤ 1000 }
-{
-    let mut journal = empty_journal(alloc)?;
-    for actor in 1..incarnations + 1 {
-        open(alloc, &mut journal, actor)?;
+fn hunt(alloc: Global, kernel: &mut Kernel, at: Inc, number: u64) -> anyhow::Result<()> {
+    let path = Path::Local(name(alloc, number)?);
+    let signal = Signal::alloc(alloc, 251, b"").context("signal")?;
+    if !kernel.is_open(at) {
+        return Err(anyhow::anyhow!("closed"));
     }
-    for pair in 0..MOST.saturating_sub(incarnations) / 2 {
-        let actor = pair % incarnations + 1;
-        send(alloc, &mut journal, actor, small(alloc).context("note")?)?;
-        take(alloc, &mut journal, actor)?;
+    match kernel.hunt(at, path, signal, number) {
+        Ok(_) => Ok(()),
+        Err(_) => Err(anyhow::anyhow!("hunt")),
     }
-    Ok(journal)
 }
 
-/// A journal of so many large signals of so many kinds in turn, each sent to oneself and received.
-fn large_journal(alloc: Global, count: u32, kinds: u32) -> anyhow::Result<Journal> {
-    let mut journal = empty_journal(alloc)?;
-    open(alloc, &mut journal, 1)?;
-    for number in 0..count {
-        let kind = number.checked_rem(kinds).unwrap_or(0);
-        send(alloc, &mut journal, 1, large(alloc, kind)?)?;
-        take(alloc, &mut journal, 1)?;
+fn attach(alloc: Global, kernel: &mut Kernel, at: Inc, to: Inc, r: u64) -> anyhow::Result<()> {
+    let signal = Signal::alloc(alloc, 252, b"").context("signal")?;
+    if !kernel.is_open(at) || signal.bytes().len() > 100 {
+        return Err(anyhow::anyhow!("closed"));
     }
-    Ok(journal)
+    match kernel.attach(at, Peer::Here(to), signal, AttRef(r)) {
+        Ok(_) => Ok(()),
+        Err(_) => Err(anyhow::anyhow!("attach")),
+    }
 }
 
-/// The milliseconds that the text of a journal takes.
-fn measure(rt: &HostRuntime, journal: &Journal) -> anyhow::Result<u128> {
+fn detach(kernel: &mut Kernel, at: Inc, r: u64) -> anyhow::Result<()> {
+    if !kernel.is_open(at) {
+        return Err(anyhow::anyhow!("closed"));
+    }
+    let _ = kernel.detach(at, AttRef(r));
+    Ok(())
+}
+
+/// Tells how long a round took.
+fn tell(rt: &HostRuntime, start: Instant, pending: u64, what: &str) -> anyhow::Result<()> {
+    let spent = start.elapsed(rt).context("clock")?.as_nanos();
+    println!(rt;
+        "{pending} pending: {} ns {what}",
+        spent / u128::from(ROUNDS.max(1))
+    )?;
+    Ok(())
+}
+
+/// Leaves so many hunts and attaches pending at an endpoint.
+fn leave(alloc: Global, kernel: &mut Kernel, a: Inc, b: Inc, pending: u64) -> anyhow::Result<()> {
+    for k in 0..pending {
+        hunt(alloc, kernel, a, k.saturating_add(1_000_000))?;
+        attach(alloc, kernel, a, b, k)?;
+    }
+    Ok(())
+}
+
+fn hunts(rt: &HostRuntime, kernel: &mut Kernel, b: Inc, pending: u64) -> anyhow::Result<()> {
     let start = Instant::now(rt).context("clock")?;
-    journal_text::text(rt.alloc(), journal).context("text")?;
-    Ok(start.elapsed(rt).context("clock")?.as_millis())
+    for k in 0..ROUNDS {
+        hunt(rt.alloc(), kernel, b, k.saturating_add(2_000_000))?;
+    }
+    tell(rt, start, pending, "a hunt")
+}
+
+fn attaches(
+    rt: &HostRuntime,
+    kernel: &mut Kernel,
+    a: Inc,
+    b: Inc,
+    pending: u64,
+) -> anyhow::Result<()> {
+    let start = Instant::now(rt).context("clock")?;
+    for k in 0..ROUNDS {
+        attach(rt.alloc(), kernel, b, a, k.saturating_add(2_000_000))?;
+    }
+    tell(rt, start, pending, "an attach")
+}
+
+fn detaches(rt: &HostRuntime, kernel: &mut Kernel, b: Inc, pending: u64) -> anyhow::Result<()> {
+    let start = Instant::now(rt).context("clock")?;
+    for k in 0..ROUNDS {
+        detach(kernel, b, k.saturating_add(2_000_000))?;
+    }
+    tell(rt, start, pending, "a detach")
+}
+
+fn answers(rt: &HostRuntime, kernel: &mut Kernel, pending: u64) -> anyhow::Result<()> {
+    let start = Instant::now(rt).context("clock")?;
+    for k in 0..ROUNDS {
+        let found = opened(rt.alloc(), kernel, k.saturating_add(2_000_000))?;
+        closed(kernel, found)?;
+    }
+    tell(
+        rt,
+        start,
+        pending,
+        "an opening that answers a hunt, and its closing",
+    )
+}
+
+fn notices(rt: &HostRuntime, kernel: &mut Kernel, b: Inc, pending: u64) -> anyhow::Result<()> {
+    let start = Instant::now(rt).context("clock")?;
+    for k in 0..ROUNDS {
+        let c = opened(rt.alloc(), kernel, 2)?;
+        attach(rt.alloc(), kernel, b, c, k.saturating_add(3_000_000))?;
+        closed(kernel, c)?;
+    }
+    tell(
+        rt,
+        start,
+        pending,
+        "an opening, an attach and a closing that notifies",
+    )
+}
+
+fn all_notices(rt: &HostRuntime, kernel: &mut Kernel, b: Inc, pending: u64) -> anyhow::Result<()> {
+    let start = Instant::now(rt).context("clock")?;
+    closed(kernel, b)?;
+    let spent = start.elapsed(rt).context("clock")?.as_nanos() / u128::from(pending.max(1));
+    println!(rt; "{pending} pending: {spent} ns a notification of all")?;
+    Ok(())
+}
+
+fn measured(rt: &HostRuntime, pending: u64) -> anyhow::Result<()> {
+    let mut kernel = Kernel::new(rt.alloc(), NodeNo(1));
+    let a = opened(rt.alloc(), &mut kernel, 0)?;
+    let b = opened(rt.alloc(), &mut kernel, 1)?;
+    leave(rt.alloc(), &mut kernel, a, b, pending)?;
+    hunts(rt, &mut kernel, b, pending)?;
+    attaches(rt, &mut kernel, a, b, pending)?;
+    detaches(rt, &mut kernel, b, pending)?;
+    answers(rt, &mut kernel, pending)?;
+    notices(rt, &mut kernel, b, pending)?;
+    all_notices(rt, &mut kernel, b, pending)
 }
 
 fn main(rt: HostRuntime) -> anyhow::Result<()> {
-    for incarnations in [1, 10, 100, 1_000] {
-        let journal = full_journal(rt.alloc(), incarnations)?;
-        let spent = measure(&rt, &journal)?;
-        println!(rt;
-            "{} steps, {incarnations} incarnations: {spent} ms",
-            journal.len()
-        )?;
-    }
-    for signals in [MOST / 800, MOST / 400] {
-        for kinds in [1, 2, signals] {
-            let spent = measure(&rt, &large_journal(rt.alloc(), signals, kinds)?)?;
-            println!(rt; "{signals} signals of 65532 bytes of {kinds} kinds: {spent} ms")?;
-        }
+    for pending in [MOST / 10_000, MOST / 100, MOST] {
+        measured(&rt, pending)?;
     }
     Ok(())
 }
