@@ -7,8 +7,8 @@ use Rattle.linx_base.specs.declared.frame.SentFrame.{SentFrame}
 use Rattle.ethcm_window.specs.Sending.{number_limit}
 use Rattle.ethcm_window.specs.Receiving.{KeepsInOrder}
 
--- the first `gone` frames were acknowledged since the event began, and those behind the first
--- `old_len` were offered since then
+-- the first `gone` frames were acknowledged, or dropped by `begin`, since the event began, and
+-- those behind the first `old_len` were offered since then
 pub record SharesFrames (frames : List Frame) (gone base old_len old_base : ℕ) : Type 0 where
   pub gone_within : gone ≤ length frames
   pub old_within : old_len ≤ length frames
@@ -20,8 +20,8 @@ abbrev pub without_put : {X : Type 0} → List ℕ → List X → List X
 without_put [] xs = xs
 without_put (place ∷ places) xs = remove (without_put places xs) place
 
--- the first `gone` kept frames were taken since the event began, and those at the places `put` came
--- since then
+-- the first `gone` kept frames were taken, or dropped by `begin`, since the event began, and those
+-- at the places `put` came since then
 pub record SharesKept (kept : List SentFrame) (put : List ℕ) (gone expected old_expected : ℕ)
     : Type 0 where
   pub gone_within : gone ≤ length kept

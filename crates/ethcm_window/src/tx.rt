@@ -18,10 +18,11 @@ use std::marker::Model;
 pub struct Tx {
     window: u32,
     base: u32,
-    /// What was and what is share the queue: an acknowledged frame stays in it until the event is
+    /// What was and what is share the queue: a frame that is gone stays in it until the event is
     /// kept.
     frames: VecDeque<Frame>,
-    /// How many of the first frames were acknowledged since the event began.
+    /// How many of the first frames were acknowledged, or dropped by `begin`, since the event
+    /// began.
     gone: usize,
     old_base: u32,
     old_len: usize,
@@ -168,6 +169,7 @@ impl Tx {
         ensures { IfOk result (λ sent. sent ≡ unacknowledged self.now.is) }
     {
         let sent = self.sent();
+        // Each frame has a number.
         let _ = self.len();
         numbered(self.base, &self.frames, self.gone, sent)
     }
@@ -176,6 +178,7 @@ impl Tx {
     pub fn resend(&self, next: u32, count: u32) -> Result<SentFrames, NoMemory>
         ensures { IfOk result (λ again. again ≡ sent_again self.now.is next count) }
     {
+        // Each frame has a number.
         let _ = self.len();
         let sent = self.sent();
         let from = sent.min(next.saturating_sub(self.base) as usize);

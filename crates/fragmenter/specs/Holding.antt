@@ -7,7 +7,7 @@ use Rattle.linx_base.specs.Frames.{payload_of}
 use Rattle.fragmenter.specs.declared.joiner.Joined.TheVariants.{More, Whole, Broken}
 use Rattle.fragmenter.specs.declared.joiner.Progress.{Progress}
 use Rattle.fragmenter.specs.declared.joiner.Fate.{Fate}
-use Rattle.fragmenter.specs.declared.joiner.Fate.TheVariants.{GoesOn, IsWhole, IsBroken}
+use Rattle.fragmenter.specs.declared.joiner.Fate.TheVariants.{GoesOn, Completes, Breaks}
 use Rattle.fragmenter.specs.Joining.{Begun, answer_of, held_after}
 
 -- the bytes of some pieces, joined
@@ -29,8 +29,8 @@ Counts (Some p) parts = (p.came ≡ length (joined parts)) × (p.came < p.size)
 -- a payload of this many bytes goes on with a message, is its last piece, or breaks it
 abbrev pub judged_by : Progress → Bool → ℕ → Fate
 judged_by p true count =
-    if nat_lt (p.came + count) p.size then GoesOn (record p { came = p.came + count }) else IsBroken
-judged_by p false count = if p.came + count == p.size then IsWhole p else IsBroken
+    if nat_lt (p.came + count) p.size then GoesOn (record p { came = p.came + count }) else Breaks
+judged_by p false count = if p.came + count == p.size then Completes p else Breaks
 
 -- what a joiner answers and holds, where this becomes of a message by a frame
 abbrev pub IsFate : Fate → List (List ℕ) → Option Begun → Frame → Type 0
@@ -38,9 +38,9 @@ IsFate (GoesOn p) parts begun frame =
     let held : List (List ℕ) = parts ++ payload_of frame ∷ [] in
     (answer_of begun frame ≡ More) × (held_after begun frame ≡ begun_in (Some p) held)
     × Counts (Some p) held
-IsFate (IsWhole p) parts begun frame =
+IsFate (Completes p) parts begun frame =
     let body : List ℕ = joined (parts ++ payload_of frame ∷ []) in
     (answer_of begun frame ≡ Whole (record { from = p.from; to = p.to; body = body }))
     × (held_after begun frame ≡ None)
-IsFate IsBroken parts begun frame =
+IsFate Breaks parts begun frame =
     (answer_of begun frame ≡ Broken) × (held_after begun frame ≡ None)

@@ -2,7 +2,7 @@ ghost use Rattle.std.specs.Prelude.{◌≡◌, ◌↔◌, ◌+◌, ◌<◌, ◌�
 ghost use Rattle.std.specs.Prelude.{length, drop, IfOk, OnOk, OnErr, is_some};
 ghost use Rattle.linx_base.specs.Both.{still};
 ghost use Rattle.linx_base.specs.Frames.{has_more, payload_of};
-ghost use Rattle.fragmenter.specs.Joining.{answer_of, held_after};
+ghost use Rattle.fragmenter.specs.Joining.{LacksBytes, answer_of, held_after};
 ghost use Rattle.fragmenter.specs.Holding.{joined, begun_in, Counts, judged_by, IsFate};
 
 use linx_base::{Blob, Bytes, Frame, Message, NoMemory, TryCopy};
@@ -36,8 +36,9 @@ enum Fate {
     /// It has come so far, and lacks further pieces.
     GoesOn(Progress),
     /// The frame has its last piece.
-    IsWhole(Progress),
-    IsBroken,
+    Completes(Progress),
+    /// The frame doesn't fit.
+    Breaks,
 }
 
 /// What a payload makes of a message.
@@ -53,12 +54,12 @@ fn judge_payload(progress: Progress, more: bool, count: usize) -> Fate
                 ..progress
             });
         }
-        return Fate::IsBroken;
+        return Fate::Breaks;
     }
     if count == lacking {
-        return Fate::IsWhole(progress);
+        return Fate::Completes(progress);
     }
-    Fate::IsBroken
+    Fate::Breaks
 }
 
 /// What a frame makes of the message so far.
@@ -89,7 +90,7 @@ fn judge(begun: Option<Progress>, frame: &Frame) -> Fate
         (Some(progress), Frame::Next { more, payload }) => {
             judge_payload(progress, *more, payload.len())
         }
-        _ => Fate::IsBroken,
+        _ => Fate::Breaks,
     }
 }
 
@@ -189,7 +190,8 @@ impl Joiner {
 
     /// Whether a message has begun.
     pub fn is_inside(&self) -> bool
-        ensures { result ≡ is_some self.now.is }
+        ensures inside { result ≡ is_some self.now.is }
+        ensures lacks { LacksBytes self.now.is }
     {
         self.is.is_some()
     }
@@ -214,14 +216,14 @@ impl Joiner {
                 self.is = Some(progress);
                 Ok(Joined::More)
             }
-            Fate::IsWhole(Progress { from, to, size, .. }) => {
+            Fate::Completes(Progress { from, to, size, .. }) => {
                 let parts = &self.parts[self.start..];
                 let body = join(self.alloc, parts, payload_of(frame), size as usize)?;
                 self.start = self.parts.len();
                 self.is = None;
                 Ok(Joined::Whole(Message { from, to, body }))
             }
-            Fate::IsBroken => {
+            Fate::Breaks => {
                 self.start = self.parts.len();
                 self.is = None;
                 Ok(Joined::Broken)

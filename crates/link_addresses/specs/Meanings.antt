@@ -1,8 +1,9 @@
 -- The meanings of link addresses, as a list from address 1 on.
-use Rattle.std.specs.Prelude.{◌≡◌, ◌≢◌, ℕ, zero, suc, ◌-◌, ◌<◌, Bool, true, false, ◌==◌}
+use Rattle.std.specs.Prelude.{◌≡◌, ◌≢◌, ℕ, zero, suc, ◌-◌, ◌<◌, Bool, true, false}
 use Rattle.std.specs.Prelude.{if◌then◌else◌, List, [], ◌∷◌, count_by, slice_index_or, slice_set}
 use Rattle.std.specs.Prelude.{Option, Some, None, option_map}
 use Rattle.linx_base.specs.declared.identity.Inc.{Inc}
+use Rattle.linx_base.specs.Peers.{same_inc}
 use Rattle.link_addresses.specs.declared.meaning.Meaning.{Meaning}
 use Rattle.link_addresses.specs.declared.meaning.Meaning.TheVariants.{Free, Live, Closing}
 
@@ -29,6 +30,10 @@ is_used (Closing inc) = true
 abbrev pub used_in : List Meaning → ℕ
 used_in meanings = count_by is_used meanings
 
+-- one of the addresses from 1 to 2^32 - 1 is free
+abbrev pub HasAddressLeft : List Meaning → Type 0
+HasAddressLeft meanings = used_in meanings < 4294967295
+
 -- the lowest free address
 unfoldable pub lowest_free : List Meaning → ℕ
 lowest_free [] = 1
@@ -52,7 +57,7 @@ pub record IsLowestFree (meanings : List Meaning) (addr : ℕ) : Type 0 where
 -- the meaning is that the incarnation is live
 abbrev pub means_live : Inc → Meaning → Bool
 means_live inc Free = false
-means_live inc (Live other) = inc.0 == other.0
+means_live inc (Live other) = same_inc inc other
 means_live inc (Closing other) = false
 
 -- the address at which an incarnation is live

@@ -1,11 +1,11 @@
-ghost use Rattle.std.specs.Prelude.{◌≡◌, ◌≢◌, ◌<◌, [], ℕ, IfSome, IfNone, OnSome, IfOk, OnOk};
+ghost use Rattle.std.specs.Prelude.{◌≡◌, ◌≢◌, [], ℕ, IfSome, IfNone, OnSome, IfOk, OnOk};
 ghost use Rattle.std.specs.Prelude.{OnErr};
 ghost use Rattle.linx_base.specs.Both.{still};
 ghost use Rattle.linx_base.specs.declared.identity.Inc.{Inc as AnyInc};
 ghost use Rattle.link_addresses.specs.declared.meaning.Meaning.TheVariants.{Free, Live, Closing};
 ghost use Rattle.link_addresses.specs.Meanings.{meaning_of, with_meaning, IsLive, used_in};
 ghost use Rattle.link_addresses.specs.Meanings.{lowest_free, with_lowest, IsLowestFree, address_of};
-ghost use Rattle.link_addresses.specs.Meanings.{ChangesMeaning, KeepsUsed};
+ghost use Rattle.link_addresses.specs.Meanings.{ChangesMeaning, KeepsUsed, HasAddressLeft};
 
 use crate::meaning::Meaning;
 use crate::table::Table;
@@ -75,7 +75,7 @@ impl Addresses {
     #[tactic(auto, using(crate::proofs::Lists::given_lowest, crate::proofs::Lists::given_keeps))]
     pub fn publish(&mut self, inc: Inc) -> Result<u32, NoMemory>
         requires not_live { ¬ (IsLive self.old.is inc) }
-        requires room { used_in self.old.is < 4294967295 }
+        requires room { HasAddressLeft self.old.is }
         ensures address { IfOk result (λ addr. addr ≡ lowest_free self.old.is) }
         ensures lowest { IfOk result (λ addr. IsLowestFree self.old.is addr) }
         ensures ok { OnOk result (self.new.is ≡ with_lowest self.old.is (Live inc)) }

@@ -7,6 +7,7 @@ ghost use Rattle.link_addresses.specs.Finding.{IsPut};
 ghost use Rattle.link_addresses.specs.WayBack.{change_of};
 ghost use Rattle.link_addresses.specs.Meanings.{meaning_of, with_meaning, IsLive, used_in};
 ghost use Rattle.link_addresses.specs.Meanings.{lowest_free, with_lowest, address_of};
+ghost use Rattle.link_addresses.specs.Meanings.{HasAddressLeft};
 
 use crate::change::Change;
 use crate::meaning::Meaning;
@@ -88,7 +89,7 @@ impl Table {
     /// Gives an incarnation the lowest free address. A refusal changes nothing.
     pub(crate) fn publish(&mut self, inc: Inc) -> Result<u32, NoMemory>
         requires not_live { ¬ (IsLive self.old.is inc) }
-        requires room { used_in self.old.is < 4294967295 }
+        requires room { HasAddressLeft self.old.is }
         ensures address { IfOk result (λ addr. addr ≡ lowest_free self.old.is) }
         ensures ok { OnOk result (self.new.is ≡ with_lowest self.old.is (Live inc)) }
         ensures was { self.new.was ≡ self.old.was }

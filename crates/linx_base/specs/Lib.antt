@@ -6,4 +6,5 @@ pub mod Peers
 pub mod Frames
 pub mod Both
 pub mod FirstMatch
+pub mod Fronts
 pub mod Failures

@@ -1,4 +1,5 @@
-ghost use Rattle.std.specs.Prelude.{◌≡◌, ◌≤◌, ◌↔◌, length, slice_range, IsTrue, IfOk, IfErr};
+ghost use Rattle.std.specs.Prelude.{◌≡◌, ◌≤◌, ◌↔◌, length, slice_range, IsTrue, IfOk};
+ghost use Rattle.std.specs.Str.{bytes_eq};
 
 use crate::memory::NoMemory;
 use crate::try_copy::TryCopy;
@@ -34,30 +35,16 @@ impl Blob {
         Blob::shared(Vec::from_slice(alloc, bytes)?)
     }
 
-    /// A blob of these bytes, which are not copied. A refusal gives the vector back.
-    pub fn of_vec(bytes: Vec<u8>) -> Result<Blob, (NoMemory, Vec<u8>)>
-        ensures ok { IfOk result (λ blob. blob ≡ bytes.items) }
-        ensures err { IfErr result (λ back. back.1 ≡ bytes) }
-    {
-        let to = bytes.len();
-        match Arc::new(*bytes.allocator(), bytes) {
-            Ok(buffer) => Ok(Blob {
-                buffer,
-                from: 0,
-                to,
-            }),
-            Err(refused) => Err((NoMemory, refused.value)),
-        }
-    }
-
     /// A blob of these bytes, which are not copied. A refusal frees them.
     pub fn shared(bytes: Vec<u8>) -> Result<Blob, NoMemory>
         ensures { IfOk result (λ blob. blob ≡ bytes.items) }
     {
-        match Blob::of_vec(bytes) {
-            Ok(blob) => Ok(blob),
-            Err((refusal, _bytes)) => Err(refusal),
-        }
+        let to = bytes.len();
+        Ok(Blob {
+            buffer: Arc::new(*bytes.allocator(), bytes)?,
+            from: 0,
+            to,
+        })
     }
 
     pub fn bytes(&self) -> &[u8]
@@ -98,7 +85,8 @@ impl Blob {
 
     /// Whether both have the same bytes.
     pub fn same(&self, other: &Blob) -> bool
-        ensures { IsTrue result ↔ (self.now ≡ other.now) }
+        ensures same { IsTrue result ↔ (self.now ≡ other.now) }
+        ensures computes { result ≡ bytes_eq self.now other.now }
     {
         self.bytes() == other.bytes()
     }

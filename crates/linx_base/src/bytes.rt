@@ -1,4 +1,4 @@
-ghost use Rattle.std.specs.Prelude.{◌≡◌, ◌==◌, ◌++◌, [], length, OnOk, OnErr, IfOk};
+ghost use Rattle.std.specs.Prelude.{◌≡◌, ◌++◌, [], OnOk, OnErr, IfOk};
 
 use crate::blob::Blob;
 use crate::memory::NoMemory;
@@ -20,15 +20,6 @@ impl Model for Bytes {
 }
 
 impl Bytes {
-    /// No bytes. It takes no memory.
-    pub fn new(alloc: Global) -> Bytes
-        ensures { result ≡ [] }
-    {
-        Bytes {
-            grown: Vec::new(alloc),
-        }
-    }
-
     /// No bytes as yet, with room for so many.
     pub fn with_room(alloc: Global, room: usize) -> Result<Bytes, NoMemory>
         ensures { IfOk result (λ bytes. bytes ≡ []) }
@@ -36,24 +27,6 @@ impl Bytes {
         Ok(Bytes {
             grown: Vec::with_capacity(alloc, room)?,
         })
-    }
-
-    pub fn len(&self) -> usize
-        ensures { result ≡ length self.now }
-    {
-        self.grown.len()
-    }
-
-    pub fn is_empty(&self) -> bool
-        ensures { result ≡ (length self.now == 0) }
-    {
-        self.grown.is_empty()
-    }
-
-    pub fn as_slice(&self) -> &[u8]
-        ensures { result.now ≡ self.now }
-    {
-        self.grown.as_slice()
     }
 
     /// Adds bytes at the end. A refusal changes nothing.

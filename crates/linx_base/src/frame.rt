@@ -103,12 +103,3 @@ impl TryCopy for Frame {
         }
     }
 }
-
-impl TryCopy for SentFrame {
-    fn copy(&self) -> Result<SentFrame, NoMemory> {
-        Ok(SentFrame {
-            number: self.number,
-            frame: self.frame.copy()?,
-        })
-    }
-}

@@ -8,7 +8,7 @@ pub enum Kind {
     Plain,
     /// The signal of a hunt that found its peer, named by the position of the hunt's step.
     Found(u64),
-    /// The signal of an attach whose peer ended.
+    /// The signal of an attach whose peer ended, or wasn't alive.
     Notice(AttRef),
 }
 

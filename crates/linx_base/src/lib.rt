@@ -16,6 +16,7 @@ mod sequence;
 mod signal;
 mod try_copy;
 mod undo_list;
+mod undo_queue;
 
 pub use blob::Blob;
 pub use bytes::Bytes;
@@ -29,6 +30,7 @@ pub use sequence::Sequence;
 pub use signal::{BufferError, Reason, SigNote, Signal};
 pub use try_copy::TryCopy;
 pub use undo_list::UndoList;
+pub use undo_queue::UndoQueue;
 
 #[cfg(test)]
 mod tests;

@@ -1,5 +1,6 @@
 ghost use Rattle.std.specs.Prelude.{◌≡◌, ◌↔◌, false, List, ℕ, IsTrue, IfOk, IfErr};
 ghost use Rattle.std.specs.List.{list_all};
+ghost use Rattle.std.specs.Str.{bytes_eq};
 ghost use Rattle.linx_base.specs.NameText.{is_name_byte, is_name};
 ghost use Rattle.linx_base.specs.declared.name.NameError.TheVariants.{NoMemory as OutOfMemory};
 
@@ -110,7 +111,8 @@ impl Name {
 
     /// Whether both have the same bytes.
     pub fn same(&self, other: &Name) -> bool
-        ensures { IsTrue result ↔ (self.now ≡ other.now) }
+        ensures same { IsTrue result ↔ (self.now ≡ other.now) }
+        ensures computes { result ≡ bytes_eq self.now other.now }
     {
         self.text.same(&other.text)
     }

@@ -93,9 +93,13 @@ impl TryCopy for SigNote {
 fn resized(alloc: Global, bytes: &[u8], n: usize) -> Result<Blob, NoMemory>
     ensures { IfOk result (λ made. made ≡ resized bytes.now n) }
 {
-    let mut changed = Vec::from_slice(alloc, bytes)?;
-    changed.resize(n, 0)?;
-    Blob::shared(changed)
+    if n <= bytes.len() {
+        return Blob::of(alloc, &bytes[..n]);
+    }
+    let mut filled = Vec::with_capacity(alloc, n)?;
+    filled.extend_from_slice(bytes)?;
+    filled.resize(n, 0)?;
+    Blob::shared(filled)
 }
 
 /// The bytes, and one more behind them.

@@ -1,12 +1,11 @@
 use crate::{
     Blob, BufferError, Bytes, Frame, Frames, Inc, LinkNo, Message, Name, NameError, NameList,
-    Names, NoMemory, NodeNo, Path, Peer, Reason, SentFrame, SentFrames, Session, Side, Signal,
-    TryCopy, UndoList,
+    Names, NodeNo, Path, Peer, Reason, Session, Side, Signal, TryCopy, UndoQueue,
 };
 use std::test::Fail;
 
 #[test]
-fn signal_size_limits(rt: HostRuntime) -> Result<(), Fail> {
+fn a_signal_has_at_most_65_532_data_bytes(rt: HostRuntime) -> Result<(), Fail> {
     let long = vec![in rt.alloc(); 7u8; 65_533]?;
     assert!(rt;
         matches!(
@@ -14,14 +13,16 @@ fn signal_size_limits(rt: HostRuntime) -> Result<(), Fail> {
             Err(BufferError::TooLarge)
         )
     );
-    let most = &long[..65_532];
-    let mut signal = Signal::alloc(rt.alloc(), 9, most)?;
-    assert_eq!(rt; signal.size(), 65_536);
+    let most = Signal::alloc(rt.alloc(), 9, &long[..65_532])?;
+    assert_eq!(rt; (most.number(), most.size()), (9, 65_536));
+    Ok(())
+}
+
+#[test]
+fn a_refused_resize_changes_nothing(rt: HostRuntime) -> Result<(), Fail> {
+    let mut signal = Signal::alloc(rt.alloc(), 9, &[1, 2])?;
     assert_eq!(rt; signal.resize(65_533), Err(BufferError::TooLarge));
-    assert_eq!(rt; signal.bytes(), most);
-    signal.resize(0)?;
-    assert!(rt; signal.bytes().is_empty());
-    assert_eq!(rt; (signal.number(), signal.size()), (9, 4));
+    assert_eq!(rt; signal.bytes(), [1, 2].as_slice());
     Ok(())
 }
 
@@ -32,11 +33,22 @@ fn resize_keeps_the_first_bytes_and_adds_zeros(rt: HostRuntime) -> Result<(), Fa
     assert_eq!(rt; signal.bytes(), [1, 2, 3, 0, 0].as_slice());
     signal.resize(2)?;
     assert_eq!(rt; signal.bytes(), [1, 2].as_slice());
-    let note = signal.note()?;
+    signal.resize(0)?;
+    assert_eq!(rt; (signal.bytes().len(), signal.size()), (0, 4));
+    Ok(())
+}
+
+#[test]
+fn a_note_has_the_content_of_its_signal(rt: HostRuntime) -> Result<(), Fail> {
+    let note = Signal::alloc(rt.alloc(), 3, &[1, 2])?.note()?;
     assert_eq!(rt; (note.number, note.bytes.bytes()), (3, [1, 2].as_slice()));
+    Ok(())
+}
+
+#[test]
+fn each_reason_has_its_byte(rt: HostRuntime) {
     let reasons = [Reason::Closed, Reason::Lost, Reason::Dead];
     assert_eq!(rt; reasons.map(|reason| reason.byte()), [0, 1, 2]);
-    Ok(())
 }
 
 #[test]
@@ -70,10 +82,14 @@ fn name_bounds(rt: HostRuntime) -> Result<(), Fail> {
             "{wrong:?}"
         );
     }
+    Ok(())
+}
+
+#[test]
+fn names_of_the_same_bytes_are_the_same(rt: HostRuntime) -> Result<(), Fail> {
     let marks = Name::of(rt.alloc(), b"aZ09_-.")?;
     assert!(rt; marks.same(&Name::of(rt.alloc(), b"aZ09_-.")?));
     assert!(rt; !marks.same(&Name::of(rt.alloc(), b"aZ09_-")?));
-    assert_eq!(rt; marks.copy()?.bytes(), b"aZ09_-.".as_slice());
     Ok(())
 }
 
@@ -83,11 +99,6 @@ fn lists_give_their_elements_in_order(rt: HostRuntime) -> Result<(), Fail> {
     assert!(rt; names.is_empty() && names.get(0).is_none());
     names.push(Name::of(rt.alloc(), b"m")?)?;
     names.push(Name::of(rt.alloc(), b"n")?)?;
-    let both = Names {
-        nodes: names.copy()?,
-        links: NameList::new(rt.alloc()),
-    };
-    assert_eq!(rt; (both.copy()?.nodes.len(), both.links.len()), (2, 0));
     assert!(rt;
         names
             .get(1)
@@ -98,18 +109,26 @@ fn lists_give_their_elements_in_order(rt: HostRuntime) -> Result<(), Fail> {
     Ok(())
 }
 
-fn first_piece(alloc: std::alloc::Global, payload: &[u8]) -> Result<Frame, NoMemory> {
-    Ok(Frame::First {
-        more: true,
-        from: 1,
-        to: 2,
-        size: 9,
-        payload: Blob::of(alloc, payload)?,
-    })
+#[test]
+fn a_copy_of_names_has_the_same_names(rt: HostRuntime) -> Result<(), Fail> {
+    let mut nodes = NameList::new(rt.alloc());
+    nodes.push(Name::of(rt.alloc(), b"m")?)?;
+    let names = Names {
+        nodes,
+        links: NameList::new(rt.alloc()),
+    };
+    let copy = names.copy()?;
+    assert_eq!(rt; (copy.nodes.len(), copy.links.len()), (1, 0));
+    assert!(rt;
+        copy.nodes
+            .get(0)
+            .is_some_and(|name| name.bytes() == b"m".as_slice())
+    );
+    Ok(())
 }
 
 #[test]
-fn copies_equal_their_originals(rt: HostRuntime) -> Result<(), Fail> {
+fn a_copy_of_a_path_has_its_link_and_its_name(rt: HostRuntime) -> Result<(), Fail> {
     let alloc = rt.alloc();
     let path = Path::Over {
         link: LinkNo(4),
@@ -121,29 +140,40 @@ fn copies_equal_their_originals(rt: HostRuntime) -> Result<(), Fail> {
             Path::Over { link: LinkNo(4), name } if name.bytes() == b"v".as_slice()
         )
     );
+    Ok(())
+}
+
+#[test]
+fn a_copy_of_a_message_has_its_addresses_and_its_body(rt: HostRuntime) -> Result<(), Fail> {
     let message = Message {
         from: 1,
         to: 2,
-        body: Blob::of_vec([5, 6].to_vec(alloc)?)?,
+        body: Blob::shared([5, 6].to_vec(rt.alloc())?)?,
     };
-    let other = message.copy()?;
+    let copy = message.copy()?;
     assert_eq!(rt;
-        (other.from, other.to, other.body.bytes()),
+        (copy.from, copy.to, copy.body.bytes()),
         (1, 2, [5, 6].as_slice())
     );
+    Ok(())
+}
+
+#[test]
+fn a_copy_of_frames_has_all_of_them(rt: HostRuntime) -> Result<(), Fail> {
+    let alloc = rt.alloc();
     let mut frames = Frames::new(alloc);
-    frames.push(first_piece(alloc, &[5])?)?;
+    frames.push(Frame::First {
+        more: true,
+        from: 1,
+        to: 2,
+        size: 9,
+        payload: Blob::of(alloc, &[5])?,
+    })?;
     frames.push(Frame::Next {
         more: false,
         payload: Blob::of(alloc, &[6])?,
     })?;
     assert_eq!(rt; frames.copy()?.len(), 2);
-    let mut sent = SentFrames::new(alloc);
-    sent.push(SentFrame {
-        number: 3,
-        frame: first_piece(alloc, &[5])?,
-    })?;
-    assert!(rt; sent.copy()?.get(0).is_some_and(|first| first.number == 3));
     Ok(())
 }
 
@@ -168,27 +198,47 @@ fn a_part_shares_the_bytes_of_its_blob(rt: HostRuntime) -> Result<(), Fail> {
 }
 
 #[test]
-fn an_undo_list_goes_back_to_what_was_kept(rt: HostRuntime) -> Result<(), Fail> {
-    let mut list = UndoList::new(rt.alloc());
-    list.push(1u32)?;
-    list.keep();
-    list.push(2)?;
-    assert_eq!(rt; (list.len(), list.get(1).copied()), (2, Some(2)));
-    list.undo();
-    assert_eq!(rt; list.as_slice(), [1].as_slice());
+fn an_incarnation_has_its_node_in_the_higher_half(rt: HostRuntime) {
+    let inc = Inc::of(NodeNo(2), 3);
+    assert_eq!(rt; (inc, inc.node()), (Inc(8_589_934_595), NodeNo(2)));
+}
+
+#[test]
+fn an_undo_queue_goes_back_to_what_was_kept(rt: HostRuntime) -> Result<(), Fail> {
+    let mut queue = UndoQueue::new(rt.alloc());
+    queue.push(1u32)?;
+    queue.push(2)?;
+    queue.keep();
+    queue.pass();
+    queue.push(3)?;
+    assert_eq!(rt; queue.first().copied(), Some(2));
+    queue.undo();
+    assert_eq!(rt; queue.first().copied(), Some(1));
+    queue.clear();
+    queue.keep();
+    assert_eq!(rt; queue.first().copied(), None);
     Ok(())
 }
 
 #[test]
-fn numbers_of_two_halves(rt: HostRuntime) -> Result<(), Fail> {
-    let inc = Inc::of(NodeNo(2), 3);
-    assert_eq!(rt; (inc, inc.node()), (Inc(8_589_934_595), NodeNo(2)));
+fn a_session_has_its_boot_and_its_count(rt: HostRuntime) {
     let session = Session::of(1, 2);
     assert_eq!(rt;
         (session.0, session.boot(), session.count()),
         (4_294_967_298, 1, 2)
     );
-    assert_eq!(rt; Side::First.other(), Side::Second);
+}
+
+#[test]
+fn each_side_is_across_from_the_other(rt: HostRuntime) {
+    assert_eq!(rt;
+        (Side::First.other(), Side::Second.other()),
+        (Side::Second, Side::First)
+    );
+}
+
+#[test]
+fn bytes_grow_at_their_end(rt: HostRuntime) -> Result<(), Fail> {
     let mut bytes = Bytes::with_room(rt.alloc(), 4)?;
     bytes.extend(b"ab")?;
     bytes.extend(b"c")?;

@@ -1,5 +1,4 @@
-ghost use Rattle.std.specs.Prelude.{◌≡◌, ◌==◌, [], ◌∷◌, ◌++◌, length, OnOk, OnErr, slice_get};
-ghost use Rattle.std.specs.Option.{option_copied};
+ghost use Rattle.std.specs.Prelude.{◌≡◌, [], ◌∷◌, ◌++◌, OnOk, OnErr};
 ghost use Rattle.linx_base.specs.Both.{still};
 
 use crate::memory::NoMemory;
@@ -48,31 +47,6 @@ impl<T> UndoList<T> {
         Ok(())
     }
 
-    pub fn len(&self) -> usize
-        ensures { result ≡ length self.now.is }
-    {
-        self.elements.len()
-    }
-
-    pub fn is_empty(&self) -> bool
-        ensures { result ≡ (length self.now.is == 0) }
-    {
-        self.elements.is_empty()
-    }
-
-    /// The element at place k from 0, `None` exactly where k isn't below the length.
-    pub fn get(&self, k: usize) -> Option<&T>
-        ensures { option_copied result ≡ slice_get self.now.is k }
-    {
-        self.elements.get(k)
-    }
-
-    pub fn as_slice(&self) -> &[T]
-        ensures { result.now ≡ self.now.is }
-    {
-        self.elements.as_slice()
-    }
-
     /// What is now stays. It takes no memory.
     pub fn keep(&mut self)
         ensures { self.new ≡ still self.old.is }
@@ -87,5 +61,23 @@ impl<T> UndoList<T> {
         ensures { self.new ≡ still self.old.was }
     {
         self.elements.truncate(self.kept);
+    }
+}
+
+#[cfg(test)]
+mod tests {
+    use super::UndoList;
+    use std::test::Fail;
+
+    #[test]
+    fn an_undo_list_goes_back_to_what_was_kept(rt: HostRuntime) -> Result<(), Fail> {
+        let mut list = UndoList::new(rt.alloc());
+        list.push(1u32)?;
+        list.keep();
+        list.push(2)?;
+        assert_eq!(rt; list.elements.as_slice(), [1, 2].as_slice());
+        list.undo();
+        assert_eq!(rt; list.elements.as_slice(), [1].as_slice());
+        Ok(())
     }
 }

@@ -6,7 +6,7 @@ use Rattle.lossy_wire.specs.declared.wire.Change.{Change}
 use Rattle.lossy_wire.specs.declared.wire.Change.TheVariants.{Nothing, Lost, Exchanged}
 
 -- since the event began packets were put alone, and none was lost or exchanged
-abbrev pub HasOnlyGrown : Both (List (List ℕ)) → Type 0
+abbrev pub HasOnlyGrown : {X : Type 0} → Both (List X) → Type 0
 HasOnlyGrown wire = take (length wire.was) wire.is ≡ wire.was
 
 -- the packets after a change
