@@ -12,7 +12,7 @@ use Rattle.std.proofs.lemmas.List.Concat.{flat_map-append}
 use Rattle.linx_base.specs.declared.frame.Message.{Message}
 use Rattle.fragmenter.specs.Pieces.{pieces_of}
 use Rattle.fragmenter.specs.Streams.{frames_of}
-use Rattle.carrier.specs.Records.{IsFront}
+use Rattle.linx_base.specs.Fronts.{IsFront}
 
 -- the truth of a test
 pub either : (b : Bool) → (b ≡ true) ⊎ (b ≡ false)

@@ -3,6 +3,7 @@ use Rattle.std.proofs.Common.{◌≡◌, ◌⊎◌, ℕ, ◌<◌, ◌≤◌, tru
 use Rattle.std.proofs.Common.{subst, arith, inl, inr}
 use Rattle.std.specs.Option.{ForSome}
 use Rattle.std.proofs.lemmas.List.Elements.{All-weaker}
+use Rattle.linx_base.specs.Fronts.{IsFront}
 use Rattle.linx_base.specs.declared.identity.Session.{Session}
 use Rattle.linx_base.specs.declared.frame.ConnKind.TheVariants as kinds
 use Rattle.linx_base.specs.declared.frame.Message.{Message}
@@ -12,7 +13,7 @@ use Rattle.ethcm_headers.specs.declared.packets.Part.{Part}
 use Rattle.ethcm_headers.specs.declared.packets.Part.TheVariants.{Conn, Ack, Nack, Piece}
 use Rattle.ethcm_window.specs.Sending.{sent_end}
 use Rattle.ethcm_end.specs.States.{EndState, peer_of}
-use Rattle.carrier.specs.Records.{Entry, HalfState, IsFront, current, entries, has_session, is_pair}
+use Rattle.carrier.specs.Records.{Entry, HalfState, current, entries, has_session, is_pair}
 use Rattle.carrier.specs.Records.{mine_of, names, source}
 use Rattle.carrier.specs.Keeping.{AcksTaken, Book, Bound, FallsBelow, IsFlying, IsSaid, Keeps}
 use Rattle.carrier.specs.Keeping.{KeptBelow, PeersUpTo, Receives, WasSent}

@@ -19,7 +19,7 @@ use Rattle.ethcm_end.specs.Rules.{Taken, take_behind}
 use Rattle.ethcm_end.specs.Taking.{made_at_the_last}
 use Rattle.ethcm_end.proofs.Naming.{early_named, taken_in_order}
 use Rattle.ethcm_end.proofs.Taking.{takes_in_turn}
-use Rattle.carrier.specs.Records.{IsFront}
+use Rattle.linx_base.specs.Fronts.{IsFront}
 use Rattle.carrier.specs.Keeping.{KeptBelow, Receives}
 use Rattle.carrier.proofs.Fronts.{found_in_front, front_frames, front_length, take_front, take_more}
 

@@ -6,10 +6,11 @@ use Rattle.std.proofs.lemmas.Bool.{eq-eqb, ne_eqb}
 use Rattle.std.proofs.lemmas.Bool.Decides.{eqb_tells}
 use Rattle.std.proofs.lemmas.List.Elements.{All-nil}
 use Rattle.std.proofs.lemmas.Option.{same_Some}
+use Rattle.linx_base.specs.Fronts.{IsFront}
 use Rattle.linx_base.specs.declared.identity.Session.{Session}
 use Rattle.linx_base.specs.Frames.{IsMessage}
 use Rattle.ethcm_end.specs.States.{peer_of}
-use Rattle.carrier.specs.Records.{Entry, HalfState, IsFront, entries, has_session, is_pair, mine_of}
+use Rattle.carrier.specs.Records.{Entry, HalfState, entries, has_session, is_pair, mine_of}
 use Rattle.carrier.specs.Records.{names, offered_at, peer_at, source}
 use Rattle.carrier.specs.Keeping.{FallsBelow, HandedFronts, OfferedMessages, PeersHeld, PeersUpTo}
 use Rattle.carrier.proofs.Fronts.{either, front_nil, front_refl, front_trans}

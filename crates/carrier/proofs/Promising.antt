@@ -7,6 +7,7 @@ use Rattle.std.proofs.lemmas.Bool.{ne_eqb}
 use Rattle.std.proofs.lemmas.Bool.Decides.{eqb_tells, nat_tests}
 use Rattle.std.proofs.lemmas.List.{append-nil, length-append, length-drop, length-take}
 use Rattle.std.proofs.lemmas.List.Elements.{All-weaker}
+use Rattle.linx_base.specs.Fronts.{IsFront}
 use Rattle.linx_base.specs.declared.identity.Session.{Session}
 use Rattle.linx_base.specs.declared.frame.Frame.{Frame}
 use Rattle.linx_base.specs.declared.frame.Message.{Message}
@@ -17,7 +18,7 @@ use Rattle.ethcm_session.specs.Table.{is_confirmed_in, peer_in}
 use Rattle.fragmenter.specs.Pieces.{pieces_of}
 use Rattle.fragmenter.specs.Streams.{BeginsNext, frames_of}
 use Rattle.ethcm_end.specs.States.{EndState, has_work_in, peer_of}
-use Rattle.carrier.specs.Records.{Entry, HalfState, IsFront, entries, handed_at, has_session}
+use Rattle.carrier.specs.Records.{Entry, HalfState, entries, handed_at, has_session}
 use Rattle.carrier.specs.Records.{is_pair, mine_of, names, offered_at, peer_at, source}
 use Rattle.carrier.specs.Events.{LinkState}
 use Rattle.carrier.specs.Keeping.{HandedFronts, IsFlying, Keeps, KeepsLink, OfferedMessages}

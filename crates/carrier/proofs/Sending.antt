@@ -1,12 +1,11 @@
 -- What an end sends goes into flight, packet by packet.
 use Rattle.std.proofs.Common.{◌≡◌, ◌<◌, ℕ, Some, None, List, [], ◌∷◌, ◌++◌, length, drop}
 use Rattle.std.proofs.Common.{refl, sym, ap, ◌∙◌, append_assoc, arith}
-use Rattle.std.specs.Prelude.{option_map}
+use Rattle.std.specs.Prelude.{option_map, slice_get}
 use Rattle.std.specs.Option.{ForSome}
 use Rattle.std.proofs.lemmas.Option.{same_Some}
 use Rattle.ethcm_headers.specs.declared.packets.Packet.{Packet}
 use Rattle.ethcm_headers.specs.Packets.{IsPacket, spelling_of}
-use Rattle.ethcm_end.specs.Rules.{first_of}
 use Rattle.carrier.specs.Spelling.{IsSpelled, packet_at}
 use Rattle.carrier.proofs.Spelled.{packet_there, spelled_there, spells_itself}
 
@@ -16,8 +15,8 @@ pub record WentOut (out : List Packet) (bytes : List ℕ) : Type 0 where
   pub first : out ≡ packet_at bytes ∷ drop 1 out
   pub fewer : length (drop 1 out) < length out
 
-pub went_out : (out : List Packet) (bytes : List ℕ) → ForSome (first_of out) IsPacket
-    → Some bytes ≡ option_map spelling_of (first_of out) → WentOut out bytes
+pub went_out : (out : List Packet) (bytes : List ℕ) → ForSome (slice_get out 0) IsPacket
+    → Some bytes ≡ option_map spelling_of (slice_get out 0) → WentOut out bytes
 went_out [] bytes packet e = absurd cc
 went_out (p ∷ ps) bytes packet e =
     let spells = spells_itself p bytes (packet p refl) (same_Some _ _ e) in
@@ -34,6 +33,6 @@ goes_on flight out bytes w =
     append_assoc flight (packet_at bytes ∷ []) (drop 1 out) ∙ ap (λ l. flight ++ l) (sym w.first)
 
 -- nothing is left to go out
-pub none_left : (out : List Packet) → None ≡ option_map spelling_of (first_of out) → out ≡ []
+pub none_left : (out : List Packet) → None ≡ option_map spelling_of (slice_get out 0) → out ≡ []
 none_left [] e = refl
 none_left (p ∷ ps) e = absurd cc

@@ -10,7 +10,8 @@ use Rattle.ethcm_headers.specs.Packets.{IsPacket, Spells, spelling_of}
 use Rattle.ethcm_headers.specs.Chains.{headers_in, header_bytes, length_of, payload_in}
 use Rattle.ethcm_headers.proofs.Again.{length-chain_bytes}
 use Rattle.ethcm_headers.proofs.Apart.{headers_found, packet_with-apart, spelled_apart}
-use Rattle.carrier.specs.Spelling.{HasOnlyGrown, IsSpelled, packet_at}
+use Rattle.lossy_wire.specs.Flight.{HasOnlyGrown}
+use Rattle.carrier.specs.Spelling.{IsSpelled, packet_at}
 
 -- behind its headers a packet has its payload
 payload_behind : (p : Packet) (bytes : List ℕ) → Spells p bytes

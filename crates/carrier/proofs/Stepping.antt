@@ -6,6 +6,7 @@ use Rattle.std.proofs.Common.{arith, inl, inr, if◌then◌else◌}
 use Rattle.std.specs.Option.{ForSome}
 use Rattle.std.proofs.lemmas.List.Elements.{All-append, All-cons, All-head, All-nil, All-same}
 use Rattle.std.proofs.lemmas.List.Elements.{All-filter, All-tail}
+use Rattle.linx_base.specs.Fronts.{IsFront}
 use Rattle.linx_base.specs.declared.identity.Session.{Session}
 use Rattle.linx_base.specs.declared.frame.Frame.{Frame}
 use Rattle.linx_base.specs.declared.frame.Message.{Message}
@@ -22,7 +23,7 @@ use Rattle.ethcm_end.specs.States.{EndState, peer_of}
 use Rattle.ethcm_end.specs.Rules.{take_behind}
 use Rattle.ethcm_end.specs.Sessions.{GoesOn, GoesUp, IsAnew, KeepsSizes}
 use Rattle.ethcm_end.proofs.Taking.{takes_in_turn}
-use Rattle.carrier.specs.Records.{HalfState, IsFront, entries, has_session, is_pair, mine_of, names}
+use Rattle.carrier.specs.Records.{HalfState, entries, has_session, is_pair, mine_of, names}
 use Rattle.carrier.specs.Records.{source}
 use Rattle.carrier.specs.Events.{drained}
 use Rattle.carrier.specs.Keeping.{Bound, HoldsRest, IsFlying, Keeps, KeptBelow, OfferedMessages}

@@ -19,6 +19,7 @@ use Rattle.carrier.specs.declared.handed.Handed.TheVariants as handed
 use Rattle.carrier.specs.declared.handed.TickedSide.{TickedSide}
 use Rattle.carrier.specs.declared.handed.TickedSide.TheVariants as ticked
 use Rattle.carrier.specs.Records.{HalfState, current, new_half}
+use Rattle.ethcm_session.specs.Table.{HasNext}
 
 -- ---- one side
 
@@ -151,6 +152,10 @@ seen_from Second v = turned v
 -- a side, and the packets in flight from it
 abbrev pub half_of : Side → LinkState → HalfState
 half_of side v = (seen_from side v).first
+
+-- the session of a side isn't the last one of its boot
+abbrev pub HasNextAt : Side → LinkState → Type 0
+HasNextAt side v = HasNext (half_of side v).end.talk.mine
 
 abbrev pub flight_from : Side → LinkState → List Packet
 flight_from side v = (seen_from side v).there

@@ -4,6 +4,7 @@
 use Rattle.std.specs.Prelude.{◌≡◌, ℕ, ◌<◌, ◌≤◌, true, false, Option, None, Some, List, [], ◌∷◌}
 use Rattle.std.specs.Prelude.{length, take, drop, slice_get, All}
 use Rattle.std.specs.Option.{ForSome}
+use Rattle.linx_base.specs.Fronts.{IsFront}
 use Rattle.linx_base.specs.declared.identity.Session.{Session}
 use Rattle.linx_base.specs.declared.frame.ConnKind.TheVariants as kinds
 use Rattle.linx_base.specs.declared.frame.Frame.{Frame}
@@ -20,7 +21,7 @@ use Rattle.fragmenter.specs.Joining.{Begun, answers_to, held_after_all}
 use Rattle.fragmenter.specs.Streams.{frames_of, wholes}
 use Rattle.ethcm_end.specs.States.{EndState, peer_of}
 use Rattle.ethcm_end.specs.Taking.{AreFrames}
-use Rattle.carrier.specs.Records.{Entry, HalfState, IsFront, entries, has_session, is_pair, mine_of}
+use Rattle.carrier.specs.Records.{Entry, HalfState, entries, has_session, is_pair, mine_of}
 use Rattle.carrier.specs.Records.{offered_at, source}
 use Rattle.carrier.specs.Events.{LinkState}
 

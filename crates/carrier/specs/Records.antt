@@ -1,6 +1,6 @@
 -- The record of a link: what was offered and handed up in each session of a side.
-use Rattle.std.specs.Prelude.{◌≡◌, ℕ, ◌==◌, if◌then◌else◌, Bool, true, false, Option, None, Some}
-use Rattle.std.specs.Prelude.{List, [], ◌∷◌, ◌++◌}
+use Rattle.std.specs.Prelude.{ℕ, ◌==◌, if◌then◌else◌, Bool, true, false, Option, None, Some}
+use Rattle.std.specs.Prelude.{List, [], ◌∷◌}
 use Rattle.linx_base.specs.declared.identity.Session.{Session}
 use Rattle.linx_base.specs.declared.frame.Message.{Message}
 use Rattle.ethcm_end.specs.States.{EndState, new_end, peer_of}
@@ -78,7 +78,3 @@ is_pair x y es = names x (peer_at y es)
 abbrev pub source : List Entry → ℕ → Option Session → List Message
 source es x None = []
 source es x (Some y) = if is_pair x y.0 es then offered_at y.0 es else []
-
--- the first list is a front of the second
-abbrev pub IsFront : {X : Type 0} → List X → List X → Type 0
-IsFront {X} xs ys = (rest : List X) × (ys ≡ xs ++ rest)

@@ -1,5 +1,5 @@
 -- The packets in flight, as the bytes of a wire spell them.
-use Rattle.std.specs.Prelude.{◌≡◌, ℕ, Option, None, Some, List, length, take, drop}
+use Rattle.std.specs.Prelude.{ℕ, Option, None, Some, List, drop}
 use Rattle.linx_base.specs.declared.frame.ConnKind.TheVariants.{Connect}
 use Rattle.linx_base.specs.declared.identity.Side.{Side}
 use Rattle.linx_base.specs.Both.{Both}
@@ -8,6 +8,7 @@ use Rattle.ethcm_headers.specs.declared.packets.Packet.{Packet}
 use Rattle.ethcm_headers.specs.declared.packets.Part.TheVariants.{Conn}
 use Rattle.ethcm_headers.specs.Chains.{headers_at, length_of, packet_with}
 use Rattle.ethcm_headers.specs.Packets.{Spells}
+use Rattle.lossy_wire.specs.Flight.{HasOnlyGrown}
 use Rattle.carrier.specs.Events.{LinkState, flight_from}
 
 -- the packet that has these headers, and the bytes behind them as its payload; some packet where
@@ -24,11 +25,8 @@ packet_at bytes = packet_behind (headers_at bytes) bytes
 abbrev pub IsSpelled : List ℕ → Type 0
 IsSpelled bytes = Spells (packet_at bytes) bytes
 
--- since the event began packets were put alone, and none was lost or exchanged
-abbrev pub HasOnlyGrown : Both (List Packet) → Type 0
-HasOnlyGrown flight = take (length flight.was) flight.is ≡ flight.was
-
--- so of the packets from a side of a link
+-- since the event began packets were put alone from a side of a link, and none of them was lost or
+-- exchanged
 abbrev pub HasOnlyGrownFrom : Side → Both LinkState → Type 0
 HasOnlyGrownFrom from link =
     HasOnlyGrown (record { was = flight_from from link.was; is = flight_from from link.is })

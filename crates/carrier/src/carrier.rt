@@ -4,12 +4,11 @@ ghost use Rattle.linx_base.specs.Both.{still};
 ghost use Rattle.linx_base.specs.Frames.{IsMessage};
 ghost use Rattle.linx_base.specs.Numbers.{boot_of, first_session};
 ghost use Rattle.linx_base.specs.Sides.{other_of};
-ghost use Rattle.ethcm_session.specs.Table.{HasNext};
 ghost use Rattle.ethcm_window.specs.Sending.{left_of};
 ghost use Rattle.ethcm_end.specs.Sound.{IsPiece};
 ghost use Rattle.ethcm_end.specs.States.{peer_of};
 ghost use Rattle.carrier.specs.Events.{delivered, flight_from, half_of, handed_by, is_quiet};
-ghost use Rattle.carrier.specs.Events.{lost_from, new_link, offered_to, restarted_at};
+ghost use Rattle.carrier.specs.Events.{lost_from, new_link, offered_to, restarted_at, HasNextAt};
 ghost use Rattle.carrier.specs.Events.{swapped_from, ticked_at, told_by};
 ghost use Rattle.carrier.specs.Spelling.{HasOnlyGrownFrom};
 ghost use Rattle.carrier.specs.Keeping.{KeepsLink};
@@ -43,11 +42,11 @@ impl Model for Carrier {
     ghost invariant = { λ c. KeepsLink c.link.was × KeepsLink c.link.is };
 }
 
-/// The packet at place k from a side comes to the other one.
+/// `Link::deliver`, and what it tells; what holds of a link still holds.
 fn bring(link: &mut Link, from: Side, k: usize, keep: bool) -> Result<Handed, NoMemory>
     requires within { k < length (flight_from from link.old.is) }
     requires grown { HasOnlyGrownFrom from link.old }
-    requires counted { HasNext (half_of (other_of from) link.old.is).end.talk.mine }
+    requires counted { HasNextAt (other_of from) link.old.is }
     requires keeps { KeepsLink link.old.is }
     ensures is { OnOk result (link.new.is ≡ delivered from k keep link.old.is) }
     ensures was { link.new.was ≡ link.old.was }
@@ -63,9 +62,9 @@ fn bring(link: &mut Link, from: Side, k: usize, keep: bool) -> Result<Handed, No
     Ok(handed)
 }
 
-/// A side is ticked.
+/// `Link::tick`, and what it tells; what holds of a link still holds.
 fn beat(link: &mut Link, side: Side) -> Result<TickedSide, NoMemory>
-    requires counted { HasNext (half_of side link.old.is).end.talk.mine }
+    requires counted { HasNextAt side link.old.is }
     requires keeps { KeepsLink link.old.is }
     ensures is { OnOk result (link.new.is ≡ ticked_at side link.old.is) }
     ensures was { link.new.was ≡ link.old.was }
@@ -80,7 +79,7 @@ fn beat(link: &mut Link, side: Side) -> Result<TickedSide, NoMemory>
     Ok(ticked)
 }
 
-/// A message is offered to a side that is up.
+/// `Link::offer` to a side that is up, and what it tells; what holds of a link still holds.
 fn send(link: &mut Link, side: Side, message: &Message) -> Result<(), NoMemory>
     requires up { IsSome (peer_of (half_of side link.old.is).end) }
     requires message { IsMessage message.now }
@@ -98,7 +97,7 @@ fn send(link: &mut Link, side: Side, message: &Message) -> Result<(), NoMemory>
     Ok(())
 }
 
-/// A side boots again.
+/// `Link::restart`, and what it tells; what holds of a link still holds.
 fn boot_again(link: &mut Link, side: Side, boot: u32) -> Result<(), NoMemory>
     requires later { boot_of (half_of side link.old.is).end.talk.mine < boot }
     requires keeps { KeepsLink link.old.is }
@@ -134,7 +133,7 @@ impl Carrier {
     pub fn deliver(&mut self, from: Side, k: usize, keep: bool) -> Result<Handed, NoMemory>
         requires within { k < length (flight_from from self.old.is) }
         requires grown { HasOnlyGrownFrom from self.old }
-        requires counted { HasNext (half_of (other_of from) self.old.is).end.talk.mine }
+        requires counted { HasNextAt (other_of from) self.old.is }
         ensures is { OnOk result (self.new.is ≡ delivered from k keep self.old.is) }
         ensures was { self.new.was ≡ self.old.was }
         ensures handed { IfOk result (λ handed. handed ≡ handed_by from k self.old.is) }
@@ -158,7 +157,7 @@ impl Carrier {
 
     /// A side is ticked. A refusal undoes the event.
     pub fn tick(&mut self, side: Side) -> Result<TickedSide, NoMemory>
-        requires counted { HasNext (half_of side self.old.is).end.talk.mine }
+        requires counted { HasNextAt side self.old.is }
         ensures is { OnOk result (self.new.is ≡ ticked_at side self.old.is) }
         ensures was { self.new.was ≡ self.old.was }
         ensures ticked { IfOk result (λ ticked. ticked ≡ told_by side self.old.is) }
@@ -203,7 +202,7 @@ impl Carrier {
         }
     }
 
-    /// A side boots again. A refusal undoes the event.
+    /// A side boots again, with a later boot number. A refusal undoes the event.
     pub fn restart(&mut self, side: Side, boot: u32) -> Result<(), NoMemory>
         requires { boot_of (half_of side self.old.is).end.talk.mine < boot }
         ensures is { OnOk result (self.new.is ≡ restarted_at side boot self.old.is) }

@@ -1,7 +1,9 @@
 ghost use Rattle.std.specs.Prelude.{◌≡◌, ◌==◌, ◌<◌, [], ◌∷◌, ◌++◌, length, slice_get, Some, OnOk};
+ghost use Rattle.std.specs.Prelude.{OnErr};
 ghost use Rattle.std.specs.List.{remove, swap};
 ghost use Rattle.linx_base.specs.Both.{still};
-ghost use Rattle.carrier.specs.Spelling.{HasOnlyGrown, IsSpelled, packet_at};
+ghost use Rattle.lossy_wire.specs.Flight.{HasOnlyGrown};
+ghost use Rattle.carrier.specs.Spelling.{IsSpelled, packet_at};
 
 use linx_base::{Blob, NoMemory};
 use lossy_wire::Wire;
@@ -39,11 +41,12 @@ impl Flight {
         }
     }
 
-    /// A packet goes behind the others. After a refusal they are as they were.
+    /// A packet goes behind the others. A refusal frees it and changes nothing.
     pub fn put(&mut self, bytes: Blob) -> Result<(), NoMemory>
         requires { IsSpelled bytes }
         ensures is { OnOk result (self.new.is ≡ self.old.is ++ packet_at bytes ∷ []) }
         ensures was { self.new.was ≡ self.old.was }
+        ensures err { OnErr result (self.new ≡ self.old) }
     {
         match self.wire.put(bytes) {
             Ok(()) => Ok(()),

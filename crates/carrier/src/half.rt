@@ -1,6 +1,7 @@
-ghost use Rattle.std.specs.Prelude.{◌≡◌, ◌≤◌, ◌++◌, Some, IfOk, OnOk};
+ghost use Rattle.std.specs.Prelude.{◌≡◌, ◌<◌, ◌≤◌, ◌++◌, Some, IfOk, OnOk};
 ghost use Rattle.linx_base.specs.Both.{still};
 ghost use Rattle.linx_base.specs.Frames.{IsMessage};
+ghost use Rattle.linx_base.specs.Numbers.{boot_of};
 ghost use Rattle.linx_base.specs.declared.identity.Session.{Session as AnySession};
 ghost use Rattle.ethcm_session.specs.Table.{HasNext};
 ghost use Rattle.ethcm_window.specs.Sending.{left_of};
@@ -153,9 +154,9 @@ impl Half {
         Ok(())
     }
 
-    /// The side boots again; the session that thereby ends is recorded.
+    /// The side boots again, with a later boot number; the session that thereby ends is recorded.
     pub fn restart(&mut self, boot: u32) -> Result<(), NoMemory>
-        requires { 1 ≤ boot }
+        requires { boot_of self.old.is.end.talk.mine < boot }
         ensures half { OnOk result
             (self.new.is ≡ with_next self.old.is (restart_of self.old.is.end boot)) }
         ensures half_was { self.new.was ≡ self.old.was }

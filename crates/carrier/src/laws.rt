@@ -14,8 +14,9 @@ pub fn events_keep()
 {}
 
 /// So what was handed up in each session is a front of what the other side offered to it; the
-/// sessions of a side rise, and their peers don't go back; sessions pair both ways; nothing is
-/// handed up twice; and each packet in flight was put in a session that is recorded.
+/// sessions of a side rise, and their peers don't go back; a session in which something was handed
+/// up and its peer have each other as their peers; nothing is handed up twice; and each packet in
+/// flight was put in a session that is recorded.
 pub fn links_keep_promises()
     ensures { (v : LinkState) → KeepsLink v → Promises v }
 {}

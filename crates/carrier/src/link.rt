@@ -1,6 +1,7 @@
 ghost use Rattle.std.specs.Prelude.{◌≡◌, ◌≤◌, ◌<◌, length, IfOk, OnOk, ◌++◌, slice_get, Some};
 ghost use Rattle.linx_base.specs.Both.{still};
 ghost use Rattle.linx_base.specs.Frames.{IsMessage};
+ghost use Rattle.linx_base.specs.Numbers.{boot_of};
 ghost use Rattle.linx_base.specs.Sides.{other_of};
 ghost use Rattle.ethcm_headers.specs.declared.packets.Packet.{Packet};
 ghost use Rattle.ethcm_session.specs.Table.{HasNext};
@@ -10,9 +11,10 @@ ghost use Rattle.ethcm_end.specs.Sound.{IsPiece};
 ghost use Rattle.ethcm_end.specs.States.{peer_of};
 ghost use Rattle.carrier.specs.Events.{delivered, drained, flight_from, half_of, handed_as};
 ghost use Rattle.carrier.specs.Events.{handed_by, is_quiet, left_after, lost_from, new_link};
-ghost use Rattle.carrier.specs.Events.{offered_to, recorded, restarted_at, swapped_from};
+ghost use Rattle.carrier.specs.Events.{offered_to, recorded, restarted_at, swapped_from, HasNextAt};
 ghost use Rattle.carrier.specs.Events.{ticked_at, told_by};
-ghost use Rattle.carrier.specs.Spelling.{HasOnlyGrown, HasOnlyGrownFrom};
+ghost use Rattle.lossy_wire.specs.Flight.{HasOnlyGrown};
+ghost use Rattle.carrier.specs.Spelling.{HasOnlyGrownFrom};
 
 use crate::flight::Flight;
 use crate::half::Half;
@@ -139,7 +141,7 @@ impl Link {
     pub fn deliver(&mut self, from: Side, k: usize, keep: bool) -> Result<Handed, NoMemory>
         requires within { k < length (flight_from from self.old.is) }
         requires grown { HasOnlyGrownFrom from self.old }
-        requires counted { HasNext (half_of (other_of from) self.old.is).end.talk.mine }
+        requires counted { HasNextAt (other_of from) self.old.is }
         ensures is { OnOk result (self.new.is ≡ delivered from k keep self.old.is) }
         ensures was { self.new.was ≡ self.old.was }
         ensures handed { IfOk result (λ handed. handed ≡ handed_by from k self.old.is) }
@@ -152,7 +154,7 @@ impl Link {
 
     /// A side is ticked.
     pub fn tick(&mut self, side: Side) -> Result<TickedSide, NoMemory>
-        requires counted { HasNext (half_of side self.old.is).end.talk.mine }
+        requires counted { HasNextAt side self.old.is }
         ensures is { OnOk result (self.new.is ≡ ticked_at side self.old.is) }
         ensures was { self.new.was ≡ self.old.was }
         ensures ticked { IfOk result (λ ticked. ticked ≡ told_by side self.old.is) }
@@ -188,9 +190,9 @@ impl Link {
         }
     }
 
-    /// A side boots again.
+    /// A side boots again, with a later boot number.
     pub fn restart(&mut self, side: Side, boot: u32) -> Result<(), NoMemory>
-        requires { 1 ≤ boot }
+        requires { boot_of (half_of side self.old.is).end.talk.mine < boot }
         ensures is { OnOk result (self.new.is ≡ restarted_at side boot self.old.is) }
         ensures was { self.new.was ≡ self.old.was }
     {

@@ -27,7 +27,7 @@ use Rattle.ethcm_end.specs.States.{EndState, Reaction, gives, peer_of}
 use Rattle.ethcm_end.specs.Rules.{ask, data_in, finished, framed_in, heard, input_of, kind_in, put}
 use Rattle.ethcm_end.specs.Rules.{put_pieces, reacts, sent_or_ack, take_frames, tick_in, tick_of}
 use Rattle.ethcm_end.specs.Rules.{tick_up, ticked, with_early, with_taken}
-use Rattle.ethcm_end.specs.Rows.{IsBetween, Rows, TickRows, after_header, up}
+use Rattle.ethcm_end.specs.Rows.{IsBetween, PacketRules, TickRules, after_header, up}
 use Rattle.ethcm_end.proofs.Cases.{is_between, kind_is, peered, unpeered}
 
 -- ---- a packet
@@ -49,7 +49,7 @@ by_asking P s peer before now =
     ] in
     by s.asked refl
 
-module _ (P : Reaction Input → Type 0) (s : EndState) (p : Packet) (rows : Rows P s p)
+module _ (P : Reaction Input → Type 0) (s : EndState) (p : Packet) (rows : PacketRules P s p)
     (between : IsBetween s p) where
   taken_row : (next : ℕ) (frame : Frame) (made : Joined) → p.part ≡ Piece next s.rx.expected frame
       → (take_frames s frame).made ≡ made
@@ -103,7 +103,7 @@ module _ (P : Reaction Input → Type 0) (s : EndState) (p : Packet) (rows : Row
   ack_row (Nack next count) e k = absurd (grind arith)
   ack_row (Piece next seq frame) e k = absurd (grind arith)
 
-pub by_rules : (P : Reaction Input → Type 0) (s : EndState) (p : Packet) → Rows P s p
+pub by_rules : (P : Reaction Input → Type 0) (s : EndState) (p : Packet) → PacketRules P s p
     → P (input_of s p)
 unfolding input_of
 by_rules P s p rows =
@@ -131,7 +131,7 @@ by_rules P s p rows =
 
 -- ---- a tick
 
-module _ (P : Reaction Ticked → Type 0) (s : EndState) (rows : TickRows P s) (peer : Session)
+module _ (P : Reaction Ticked → Type 0) (s : EndState) (rows : TickRules P s) (peer : Session)
     (is : peer_of s ≡ Some peer) where
   beat_row : (sent : List SentFrame) → unacknowledged s.tx ≡ sent → s.ticks + 1 < lost_at
       → P (gives (sent_or_ack (ticked s) peer sent) ticks.Stays)
@@ -148,10 +148,10 @@ module _ (P : Reaction Ticked → Type 0) (s : EndState) (rows : TickRows P s) (
       ]
 
 tick_row : (P : Reaction Ticked → Type 0) (s : EndState) (standing : Standing)
-    → s.talk.standing ≡ standing → TickRows P s → P (tick_in s standing)
+    → s.talk.standing ≡ standing → TickRules P s → P (tick_in s standing)
 tick_row P s Connecting e rows = rows.connecting (ap peer_in e)
 tick_row P s (Up peer confirmed) e rows = up_row P s rows peer (ap peer_in e)
 
-pub by_tick_rules : (P : Reaction Ticked → Type 0) (s : EndState) → TickRows P s → P (tick_of s)
+pub by_tick_rules : (P : Reaction Ticked → Type 0) (s : EndState) → TickRules P s → P (tick_of s)
 unfolding tick_of
 by_tick_rules P s rows = tick_row P s s.talk.standing refl rows

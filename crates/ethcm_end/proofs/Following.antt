@@ -1,4 +1,4 @@
--- What a packet, and what a tick, makes of an end is what its rule says.
+-- What a packet, a tick and an offered message make of an end is what their rules say.
 use Rattle.std.proofs.Common.{◌≡◌, ◌≢◌, ℕ, ◌+◌, ◌<◌, eqb, Bool, true, false, None, Some, List, []}
 use Rattle.std.proofs.Common.{◌∷◌, refl, ap, ◌∙◌, arith}
 use Rattle.std.proofs.lemmas.Bool.{eq-eqb, le-ltb, lt-ltb, ne_eqb}
@@ -21,8 +21,9 @@ use Rattle.ethcm_end.specs.declared.answers.Ticked.TheVariants as ticks
 use Rattle.ethcm_end.specs.States.{EndState, gives, peer_of}
 use Rattle.ethcm_end.specs.Rules.{ask, data_in, finished, framed_in, gone_down, input_of, kind_in}
 use Rattle.ethcm_end.specs.Rules.{put_ack, put_pieces, reacts, sent_or_ack, take_frames, tick_of}
-use Rattle.ethcm_end.specs.Rules.{tick_up, ticked, with_early, with_taken}
+use Rattle.ethcm_end.specs.Rules.{tick_up, ticked, with_early, with_taken, offer_of}
 use Rattle.ethcm_end.specs.Rows.{InputFollowsRules, IsBetween, TickFollowsRules, after_header}
+use Rattle.ethcm_end.specs.Rows.{OfferFollowsRules}
 
 -- ---- where an end stands
 
@@ -189,4 +190,14 @@ tick_rows s =
           ∙ ap (λ (t : EndState). gives t ticks.Stays)
           (sent_again (ticked s) peer (unacknowledged s.tx) other);
       idle = λ peer e h none. up_beat s peer e h ∙ rw none refl;
+    }
+
+-- ---- an offered message
+
+pub offer_rows : OfferFollowsRules
+unfolding offer_of
+offer_rows s m =
+    record {
+      connecting = λ e. rw (is_connecting s.talk.standing e) refl;
+      up = λ peer e. rw (is_up s.talk.standing peer e).1 refl;
     }

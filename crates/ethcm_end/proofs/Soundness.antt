@@ -2,7 +2,6 @@
 use Rattle.std.proofs.Common.{◌≡◌, ◌≢◌, if◌then◌else◌, ℕ, suc, ◌+◌, ◌-◌, ◌^◌, ◌<◌, ◌≤◌, Bool, true}
 use Rattle.std.proofs.Common.{false, ltb, leb, ◌&&◌, Option, List, [], ◌∷◌, ◌++◌, length, take}
 use Rattle.std.proofs.Common.{drop, map, All, refl, ap, sym, subst, arith, inl, inr}
-use Rattle.std.specs.Option.{ForSome}
 use Rattle.std.proofs.lemmas.Bool.{cases_lt, le-ltb, leb-true, lt-ltb, ltb-true}
 use Rattle.std.proofs.lemmas.Bool.Decides.{eqb_tells}
 use Rattle.std.proofs.lemmas.List.{length-append, length-take, length-drop}
@@ -40,7 +39,7 @@ use Rattle.link_supervisor.specs.Loss.{lost_at}
 use Rattle.ethcm_end.specs.States.{EndState, Reaction, gives}
 use Rattle.ethcm_end.specs.Sound.{FitsMessage, IsKnown, IsSound, IsSoundReceiver, IsSoundSender}
 use Rattle.ethcm_end.specs.Sound.{IsSoundTalk}
-use Rattle.ethcm_end.specs.Rules.{acked, after_out, anew, data_in, finished, first_of, framed_in}
+use Rattle.ethcm_end.specs.Rules.{acked, after_out, anew, data_in, finished, framed_in}
 use Rattle.ethcm_end.specs.Rules.{gone_down, heard, input_of, kind_in, nacked, offer_in, offer_of}
 use Rattle.ethcm_end.specs.Rules.{offered, packet_of, piece_packet, put, put_ack, put_pieces}
 use Rattle.ethcm_end.specs.Rules.{reacts, sent_or_ack, take_frames, take_kept, tick_in, tick_of}
@@ -490,15 +489,6 @@ unfolding offer_of
 offer_sound s m k is fits left = offer_in_sound s s.talk.standing m refl k is fits left
 
 -- ---- what goes out
-
-first_is : (out : List Packet) → All IsPacket out → ForSome (first_of out) IsPacket
-first_is [] all = λ p e. absurd (grind arith)
-first_is (q ∷ qs) all = λ p e.
-    let same : q ≡ p = grind arith in
-    subst IsPacket same (All-head IsPacket q qs all)
-
-pub first_packet : (s : EndState) → IsSound s → ForSome (first_of s.out) IsPacket
-first_packet s k = first_is s.out k.out
 
 pub after_out_sound : (s new : EndState) → IsSound s → new ≡ after_out s → IsSound new
 after_out_sound s new k e = rw e (with_out s (drop 1 s.out) k (All-drop IsPacket 1 s.out k.out))

@@ -5,12 +5,12 @@ use Rattle.ethcm_end.specs.Taking.{FramesInTurn}
 
 -- the laws of an end, one field a law
 pub record EndLaws : Type 0 where
-  -- its session never falls, and rises exactly where it goes down; going up or down, all begins
-  -- anew
+  -- its session never falls, and rises exactly where it goes down or its node boots again; going up
+  -- or down, all begins anew
   pub sessions : SessionsRise
   -- it is confirmed by its peer alone
   pub confirmed : PeersConfirm
-  -- its window moves by acknowledgements and offers alone
+  -- its window moves by acknowledgements and offers alone, and else begins anew
   pub windows : WindowsMove
   -- what it sends names its session and its peer's, and a piece is the frame of its number
   pub packets : PacketsNameSessions

@@ -7,9 +7,11 @@ use Rattle.linx_base.specs.declared.frame.Message.{Message}
 use Rattle.ethcm_headers.specs.declared.packets.Packet.{Packet}
 use Rattle.ethcm_headers.specs.declared.packets.Part.TheVariants.{Conn, Ack, Nack, Piece}
 use Rattle.ethcm_session.specs.Table.{up_with}
-use Rattle.ethcm_window.specs.Sending.{sent_frame, unacknowledged}
+use Rattle.ethcm_window.specs.Sending.{Sender, coming_in, sent_frame, unacknowledged}
+use Rattle.ethcm_window.specs.Sending.{with_offered}
 use Rattle.ethcm_window.specs.Receiving.{missing_count}
 use Rattle.fragmenter.specs.declared.joiner.Joined.TheVariants.{More, Whole, Broken}
+use Rattle.fragmenter.specs.Pieces.{pieces_of}
 use Rattle.link_supervisor.specs.Loss.{lost_at}
 use Rattle.ethcm_end.specs.declared.answers.Input.{Input}
 use Rattle.ethcm_end.specs.declared.answers.Input.TheVariants.{Nothing, WentUp, WentDown, Got}
@@ -17,6 +19,7 @@ use Rattle.ethcm_end.specs.declared.answers.Ticked.{Ticked}
 use Rattle.ethcm_end.specs.declared.answers.Ticked.TheVariants as ticks
 use Rattle.ethcm_end.specs.States.{EndState, Reaction, gives, peer_of}
 use Rattle.ethcm_end.specs.Rules.{acked, anew, connect, gone_down, heard, input_of, lost, nacked}
+use Rattle.ethcm_end.specs.Rules.{offer_of}
 use Rattle.ethcm_end.specs.Rules.{put, put_ack, put_pieces, replied, take_frames, tick_of, ticked}
 use Rattle.ethcm_end.specs.Rules.{with_early, with_taken}
 
@@ -34,7 +37,7 @@ abbrev pub after_header : EndState → Session → ℕ → EndState
 after_header s peer next = acked (heard (up s peer true)) peer next
 
 -- The rules for a packet, one field a rule: P holds of what the packet makes of the end.
-pub record Rows (P : Reaction Input → Type 0) (s : EndState) (p : Packet) : Type 0 where
+pub record PacketRules (P : Reaction Input → Type 0) (s : EndState) (p : Packet) : Type 0 where
   -- connecting, and a CONNECT: CONNECT_ACK is replied
   pub connecting_connect :
       peer_of s ≡ None → p.part ≡ Conn kinds.Connect
@@ -123,7 +126,7 @@ pub record Rows (P : Reaction Input → Type 0) (s : EndState) (p : Packet) : Ty
       WentDown)
 
 -- The rules for a tick, one field a rule.
-pub record TickRows (P : Reaction Ticked → Type 0) (s : EndState) : Type 0 where
+pub record TickRules (P : Reaction Ticked → Type 0) (s : EndState) : Type 0 where
   -- connecting: CONNECT is sent
   pub connecting : peer_of s ≡ None → P (gives (connect s) ticks.Stays)
   -- up, and the third tick since the peer was heard: RESET is sent, and the end goes down
@@ -141,10 +144,25 @@ pub record TickRows (P : Reaction Ticked → Type 0) (s : EndState) : Type 0 whe
       → unacknowledged s.tx ≡ []
       → P (gives (put (ticked s) peer (Conn kinds.Ack)) ticks.Stays)
 
--- what a packet, and what a tick, makes of an end is what its rule says
+-- The rules for an offered message, one field a rule.
+pub record OfferRules (P : EndState → Type 0) (s : EndState) (m : Message) : Type 0 where
+  -- connecting: nothing
+  pub connecting : peer_of s ≡ None → P s
+  -- up: the message's pieces stand behind the frames of the window, and those that thereby come
+  -- into it are sent
+  pub up :
+      (peer : Session) → peer_of s ≡ Some peer
+      → (let tx : Sender = with_offered s.tx (pieces_of m s.piece) in
+      P (put_pieces (record s { tx = tx }) peer (coming_in s.tx tx)))
+
+-- what a packet, a tick and an offered message make of an end is what their rules say
 abbrev pub InputFollowsRules : Type 0
 InputFollowsRules =
-    (s : EndState) (p : Packet) → Rows (λ reaction. input_of s p ≡ reaction) s p
+    (s : EndState) (p : Packet) → PacketRules (λ reaction. input_of s p ≡ reaction) s p
 
 abbrev pub TickFollowsRules : Type 0
-TickFollowsRules = (s : EndState) → TickRows (λ reaction. tick_of s ≡ reaction) s
+TickFollowsRules = (s : EndState) → TickRules (λ reaction. tick_of s ≡ reaction) s
+
+abbrev pub OfferFollowsRules : Type 0
+OfferFollowsRules =
+    (s : EndState) (m : Message) → OfferRules (λ state. offer_of s m ≡ state) s m

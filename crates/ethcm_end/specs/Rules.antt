@@ -1,7 +1,7 @@
 -- What a packet, a tick, an offered message and a restart make of an end: one small function for
 -- each rule, and their composition. What is sent goes behind the packets that are still to go out.
 use Rattle.std.specs.Prelude.{ℕ, ◌+◌, ◌==◌, nat_lt, if◌then◌else◌, Bool, true, false, Option, None}
-use Rattle.std.specs.Prelude.{Some, List, [], ◌∷◌, ◌++◌, map, drop, option_map}
+use Rattle.std.specs.Prelude.{Some, List, [], ◌∷◌, ◌++◌, map, drop, option_map, slice_get}
 use Rattle.linx_base.specs.declared.identity.Session.{Session}
 use Rattle.linx_base.specs.declared.frame.ConnKind.{ConnKind}
 use Rattle.linx_base.specs.declared.frame.ConnKind.TheVariants as kinds
@@ -257,14 +257,9 @@ restart_of s boot = new_end boot s.tx.window s.piece
 
 -- ---- what goes out
 
--- the packet that goes out next
-abbrev pub first_of : List Packet → Option Packet
-first_of [] = None
-first_of (p ∷ ps) = Some p
-
 -- the bytes of the packet that goes out next
 abbrev pub next_bytes : EndState → Option (List ℕ)
-next_bytes s = option_map spelling_of (first_of s.out)
+next_bytes s = option_map spelling_of (slice_get s.out 0)
 
 -- the next packet has gone out
 abbrev pub after_out : EndState → EndState

@@ -49,6 +49,7 @@ fn join_frames(rx: &mut Rx, joiner: &mut Joiner, frame: Frame) -> Result<Joined,
 {
     let mut made = joiner.add(&frame)?;
     'joining: while let Joined::More = made {
+        // The kept frames rise in number from the expected one on.
         let _ = rx.expected();
         match rx.ahead() {
             None => return Ok(Joined::More),

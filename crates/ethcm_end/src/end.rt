@@ -1,4 +1,4 @@
-ghost use Rattle.std.specs.Prelude.{◌≡◌, ◌<◌, ◌≤◌, IfOk, OnOk, OnErr};
+ghost use Rattle.std.specs.Prelude.{◌≡◌, ◌<◌, ◌≤◌, IfOk, OnOk, OnErr, slice_get};
 ghost use Rattle.std.specs.Option.{ForSome};
 ghost use Rattle.linx_base.specs.Both.{still};
 ghost use Rattle.linx_base.specs.Frames.{IsMessage};
@@ -9,7 +9,7 @@ ghost use Rattle.ethcm_session.specs.Table.{HasNext};
 ghost use Rattle.ethcm_window.specs.Sending.{left_of};
 ghost use Rattle.ethcm_end.specs.States.{gives, has_work_in, new_end, peer_of};
 ghost use Rattle.ethcm_end.specs.Sound.{FitsMessage, IsPiece, IsSound};
-ghost use Rattle.ethcm_end.specs.Rules.{after_out, first_of, input_of, next_bytes, offer_of};
+ghost use Rattle.ethcm_end.specs.Rules.{after_out, input_of, next_bytes, offer_of};
 ghost use Rattle.ethcm_end.specs.Rules.{restart_of, tick_of};
 
 use crate::answers::{Input, Ticked};
@@ -40,7 +40,7 @@ impl Model for End {
     ghost invariant = { λ e. IsSound e.parts.was × IsSound e.parts.is };
 }
 
-/// A packet comes.
+/// `take_packet`, which leaves a sound end sound.
 fn react(parts: &mut Parts, packet: Packet) -> Result<Input, NoMemory>
     requires counted { HasNext parts.old.is.talk.mine }
     requires packet { IsPacket packet }
@@ -54,7 +54,7 @@ fn react(parts: &mut Parts, packet: Packet) -> Result<Input, NoMemory>
     Ok(handed)
 }
 
-/// A tick comes.
+/// `take_tick`, which leaves a sound end sound.
 fn beat(parts: &mut Parts) -> Result<Ticked, NoMemory>
     requires counted { HasNext parts.old.is.talk.mine }
     requires sound { IsSound parts.old.is }
@@ -74,7 +74,7 @@ fn fits(message: &Message)
     let _to = message.to;
 }
 
-/// A message is offered.
+/// `take_offer`, which leaves a sound end sound.
 fn send(parts: &mut Parts, message: &Message) -> Result<(), NoMemory>
     requires message { IsMessage message.now }
     requires left { 1024 ≤ left_of parts.old.is.tx }
@@ -83,21 +83,21 @@ fn send(parts: &mut Parts, message: &Message) -> Result<(), NoMemory>
     ensures was { parts.new.was ≡ parts.old.was }
     ensures sound { OnOk result (IsSound parts.new.is) }
 {
+    // The size of the pieces is within bounds, and the message's numbers fit their fields.
     let _ = parts.piece();
     fits(message);
     take_offer(parts, message)?;
     Ok(())
 }
 
-/// The next packet goes out.
-#[tactic(auto, using(crate::proofs::Soundness::first_packet, crate::proofs::Soundness::after_out_sound))]
+/// `Parts::out` of a sound end, which stays sound; what goes out is a packet of the wire.
 fn hand_out(parts: &mut Parts) -> Result<Option<Blob>, NoMemory>
     requires { IsSound parts.old.is }
     ensures bytes { IfOk result (λ bytes. bytes ≡ next_bytes parts.old.is) }
     ensures is { OnOk result (parts.new.is ≡ after_out parts.old.is) }
     ensures was { parts.new.was ≡ parts.old.was }
     ensures err { OnErr result (parts.new ≡ parts.old) }
-    ensures packet { ForSome (first_of parts.old.is.out) IsPacket }
+    ensures packet { ForSome (slice_get parts.old.is.out 0) IsPacket }
     ensures sound { IsSound parts.new.is }
 {
     let bytes = parts.out()?;
@@ -139,7 +139,7 @@ impl End {
         }
     }
 
-    /// A packet comes. A refusal undoes the event.
+    /// The packet that was read comes. A refusal undoes the event.
     fn take(&mut self, packet: Packet) -> Result<Input, NoMemory>
         requires counted { HasNext self.old.is.talk.mine }
         requires packet { IsPacket packet }
@@ -192,13 +192,12 @@ impl End {
         }
     }
 
-    /// The node boots again: the end is a new one, with the same window and pieces of the same
-    /// size. It takes no memory.
+    /// The node boots again, with a later boot number: the end is a new one, with the same window
+    /// and pieces of the same size. It takes no memory.
     pub fn restart(&mut self, boot: u32)
-        requires { 1 ≤ boot }
+        requires { boot_of self.old.is.talk.mine < boot }
         ensures is { self.new.is ≡ restart_of self.old.is boot }
-        ensures rises { let mine = self.old.is.talk.mine in
-            boot_of mine < boot → mine.0 < self.new.is.talk.mine.0 }
+        ensures rises { self.old.is.talk.mine.0 < self.new.is.talk.mine.0 }
         ensures was { self.new.was ≡ self.old.was }
     {
         self.parts.restart(boot);
@@ -209,7 +208,7 @@ impl End {
     pub fn out(&mut self) -> Result<Option<Blob>, NoMemory>
         ensures bytes { IfOk result (λ bytes. bytes ≡ next_bytes self.old.is) }
         ensures is { OnOk result (self.new.is ≡ after_out self.old.is) }
-        ensures packet { ForSome (first_of self.old.is.out) IsPacket }
+        ensures packet { ForSome (slice_get self.old.is.out 0) IsPacket }
         ensures was { self.new.was ≡ self.old.was }
         ensures err { OnErr result (self.new ≡ self.old) }
     {

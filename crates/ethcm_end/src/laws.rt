@@ -3,7 +3,7 @@
 
 ghost use Rattle.ethcm_end.specs.Answers.{InputAnswersExactly};
 ghost use Rattle.ethcm_end.specs.Laws.{EndLaws};
-ghost use Rattle.ethcm_end.specs.Rows.{InputFollowsRules, TickFollowsRules};
+ghost use Rattle.ethcm_end.specs.Rows.{InputFollowsRules, OfferFollowsRules, TickFollowsRules};
 
 /// What a packet makes of an end is what its rule says, in a table with one row a rule.
 pub fn input_follows_rules()
@@ -20,10 +20,17 @@ pub fn tick_follows_rules()
     ensures { TickFollowsRules }
 {}
 
-/// The session of an end never falls, and rises exactly where the end goes down; going up or down,
-/// all begins anew; it is confirmed by its peer alone. Its window moves by acknowledgements and
-/// offers alone. What it sends names its session and its peer's, and a piece is the frame of its
-/// number. Each frame that it takes is the one of the expected number.
+/// What an offered message makes of an end is what its rule says. A restart makes a new end, with
+/// the same sizes (`restart_of`).
+pub fn offer_follows_rules()
+    ensures { OfferFollowsRules }
+{}
+
+/// The session of an end never falls, and rises exactly where the end goes down or its node boots
+/// again; going up or down, all begins anew; it is confirmed by its peer alone. Its window moves by
+/// acknowledgements and offers alone, and else begins anew. What it sends names its session and its
+/// peer's, and a piece is the frame of its number. Each frame that it takes is the one of the
+/// expected number.
 pub fn ends_keep_laws()
     ensures { EndLaws }
 {}

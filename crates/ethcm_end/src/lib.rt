@@ -11,12 +11,14 @@ mod data;
 mod end;
 mod events;
 mod laws;
-mod outgoing;
 mod parts;
 
 pub use answers::{Input, Ticked};
 pub use end::End;
-pub use laws::{ends_keep_laws, input_answers_exactly, input_follows_rules, tick_follows_rules};
+pub use laws::{
+    ends_keep_laws, input_answers_exactly, input_follows_rules, offer_follows_rules,
+    tick_follows_rules,
+};
 
 #[cfg(test)]
 mod tests;

@@ -1,18 +1,18 @@
-ghost use Rattle.std.specs.Prelude.{◌≡◌, ◌≤◌, OnOk, OnErr, IfOk, IsSome, All};
+ghost use Rattle.std.specs.Prelude.{◌≡◌, ◌<◌, ◌≤◌, OnOk, OnErr, IfOk, IsSome, All};
 ghost use Rattle.linx_base.specs.Both.{still};
+ghost use Rattle.linx_base.specs.Numbers.{boot_of};
 ghost use Rattle.ethcm_headers.specs.Packets.{IsPacket};
 ghost use Rattle.ethcm_session.specs.Table.{HasNext};
 ghost use Rattle.ethcm_end.specs.States.{new_end, peer_of};
 ghost use Rattle.ethcm_end.specs.Rules.{after_out, anew, gone_down, heard, next_bytes, packet_of};
 ghost use Rattle.ethcm_end.specs.Rules.{put, put_ack, put_pieces, replied, restart_of};
 
-use crate::outgoing::Outgoing;
 use ethcm_headers::{Packet, Part, write};
 use ethcm_session::Talk;
 use ethcm_window::{Rx, Tx};
 use fragmenter::Joiner;
 use link_supervisor::Watch;
-use linx_base::{Blob, ConnKind, NoMemory, SentFrames, Session};
+use linx_base::{Blob, ConnKind, NoMemory, SentFrames, Session, UndoQueue};
 use std::alloc::Global;
 use std::marker::Model;
 
@@ -29,7 +29,7 @@ pub struct Parts {
     pub(crate) asked: bool,
     pub(crate) old_asked: bool,
     pub(crate) piece: u32,
-    pub(crate) outgoing: Outgoing,
+    pub(crate) outgoing: UndoQueue<Packet>,
 }
 
 impl Model for Parts {
@@ -85,7 +85,7 @@ impl Parts {
             asked: false,
             old_asked: false,
             piece,
-            outgoing: Outgoing::new(alloc),
+            outgoing: UndoQueue::new(alloc),
         }
     }
 
@@ -207,9 +207,9 @@ impl Parts {
         self.begin();
     }
 
-    /// The node boots again. It takes no memory.
+    /// The node boots again, with a later boot number. It takes no memory.
     pub fn restart(&mut self, boot: u32)
-        requires { 1 ≤ boot }
+        requires { boot_of self.old.is.talk.mine < boot }
         ensures is { self.new.is ≡ restart_of self.old.is boot }
         ensures was { self.new.was ≡ self.old.was }
     {

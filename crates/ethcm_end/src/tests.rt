@@ -3,28 +3,10 @@ use linx_base::{Blob, Message};
 use std::alloc::Global;
 use std::test::Fail;
 
-fn digit(byte: u8) -> Option<u8> {
-    match byte {
-        b'0'..=b'9' => Some(byte.wrapping_sub(b'0')),
-        b'a'..=b'f' => Some(byte.wrapping_sub(b'a').wrapping_add(10)),
-        _ => None,
-    }
-}
-
 /// Adds the bytes that these hexadecimal digits are, two a byte.
 fn add_digits(bytes: &mut Vec<u8>, digits: &str) -> Result<(), Fail> {
-    let mut high = None;
-    for byte in digits.as_bytes() {
-        match (digit(*byte), high) {
-            (None, _) => return Err(Fail::from("no digit")),
-            (Some(value), None) => high = Some(value),
-            (Some(value), Some(first)) => {
-                let first: u8 = first;
-                bytes.push(first.wrapping_mul(16).wrapping_add(value))?;
-                high = None;
-            }
-        }
-    }
+    let decoded = hex::decode(*bytes.allocator(), digits)?;
+    bytes.extend_from_slice(&decoded)?;
     Ok(())
 }
 
@@ -119,6 +101,15 @@ fn offer(end: &mut End, body: Vec<u8>) -> Result<bool, Fail> {
     Ok(true)
 }
 
+/// Whether the node could boot again, for the sixth time, and did.
+fn restart(end: &mut End) -> bool {
+    if end.mine().boot() >= 6 {
+        return false;
+    }
+    end.restart(6);
+    true
+}
+
 /// Whether exactly these bytes go out next; where they are none, whether nothing goes out.
 fn sends(end: &mut End, bytes: &[u8]) -> Result<bool, Fail> {
     Ok(match end.out()? {
@@ -144,8 +135,10 @@ fn happens(alloc: Global, end: &mut End, word: &str, rest: &str) -> Result<bool,
 }
 
 /// Whether the line comes out as it says: `none`, `up`, `down` and `got` what a packet means, of
-/// which the bytes stand behind the word; `tick` and `lost` what a tick means; `sends` the packet
-/// that goes out next, all of it; `work` and `rest` whether the end has work.
+/// which the bytes stand behind the word; `pieces` that further pieces with these numbers mean
+/// nothing; `tick` and `lost` what a tick means; `offer` that a message of these bytes is offered;
+/// `restart` that the node boots for the sixth time; `keep` and `undo` how an event ends; `sends`
+/// the packet that goes out next, all of it; `work` and `rest` whether the end has work.
 fn follows_line(alloc: Global, end: &mut End, line: &str) -> Result<bool, Fail> {
     let (word, rest) = line.split_once(' ').unwrap_or((line, ""));
     match word {
@@ -154,7 +147,7 @@ fn follows_line(alloc: Global, end: &mut End, line: &str) -> Result<bool, Fail> 
         "rest" => return Ok(!end.has_work()),
         "keep" => end.keep(),
         "undo" => end.undo(),
-        "restart" => end.restart(6),
+        "restart" => return Ok(restart(end)),
         _ => return happens(alloc, end, word, rest),
     }
     Ok(true)
@@ -353,6 +346,24 @@ fn a_nack_first_moves_the_window(rt: HostRuntime) -> Result<(), Fail> {
         sends 02050064 5.1 9.4 04000000 00000000 00010000 00000003 5a*64
         sends 02050050 5.1 9.4 04000000 00000000 00000000 00000004 5a*44
         none 0205001c 9.4 5.1 00000000 00000005
+        rest",
+    )
+}
+
+/// The ACK is of five frames, before and after one goes out.
+#[test]
+fn an_ack_of_frames_that_were_not_sent_drops_nothing(rt: HostRuntime) -> Result<(), Fail> {
+    follows(
+        rt.alloc(),
+        32,
+        "up 02020018 9.4 5.1 00030000
+        none 0205001c 9.4 5.1 00000000 00000005
+        rest
+        offer 5b
+        sends 02050031 5.1 9.4 03000000 00000000 00000000 00000000 00000007 00000009 00000001 5b
+        none 0205001c 9.4 5.1 00000000 00000005
+        work
+        none 0205001c 9.4 5.1 00000000 00000001
         rest",
     )
 }

@@ -12,7 +12,8 @@ use Rattle.ethcm_session.specs.declared.standing.Standing.TheVariants.{Connectin
 use Rattle.ethcm_session.specs.declared.standing.TalkState.{TalkState}
 use Rattle.ethcm_session.specs.declared.standing.Change.{Change}
 use Rattle.ethcm_session.specs.declared.standing.Change.TheVariants.{WentDown}
-use Rattle.ethcm_session.specs.Table.{Outcome, Rows, HasNext, gives, while_connecting, from_peer}
+use Rattle.ethcm_session.specs.Table.{Outcome, SessionRules, HasNext, gives, while_connecting}
+use Rattle.ethcm_session.specs.Table.{from_peer}
 use Rattle.ethcm_session.specs.Table.{while_up, outcome_in, outcome_of}
 
 -- ---- what holds of each row holds of what a packet gives
@@ -31,7 +32,7 @@ tells_mine old dst =
 
 module _ (P : Outcome → Type 0) (old : TalkState) (src : Session) (dst : ℕ) where
   of_connecting : (kind : Option ConnKind) (to_me : Bool) → TellsMine old dst to_me
-      → old.standing ≡ Connecting → Rows P old src dst kind
+      → old.standing ≡ Connecting → SessionRules P old src dst kind
       → P (while_connecting old src kind to_me)
   of_connecting (Some Connect) to_me tells e rows = rows.connecting_connect e refl
   of_connecting (Some ConnectAck) true tells e rows =
@@ -47,7 +48,7 @@ module _ (P : Outcome → Type 0) (old : TalkState) (src : Session) (dst : ℕ) 
       rows.connecting_other e (λ q. cc) (λ q. absurd cc) (λ q. absurd cc)
 
   of_peer : (kind : Option ConnKind) (to_me confirmed : Bool) → TellsMine old dst to_me
-      → old.standing ≡ Up src confirmed → Rows P old src dst kind
+      → old.standing ≡ Up src confirmed → SessionRules P old src dst kind
       → P (from_peer old src kind to_me)
   of_peer (Some Connect) to_me confirmed tells e rows = rows.up_connect confirmed e refl
   of_peer (Some ConnectAck) true confirmed tells e rows =
@@ -66,7 +67,7 @@ module _ (P : Outcome → Type 0) (old : TalkState) (src : Session) (dst : ℕ) 
 
   of_up : (kind : Option ConnKind) (peer : Session) (confirmed lower greater : Bool)
       → ltb src.0 peer.0 ≡ lower → ltb peer.0 src.0 ≡ greater
-      → old.standing ≡ Up peer confirmed → Rows P old src dst kind
+      → old.standing ≡ Up peer confirmed → SessionRules P old src dst kind
       → P (while_up old peer src kind (eqb dst old.mine.0))
   of_up kind peer confirmed true greater l g e rows =
       rw l (rows.up_lower peer confirmed e (ltb-true _ _ l))
@@ -81,13 +82,13 @@ module _ (P : Outcome → Type 0) (old : TalkState) (src : Session) (dst : ℕ) 
       (subst (λ (s : Session). old.standing ≡ Up s confirmed) same e) rows)
 
   of_standing : (kind : Option ConnKind) (standing : Standing) → old.standing ≡ standing
-      → Rows P old src dst kind → P (outcome_in standing old src dst kind)
+      → SessionRules P old src dst kind → P (outcome_in standing old src dst kind)
   of_standing kind Connecting e rows =
       of_connecting kind (eqb dst old.mine.0) (tells_mine old dst) e rows
   of_standing kind (Up peer confirmed) e rows =
       of_up kind peer confirmed (ltb src.0 peer.0) (ltb peer.0 src.0) refl refl e rows
 
-  pub by_rows : (kind : Option ConnKind) → Rows P old src dst kind
+  pub by_rows : (kind : Option ConnKind) → SessionRules P old src dst kind
       → P (outcome_of old src dst kind)
   by_rows kind rows = of_standing kind old.standing refl rows
 

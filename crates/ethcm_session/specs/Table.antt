@@ -38,11 +38,6 @@ abbrev pub is_confirmed_in : Standing → Bool
 is_confirmed_in Connecting = false
 is_confirmed_in (Up peer confirmed) = confirmed
 
--- what a connecting end does on its tick, and one that is up doesn't
-abbrev pub asking_in : Standing → Option ConnKind
-asking_in Connecting = Some Connect
-asking_in (Up peer confirmed) = None
-
 -- a change, and the state afterwards
 pub record Outcome : Type 0 where
   pub change : Change
@@ -83,7 +78,7 @@ abbrev pub outcome_of : TalkState → Session → ℕ → Option ConnKind → Ou
 outcome_of s src dst kind = outcome_in s.standing s src dst kind
 
 -- The table, one field a row: P holds of what a packet from session src to session dst gives.
-pub record Rows (P : Outcome → Type 0)
+pub record SessionRules (P : Outcome → Type 0)
     (old : TalkState) (src : Session) (dst : ℕ) (kind : Option ConnKind) : Type 0 where
   -- connecting, and a CONNECT: CONNECT_ACK is replied
   pub connecting_connect :
@@ -137,4 +132,4 @@ pub record Rows (P : Outcome → Type 0)
 
 -- the outcome of a packet is that of its row
 abbrev pub FollowsTable : TalkState → Session → ℕ → Option ConnKind → Outcome → Type 0
-FollowsTable old src dst kind outcome = Rows (λ row. outcome ≡ row) old src dst kind
+FollowsTable old src dst kind outcome = SessionRules (λ row. outcome ≡ row) old src dst kind

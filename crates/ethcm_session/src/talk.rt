@@ -1,7 +1,7 @@
 ghost use Rattle.std.specs.Prelude.{◌≡◌, ◌<◌, ◌≤◌, ◌↔◌, IsSome};
 ghost use Rattle.linx_base.specs.Both.{still};
 ghost use Rattle.linx_base.specs.Numbers.{boot_of, next_session, IsNumbered};
-ghost use Rattle.ethcm_session.specs.Table.{asking_in, after_down, boot_state, from_peer, gives};
+ghost use Rattle.ethcm_session.specs.Table.{after_down, boot_state, from_peer, gives};
 ghost use Rattle.ethcm_session.specs.Table.{is_confirmed_in, outcome_of, peer_in, up_with};
 ghost use Rattle.ethcm_session.specs.Table.{while_connecting, FollowsTable, HasNext};
 
@@ -144,24 +144,15 @@ impl Talk {
         }
     }
 
-    /// The node of this end boots again: the first session of that boot is connecting.
+    /// The node of this end boots again: the first session of that boot, which is later than the
+    /// one before it, is connecting.
     pub fn restart(&mut self, boot: u32)
-        requires { 1 ≤ boot }
+        requires { boot_of self.old.is.mine < boot }
         ensures is { self.new.is ≡ boot_state boot }
-        ensures rises { boot_of self.old.is.mine < boot → self.old.is.mine.0 < self.new.is.mine.0 }
+        ensures rises { self.old.is.mine.0 < self.new.is.mine.0 }
         ensures was { self.new.was ≡ self.old.was }
     {
         self.state = booted(boot);
-    }
-
-    /// The packet that a tick sends: a CONNECT while connecting, `None` while up.
-    pub fn tick(&self) -> Option<ConnKind>
-        ensures { result ≡ asking_in self.now.is.standing }
-    {
-        match self.state.standing {
-            Standing::Connecting => Some(ConnKind::Connect),
-            Standing::Up { .. } => None,
-        }
     }
 
     /// A packet from session `src` to session `dst`, 0 being an unknown one; its kind is `None` for

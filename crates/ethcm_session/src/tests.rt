@@ -96,15 +96,14 @@ fn every_row_of_the_table_of_sessions(rt: HostRuntime) {
 }
 
 #[test]
-fn an_end_asks_while_connecting_and_forgets_its_peer_when_lost(rt: HostRuntime) {
+fn an_end_forgets_its_peer_when_lost(rt: HostRuntime) {
     let mut talk = talk(&rt, true);
-    assert_eq!(rt; talk.tick(), None);
     assert_eq!(rt; talk.peer(), Some(Session(PEER)));
     assert!(rt; !talk.confirmed());
     assert!(rt; talk.peer().is_some());
     assert!(rt; talk.mine().count() < u32::MAX);
     talk.lost();
-    assert_eq!(rt; talk.tick(), CONNECT);
+    assert_eq!(rt; talk.state().standing, CONNECTING);
     assert_eq!(rt; talk.peer(), None);
 }
 
@@ -118,6 +117,7 @@ fn an_undone_event_leaves_the_session_as_the_kept_ones_did(rt: HostRuntime) {
             Change::WentDown
         );
         assert_eq!(rt; talk.mine().0, MINE + 1);
+        assert!(rt; talk.mine().boot() < 6);
         talk.restart(6);
         assert_eq!(rt; talk.mine(), Session::of(6, 1));
         talk.undo();

@@ -29,7 +29,8 @@ use Rattle.carrier.proofs.Links.{events_keep, seen_keeps}
 use Rattle.link_settling.specs.Laws.{AreInFlight, DeliveriesEnd, come_all}
 use Rattle.link_settling.specs.Runs.{IsEmpty}
 use Rattle.link_settling.specs.Measure.{Falls, Measure, connects, ends_up, measure, total}
-use Rattle.link_settling.proofs.Counting.{no_length, pieces_alone, total-append, total_none, total_one}
+use Rattle.link_settling.proofs.Counting.{no_length, pieces_alone, total-append, total_none}
+use Rattle.link_settling.proofs.Counting.{total_one}
 use Rattle.link_settling.proofs.Counting.{total_removed}
 use Rattle.link_settling.proofs.Inducting.{falls_inducts}
 use Rattle.link_settling.proofs.Lowering.{Lower, lowers}

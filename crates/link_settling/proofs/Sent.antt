@@ -11,7 +11,7 @@ use Rattle.ethcm_end.specs.declared.answers.Input.{Input}
 use Rattle.ethcm_end.specs.declared.answers.Ticked.{Ticked}
 use Rattle.ethcm_end.specs.States.{EndState, Reaction, peer_of}
 use Rattle.ethcm_end.specs.Rules.{input_of, offer_in, offer_of, offered, tick_of}
-use Rattle.ethcm_end.specs.Rows.{Rows, TickRows}
+use Rattle.ethcm_end.specs.Rows.{PacketRules, TickRules}
 use Rattle.ethcm_end.proofs.ByRule.{by_rules, by_tick_rules}
 use Rattle.ethcm_end.proofs.Following.{input_rows, tick_rows}
 use Rattle.carrier.specs.Events.{drained}
@@ -20,24 +20,25 @@ drained_is : (s : EndState) → s.out ≡ [] → drained s ≡ s
 drained_is s none = ap (λ (out : List Packet). record s { out = out }) (sym none)
 
 pub by_drained_rules : (P : Reaction Input → Type 0) (s : EndState) (p : Packet) → s.out ≡ []
-    → Rows P (drained s) p → P (input_of s p)
+    → PacketRules P (drained s) p → P (input_of s p)
 by_drained_rules P s p none rows =
     subst (λ t. P (input_of t p)) (drained_is s none) (by_rules P (drained s) p rows)
 
 pub by_drained_tick_rules : (P : Reaction Ticked → Type 0) (s : EndState) → s.out ≡ []
-    → TickRows P (drained s) → P (tick_of s)
+    → TickRules P (drained s) → P (tick_of s)
 by_drained_tick_rules P s none rows =
     subst (λ t. P (tick_of t)) (drained_is s none) (by_tick_rules P (drained s) rows)
 
 -- what its rule says
-pub by_rule : (s : EndState) (p : Packet) → s.out ≡ [] → Rows (λ r. input_of s p ≡ r) (drained s) p
+pub by_rule : (s : EndState) (p : Packet) → s.out ≡ []
+    → PacketRules (λ r. input_of s p ≡ r) (drained s) p
 by_rule s p none =
-    subst (λ t. Rows (λ r. input_of t p ≡ r) (drained s) p) (drained_is s none)
+    subst (λ t. PacketRules (λ r. input_of t p ≡ r) (drained s) p) (drained_is s none)
     (input_rows (drained s) p)
 
-pub by_tick_rule : (s : EndState) → s.out ≡ [] → TickRows (λ r. tick_of s ≡ r) (drained s)
+pub by_tick_rule : (s : EndState) → s.out ≡ [] → TickRules (λ r. tick_of s ≡ r) (drained s)
 by_tick_rule s none =
-    subst (λ t. TickRows (λ r. tick_of t ≡ r) (drained s)) (drained_is s none)
+    subst (λ t. TickRules (λ r. tick_of t ≡ r) (drained s)) (drained_is s none)
     (tick_rows (drained s))
 
 pub by_drained_offer : (P : EndState → Type 0) (s : EndState) (m : Message) → s.out ≡ []

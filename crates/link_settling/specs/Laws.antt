@@ -49,7 +49,7 @@ come_all v (from ∷ sides) = come_all (delivered from 0 false v) sides
 
 -- WITHOUT TICKS AND OFFERS ALL PACKETS IN FLIGHT COME TO AN END
 pub record DeliveriesEnd : Type 0 where
-  -- a packet that comes and isn't lost lowers the measure, from any place
+  -- a packet that comes and leaves its place, whichever that is, lowers the measure
   pub falls :
       (from : Side) (k : ℕ) (v : LinkState) → KeepsLink v → k < length (flight_from from v)
       → Falls (measure (delivered from k false v)) (measure v)

@@ -3,8 +3,8 @@
 
 ghost use Rattle.link_settling.specs.Laws.{DeliveriesEnd, LinksSettle};
 
-/// Each packet that comes and isn't lost lowers the measure of a link, whatever happened to it; so
-/// without ticks and offers not more than so many come.
+/// Each packet that comes and leaves its place, whichever that is, lowers the measure of a link,
+/// whatever happened to it; so without ticks and offers not more than so many come.
 pub fn deliveries_end()
     ensures { DeliveriesEnd }
 {}

@@ -1,8 +1,9 @@
 //! That a link settles. `specs/` says how far a link is from having nothing in flight, and when it
 //! settles in some ticks: whatever is offered meanwhile, once all packets have come, in order and
 //! none lost, a side ticks, then the other, and after the last tick the link is quiet. `proofs/`
-//! shows that each packet lowers the first, and that six ticks are enough for every link. It stands
-//! on the functions and laws of a carrier alone.
+//! shows that each packet that comes and leaves its place, whichever that is, lowers the first, and
+//! that six ticks are enough for every link. It stands on the functions and laws of a carrier
+//! alone.
 #![tactic(auto)]
 
 mod laws;

@@ -206,16 +206,17 @@ impl Run {
         Err(Fail::from("packets without end"))
     }
 
-    /// What an honest link does: all packets come, and then both sides are ticked, until the link
-    /// is quiet, which takes six ticks at most.
+    /// What an honest link does: all packets come, and then a side is ticked, the sides in turn,
+    /// until the link is quiet, which takes six ticks at most.
     fn settles(&mut self) -> Result<(), Fail> {
+        let mut side = Side::First;
         for _ in 0..6 {
             self.drains()?;
             if self.is_quiet()? {
                 return Ok(());
             }
-            self.tick(Side::First)?;
-            self.tick(Side::Second)?;
+            self.tick(side)?;
+            side = side.other();
         }
         self.drains()?;
         must(self.is_quiet()?, "it didn't come to rest")
