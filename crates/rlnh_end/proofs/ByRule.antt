@@ -1,11 +1,13 @@
 -- The functions of an end do what each rule says.
-use Rattle.std.proofs.Common.{◌≡◌, ℕ, Bool, true, false, ◌||◌, List, [], refl, cond}
-use Rattle.std.specs.Prelude.{Option, Some, None, is_some}
+use Rattle.std.proofs.Common.{◌≡◌, ℕ, suc, Bool, true, false, ◌||◌, List, [], ◌∷◌, refl, ap}
+use Rattle.std.proofs.Common.{cond, eqb}
+use Rattle.std.specs.Prelude.{Option, Some, None, is_some, option_map}
+use Rattle.std.proofs.lemmas.Bool.{eq-eqb}
 use Rattle.linx_base.specs.declared.identity.Inc.{Inc}
 use Rattle.linx_base.specs.declared.signal.SigNote.{SigNote}
 use Rattle.link_addresses.specs.declared.meaning.Meaning.{Meaning}
 use Rattle.link_addresses.specs.declared.meaning.Meaning.TheVariants.{Free, Live, Closing}
-use Rattle.link_addresses.specs.Meanings.{meaning_of}
+use Rattle.link_addresses.specs.Meanings.{address_of, lowest_free, meaning_of, with_lowest}
 use Rattle.rlnh_messages.specs.declared.rlnh.Rlnh.TheVariants.{Init, InitReply, QueryName}
 use Rattle.rlnh_messages.specs.declared.rlnh.Rlnh.TheVariants.{Publish, Unpublish, UnpublishAck}
 use Rattle.rlnh_end.specs.declared.heard.Heard.{Heard}
@@ -16,6 +18,31 @@ use Rattle.rlnh_end.specs.Calls.{saying}
 use Rattle.rlnh_end.specs.Hearing.{only, hears, heard_publish, heard_unpublish, heard_ack}
 use Rattle.rlnh_end.specs.Hearing.{heard_signal}
 use Rattle.rlnh_end.specs.Rows.{CallsFollowRules, HearingFollowsRules}
+
+none_after : (o : Option ℕ) → option_map suc o ≡ None → o ≡ None
+none_after None none = refl
+none_after (Some a) none = absurd cc
+
+-- an incarnation that isn't live gets the lowest free address
+lowest_address : (own : List Meaning) (inc : Inc) → address_of own inc ≡ None
+    → address_of (with_lowest own (Live inc)) inc ≡ Some (lowest_free own)
+unfolding address_of with_lowest lowest_free
+lowest_address [] inc none = rw (eq-eqb inc.0 inc.0 refl) refl
+lowest_address (Free ∷ own) inc none = rw (eq-eqb inc.0 inc.0 refl) refl
+lowest_address (Live other ∷ own) inc none =
+    by (eqb inc.0 other.0) none (λ rest. lowest_address own inc rest)
+  where
+    by : (same : Bool)
+        → cond same (Some 1) (option_map suc (address_of own inc)) ≡ None
+        → (address_of own inc ≡ None
+        → address_of (with_lowest own (Live inc)) inc ≡ Some (lowest_free own))
+        → cond same (Some 1) (option_map suc (address_of (with_lowest own (Live inc)) inc))
+        ≡ Some (suc (lowest_free own))
+    by true none later = absurd cc
+    by false none later =
+        ap (option_map suc) (later (none_after (address_of own inc) none))
+lowest_address (Closing other ∷ own) inc none =
+    ap (option_map suc) (lowest_address own inc (none_after (address_of own inc) none))
 
 pub calls_follow_rules : CallsFollowRules
 calls_follow_rules t = record {
@@ -28,6 +55,8 @@ calls_follow_rules t = record {
   closes = λ inc addr is. rw is refl;
   closes_unknown = λ inc is. rw is refl;
   sends = λ from name addr to other signal here there. rw (here, there, here) refl;
+  sends_first = λ from name to other signal none there.
+      rw (none, none, lowest_address t.own from none, there) refl;
 }
 
 -- what is bad changes nothing

@@ -11,7 +11,8 @@ use Rattle.rlnh_messages.specs.declared.rlnh.Rlnh.TheVariants.{Publish, Unpublis
 use Rattle.rlnh_end.specs.declared.heard.Heard.{Heard}
 use Rattle.rlnh_end.specs.declared.heard.Heard.TheVariants.{Control, Signal, Garbage}
 use Rattle.rlnh_end.specs.declared.up.Up.{Up}
-use Rattle.rlnh_end.specs.declared.up.Up.TheVariants.{Nothing, Arrived, Met, Gone, Asked, Bad}
+use Rattle.rlnh_end.specs.declared.up.Up.TheVariants.{Nothing, Arrived, Freed, Met, Gone}
+use Rattle.rlnh_end.specs.declared.up.Up.TheVariants.{Asked, Bad}
 use Rattle.rlnh_end.specs.States.{RlnhTables, new_end, no_tables}
 use Rattle.rlnh_end.specs.Words.{Word, announce, tell, withdraw}
 use Rattle.rlnh_end.specs.Words.{confirm, message_of}
@@ -166,8 +167,8 @@ arriving : ran (met ++ publish (own 1) b ∷ to_one ∷ close (own 1) ∷ to_one
     ≡ record {
       tables = record no_tables { own = Free ∷ [] };
       says = announce 1 (own 1) b ∷ withdraw 1 (own 1) ∷ confirm 7 ∷ [];
-      ups = Met peer b ∷ Arrived peer (own 1) note ∷ Nothing ∷ Nothing ∷ Bad ∷ Gone peer ∷ Bad
-          ∷ [];
+      ups = Met peer b ∷ Arrived peer (own 1) note ∷ Freed peer (own 1) note ∷ Nothing ∷ Bad
+          ∷ Gone peer ∷ Bad ∷ [];
     }
 unfolding all_done hears address_of lowest_free with_lowest
 arriving = refl

@@ -62,9 +62,9 @@ abbrev pub close_of : RlnhTables → Inc → Saying
 close_of t inc = closed t inc (address_of t.own inc)
 
 -- a sender is published before its first signal
-abbrev pub known_of : RlnhTables → Inc → List ℕ → Option ℕ → Saying
-known_of t inc name (Some addr) = saying t []
-known_of t inc name None = publish_of t inc name
+abbrev pub publish_sender_of : RlnhTables → Inc → List ℕ → Option ℕ → Saying
+publish_sender_of t inc name (Some addr) = saying t []
+publish_sender_of t inc name None = publish_of t inc name
 
 -- a signal goes from the address of its sender to that of a peer that was met
 abbrev pub told : Option ℕ → Inc → Option ℕ → Inc → SigNote → List Word
@@ -83,4 +83,4 @@ signal_of made from to signal =
 -- a signal is sent
 abbrev pub send_of : RlnhTables → Inc → List ℕ → Inc → SigNote → Saying
 send_of t from name to signal =
-    signal_of (known_of t from name (address_of t.own from)) from to signal
+    signal_of (publish_sender_of t from name (address_of t.own from)) from to signal

@@ -16,7 +16,8 @@ use Rattle.rlnh_messages.specs.declared.rlnh.Rlnh.TheVariants.{Publish, Unpublis
 use Rattle.rlnh_end.specs.declared.heard.Heard.{Heard}
 use Rattle.rlnh_end.specs.declared.heard.Heard.TheVariants.{Control, Signal, Garbage}
 use Rattle.rlnh_end.specs.declared.up.Up.{Up}
-use Rattle.rlnh_end.specs.declared.up.Up.TheVariants.{Nothing, Arrived, Met, Gone, Asked, Bad}
+use Rattle.rlnh_end.specs.declared.up.Up.TheVariants.{Nothing, Arrived, Freed, Met, Gone}
+use Rattle.rlnh_end.specs.declared.up.Up.TheVariants.{Asked, Bad}
 use Rattle.rlnh_end.specs.States.{RlnhTables, inc_met, addr_met, with_met, without_met, with_note}
 use Rattle.rlnh_end.specs.Words.{Word, hello_back, confirm}
 use Rattle.rlnh_end.specs.Calls.{Saying, saying}
@@ -94,7 +95,7 @@ abbrev pub heard_signal : RlnhTables → SigNote → Option Inc → Meaning → 
 heard_signal t note None means = only t Bad
 heard_signal t note (Some from) Free = only t Bad
 heard_signal t note (Some from) (Live to) = only t (Arrived from to note)
-heard_signal t note (Some from) (Closing to) = only t Nothing
+heard_signal t note (Some from) (Closing to) = only t (Freed from to note)
 
 -- INIT is replied to, its reply means nothing, and a name that is asked for is noted
 abbrev pub hears_control : RlnhTables → Rlnh → Hearing

@@ -9,7 +9,8 @@ use Rattle.rlnh_messages.specs.declared.rlnh.Rlnh.TheVariants.{Init, InitReply, 
 use Rattle.rlnh_messages.specs.declared.rlnh.Rlnh.TheVariants.{Publish, Unpublish, UnpublishAck}
 use Rattle.rlnh_end.specs.declared.heard.Heard.{Heard}
 use Rattle.rlnh_end.specs.declared.heard.Heard.TheVariants.{Control, Signal}
-use Rattle.rlnh_end.specs.declared.up.Up.TheVariants.{Nothing, Arrived, Met, Gone, Asked, Bad}
+use Rattle.rlnh_end.specs.declared.up.Up.TheVariants.{Nothing, Arrived, Freed, Met, Gone}
+use Rattle.rlnh_end.specs.declared.up.Up.TheVariants.{Asked, Bad}
 use Rattle.rlnh_end.specs.States.{RlnhTables, inc_met, addr_met, no_tables, with_met, without_met}
 use Rattle.rlnh_end.specs.States.{is_noted, with_note, without_note}
 use Rattle.rlnh_end.specs.Words.{hello, hello_back, question, announce, tell, withdraw, confirm}
@@ -46,14 +47,23 @@ pub record CallRules (t : RlnhTables) : Type 0 where
       (inc : Inc) (addr : ℕ) → address_of t.own inc ≡ Some addr
       → close_of t inc
       ≡ saying (record t { own = with_meaning t.own addr (Closing inc) }) (withdraw addr inc ∷ [])
-  -- nothing is said of one that was never published
+  -- nothing is said of one that isn't live at an address
   pub closes_unknown :
       (inc : Inc) → address_of t.own inc ≡ None → close_of t inc ≡ saying t []
-  -- a signal goes from the address of its sender to that of its receiver
+  -- a signal goes from the address of its sender, where it is live at one, to that of its receiver
   pub sends :
       (from : Inc) (name : List ℕ) (addr : ℕ) (to : Inc) (other : ℕ) (signal : SigNote)
       → address_of t.own from ≡ Some addr → addr_met t.met to ≡ Some other
       → send_of t from name to signal ≡ saying t (tell addr from other to signal ∷ [])
+  -- a sender that isn't live at an address is published first, and the signal goes from its new one
+  pub sends_first :
+      (from : Inc) (name : List ℕ) (to : Inc) (other : ℕ) (signal : SigNote)
+      → address_of t.own from ≡ None → addr_met t.met to ≡ Some other
+      → send_of t from name to signal
+      ≡ saying
+      (record t { own = with_lowest t.own (Live from); noted = without_note t.noted name })
+      (announce (lowest_free t.own) from name
+      ∷ tell (lowest_free t.own) from other to signal ∷ [])
 
 -- the rules for what an end hears
 pub record HearingRules (t : RlnhTables) : Type 0 where
@@ -89,7 +99,7 @@ pub record HearingRules (t : RlnhTables) : Type 0 where
   pub freed :
       (from to : ℕ) (note : SigNote) (sender receiver : Inc) → inc_met t.met from ≡ Some sender
       → meaning_of t.own to ≡ Closing receiver
-      → hears t (Signal from to note) ≡ only t Nothing
+      → hears t (Signal from to note) ≡ only t (Freed sender receiver note)
   -- what is bad changes nothing, and nothing is said to it
   pub bad : (heard : Heard) → (hears t heard).up ≡ Bad → (hears t heard).made ≡ saying t []
 

@@ -1,8 +1,8 @@
 //! What an end says by itself: one function a rule. After a refusal the event is to be undone.
-ghost use Rattle.std.specs.Prelude.{◌≡◌, ◌<◌, [], OnOk, None};
-ghost use Rattle.link_addresses.specs.Meanings.{address_of, used_in, IsLive};
+ghost use Rattle.std.specs.Prelude.{◌≡◌, [], OnOk, None};
+ghost use Rattle.link_addresses.specs.Meanings.{address_of, IsLive, HasAddressLeft};
 ghost use Rattle.rlnh_end.specs.Calls.{after, begin_of, query_of, publish_of, announced, opened_of};
-ghost use Rattle.rlnh_end.specs.Calls.{close_of, known_of, send_of, signal_of, saying};
+ghost use Rattle.rlnh_end.specs.Calls.{close_of, publish_sender_of, send_of, signal_of, saying};
 
 use crate::parts::Parts;
 use linx_base::{Inc, Message, Name, NoMemory, Signal, TryCopy};
@@ -31,7 +31,7 @@ pub(crate) fn query(parts: &mut Parts, name: &Name) -> Result<(), NoMemory>
 /// An incarnation that isn't live gets an address, and that is said.
 fn announce(parts: &mut Parts, inc: Inc, name: &Name) -> Result<(), NoMemory>
     requires not_live { ¬ (IsLive parts.old.is.tables.own inc) }
-    requires room { used_in parts.old.is.tables.own < 4294967295 }
+    requires room { HasAddressLeft parts.old.is.tables.own }
     ensures is { OnOk result (parts.new.is
         ≡ after parts.old.is (announced parts.old.is.tables inc name.now None)) }
     ensures was { parts.new.was ≡ parts.old.was }
@@ -44,7 +44,7 @@ fn announce(parts: &mut Parts, inc: Inc, name: &Name) -> Result<(), NoMemory>
 
 /// An endpoint is published.
 pub(crate) fn publish(parts: &mut Parts, inc: Inc, name: &Name) -> Result<(), NoMemory>
-    requires room { used_in parts.old.is.tables.own < 4294967295 }
+    requires room { HasAddressLeft parts.old.is.tables.own }
     ensures is { OnOk result
         (parts.new.is ≡ after parts.old.is (publish_of parts.old.is.tables inc name.now)) }
     ensures was { parts.new.was ≡ parts.old.was }
@@ -58,7 +58,7 @@ pub(crate) fn publish(parts: &mut Parts, inc: Inc, name: &Name) -> Result<(), No
 
 /// An endpoint opened.
 pub(crate) fn opened(parts: &mut Parts, inc: Inc, name: &Name) -> Result<(), NoMemory>
-    requires room { used_in parts.old.is.tables.own < 4294967295 }
+    requires room { HasAddressLeft parts.old.is.tables.own }
     ensures is { OnOk result
         (parts.new.is ≡ after parts.old.is (opened_of parts.old.is.tables inc name.now)) }
     ensures was { parts.new.was ≡ parts.old.was }
@@ -83,10 +83,11 @@ pub(crate) fn close(parts: &mut Parts, inc: Inc) -> Result<(), NoMemory>
 }
 
 /// A sender that isn't live is published.
-fn know(parts: &mut Parts, inc: Inc, name: &Name) -> Result<(), NoMemory>
-    requires room { used_in parts.old.is.tables.own < 4294967295 }
-    ensures is { OnOk result (parts.new.is ≡ after parts.old.is
-        (known_of parts.old.is.tables inc name.now (address_of parts.old.is.tables.own inc))) }
+fn publish_sender(parts: &mut Parts, inc: Inc, name: &Name) -> Result<(), NoMemory>
+    requires room { HasAddressLeft parts.old.is.tables.own }
+    ensures is { let addr = address_of parts.old.is.tables.own inc in
+        OnOk result (parts.new.is ≡ after parts.old.is
+        (publish_sender_of parts.old.is.tables inc name.now addr)) }
     ensures was { parts.new.was ≡ parts.old.was }
 {
     match parts.own.addr_of(inc) {
@@ -125,12 +126,12 @@ pub(crate) fn send(
     to: Inc,
     signal: &Signal,
 ) -> Result<(), NoMemory>
-    requires room { used_in parts.old.is.tables.own < 4294967295 }
+    requires room { HasAddressLeft parts.old.is.tables.own }
     ensures is { OnOk result (parts.new.is ≡ after parts.old.is
         (send_of parts.old.is.tables from name.now to signal.now)) }
     ensures was { parts.new.was ≡ parts.old.was }
 {
-    know(parts, from, name)?;
+    publish_sender(parts, from, name)?;
     tell(parts, from, to, signal)?;
     Ok(())
 }

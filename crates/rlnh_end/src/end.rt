@@ -1,9 +1,9 @@
-ghost use Rattle.std.specs.Prelude.{◌≡◌, ◌<◌, is_some, IsSome, IfOk, OnOk, OnErr};
+ghost use Rattle.std.specs.Prelude.{◌≡◌, is_some, IsSome, IfOk, OnOk, OnErr};
 ghost use Rattle.std.specs.Option.{option_copied};
 ghost use Rattle.linx_base.specs.Both.{still};
-ghost use Rattle.link_addresses.specs.Meanings.{address_of, meaning_of, used_in};
+ghost use Rattle.link_addresses.specs.Meanings.{address_of, used_in, HasAddressLeft};
 ghost use Rattle.rlnh_end.specs.declared.heard.Heard.{Heard as AnyHeard};
-ghost use Rattle.rlnh_end.specs.States.{new_end, emptied, next_of, after_out, addr_met, inc_met};
+ghost use Rattle.rlnh_end.specs.States.{new_end, emptied, next_of, after_out, addr_met};
 ghost use Rattle.rlnh_end.specs.States.{is_noted};
 ghost use Rattle.rlnh_end.specs.Calls.{after, begin_of, query_of, publish_of, opened_of, close_of};
 ghost use Rattle.rlnh_end.specs.Calls.{send_of};
@@ -17,7 +17,6 @@ use crate::decoding::heard_in;
 use crate::hearing::hear;
 use crate::parts::Parts;
 use crate::up::Up;
-use link_addresses::Meaning;
 use linx_base::{Inc, Message, Name, NoMemory, Signal};
 use std::alloc::Global;
 use std::marker::Model;
@@ -78,7 +77,7 @@ impl RlnhEnd {
     /// live at an address it gets the lowest free one, and PUBLISH is said. A refusal undoes the
     /// event.
     pub fn publish(&mut self, inc: Inc, name: &Name) -> Result<(), NoMemory>
-        requires room { used_in self.old.is.tables.own < 4294967295 }
+        requires room { HasAddressLeft self.old.is.tables.own }
         ensures is { let made = publish_of self.old.is.tables inc name.now in
             OnOk result (self.new.is ≡ after self.old.is made) }
         ensures was { self.new.was ≡ self.old.was }
@@ -96,7 +95,7 @@ impl RlnhEnd {
     /// An endpoint of the own node opened: it is published where its name is noted. A refusal
     /// undoes the event.
     pub fn opened(&mut self, inc: Inc, name: &Name) -> Result<(), NoMemory>
-        requires room { used_in self.old.is.tables.own < 4294967295 }
+        requires room { HasAddressLeft self.old.is.tables.own }
         ensures is { let made = opened_of self.old.is.tables inc name.now in
             OnOk result (self.new.is ≡ after self.old.is made) }
         ensures was { self.new.was ≡ self.old.was }
@@ -132,7 +131,7 @@ impl RlnhEnd {
     /// sender is published first where it isn't live at an address. A refusal undoes the event.
     pub fn send(&mut self, from: Inc, name: &Name, to: Inc, signal: &Signal) -> Result<(), NoMemory>
         requires met { IsSome (addr_met self.old.is.tables.met to) }
-        requires room { used_in self.old.is.tables.own < 4294967295 }
+        requires room { HasAddressLeft self.old.is.tables.own }
         ensures is { let made = send_of self.old.is.tables from name.now to signal.now in
             OnOk result (self.new.is ≡ after self.old.is made) }
         ensures was { self.new.was ≡ self.old.was }
@@ -230,20 +229,6 @@ impl RlnhEnd {
         ensures { result ≡ is_noted self.now.is.tables.noted name.now }
     {
         self.parts.is_noted(name)
-    }
-
-    /// Who was met at an address of the other side.
-    pub fn met_at(&self, addr: u32) -> Option<Inc>
-        ensures { result ≡ inc_met self.now.is.tables.met addr }
-    {
-        self.parts.inc_met(addr)
-    }
-
-    /// What an address of the own side means.
-    pub fn meaning(&self, addr: u32) -> Meaning
-        ensures { result ≡ meaning_of self.now.is.tables.own addr }
-    {
-        self.parts.own.meaning(addr)
     }
 
     /// What is now stays, and the next event begins. It takes no memory.

@@ -83,7 +83,11 @@ fn hear_signal(parts: &Parts, from: u32, to: u32, signal: Signal) -> Up
             to: receiver,
             signal,
         },
-        Meaning::Closing(_) => Up::Nothing,
+        Meaning::Closing(receiver) => Up::Freed {
+            from: sender,
+            to: receiver,
+            signal,
+        },
     }
 }
 

@@ -16,7 +16,6 @@ mod hearing;
 mod laws;
 mod met_at;
 mod parts;
-mod undo_queue;
 mod up;
 
 pub use end::RlnhEnd;

@@ -1,4 +1,4 @@
-ghost use Rattle.std.specs.Prelude.{◌≡◌, OnOk};
+ghost use Rattle.std.specs.Prelude.{◌≡◌, OnOk, OnErr};
 ghost use Rattle.std.specs.Option.{option_copied};
 ghost use Rattle.linx_base.specs.Both.{still};
 ghost use Rattle.linx_base.specs.Frames.{IsMessage};
@@ -13,9 +13,8 @@ ghost use Rattle.rlnh_end.specs.Facts.{with_tables};
 use crate::fact::{Fact, Sought};
 use crate::facts::Facts;
 use crate::met_at::MetAt;
-use crate::undo_queue::UndoQueue;
 use link_addresses::Addresses;
-use linx_base::{Inc, Message, Name, NoMemory, TryCopy};
+use linx_base::{Inc, Message, Name, NoMemory, TryCopy, UndoQueue};
 use rlnh_messages::{Rlnh, write};
 use std::alloc::Global;
 use std::marker::Model;
@@ -95,6 +94,7 @@ impl Parts {
             OnOk result (self.new.is ≡ with_tables self.old.is
             (record self.old.is.tables { met = met })) }
         ensures was { self.new.was ≡ self.old.was }
+        ensures err { OnErr result (self.new ≡ self.old) }
     {
         self.facts.add(Fact::Met(MetAt { addr, inc }))?;
         Ok(())
@@ -107,6 +107,7 @@ impl Parts {
             OnOk result (self.new.is ≡ with_tables self.old.is
             (record self.old.is.tables { met = met })) }
         ensures was { self.new.was ≡ self.old.was }
+        ensures err { OnErr result (self.new ≡ self.old) }
     {
         self.facts.forget(Sought::Address(addr))?;
         Ok(())
@@ -119,6 +120,7 @@ impl Parts {
             OnOk result (self.new.is ≡ with_tables self.old.is
             (record self.old.is.tables { noted = noted })) }
         ensures was { self.new.was ≡ self.old.was }
+        ensures err { OnErr result (self.new ≡ self.old) }
     {
         if self.is_noted(name) {
             return Ok(());
@@ -134,6 +136,7 @@ impl Parts {
             OnOk result (self.new.is ≡ with_tables self.old.is
             (record self.old.is.tables { noted = noted })) }
         ensures was { self.new.was ≡ self.old.was }
+        ensures err { OnErr result (self.new ≡ self.old) }
     {
         self.facts.forget(Sought::Name(name))?;
         Ok(())
@@ -154,6 +157,7 @@ impl Parts {
         requires message { IsMessage message }
         ensures is { OnOk result (self.new.is ≡ put self.old.is message) }
         ensures was { self.new.was ≡ self.old.was }
+        ensures err { OnErr result (self.new ≡ self.old) }
     {
         self.out.push(message)?;
         Ok(())
@@ -164,6 +168,7 @@ impl Parts {
         requires { HasAddress message.now }
         ensures is { OnOk result (self.new.is ≡ put self.old.is (control_message message.now)) }
         ensures was { self.new.was ≡ self.old.was }
+        ensures err { OnErr result (self.new ≡ self.old) }
     {
         let body = write(self.alloc, message)?;
         self.put(Message {

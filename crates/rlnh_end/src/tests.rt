@@ -3,28 +3,11 @@ use linx_base::{Blob, Inc, Message, Name, NodeNo, Signal};
 use std::alloc::Global;
 use std::test::Fail;
 
-fn digit(byte: u8) -> Option<u8> {
-    match byte {
-        b'0'..=b'9' => Some(byte.wrapping_sub(b'0')),
-        b'a'..=b'f' => Some(byte.wrapping_sub(b'a').wrapping_add(10)),
-        _ => None,
-    }
-}
-
 /// The bytes that these hexadecimal digits are, two a byte, with spaces between.
 fn bytes_of(alloc: Global, text: &str) -> Result<Vec<u8>, Fail> {
     let mut bytes = Vec::new(alloc);
-    let mut high = None;
-    for byte in text.as_bytes() {
-        match (digit(*byte), high) {
-            (None, _) => (),
-            (Some(value), None) => high = Some(value),
-            (Some(value), Some(first)) => {
-                let first: u8 = first;
-                bytes.push(first.wrapping_mul(16).wrapping_add(value))?;
-                high = None;
-            }
-        }
+    for digits in text.split_whitespace() {
+        bytes.extend_from_slice(&hex::decode(alloc, digits)?)?;
     }
     Ok(bytes)
 }
@@ -64,8 +47,8 @@ fn says(alloc: Global, end: &mut RlnhEnd, text: &str) -> Result<bool, Fail> {
     Ok(is_next)
 }
 
-/// Whether a signal that arrived is this: its sender, its receiver, its number and its data.
-fn is_arrival(
+/// Whether a signal that came is this: its sender, its receiver, its number and its data.
+fn is_signal(
     alloc: Global,
     (from, to, signal): (Inc, Inc, &Signal),
     text: &str,
@@ -88,7 +71,10 @@ fn is_up(alloc: Global, up: Up, text: &str) -> Result<bool, Fail> {
     Ok(match up {
         Up::Nothing => word == "nothing",
         Up::Arrived { from, to, signal } => {
-            word == "arrived" && is_arrival(alloc, (from, to, &signal), rest)?
+            word == "arrived" && is_signal(alloc, (from, to, &signal), rest)?
+        }
+        Up::Freed { from, to, signal } => {
+            word == "freed" && is_signal(alloc, (from, to, &signal), rest)?
         }
         Up::Met { inc, name } => {
             let (peer, called) = front(rest);
@@ -156,7 +142,10 @@ fn calls(alloc: Global, end: &mut RlnhEnd, word: &str, rest: &str) -> Result<boo
     Ok(true)
 }
 
-/// Whether the line comes out as it says.
+/// Whether the line comes out as it says: `says` the message that goes out next; `hears` what a
+/// message, of which addresses and body stand behind the word, means; `send`, `publish`, `opened`,
+/// `close`, `query`, `begin` and `empty` are calls; `keep` and `undo` end an event; `met` and
+/// `unmet` whether a peer is met; `used` how many addresses are in use.
 fn follows_line(alloc: Global, end: &mut RlnhEnd, line: &str) -> Result<bool, Fail> {
     let (word, rest) = front(line);
     match word {
@@ -279,7 +268,7 @@ fn a_signal_arrives_at_a_living_address_alone(rt: HostRuntime) -> Result<(), Fai
         hears 4294967295 1 00000005 : arrived 2.1 1.1 5
         close 1.1
         says 0 0 05000000 00000001
-        hears 4294967295 1 00000005 aa : nothing
+        hears 4294967295 1 00000005 aa : freed 2.1 1.1 5 aa
         hears 0 0 06000000 00000001 : nothing
         hears 4294967295 1 00000005 aa : bad
         hears 0 0 05000000 ffffffff : gone 2.1

@@ -11,7 +11,7 @@ use Rattle.link_addresses.specs.Meanings.{address_of}
 use Rattle.rlnh_laws.proofs.Addresses.{address_found, address_missing}
 use Rattle.rlnh_end.specs.States.{RlnhTables, addr_met, is_noted, without_note}
 use Rattle.rlnh_end.specs.Words.{question, announce, tell, withdraw}
-use Rattle.rlnh_end.specs.Calls.{close_of, known_of, opened_of, publish_of, query_of}
+use Rattle.rlnh_end.specs.Calls.{close_of, publish_sender_of, opened_of, publish_of, query_of}
 use Rattle.rlnh_end.specs.Calls.{send_of, signal_of, told}
 use Rattle.rlnh_laws.specs.Meanings.{saids}
 use Rattle.trunk_record.specs.Sayings.{was_unpublished}
@@ -94,9 +94,11 @@ pub send_grows : (e : Talk) (i j : Inc) (v : List ℕ) (note : SigNote) → Alon
     → Grows e (said_more e (send_of e.end i v j note))
 send_grows e i j v note k un b at =
     elim (option_cases (address_of e.end.own i)) [
-      | inr some ↦ subst (λ o. Grows e (said_more e (signal_of (known_of e.end i v o) i j note)))
+      | inr some ↦ subst (λ o. Grows e (said_more e
+          (signal_of (publish_sender_of e.end i v o) i j note)))
           (sym some.1) (tell_grows e i j note k some.0 b some.1 at)
-      | inl none ↦ subst (λ o. Grows e (said_more e (signal_of (known_of e.end i v o) i j note)))
+      | inl none ↦ subst (λ o. Grows e (said_more e
+          (signal_of (publish_sender_of e.end i v o) i j note)))
           (sym none) (by_none none)
     ]
   where

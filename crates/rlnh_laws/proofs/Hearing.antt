@@ -19,11 +19,12 @@ use Rattle.rlnh_end.specs.Words.{confirm}
 use Rattle.rlnh_laws.specs.Meanings.{heard_of}
 use Rattle.rlnh_end.specs.Hearing.{Hearing, answers, heard_signal, hears, only}
 use Rattle.rlnh_end.specs.declared.up.Up.{Up}
-use Rattle.rlnh_end.specs.declared.up.Up.TheVariants.{Nothing, Arrived, Met, Gone, Asked, Bad}
+use Rattle.rlnh_end.specs.declared.up.Up.TheVariants.{Nothing, Arrived, Freed, Met, Gone}
+use Rattle.rlnh_end.specs.declared.up.Up.TheVariants.{Asked, Bad}
 use Rattle.rlnh_laws.specs.Meanings.{said_by, saids, given_for, Understands}
 use Rattle.trunk_record.specs.Sayings.{Given, heard_as, frees}
 use Rattle.trunk_record.specs.Sayings.{was_unpublished}
-use Rattle.rlnh_laws.specs.Ties.{pub_of, sig_of, unpub_of, sig_to, ack, about}
+use Rattle.rlnh_laws.specs.Ties.{announcing, signaling, withdrawing, signal_to, confirming, about}
 use Rattle.rlnh_laws.specs.Ties.{toward, Talk, Alone, Pair, Speaks, Stands}
 use Rattle.rlnh_laws.specs.Ties.{Ties, bearer}
 use Rattle.rlnh_laws.specs.Talks.{heard_with, Right}
@@ -59,6 +60,7 @@ given_said (question v) u k = refl
 given_said (announce a i v) u k = refl
 given_said (tell a i b j note) Nothing k = refl
 given_said (tell a i b j note) (Arrived x y z) k = refl
+given_said (tell a i b j note) (Freed x y z) k = refl
 given_said (tell a i b j note) (Met x y) k = refl
 given_said (tell a i b j note) (Gone x) k = refl
 given_said (tell a i b j note) (Asked x) k = refl
@@ -173,8 +175,9 @@ module _ (e f : Talk) (rest : List Word) (k : Alone e) (n : Alone f) (p : Pair e
     announce_at : (inc_met f.end.met a ≡ None) × (bearer (meaning_of e.end.own a) ≡ Some i)
         × Stands (meaning_of e.end.own a) (Some i) (about a rest) (toward a p.back)
     announce_at =
-        let was : Stands (meaning_of e.end.own a) (inc_met f.end.met a) (pub_of i ∷ about a rest)
-        (toward a p.back) = rw (eq-eqb a a refl) at (announce_ties a) in
+        let was : Stands (meaning_of e.end.own a) (inc_met f.end.met a)
+        (announcing i ∷ about a rest) (toward a p.back) =
+        rw (eq-eqb a a refl) at (announce_ties a) in
         stand_heard_publish (meaning_of e.end.own a) i (inc_met f.end.met a) (about a rest)
         (toward a p.back) was
 
@@ -222,8 +225,9 @@ module _ (e f : Talk) (rest : List Word) (k : Alone e) (n : Alone f) (p : Pair e
 
     withdraw_at : inc_met f.end.met a ≡ Some i
     withdraw_at =
-        let was : Stands (meaning_of e.end.own a) (inc_met f.end.met a) (unpub_of i ∷ about a rest)
-        (toward a p.back) = rw (eq-eqb a a refl) at (withdraw_ties a) in
+        let was : Stands (meaning_of e.end.own a) (inc_met f.end.met a)
+        (withdrawing i ∷ about a rest) (toward a p.back) =
+        rw (eq-eqb a a refl) at (withdraw_ties a) in
         (stand_heard_close (meaning_of e.end.own a) i (inc_met f.end.met a) (about a rest)
         (toward a p.back) was).0
 
@@ -254,8 +258,8 @@ module _ (e f : Talk) (rest : List Word) (k : Alone e) (n : Alone f) (p : Pair e
 
     confirm_at : (i : Inc) × (meaning_of f.end.own a ≡ Closing i)
     confirm_at =
-        let was : Stands (meaning_of f.end.own a) (inc_met e.end.met a) (about a p.back) (ack
-        ∷ toward a rest) = rw (eq-eqb a a refl) at (confirm_ties a) in
+        let was : Stands (meaning_of f.end.own a) (inc_met e.end.met a) (about a p.back)
+        (confirming ∷ toward a rest) = rw (eq-eqb a a refl) at (confirm_ties a) in
         let s = stand_heard_ack (meaning_of f.end.own a) (inc_met e.end.met a) (about a p.back)
         (toward a rest) was in
         (s.0, s.1)
@@ -292,15 +296,15 @@ module _ (e f : Talk) (rest : List Word) (k : Alone e) (n : Alone f) (p : Pair e
 
     from_at : inc_met f.end.met a ≡ Some i
     from_at =
-        let was : Stands (meaning_of e.end.own a) (inc_met f.end.met a) (sig_of i ∷ about a rest)
+        let was : Stands (meaning_of e.end.own a) (inc_met f.end.met a) (signaling i ∷ about a rest)
         (toward a p.back) = rw (eq-eqb a a refl) at (tell_near a) in
         (stand_heard_signal (meaning_of e.end.own a) i (inc_met f.end.met a) (about a rest)
         (toward a p.back) was).0
 
     to_at : bearer (meaning_of f.end.own c) ≡ Some j
     to_at =
-        let was : Stands (meaning_of f.end.own c) (inc_met e.end.met c) (about c p.back) (sig_to j
-        ∷ toward c rest) = rw (eq-eqb c c refl) at (tell_far c) in
+        let was : Stands (meaning_of f.end.own c) (inc_met e.end.met c) (about c p.back)
+        (signal_to j ∷ toward c rest) = rw (eq-eqb c c refl) at (tell_far c) in
         (stand_heard_aimed (meaning_of f.end.own c) j (inc_met e.end.met c) (about c p.back)
         (toward c rest) was).0
 
@@ -327,17 +331,18 @@ module _ (e f : Talk) (rest : List Word) (k : Alone e) (n : Alone f) (p : Pair e
         })
     by_meaning (Closing x) is b =
         let same : x ≡ j = same_Some x j b in
-        record {
-          understands = tt;
+        subst (λ y. Right e f (tell a i c j note) (only f.end (Freed i y note))) (sym same)
+        (record {
+          understands = refl;
           lives = λ y z m e. absurd cc;
-          alone = alone_hears f (tell a i c j note) (only f.end Nothing) n tt n.speaks n.apart
-              (silent_none f.words) (λ y freed_it.
+          alone = alone_hears f (tell a i c j note) (only f.end (Freed i j note)) n refl n.speaks
+              n.apart (silent_none f.words) (λ y freed_it.
               elim (or_cases (same_inc y j) false freed_it) [
                 | inl at ↦ n.speaks.closing c y (is ∙ ap Closing (same ∙ sym (same_inc-is y j at)))
                 | inr none ↦ absurd (true≢false (sym none))
               ]);
-          pair = tell_pair Nothing;
-        }
+          pair = tell_pair (Freed i j note);
+        })
 
     tell_now : heard_signal f.end note (Some i) (meaning_of f.end.own c)
         ≡ hears f.end (heard_of (tell a i c j note))

@@ -14,7 +14,8 @@ use Rattle.rlnh_laws.proofs.Addresses.{changes_at, live_taken, closing_taken}
 use Rattle.rlnh_end.specs.States.{inc_met, with_met, without_met}
 use Rattle.rlnh_end.specs.Words.{Word, announce, tell, withdraw}
 use Rattle.rlnh_end.specs.Words.{confirm}
-use Rattle.rlnh_laws.specs.Ties.{About, pub_of, sig_of, unpub_of, Toward, sig_to, ack, about_by}
+use Rattle.rlnh_laws.specs.Ties.{About, announcing, signaling, withdrawing, Toward, signal_to}
+use Rattle.rlnh_laws.specs.Ties.{confirming, about_by}
 use Rattle.rlnh_laws.specs.Ties.{toward_by, about, toward, Stands, Ties, AreApart}
 use Rattle.rlnh_laws.proofs.Meeting.{with_here, with_other, without_here, without_other}
 use Rattle.rlnh_laws.proofs.Standing.{stand_publish, stand_signal, stand_close, stand_aimed}
@@ -77,9 +78,9 @@ ties_announce own new met there back a i v free c t b =
           subst (λ m. Stands m (inc_met met b) (about b there) (toward b back))
           (subst (λ k. meaning_of own k ≡ Free) at free) (t b) in
           stands_at (Live i) (meaning_of new b) (inc_met met b) (inc_met met b) (about b there
-          ++ pub_of i ∷ []) (about b (there ++ announce a i v ∷ [])) (toward b back)
+          ++ announcing i ∷ []) (about b (there ++ announce a i v ∷ [])) (toward b back)
           (toward b back) (sym (subst (λ k. meaning_of new k ≡ Live i) at c.here)) refl
-          (about-more b there (announce a i v) (pub_of i ∷ []) (rw same.0 refl)) refl
+          (about-more b there (announce a i v) (announcing i ∷ []) (rw same.0 refl)) refl
           (stand_publish i (inc_met met b) (about b there) (toward b back) was)
       | inr other ↦
           stands_at (meaning_of own b) (meaning_of new b) (inc_met met b) (inc_met met b)
@@ -98,8 +99,8 @@ ties_tell own met there back a c i j note live t b =
           let was : Stands (Live i) (inc_met met b) (about b there) (toward b back) =
           subst (λ m. Stands m (inc_met met b) (about b there) (toward b back)) at (t b) in
           stands_at (Live i) (meaning_of own b) (inc_met met b) (inc_met met b) (about b there
-          ++ sig_of i ∷ []) (about b (there ++ tell a i c j note ∷ [])) (toward b back)
-          (toward b back) (sym at) refl (about-more b there (tell a i c j note) (sig_of i ∷ [])
+          ++ signaling i ∷ []) (about b (there ++ tell a i c j note ∷ [])) (toward b back)
+          (toward b back) (sym at) refl (about-more b there (tell a i c j note) (signaling i ∷ [])
           (rw same.0 refl)) refl (stand_signal i (inc_met met b) (about b there) (toward b back)
           was)
       | inr other ↦ subst (λ k. Stands (meaning_of own b) (inc_met met b) k (toward b back))
@@ -118,10 +119,10 @@ ties_withdraw own met there back a i live t b =
           subst (λ m. Stands m (inc_met met b) (about b there) (toward b back))
           (subst (λ k. meaning_of own k ≡ Live i) at live) (t b) in
           stands_at (Closing i) (meaning_of (with_meaning own a (Closing i)) b) (inc_met met b)
-          (inc_met met b) (about b there ++ unpub_of i ∷ [])
+          (inc_met met b) (about b there ++ withdrawing i ∷ [])
           (about b (there ++ withdraw a i ∷ [])) (toward b back) (toward b back)
           (sym (subst (λ k. meaning_of (with_meaning own a (Closing i)) k ≡ Closing i) at
-          c.here)) refl (about-more b there (withdraw a i) (unpub_of i ∷ []) (rw same.0 refl))
+          c.here)) refl (about-more b there (withdraw a i) (withdrawing i ∷ []) (rw same.0 refl))
           refl (stand_close i (inc_met met b) (about b there) (toward b back) was)
       | inr other ↦
           stands_at (meaning_of own b) (meaning_of (with_meaning own a (Closing i)) b)
@@ -147,9 +148,9 @@ ties_tell_back own met there back a c i j note is t b =
           let was : Stands (meaning_of own b) (Some j) (about b there) (toward b back) =
           subst (λ m. Stands (meaning_of own b) m (about b there) (toward b back)) at (t b) in
           stands_at (meaning_of own b) (meaning_of own b) (Some j) (inc_met met b) (about b there)
-          (about b there) (toward b back ++ sig_to j ∷ [])
+          (about b there) (toward b back ++ signal_to j ∷ [])
           (toward b (back ++ tell a i c j note ∷ [])) refl (sym at) refl
-          (toward-more b back (tell a i c j note) (sig_to j ∷ []) (rw same.0 refl))
+          (toward-more b back (tell a i c j note) (signal_to j ∷ []) (rw same.0 refl))
           (stand_aimed (meaning_of own b) j (about b there) (toward b back) was)
       | inr other ↦ subst (λ k. Stands (meaning_of own b) (inc_met met b) (about b there) k)
           (toward-same b back (tell a i c j note) (rw other.0 refl)) (t b)
@@ -164,7 +165,7 @@ ties_heard_announce own met there back a i v none t b =
       | inl same ↦
           let at : inc_met (with_met met a i) b ≡ Some i =
           subst (λ k. inc_met (with_met met a i) k ≡ Some i) same.1 (with_here met a i none) in
-          let was : Stands (meaning_of own b) (inc_met met b) (pub_of i ∷ about b there)
+          let was : Stands (meaning_of own b) (inc_met met b) (announcing i ∷ about b there)
           (toward b back) = rw same.0 at (t b) in
           subst (λ m. Stands (meaning_of own b) m (about b there) (toward b back)) (sym at)
           (stand_heard_publish (meaning_of own b) i (inc_met met b) (about b there)
@@ -182,7 +183,7 @@ pub ties_heard_tell : (own : List Meaning) (met : List MetAt) (there back : List
 ties_heard_tell own met there back a c i j note t b =
     elim (eqb_tells a b) [
       | inl same ↦
-          let was : Stands (meaning_of own b) (inc_met met b) (sig_of i ∷ about b there)
+          let was : Stands (meaning_of own b) (inc_met met b) (signaling i ∷ about b there)
           (toward b back) = rw same.0 at (t b) in
           (stand_heard_signal (meaning_of own b) i (inc_met met b) (about b there) (toward b back)
           was).1
@@ -196,13 +197,13 @@ ties_heard_withdraw own met there back a i apart t b =
     elim (eqb_tells a b) [
       | inl same ↦
           let at : a ≡ b = same.1 in
-          let was : Stands (meaning_of own b) (inc_met met b) (unpub_of i ∷ about b there)
+          let was : Stands (meaning_of own b) (inc_met met b) (withdrawing i ∷ about b there)
           (toward b back) = rw same.0 at (t b) in
           stands_at (meaning_of own b) (meaning_of own b) None (inc_met (without_met met a) b)
-          (about b there) (about b there) (toward b back ++ ack ∷ [])
+          (about b there) (about b there) (toward b back ++ confirming ∷ [])
           (toward b (back ++ confirm a ∷ [])) refl
           (sym (subst (λ k. inc_met (without_met met a) k ≡ None) at
-          (without_here met a apart))) refl (toward-more b back (confirm a) (ack ∷ [])
+          (without_here met a apart))) refl (toward-more b back (confirm a) (confirming ∷ [])
           (rw same.0 refl)) (stand_heard_close (meaning_of own b) i (inc_met met b)
           (about b there) (toward b back) was).1
       | inr other ↦
@@ -221,7 +222,7 @@ pub ties_heard_tell_back : (own : List Meaning) (met : List MetAt) (there back :
 ties_heard_tell_back own met there back a c i j note t b =
     elim (eqb_tells c b) [
       | inl same ↦
-          let was : Stands (meaning_of own b) (inc_met met b) (about b there) (sig_to j
+          let was : Stands (meaning_of own b) (inc_met met b) (about b there) (signal_to j
           ∷ toward b back) = rw same.0 at (t b) in
           (stand_heard_aimed (meaning_of own b) j (inc_met met b) (about b there) (toward b back)
           was).1
@@ -236,7 +237,7 @@ ties_heard_confirm own met there back a i closing t b =
     elim (eqb_tells a b) [
       | inl same ↦
           let at : a ≡ b = same.1 in
-          let was : Stands (meaning_of own b) (inc_met met b) (about b there) (ack
+          let was : Stands (meaning_of own b) (inc_met met b) (about b there) (confirming
           ∷ toward b back) = rw same.0 at (t b) in
           subst (λ m. Stands m (inc_met met b) (about b there) (toward b back))
           (sym (subst (λ k. meaning_of (with_meaning own a Free) k ≡ Free) at c.here))

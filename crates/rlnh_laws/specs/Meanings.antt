@@ -9,7 +9,7 @@ use Rattle.rlnh_messages.specs.Signals.{IsSignal}
 use Rattle.rlnh_end.specs.declared.heard.Heard.{Heard}
 use Rattle.rlnh_end.specs.declared.heard.Heard.TheVariants.{Control, Garbage, Signal}
 use Rattle.rlnh_end.specs.declared.up.Up.{Up}
-use Rattle.rlnh_end.specs.declared.up.Up.TheVariants.{Nothing, Arrived, Met, Gone, Asked}
+use Rattle.rlnh_end.specs.declared.up.Up.TheVariants.{Nothing, Arrived, Freed, Met, Gone, Asked}
 use Rattle.trunk_record.specs.Sayings.{Said, published, asked, signaled, unpublished, Given, met}
 use Rattle.trunk_record.specs.Sayings.{asked_for, arrived, freed, gone}
 
@@ -49,15 +49,16 @@ abbrev pub given_for : Word → Up → List Given
 given_for (question v) u = asked_for v ∷ []
 given_for (announce a i v) u = met i v ∷ []
 given_for (withdraw a i) u = gone i ∷ []
-given_for (tell a i b j note) Nothing = freed i j note ∷ []
+given_for (tell a i b j note) (Freed x y n) = freed i j note ∷ []
 given_for (tell a i b j note) u = arrived i j note ∷ []
 given_for w u = []
 
--- what is handed up for a word that is understood: nothing, or what it says; a signal may be freed
+-- what is handed up for a word that is understood: nothing, or what it says; a signal arrives or is
+-- freed
 abbrev pub Understands : Word → Up → Type 0
 Understands (question v) u = u ≡ Asked v
 Understands (announce a i v) u = u ≡ Met i v
 Understands (withdraw a i) u = u ≡ Gone i
-Understands (tell a i b j note) Nothing = Unit {0}
+Understands (tell a i b j note) (Freed x y n) = Freed x y n ≡ Freed i j note
 Understands (tell a i b j note) u = u ≡ Arrived i j note
 Understands w u = u ≡ Nothing

@@ -23,24 +23,24 @@ AreApart (m ∷ ms) = (inc_met ms m.addr ≡ None) × (addr_met ms m.inc ≡ Non
 
 -- what the owner of an address says of it
 pub data About : Type 0 where
-  pub_of : Inc → About
-  sig_of : Inc → About
-  unpub_of : Inc → About
+  announcing : Inc → About
+  signaling : Inc → About
+  withdrawing : Inc → About
 
 -- what the other side says to it
 pub data Toward : Type 0 where
-  sig_to : Inc → Toward
-  ack : Toward
+  signal_to : Inc → Toward
+  confirming : Toward
 
 abbrev pub about_by : ℕ → Word → List About
-about_by a (announce b i v) = if b == a then pub_of i ∷ [] else []
-about_by a (tell b i c j note) = if b == a then sig_of i ∷ [] else []
-about_by a (withdraw b i) = if b == a then unpub_of i ∷ [] else []
+about_by a (announce b i v) = if b == a then announcing i ∷ [] else []
+about_by a (tell b i c j note) = if b == a then signaling i ∷ [] else []
+about_by a (withdraw b i) = if b == a then withdrawing i ∷ [] else []
 about_by a _ = []
 
 abbrev pub toward_by : ℕ → Word → List Toward
-toward_by a (tell b i c j note) = if c == a then sig_to j ∷ [] else []
-toward_by a (confirm b) = if b == a then ack ∷ [] else []
+toward_by a (tell b i c j note) = if c == a then signal_to j ∷ [] else []
+toward_by a (confirm b) = if b == a then confirming ∷ [] else []
 toward_by a _ = []
 
 -- the words about an address, and those to it, in order
@@ -56,28 +56,28 @@ toward a (w ∷ ws) = toward_by a w ++ toward a ws
 -- end, to what the owner has it as
 abbrev pub Tells : Inc → Meaning → List About → Type 0
 Tells i m [] = m ≡ Live i
-Tells i m (pub_of j ∷ r) = ⊥
-Tells i m (sig_of j ∷ r) = (j ≡ i) × Tells i m r
-Tells i m (unpub_of j ∷ r) = (j ≡ i) × (r ≡ []) × (m ≡ Closing i)
+Tells i m (announcing j ∷ r) = ⊥
+Tells i m (signaling j ∷ r) = (j ≡ i) × Tells i m r
+Tells i m (withdrawing j ∷ r) = (j ≡ i) × (r ≡ []) × (m ≡ Closing i)
 
 -- all are signals to this incarnation
 abbrev pub Aims : Inc → List Toward → Type 0
 Aims i [] = Unit {0}
-Aims i (sig_to j ∷ r) = (j ≡ i) × Aims i r
-Aims i (ack ∷ r) = ⊥
+Aims i (signal_to j ∷ r) = (j ≡ i) × Aims i r
+Aims i (confirming ∷ r) = ⊥
 
 -- signals to this incarnation, and last the acknowledgement of its end
 abbrev pub Acks : Inc → List Toward → Type 0
 Acks i [] = ⊥
-Acks i (sig_to j ∷ r) = (j ≡ i) × Acks i r
-Acks i (ack ∷ r) = r ≡ []
+Acks i (signal_to j ∷ r) = (j ≡ i) × Acks i r
+Acks i (confirming ∷ r) = r ≡ []
 
 -- where an address stands: what it means to its owner, who was met at it on the other side, and the
 -- words under way about it and to it
 pub data Stands (own : Meaning) (met : Option Inc) (about : List About)
     (toward : List Toward) : Type 0 where
   unused : own ≡ Free → met ≡ None → about ≡ [] → toward ≡ [] → Stands own met about toward
-  announced : (i : Inc) (r : List About) → met ≡ None → about ≡ pub_of i ∷ r → Tells i own r
+  announced : (i : Inc) (r : List About) → met ≡ None → about ≡ announcing i ∷ r → Tells i own r
       → toward ≡ [] → Stands own met about toward
   known : (i : Inc) → met ≡ Some i → Tells i own about → Aims i toward → Stands own met about toward
   answered : (i : Inc) → own ≡ Closing i → met ≡ None → about ≡ [] → Acks i toward

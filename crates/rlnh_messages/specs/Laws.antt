@@ -21,7 +21,8 @@ SpellsOneMessage =
     (message other : Rlnh) (bytes : List ℕ) → Spells message bytes → Spells other bytes
     → message ≡ other
 
--- every signal goes by a body, and every such body is some signal's
+-- every signal goes by a body, and each body by which one goes has as many bytes as a body of a
+-- signal may have
 pub record EachSignalGoes : Type 0 where
   pub spelled : (signal : SigNote) → IsSignal signal → SpellsSignal signal (signal_body signal)
   pub bodied : (signal : SigNote) (body : List ℕ) → SpellsSignal signal body → IsSignalBody body

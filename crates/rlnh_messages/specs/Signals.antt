@@ -19,6 +19,6 @@ pub record SpellsSignal (signal : SigNote) (body : List ℕ) : Type 0 where
   pub is_signal : IsSignal signal
   pub spelled : body ≡ signal_body signal
 
--- a body of some signal: it has a number, and fits a message
+-- as many bytes as a body of a signal may have: it has a number, and fits a message
 abbrev pub IsSignalBody : List ℕ → Type 0
 IsSignalBody body = (4 ≤ length body) × (length body ≤ body_limit)

@@ -1,16 +1,17 @@
 -- What holds of a trunk holds after each call at its first side.
-use Rattle.std.proofs.Common.{◌≡◌, ◌≤◌, ◌<◌, ℕ, false, true, List, [], Option, Some, None, map}
+use Rattle.std.proofs.Common.{◌≡◌, ◌≤◌, ℕ, false, true, List, [], Option, Some, None, map}
 use Rattle.std.proofs.Common.{arith, length, sym, ◌∙◌, ap, subst}
 use Rattle.std.specs.Prelude.{IsTrue, if◌then◌else◌}
 use Rattle.std.proofs.lemmas.List.{length-append}
 use Rattle.linx_base.specs.NameText.{is_name}
 use Rattle.linx_base.specs.declared.identity.Inc.{Inc}
 use Rattle.linx_base.specs.declared.signal.SigNote.{SigNote}
-use Rattle.link_addresses.specs.Meanings.{address_of, used_in}
+use Rattle.link_addresses.specs.Meanings.{address_of, HasAddressLeft}
 use Rattle.trunk_record.specs.Sayings.{heard_as, is_live, was_unpublished}
 use Rattle.rlnh_end.specs.States.{RlnhTables, addr_met, is_noted, without_note}
 use Rattle.rlnh_end.specs.Words.{hello}
-use Rattle.rlnh_end.specs.Calls.{Saying, announced, begin_of, close_of, closed, known_of, opened_of}
+use Rattle.rlnh_end.specs.Calls.{Saying, announced, begin_of, close_of, closed, publish_sender_of}
+use Rattle.rlnh_end.specs.Calls.{opened_of}
 use Rattle.rlnh_end.specs.Calls.{publish_of, query_of, saying, send_of, told}
 use Rattle.rlnh_laws.specs.Meanings.{saids}
 use Rattle.rlnh_laws.specs.Ties.{Talk}
@@ -60,7 +61,7 @@ told_few (Some a) (Some b) from to signal = omega arith
 send_few : (t : RlnhTables) (from : Inc) (name : List ℕ) (to : Inc) (signal : SigNote)
     → length (send_of t from name to signal).says ≤ 2
 send_few t from name to signal =
-    let made = known_of t from name (address_of t.own from) in
+    let made = publish_sender_of t from name (address_of t.own from) in
     let words = told (address_of made.tables.own from) from (addr_met made.tables.met to) to signal
     in
     omega (
@@ -70,7 +71,7 @@ send_few t from name to signal =
       told_few (address_of made.tables.own from) (addr_met made.tables.met to) from to signal,
     )
   where
-    known_few : (o : Option ℕ) → length (known_of t from name o).says ≤ 1
+    known_few : (o : Option ℕ) → length (publish_sender_of t from name o).says ≤ 1
     known_few None = publish_few t from name
     known_few (Some a) = omega arith
 
@@ -89,8 +90,8 @@ module _ (t : TrunkState) (k : KeepsTrunk t) where
   abbrev now : Talk
   now = k.near.now
 
-  few_now : used_in t.first.end.tables.own < 4294967295 → used_in now.end.own < 4294967295
-  few_now few = subst (λ s. used_in s.own < 4294967295) k.first.tables few
+  few_now : HasAddressLeft t.first.end.tables.own → HasAddressLeft now.end.own
+  few_now few = subst (λ s. HasAddressLeft s.own) k.first.tables few
 
   goes_on : (inc : Inc) → was_unpublished inc t.first.kept.now.said ≡ false
       → was_unpublished inc (saids now.words) ≡ false

@@ -1,5 +1,5 @@
 -- A packet came to a side of a trunk: what the side says to it may go over the link.
-use Rattle.std.proofs.Common.{◌≡◌, ◌≤◌, ℕ, Bool, [], Option, Some, arith, refl, sym, ◌∙◌, ap}
+use Rattle.std.proofs.Common.{◌≡◌, ℕ, Bool, [], Option, Some, arith, refl, sym, ◌∙◌, ap}
 use Rattle.std.proofs.Common.{subst}
 use Rattle.std.specs.Prelude.{IsSome}
 use Rattle.linx_base.specs.Sides.{other_of}
@@ -7,7 +7,6 @@ use Rattle.linx_base.specs.declared.frame.Message.{Message}
 use Rattle.linx_base.specs.declared.identity.Session.{Session}
 use Rattle.linx_base.specs.declared.identity.Side.{Side}
 use Rattle.linx_base.specs.declared.identity.Side.TheVariants.{First, Second}
-use Rattle.ethcm_window.specs.Sending.{left_of}
 use Rattle.ethcm_end.specs.States.{peer_of}
 use Rattle.carrier.specs.Events.{LinkState, half_of, handed_by}
 use Rattle.carrier.specs.Events as links
@@ -16,7 +15,7 @@ use Rattle.carrier.specs.declared.handed.Handed.TheVariants.{Got, WentUp}
 use Rattle.rlnh_end.specs.declared.heard.Heard.{Heard}
 use Rattle.rlnh_end.specs.Calls.{begin_of}
 use Rattle.rlnh_end.specs.Hearing.{IsRead, hears}
-use Rattle.trunk.specs.Events.{TrunkSide, TrunkState, side_of, with_link}
+use Rattle.trunk.specs.Events.{TrunkSide, TrunkState, side_of, with_link, HasNumbersLeft}
 use Rattle.trunk.specs.Keeping.{KeepsTrunk}
 use Rattle.trunk.specs.Laws.{IsOffered, IsUnderstood}
 use Rattle.trunk.specs.Parts.{side_begins, side_hears, with_side}
@@ -46,10 +45,10 @@ module _ (from : Side) (k : ℕ) (keep : Bool) (t : TrunkState) (kt : KeepsTrunk
   none_out : (side_of at u).end.out ≡ []
   none_out = ap (λ (s : TrunkSide). s.end.out) same_side ∙ (agree at t kt).out
 
-  module _ (left : 4096 ≤ left_of (half_of at t.link).end.tx) where
-    left_now : 4096 ≤ left_of (half_of at u.link).end.tx
+  module _ (left : HasNumbersLeft at t) where
+    left_now : HasNumbersLeft at u
     left_now =
-        subst (λ (x : TrunkState). 4096 ≤ left_of (half_of at x.link).end.tx) (sym came)
+        subst (λ (x : TrunkState). HasNumbersLeft at x) (sym came)
         (omega (arith, left, delivered_left from k keep t.link))
 
     -- it went up

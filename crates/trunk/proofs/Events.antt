@@ -25,7 +25,7 @@ use Rattle.trunk.specs.Events.{new_trunk_side, restarted_at, seen_from, swapped_
 use Rattle.trunk.specs.Events.{turned, with_link}
 use Rattle.trunk.specs.Keeping.{KeepsSide, KeepsTrunk}
 use Rattle.trunk.specs.Laws.{EventsKeep}
-use Rattle.trunk.specs.Talks.{Half, Talks, all_talks, fresh_talk}
+use Rattle.trunk.specs.Talks.{KeepsTalks, Talks, all_talks, fresh_talk}
 use Rattle.trunk.proofs.Calling.{close_keeps, opened_keeps, publish_keeps, query_keeps, send_keeps}
 use Rattle.trunk.proofs.Partners.{alone_fresh, down_partner, pair_fresh}
 use Rattle.trunk.proofs.Sounding.{fresh_sound}
@@ -55,7 +55,7 @@ seen_keeps Second t k = turned_keeps t k
 abbrev new_talks : Talks
 new_talks = record { now = fresh_talk (first_session 1); earlier = [] }
 
-new_half_holds : Half new_talks new_talks
+new_half_holds : KeepsTalks new_talks new_talks
 new_half_holds =
     let x = first_session 1 in
     record {

@@ -10,12 +10,12 @@ use Rattle.rlnh_laws.specs.Meanings.{heard_of}
 use Rattle.rlnh_laws.specs.Ties.{Alone, Pair, Talk}
 use Rattle.rlnh_laws.specs.Talks.{Grows, Right, heard_word}
 use Rattle.rlnh_laws.proofs.Hearing.{hears_right}
-use Rattle.trunk.specs.Talks.{Both, FallBelow, HoldAll, Talks, all_talks, is_peer, partner}
+use Rattle.trunk.specs.Talks.{KeepBothTalks, FallBelow, HoldAll, Talks, all_talks, is_peer, partner}
 use Rattle.trunk.specs.Talks.{with_now}
 use Rattle.trunk.proofs.Partners.{holds_with, none_below, pair_apart, pair_sym, pair_with}
 use Rattle.trunk.proofs.Partners.{partner_alone, peer_sym, same_peer}
 
-pub both_turned : (A B : Talks) → Both A B → Both B A
+pub both_turned : (A B : Talks) → KeepBothTalks A B → KeepBothTalks B A
 both_turned A B k = record { near = k.far; far = k.near }
 
 -- ---- a side says more of its own accord
@@ -33,8 +33,8 @@ far_grows e g past (t ∷ bs) s h = (
   far_grows e g past bs s h.1,
 )
 
-pub both_says : (A B : Talks) (g : Talk) → Both A B → Grows A.now g → A.now.peer ≢ None
-    → Both (with_now A g) B
+pub both_says : (A B : Talks) (g : Talk) → KeepBothTalks A B → Grows A.now g → A.now.peer ≢ None
+    → KeepBothTalks (with_now A g) B
 both_says A B g k s up =
     record {
       near =
@@ -110,7 +110,7 @@ far_hears e w past later n (t ∷ bs) k f q h =
     ]
 
 -- the next word is understood, and what holds of the session alone and with its partner still does
-pub next_right : (A B : Talks) (w : Word) (later : List Word) → Both A B
+pub next_right : (A B : Talks) (w : Word) (later : List Word) → KeepBothTalks A B
     → (partner A.now (all_talks B)).words ≡ A.now.heard ++ w ∷ later
     → Right (partner A.now (all_talks B)) A.now w (hears A.now.end (heard_of w))
 next_right A B w later k q =
@@ -120,9 +120,9 @@ next_right A B w later k q =
     hears_right f e w later (partner_alone e (all_talks A) (all_talks B) k.far.holds)
     k.near.holds.0.alone p (next_there e f w later p q)
 
-pub both_hears : (A B : Talks) (w : Word) (later : List Word) → Both A B → A.now.peer ≢ None
-    → (partner A.now (all_talks B)).words ≡ A.now.heard ++ w ∷ later
-    → Both (with_now A (heard_word A.now w)) B
+pub both_hears : (A B : Talks) (w : Word) (later : List Word) → KeepBothTalks A B
+    → A.now.peer ≢ None → (partner A.now (all_talks B)).words ≡ A.now.heard ++ w ∷ later
+    → KeepBothTalks (with_now A (heard_word A.now w)) B
 both_hears A B w later k up q =
     let e = A.now in
     let right = next_right A B w later k q in

@@ -4,16 +4,17 @@ use Rattle.std.proofs.Common.{Option, Some, None, inl, inr, arith, refl, sym, �
 use Rattle.std.specs.Prelude.{◌==◌, if◌then◌else◌}
 use Rattle.std.proofs.lemmas.Bool.Decides.{eqb_tells, nat_tests}
 use Rattle.std.proofs.lemmas.List.{append_assoc, append_cancel_left, append-nil, length-append}
+use Rattle.linx_base.specs.Fronts.{IsFront}
 use Rattle.linx_base.specs.declared.frame.Message.{Message}
 use Rattle.linx_base.specs.declared.identity.Session.{Session}
 use Rattle.ethcm_end.specs.States.{peer_of}
-use Rattle.carrier.specs.Records.{Entry, HalfState, IsFront, entries, is_pair, mine_of, names}
+use Rattle.carrier.specs.Records.{Entry, HalfState, entries, is_pair, mine_of, names}
 use Rattle.carrier.specs.Records.{offered_at, source}
 use Rattle.carrier.proofs.Fronts.{either}
 use Rattle.rlnh_end.specs.Words.{Word, message_of}
 use Rattle.rlnh_laws.specs.Ties.{Talk}
 use Rattle.trunk.specs.Keeping.{AllMirror, messages_of}
-use Rattle.trunk.specs.Talks.{Both, FallBelow, Talks, all_talks, partner}
+use Rattle.trunk.specs.Talks.{KeepBothTalks, FallBelow, Talks, all_talks, partner}
 use Rattle.trunk.proofs.Partners.{down_partner, no_partner, nothing}
 
 pub messages-append : (xs ys : List Word)
@@ -75,7 +76,7 @@ source_words t n es ts m f = by_peer t.peer refl
     by_peer (Some y) is = ap (λ o. source es t.number.0 o) is ∙ named_partner t y n es ts is m f
 
 own_source : (a b : HalfState) (A B : Talks) → AllMirror (entries a) (all_talks A)
-    → AllMirror (entries b) (all_talks B) → Both A B
+    → AllMirror (entries b) (all_talks B) → KeepBothTalks A B
     → source (entries b) (mine_of a) (peer_of a.end)
     ≡ messages_of (partner A.now (all_talks B)).words
 own_source a b A B m n both =
@@ -99,7 +100,7 @@ pub record NextWord (A B : Talks) (m : Message) : Type 0 where
   pub next : (partner A.now (all_talks B)).words ≡ A.now.heard ++ word ∷ later
 
 pub got_word : (a b : HalfState) (A B : Talks) (m : Message)
-    → AllMirror (entries a) (all_talks A) → AllMirror (entries b) (all_talks B) → Both A B
+    → AllMirror (entries a) (all_talks A) → AllMirror (entries b) (all_talks B) → KeepBothTalks A B
     → IsFront (a.handed ++ m ∷ []) (source (entries b) (mine_of a) (peer_of a.end))
     → NextWord A B m
 got_word a b A B m n k both front =

@@ -7,7 +7,6 @@ use Rattle.linx_base.specs.Peers.{same_inc}
 use Rattle.linx_base.specs.declared.identity.Inc.{Inc}
 use Rattle.linx_base.specs.declared.identity.Side.{Side}
 use Rattle.linx_base.specs.declared.identity.Side.TheVariants.{First, Second}
-use Rattle.link_addresses.specs.Meanings.{used_in}
 use Rattle.trunk_record.specs.Records.{SideRecord}
 use Rattle.trunk_record.specs.Sayings.{IsProper, Said, asked, is_live, published, signaled}
 use Rattle.trunk_record.specs.Sayings.{unpublished, was_unpublished}
@@ -22,6 +21,7 @@ use Rattle.trunk.specs.declared.note.Note.TheVariants.{Began, WentUp, Published,
 use Rattle.trunk.specs.declared.note.Note.TheVariants.{Unpublished, Met, AskedFor, Arrived, Freed}
 use Rattle.trunk.specs.declared.note.Note.TheVariants.{Gone}
 use Rattle.trunk.proofs.Trunks.{trunk_record}
+use Rattle.link_addresses.specs.Meanings.{HasAddressLeft}
 
 -- the newest one once a note is taken
 pub newest_more : (A : SideRecord) (note : Note)
@@ -61,7 +61,7 @@ said_properly Second t k = (trunk_record t k).far.proper.0
 
 -- so an incarnation may be published that is live, or newer than each that was unpublished
 pub publishes_again : (side : Side) (inc : Inc) (name : List ℕ) (t : TrunkState) → KeepsTrunk t
-    → inc.0 < 2 ^ 64 → IsTrue (is_name name) → used_in (tables_of side t).own < 4294967295
+    → inc.0 < 2 ^ 64 → IsTrue (is_name name) → HasAddressLeft (tables_of side t).own
     → is_live inc (kept_of side t).now.said ≡ true → MayPublish (side_of side t) inc name
 publishes_again side inc name t k numbered named room live =
     record {
@@ -72,7 +72,7 @@ publishes_again side inc name t k numbered named room live =
     }
 
 pub publishes_new : (side : Side) (inc : Inc) (name : List ℕ) (t : TrunkState)
-    → inc.0 < 2 ^ 64 → IsTrue (is_name name) → used_in (tables_of side t).own < 4294967295
+    → inc.0 < 2 ^ 64 → IsTrue (is_name name) → HasAddressLeft (tables_of side t).own
     → newest_unpublished (kept_of side t).now.said < inc.0 → MayPublish (side_of side t) inc name
 publishes_new side inc name t numbered named room newer =
     record {

@@ -2,9 +2,8 @@
 use Rattle.std.proofs.Common.{◌≡◌, ◌≢◌, ◌<◌, ◌≤◌, ◌||◌, ℕ, true, false, List, [], ◌∷◌, length}
 use Rattle.std.proofs.Common.{Option, Some, None, arith, refl, sym, ◌∙◌, ap, subst}
 use Rattle.std.specs.Prelude.{◌&&◌, if◌then◌else◌, is_some, IsTrue, nat_le}
-use Rattle.std.proofs.lemmas.Bool.{and_parts, eq-eqb}
+use Rattle.std.proofs.lemmas.Bool.{and_parts}
 use Rattle.std.proofs.lemmas.Bool.Decides.{nat_tests}
-use Rattle.std.proofs.lemmas.Option.{same_Some}
 use Rattle.std.specs.List.{AllByRecursion, list_all}
 use Rattle.linx_base.specs.Frames.{IsMessage}
 use Rattle.linx_base.specs.NameText.{is_name, is_name_byte}
@@ -21,11 +20,11 @@ use Rattle.rlnh_messages.specs.declared.rlnh.Rlnh.TheVariants.{Init, InitReply, 
 use Rattle.rlnh_messages.specs.declared.rlnh.Rlnh.TheVariants.{Unpublish, UnpublishAck}
 use Rattle.rlnh_messages.proofs.Types.{unique}
 use Rattle.rlnh_messages.proofs.Bodies.{is_body, one_signal}
-use Rattle.trunk_record.specs.Sayings.{arrived, freed}
 use Rattle.rlnh_end.specs.declared.heard.Heard.{Heard}
 use Rattle.rlnh_end.specs.declared.heard.Heard.TheVariants.{Control, Garbage, Signal}
 use Rattle.rlnh_end.specs.declared.up.Up.{Up}
-use Rattle.rlnh_end.specs.declared.up.Up.TheVariants.{Nothing, Arrived, Met, Gone, Asked, Bad}
+use Rattle.rlnh_end.specs.declared.up.Up.TheVariants.{Nothing, Arrived, Freed, Met, Gone}
+use Rattle.rlnh_end.specs.declared.up.Up.TheVariants.{Asked, Bad}
 use Rattle.rlnh_end.specs.States.{RlnhTables, addr_met, inc_met, with_met}
 use Rattle.rlnh_end.specs.Words.{Word, hello, hello_back, question, announce, tell, withdraw}
 use Rattle.rlnh_end.specs.Words.{confirm, message_of}
@@ -33,11 +32,8 @@ use Rattle.rlnh_end.specs.Hearing.{IsControl, IsGarbage, IsRead, IsSignalFrom, f
 use Rattle.rlnh_end.specs.Hearing.{heard_ack, heard_signal, heard_unpublish, hears, no_message}
 use Rattle.rlnh_end.specs.Hearing.{no_signal, only, to_alone}
 use Rattle.rlnh_laws.specs.Meanings.{Understands, given_for, heard_of, saids}
-use Rattle.rlnh_laws.specs.Ties.{Pair, Talk, about, bearer, sig_of, sig_to, toward}
-use Rattle.rlnh_laws.specs.Ties as ties
 use Rattle.rlnh_laws.proofs.ReadBack.{reads_word}
-use Rattle.rlnh_laws.proofs.Standing.{stand_heard_aimed, stand_heard_signal}
-use Rattle.trunk.specs.Events.{given_of, given_signal, given_up}
+use Rattle.trunk.specs.Events.{given_up}
 use Rattle.trunk.specs.Keeping.{messages_of}
 use Rattle.trunk.specs.Talks.{FitsWord}
 
@@ -125,73 +121,22 @@ pub read_word : (w : Word) (m : Message) (h : Heard) → FitsWord w → message_
 read_word w m h fits is read =
     reads_once m h (heard_of w) read (subst (λ k. IsRead k (heard_of w)) is (reads_word w fits))
 
--- ---- what is given for a word is given for what it is read as
+-- ---- what is given for a word that is understood is given for what is handed up
 
--- where the next word under way from e to f is a signal, both its addresses are known
-pub record KnowsBoth (f : Talk) (a : ℕ) (i : Inc) (b : ℕ) (j : Inc) : Type 0 where
-  pub sender : inc_met f.end.met a ≡ Some i
-  pub receiver : bearer (meaning_of f.end.own b) ≡ Some j
-
-pub knows_both : (e f : Talk) (a b : ℕ) (i j : Inc) (note : SigNote) (later : List Word)
-    (p : Pair e f) → p.there ≡ tell a i b j note ∷ later → KnowsBoth f a i b j
-knows_both e f a b i j note later p q =
-    record {
-      sender =
-          let was : ties.Stands (meaning_of e.end.own a) (inc_met f.end.met a)
-          (sig_of i ∷ about a later) (toward a p.back) =
-          rw (eq-eqb a a refl) at
-          (subst (λ t. ties.Ties e.end.own f.end.met t p.back) q p.near a) in
-          (stand_heard_signal (meaning_of e.end.own a) i (inc_met f.end.met a) (about a later)
-          (toward a p.back) was).0;
-      receiver =
-          let was : ties.Stands (meaning_of f.end.own b) (inc_met e.end.met b) (about b p.back)
-          (sig_to j ∷ toward b later) =
-          rw (eq-eqb b b refl) at
-          (subst (λ t. ties.Ties f.end.own e.end.met p.back t) q p.far b) in
-          (stand_heard_aimed (meaning_of f.end.own b) j (inc_met e.end.met b) (about b p.back)
-          (toward b later) was).0;
-    }
-
--- what is known of the addresses of a word, where it is a signal
-abbrev pub KnowsWord : Talk → Word → Type 0
-KnowsWord f (tell a i b j note) = KnowsBoth f a i b j
-KnowsWord f w = Unit {0}
-
-pub knows_word : (e f : Talk) (w : Word) (later : List Word) (p : Pair e f)
-    → p.there ≡ w ∷ later → KnowsWord f w
-knows_word e f hello later p q = tt
-knows_word e f hello_back later p q = tt
-knows_word e f (question v) later p q = tt
-knows_word e f (announce a i v) later p q = tt
-knows_word e f (tell a i b j note) later p q = knows_both e f a b i j note later p q
-knows_word e f (withdraw a i) later p q = tt
-knows_word e f (confirm a) later p q = tt
-
-given_note : (t : RlnhTables) (a : ℕ) (i : Inc) (b : ℕ) (j : Inc) (note : SigNote) (m : Meaning)
-    → bearer m ≡ Some j
-    → given_for (tell a i b j note) (heard_signal t note (Some i) m).up
-    ≡ given_signal note (Some i) m
-given_note t a i b j note Free is = absurd cc
-given_note t a i b j note (Live k) is = ap (λ (x : Inc). arrived i x note ∷ [])
-    (sym (same_Some k j is))
-given_note t a i b j note (Closing k) is = ap (λ (x : Inc). freed i x note ∷ [])
-    (sym (same_Some k j is))
-
-pub given_word : (f : Talk) (w : Word) → KnowsWord f w
-    → Understands w (hears f.end (heard_of w)).up
-    → given_for w (hears f.end (heard_of w)).up ≡ given_of f.end (heard_of w)
-unfolding hears
-given_word f hello knows u = refl
-given_word f hello_back knows u = refl
-given_word f (question v) knows u = refl
-given_word f (announce a i v) knows u = ap given_up (sym u)
-given_word f (tell a i b j note) knows u =
-    subst (λ o. given_for (tell a i b j note)
-    (heard_signal f.end note o (meaning_of f.end.own b)).up
-    ≡ given_signal note o (meaning_of f.end.own b)) (sym knows.sender)
-    (given_note f.end a i b j note (meaning_of f.end.own b) knows.receiver)
-given_word f (withdraw a i) knows u = ap given_up (sym u)
-given_word f (confirm a) knows u = ap given_up (sym u)
+pub given_word : (w : Word) (u : Up) → Understands w u → given_for w u ≡ given_up u
+given_word hello u is = ap given_up (sym is)
+given_word hello_back u is = ap given_up (sym is)
+given_word (question v) u is = ap given_up (sym is)
+given_word (announce a i v) u is = ap given_up (sym is)
+given_word (tell a i b j note) Nothing is = absurd cc
+given_word (tell a i b j note) (Arrived x y n) is = ap given_up (sym is)
+given_word (tell a i b j note) (Freed x y n) is = ap given_up (sym is)
+given_word (tell a i b j note) (Met x v) is = absurd cc
+given_word (tell a i b j note) (Gone x) is = absurd cc
+given_word (tell a i b j note) (Asked v) is = absurd cc
+given_word (tell a i b j note) Bad is = absurd cc
+given_word (withdraw a i) u is = ap given_up (sym is)
+given_word (confirm a) u is = ap given_up (sym is)
 
 -- ---- what is replied says nothing of the record
 

@@ -17,7 +17,8 @@ use Rattle.trunk_record.proofs.Lists.{all-impl}
 use Rattle.rlnh_laws.specs.Meanings.{saids}
 use Rattle.rlnh_laws.specs.Ties.{Pair, Talk}
 use Rattle.rlnh_laws.proofs.Speaking.{saids-append}
-use Rattle.trunk.specs.Talks.{Both, FallBelow, Half, HoldAll, Holds, IsSound, Talks, all_talks}
+use Rattle.trunk.specs.Talks.{KeepBothTalks, FallBelow, KeepsTalks, HoldAll, Holds, IsSound, Talks}
+use Rattle.trunk.specs.Talks.{all_talks}
 use Rattle.trunk.specs.Talks.{partner, record_of, side_record}
 use Rattle.trunk.proofs.Mirroring.{eq_turned}
 use Rattle.trunk.proofs.Partners.{down_partner, named, no_partner, nothing}
@@ -57,7 +58,7 @@ found e y n (b ∷ bs) f is =
     ]
 
 -- what was given is what was heard, which is a front of what was said
-heard_from : (e : Talk) (A B : Talks) → Half B A → Holds (all_talks B) e
+heard_from : (e : Talk) (A B : Talks) → KeepsTalks B A → Holds (all_talks B) e
     → IsHeardFrom (side_record B) (record_of e)
 heard_from e A B far h = by_peer e.peer refl
   where
@@ -89,7 +90,7 @@ falls_all n (e ∷ es) f =
     (λ r at. omega arith) (map record_of es) rest.0 in
     ((below, later), rest)
 
-module _ (A B : Talks) (far : Half B A) where
+module _ (A B : Talks) (far : KeepsTalks B A) where
   all_proper : (es : List Talk) → HoldAll (all_talks B) es
       → AllByRecursion (λ r. IsProper r.said) (map record_of es)
   all_proper [] h = tt
@@ -118,7 +119,7 @@ all_in_turn : (es : List Talk) → AllByRecursion IsSound es
 all_in_turn [] h = tt
 all_in_turn (e ∷ es) h = (h.0.in_turn, all_in_turn es h.1)
 
-pub half_record : (A B : Talks) → Both A B → AllByRecursion IsSound (all_talks A)
+pub half_record : (A B : Talks) → KeepBothTalks A B → AllByRecursion IsSound (all_talks A)
     → IsHalf (side_record A) (side_record B)
 half_record A B k sound =
     record {

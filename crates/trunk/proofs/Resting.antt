@@ -4,10 +4,10 @@ use Rattle.linx_base.specs.Both.{Both, still}
 use Rattle.linx_base.specs.declared.identity.Side.{Side}
 use Rattle.carrier.proofs.Resting.{at_rest}
 use Rattle.trunk.specs.Events.{TrunkState}
-use Rattle.trunk.specs.Parts.{OnlyGrownFrom}
+use Rattle.trunk.specs.Parts.{HasOnlyGrownAt}
 
 pub rests : (from : Side) (t : TrunkState) (trunk : Both TrunkState) → trunk ≡ still t
-    → OnlyGrownFrom from trunk
+    → HasOnlyGrownAt from trunk
 rests from t trunk e =
-    subst (λ (b : Both TrunkState). OnlyGrownFrom from b) (sym e)
+    subst (λ (b : Both TrunkState). HasOnlyGrownAt from b) (sym e)
     (at_rest from t.link (still t.link) refl)

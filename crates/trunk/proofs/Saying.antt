@@ -13,7 +13,7 @@ use Rattle.trunk_record.specs.Sayings.{Said, asked, heard_as, is_live, published
 use Rattle.trunk_record.specs.Sayings.{unpublished}
 use Rattle.trunk_record.specs.Changes.{saying, sending}
 use Rattle.rlnh_end.specs.States.{RlnhTables, addr_met, is_noted, without_note}
-use Rattle.rlnh_end.specs.Calls.{Saying, announced, close_of, closed, known_of, opened_of}
+use Rattle.rlnh_end.specs.Calls.{Saying, announced, close_of, closed, publish_sender_of, opened_of}
 use Rattle.rlnh_end.specs.Calls.{publish_of, query_of, saying as end_saying, send_of, signal_of}
 use Rattle.rlnh_end.specs.Calls.{told}
 use Rattle.rlnh_laws.specs.Meanings.{saids}
@@ -160,7 +160,7 @@ told_words made from to signal a b one two =
 -- what is said before it, and the notes
 pub send_words : (e : Talk) (from to : Inc) (name : List ℕ) (signal : SigNote) (b : ℕ)
     → addr_met e.end.met to ≡ Some b → (o : Option ℕ) → address_of e.end.own from ≡ o
-    → saids (signal_of (known_of e.end from name o) from to signal).says
+    → saids (signal_of (publish_sender_of e.end from name o) from to signal).says
     ≡ signaled from to signal ∷ (if is_some o then [] else published from name ∷ [])
 send_words e from to name signal b met (Some a) is =
     told_words (end_saying e.end []) from to signal a b is met
@@ -173,7 +173,7 @@ send_words e from to name signal b met None is =
     { noted = without_note e.end.noted name }) from name o).says) is)
 
 send_notes : (s : RlnhTables) (from to : Inc) (name : List ℕ) (signal : SigNote) (o : Option ℕ)
-    → (signal_of (known_of s from name o) from to signal).tables.noted
+    → (signal_of (publish_sender_of s from name o) from to signal).tables.noted
     ≡ (if is_some o then s.noted else without_note s.noted name)
 send_notes s from to name signal (Some a) = refl
 send_notes s from to name signal None = by_address (address_of s.own from)

@@ -247,6 +247,7 @@ near_sender t k keep reading =
 told_heard : (silent : ℕ) → silent ≡ 0 → (u : Up) → HeardNow silent (told_up u)
 told_heard silent zero ups.Nothing = tt
 told_heard silent zero (ups.Arrived x y n) = zero
+told_heard silent zero (ups.Freed x y n) = tt
 told_heard silent zero (ups.Met x v) = zero
 told_heard silent zero (ups.Gone x) = zero
 told_heard silent zero (ups.Asked v) = zero

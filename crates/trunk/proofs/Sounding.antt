@@ -15,6 +15,7 @@ use Rattle.link_addresses.specs.declared.meaning.Meaning.{Meaning}
 use Rattle.link_addresses.specs.declared.meaning.Meaning.TheVariants.{Free, Live, Closing}
 use Rattle.link_addresses.specs.Meanings.{ChangesMeaning, address_of, lowest_free, meaning_of}
 use Rattle.link_addresses.specs.Meanings.{is_used, used_in, with_lowest, with_meaning}
+use Rattle.link_addresses.specs.Meanings.{HasAddressLeft}
 use Rattle.link_addresses.proofs.Indexing.{address_found}
 use Rattle.link_addresses.proofs.Lists.{changes_at, closing_taken, live_taken}
 use Rattle.rlnh_messages.specs.Messages.{IsAddress}
@@ -23,12 +24,13 @@ use Rattle.trunk_record.specs.Sayings.{IsInTurn, Said, frees, is_live, published
 use Rattle.trunk_record.specs.Sayings.{unpublished}
 use Rattle.trunk_record.proofs.Sayings.{live-not_unpublished}
 use Rattle.rlnh_end.specs.declared.up.Up.{Up}
-use Rattle.rlnh_end.specs.declared.up.Up.TheVariants.{Nothing, Arrived, Met, Gone, Asked, Bad}
+use Rattle.rlnh_end.specs.declared.up.Up.TheVariants.{Nothing, Arrived, Freed, Met, Gone}
+use Rattle.rlnh_end.specs.declared.up.Up.TheVariants.{Asked, Bad}
 use Rattle.rlnh_end.specs.States.{RlnhTables, addr_met, inc_met, is_noted, no_tables, with_met}
 use Rattle.rlnh_end.specs.States.{with_note, without_met, without_note}
 use Rattle.rlnh_end.specs.Words.{Word, hello, hello_back, question, announce, tell, withdraw}
 use Rattle.rlnh_end.specs.Words.{confirm}
-use Rattle.rlnh_end.specs.Calls.{Saying, announced, close_of, closed, known_of, opened_of}
+use Rattle.rlnh_end.specs.Calls.{Saying, announced, close_of, closed, publish_sender_of, opened_of}
 use Rattle.rlnh_end.specs.Calls.{publish_of, query_of, saying, send_of, signal_of, told}
 use Rattle.rlnh_end.specs.Hearing.{Hearing, heard_ack, heard_signal, heard_unpublish, hears, only}
 use Rattle.rlnh_laws.specs.Meanings.{Understands, given_for, heard_of, said_by, saids}
@@ -74,7 +76,7 @@ lowest_bound (Closing i ∷ ms) =
     let rest = (lowest_bound ms).1 in
     (omega arith, omega (arith, sum_by-cons (λ m. cond (is_used m) 1 0) (Closing i) ms))
 
-lowest_address : (ms : List Meaning) → used_in ms < 4294967295 → IsAddress (lowest_free ms)
+lowest_address : (ms : List Meaning) → HasAddressLeft ms → IsAddress (lowest_free ms)
 lowest_address ms few =
     let bound = lowest_bound ms in
     let above = bound.0 in
@@ -100,7 +102,7 @@ fits_own : (t : RlnhTables) (own : List Meaning) (noted : List (List ℕ)) → F
 fits_own t own noted fits is = record { own = is; met = fits.met }
 
 pub publish_sound : (t : RlnhTables) (i : Inc) (v : List ℕ) → FitsTables t
-    → used_in t.own < 4294967295 → i.0 < 2 ^ 64 → IsTrue (is_name v)
+    → HasAddressLeft t.own → i.0 < 2 ^ 64 → IsTrue (is_name v)
     → SaysSoundly t (publish_of t i v)
 publish_sound t i v fits few inc name = by_address (address_of t.own i)
   where
@@ -131,7 +133,7 @@ says_nothing : (t : RlnhTables) → FitsTables t → SaysSoundly t (saying t [])
 says_nothing t fits = record { says = tt; tables = fits; met = refl }
 
 pub opened_sound : (t : RlnhTables) (i : Inc) (v : List ℕ) → FitsTables t
-    → used_in t.own < 4294967295 → i.0 < 2 ^ 64 → IsTrue (is_name v)
+    → HasAddressLeft t.own → i.0 < 2 ^ 64 → IsTrue (is_name v)
     → SaysSoundly t (opened_of t i v)
 opened_sound t i v fits few inc name =
     elim (is_noted t.noted v)
@@ -187,13 +189,13 @@ tell_sound t made i j note s apart is =
         ((from.0, to.0, is), tt)
 
 pub send_sound : (t : RlnhTables) (i j : Inc) (v : List ℕ) (note : SigNote) → FitsTables t
-    → AreApart t.met → used_in t.own < 4294967295 → i.0 < 2 ^ 64 → IsTrue (is_name v)
+    → AreApart t.met → HasAddressLeft t.own → i.0 < 2 ^ 64 → IsTrue (is_name v)
     → IsSignal note → SaysSoundly t (send_of t i v j note)
 send_sound t i j v note fits apart few inc name is =
-    tell_sound t (known_of t i v (address_of t.own i)) i j note (by_address (address_of t.own i))
-    apart is
+    tell_sound t (publish_sender_of t i v (address_of t.own i)) i j note
+    (by_address (address_of t.own i)) apart is
   where
-    by_address : (o : Option ℕ) → SaysSoundly t (known_of t i v o)
+    by_address : (o : Option ℕ) → SaysSoundly t (publish_sender_of t i v o)
     by_address (Some a) = says_nothing t fits
     by_address None = publish_sound t i v fits few inc name
 
@@ -327,7 +329,7 @@ hears_note t heard note fits meets (Some i) Free = hears_only t heard Bad fits m
 hears_note t heard note fits meets (Some i) (Live j) =
     hears_only t heard (Arrived i j note) fits meets
 hears_note t heard note fits meets (Some i) (Closing j) =
-    hears_only t heard Nothing fits meets
+    hears_only t heard (Freed i j note) fits meets
 
 -- a word
 pub hears_word : (t : RlnhTables) (heard : List Said) (w : Word) → FitsTables t
@@ -368,7 +370,8 @@ turns f hello u k is lives turn = turn
 turns f hello_back u k is lives turn = turn
 turns f (question v) u k is lives turn = turn
 turns f (announce a i v) u k is lives turn = turn
-turns f (tell a i b j note) Nothing k is lives turn = turn
+turns f (tell a i b j note) Nothing k is lives turn = absurd cc
+turns f (tell a i b j note) (Freed x y n) k is lives turn = turn
 turns f (tell a i b j note) (Arrived x y n) k is lives turn = (
   false_from_ne_true (list_any (frees j) f.given) (λ freed.
       true≢false (sym (k.frees_closed j freed)

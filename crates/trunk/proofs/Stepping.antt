@@ -3,11 +3,12 @@ use Rattle.std.proofs.Common.{◌≡◌, ◌≢◌, ◌<◌, Bool, true, false, 
 use Rattle.std.proofs.Common.{None, map, arith, refl, sym, ◌∙◌, ap, subst}
 use Rattle.std.specs.Prelude.{IsSome, if◌then◌else◌, is_some}
 use Rattle.std.specs.List.{AllByRecursion}
+use Rattle.linx_base.specs.Fronts.{IsFront}
 use Rattle.linx_base.specs.Numbers.{next_session}
 use Rattle.linx_base.specs.declared.frame.Message.{Message}
 use Rattle.linx_base.specs.declared.identity.Session.{Session}
 use Rattle.ethcm_end.specs.States.{peer_of}
-use Rattle.carrier.specs.Records.{HalfState, IsFront, entries, mine_of, source}
+use Rattle.carrier.specs.Records.{HalfState, entries, mine_of, source}
 use Rattle.carrier.specs.Events.{LinkState}
 use Rattle.carrier.specs.Keeping.{KeepsLink}
 use Rattle.carrier.specs.Laws.{GoesDownFrom, GoesUpWith, HandsUp, RecordsNothing, StaysBound}
@@ -32,25 +33,25 @@ use Rattle.trunk.specs.Events.{IsReading, TrunkSide, TrunkState, given_of, givin
 use Rattle.trunk.specs.Events.{near_heard, near_offers, near_pumped, near_said, near_says}
 use Rattle.trunk.specs.Events.{near_took, near_up, with_link}
 use Rattle.trunk.specs.Keeping.{AllMirror, KeepsSide, KeepsTrunk, messages_of}
-use Rattle.trunk.specs.Talks.{Both, FitsWord, Half, IsSound, MeetsLive, Talks, all_talks, is_peer}
+use Rattle.trunk.specs.Talks.{KeepBothTalks, FitsWord, KeepsTalks, IsSound, MeetsLive, Talks}
+use Rattle.trunk.specs.Talks.{all_talks, is_peer}
 use Rattle.trunk.specs.Talks.{next_talks, partner, record_of, side_record, up_with, with_now}
-use Rattle.trunk.proofs.Growing.{both_hears, both_says, next_right, next_there}
+use Rattle.trunk.proofs.Growing.{both_hears, both_says, next_right}
 use Rattle.trunk.proofs.Meeting.{meets_none}
 use Rattle.trunk.proofs.Mirroring.{got_word, messages-append}
 use Rattle.trunk.proofs.Offering.{Offered, offers, out_words}
-use Rattle.trunk.proofs.Partners.{pair_sym}
-use Rattle.trunk.proofs.Reading.{given_word, knows_word, messages_fit, read_word, reply_silent}
+use Rattle.trunk.proofs.Reading.{given_word, messages_fit, read_word, reply_silent}
 use Rattle.trunk.proofs.Sounding.{SaysSoundly, all_words, fits_none, fresh_sound, heard_sound}
 use Rattle.trunk.proofs.Sounding.{hears_word, said_sound}
 use Rattle.trunk.proofs.Turning.{both_begin, both_next}
 
 -- ---- the words of a trunk
 
-pub both_of : (t : TrunkState) (k : KeepsTrunk t) → Both k.near k.far
+pub both_of : (t : TrunkState) (k : KeepsTrunk t) → KeepBothTalks k.near k.far
 both_of t k = record { near = k.first.half; far = k.second.half }
 
 -- the other side keeps what it keeps where this one's words go on
-far_side : (s : TrunkSide) (h : HalfState) (A B C : Talks) → KeepsSide s h B A → Half B C
+far_side : (s : TrunkSide) (h : HalfState) (A B C : Talks) → KeepsSide s h B A → KeepsTalks B C
     → KeepsSide s h B C
 far_side s h A B C k half =
     record {
@@ -66,7 +67,7 @@ far_side s h A B C k half =
 
 -- a half of a link to which the words are still to be offered, and the talk that it comes to
 pub record ComesTo (c : HalfState) (A B : Talks) (g : Talk) (says : List Word) : Type 0 where
-  pub both : Both (with_now A g) B
+  pub both : KeepBothTalks (with_now A g) B
   pub sound : IsSound g
   pub fits : AllByRecursion FitsWord says
   pub number : c.end.talk.mine ≡ g.number
@@ -302,7 +303,6 @@ comes t k v m kv same h =
     let found = got_word t.link.first t.link.second A B m k.first.mirrors k.second.mirrors both
     (front_now t v m kv same h) in
     let w = found.word in
-    let p = pair_sym A.now (partner A.now (all_talks B)) both.near.holds.0.pair in
     let right = next_right A B w found.later both found.next in
     let fits = said_fits A.now.heard found.later (partner A.now (all_talks B)).words w found.next
     (partner_fits A.now (all_talks B) k.second.sound) in
@@ -314,10 +314,7 @@ comes t k v m kv same h =
       fits = fits;
       read = λ heard read. read_word w m heard fits found.message read;
       right = right;
-      given = given_word A.now w
-          (knows_word (partner A.now (all_talks B)) A.now w found.later p
-          (next_there A.now (partner A.now (all_talks B)) w found.later p found.next))
-          right.understands;
+      given = given_word w (hears A.now.end (heard_of w)).up right.understands;
     }
 
 pub heard_keeps : (t : TrunkState) (k : KeepsTrunk t) (v : LinkState) (m : Message)

@@ -220,6 +220,7 @@ module _ (t : TrunkState) (kt : KeepsTrunk t) (k : ℕ) (keep : Bool) (heard : H
 no_down : (A B : SideRecord) (u : Up) → DownForLater A B (told_up u)
 no_down A B ups.Nothing = tt
 no_down A B (ups.Arrived x y n) = tt
+no_down A B (ups.Freed x y n) = tt
 no_down A B (ups.Met x v) = tt
 no_down A B (ups.Gone x) = tt
 no_down A B (ups.Asked v) = tt

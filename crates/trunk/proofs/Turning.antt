@@ -12,7 +12,8 @@ use Rattle.rlnh_end.specs.Calls.{begin_of}
 use Rattle.rlnh_laws.specs.Ties.{Pair, Talk}
 use Rattle.rlnh_laws.specs.Talks.{said_more}
 use Rattle.rlnh_laws.proofs.Uttering.{utter_grows}
-use Rattle.trunk.specs.Talks.{Both, FallBelow, HoldAll, IsBlank, Talks, all_talks, fresh_talk}
+use Rattle.trunk.specs.Talks.{KeepBothTalks, FallBelow, HoldAll, IsBlank, Talks, all_talks}
+use Rattle.trunk.specs.Talks.{fresh_talk}
 use Rattle.trunk.specs.Talks.{is_peer, next_talks, partner, up_with, with_now}
 use Rattle.trunk.proofs.Growing.{both_says}
 use Rattle.trunk.proofs.Partners.{alone_fresh, holds_with, no_partner, nothing, pair_blank}
@@ -26,8 +27,8 @@ far_next x es (t ∷ bs) h =
     let off : is_peer t (fresh_talk x) ≡ false = and_comm (names x.0 t.peer) false in
     (holds_with es (fresh_talk x ∷ es) t h.0 (rw off h.0.pair), far_next x es bs h.1)
 
-pub both_next : (A B : Talks) (x : Session) → Both A B → A.now.number.0 < x.0
-    → Both (next_talks A x) B
+pub both_next : (A B : Talks) (x : Session) → KeepBothTalks A B → A.now.number.0 < x.0
+    → KeepBothTalks (next_talks A x) B
 both_next A B x k above =
     record {
       near =
@@ -102,8 +103,8 @@ module _ (e : Talk) (y : Session) (past : List Talk) (down : e.peer ≡ None) (b
         | inr off ↦ rw off (near_up fs h.1)
       ]
 
-pub both_up : (A B : Talks) (y : Session) → Both A B → A.now.peer ≡ None
-    → Both (with_now A (up_with A.now y)) B
+pub both_up : (A B : Talks) (y : Session) → KeepBothTalks A B → A.now.peer ≡ None
+    → KeepBothTalks (with_now A (up_with A.now y)) B
 both_up A B y k down =
     let h = k.near.holds.0 in
     let b = h.blank down in
@@ -137,8 +138,8 @@ some_is : (y : Session) → Some y ≢ None
 some_is y e = absurd cc
 
 -- and it says hello
-pub both_begin : (A B : Talks) (y : Session) → Both A B → A.now.peer ≡ None
-    → Both (with_now A (said_more (up_with A.now y) begin_of)) B
+pub both_begin : (A B : Talks) (y : Session) → KeepBothTalks A B → A.now.peer ≡ None
+    → KeepBothTalks (with_now A (said_more (up_with A.now y) begin_of)) B
 both_begin A B y k down =
     let up = both_up A B y k down in
     let e = up_with A.now y in

@@ -1,7 +1,7 @@
 -- What each event makes of the two sides of a trunk: of the link, of the RLNH ends, and of what is
 -- recorded of both sides. What is heard is given beside an event that hands a message up: a message
 -- has one reading.
-use Rattle.std.specs.Prelude.{ℕ, Bool, if◌then◌else◌, List, [], ◌∷◌, ◌++◌, Option, Some, None}
+use Rattle.std.specs.Prelude.{ℕ, Bool, if◌then◌else◌, List, [], ◌∷◌, ◌++◌, ◌≤◌}
 use Rattle.std.specs.Prelude.{is_some, slice_get}
 use Rattle.linx_base.specs.Numbers.{first_session, next_session}
 use Rattle.linx_base.specs.Sides.{other_of}
@@ -11,32 +11,29 @@ use Rattle.linx_base.specs.declared.identity.Session.{Session}
 use Rattle.linx_base.specs.declared.identity.Side.{Side}
 use Rattle.linx_base.specs.declared.identity.Side.TheVariants.{First, Second}
 use Rattle.linx_base.specs.declared.signal.SigNote.{SigNote}
-use Rattle.link_addresses.specs.declared.meaning.Meaning.{Meaning}
-use Rattle.link_addresses.specs.declared.meaning.Meaning.TheVariants.{Free, Live, Closing}
-use Rattle.link_addresses.specs.Meanings.{meaning_of}
 use Rattle.ethcm_end.specs.States.{peer_of}
 use Rattle.ethcm_end.specs.Rules.{tick_of}
 use Rattle.carrier.specs.declared.handed.Handed.{Handed}
 use Rattle.carrier.specs.declared.handed.Handed.TheVariants.{Nothing, WentUp, WentDown, Got}
 use Rattle.carrier.specs.declared.handed.TickedSide.{TickedSide}
 use Rattle.carrier.specs.declared.handed.TickedSide.TheVariants as ticked
-use Rattle.carrier.specs.Events.{LinkState, near_handed, near_offered, new_link, ticked_as}
+use Rattle.carrier.specs.Events.{LinkState, near_handed, near_offered, new_link, ticked_as, half_of}
 use Rattle.carrier.specs.Events as links
 use Rattle.trunk_record.specs.Records.{SideRecord}
 use Rattle.trunk_record.specs.Sayings.{Given, arrived, asked_for, freed, gone, met}
 use Rattle.trunk_record.specs.Changes.{beginning, going_up, new_side}
 use Rattle.trunk_record.specs.Changes as changes
 use Rattle.rlnh_end.specs.declared.heard.Heard.{Heard}
-use Rattle.rlnh_end.specs.declared.heard.Heard.TheVariants.{Control, Garbage, Signal}
 use Rattle.rlnh_end.specs.declared.up.Up.{Up}
 use Rattle.rlnh_end.specs.declared.up.Up.TheVariants as ups
-use Rattle.rlnh_end.specs.States.{RlnhState, RlnhTables, emptied, inc_met, new_end}
+use Rattle.rlnh_end.specs.States.{RlnhState, RlnhTables, emptied, new_end}
 use Rattle.rlnh_end.specs.Calls.{Saying, after, begin_of, close_of, opened_of, publish_of, query_of}
 use Rattle.rlnh_end.specs.Calls.{send_of}
-use Rattle.rlnh_end.specs.Hearing.{IsRead, hears, hears_control}
+use Rattle.rlnh_end.specs.Hearing.{IsRead, hears}
 use Rattle.rlnh_end.specs.Reactions.{input_of}
 use Rattle.rlnh_laws.specs.Meanings.{saids}
 use Rattle.trunk.specs.declared.up.TrunkUp.{TrunkUp}
+use Rattle.ethcm_window.specs.Sending.{left_of}
 use Rattle.trunk.specs.declared.up.TrunkUp.TheVariants as tells
 
 -- ---- a trunk
@@ -62,6 +59,10 @@ new_trunk window piece =
     record { link = new_link window piece; first = new_trunk_side; second = new_trunk_side }
 
 -- ---- a trunk, seen from one of its sides
+
+-- a side has numbers left for all frames of four messages, and an event says no more
+abbrev pub HasNumbersLeft : Side → TrunkState → Type 0
+HasNumbersLeft side t = 4096 ≤ left_of (half_of side t.link).end.tx
 
 -- the link goes on
 abbrev pub with_link : TrunkState → LinkState → TrunkState
@@ -96,17 +97,11 @@ near_said t made = if is_some (peer_of t.link.first.end) then near_says t made e
 
 -- ---- what is given for what is heard
 
--- for a signal between addresses that mean this
-abbrev pub given_signal : SigNote → Option Inc → Meaning → List Given
-given_signal note None means = []
-given_signal note (Some from) Free = []
-given_signal note (Some from) (Live to) = arrived from to note ∷ []
-given_signal note (Some from) (Closing to) = freed from to note ∷ []
-
--- for what is handed up of a message of RLNH
+-- for what is handed up
 abbrev pub given_up : Up → List Given
 given_up ups.Nothing = []
 given_up (ups.Arrived from to note) = arrived from to note ∷ []
+given_up (ups.Freed from to note) = freed from to note ∷ []
 given_up (ups.Met inc name) = met inc name ∷ []
 given_up (ups.Gone inc) = gone inc ∷ []
 given_up (ups.Asked name) = asked_for name ∷ []
@@ -114,9 +109,7 @@ given_up ups.Bad = []
 
 -- for what is heard where the tables are these
 abbrev pub given_of : RlnhTables → Heard → List Given
-given_of t (Control message) = given_up (hears_control t message).up
-given_of t (Signal from to note) = given_signal note (inc_met t.met from) (meaning_of t.own to)
-given_of t Garbage = []
+given_of t heard = given_up (hears t heard).up
 
 -- a side that was given these, the newest first
 abbrev pub giving_all : List Given → SideRecord → SideRecord
@@ -174,6 +167,7 @@ near_restarted t boot =
 abbrev pub told_up : Up → TrunkUp
 told_up ups.Nothing = tells.Nothing
 told_up (ups.Arrived from to note) = tells.Arrived from to note
+told_up (ups.Freed from to note) = tells.Nothing
 told_up (ups.Met inc name) = tells.Met inc name
 told_up (ups.Gone inc) = tells.Gone inc
 told_up (ups.Asked name) = tells.Asked name

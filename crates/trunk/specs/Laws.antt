@@ -12,7 +12,7 @@ use Rattle.linx_base.specs.declared.identity.Side.{Side}
 use Rattle.linx_base.specs.declared.signal.SigNote.{SigNote}
 use Rattle.link_addresses.specs.declared.meaning.Meaning.{Meaning}
 use Rattle.link_addresses.specs.declared.meaning.Meaning.TheVariants.{Free, Live, Closing}
-use Rattle.link_addresses.specs.Meanings.{address_of, meaning_of, used_in}
+use Rattle.link_addresses.specs.Meanings.{address_of, meaning_of, HasAddressLeft}
 use Rattle.rlnh_messages.specs.Signals.{IsSignal}
 use Rattle.ethcm_end.specs.States.{peer_of}
 use Rattle.carrier.specs.Records.{HalfState}
@@ -33,7 +33,7 @@ use Rattle.trunk.specs.Keeping.{KeepsTrunk, messages_of}
 -- an incarnation of this name may be published: there is an address for it, and it wasn't
 -- unpublished in the present session
 pub record MayPublish (s : TrunkSide) (inc : Inc) (name : List ℕ) : Type 0 where
-  pub has_address : used_in s.end.tables.own < 4294967295
+  pub has_address : HasAddressLeft s.end.tables.own
   pub numbered : inc.0 < 2 ^ 64
   pub named : IsTrue (is_name name)
   pub goes_on : was_unpublished inc s.kept.now.said ≡ false

@@ -65,5 +65,5 @@ abbrev pub offers_to : Side → List Message → LinkState → LinkState
 offers_to side ms v = links.seen_from side (near_offers (links.seen_from side v) ms)
 
 -- since the event began no packet from this side was lost or exchanged
-abbrev pub OnlyGrownFrom : Side → Both TrunkState → Type 0
-OnlyGrownFrom from t = HasOnlyGrownFrom from (record { was = t.was.link; is = t.is.link })
+abbrev pub HasOnlyGrownAt : Side → Both TrunkState → Type 0
+HasOnlyGrownAt from t = HasOnlyGrownFrom from (record { was = t.was.link; is = t.is.link })

@@ -89,15 +89,15 @@ abbrev pub FallBelow : ℕ → List Talk → Type 0
 FallBelow n [] = Unit {0}
 FallBelow n (e ∷ es) = (e.number.0 < n) × FallBelow e.number.0 es
 
--- what holds of one side against the other
-pub record Half (A B : Talks) : Type 0 where
+-- what holds of one side, whose sessions rise, against the other
+pub record KeepsTalks (A B : Talks) : Type 0 where
   pub falls : FallBelow A.now.number.0 A.earlier
   pub holds : HoldAll (all_talks B) (all_talks A)
 
 -- and both ways
-pub record Both (A B : Talks) : Type 0 where
-  pub near : Half A B
-  pub far : Half B A
+pub record KeepBothTalks (A B : Talks) : Type 0 where
+  pub near : KeepsTalks A B
+  pub far : KeepsTalks B A
 
 -- ---- what holds of a session, whatever the other side does
 

@@ -1,24 +1,20 @@
-ghost use Rattle.std.specs.Prelude.{◌≡◌, ◌<◌, IfOk, OnOk, IsSome, Some, is_some};
+ghost use Rattle.std.specs.Prelude.{◌≡◌, IfOk, OnOk, IsSome, is_some};
 ghost use Rattle.std.specs.Option.{option_copied};
 ghost use Rattle.linx_base.specs.Both.{still};
-ghost use Rattle.link_addresses.specs.declared.meaning.Meaning.TheVariants.{Closing as ClosingOf};
-ghost use Rattle.link_addresses.specs.Meanings.{address_of, meaning_of, used_in};
+ghost use Rattle.link_addresses.specs.Meanings.{address_of, used_in, HasAddressLeft};
 ghost use Rattle.rlnh_end.specs.declared.heard.Heard.{Heard as AnyHeard};
-ghost use Rattle.rlnh_end.specs.declared.up.Up.TheVariants.{Nothing as NothingUp};
 ghost use Rattle.rlnh_end.specs.Calls.{close_of, opened_of, publish_of, query_of, send_of};
 ghost use Rattle.rlnh_end.specs.Hearing.{IsRead, hears};
-ghost use Rattle.rlnh_end.specs.States.{RlnhTables, addr_met, after_out, inc_met, next_of};
-ghost use Rattle.trunk.specs.Events.{giving_all, given_of, new_trunk_side, told_up};
+ghost use Rattle.rlnh_end.specs.States.{addr_met, after_out, next_of};
+ghost use Rattle.trunk.specs.Events.{new_trunk_side, told_up};
 ghost use Rattle.trunk.specs.Publishing.{newest_unpublished};
 ghost use Rattle.trunk.specs.Parts.{side_begins, side_ends, side_hears, side_says};
 
 use crate::history::History;
 use crate::note::Note;
 use crate::up::TrunkUp;
-use link_addresses::Meaning;
 use linx_base::{Inc, Message, Name, NoMemory, Session, Signal, TryCopy};
 use rlnh_end::{RlnhEnd, Up};
-use rlnh_messages::{RlnhError, read_signal};
 use std::alloc::Global;
 use std::marker::Model;
 
@@ -40,53 +36,6 @@ impl Model for Half {
       was = record { end = h.end.was; kept = h.kept.was };
       is = record { end = h.end.is; kept = h.kept.is };
     } };
-}
-
-/// A message that shows nothing, from an address that was met to one that is closing, is a signal,
-/// which is noted as freed.
-fn note_closed(kept: &mut History, from: Inc, to: Inc, m: &Message) -> Result<(), NoMemory>
-    ensures is { OnOk result ((t : RlnhTables) (heard : AnyHeard) → IsRead m.now heard
-        → Some from ≡ inc_met t.met m.now.from → ClosingOf to ≡ meaning_of t.own m.now.to
-        → (hears t heard).up ≡ NothingUp
-        → kept.new.is ≡ giving_all (given_of t heard) kept.old.is) }
-    ensures was { kept.new.was ≡ kept.old.was }
-{
-    match read_signal(&m.body) {
-        Ok(signal) => {
-            let signal = signal.note()?;
-            kept.note(Note::Freed { from, to, signal })?;
-            Ok(())
-        }
-        Err(RlnhError::Bad) => Ok(()),
-        Err(RlnhError::NoMemory) => Err(NoMemory),
-    }
-}
-
-/// A message that shows nothing may be a signal between addresses that meant this: then its
-/// receiver is closed, and it is noted as freed.
-fn note_freed(
-    kept: &mut History,
-    sender: Option<Inc>,
-    receiver: Meaning,
-    m: &Message,
-) -> Result<(), NoMemory>
-    ensures is { OnOk result ((t : RlnhTables) (heard : AnyHeard) → IsRead m.now heard
-        → sender ≡ inc_met t.met m.now.from → receiver ≡ meaning_of t.own m.now.to
-        → (hears t heard).up ≡ NothingUp
-        → kept.new.is ≡ giving_all (given_of t heard) kept.old.is) }
-    ensures was { kept.new.was ≡ kept.old.was }
-{
-    match sender {
-        None => Ok(()),
-        Some(from) => match receiver {
-            Meaning::Free => Ok(()),
-            Meaning::Live(_) => Ok(()),
-            Meaning::Closing(to) => {
-                note_closed(kept, from, to, m)?;
-                Ok(())
-            }
-        },
-    }
 }
 
 impl Half {
@@ -122,7 +71,7 @@ impl Half {
 
     /// An endpoint of its node is published.
     pub fn publish(&mut self, inc: Inc, name: &Name) -> Result<(), NoMemory>
-        requires room { used_in self.old.is.end.tables.own < 4294967295 }
+        requires room { HasAddressLeft self.old.is.end.tables.own }
         ensures is { let made = publish_of self.old.is.end.tables inc name.now in
             OnOk result (self.new.is ≡ side_says self.old.is made) }
         ensures was { self.new.was ≡ self.old.was }
@@ -139,7 +88,7 @@ impl Half {
 
     /// An endpoint of its node opened.
     pub fn opened(&mut self, inc: Inc, name: &Name) -> Result<(), NoMemory>
-        requires room { used_in self.old.is.end.tables.own < 4294967295 }
+        requires room { HasAddressLeft self.old.is.end.tables.own }
         ensures is { let made = opened_of self.old.is.end.tables inc name.now in
             OnOk result (self.new.is ≡ side_says self.old.is made) }
         ensures was { self.new.was ≡ self.old.was }
@@ -180,7 +129,7 @@ impl Half {
     /// A signal is sent from an endpoint of its node, of this name, to a peer that was met.
     pub fn send(&mut self, from: Inc, name: &Name, to: Inc, signal: &Signal) -> Result<(), NoMemory>
         requires met { IsSome (addr_met self.old.is.end.tables.met to) }
-        requires room { used_in self.old.is.end.tables.own < 4294967295 }
+        requires room { HasAddressLeft self.old.is.end.tables.own }
         ensures is { let made = send_of self.old.is.end.tables from name.now to signal.now in
             OnOk result (self.new.is ≡ side_says self.old.is made) }
         ensures was { self.new.was ≡ self.old.was }
@@ -207,13 +156,8 @@ impl Half {
             → up ≡ told_up (hears self.old.is.end.tables heard).up) }
         ensures was { self.new.was ≡ self.old.was }
     {
-        let sender = self.end.met_at(m.from);
-        let receiver = self.end.meaning(m.to);
         match self.end.input(m)? {
-            Up::Nothing => {
-                note_freed(&mut self.kept, sender, receiver, m)?;
-                Ok(TrunkUp::Nothing)
-            }
+            Up::Nothing => Ok(TrunkUp::Nothing),
             Up::Arrived { from, to, signal } => {
                 self.kept.note(Note::Arrived {
                     from,
@@ -221,6 +165,14 @@ impl Half {
                     signal: signal.note()?,
                 })?;
                 Ok(TrunkUp::Arrived { from, to, signal })
+            }
+            Up::Freed { from, to, signal } => {
+                self.kept.note(Note::Freed {
+                    from,
+                    to,
+                    signal: signal.note()?,
+                })?;
+                Ok(TrunkUp::Nothing)
             }
             Up::Met { inc, name } => {
                 self.kept.note(Note::Met {

@@ -1,4 +1,4 @@
-ghost use Rattle.std.specs.Prelude.{◌≡◌, OnOk};
+ghost use Rattle.std.specs.Prelude.{◌≡◌, OnOk, OnErr};
 ghost use Rattle.linx_base.specs.Both.{still};
 ghost use Rattle.linx_base.specs.Numbers.{first_session};
 ghost use Rattle.trunk_record.specs.Changes.{new_side};
@@ -64,6 +64,7 @@ impl History {
     pub fn note(&mut self, note: Note) -> Result<(), NoMemory>
         ensures is { OnOk result (self.new.is ≡ noted self.old.is note) }
         ensures was { self.new.was ≡ self.old.was }
+        ensures err { OnErr result (self.new ≡ self.old) }
     {
         let newest = newest_with(self.newest, &note);
         self.notes.push(note)?;

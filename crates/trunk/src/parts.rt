@@ -4,12 +4,11 @@ ghost use Rattle.linx_base.specs.Both.{still};
 ghost use Rattle.linx_base.specs.Frames.{IsMessage};
 ghost use Rattle.linx_base.specs.Numbers.{boot_of};
 ghost use Rattle.linx_base.specs.Sides.{other_of};
-ghost use Rattle.link_addresses.specs.Meanings.{address_of, used_in};
-ghost use Rattle.ethcm_session.specs.Table.{HasNext};
+ghost use Rattle.link_addresses.specs.Meanings.{address_of, used_in, HasAddressLeft};
 ghost use Rattle.ethcm_window.specs.Sending.{left_of};
 ghost use Rattle.ethcm_end.specs.Sound.{IsPiece};
 ghost use Rattle.ethcm_end.specs.States.{peer_of};
-ghost use Rattle.carrier.specs.Events.{flight_from, half_of, handed_by, is_quiet};
+ghost use Rattle.carrier.specs.Events.{flight_from, half_of, handed_by, is_quiet, HasNextAt};
 ghost use Rattle.carrier.specs.Events.{delivered as links_delivered, ticked_at as links_ticked};
 ghost use Rattle.carrier.specs.Events.{restarted_at as links_restarted, told_by as link_told_by};
 ghost use Rattle.carrier.specs.Laws.{TellsRightly, handed_of};
@@ -20,7 +19,8 @@ ghost use Rattle.rlnh_end.specs.States.{addr_met};
 ghost use Rattle.trunk.specs.Events.{new_trunk, side_of, tables_of, taken_out, told_up};
 ghost use Rattle.trunk.specs.Events.{kept_of, lost_from, swapped_from, with_link};
 ghost use Rattle.trunk.specs.Publishing.{newest_unpublished};
-ghost use Rattle.trunk.specs.Parts.{OnlyGrownFrom, offers_to, sends_at, side_begins, side_ends, side_hears};
+ghost use Rattle.trunk.specs.Parts.{HasOnlyGrownAt, offers_to, sends_at, side_begins, side_ends};
+ghost use Rattle.trunk.specs.Parts.{side_hears};
 ghost use Rattle.trunk.specs.Parts.{side_says, with_side};
 
 use crate::half::Half;
@@ -87,8 +87,8 @@ impl Parts {
     /// The packet at place k from a side comes to the end of the link at the other one.
     pub fn bring(&mut self, from: Side, k: usize, keep: bool) -> Result<Handed, NoMemory>
         requires within { k < length (flight_from from self.old.is.link) }
-        requires grown { OnlyGrownFrom from self.old }
-        requires counted { HasNext (half_of (other_of from) self.old.is.link).end.talk.mine }
+        requires grown { HasOnlyGrownAt from self.old }
+        requires counted { HasNextAt (other_of from) self.old.is.link }
         ensures is { let link = links_delivered from k keep self.old.is.link in
             OnOk result (self.new.is ≡ with_link self.old.is link) }
         ensures was { self.new.was ≡ self.old.was }
@@ -103,7 +103,7 @@ impl Parts {
 
     /// The end of the link at a side is ticked.
     pub fn beat(&mut self, side: Side) -> Result<TickedSide, NoMemory>
-        requires counted { HasNext (half_of side self.old.is.link).end.talk.mine }
+        requires counted { HasNextAt side self.old.is.link }
         ensures is { let link = links_ticked side self.old.is.link in
             OnOk result (self.new.is ≡ with_link self.old.is link) }
         ensures was { self.new.was ≡ self.old.was }
@@ -130,7 +130,7 @@ impl Parts {
     /// The packet at place k from a side is lost.
     pub fn lose(&mut self, from: Side, k: usize)
         requires within { k < length (flight_from from self.old.is.link) }
-        requires grown { OnlyGrownFrom from self.old }
+        requires grown { HasOnlyGrownAt from self.old }
         ensures is { self.new.is ≡ lost_from from k self.old.is }
         ensures was { self.new.was ≡ self.old.was }
     {
@@ -141,7 +141,7 @@ impl Parts {
     pub fn swap(&mut self, from: Side, k: usize, n: usize)
         requires first { k < length (flight_from from self.old.is.link) }
         requires second { n < length (flight_from from self.old.is.link) }
-        requires grown { OnlyGrownFrom from self.old }
+        requires grown { HasOnlyGrownAt from self.old }
         ensures is { self.new.is ≡ swapped_from from k n self.old.is }
         ensures was { self.new.was ≡ self.old.was }
     {
@@ -263,7 +263,7 @@ impl Parts {
 
     /// A side publishes an endpoint.
     pub fn publish(&mut self, side: Side, inc: Inc, name: &Name) -> Result<(), NoMemory>
-        requires room { used_in (tables_of side self.old.is).own < 4294967295 }
+        requires room { HasAddressLeft (tables_of side self.old.is).own }
         ensures is { let made = publish_of (tables_of side self.old.is) inc name.now in
             OnOk result (self.new.is
             ≡ with_side side self.old.is (side_says (side_of side self.old.is) made)) }
@@ -283,7 +283,7 @@ impl Parts {
 
     /// An endpoint of a side opened.
     pub fn opened(&mut self, side: Side, inc: Inc, name: &Name) -> Result<(), NoMemory>
-        requires room { used_in (tables_of side self.old.is).own < 4294967295 }
+        requires room { HasAddressLeft (tables_of side self.old.is).own }
         ensures is { let made = opened_of (tables_of side self.old.is) inc name.now in
             OnOk result (self.new.is
             ≡ with_side side self.old.is (side_says (side_of side self.old.is) made)) }
@@ -349,7 +349,7 @@ impl Parts {
         signal: &Signal,
     ) -> Result<(), NoMemory>
         requires met { IsSome (addr_met (tables_of side self.old.is).met to) }
-        requires room { used_in (tables_of side self.old.is).own < 4294967295 }
+        requires room { HasAddressLeft (tables_of side self.old.is).own }
         ensures is { let made = send_of (tables_of side self.old.is) from name.now to signal.now in
             OnOk result (self.new.is
             ≡ with_side side self.old.is (side_says (side_of side self.old.is) made)) }
@@ -367,34 +367,35 @@ impl Parts {
         }
     }
 
+    /// A side above its link.
+    fn half(&self, side: Side) -> &Half
+        ensures { result.now.is ≡ side_of side self.now.is }
+    {
+        match side {
+            Side::First => &self.first,
+            Side::Second => &self.second,
+        }
+    }
+
     /// The number of addresses of a side that are live or closing.
     pub fn used(&self, side: Side) -> u32
         ensures { result ≡ used_in (tables_of side self.now.is).own }
     {
-        match side {
-            Side::First => self.first.used(),
-            Side::Second => self.second.used(),
-        }
+        self.half(side).used()
     }
 
     /// Whether a side has met an endpoint of the other side that isn't gone.
     pub fn is_met(&self, side: Side, inc: Inc) -> bool
         ensures { result ≡ is_some (addr_met (tables_of side self.now.is).met inc) }
     {
-        match side {
-            Side::First => self.first.is_met(inc),
-            Side::Second => self.second.is_met(inc),
-        }
+        self.half(side).is_met(inc)
     }
 
     /// Whether an endpoint of a side has an address.
     pub fn is_published(&self, side: Side, inc: Inc) -> bool
         ensures { result ≡ is_some (address_of (tables_of side self.now.is).own inc) }
     {
-        match side {
-            Side::First => self.first.is_published(inc),
-            Side::Second => self.second.is_published(inc),
-        }
+        self.half(side).is_published(inc)
     }
 
     /// The greatest number of an endpoint that a side unpublished in its session, 0 where it did
@@ -402,10 +403,7 @@ impl Parts {
     pub fn newest_unpublished(&self, side: Side) -> u64
         ensures { result ≡ newest_unpublished (kept_of side self.now.is).now.said }
     {
-        match side {
-            Side::First => self.first.newest_unpublished(),
-            Side::Second => self.second.newest_unpublished(),
-        }
+        self.half(side).newest_unpublished()
     }
 
     /// Whether a side is up.

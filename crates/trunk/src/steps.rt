@@ -1,18 +1,17 @@
 //! What happens at a trunk: one function an event. After a refusal the event is to be undone.
-ghost use Rattle.std.specs.Prelude.{◌≡◌, ◌≤◌, ◌<◌, length, true, IfOk, OnOk, IsTrue};
+ghost use Rattle.std.specs.Prelude.{◌≡◌, ◌<◌, length, IfOk, OnOk, IsTrue};
 ghost use Rattle.linx_base.specs.NameText.{is_name};
 ghost use Rattle.linx_base.specs.Numbers.{boot_of};
 ghost use Rattle.linx_base.specs.Sides.{other_of};
-ghost use Rattle.ethcm_session.specs.Table.{HasNext};
-ghost use Rattle.ethcm_window.specs.Sending.{left_of};
 ghost use Rattle.carrier.specs.Events.{flight_from, half_of, handed_by, told_by as link_told_by};
+ghost use Rattle.carrier.specs.Events.{HasNextAt};
 ghost use Rattle.rlnh_end.specs.declared.heard.Heard.{Heard as AnyHeard};
 ghost use Rattle.trunk.specs.Events.{IsReading, asked_at, closed_at, delivered, opened_at};
 ghost use Rattle.trunk.specs.Events.{published_at, restarted_at, sent_at, side_of, ticked_at};
-ghost use Rattle.trunk.specs.Events.{told_by};
+ghost use Rattle.trunk.specs.Events.{told_by, HasNumbersLeft};
 ghost use Rattle.trunk.specs.Keeping.{KeepsTrunk};
 ghost use Rattle.trunk.specs.Laws.{MayPublish, MaySend};
-ghost use Rattle.trunk.specs.Parts.{OnlyGrownFrom};
+ghost use Rattle.trunk.specs.Parts.{HasOnlyGrownAt};
 
 use crate::parts::Parts;
 use crate::up::TrunkUp;
@@ -27,13 +26,14 @@ pub(crate) fn deliver(
     keep: bool,
 ) -> Result<TrunkUp, NoMemory>
     requires within { k < length (flight_from from parts.old.is.link) }
-    requires grown { OnlyGrownFrom from parts.old }
-    requires counted { HasNext (half_of (other_of from) parts.old.is.link).end.talk.mine }
-    requires left { 4096 ≤ left_of (half_of (other_of from) parts.old.is.link).end.tx }
+    requires grown { HasOnlyGrownAt from parts.old }
+    requires counted { HasNextAt (other_of from) parts.old.is.link }
+    requires left { HasNumbersLeft (other_of from) parts.old.is }
     requires keeps { KeepsTrunk parts.old.is }
     ensures is_read { OnOk result
         ((heard : AnyHeard) × IsReading (handed_by from k parts.old.is.link) heard) }
-    ensures is { OnOk result ((heard : AnyHeard) → IsReading (handed_by from k parts.old.is.link) heard
+    ensures is { OnOk result ((heard : AnyHeard)
+        → IsReading (handed_by from k parts.old.is.link) heard
         → parts.new.is ≡ delivered from k keep heard parts.old.is) }
     ensures up { IfOk result (λ up. (heard : AnyHeard)
         → IsReading (handed_by from k parts.old.is.link) heard
@@ -63,7 +63,7 @@ pub(crate) fn deliver(
 
 /// A side is ticked.
 pub(crate) fn tick(parts: &mut Parts, side: Side) -> Result<TickedSide, NoMemory>
-    requires counted { HasNext (half_of side parts.old.is.link).end.talk.mine }
+    requires counted { HasNextAt side parts.old.is.link }
     requires keeps { KeepsTrunk parts.old.is }
     ensures is { OnOk result (parts.new.is ≡ ticked_at side parts.old.is) }
     ensures ticked { IfOk result (λ ticked. ticked ≡ link_told_by side parts.old.is.link) }
@@ -94,7 +94,7 @@ pub(crate) fn restart(parts: &mut Parts, side: Side, boot: u32) -> Result<(), No
 /// An endpoint is published, where its side is up.
 pub(crate) fn publish(parts: &mut Parts, side: Side, inc: Inc, name: &Name) -> Result<(), NoMemory>
     requires may { MayPublish (side_of side parts.old.is) inc name.now }
-    requires left { 4096 ≤ left_of (half_of side parts.old.is.link).end.tx }
+    requires left { HasNumbersLeft side parts.old.is }
     requires keeps { KeepsTrunk parts.old.is }
     ensures is { OnOk result (parts.new.is ≡ published_at side inc name.now parts.old.is) }
     ensures was { parts.new.was ≡ parts.old.was }
@@ -110,7 +110,7 @@ pub(crate) fn publish(parts: &mut Parts, side: Side, inc: Inc, name: &Name) -> R
 /// An endpoint opened.
 pub(crate) fn opened(parts: &mut Parts, side: Side, inc: Inc, name: &Name) -> Result<(), NoMemory>
     requires may { MayPublish (side_of side parts.old.is) inc name.now }
-    requires left { 4096 ≤ left_of (half_of side parts.old.is.link).end.tx }
+    requires left { HasNumbersLeft side parts.old.is }
     requires keeps { KeepsTrunk parts.old.is }
     ensures is { OnOk result (parts.new.is ≡ opened_at side inc name.now parts.old.is) }
     ensures was { parts.new.was ≡ parts.old.was }
@@ -125,7 +125,7 @@ pub(crate) fn opened(parts: &mut Parts, side: Side, inc: Inc, name: &Name) -> Re
 
 /// An endpoint closes.
 pub(crate) fn close(parts: &mut Parts, side: Side, inc: Inc) -> Result<(), NoMemory>
-    requires left { 4096 ≤ left_of (half_of side parts.old.is.link).end.tx }
+    requires left { HasNumbersLeft side parts.old.is }
     requires keeps { KeepsTrunk parts.old.is }
     ensures is { OnOk result (parts.new.is ≡ closed_at side inc parts.old.is) }
     ensures was { parts.new.was ≡ parts.old.was }
@@ -140,7 +140,7 @@ pub(crate) fn close(parts: &mut Parts, side: Side, inc: Inc) -> Result<(), NoMem
 
 /// A name is asked for.
 pub(crate) fn query(parts: &mut Parts, side: Side, name: &Name) -> Result<(), NoMemory>
-    requires left { 4096 ≤ left_of (half_of side parts.old.is.link).end.tx }
+    requires left { HasNumbersLeft side parts.old.is }
     requires keeps { KeepsTrunk parts.old.is }
     ensures is { OnOk result (parts.new.is ≡ asked_at side name.now parts.old.is) }
     ensures was { parts.new.was ≡ parts.old.was }
@@ -156,7 +156,7 @@ pub(crate) fn query(parts: &mut Parts, side: Side, name: &Name) -> Result<(), No
     Ok(())
 }
 
-/// A signal is sent.
+/// A signal is sent to a peer that was met, so from a side that is up.
 pub(crate) fn send(
     parts: &mut Parts,
     side: Side,
@@ -166,15 +166,12 @@ pub(crate) fn send(
     signal: &Signal,
 ) -> Result<(), NoMemory>
     requires may { MaySend (side_of side parts.old.is) from name.now to signal.now }
-    requires left { 4096 ≤ left_of (half_of side parts.old.is.link).end.tx }
+    requires left { HasNumbersLeft side parts.old.is }
     requires keeps { KeepsTrunk parts.old.is }
     ensures is { OnOk result
         (parts.new.is ≡ sent_at side from name.now to signal.now parts.old.is) }
     ensures was { parts.new.was ≡ parts.old.was }
 {
-    if !parts.is_up(side) {
-        return Ok(());
-    }
     parts.send(side, from, name, to, signal)?;
     parts.send_out(side)?;
     Ok(())

@@ -5,11 +5,10 @@ ghost use Rattle.linx_base.specs.Both.{still};
 ghost use Rattle.linx_base.specs.Numbers.{boot_of, first_session};
 ghost use Rattle.linx_base.specs.Sides.{other_of};
 ghost use Rattle.link_addresses.specs.Meanings.{used_in};
-ghost use Rattle.ethcm_session.specs.Table.{HasNext};
 ghost use Rattle.ethcm_window.specs.Sending.{left_of};
 ghost use Rattle.ethcm_end.specs.Sound.{IsPiece};
 ghost use Rattle.ethcm_end.specs.States.{peer_of};
-ghost use Rattle.carrier.specs.Events.{flight_from, half_of, handed_by, is_quiet};
+ghost use Rattle.carrier.specs.Events.{flight_from, half_of, handed_by, is_quiet, HasNextAt};
 ghost use Rattle.carrier.specs.Events.{told_by as link_told_by};
 ghost use Rattle.trunk_record.specs.Changes.{beginning, sending};
 ghost use Rattle.trunk_record.specs.Sayings.{asked, heard_as, is_live};
@@ -19,9 +18,10 @@ ghost use Rattle.rlnh_end.specs.States.{without_note};
 ghost use Rattle.trunk.specs.Events.{IsReading, asked_at, closed_at, delivered, kept_of, lost_from};
 ghost use Rattle.trunk.specs.Events.{new_trunk, opened_at, published_at, restarted_at, sent_at};
 ghost use Rattle.trunk.specs.Events.{side_of, swapped_from, tables_of, ticked_at, told_by};
+ghost use Rattle.trunk.specs.Events.{HasNumbersLeft};
 ghost use Rattle.trunk.specs.Keeping.{KeepsTrunk};
 ghost use Rattle.trunk.specs.Laws.{MayPublish, MaySend};
-ghost use Rattle.trunk.specs.Parts.{OnlyGrownFrom};
+ghost use Rattle.trunk.specs.Parts.{HasOnlyGrownAt};
 ghost use Rattle.trunk.specs.Promises.{Promises};
 ghost use Rattle.trunk.specs.Publishing.{can_publish};
 ghost use Rattle.trunk.specs.Tells.{DownForLater, Says, TellsNotes, TellsSide, closing, noted_of};
@@ -70,7 +70,7 @@ impl Trunk {
         requires window { 1 ≤ window }
         requires piece { IsPiece piece }
         ensures new { result ≡ still (new_trunk window piece) }
-        ensures grown { (from : AnySide) → OnlyGrownFrom from result }
+        ensures grown { (from : AnySide) → HasOnlyGrownAt from result }
     {
         Trunk {
             parts: Parts::new(alloc, window, piece),
@@ -82,10 +82,10 @@ impl Trunk {
     /// event.
     pub fn deliver(&mut self, from: Side, k: usize, keep: bool) -> Result<TrunkUp, NoMemory>
         requires within { k < length (flight_from from self.old.is.link) }
-        requires grown { OnlyGrownFrom from self.old }
-        requires counted { HasNext (half_of (other_of from) self.old.is.link).end.talk.mine }
+        requires grown { HasOnlyGrownAt from self.old }
+        requires counted { HasNextAt (other_of from) self.old.is.link }
         // What the side says to a message gets numbers.
-        requires left { 4096 ≤ left_of (half_of (other_of from) self.old.is.link).end.tx }
+        requires left { HasNumbersLeft (other_of from) self.old.is }
         // What comes has a reading; the trunk and what is handed up are those of each.
         ensures is_read { OnOk result
             ((heard : AnyHeard) × IsReading (handed_by from k self.old.is.link) heard) }
@@ -118,7 +118,7 @@ impl Trunk {
 
     /// A side is ticked. A refusal undoes the event.
     pub fn tick(&mut self, side: Side) -> Result<TickedSide, NoMemory>
-        requires counted { HasNext (half_of side self.old.is.link).end.talk.mine }
+        requires counted { HasNextAt side self.old.is.link }
         ensures is { OnOk result (self.new.is ≡ ticked_at side self.old.is) }
         ensures ticked { IfOk result (λ ticked. ticked ≡ link_told_by side self.old.is.link) }
         ensures was { self.new.was ≡ self.old.was }
@@ -159,11 +159,11 @@ impl Trunk {
         }
     }
 
-    /// An endpoint of a side is published, where the side is up and it isn't published yet; the note
-    /// of its name goes away. A refusal undoes the event.
+    /// An endpoint of a side is published, where the side is up and it isn't published yet; the
+    /// note of its name goes away. A refusal undoes the event.
     pub fn publish(&mut self, side: Side, inc: Inc, name: &Name) -> Result<(), NoMemory>
         requires may { MayPublish (side_of side self.old.is) inc name.now }
-        requires left { 4096 ≤ left_of (half_of side self.old.is.link).end.tx }
+        requires left { HasNumbersLeft side self.old.is }
         ensures is { OnOk result (self.new.is ≡ published_at side inc name.now self.old.is) }
         ensures was { self.new.was ≡ self.old.was }
         ensures err { OnErr result (self.new ≡ still self.old.was) }
@@ -189,13 +189,14 @@ impl Trunk {
     /// A refusal undoes the event.
     pub fn opened(&mut self, side: Side, inc: Inc, name: &Name) -> Result<(), NoMemory>
         requires may { MayPublish (side_of side self.old.is) inc name.now }
-        requires left { 4096 ≤ left_of (half_of side self.old.is.link).end.tx }
+        requires left { HasNumbersLeft side self.old.is }
         ensures is { OnOk result (self.new.is ≡ opened_at side inc name.now self.old.is) }
         ensures was { self.new.was ≡ self.old.was }
         ensures err { OnErr result (self.new ≡ still self.old.was) }
         // What the side says, and what becomes of its notes.
         ensures says { OnOk result ((kept_of side self.old.is).now.peer ≢ None
-            → Says side self.old.is self.new.is (opening inc name.now (noted_of side self.old.is) (kept_of side self.old.is))
+            → Says side self.old.is self.new.is
+            (opening inc name.now (noted_of side self.old.is) (kept_of side self.old.is))
             (notes_opening name.now (noted_of side self.old.is))) }
         ensures down { OnOk result ((kept_of side self.old.is).now.peer ≡ None
             → self.new.is ≡ self.old.is) }
@@ -211,10 +212,10 @@ impl Trunk {
         }
     }
 
-    /// An endpoint of a side closes: where the side is up and it is published, that is said. A refusal
-    /// undoes the event.
+    /// An endpoint of a side closes: where the side is up and it is published, that is said. A
+    /// refusal undoes the event.
     pub fn close(&mut self, side: Side, inc: Inc) -> Result<(), NoMemory>
-        requires left { 4096 ≤ left_of (half_of side self.old.is.link).end.tx }
+        requires left { HasNumbersLeft side self.old.is }
         ensures is { OnOk result (self.new.is ≡ closed_at side inc self.old.is) }
         ensures was { self.new.was ≡ self.old.was }
         ensures err { OnErr result (self.new ≡ still self.old.was) }
@@ -238,7 +239,7 @@ impl Trunk {
 
     /// The other side is asked for a name, where the side is up. A refusal undoes the event.
     pub fn query(&mut self, side: Side, name: &Name) -> Result<(), NoMemory>
-        requires left { 4096 ≤ left_of (half_of side self.old.is.link).end.tx }
+        requires left { HasNumbersLeft side self.old.is }
         ensures is { OnOk result (self.new.is ≡ asked_at side name.now self.old.is) }
         ensures was { self.new.was ≡ self.old.was }
         ensures err { OnErr result (self.new ≡ still self.old.was) }
@@ -260,8 +261,8 @@ impl Trunk {
         }
     }
 
-    /// A signal is sent from an endpoint of a side, of this name, to a peer that it has met. The
-    /// sender is published first where it isn't yet. A refusal undoes the event.
+    /// A signal is sent from an endpoint of a side, of this name, to a peer that it has met; so the
+    /// side is up. The sender is published first where it isn't yet. A refusal undoes the event.
     pub fn send(
         &mut self,
         side: Side,
@@ -271,16 +272,16 @@ impl Trunk {
         signal: &Signal,
     ) -> Result<(), NoMemory>
         requires may { MaySend (side_of side self.old.is) from name.now to signal.now }
-        requires left { 4096 ≤ left_of (half_of side self.old.is.link).end.tx }
-        ensures is { OnOk result (self.new.is ≡ sent_at side from name.now to signal.now self.old.is) }
+        requires left { HasNumbersLeft side self.old.is }
+        ensures is { OnOk result
+            (self.new.is ≡ sent_at side from name.now to signal.now self.old.is) }
         ensures was { self.new.was ≡ self.old.was }
         ensures err { OnErr result (self.new ≡ still self.old.was) }
         // What the side says, and what becomes of its notes.
-        ensures says { OnOk result ((kept_of side self.old.is).now.peer ≢ None
-            → Says side self.old.is self.new.is (sending from name.now to signal.now (kept_of side self.old.is))
-            (notes_sending from name.now (kept_of side self.old.is) (noted_of side self.old.is))) }
-        ensures down { OnOk result ((kept_of side self.old.is).now.peer ≡ None
-            → self.new.is ≡ self.old.is) }
+        ensures says { let kept = kept_of side self.old.is in
+            OnOk result (Says side self.old.is self.new.is
+            (sending from name.now to signal.now kept)
+            (notes_sending from name.now kept (noted_of side self.old.is))) }
         ensures other { OnOk result
             (side_of (other_of side) self.new.is ≡ side_of (other_of side) self.old.is) }
     {
@@ -297,7 +298,7 @@ impl Trunk {
     /// that side yet. It takes no memory.
     pub fn lose(&mut self, from: Side, k: usize)
         requires within { k < length (flight_from from self.old.is.link) }
-        requires grown { OnlyGrownFrom from self.old }
+        requires grown { HasOnlyGrownAt from self.old }
         ensures is { self.new.is ≡ lost_from from k self.old.is }
         ensures was { self.new.was ≡ self.old.was }
     {
@@ -309,7 +310,7 @@ impl Trunk {
     pub fn swap(&mut self, from: Side, k: usize, n: usize)
         requires first { k < length (flight_from from self.old.is.link) }
         requires second { n < length (flight_from from self.old.is.link) }
-        requires grown { OnlyGrownFrom from self.old }
+        requires grown { HasOnlyGrownAt from self.old }
         ensures is { self.new.is ≡ swapped_from from k n self.old.is }
         ensures was { self.new.was ≡ self.old.was }
     {
@@ -367,8 +368,9 @@ impl Trunk {
         self.parts.is_published(side, inc)
     }
 
-    /// Whether it is sure, with no list of the endpoints that a side unpublished, that it may publish
-    /// one: that is published already, or is newer than each that it unpublished in its session.
+    /// Whether it is sure, with no list of the endpoints that a side unpublished, that it may
+    /// publish one: an address is left, and the endpoint is published already, or newer than each
+    /// that the side unpublished in its session.
     pub fn may_publish(&self, side: Side, inc: Inc, name: &Name) -> bool
         ensures value { result ≡ can_publish (side_of side self.now.is) inc }
         ensures may { result ≡ true → MayPublish (side_of side self.now.is) inc name.now }
@@ -421,7 +423,7 @@ impl Trunk {
     pub fn keep(&mut self)
         ensures is { self.new ≡ still self.old.is }
         // No packet was lost or exchanged yet.
-        ensures grown { (from : AnySide) → OnlyGrownFrom from self.new }
+        ensures grown { (from : AnySide) → HasOnlyGrownAt from self.new }
     {
         self.parts.keep();
     }
@@ -430,7 +432,7 @@ impl Trunk {
     pub fn undo(&mut self)
         ensures was { self.new ≡ still self.old.was }
         // No packet was lost or exchanged yet.
-        ensures grown { (from : AnySide) → OnlyGrownFrom from self.new }
+        ensures grown { (from : AnySide) → HasOnlyGrownAt from self.new }
     {
         self.parts.undo();
     }

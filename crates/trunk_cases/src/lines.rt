@@ -26,29 +26,14 @@ fn inc_of(word: &str) -> Result<Inc, Fail> {
     Ok(Inc::of(NodeNo(node.parse()?), opening.parse()?))
 }
 
-fn digit(byte: u8) -> u8 {
-    match byte {
-        b'0'..=b'9' => byte.wrapping_sub(b'0'),
-        _ => byte.wrapping_sub(b'a').wrapping_add(10),
-    }
-}
-
 /// Data as hexadecimal digits, two a byte, or so many bytes, as `#150`.
 fn data_of(alloc: Global, word: &str) -> Result<Vec<u8>, Fail> {
+    let Some(count) = word.strip_prefix("#") else {
+        return Ok(hex::decode(alloc, word)?);
+    };
     let mut data = Vec::new(alloc);
-    match word.strip_prefix("#") {
-        Some(count) => {
-            for _ in 0..count.parse::<u32>()? {
-                data.push(0x5a)?;
-            }
-        }
-        None => {
-            for pair in word.as_bytes().chunks(2) {
-                let (high, low) = (pair.first().copied(), pair.last().copied());
-                let high = digit(high.unwrap_or(0)).wrapping_mul(16);
-                data.push(high.wrapping_add(digit(low.unwrap_or(0))))?;
-            }
-        }
+    for _ in 0..count.parse::<u32>()? {
+        data.push(0x5a)?;
     }
     Ok(data)
 }
@@ -61,11 +46,7 @@ fn data_text(alloc: Global, data: &[u8]) -> Result<String, Fail> {
     if data.len() > 8 {
         return Ok(format!(in alloc; "#{}", data.len())?);
     }
-    let mut text = String::new(alloc);
-    for byte in data {
-        text.push_str(format!(in alloc; "{byte:02x}")?.as_str())?;
-    }
-    Ok(text)
+    Ok(hex::encode(alloc, data)?)
 }
 
 fn name_text(alloc: Global, name: &Name) -> Result<String, Fail> {

@@ -366,6 +366,6 @@ fn free_events_give_what_was_said(rt: HostRuntime) -> Result<(), Fail> {
 }
 
 #[test]
-fn other_free_events_give_it_too(rt: HostRuntime) -> Result<(), Fail> {
+fn free_events_of_another_seed_give_what_was_said(rt: HostRuntime) -> Result<(), Fail> {
     runs(rt.alloc(), 2)
 }

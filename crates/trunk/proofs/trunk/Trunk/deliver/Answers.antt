@@ -19,8 +19,9 @@ returns-in-Ok-clause-told c =
 pub returns-in-Ok-clause-told_notes : goal.returns-in-Ok-clause-told_notes
 returns-in-Ok-clause-told_notes c =
     let h = c.in-Ok.ensures.is_read in
-    rw (← c.self.view_is, c.in-Ok.ensures.is h.0 h.1, c.in-Ok.ensures.up h.0 h.1) (packets_tell.notes
-    c.args.from c.args.k c.args.keep h.0 c.self.inside.parts.is c.self.invariant.1 h.1)
+    rw (← c.self.view_is, c.in-Ok.ensures.is h.0 h.1, c.in-Ok.ensures.up h.0 h.1)
+    (packets_tell.notes c.args.from c.args.k c.args.keep h.0 c.self.inside.parts.is
+    c.self.invariant.1 h.1)
 
 pub returns-in-Ok-clause-told_down : goal.returns-in-Ok-clause-told_down
 returns-in-Ok-clause-told_down c =

@@ -5,7 +5,8 @@ use Rattle.trunk.proofs.trunk.Trunk.new.Goals as goal
 
 pub invariant_of-result : goal.invariant_of-result
 invariant_of-result c =
-    let keeps = events_keep.begins c.args.window c.args.piece c.requires.window c.requires.piece.0 in
+    let keeps =
+    events_keep.begins c.args.window c.args.piece c.requires.window c.requires.piece.0 in
     rw c.new.ensures (keeps, keeps)
 
 pub returns-clause-grown : goal.returns-clause-grown

@@ -1,7 +1,0 @@
-use Rattle.std.proofs.Common.{sym}
-use Rattle.std.proofs.lemmas.List.{drop-drop}
-use Rattle.rlnh_end.proofs.undo_queue.UndoQueue.pass.Goals as goal
-
-pub returns-then-self-len-clause-is : goal.returns-then-self-len-clause-is
-returns-then-self-len-clause-is g c =
-    rw (← c.self.view_is) (sym (drop-drop 1 c.self.inside.gone c.self.inside.elements.items))
