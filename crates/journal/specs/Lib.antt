@@ -1,4 +1,5 @@
 pub mod Logs
+pub mod Histories
 pub mod Shapes
 pub mod History
 pub mod Sessions

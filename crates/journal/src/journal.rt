@@ -3,6 +3,7 @@ ghost use Rattle.std.specs.Prelude.{OnOk, IsTrue, slice_get};
 ghost use Rattle.std.specs.Option.{option_copied};
 ghost use Rattle.linx_base.specs.Content.{size_of};
 ghost use Rattle.journal.specs.Logs.{head_bytes, effect_bytes, step_bytes};
+ghost use Rattle.journal.specs.Histories.{first_steps};
 
 use crate::effect::{Effect, Step};
 use crate::head::Head;
@@ -161,5 +162,20 @@ impl Journal {
             return None;
         }
         nth_made(&self.steps, (k - 1) as usize)
+    }
+
+    /// The step after the first ones, so many.
+    pub fn step_after(&self, done: u64) -> &Step
+        requires { done < length self.now.log.steps }
+        ensures next { first_steps (done + 1) self.now.log.steps
+            ≡ result.now ∷ first_steps done self.now.log.steps }
+        ensures position { length (first_steps done self.now.log.steps) ≡ done }
+    {
+        let total = self.len();
+        prove!(done < total);
+        match self.step(done + 1) {
+            Some(step) => step,
+            None => unreachable!(),
+        }
     }
 }

@@ -1,5 +1,3 @@
 pub mod Openings
-pub mod Positions
-pub mod LogLines
 pub mod Choices
 pub mod StepLines

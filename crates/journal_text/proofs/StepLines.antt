@@ -5,11 +5,11 @@ use Rattle.std.proofs.lemmas.List.{append-nil}
 use Rattle.linx_base.specs.declared.name.Names.{Names}
 use Rattle.journal.specs.declared.effect.Step.{Step}
 use Rattle.journal.specs.Logs.{Log}
-use Rattle.journal_text.specs.Histories.{first_steps}
+use Rattle.journal.specs.Histories.{first_steps}
 use Rattle.journal_text.specs.Steps.{step_text}
 use Rattle.journal_text.specs.Blocks.{logs_text}
 use Rattle.journal_text.specs.Text.{steps_text, count_text, text_if_steps, text_of}
-use Rattle.journal_text.proofs.Positions.{first_steps_none}
+use Rattle.journal.proofs.Positions.{first_steps_none}
 
 -- no step, no line
 pub steps_text_none : (names : Names) (S : List Step) (old : List ℕ)

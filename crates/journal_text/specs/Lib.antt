@@ -4,6 +4,5 @@ pub mod Makers
 pub mod Blocks
 pub mod Texts
 pub mod Owners
-pub mod Histories
 pub mod Collected
 pub mod Text

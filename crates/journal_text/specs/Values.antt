@@ -114,7 +114,7 @@ abbrev pub side_text : Side → List ℕ
 side_text First = codes ">"
 side_text Second = codes "<"
 
--- the number of a swap is 1 to 9
+-- the number of a swap, `?` where it isn't 1 to 9
 abbrev pub swapped_text : ℕ → List ℕ
 swapped_text n = if nat_le 1 n && nat_le n 9 then decimal n else codes "?"
 

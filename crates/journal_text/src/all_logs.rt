@@ -1,5 +1,5 @@
-//! The logs of all incarnations, in order of opening. The journal is read twice, however many
-//! incarnations there are.
+//! The logs of all incarnations, in order of opening. The journal is read once for its digests,
+//! once to collect, once to write, however many incarnations there are.
 ghost use Rattle.std.specs.Prelude.{◌≡◌, ◌++◌, flat_map, OnOk, OnErr, IfOk};
 ghost use Rattle.journal_text.specs.Blocks.{log_text, logs_text};
 ghost use Rattle.journal_text.specs.Collected.{Collects, opened_log};
@@ -9,19 +9,18 @@ use crate::digests::Digests;
 use crate::digits::write_bytes;
 use crate::entries::write_title;
 use crate::owners::Owners;
-use crate::reading::step_after;
 use journal::{Effect, Journal};
 use linx_base::{Inc, NoMemory};
 use std::alloc::Global;
 
-fn collect(alloc: Global, journal: &Journal, digests: &Digests) -> Result<Logs, NoMemory>
+pub(crate) fn collect(alloc: Global, journal: &Journal, digests: &Digests) -> Result<Logs, NoMemory>
     ensures { IfOk result (λ logs.
         Collects journal.now.log.names journal.now.log.steps journal.now.log.steps logs) }
 {
     let mut owners = Owners::new(alloc);
     let mut logs = Logs::new(alloc);
     for done in 0..journal.len() {
-        let step = step_after(journal, done);
+        let step = journal.step_after(done);
         let owner = owners.endpoint(step.by);
         logs.note(alloc, journal, digests, owner, done + 1, step)?;
         owners.note(step)?;
@@ -30,7 +29,12 @@ fn collect(alloc: Global, journal: &Journal, digests: &Digests) -> Result<Logs, 
 }
 
 #[tactic(auto, unfolding(crate::specs::Blocks::log_text))]
-fn write_block(out: &mut Vec<u8>, journal: &Journal, logs: &Logs, inc: Inc) -> Result<(), NoMemory>
+pub(crate) fn write_block(
+    out: &mut Vec<u8>,
+    journal: &Journal,
+    logs: &Logs,
+    inc: Inc,
+) -> Result<(), NoMemory>
     requires { Collects journal.now.log.names journal.now.log.steps journal.now.log.steps logs.now }
     ensures { OnOk result (out.new.items ≡ out.old.items ++ log_text journal.now.log inc) }
 {
@@ -79,7 +83,7 @@ fn write_blocks(out: &mut Vec<u8>, journal: &Journal, logs: &Logs) -> Result<(),
             out,
             journal,
             logs,
-            step_after(journal, done).effects.as_slice(),
+            journal.step_after(done).effects.as_slice(),
         )?;
     }
     Ok(())

@@ -13,7 +13,6 @@ ghost use Rattle.journal_text.specs.Collected.{Collects};
 
 use crate::digests::{Digested, Digests};
 use crate::entries::{concerns, write_effect_log, write_head_log};
-use crate::logs::name_of;
 use crate::texts::{Text, Texts, kept_at};
 use journal::{Effect, Head, Journal, Step};
 use linx_base::{Inc, Name, Names, NoMemory, TryCopy};
@@ -41,6 +40,16 @@ fn keep_name(opened: &mut HashMap<u64, Name>, inc: Inc, name: Option<&Name>) -> 
             opened.remove(&inc.0);
             Ok(())
         }
+    }
+}
+
+/// The name in the head of an opening.
+fn name_of(head: &Head) -> Option<&Name>
+    ensures { option_copied result ≡ name_in head.now }
+{
+    match head {
+        Head::Open(name) => Some(name),
+        _ => None,
     }
 }
 

@@ -1,43 +1,31 @@
-//! The digests of a journal's signals, each made once, before any of it is printed, and equal bytes
-//! share one where they can be told at a glance. One is kept with the bytes that it is of, under the
-//! step and the place where they stand, and is used only where these bytes are printed: so what is
-//! printed depends on nothing that is kept.
-ghost use Rattle.std.specs.Prelude.{◌≡◌, ◌↔◌, IsTrue, IfOk};
-ghost use Rattle.sha2.specs.Sha256.{sha256};
+//! The digests of a journal's signals, each made once, before any of it is printed, and equal
+//! bytes share one where they can be told at a glance. One is kept with the bytes that it is of,
+//! under the step and the place where they stand, and is used only where these bytes are printed:
+//! so what is printed depends on nothing that is kept.
+ghost use Rattle.std.specs.Prelude.{◌≡◌, ◌↔◌, IsTrue, IfOk, IfSome};
 ghost use Rattle.journal_text.specs.Values.{digest_text};
 
-use crate::digits::write_digest;
-use crate::reading::step_after;
+use crate::digits::{SPELLED_MOST, write_digest};
 use journal::{Effect, Head, Journal, Step};
 use linx_base::{Blob, ItemAt, NoMemory, SigNote, TryCopy};
-use sha2::{Digest, Sha256};
 use std::alloc::Global;
 use std::collections::HashMap;
 use std::marker::Model;
-
-/// The most data bytes that are spelled one by one.
-pub(crate) const SPELLED_MOST: usize = 32;
 
 /// The room for a spelled digest: a length of up to five digits, a colon and two digits a byte.
 const SPELLED_ROOM: usize = 70;
 
 /// Where a step's head stands; its effects stand at the places from 1 on.
-fn head_at(step: u64) -> ItemAt {
+fn place_of_head(step: u64) -> ItemAt {
     ItemAt { step, place: 0 }
 }
 
 /// Where the effect of an index stands.
-fn effect_at(step: u64, index: usize) -> ItemAt {
+fn place_of_effect(step: u64, index: usize) -> ItemAt {
     ItemAt {
         step,
         place: (index as u64).saturating_add(1),
     }
-}
-
-pub(crate) fn digest_of(bytes: &[u8]) -> [u8; 32]
-    ensures { result ≡ sha256 bytes.now }
-{
-    Sha256::digest(bytes)
 }
 
 /// Bytes with their digest as it is spelled. Contracts see the bytes.
@@ -99,17 +87,13 @@ impl Digested {
     }
 }
 
-/// These bytes with their digest: the known one, if it is of them.
-fn digested_with(
-    alloc: Global,
-    known: Option<&Digested>,
-    bytes: &Blob,
-) -> Result<Digested, NoMemory>
-    ensures { IfOk result (λ made. made ≡ bytes.now) }
+/// A copy of what is known, if that is of these bytes.
+fn copy_if_of(known: Option<&Digested>, bytes: &Blob) -> Result<Option<Digested>, NoMemory>
+    ensures { IfOk result (λ found. IfSome found (λ copy. copy ≡ bytes.now)) }
 {
     match known {
-        Some(digested) if digested.is_of(bytes) => digested.copy(),
-        _ => Digested::of(alloc, bytes),
+        Some(digested) if digested.is_of(bytes) => Ok(Some(digested.copy()?)),
+        _ => Ok(None),
     }
 }
 
@@ -184,7 +168,7 @@ impl Digests {
         let mut digests = Digests::none(alloc);
         let mut latest = Latest::new(alloc);
         for done in 0..journal.len() {
-            digests.add_step(alloc, &mut latest, done + 1, step_after(journal, done))?;
+            digests.add_step(alloc, &mut latest, done + 1, journal.step_after(done))?;
         }
         Ok(digests)
     }
@@ -192,7 +176,7 @@ impl Digests {
     /// That of the signal in the head of a step, if it is printed with one.
     pub(crate) fn of_head(&self, step: u64, head: &Head) -> Option<&Digested> {
         match signal_in(head) {
-            Some(note) if is_digested(note) => self.kept.get(&head_at(step)),
+            Some(note) if is_digested(note) => self.kept.get(&place_of_head(step)),
             _ => None,
         }
     }
@@ -200,7 +184,7 @@ impl Digests {
     /// That of the signal in the effect of an index, if it is printed with one.
     pub(crate) fn of_effect(&self, step: u64, index: usize, effect: &Effect) -> Option<&Digested> {
         match signal_brought(effect) {
-            Some(note) if is_digested(note) => self.kept.get(&effect_at(step, index)),
+            Some(note) if is_digested(note) => self.kept.get(&place_of_effect(step, index)),
             _ => None,
         }
     }
@@ -218,11 +202,11 @@ impl Digests {
         made: &Step,
     ) -> Result<(), NoMemory> {
         if let Some(note) = signal_in(&made.head) {
-            self.add(alloc, latest, head_at(step), note)?;
+            self.add(alloc, latest, place_of_head(step), note)?;
         }
         for (index, effect) in made.effects.as_slice().iter().enumerate() {
             if let Some(note) = signal_brought(effect) {
-                self.add(alloc, latest, effect_at(step, index), note)?;
+                self.add(alloc, latest, place_of_effect(step, index), note)?;
             }
         }
         Ok(())
@@ -241,8 +225,14 @@ impl Digests {
             return Ok(());
         }
         let glance = Glance::at(note.bytes.bytes());
-        let digested = digested_with(alloc, latest.get(&glance), &note.bytes)?;
-        latest.insert(glance, digested.copy()?)?;
+        let digested = match copy_if_of(latest.get(&glance), &note.bytes)? {
+            Some(known) => known,
+            None => {
+                let made = Digested::of(alloc, &note.bytes)?;
+                latest.insert(glance, made.copy()?)?;
+                made
+            }
+        };
         self.kept.insert(at, digested)?;
         Ok(())
     }

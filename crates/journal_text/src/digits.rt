@@ -1,13 +1,20 @@
 //! Bytes, numbers, hexadecimal and digests, each written through one call of what makes them. What
 //! is written goes to the end of a buffer; after a refusal the buffer holds some front of it, which
 //! the callers throw away.
-ghost use Rattle.std.specs.Prelude.{◌≡◌, ◌<◌, ◌++◌, decimal, OnOk};
+ghost use Rattle.std.specs.Prelude.{◌≡◌, ◌<◌, ◌≤◌, ◌++◌, length, decimal, OnOk};
 ghost use Rattle.hex.specs.Hex.{encode_lower};
-ghost use Rattle.journal_text.specs.Values.{digest_text, data_text};
+ghost use Rattle.sha2.specs.Sha256.{sha256};
+ghost use Rattle.journal_text.specs.Values.{digest_text};
 
-use crate::digests::{Digested, SPELLED_MOST, digest_of};
 use itoa::Buffer;
 use linx_base::{Blob, NoMemory};
+use sha2::{Digest, Sha256};
+
+/// The most data bytes that are spelled one by one, and the bytes of a digest.
+pub(crate) const SPELLED_MOST: usize = 32;
+
+/// The digits of so many bytes.
+const SPELLED_DIGITS: usize = 64;
 
 pub(crate) fn write_bytes(out: &mut Vec<u8>, text: &[u8]) -> Result<(), NoMemory>
     ensures { OnOk result (out.new.items ≡ out.old.items ++ text.now) }
@@ -44,12 +51,22 @@ pub(crate) fn write_number(out: &mut Vec<u8>, number: u64) -> Result<(), NoMemor
 }
 
 /// Two digits a byte.
-fn write_hexadecimal(out: &mut Vec<u8>, bytes: &[u8]) -> Result<(), NoMemory>
+pub(crate) fn write_hexadecimal(out: &mut Vec<u8>, bytes: &[u8]) -> Result<(), NoMemory>
+    requires { length bytes.now ≤ 32 }
     ensures { OnOk result (out.new.items ≡ out.old.items ++ encode_lower bytes.now) }
 {
-    let text = hex::encode(*out.allocator(), bytes)?;
-    write_bytes(out, text.as_bytes())?;
-    Ok(())
+    let mut text = [0u8; SPELLED_DIGITS];
+    let digits = &mut text[..2 * bytes.len()];
+    match hex::encode_to_slice(bytes, digits) {
+        Ok(()) => write_bytes(out, digits),
+        Err(_) => unreachable!(),
+    }
+}
+
+fn digest_of(bytes: &[u8]) -> [u8; 32]
+    ensures { result ≡ sha256 bytes.now }
+{
+    Sha256::digest(bytes)
 }
 
 /// The number of bytes, and their digest.
@@ -61,35 +78,4 @@ pub(crate) fn write_digest(out: &mut Vec<u8>, bytes: &Blob) -> Result<(), NoMemo
     write_bytes(out, b":")?;
     let digest = digest_of(bytes.bytes());
     write_hexadecimal(out, &digest)
-}
-
-/// The same, by what is known if that is of these bytes.
-fn write_known_digest(
-    out: &mut Vec<u8>,
-    bytes: &Blob,
-    known: Option<&Digested>,
-) -> Result<(), NoMemory>
-    ensures { OnOk result (out.new.items ≡ out.old.items ++ digest_text bytes.now) }
-{
-    match known {
-        Some(digested) if digested.is_of(bytes) => write_bytes(out, digested.text()),
-        _ => write_digest(out, bytes),
-    }
-}
-
-#[tactic(auto, unfolding(crate::specs::Values::data_text))]
-pub(crate) fn write_data(
-    out: &mut Vec<u8>,
-    bytes: &Blob,
-    known: Option<&Digested>,
-) -> Result<(), NoMemory>
-    ensures { OnOk result (out.new.items ≡ out.old.items ++ data_text bytes.now) }
-{
-    if bytes.is_empty() {
-        write_bytes(out, b"-")
-    } else if bytes.len() <= SPELLED_MOST {
-        write_hexadecimal(out, bytes.bytes())
-    } else {
-        write_known_digest(out, bytes, known)
-    }
 }

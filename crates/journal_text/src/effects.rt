@@ -20,7 +20,7 @@ fn write_word_and_inc(out: &mut Vec<u8>, word: &[u8], inc: Inc) -> Result<(), No
 }
 
 /// A word, an incarnation, and the peer and signal that came to it.
-fn write_item(
+fn write_arrival(
     out: &mut Vec<u8>,
     names: &Names,
     word: &[u8],
@@ -100,15 +100,15 @@ fn write_effect(
         Effect::Opened(inc) => write_word_and_inc(out, b"opened ", *inc),
         Effect::Closed(inc) => write_word_and_inc(out, b"closed ", *inc),
         Effect::Arrived(inc, peer, note) => {
-            write_item(out, names, b"arrived ", *inc, peer, note, known)
+            write_arrival(out, names, b"arrived ", *inc, peer, note, known)
         }
         Effect::Found(inc, peer, note, hunt) => {
-            write_item(out, names, b"found ", *inc, peer, note, known)?;
+            write_arrival(out, names, b"found ", *inc, peer, note, known)?;
             write_bytes(out, b" ")?;
             write_reference(out, *hunt)
         }
         Effect::Notified(inc, peer, note, reference, reason) => {
-            write_item(out, names, b"notified ", *inc, peer, note, known)?;
+            write_arrival(out, names, b"notified ", *inc, peer, note, known)?;
             write_cause(out, reference.0, *reason)
         }
         Effect::Met(node, peer, name) => {

@@ -108,7 +108,7 @@ pub(crate) fn write_effect_log(
 
 /// The sender and the content of an item, `?` where there is none.
 #[tactic(auto, unfolding(crate::specs::Blocks::item_text))]
-fn write_item(
+fn write_sender_and_signal(
     out: &mut Vec<u8>,
     names: &Names,
     item: Option<&Effect>,
@@ -118,11 +118,9 @@ fn write_item(
         ≡ out.old.items ++ item_text names.now (option_copied item.entry)) }
 {
     match item {
-        Some(Effect::Arrived(_, peer, note)) => { write_peer_signal(out, names, peer, note, known) }
-        Some(Effect::Found(_, peer, note, _)) => {
-            write_peer_signal(out, names, peer, note, known)
-        }
-        Some(Effect::Notified(_, peer, note, _, _)) => {
+        Some(Effect::Arrived(_, peer, note))
+        | Some(Effect::Found(_, peer, note, _))
+        | Some(Effect::Notified(_, peer, note, _, _)) => {
             write_peer_signal(out, names, peer, note, known)
         }
         _ => write_bytes(out, b"?"),
@@ -139,7 +137,7 @@ fn write_took(
         ++ (codes "took " ++ item_text names.now (option_copied item.entry) ++ codes "\n")) }
 {
     write_bytes(out, b"took ")?;
-    write_item(out, names, item, known)?;
+    write_sender_and_signal(out, names, item, known)?;
     write_bytes(out, b"\n")
 }
 

@@ -6,6 +6,7 @@
 
 mod all_logs;
 mod collecting;
+mod data;
 mod digests;
 mod digits;
 mod effects;

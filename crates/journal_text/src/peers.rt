@@ -4,8 +4,9 @@ ghost use Rattle.std.specs.Option.{option_copied};
 ghost use Rattle.journal_text.specs.Values.{halves_text, nth_name, name_or_mark, node_text};
 ghost use Rattle.journal_text.specs.Values.{link_text, peer_text, signal_text, peer_signal_text};
 
+use crate::data::write_data;
 use crate::digests::Digested;
-use crate::digits::{write_bytes, write_data, write_number};
+use crate::digits::{write_bytes, write_number};
 use linx_base::{LinkNo, Name, NameList, Names, NoMemory, NodeNo, Peer, SigNote};
 
 /// Both halves of a number of 64 bits, with a dot between them.
@@ -20,7 +21,7 @@ pub(crate) fn write_halves(out: &mut Vec<u8>, number: u64) -> Result<(), NoMemor
 }
 
 /// The name of this number, from 1.
-fn nth(names: &NameList, number: u32) -> Option<&Name>
+fn nth_name(names: &NameList, number: u32) -> Option<&Name>
     ensures { option_copied result ≡ nth_name names.now number }
 {
     match number {
@@ -43,14 +44,14 @@ pub(crate) fn write_name_or_mark(out: &mut Vec<u8>, name: Option<&Name>) -> Resu
 pub(crate) fn write_node(out: &mut Vec<u8>, names: &Names, node: NodeNo) -> Result<(), NoMemory>
     ensures { OnOk result (out.new.items ≡ out.old.items ++ node_text names.now node.0) }
 {
-    write_name_or_mark(out, nth(&names.nodes, node.0))
+    write_name_or_mark(out, nth_name(&names.nodes, node.0))
 }
 
 #[tactic(auto, unfolding(crate::specs::Values::link_text))]
 pub(crate) fn write_link(out: &mut Vec<u8>, names: &Names, link: LinkNo) -> Result<(), NoMemory>
     ensures { OnOk result (out.new.items ≡ out.old.items ++ link_text names.now link.0) }
 {
-    write_name_or_mark(out, nth(&names.links, link.0))
+    write_name_or_mark(out, nth_name(&names.links, link.0))
 }
 
 #[tactic(auto, unfolding(crate::specs::Values::peer_text))]

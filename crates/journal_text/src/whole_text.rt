@@ -4,7 +4,6 @@ ghost use Rattle.journal_text.specs.Text.{steps_text, text_of};
 
 use crate::all_logs::write_logs_with;
 use crate::digests::Digests;
-use crate::reading::step_after;
 use crate::steps::{write_count, write_lines};
 use journal::Journal;
 use linx_base::NoMemory;
@@ -15,7 +14,7 @@ fn write_steps(out: &mut Vec<u8>, journal: &Journal, digests: &Digests) -> Resul
         ++ steps_text journal.now.log.names journal.now.log.steps) }
 {
     for done in 0..journal.len() {
-        let step = step_after(journal, done);
+        let step = journal.step_after(done);
         write_lines(out, journal.names(), digests, done + 1, step)?;
     }
     Ok(())

@@ -1,7 +1,12 @@
 -- What a read answered.
-use Rattle.std.specs.Prelude.{ℕ}
+use Rattle.std.specs.Prelude.{ℕ, Result, Ok, Err}
 use Rattle.linx_outside.specs.declared.source.ReadAnswer.{ReadAnswer}
 use Rattle.linx_outside.specs.declared.source.ReadAnswer.TheVariants.{Got, Failed}
+
+-- what a read of std is to a source: each error is a fault
+abbrev pub read_answer : {E : Type 0} → Result ℕ E → ReadAnswer
+read_answer (Ok count) = Got count
+read_answer (Err error) = Failed
 
 -- if bytes were given, this holds of their number
 abbrev pub IfGot : ReadAnswer → (ℕ → Type 0) → Type 0

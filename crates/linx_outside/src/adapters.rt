@@ -3,9 +3,12 @@
 //! the standard streams it doesn't, and nothing here says what stands behind those.
 ghost use Rattle.std.specs.Prelude.{◌≡◌, Some};
 ghost use Rattle.linx_outside.specs.Counts.{HasFaulted, NeverFalls, raised, last_u64};
+ghost use Rattle.linx_outside.specs.Reading.{read_answer, IfGot, IfReadFailed};
+ghost use Rattle.linx_outside.specs.Writing.{write_answer, IfTook, IfWriteFailed};
 
 use crate::sink::{Sink, WriteAnswer};
 use crate::source::{ReadAnswer, Source};
+use std::io;
 use std::io::{Read, Write};
 use std::marker::Model;
 
@@ -50,6 +53,40 @@ impl<T> Adapted<T> {
     {
         self.faults = self.faults.saturating_add(1);
     }
+
+    // What a read of std is to a source, which counts it if it is a fault.
+    fn answer_to_read(&mut self, read: io::Result<usize>) -> ReadAnswer
+        ensures answer { result ≡ read_answer read }
+        ensures got { IfGot result (λ _. self.new ≡ self.old) }
+        ensures failed { IfReadFailed result
+            (self.new ≡ record self.old { faults = raised self.old.faults }) }
+        ensures never_falls { NeverFalls (Some last_u64) self.old.faults self.new.faults }
+    {
+        match read {
+            Ok(count) => ReadAnswer::Got(count),
+            Err(_) => {
+                self.count_fault();
+                ReadAnswer::Failed
+            }
+        }
+    }
+
+    // What a write of std is to a sink, which counts it if it is a fault, for a piece of this size.
+    fn answer_to_write(&mut self, written: io::Result<usize>, size: usize) -> WriteAnswer
+        ensures answer { result ≡ write_answer written size }
+        ensures took { IfTook result (λ _. self.new ≡ self.old) }
+        ensures failed { IfWriteFailed result
+            (self.new ≡ record self.old { faults = raised self.old.faults }) }
+        ensures never_falls { NeverFalls (Some last_u64) self.old.faults self.new.faults }
+    {
+        match written {
+            Ok(count) if count > 0 || size == 0 => WriteAnswer::Took(count),
+            _ => {
+                self.count_fault();
+                WriteAnswer::Failed
+            }
+        }
+    }
 }
 
 impl<R: Read> Source for Adapted<R> {
@@ -62,11 +99,8 @@ impl<R: Read> Source for Adapted<R> {
     ghost is_faultless = { λ _. ⊥ };
 
     fn read(&mut self, buffer: &mut [u8]) -> ReadAnswer {
-        if let Ok(count) = self.inner.read(buffer) {
-            return ReadAnswer::Got(count);
-        }
-        self.count_fault();
-        ReadAnswer::Failed
+        let read = self.inner.read(buffer);
+        self.answer_to_read(read)
     }
 }
 
@@ -80,12 +114,7 @@ impl<W: Write> Sink for Adapted<W> {
     ghost can_take = { λ _ _. ⊥ };
 
     fn write(&mut self, piece: &[u8]) -> WriteAnswer {
-        match self.inner.write(piece) {
-            Ok(count) if count > 0 || piece.is_empty() => WriteAnswer::Took(count),
-            _ => {
-                self.count_fault();
-                WriteAnswer::Failed
-            }
-        }
+        let written = self.inner.write(piece);
+        self.answer_to_write(written, piece.len())
     }
 }

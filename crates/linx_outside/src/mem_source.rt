@@ -1,4 +1,4 @@
-ghost use Rattle.std.specs.Prelude.{◌≡◌, ◌+◌, ◌-◌, ◌<◌, ◌≤◌, ◌↔◌, []};
+ghost use Rattle.std.specs.Prelude.{◌≡◌, ℕ, ◌+◌, ◌-◌, ◌<◌, ◌≤◌, ◌↔◌, []};
 ghost use Rattle.std.specs.Prelude.{None, Some, length, min, take, drop};
 ghost use Rattle.std.specs.List.{Contains};
 ghost use Rattle.linx_outside.specs.Counts.{HasFaulted, NeverFalls};
@@ -57,7 +57,21 @@ impl Source for PlainSource {
 
     ghost is_faultless = { λ _. Unit {0} };
 
-    fn read(&mut self, buffer: &mut [u8]) -> ReadAnswer {
+    fn read(&mut self, buffer: &mut [u8]) -> ReadAnswer
+        ensures count { IfGot result (λ n. n ≡ min (length buffer.old) (length self.old)) }
+        ensures left { IfGot result (λ n. self.new ≡ drop n self.old) }
+
+        ensures within { IfGot result (λ n. n ≤ length buffer.new) }
+        ensures given { IfGot result
+            (λ n. Consumes (Some self.old) (Some self.new) (take n buffer.new)) }
+        ensures end { IfGot result
+            (λ n. n ≡ 0 → 0 < length buffer.new → IsAtEnd (Some self.new)) }
+        ensures got_counts_nothing { IfGot result (λ _. ◌≡◌ {A = ℕ} 0 0) }
+        ensures failed_counts { IfReadFailed result (HasFaulted None 0 0) }
+        ensures failed_gives_nothing { IfReadFailed result (Some self.new ≡ Some self.old) }
+        ensures never_falls { NeverFalls None 0 0 }
+        ensures faultless { Unit {0} → IsGot result × Unit {0} }
+    {
         let most = buffer.len();
         ReadAnswer::Got(self.give(buffer, most))
     }

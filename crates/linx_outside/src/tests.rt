@@ -76,7 +76,8 @@ fn a_sink_in_memory_fails_at_the_named_calls_and_where_it_is_full(
     Ok(())
 }
 
-// A reader and a writer that fail at every second call, and that take nothing at the third.
+// A reader and a writer that give or take one byte at the first call, fail at the second, and give
+// or take nothing from the third on.
 #[derive(Drop)]
 struct Halting {
     calls: u8,

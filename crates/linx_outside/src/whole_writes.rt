@@ -12,9 +12,10 @@ use std::fmt;
 pub struct WriteFault;
 
 impl fmt::Display for WriteFault {
-    ghost use Rattle.std.specs.Prelude.{Some, codes};
+    ghost use Rattle.std.specs.Prelude.{Some};
+    ghost use Rattle.linx_outside.specs.Failures.{write_fault_text};
 
-    ghost output = { λ _. Some (codes "write fault") };
+    ghost output = { λ _. Some write_fault_text };
 
     fn fmt<W: fmt::Write>(&self, f: &mut fmt::Formatter<W>) -> fmt::Result {
         f.write_str("write fault")

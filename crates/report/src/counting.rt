@@ -1,7 +1,6 @@
 //! What is counted over the steps of a journal.
-ghost use Rattle.std.specs.Prelude.{◌≡◌, ◌+◌, ◌<◌, ◌∷◌, length};
+ghost use Rattle.std.specs.Prelude.{◌≡◌};
 ghost use Rattle.std.specs.List.{count_by};
-ghost use Rattle.journal_text.specs.Histories.{first_steps};
 ghost use Rattle.report.specs.Summary.{is_of_kind, head_adds, step_adds, count_over, word_of};
 
 use journal::{Effect, Head, Journal, Step};
@@ -71,7 +70,8 @@ fn count_effects(kind: Happening, effects: &[Effect]) -> u64
     count
 }
 
-fn in_head(counted: Counted, head: &Head) -> u64
+/// What a head adds to a count.
+fn head_adds(counted: Counted, head: &Head) -> u64
     ensures { result ≡ head_adds counted head.now }
 {
     match (counted, head) {
@@ -84,26 +84,12 @@ fn in_head(counted: Counted, head: &Head) -> u64
 }
 
 /// What a step adds to a count.
-fn in_step(counted: Counted, step: &Step) -> u64
+fn step_adds(counted: Counted, step: &Step) -> u64
     ensures { result ≡ step_adds counted step.now }
 {
     match counted {
         Counted::Effects(kind) => count_effects(kind, step.effects.as_slice()),
-        _ => in_head(counted, &step.head),
-    }
-}
-
-/// The step after the first `done` steps.
-fn step_after(journal: &Journal, done: u64) -> &Step
-    requires { done < length journal.now.log.steps }
-    ensures { first_steps (done + 1) journal.now.log.steps
-        ≡ result.now ∷ first_steps done journal.now.log.steps }
-{
-    let total = journal.len();
-    prove!(done < total);
-    match journal.step(done + 1) {
-        Some(step) => step,
-        None => unreachable!(),
+        _ => head_adds(counted, &step.head),
     }
 }
 
@@ -113,7 +99,7 @@ pub(crate) fn count(journal: &Journal, counted: Counted) -> u128
 {
     let mut total = 0;
     for done in 0..journal.len() {
-        total += u128::from(in_step(counted, step_after(journal, done)));
+        total += u128::from(step_adds(counted, journal.step_after(done)));
     }
     total
 }

@@ -3,7 +3,7 @@ use Rattle.journal.specs.declared.effect.Step.{Step}
 use Rattle.linx_base.specs.declared.name.Names.{Names}
 use Rattle.journal_text.specs.Owners.{Tracks}
 use Rattle.journal_text.specs.Collected.{Collects}
-use Rattle.journal_text.proofs.Positions.{first_steps_none, first_steps_done}
+use Rattle.journal.proofs.Positions.{first_steps_none, first_steps_done}
 use Rattle.journal_text.proofs.all_logs.collect.Goals as goal
 
 pub loop-done-init : goal.loop-done-init

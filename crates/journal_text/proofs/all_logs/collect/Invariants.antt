@@ -1,4 +1,4 @@
-use Rattle.journal_text.specs.Histories.{first_steps}
+use Rattle.journal.specs.Histories.{first_steps}
 use Rattle.journal_text.specs.Owners.{Tracks}
 use Rattle.journal_text.specs.Collected.{Collects}
 use Rattle.journal_text.proofs.all_logs.collect.Given as goal

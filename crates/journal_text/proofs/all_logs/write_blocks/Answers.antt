@@ -3,7 +3,7 @@ use Rattle.journal.specs.declared.effect.Step.{Step}
 use Rattle.journal.specs.History.{effects_of}
 use Rattle.journal_text.specs.Collected.{opened_log}
 use Rattle.journal_text.proofs.Openings.{logs_text-effects}
-use Rattle.journal_text.proofs.Positions.{first_steps_done}
+use Rattle.journal.proofs.Positions.{first_steps_done}
 use Rattle.journal_text.proofs.all_logs.write_blocks.Goals as goal
 
 pub returns : goal.returns

@@ -1,6 +1,6 @@
 use Rattle.std.proofs.Common.{◌≡◌, ◌++◌, flat_map}
 use Rattle.journal.specs.History.{effects_of}
-use Rattle.journal_text.specs.Histories.{first_steps}
+use Rattle.journal.specs.Histories.{first_steps}
 use Rattle.journal_text.specs.Collected.{opened_log}
 use Rattle.journal_text.proofs.all_logs.write_blocks.Given as goal
 

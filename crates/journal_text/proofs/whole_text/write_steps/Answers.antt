@@ -1,10 +1,10 @@
 use Rattle.std.proofs.Common.{◌≡◌, ◌+◌, ◌++◌, List, length, ap, ◌∙◌, arith}
 use Rattle.journal.specs.declared.effect.Step.{Step}
 use Rattle.linx_base.specs.declared.name.Names.{Names}
-use Rattle.journal_text.specs.Histories.{first_steps}
+use Rattle.journal.specs.Histories.{first_steps}
 use Rattle.journal_text.specs.Steps.{step_text}
 use Rattle.journal_text.specs.Text.{steps_text}
-use Rattle.journal_text.proofs.Positions.{first_steps_done}
+use Rattle.journal.proofs.Positions.{first_steps_done}
 use Rattle.journal_text.proofs.StepLines.{steps_text_none, steps_text_more}
 use Rattle.journal_text.proofs.whole_text.write_steps.Goals as goal
 

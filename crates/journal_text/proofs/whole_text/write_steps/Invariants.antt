@@ -1,5 +1,5 @@
 use Rattle.std.proofs.Common.{◌≡◌, ◌++◌}
-use Rattle.journal_text.specs.Histories.{first_steps}
+use Rattle.journal.specs.Histories.{first_steps}
 use Rattle.journal_text.specs.Text.{steps_text}
 use Rattle.journal_text.proofs.whole_text.write_steps.Given as goal
 

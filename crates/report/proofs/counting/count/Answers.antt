@@ -1,6 +1,6 @@
 use Rattle.std.proofs.Common.{◌≡◌, List, length, ap, ◌∙◌, sym, arith}
 use Rattle.journal.specs.declared.effect.Step.{Step}
-use Rattle.journal_text.proofs.Positions.{first_steps_none, first_steps_done}
+use Rattle.journal.proofs.Positions.{first_steps_none, first_steps_done}
 use Rattle.report.specs.Summary.{count_over}
 use Rattle.report.proofs.counting.count.Goals as goal
 

@@ -1,5 +1,5 @@
 use Rattle.std.proofs.Common.{◌≡◌, ◌*◌, ◌≤◌}
-use Rattle.journal_text.specs.Histories.{first_steps}
+use Rattle.journal.specs.Histories.{first_steps}
 use Rattle.report.specs.Summary.{count_over}
 use Rattle.report.proofs.counting.count.Given as goal
 

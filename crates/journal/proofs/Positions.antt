@@ -7,7 +7,7 @@ use Rattle.std.proofs.Math.Nat.{sub-zero}
 use Rattle.std.proofs.Math.Seq.{drop-length}
 use Rattle.journal.specs.declared.effect.Step.{Step}
 use Rattle.journal.specs.Logs.{step_at}
-use Rattle.journal_text.specs.Histories.{first_steps}
+use Rattle.journal.specs.Histories.{first_steps}
 
 -- so many first steps
 pub length-first_steps : (P : List Step) (k : ℕ) → k ≤ length P → length (first_steps k P) ≡ k
