@@ -1,6 +1,5 @@
 ghost use Rattle.std.specs.Prelude.{◌≡◌, [], IfOk, OnOk, true};
 ghost use Rattle.std.specs.Option.{option_copied};
-ghost use Rattle.std.specs.Str.{bytes_eq};
 ghost use Rattle.actor_run.specs.Knowing.{rows_for};
 ghost use Rattle.actor_run.specs.Bindings.{lookup, remember, with_row, with_row_for};
 ghost use Rattle.actor_run.specs.Bindings.{are_named_once, IsIndexed};
@@ -40,18 +39,12 @@ impl<T> Model for Bindings<T> {
     ghost invariant = { λ t. are_named_once t.rows.items ≡ true };
 }
 
-fn is_same_name(name: &Name, other: &Name) -> bool
-    ensures { result ≡ bytes_eq name.now other.now }
-{
-    name.bytes() == other.bytes()
-}
-
 /// What was given to a name, which is looked for in every row.
 fn find<T: Copy>(rows: &[Binding<T>], name: &Name) -> Option<T>
     ensures { result ≡ lookup rows.now name.now }
 {
     for row in rows {
-        if is_same_name(name, &row.name) {
+        if name.same(&row.name) {
             return row.value;
         }
     }
@@ -63,7 +56,7 @@ fn put<T: Drop>(rows: &mut [Binding<T>], name: &Name, value: T)
     ensures { rows.new ≡ remember rows.old name.now value }
 {
     for at in 0..rows.len() {
-        if is_same_name(name, &rows[at].name) {
+        if name.same(&rows[at].name) {
             rows[at].value = Some(value);
             return;
         }
@@ -75,7 +68,7 @@ fn find_near<T: Copy>(rows: &[Binding<T>], near: usize, name: &Name) -> Option<T
     requires { are_named_once rows.now ≡ true }
     ensures { result ≡ lookup rows.now name.now }
 {
-    if near < rows.len() && is_same_name(name, &rows[near].name) {
+    if near < rows.len() && name.same(&rows[near].name) {
         return rows[near].value;
     }
     find(rows, name)
@@ -86,7 +79,7 @@ fn put_near<T: Drop>(rows: &mut [Binding<T>], near: usize, name: &Name, value: T
     requires { are_named_once rows.old ≡ true }
     ensures { rows.new ≡ remember rows.old name.now value }
 {
-    if near < rows.len() && is_same_name(name, &rows[near].name) {
+    if near < rows.len() && name.same(&rows[near].name) {
         rows[near].value = Some(value);
         return;
     }

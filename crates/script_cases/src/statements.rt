@@ -183,7 +183,7 @@ const PAIRS: [(&str, &str, bool); 22] = [
 ];
 
 #[test]
-fn pairs(rt: HostRuntime) -> Result<(), Fail> {
+fn commands_that_mean_the_same_or_not(rt: HostRuntime) -> Result<(), Fail> {
     for (one, other, same) in PAIRS {
         let left = commands_shown(&rt, one)?;
         let right = commands_shown(&rt, other)?;
@@ -233,62 +233,58 @@ close\n\
 end";
 
 #[test]
-fn declarations(rt: HostRuntime) -> Result<(), Fail> {
+fn links_with_and_without_sizes(rt: HostRuntime) -> Result<(), Fail> {
     let script = parse(rt.alloc(), GOOD.as_bytes()).ok().ok_or("a script")?;
     assert_eq!(rt; script.names().nodes.len(), 2);
     assert_eq!(rt; script.names().links.len(), 2);
-    assert_eq!(rt; script.links().len(), 2);
-    for link in &script.links()[1..] {
-        assert_eq!(rt; (link.first, link.second), (NodeNo(2), NodeNo(1)));
-        assert_eq!(rt; (link.window, link.piece), (2, 64));
-    }
-    for link in &script.links()[..1] {
-        assert_eq!(rt; (link.first, link.second), (NodeNo(1), NodeNo(2)));
-        assert_eq!(rt; (link.window, link.piece), (32, 1400));
-    }
+    let [l, k] = script.links() else {
+        return Err(Fail::from("two links"));
+    };
+    assert_eq!(rt; (l.first, l.second), (NodeNo(1), NodeNo(2)));
+    assert_eq!(rt; (l.window, l.piece), (32, 1400));
+    assert_eq!(rt; (k.first, k.second), (NodeNo(2), NodeNo(1)));
+    assert_eq!(rt; (k.window, k.piece), (2, 64));
     Ok(())
 }
 
 #[test]
 fn commands_of_actors(rt: HostRuntime) -> Result<(), Fail> {
     let script = parse(rt.alloc(), GOOD.as_bytes()).ok().ok_or("a script")?;
-    for actor in script.actors() {
-        if actor.node == NodeNo(2) {
-            assert_eq!(rt; actor.commands.len(), 7);
-        } else {
-            assert_eq!(rt; actor.commands.len(), 20);
-            assert!(rt;
-                matches!(
-                    actor.commands.get(1),
-                    Some(Command::Send {
-                        to: Target::Me,
-                        number: 1,
-                        ..
-                    })
-                )
-            );
-            assert!(rt; matches!(actor.commands.get(7), Some(Command::Recv(Sigsel::Not(_)))));
-            assert!(rt;
-                matches!(
-                    actor.commands.get(9),
-                    Some(Command::Hunt {
-                        path: Path::Over {
-                            link: LinkNo(1),
-                            ..
-                        },
-                        number: 7,
-                        ..
-                    })
-                )
-            );
-            assert!(rt; matches!(actor.commands.get(18), Some(Command::Restart(NodeNo(2)))));
-        }
-    }
+    let [p, m] = script.actors() else {
+        return Err(Fail::from("two actors"));
+    };
+    assert_eq!(rt; (p.node, p.commands.len()), (NodeNo(1), 20));
+    assert_eq!(rt; (m.node, m.commands.len()), (NodeNo(2), 7));
+    assert!(rt;
+        matches!(
+            p.commands.get(1),
+            Some(Command::Send {
+                to: Target::Me,
+                number: 1,
+                ..
+            })
+        )
+    );
+    assert!(rt; matches!(p.commands.get(7), Some(Command::Recv(Sigsel::Not(_)))));
+    assert!(rt;
+        matches!(
+            p.commands.get(9),
+            Some(Command::Hunt {
+                path: Path::Over {
+                    link: LinkNo(1),
+                    ..
+                },
+                number: 7,
+                ..
+            })
+        )
+    );
+    assert!(rt; matches!(p.commands.get(18), Some(Command::Restart(NodeNo(2)))));
     Ok(())
 }
 
 #[test]
-fn plans(rt: HostRuntime) -> Result<(), Fail> {
+fn verdicts_of_each_direction(rt: HostRuntime) -> Result<(), Fail> {
     let script = parse(rt.alloc(), GOOD.as_bytes()).ok().ok_or("a script")?;
     assert!(rt; 1 <= script.names().links.len());
     let there = [

@@ -213,8 +213,8 @@ module _ (s : ScriptParts) (link : LinkNo) (from : Side) (verdict : Verdict) whe
       → fits_verdict verdict ≡ true → IsScript (with_verdict s link from verdict)
   unfolding with_others
   verdict_kept h room fits =
-      others_kept s (planned_at s.plans (link.0 - 1) from verdict) s.actors h
-      (length-planned_at from verdict s.plans (link.0 - 1) ∙ h.each_plan)
+      others_kept s (planned_at s.plans (link.0 - 1) from (verdict ∷ [])) s.actors h
+      (length-planned_at from (verdict ∷ []) s.plans (link.0 - 1) ∙ h.each_plan)
       (planned_at_fits s.plans (link.0 - 1) from verdict h.plans room fits) h.actors
       (actors_grow s (with_verdict s link from verdict) verdict_grows s.actors h.each_actor)
       h.commands

@@ -1,10 +1,8 @@
 -- an actor with more commands stays within the script's limits
-use Rattle.std.proofs.Common.{◌≡◌, ℕ, suc, zero, ◌+◌, ◌*◌, ◌<◌, ◌≤◌, Bool, true, false, nat_le}
-use Rattle.std.proofs.Common.{List, [], ◌∷◌, ◌++◌, length, refl, sym, ◌∙◌, ap, arith, length-append}
-use Rattle.std.proofs.Common.{append_assoc}
-use Rattle.std.specs.List.{list_all, repeat}
+use Rattle.std.proofs.Common.{◌≡◌, ℕ, ◌+◌, ◌*◌, ◌<◌, ◌≤◌, true, false, nat_le, List, [], ◌∷◌, ◌++◌}
+use Rattle.std.proofs.Common.{length, refl, ◌∙◌, ap, arith, length-append}
+use Rattle.std.specs.List.{list_all}
 use Rattle.std.proofs.lemmas.Bool.{and_parts, and_from, leb-true, lt-leb}
-use Rattle.std.proofs.lemmas.List.{append-nil}
 use Rattle.std.proofs.lemmas.List.Folds.{list_all-append}
 use Rattle.std.proofs.lemmas.List.Sums.{sum_by_more, sum_by_more_le}
 use Rattle.linx_base.specs.declared.identity.NodeNo.{NodeNo}
@@ -14,38 +12,9 @@ use Rattle.script_lang.specs.Limits.{command_limit, all_commands_limit}
 use Rattle.script_lang.specs.declared.actor_script.ActorScript.{ActorScript}
 use Rattle.script_lang.specs.Parts.{ScriptParts}
 use Rattle.script_lang.specs.Fits.{commands_of, fits_command}
+use Rattle.script_lang.specs.Copies.{copies}
 use Rattle.script_lang.specs.Block.{CanEnd, has_room}
-
--- ---- copies of a block
-
-module _ {A : Type 0} where
-  length-repeat : (n : ℕ) (xs : List A) → length (repeat n xs) ≡ n * length xs
-  length-repeat zero xs = omega arith
-  length-repeat (suc n) xs = omega (arith, length-append xs (repeat n xs), length-repeat n xs)
-
-  list_all-repeat : (p : A → Bool) (n : ℕ) (xs : List A)
-      → list_all p xs ≡ true → list_all p (repeat n xs) ≡ true
-  list_all-repeat p zero xs h = refl
-  list_all-repeat p (suc n) xs h =
-      list_all-append p xs (repeat n xs) ∙ and_from _ _ h (list_all-repeat p n xs h)
-
-  repeat_suc : (n : ℕ) (xs : List A) → repeat (suc n) xs ≡ repeat n xs ++ xs
-  repeat_suc zero xs = append-nil xs
-  repeat_suc (suc n) xs =
-      ap (λ rest. xs ++ rest) (repeat_suc n xs) ∙ sym (append_assoc xs (repeat n xs) xs)
-
-  -- a copy more of a block, behind the others
-  repeat_push : (n : ℕ) (xs : List A) → repeat (n + 1) xs ≡ repeat n xs ++ xs
-  repeat_push n xs = let later : n + 1 ≡ suc n = omega arith in rw later (repeat_suc n xs)
-
-  -- one copy more, behind what stood before
-  pub repeat_on : (front so_far new : List A) (n : ℕ) (xs : List A)
-      → so_far ≡ front ++ repeat n xs → new ≡ so_far ++ xs → new ≡ front ++ repeat (n + 1) xs
-  repeat_on front so_far new n xs h one =
-      one ∙ ap (λ all. all ++ xs) h ∙ append_assoc front (repeat n xs) xs
-      ∙ ap (λ copies. front ++ copies) (sym (repeat_push n xs))
-
--- ---- commands
+use Rattle.script_lang.proofs.Copies.{length-copies, list_all-copies}
 
 module _ (s : ScriptParts) (commands : List Command) where
   room_few : (more : ℕ) → has_room s commands more ≡ true
@@ -96,11 +65,11 @@ module _ (s : ScriptParts) (commands : List Command) where
         → CanEnd s (record { node = node; commands = commands })
         → list_all (fits_command s node) repeated ≡ true
         → has_room s commands (times * length repeated) ≡ true
-        → CanEnd s (record { node = node; commands = commands ++ repeat times repeated })
+        → CanEnd s (record { node = node; commands = commands ++ copies times repeated })
     unfolding so_far
     copies_more times repeated h fit room =
-        more_fit (repeat times repeated) (times * length repeated) (length-repeat times repeated) h
-        (list_all-repeat (fits_command s node) times repeated fit) room
+        more_fit (copies times repeated) (times * length repeated) (length-copies times repeated) h
+        (list_all-copies (fits_command s node) times repeated fit) room
 
     -- one command more in a repeated block
     pub repeats : (command : Command) → list_all (fits_command s node) commands ≡ true

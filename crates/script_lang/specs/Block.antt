@@ -1,7 +1,7 @@
 -- lines of an actor's block
 use Rattle.std.specs.Prelude.{ℕ, ◌+◌, ◌*◌, ◌≡◌, ◌<◌, ◌≤◌, Bool, true, ◌&&◌, nat_le, Result, Ok, Err}
 use Rattle.std.specs.Prelude.{List, [], ◌∷◌, ◌++◌, length, if◌then◌else◌}
-use Rattle.std.specs.List.{list_all, repeat}
+use Rattle.std.specs.List.{list_all}
 use Rattle.script_words.specs.declared.bad_kind.BadKind.{BadKind}
 use Rattle.script_words.specs.declared.bad_kind.BadKind.TheVariants.{OverLimit}
 use Rattle.script_words.specs.declared.command.Command.{Command}
@@ -18,6 +18,7 @@ use Rattle.script_lang.specs.declared.reading.Reading.{Reading}
 use Rattle.script_lang.specs.Parts.{ScriptParts, with_actor}
 use Rattle.script_lang.specs.Fits.{is_node, commands_of, fits_command}
 use Rattle.script_lang.specs.Resolving.{resolved}
+use Rattle.script_lang.specs.Copies.{copies}
 
 -- the actor so far can be added to the script
 pub record CanEnd (s : ScriptParts) (a : ActorScript) : Type 0 where
@@ -34,6 +35,7 @@ HasFit s (InActor a) = CanEnd s a
 HasFit s (InRepeat a times commands) =
     CanEnd s a × (list_all (fits_command s a.node) commands ≡ true)
 
+-- what is read so far can go on: the actor of an open block fits its script
 abbrev pub IsReading : Reading → Type 0
 IsReading r = HasFit r.script r.place
 
@@ -56,7 +58,7 @@ command_added s a command = with_commands s a 1 (command ∷ [])
 -- a repeated block written out
 unfoldable pub written_out : ScriptParts → ActorScript → ℕ → List Command
     → Result ActorScript BadKind
-written_out s a times commands = with_commands s a (times * length commands) (repeat times commands)
+written_out s a times commands = with_commands s a (times * length commands) (copies times commands)
 
 -- the script with an actor's open block
 abbrev pub at_place : ScriptParts → List (List ℕ) → Place → Reading

@@ -1,7 +1,6 @@
 -- lines outside a block
 use Rattle.std.specs.Prelude.{ℕ, ◌+◌, nat_le, nat_lt, ◌==◌, Result, Ok, Err, List, [], ◌∷◌, ◌++◌}
-use Rattle.std.specs.Prelude.{length, fold, if◌then◌else◌}
-use Rattle.linx_base.specs.declared.identity.LinkNo.{LinkNo}
+use Rattle.std.specs.Prelude.{length, if◌then◌else◌}
 use Rattle.linx_base.specs.declared.identity.Side.{Side}
 use Rattle.linx_base.specs.declared.frame.LinkDecl.{LinkDecl}
 use Rattle.linx_base.specs.declared.frame.Verdict.{Verdict}
@@ -14,16 +13,18 @@ use Rattle.script_lang.specs.Limits.{node_limit, link_limit, actor_limit, verdic
 use Rattle.script_lang.specs.declared.reading.Reading.{Reading}
 use Rattle.script_lang.specs.declared.reading.Place.TheVariants.{Outside, InActor}
 use Rattle.script_lang.specs.Parts.{ScriptParts, planned_verdicts, with_node, with_link}
-use Rattle.script_lang.specs.Parts.{with_verdict}
+use Rattle.script_lang.specs.Parts.{with_verdicts}
 use Rattle.script_lang.specs.Fits.{is_among}
 use Rattle.script_lang.specs.Naming.{node_named, link_named}
 
+-- one more node, whose name is new
 unfoldable pub node_added : ScriptParts → List ℕ → Result ScriptParts BadKind
 node_added s name =
     if is_among s.names.nodes name then Err TwiceNamed
     else if nat_lt (length s.names.nodes) node_limit then Ok (with_node s name)
     else Err OverLimit
 
+-- one more link, whose name is new, between two declared nodes
 unfoldable pub link_added : ScriptParts → List ℕ → List ℕ → List ℕ → ℕ → ℕ
     → Result ScriptParts BadKind
 link_added s name first second window piece = do
@@ -35,10 +36,7 @@ link_added s name first second window piece = do
       else if nat_lt (length s.names.links) link_limit then Ok (with_link s name decl)
       else Err OverLimit
 
--- verdicts behind those of a direction's plan
-abbrev pub with_verdicts : ScriptParts → LinkNo → Side → List Verdict → ScriptParts
-with_verdicts s link from verdicts = fold (λ t verdict. with_verdict t link from verdict) s verdicts
-
+-- more verdicts of a direction of a declared link
 unfoldable pub plan_added : ScriptParts → List ℕ → Side → List Verdict → Result ScriptParts BadKind
 plan_added s name from verdicts = do
   link ← link_named s name
@@ -60,6 +58,7 @@ actor_begun s actors name node = do
 abbrev pub outside : List (List ℕ) → ScriptParts → Reading
 outside actors s = record { script = s; actors = actors; place = Outside }
 
+-- a line outside a block
 unfoldable pub declared : ScriptParts → List (List ℕ) → Declaration → Result Reading BadKind
 declared s actors (Node name) = made (outside actors) (node_added s name)
 declared s actors (Link name first second window piece) =

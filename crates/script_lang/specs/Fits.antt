@@ -61,6 +61,7 @@ fits_link nodes decl =
 abbrev pub fits_plan : List Verdict → Bool
 fits_plan verdicts = nat_le (length verdicts) verdict_limit && list_all fits_verdict verdicts
 
+-- the same of both directions of a link
 abbrev pub fits_plans : Plans → Bool
 fits_plans plans = fits_plan plans.from_first && fits_plan plans.from_second
 

@@ -5,5 +5,6 @@ pub mod Failures
 pub mod Naming
 pub mod Declaring
 pub mod Resolving
+pub mod Copies
 pub mod Block
 pub mod Reading

@@ -41,16 +41,16 @@ plan_in None from = []
 abbrev pub planned_verdicts : ScriptParts → LinkNo → Side → List Verdict
 planned_verdicts s link from = plan_in (slice_get s.plans (link.0 - 1)) from
 
--- the plans of a link with one verdict more
-abbrev pub planned : Plans → Side → Verdict → Plans
-planned plans First verdict = record plans { from_first = plans.from_first ++ verdict ∷ [] }
-planned plans Second verdict = record plans { from_second = plans.from_second ++ verdict ∷ [] }
+-- the plans of a link with more verdicts of a direction
+abbrev pub planned : Plans → Side → List Verdict → Plans
+planned plans First verdicts = record plans { from_first = plans.from_first ++ verdicts }
+planned plans Second verdicts = record plans { from_second = plans.from_second ++ verdicts }
 
--- the plans of all links with one verdict more at the link in this place
-abbrev pub planned_at : List Plans → ℕ → Side → Verdict → List Plans
-planned_at [] place from verdict = []
-planned_at (plans ∷ rest) zero from verdict = planned plans from verdict ∷ rest
-planned_at (plans ∷ rest) (suc place) from verdict = plans ∷ planned_at rest place from verdict
+-- the plans of all links with more verdicts of a direction at the link in this place
+abbrev pub planned_at : List Plans → ℕ → Side → List Verdict → List Plans
+planned_at [] place from verdicts = []
+planned_at (plans ∷ rest) zero from verdicts = planned plans from verdicts ∷ rest
+planned_at (plans ∷ rest) (suc place) from verdicts = plans ∷ planned_at rest place from verdicts
 
 -- one more node
 abbrev pub with_node : ScriptParts → List ℕ → ScriptParts
@@ -65,10 +65,14 @@ with_link s name decl = record {
   actors = s.actors;
 }
 
+-- verdicts behind those of a direction of a link
+abbrev pub with_verdicts : ScriptParts → LinkNo → Side → List Verdict → ScriptParts
+with_verdicts s link from verdicts =
+    record s { plans = planned_at s.plans (link.0 - 1) from verdicts }
+
 -- one more verdict of a direction of a link
 abbrev pub with_verdict : ScriptParts → LinkNo → Side → Verdict → ScriptParts
-with_verdict s link from verdict =
-    record s { plans = planned_at s.plans (link.0 - 1) from verdict }
+with_verdict s link from verdict = with_verdicts s link from (verdict ∷ [])
 
 -- one more actor
 abbrev pub with_actor : ScriptParts → NodeNo → List Command → ScriptParts

@@ -1,7 +1,7 @@
 //! Lines of an actor's block.
 
-ghost use Rattle.std.specs.Prelude.{◌≡◌, ◌++◌, ◌≤◌, length, IfOk, OnOk, true};
-ghost use Rattle.std.specs.List.{list_all, repeat};
+ghost use Rattle.std.specs.Prelude.{◌≡◌, ◌≤◌, length, IfOk, true};
+ghost use Rattle.std.specs.List.{list_all};
 ghost use Rattle.script_lang.specs.Limits.{all_commands_limit, command_limit};
 ghost use Rattle.script_words.specs.Gives.{Gives};
 ghost use Rattle.script_words.specs.BlockLine.{is_sized_in_actor, is_sized_in_repeat};
@@ -10,11 +10,12 @@ ghost use Rattle.script_lang.specs.Block.{CanEnd, IsReading, has_room as room_fo
 ghost use Rattle.script_lang.specs.Block.{written_out, in_actor, in_repeat};
 
 use crate::actor_script::{ActorScript, Commands};
+use crate::copying::add_copies;
 use crate::declaring::OVER_LIMIT;
 use crate::reading::{Place, Reading};
 use crate::resolving::resolve;
 use crate::script::Script;
-use linx_base::{NameList, NoMemory, TryCopy};
+use linx_base::NameList;
 use script_words::{ActorLine, Command, LineError, RepeatLine};
 use std::alloc::Global;
 
@@ -70,27 +71,6 @@ fn add_command(
     Ok(ActorScript { node, commands })
 }
 
-/// Adds copies of these commands.
-fn append(commands: &mut Commands, repeated: &[Command]) -> Result<(), NoMemory>
-    ensures { OnOk result (commands.new ≡ commands.old ++ repeated.now) }
-{
-    for command in repeated {
-        commands.push(command.copy()?)?;
-    }
-    Ok(())
-}
-
-/// The commands with so many copies of the repeated ones behind them.
-fn with_copies(commands: Commands, times: u32, repeated: &[Command]) -> Result<Commands, NoMemory>
-    ensures { IfOk result (λ all. all ≡ commands ++ repeat times repeated.now) }
-{
-    let mut commands = commands;
-    for _ in 0..times {
-        append(&mut commands, repeated)?;
-    }
-    Ok(commands)
-}
-
 /// The actor with the repeated block written out.
 #[tactic(auto, using(crate::proofs::Room::copied), unfolding(crate::specs::Block::written_out))]
 fn write_out(
@@ -104,14 +84,14 @@ fn write_out(
     ensures gives { Gives (λ a. a) result (written_out script.now actor times repeated.now) }
     ensures fits { IfOk result (λ a. CanEnd script.now a) }
 {
-    let ActorScript { node, commands } = actor;
+    let ActorScript { node, mut commands } = actor;
     let Some(more) = (times as usize).checked_mul(repeated.len()) else {
         return Err(OVER_LIMIT);
     };
     if !has_room(script, &commands, more) {
         return Err(OVER_LIMIT);
     }
-    let commands = with_copies(commands, times, repeated)?;
+    add_copies(&mut commands, times, repeated)?;
     Ok(ActorScript { node, commands })
 }
 

@@ -6,10 +6,10 @@ ghost use Rattle.script_lang.specs.Limits.{verdict_limit};
 ghost use Rattle.script_words.specs.Gives.{Gives};
 ghost use Rattle.script_words.specs.Verdicts.{fits_verdict};
 ghost use Rattle.script_words.specs.Declaration.{has_link_size, is_in_range};
-ghost use Rattle.script_lang.specs.Parts.{planned_verdicts};
+ghost use Rattle.script_lang.specs.Parts.{planned_verdicts, with_verdicts};
 ghost use Rattle.script_lang.specs.Fits.{is_link};
 ghost use Rattle.script_lang.specs.Block.{IsReading};
-ghost use Rattle.script_lang.specs.Declaring.{node_added, link_added, with_verdicts, plan_added};
+ghost use Rattle.script_lang.specs.Declaring.{node_added, link_added, plan_added};
 ghost use Rattle.script_lang.specs.Declaring.{actor_begun, declared};
 
 use crate::actor_script::{ActorScript, Commands};

@@ -5,6 +5,7 @@
 
 mod actor_script;
 mod block;
+mod copying;
 mod declaring;
 mod naming;
 mod parsing;
@@ -15,6 +16,7 @@ mod script;
 mod script_error;
 
 pub use actor_script::{ActorScript, Commands};
+pub use copying::add_copies;
 pub use parsing::parse;
 pub use plans::Plans;
 pub use script::Script;

@@ -14,25 +14,19 @@ use script_words::{BadKind, LineError};
 /// No earlier line declares this node or link, or the link has no end on the actor's node.
 pub(crate) const UNKNOWN_NAME: LineError = LineError::Bad(BadKind::UnknownName);
 
-fn is_same_name(name: &Name, other: &Name) -> bool
-    ensures { result ≡ bytes_eq name.now other.now }
-{
-    name.bytes() == other.bytes()
-}
-
 /// The place of a name among those.
 fn place_of_name(names: &[Name], name: &Name) -> Option<usize>
     ensures place { result ≡ position (λ other. bytes_eq other name.now) names.now }
     ensures within { IfSome result (λ k. k < length names.now) }
 {
-    names.iter().position(|other| is_same_name(other, name))
+    names.iter().position(|other| other.same(name))
 }
 
 /// Whether the name is among those.
 pub(crate) fn is_taken(names: &[Name], name: &Name) -> bool
     ensures { result ≡ is_among names.now name.now }
 {
-    names.iter().any(|other| is_same_name(other, name))
+    names.iter().any(|other| other.same(name))
 }
 
 /// The number, from 1, of a name among those.

@@ -1,4 +1,4 @@
-ghost use Rattle.std.specs.Prelude.{◌≡◌, ◌<◌, length, OnOk, OnErr, slice_get};
+ghost use Rattle.std.specs.Prelude.{◌≡◌, ◌<◌, [], ◌∷◌, length, OnOk, OnErr, slice_get};
 ghost use Rattle.script_lang.specs.Parts.{planned_at, plan_in};
 
 use linx_base::{NoMemory, Side, Verdict};
@@ -31,7 +31,8 @@ pub(crate) fn plan_more(
     verdict: Verdict,
 ) -> Result<(), NoMemory>
     requires { place < length plans.old.items }
-    ensures ok { OnOk result (plans.new.items ≡ planned_at plans.old.items place from verdict) }
+    ensures ok { OnOk result
+        (plans.new.items ≡ planned_at plans.old.items place from (verdict ∷ [])) }
     ensures err { OnErr result (plans.new.items ≡ plans.old.items) }
 {
     let plans = &mut plans[place];

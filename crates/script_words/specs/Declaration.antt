@@ -27,11 +27,12 @@ is_in_range (Link name first second window piece) = has_link_size window piece
 is_in_range (Plan link from verdicts) = list_all fits_verdict verdicts
 is_in_range (Actor name node) = true
 
--- a number behind its word, if the word stands here, and the words behind it
-unfoldable pub option_of : List ℕ → ℕ → ℕ → ℕ → List (List ℕ) → Result (ℕ × List (List ℕ)) BadKind
-option_of keyword low high unsaid [] = Ok (unsaid, [])
-option_of keyword low high unsaid (word ∷ []) = Ok (unsaid, word ∷ [])
-option_of keyword low high unsaid (word ∷ value ∷ words) =
+-- a size behind its word, if the word stands here, and the words behind it
+unfoldable pub size_behind : List ℕ → ℕ → ℕ → ℕ → List (List ℕ)
+    → Result (ℕ × List (List ℕ)) BadKind
+size_behind keyword low high unsaid [] = Ok (unsaid, [])
+size_behind keyword low high unsaid (word ∷ []) = Ok (unsaid, word ∷ [])
+size_behind keyword low high unsaid (word ∷ value ∷ words) =
     if bytes_eq word keyword then made (λ number. (number, words)) (within low high value)
     else Ok (unsaid, word ∷ value ∷ words)
 
@@ -41,8 +42,8 @@ link_of (name ∷ first ∷ second ∷ words) = do
   n ← name_of name
   a ← name_of first
   b ← name_of second
-  window ← option_of (codes "window") 1 window_limit window_unsaid words
-  piece ← option_of (codes "piece") piece_least piece_limit piece_unsaid window.1
+  window ← size_behind (codes "window") 1 window_limit window_unsaid words
+  piece ← size_behind (codes "piece") piece_least piece_limit piece_unsaid window.1
   alone piece.1 (Link n a b window.0 piece.0)
 link_of _ = Err BadShape
 

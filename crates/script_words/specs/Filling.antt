@@ -2,7 +2,7 @@ use Rattle.std.specs.Prelude.{ℕ, Bool, nat_le, Option, Some, None, Result, Ok,
 use Rattle.std.specs.Prelude.{length, take, drop, replicate, codes, if◌then◌else◌}
 use Rattle.std.specs.Str.{bytes_eq}
 use Rattle.hex.specs.declared.error.FromHexError.{FromHexError}
-use Rattle.hex.specs.Hex.{decode_of}
+use Rattle.hex.specs.Hex.{decode_of, decode_sized}
 use Rattle.script_words.specs.declared.bad_kind.BadKind.{BadKind}
 use Rattle.script_words.specs.declared.bad_kind.BadKind.TheVariants.{BadShape}
 use Rattle.script_words.specs.declared.filling.Filling.{Filling}
@@ -47,7 +47,7 @@ abbrev pub repeated_of : Option (List ℕ × List ℕ) → Result Filling BadKin
 repeated_of None = Err BadShape
 repeated_of (Some parts) = do
   count ← any_number parts.0
-  byte ← one_byte (decode_of parts.1)
+  byte ← one_byte (decode_sized parts.1 1)
   Ok (Repeat count byte)
 
 -- what follows `hex:`, or else what follows `fill:`

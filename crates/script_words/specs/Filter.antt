@@ -15,6 +15,7 @@ use Rattle.script_words.specs.Numbers.{is_within, numbers_of}
 abbrev pub lists_few : List ℕ → Bool
 lists_few numbers = is_within 1 filter_limit (length numbers)
 
+-- a filter lists as many numbers as it may
 abbrev pub fits_filter : Sigsel → Bool
 fits_filter Any = true
 fits_filter (Only numbers) = lists_few numbers

@@ -82,17 +82,17 @@ abbrev pub recv_of : List (List ℕ) → Result NamedCommand BadKind
 recv_of words = made (λ filter. Plain (Recv filter)) (filter_of words)
 
 -- a command that concerns a link or a node
-unfoldable pub distant_of : List ℕ → List (List ℕ) → Result NamedCommand BadKind
-distant_of first words =
+unfoldable pub layout_command_of : List ℕ → List (List ℕ) → Result NamedCommand BadKind
+layout_command_of first words =
     if bytes_eq first (codes "cut") then made Cut (one_name_of words)
     else if bytes_eq first (codes "mend") then made Mend (one_name_of words)
     else if bytes_eq first (codes "settle") then made Settle (one_name_of words)
     else if bytes_eq first (codes "restart") then made Restart (one_name_of words)
     else Err UnknownWord
 
--- a command with one word or none behind it
-unfoldable pub short_of : List ℕ → List (List ℕ) → Result NamedCommand BadKind
-short_of first words =
+-- a command on what the actor has: its endpoint, the item taken last, its references and names
+unfoldable pub own_command_of : List ℕ → List (List ℕ) → Result NamedCommand BadKind
+own_command_of first words =
     if bytes_eq first (codes "open") then made (λ n. Plain (Open n)) (one_name_of words)
     else if bytes_eq first (codes "close") then alone words (Plain Close)
     else if bytes_eq first (codes "forward")
@@ -100,13 +100,14 @@ short_of first words =
     else if bytes_eq first (codes "detach") then made (λ n. Plain (Detach n)) (one_name_of words)
     else if bytes_eq first (codes "keep")
     then made (λ n. Plain (Keep n)) (only words >>= kept_name_of)
-    else distant_of first words
+    else layout_command_of first words
 
--- the command of a line's first word and the words behind it
+-- the command of a line's first word and the words behind it: one that sends, receives, hunts or
+-- attaches, one on what the actor has, or one that concerns a link or a node
 unfoldable pub command_of : List ℕ → List (List ℕ) → Result NamedCommand BadKind
 command_of first words =
     if bytes_eq first (codes "send") then send_of words
     else if bytes_eq first (codes "recv") then recv_of words
     else if bytes_eq first (codes "hunt") then hunt_of words
     else if bytes_eq first (codes "attach") then attach_command_of words
-    else short_of first words
+    else own_command_of first words

@@ -26,6 +26,7 @@ number_spelled word = if is_number word then Some (decimal_of word) else None
 abbrev pub is_within : ℕ → ℕ → ℕ → Bool
 is_within low high n = nat_le low n && nat_le n high
 
+-- the number that was spelled, if there is one and it is in the range
 abbrev pub in_range : ℕ → ℕ → Option ℕ → Result ℕ BadKind
 in_range low high None = Err BadShape
 in_range low high (Some n) = if is_within low high n then Ok n else Err BadShape
@@ -38,6 +39,7 @@ within low high word = in_range low high (number_spelled word)
 abbrev pub any_number : List ℕ → Result ℕ BadKind
 any_number word = within 0 number_limit word
 
+-- the first word's number and the words behind it, or the number that stands unsaid and all words
 abbrev pub number_before : ℕ → List (List ℕ) → List (List ℕ) → Option ℕ → ℕ × List (List ℕ)
 number_before unsaid words rest (Some n) = (n, rest)
 number_before unsaid words rest None = (unsaid, words)

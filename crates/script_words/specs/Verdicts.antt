@@ -33,6 +33,7 @@ swap_of (letter ∷ digit ∷ []) =
     if (letter == 83) && is_within 49 57 digit then Ok (Swap (digit - 48)) else Err BadShape
 swap_of (letter ∷ digit ∷ b ∷ bs) = Err BadShape
 
+-- a verdict: `D`, `L`, `R` or an exchange
 unfoldable pub verdict_of : List ℕ → Result Verdict BadKind
 verdict_of word =
     if bytes_eq word (codes "D") then Ok Deliver

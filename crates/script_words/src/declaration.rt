@@ -1,7 +1,7 @@
 ghost use Rattle.std.specs.Prelude.{◌≡◌, true, map, IfOk};
 ghost use Rattle.script_words.specs.Gives.{Gives};
 ghost use Rattle.script_words.specs.Numbers.{is_within};
-ghost use Rattle.script_words.specs.Declaration.{option_of, link_of, plan_of, actor_of};
+ghost use Rattle.script_words.specs.Declaration.{size_behind, link_of, plan_of, actor_of};
 ghost use Rattle.script_words.specs.Declaration.{declaration_of, is_in_range};
 
 use crate::line_error::{BAD_SHAPE, LineError, UNKNOWN_WORD};
@@ -52,9 +52,9 @@ pub enum Declaration {
     },
 }
 
-/// A number behind its word, if the word stands here, and the words behind it.
-#[tactic(auto, unfolding(crate::specs::Declaration::option_of))]
-fn option<'a, 'b>(
+/// A size behind its word, if the word stands here, and the words behind it.
+#[tactic(auto, unfolding(crate::specs::Declaration::size_behind))]
+fn sized<'a, 'b>(
     words: &'a [&'b [u8]],
     keyword: &[u8],
     low: u32,
@@ -63,7 +63,7 @@ fn option<'a, 'b>(
 ) -> Result<(u32, &'a [&'b [u8]]), LineError>
     requires within { is_within low high unsaid ≡ true }
     ensures gives { Gives (λ x. (x.0, map (λ w. w.now) x.1.now)) result
-        (option_of keyword.now low high unsaid (map (λ w. w.now) words.now)) }
+        (size_behind keyword.now low high unsaid (map (λ w. w.now) words.now)) }
     ensures within { IfOk result (λ x. is_within low high x.0 ≡ true) }
 {
     match words {
@@ -90,8 +90,8 @@ fn link(alloc: Global, words: &[&[u8]]) -> Result<Declaration, LineError>
     let link = name(alloc, link)?;
     let first = name(alloc, first)?;
     let second = name(alloc, second)?;
-    let (window, rest) = option(rest, b"window", 1, WINDOW_MOST, WINDOW_UNSAID)?;
-    let (piece, rest) = option(rest, b"piece", PIECE_LEAST, PIECE_MOST, PIECE_UNSAID)?;
+    let (window, rest) = sized(rest, b"window", 1, WINDOW_MOST, WINDOW_UNSAID)?;
+    let (piece, rest) = sized(rest, b"piece", PIECE_LEAST, PIECE_MOST, PIECE_UNSAID)?;
     let declaration = Declaration::Link {
         name: link,
         first,

@@ -1,5 +1,5 @@
 ghost use Rattle.std.specs.Prelude.{◌≡◌, ◌==◌, true, length, map, option_map, IfOk};
-ghost use Rattle.hex.specs.Hex.{decode_of};
+ghost use Rattle.hex.specs.Hex.{decode_of, decode_sized};
 ghost use Rattle.script_words.specs.Gives.{Gives};
 ghost use Rattle.script_words.specs.Words.{cut_at};
 ghost use Rattle.script_words.specs.Filling.{data_of, fits_data, after, some_bytes, one_byte};
@@ -44,28 +44,25 @@ fn hex_bytes(alloc: Global, digits: &[u8]) -> Result<Filling, LineError>
 }
 
 /// One byte in hexadecimal digits.
-fn hex_byte(alloc: Global, digits: &[u8]) -> Result<u8, LineError>
-    ensures { Gives (λ b. b) result (one_byte (decode_of digits.now)) }
+fn hex_byte(digits: &[u8]) -> Result<u8, LineError>
+    ensures { Gives (λ b. b) result (one_byte (decode_sized digits.now 1)) }
 {
-    match hex::decode(alloc, digits) {
-        Ok(bytes) => match bytes.as_slice() {
-            [byte] => Ok(*byte),
-            _ => Err(BAD_SHAPE),
-        },
-        Err(FromHexError::OutOfMemory) => Err(LineError::NoMemory),
+    let mut byte = [0u8; 1];
+    match hex::decode_to_slice(digits, &mut byte) {
+        Ok(()) => Ok(byte[0]),
         Err(_) => Err(BAD_SHAPE),
     }
 }
 
 /// `N:HH`, so many bytes of one value.
-fn repeated(alloc: Global, word: &[u8]) -> Result<Filling, LineError>
+fn repeated(word: &[u8]) -> Result<Filling, LineError>
     ensures { Gives (λ f. f) result (repeated_of (cut_at 58 word.now)) }
 {
     match cut(word, b':') {
         None => Err(BAD_SHAPE),
         Some((count, byte)) => {
             let count = any_number(count)?;
-            let byte = hex_byte(alloc, byte)?;
+            let byte = hex_byte(byte)?;
             Ok(Filling::Repeat { count, byte })
         }
     }
@@ -79,7 +76,7 @@ fn spelled(alloc: Global, word: &[u8]) -> Result<Filling, LineError>
     match behind(word, b"hex:") {
         Some(digits) => hex_bytes(alloc, digits),
         None => match behind(word, b"fill:") {
-            Some(rest) => repeated(alloc, rest),
+            Some(rest) => repeated(rest),
             None => Err(BAD_SHAPE),
         },
     }

@@ -1,6 +1,6 @@
 //! The lines of a text, and the words of a line.
 
-ghost use Rattle.std.specs.Prelude.{◌≡◌, ◌+◌, ◌∷◌, ◌<◌, ◌==◌, length, map, position, IfOk};
+ghost use Rattle.std.specs.Prelude.{◌≡◌, ◌+◌, ◌∷◌, ◌<◌, length, map, IfOk};
 ghost use Rattle.std.specs.List.{list_all};
 ghost use Rattle.std.specs.Io.BufRead.{strip_last};
 ghost use Rattle.script_words.specs.Gives.{Gives};
@@ -9,17 +9,11 @@ ghost use Rattle.script_words.specs.Lines.{words_in};
 
 use crate::bad_kind::BadKind;
 use crate::line_error::LineError;
+use crate::words::place_of_byte;
 use std::alloc::{AllocError, Global};
 
 /// The most bytes of a line, its line feed not counted.
 const LINE_MOST: usize = 4096;
-
-/// The place of the first line feed.
-fn feed_place(bytes: &[u8]) -> Option<usize>
-    ensures { result ≡ position (λ b. b == 10) bytes.now }
-{
-    bytes.iter().position(|byte| *byte == b'\n')
-}
 
 /// The first line, with its line feed where it has one, and the bytes behind it.
 #[tactic(auto, using(crate::proofs::Cuts::lines_at, crate::proofs::Cuts::lines_none))]
@@ -29,28 +23,18 @@ pub fn first_line(bytes: &[u8]) -> (&[u8], &[u8])
     ensures advances { 0 < length result.0.now }
     ensures whole { length result.0.now + length result.1.now ≡ length bytes.now }
 {
-    match feed_place(bytes) {
+    match place_of_byte(bytes, b'\n') {
         Some(place) => bytes.split_at(place + 1),
         None => bytes.split_at(bytes.len()),
     }
 }
 
-/// A line without the line feed at its end.
-fn without_feed(line: &[u8]) -> &[u8]
-    ensures { result.now ≡ strip_last 10 line.now }
+/// A line without this byte at its end.
+fn without_last(line: &[u8], byte: u8) -> &[u8]
+    ensures { result.now ≡ strip_last byte line.now }
 {
     match line {
-        [text @ .., b'\n'] => text,
-        _ => line,
-    }
-}
-
-/// A line without the carriage return at its end.
-fn without_return(line: &[u8]) -> &[u8]
-    ensures { result.now ≡ strip_last 13 line.now }
-{
-    match line {
-        [text @ .., b'\r'] => text,
+        [text @ .., last] if *last == byte => text,
         _ => line,
     }
 }
@@ -99,11 +83,11 @@ fn words(alloc: Global, text: &[u8]) -> Result<Vec<&[u8]>, AllocError>
 pub fn words_of_line(alloc: Global, line: &[u8]) -> Result<Vec<&[u8]>, LineError>
     ensures { Gives (λ words. map (λ w. w.now) words.items) result (words_in line.now) }
 {
-    let text = without_feed(line);
+    let text = without_last(line, b'\n');
     if text.len() > LINE_MOST {
         return Err(LineError::Bad(BadKind::LineTooLong));
     }
-    let text = without_return(text);
+    let text = without_last(text, b'\r');
     if !are_plain(text) {
         return Err(LineError::Bad(BadKind::BadByte));
     }

@@ -1,7 +1,8 @@
 ghost use Rattle.std.specs.Prelude.{◌≡◌, true, map, IfOk};
 ghost use Rattle.script_words.specs.Gives.{Gives};
-ghost use Rattle.script_words.specs.NamedCommand.{send_of, hunt_of, attach_command_of, distant_of};
-ghost use Rattle.script_words.specs.NamedCommand.{short_of, command_of, is_sized};
+ghost use Rattle.script_words.specs.NamedCommand.{send_of, hunt_of, attach_command_of};
+ghost use Rattle.script_words.specs.NamedCommand.{layout_command_of, own_command_of, command_of};
+ghost use Rattle.script_words.specs.NamedCommand.{is_sized};
 
 use crate::command::Command;
 use crate::filling::Filling;
@@ -96,9 +97,10 @@ fn attach(alloc: Global, words: &[&[u8]]) -> Result<NamedCommand, LineError>
 }
 
 /// A command that concerns a link or a node.
-#[tactic(auto, unfolding(crate::specs::NamedCommand::distant_of))]
-fn distant(alloc: Global, first: &[u8], words: &[&[u8]]) -> Result<NamedCommand, LineError>
-    ensures gives { Gives (λ c. c) result (distant_of first.now (map (λ w. w.now) words.now)) }
+#[tactic(auto, unfolding(crate::specs::NamedCommand::layout_command_of))]
+fn layout_command(alloc: Global, first: &[u8], words: &[&[u8]]) -> Result<NamedCommand, LineError>
+    ensures gives { Gives (λ c. c) result
+        (layout_command_of first.now (map (λ w. w.now) words.now)) }
     ensures sized { IfOk result (λ c. is_sized c ≡ true) }
 {
     if is_text(first, b"cut") {
@@ -116,10 +118,10 @@ fn distant(alloc: Global, first: &[u8], words: &[&[u8]]) -> Result<NamedCommand,
     Err(UNKNOWN_WORD)
 }
 
-/// A command that names no link and no node, and takes one word or none.
-#[tactic(auto, unfolding(crate::specs::NamedCommand::short_of))]
-fn short(alloc: Global, first: &[u8], words: &[&[u8]]) -> Result<NamedCommand, LineError>
-    ensures gives { Gives (λ c. c) result (short_of first.now (map (λ w. w.now) words.now)) }
+/// A command on what the actor has: its endpoint, the item taken last, its references and names.
+#[tactic(auto, unfolding(crate::specs::NamedCommand::own_command_of))]
+fn own_command(alloc: Global, first: &[u8], words: &[&[u8]]) -> Result<NamedCommand, LineError>
+    ensures gives { Gives (λ c. c) result (own_command_of first.now (map (λ w. w.now) words.now)) }
     ensures sized { IfOk result (λ c. is_sized c ≡ true) }
 {
     if is_text(first, b"open") {
@@ -141,7 +143,7 @@ fn short(alloc: Global, first: &[u8], words: &[&[u8]]) -> Result<NamedCommand, L
         let variable = kept_name(alloc, only(words)?)?;
         return Ok(NamedCommand::Plain(Command::Keep(variable)));
     }
-    distant(alloc, first, words)
+    layout_command(alloc, first, words)
 }
 
 impl NamedCommand {
@@ -168,6 +170,6 @@ impl NamedCommand {
         if is_text(first, b"attach") {
             return attach(alloc, words);
         }
-        short(alloc, first, words)
+        own_command(alloc, first, words)
     }
 }

@@ -35,7 +35,7 @@ pub(crate) fn alone<T: Drop>(words: &[&[u8]], value: T) -> Result<T, LineError>
 }
 
 /// The place of the first such byte.
-fn place_of_byte(word: &[u8], byte: u8) -> Option<usize>
+pub(crate) fn place_of_byte(word: &[u8], byte: u8) -> Option<usize>
     ensures { result ≡ position (λ b. b == byte) word.now }
 {
     word.iter().position(|b| *b == byte)

@@ -18,12 +18,13 @@ use Rattle.script_words.specs.Filling.{fits_data, no_data}
 use Rattle.script_lang.specs.declared.actor_script.ActorScript.{ActorScript}
 use Rattle.script_lang.specs.Parts.{ScriptParts}
 use Rattle.script_lang.specs.Fits.{is_node, has_end, fits_command, commands_of}
-use Rattle.work_gen.specs.Copies.{copies}
+use Rattle.script_lang.specs.Copies.{copies}
+use Rattle.script_lang.proofs.Copies.{length-copies, list_all-copies}
 use Rattle.work_gen.specs.Generated.{up_to, receive}
 use Rattle.work_gen.specs.Generated.{server_commands, finding, request, asking, leaving, server}
-use Rattle.work_gen.specs.Generated.{client, clients, actors_over, built}
+use Rattle.work_gen.specs.Generated.{client_commands, client, clients, actors_over, built}
 use Rattle.work_gen.specs.Building.{with_actors, many_commands, HasRoom}
-use Rattle.work_gen.proofs.Lists.{length-copies, list_all-copies, flat_map_more}
+use Rattle.work_gen.proofs.Lists.{flat_map_more}
 
 -- ---- what the actors do
 
@@ -65,7 +66,7 @@ module _ (s : ScriptParts) (node : NodeNo) where
   leaving_fits = refl
 
   pub client_fits : (n k i : ℕ) → has_end s (record { 0 = k }) node ≡ true
-      → list_all (fits_command s node) (finding k i ++ (asking n i ++ leaving)) ≡ true
+      → list_all (fits_command s node) (client_commands n k i) ≡ true
   client_fits n k i ends =
       let fits = fits_command s node in
       list_all-append fits (finding k i) (asking n i ++ leaving)
@@ -90,8 +91,7 @@ leaving_few : length leaving ≡ 2
 unfolding leaving
 leaving_few = refl
 
-pub client_few : (n k i : ℕ)
-    → length (finding k i ++ (asking n i ++ leaving)) ≤ many_commands
+pub client_few : (n k i : ℕ) → length (client_commands n k i) ≤ many_commands
 client_few n k i =
     omega (
       arith,

@@ -1,11 +1,9 @@
 -- one more link, with its plans
 use Rattle.std.proofs.Common.{◌≡◌, ℕ, suc, zero, ◌+◌, ◌-◌, ◌*◌, ◌%◌, ◌<◌, true, false, List, []}
-use Rattle.std.proofs.Common.{◌∷◌, ◌++◌, length, map, refl, sym, ◌∙◌, ap, arith, append_assoc}
-use Rattle.std.proofs.Common.{get_or}
+use Rattle.std.proofs.Common.{◌∷◌, ◌++◌, length, map, refl, sym, ◌∙◌, ap, arith, get_or}
 use Rattle.std.specs.Prelude.{◌==◌, Some, slice_get}
 use Rattle.std.specs.Fmt.{digits}
 use Rattle.std.proofs.lemmas.Bool.{cond_both}
-use Rattle.std.proofs.lemmas.List.{append-nil}
 use Rattle.std.proofs.lemmas.List.FromFn.{map-range_with_len_more, length-map-range_with_len}
 use Rattle.std.proofs.lemmas.List.FromFn.{get_or-map-range_with_len}
 use Rattle.linx_base.specs.declared.identity.Side.{Side}
@@ -18,54 +16,30 @@ use Rattle.script_words.specs.Verdicts.{fits_verdict}
 use Rattle.script_lang.specs.declared.plans.Plans.{Plans}
 use Rattle.script_lang.specs.Limits.{link_limit}
 use Rattle.script_lang.specs.Parts.{ScriptParts, parts_of, planned, planned_at, with_link}
-use Rattle.script_lang.specs.Parts.{plan_in, with_verdict, side_of}
+use Rattle.script_lang.specs.Parts.{plan_in, with_verdicts, side_of}
 use Rattle.script_lang.specs.Fits.{is_among, fits_link}
-use Rattle.script_lang.specs.Declaring.{with_verdicts}
-use Rattle.script_lang.proofs.Verdicts.{plans_stay}
-use Rattle.work_gen.specs.Generated.{up_to, node_name, link_name, joined, fate, fates, plans_of}
-use Rattle.work_gen.specs.Generated.{nth_fate, shift}
-use Rattle.work_gen.specs.Generated.{built}
+use Rattle.script_lang.proofs.Verdicts.{length-planned_at}
+use Rattle.work_gen.specs.Generated.{up_to, node_name, link_name, joined, verdict_by, plan_of}
+use Rattle.work_gen.specs.Generated.{plans_of, nth_verdict, shift, built}
 use Rattle.work_gen.specs.Building.{IsUnplanned}
 
 -- each verdict of a plan is in range
-fate_fits : (digit : ℕ) → fits_verdict (fate digit) ≡ true
-fate_fits digit =
+verdict_fits : (digit : ℕ) → fits_verdict (verdict_by digit) ≡ true
+verdict_fits digit =
     let Fits = λ (v : Verdict). fits_verdict v ≡ true in
     cond_both (digit == 0) Lose _ Fits (λ e. refl)
     (λ e. cond_both (digit == 3) Repeat _ Fits (λ e. refl)
     (λ e. cond_both (digit == 6) (Swap 2) Deliver Fits (λ e. refl) (λ e. refl)))
 
-pub nth_fits : (n k : ℕ) (from : Side) (j : ℕ) → fits_verdict (nth_fate n k from j) ≡ true
-nth_fits n k from j = fate_fits ((n + 3 * j + k + shift from) % 10)
+pub nth_fits : (n k : ℕ) (from : Side) (j : ℕ) → fits_verdict (nth_verdict n k from j) ≡ true
+nth_fits n k from j = verdict_fits ((n + 3 * j + k + shift from) % 10)
 
 -- ---- the plans of the last link
 
--- the plans of a link with more verdicts
-longer : Plans → Side → List Verdict → Plans
-longer p First verdicts = record p { from_first = p.from_first ++ verdicts }
-longer p Second verdicts = record p { from_second = p.from_second ++ verdicts }
-
-longer_none : (p : Plans) (from : Side) → p ≡ longer p from []
-unfolding longer
-longer_none p First = ap (λ v. record p { from_first = v }) (sym (append-nil p.from_first))
-longer_none p Second = ap (λ v. record p { from_second = v }) (sym (append-nil p.from_second))
-
-longer_more : (p : Plans) (from : Side) (v : Verdict) (verdicts : List Verdict)
-    → longer (planned p from v) from verdicts ≡ longer p from (v ∷ verdicts)
-unfolding longer
-longer_more p First v verdicts =
-    ap (λ vs. record p { from_first = vs }) (append_assoc p.from_first (v ∷ []) verdicts)
-longer_more p Second v verdicts =
-    ap (λ vs. record p { from_second = vs }) (append_assoc p.from_second (v ∷ []) verdicts)
-
-planned_last : (ps : List Plans) (p : Plans) (from : Side) (v : Verdict)
-    → planned_at (ps ++ p ∷ []) (length ps) from v ≡ ps ++ planned p from v ∷ []
-planned_last [] p from v = refl
-planned_last (q ∷ ps) p from v = ap (λ rest. q ∷ rest) (planned_last ps p from v)
-
-last_got : (ps : List Plans) (p : Plans) → slice_get (ps ++ p ∷ []) (length ps) ≡ Some p
-last_got [] p = refl
-last_got (q ∷ ps) p = last_got ps p
+planned_last : (ps : List Plans) (p : Plans) (from : Side) (verdicts : List Verdict)
+    → planned_at (ps ++ p ∷ []) (length ps) from verdicts ≡ ps ++ planned p from verdicts ∷ []
+planned_last [] p from verdicts = refl
+planned_last (q ∷ ps) p from verdicts = ap (λ rest. q ∷ rest) (planned_last ps p from verdicts)
 
 -- a script whose last link is the one of this number
 module _ (names : Names) (links : List LinkDecl) (ps : List Plans) (k : ℕ)
@@ -75,37 +49,32 @@ module _ (names : Names) (links : List LinkDecl) (ps : List Plans) (k : ℕ)
 
   filled : (p : Plans) (from : Side) (verdicts : List Verdict)
       → with_verdicts (with_last p) (record { 0 = k }) from verdicts
-      ≡ with_last (longer p from verdicts)
+      ≡ with_last (planned p from verdicts)
   unfolding with_last
-  filled p from [] = ap with_last (longer_none p from)
-  filled p from (v ∷ verdicts) =
-      let one : planned_at (ps ++ p ∷ []) (k - 1) from v ≡ ps ++ planned p from v ∷ [] =
-      rw last (planned_last ps p from v)
+  filled p from verdicts =
+      let one : planned_at (ps ++ p ∷ []) (k - 1) from verdicts
+      ≡ ps ++ planned p from verdicts ∷ [] =
+      rw last (planned_last ps p from verdicts)
       in
-      ap (λ plans. with_verdicts (parts_of names links plans []) (record { 0 = k }) from verdicts)
-      one
-      ∙ filled (planned p from v) from verdicts ∙ ap with_last (longer_more p from v verdicts)
+      ap (λ (plans : List Plans). parts_of names links plans []) one
 
 -- ---- the next link
 
 -- the first direction's plan leaves the second one as it is
-other_plan : (plans : List Plans) (place : ℕ) (verdict : Verdict)
-    → plan_in (slice_get (planned_at plans place First verdict) place) Second
+other_plan : (plans : List Plans) (place : ℕ) (verdicts : List Verdict)
+    → plan_in (slice_get (planned_at plans place First verdicts) place) Second
     ≡ plan_in (slice_get plans place) Second
-other_plan [] place verdict = refl
-other_plan (p ∷ plans) zero verdict = refl
-other_plan (p ∷ plans) (suc place) verdict = other_plan plans place verdict
+other_plan [] place verdicts = refl
+other_plan (p ∷ plans) zero verdicts = refl
+other_plan (p ∷ plans) (suc place) verdicts = other_plan plans place verdicts
 
 other_plans : (s : ScriptParts) (k : ℕ) (verdicts : List Verdict) → IsUnplanned s k Second
     → IsUnplanned (with_verdicts s (record { 0 = k }) First verdicts) k Second
-other_plans s k [] h = h
-other_plans s k (v ∷ verdicts) h =
-    other_plans (with_verdict s (record { 0 = k }) First v) k verdicts
-    (record {
-      link = h.link;
-      place = plans_stay s (record { 0 = k }) First v h.place;
-      plan = other_plan s.plans (k - 1) v ∙ h.plan;
-    })
+other_plans s k verdicts h = record {
+  link = h.link;
+  place = rw (length-planned_at First verdicts s.plans (k - 1)) h.place;
+  plan = other_plan s.plans (k - 1) verdicts ∙ h.plan;
+}
 
 pub other_side : (s t : ScriptParts) (k : ℕ) (verdicts : List Verdict) → IsUnplanned s k Second
     → t ≡ with_verdicts s (record { 0 = k }) First verdicts → IsUnplanned t k Second
@@ -177,12 +146,13 @@ module _ (n done : ℕ) where
   all_planned : ScriptParts
   all_planned =
       with_verdicts
-      (with_verdicts (next_link n done) (record { 0 = done + 1 }) First (fates n (done + 1) First))
-      (record { 0 = done + 1 }) Second (fates n (done + 1) Second)
+      (with_verdicts (next_link n done) (record { 0 = done + 1 }) First
+      (plan_of n (done + 1) First))
+      (record { 0 = done + 1 }) Second (plan_of n (done + 1) Second)
 
   -- with both plans
   planned_both : all_planned ≡ built n 4 (done + 1) 0
-  unfolding all_planned next_link built with_last longer fates unplanned
+  unfolding all_planned next_link built with_last plan_of unplanned
   planned_both =
       let k = done + 1 in
       let names : Names = record {
@@ -195,10 +165,10 @@ module _ (n done : ℕ) where
       let last : k - 1 ≡ length ps =
       omega (arith, length-map-range_with_len (plans_of n) 1 done)
       in
-      let half : Plans = longer unplanned First (fates n k First) in
-      ap (λ (s : ScriptParts). with_verdicts s (record { 0 = k }) Second (fates n k Second))
-      (filled names links ps k last unplanned First (fates n k First))
-      ∙ filled names links ps k last half Second (fates n k Second)
+      let half : Plans = planned unplanned First (plan_of n k First) in
+      ap (λ (s : ScriptParts). with_verdicts s (record { 0 = k }) Second (plan_of n k Second))
+      (filled names links ps k last unplanned First (plan_of n k First))
+      ∙ filled names links ps k last half Second (plan_of n k Second)
       ∙ grown n done
 
 -- a link is added, and then the plans of its two directions
@@ -216,32 +186,33 @@ module _ (n done : ℕ) (before linked : ScriptParts) (name : List ℕ)
   now_linked from few = rw is_next (next_unplanned n done from few)
 
   module _ (half : ScriptParts) (is_half : half
-      ≡ with_verdicts linked (record { 0 = done + 1 }) First (fates n (done + 1) First)) where
+      ≡ with_verdicts linked (record { 0 = done + 1 }) First (plan_of n (done + 1) First)) where
     pub now_half : done < 3 → IsUnplanned half (done + 1) Second
     now_half few =
-        other_side linked half (done + 1) (fates n (done + 1) First) (now_linked Second few) is_half
+        other_side linked half (done + 1) (plan_of n (done + 1) First) (now_linked Second few)
+        is_half
 
     pub now_whole : (whole : ScriptParts)
-        → whole ≡ with_verdicts half (record { 0 = done + 1 }) Second (fates n (done + 1) Second)
+        → whole ≡ with_verdicts half (record { 0 = done + 1 }) Second (plan_of n (done + 1) Second)
         → whole ≡ built n 4 (done + 1) 0
     unfolding all_planned
     now_whole whole is_whole =
         is_whole
         ∙ ap (λ (s : ScriptParts). with_verdicts s (record { 0 = done + 1 }) Second
-        (fates n (done + 1) Second)) is_half
+        (plan_of n (done + 1) Second)) is_half
         ∙ ap (λ (s : ScriptParts). with_verdicts
-        (with_verdicts s (record { 0 = done + 1 }) First (fates n (done + 1) First))
-        (record { 0 = done + 1 }) Second (fates n (done + 1) Second)) is_next
+        (with_verdicts s (record { 0 = done + 1 }) First (plan_of n (done + 1) First))
+        (record { 0 = done + 1 }) Second (plan_of n (done + 1) Second)) is_next
         ∙ planned_both n done
 
 -- ---- the verdicts of a plan, one after the other
 
-pub length-fates : (n k : ℕ) (from : Side) → length (fates n k from) ≡ 200
-unfolding fates
-length-fates n k from = length-map-range_with_len (nth_fate n k from) 1 200
+pub length-plan_of : (n k : ℕ) (from : Side) → length (plan_of n k from) ≡ 200
+unfolding plan_of
+length-plan_of n k from = length-map-range_with_len (nth_verdict n k from) 1 200
 
-pub nth_of_fates : (n k : ℕ) (from : Side) (i : ℕ) (d : Verdict) → i < 200
-    → get_or (fates n k from) i d ≡ nth_fate n k from (i + 1)
-unfolding fates
-nth_of_fates n k from i d few =
-    get_or-map-range_with_len (nth_fate n k from) 1 200 i (i + 1) d few (omega arith)
+pub nth_of_plan : (n k : ℕ) (from : Side) (i : ℕ) (d : Verdict) → i < 200
+    → get_or (plan_of n k from) i d ≡ nth_verdict n k from (i + 1)
+unfolding plan_of
+nth_of_plan n k from i d few =
+    get_or-map-range_with_len (nth_verdict n k from) 1 200 i (i + 1) d few (omega arith)

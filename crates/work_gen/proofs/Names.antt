@@ -19,16 +19,16 @@ digits_are n h =
     (λ k ds large so_far. list_all-append is_name_byte ds ((48 + k % 10) ∷ [])
     ∙ and_from _ _ so_far (digit (k % 10) (omega arith))) n h
 
-pub numbered_is_name : (letter : List ℕ) (n : ℕ) → n < 2 ^ 32 → length letter ≡ 1
-    → list_all is_name_byte letter ≡ true → is_name (numbered letter n) ≡ true
-numbered_is_name letter n small one is_letter =
+pub numbered_is_name : (letter n : ℕ) → n < 2 ^ 32 → is_name_byte letter ≡ true
+    → is_name (numbered (letter ∷ []) n) ≡ true
+numbered_is_name letter n small is_letter =
     let digits : length (decimal n) ≤ 10 =
     length-decimal-le 10 n (omega arith) (omega arith) (omega arith)
     in
-    let long = length-append letter (decimal n) in
+    let text = (letter ∷ []) ++ decimal n in
+    let long = length-append (letter ∷ []) (decimal n) in
     and_from _ _
     (and_from _ _
-    (le-leb 1 (length (letter ++ decimal n)) (omega (arith, long, one)))
-    (le-leb (length (letter ++ decimal n)) 32 (omega (arith, long, one, digits))))
-    (list_all-append is_name_byte letter (decimal n)
-    ∙ and_from _ _ is_letter (digits_are n (omega arith)))
+    (le-leb 1 (length text) (omega (arith, long)))
+    (le-leb (length text) 32 (omega (arith, long, digits))))
+    (and_from _ _ is_letter (digits_are n (omega arith)))

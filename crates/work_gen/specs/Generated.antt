@@ -1,6 +1,6 @@
 -- The generated script of a number. Four nodes stand in a row, and a link joins each to the next.
--- Each direction of a link loses, repeats and exchanges some packets, as the number says. Over each
--- link eight clients find a server, and ask it a hundred times each.
+-- Each direction of a link has a plan of verdicts, as the number says. Over each link eight clients
+-- find a server, and ask it a hundred times each.
 use Rattle.std.specs.Prelude.{ℕ, ◌+◌, ◌-◌, ◌*◌, ◌%◌, ◌==◌, List, [], ◌∷◌, ◌++◌, map, flat_map}
 use Rattle.std.specs.Prelude.{codes, decimal, if◌then◌else◌}
 use Rattle.std.specs.List.{range_with_len}
@@ -22,7 +22,7 @@ use Rattle.script_words.specs.Limits.{window_unsaid, piece_unsaid, hunt_signal, 
 use Rattle.script_lang.specs.declared.actor_script.ActorScript.{ActorScript}
 use Rattle.script_lang.specs.declared.plans.Plans.{Plans}
 use Rattle.script_lang.specs.Parts.{ScriptParts, parts_of}
-use Rattle.work_gen.specs.Copies.{copies}
+use Rattle.script_lang.specs.Copies.{copies}
 
 -- the numbers from 1 to a count
 abbrev pub up_to : ℕ → List ℕ
@@ -57,9 +57,9 @@ joined k = record {
   piece = piece_unsaid;
 }
 
--- one in ten packets is lost, one is repeated, and one is exchanged with the third: by a digit
-abbrev pub fate : ℕ → Verdict
-fate digit =
+-- one verdict in ten loses, one repeats, and one exchanges with place 2: by a digit
+abbrev pub verdict_by : ℕ → Verdict
+verdict_by digit =
     if digit == 0 then Lose
     else if digit == 3 then Repeat
     else if digit == 6 then Swap 2
@@ -70,17 +70,17 @@ abbrev pub shift : Side → ℕ
 shift First = 0
 shift Second = 1
 
--- what becomes of the j-th packet of a direction of link k
-abbrev pub nth_fate : ℕ → ℕ → Side → ℕ → Verdict
-nth_fate n k from j = fate ((n + 3 * j + k + shift from) % 10)
+-- the j-th verdict of a direction of link k
+abbrev pub nth_verdict : ℕ → ℕ → Side → ℕ → Verdict
+nth_verdict n k from j = verdict_by ((n + 3 * j + k + shift from) % 10)
 
--- what becomes of the first 200 packets of a direction of link k
-unfoldable pub fates : ℕ → ℕ → Side → List Verdict
-fates n k from = map (nth_fate n k from) (up_to 200)
+-- the 200 verdicts of a direction of link k
+unfoldable pub plan_of : ℕ → ℕ → Side → List Verdict
+plan_of n k from = map (nth_verdict n k from) (up_to 200)
 
 -- the plans of link k
 abbrev pub plans_of : ℕ → ℕ → Plans
-plans_of n k = record { from_first = fates n k First; from_second = fates n k Second }
+plans_of n k = record { from_first = plan_of n k First; from_second = plan_of n k Second }
 
 -- receives signals of one number
 abbrev pub receive : ℕ → Command
@@ -118,10 +118,13 @@ leaving = Detach (codes "r") ∷ Send (Kept (codes "s")) 12 no_data ∷ []
 abbrev pub server : ℕ → ActorScript
 server k = record { node = record { 0 = k + 1 }; commands = server_commands k }
 
+-- client i finds the server of link k, asks it, and takes leave
+abbrev pub client_commands : ℕ → ℕ → ℕ → List Command
+client_commands n k i = finding k i ++ (asking n i ++ leaving)
+
 -- client i stands on the first node of link k
 abbrev pub client : ℕ → ℕ → ℕ → ActorScript
-client n k i =
-    record { node = record { 0 = k }; commands = finding k i ++ (asking n i ++ leaving) }
+client n k i = record { node = record { 0 = k }; commands = client_commands n k i }
 
 -- the eight clients of link k
 abbrev pub clients : ℕ → ℕ → List ActorScript

@@ -1,4 +1,3 @@
-pub mod Copies
 pub mod Generated
 pub mod Losses
 pub mod Building

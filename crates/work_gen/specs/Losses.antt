@@ -1,4 +1,4 @@
--- What the plans of the load lose.
+-- How the verdicts that lose stand in the plans of the load.
 use Rattle.std.specs.Prelude.{◌≡◌, ℕ, ◌+◌, ◌≢◌, Some, List, slice_get}
 use Rattle.linx_base.specs.declared.identity.LinkNo.{LinkNo}
 use Rattle.linx_base.specs.declared.identity.Side.{Side}
@@ -6,7 +6,7 @@ use Rattle.linx_base.specs.declared.frame.Verdict.{Verdict}
 use Rattle.linx_base.specs.declared.frame.Verdict.TheVariants.{Lose}
 use Rattle.script_lang.specs.Parts.{ScriptParts, planned_verdicts}
 
--- no packet is lost right behind another one
+-- no verdict `lose` stands right behind another one
 abbrev pub LosesApart : List Verdict → Type 0
 LosesApart verdicts =
     (i : ℕ) → slice_get verdicts i ≡ Some Lose → slice_get verdicts (i + 1) ≢ Some Lose

@@ -2,14 +2,12 @@
 
 ghost use Rattle.std.specs.Prelude.{◌≡◌, ◌++◌, codes, OnOk, IfOk};
 ghost use Rattle.script_words.specs.declared.target.Target.TheVariants as targets;
-ghost use Rattle.script_words.specs.Filling.{no_data};
-ghost use Rattle.work_gen.specs.Copies.{copies};
 ghost use Rattle.work_gen.specs.Generated.{receive, server_commands, finding, request, asking};
-ghost use Rattle.work_gen.specs.Generated.{leaving};
+ghost use Rattle.work_gen.specs.Generated.{leaving, client_commands};
 
 use crate::naming::{name_of, numbered_name};
-use linx_base::{LinkNo, NoMemory, Path, TryCopy};
-use script_lang::{Command, Commands, Filling, Target};
+use linx_base::{LinkNo, NoMemory, Path};
+use script_lang::{Command, Commands, Filling, Target, add_copies};
 use sigsel::{Numbers, Sigsel};
 use std::alloc::Global;
 
@@ -34,12 +32,6 @@ const REQUESTS: u32 = 100;
 /// The clients of a server.
 pub(crate) const CLIENTS: u32 = 8;
 
-fn nothing() -> Filling
-    ensures { result ≡ no_data }
-{
-    Filling::Repeat { count: 0, byte: 0 }
-}
-
 /// Receives signals of one number.
 fn receive_of(alloc: Global, number: u32) -> Result<Command, NoMemory>
     ensures { IfOk result (λ command. command ≡ receive number) }
@@ -55,37 +47,17 @@ fn server_kept(alloc: Global) -> Result<Target, NoMemory>
     Ok(Target::Kept(name_of(alloc, b"s")?))
 }
 
-/// Adds some commands.
-fn add_block(commands: &mut Commands, block: &[Command]) -> Result<(), NoMemory>
-    ensures { OnOk result (commands.new ≡ commands.old ++ block.now) }
-{
-    for command in block {
-        commands.push(command.copy()?)?;
-    }
-    Ok(())
-}
-
-/// Adds so many copies of some commands.
-fn add_copies(commands: &mut Commands, times: u32, block: &[Command]) -> Result<(), NoMemory>
-    ensures { OnOk result (commands.new ≡ commands.old ++ copies times block.now) }
-{
-    for _ in 0..times {
-        add_block(commands, block)?;
-    }
-    Ok(())
-}
-
 /// What the server of link k does.
 #[tactic(auto, unfolding(crate::specs::Generated::server_commands))]
-pub(crate) fn serve(alloc: Global, k: u32) -> Result<Commands, NoMemory>
+pub(crate) fn server_commands(alloc: Global, k: u32) -> Result<Commands, NoMemory>
     ensures { IfOk result (λ commands. commands ≡ server_commands k) }
 {
     let mut commands = Commands::new(alloc);
-    commands.push(Command::Open(numbered_name(alloc, b"s", k)?))?;
+    commands.push(Command::Open(numbered_name(alloc, b's', k)?))?;
     let answer = Command::Send {
         to: Target::Last,
         number: ANSWER,
-        bytes: nothing(),
+        bytes: Filling::EMPTY,
     };
     add_copies(
         &mut commands,
@@ -98,18 +70,18 @@ pub(crate) fn serve(alloc: Global, k: u32) -> Result<Commands, NoMemory>
 
 /// How client i comes to know the server of link k.
 #[tactic(auto, unfolding(crate::specs::Generated::finding))]
-fn find(alloc: Global, k: u32, i: u32) -> Result<Commands, NoMemory>
+fn finding(alloc: Global, k: u32, i: u32) -> Result<Commands, NoMemory>
     ensures { IfOk result (λ commands. commands ≡ finding k i) }
 {
     let mut commands = Commands::new(alloc);
-    commands.push(Command::Open(numbered_name(alloc, b"c", i)?))?;
+    commands.push(Command::Open(numbered_name(alloc, b'c', i)?))?;
     commands.push(Command::Hunt {
         path: Path::Over {
             link: LinkNo(k),
-            name: numbered_name(alloc, b"s", k)?,
+            name: numbered_name(alloc, b's', k)?,
         },
         number: FOUND,
-        bytes: nothing(),
+        bytes: Filling::EMPTY,
     })?;
     commands.push(receive_of(alloc, FOUND)?)?;
     commands.push(Command::Keep(name_of(alloc, b"s")?))?;
@@ -117,7 +89,7 @@ fn find(alloc: Global, k: u32, i: u32) -> Result<Commands, NoMemory>
         to: server_kept(alloc)?,
         r: name_of(alloc, b"r")?,
         number: ENDED,
-        bytes: nothing(),
+        bytes: Filling::EMPTY,
     })?;
     Ok(commands)
 }
@@ -155,16 +127,16 @@ fn add_leaving(alloc: Global, commands: &mut Commands) -> Result<(), NoMemory>
     commands.push(Command::Send {
         to: server_kept(alloc)?,
         number: DONE,
-        bytes: nothing(),
+        bytes: Filling::EMPTY,
     })?;
     Ok(())
 }
 
 /// What client i does over link k.
-pub(crate) fn consult(alloc: Global, n: u32, k: u32, i: u32) -> Result<Commands, NoMemory>
-    ensures { IfOk result (λ commands. commands ≡ finding k i ++ (asking n i ++ leaving)) }
+pub(crate) fn client_commands(alloc: Global, n: u32, k: u32, i: u32) -> Result<Commands, NoMemory>
+    ensures { IfOk result (λ commands. commands ≡ client_commands n k i) }
 {
-    let mut commands = find(alloc, k, i)?;
+    let mut commands = finding(alloc, k, i)?;
     add_asking(alloc, &mut commands, n, i)?;
     add_leaving(alloc, &mut commands)?;
     Ok(commands)

@@ -6,7 +6,7 @@ ghost use Rattle.work_gen.specs.Generated.{server, client, clients, built, gener
 ghost use Rattle.work_gen.specs.Losses.{EachLosesApart};
 ghost use Rattle.work_gen.specs.Building.{HasRoom, with_actors};
 
-use crate::acting::{CLIENTS, consult, serve};
+use crate::acting::{CLIENTS, client_commands, server_commands};
 use crate::naming::numbered_name;
 use crate::planning::add_plan;
 use linx_base::{LinkDecl, LinkNo, NoMemory, NodeNo, Side};
@@ -30,7 +30,7 @@ fn add_nodes(alloc: Global, script: &mut Script, n: u32) -> Result<(), NoMemory>
     ensures { OnOk result (script.new ≡ built n 4 0 0) }
 {
     for done in 0..NODES {
-        script.add_node(numbered_name(alloc, b"n", done + 1)?)?;
+        script.add_node(numbered_name(alloc, b'n', done + 1)?)?;
     }
     Ok(())
 }
@@ -48,7 +48,7 @@ fn add_link(alloc: Global, script: &mut Script, n: u32, done: u32) -> Result<(),
         window: WINDOW,
         piece: PIECE,
     };
-    script.add_link(numbered_name(alloc, b"l", k)?, decl)?;
+    script.add_link(numbered_name(alloc, b'l', k)?, decl)?;
     add_plan(script, n, k, Side::First)?;
     add_plan(script, n, k, Side::Second)?;
     Ok(())
@@ -71,7 +71,7 @@ fn add_server(alloc: Global, script: &mut Script, k: u32) -> Result<(), NoMemory
     requires room { HasRoom script.old 1 }
     ensures { OnOk result (script.new ≡ with_actors script.old (server k ∷ [])) }
 {
-    script.add_actor(NodeNo(k + 1), serve(alloc, k)?)?;
+    script.add_actor(NodeNo(k + 1), server_commands(alloc, k)?)?;
     Ok(())
 }
 
@@ -82,7 +82,7 @@ fn add_client(alloc: Global, script: &mut Script, n: u32, k: u32, i: u32) -> Res
     requires room { HasRoom script.old 1 }
     ensures { OnOk result (script.new ≡ with_actors script.old (client n k i ∷ [])) }
 {
-    script.add_actor(NodeNo(k), consult(alloc, n, k, i)?)?;
+    script.add_actor(NodeNo(k), client_commands(alloc, n, k, i)?)?;
     Ok(())
 }
 
@@ -113,7 +113,7 @@ fn add_actors(alloc: Global, script: &mut Script, n: u32) -> Result<(), NoMemory
     Ok(())
 }
 
-/// The generated script of the number n. In no direction two packets in a row are lost.
+/// The generated script of the number n. In no direction two verdicts in a row lose.
 pub fn script(alloc: Global, n: u32) -> Result<Script, NoMemory>
     ensures is { IfOk result (λ s. s ≡ generated n) }
     ensures loses_apart { IfOk result (λ s. EachLosesApart s) }

@@ -1,6 +1,6 @@
 //! The generated load: for each number a script of four nodes in a row, with a link from each to
-//! the next that loses, repeats and exchanges packets as the number says. Over each link eight
-//! clients find a server, attach to it, and ask it a hundred times each.
+//! the next whose plans lose, repeat and exchange as the number says. Over each link eight clients
+//! find a server, attach to it, and ask it a hundred times each.
 #![tactic(auto)]
 
 mod acting;

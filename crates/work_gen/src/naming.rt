@@ -1,7 +1,6 @@
 //! The names of the load.
 
-ghost use Rattle.std.specs.Prelude.{◌≡◌, length, IfOk, IsTrue};
-ghost use Rattle.std.specs.List.{list_all};
+ghost use Rattle.std.specs.Prelude.{◌≡◌, [], ◌∷◌, IfOk, IsTrue};
 ghost use Rattle.linx_base.specs.NameText.{is_name, is_name_byte};
 ghost use Rattle.work_gen.specs.Generated.{numbered};
 
@@ -23,13 +22,12 @@ pub(crate) fn name_of(alloc: Global, text: &[u8]) -> Result<Name, NoMemory>
 
 /// The name of a letter and a number.
 #[tactic(auto, using(crate::proofs::Names::numbered_is_name))]
-pub(crate) fn numbered_name(alloc: Global, letter: &[u8], number: u32) -> Result<Name, NoMemory>
-    requires one { length letter.now ≡ 1 }
-    requires letter { IsTrue (list_all is_name_byte letter.now) }
-    ensures { IfOk result (λ name. name ≡ numbered letter.now number) }
+pub(crate) fn numbered_name(alloc: Global, letter: u8, number: u32) -> Result<Name, NoMemory>
+    requires { IsTrue (is_name_byte letter) }
+    ensures { IfOk result (λ name. name ≡ numbered (letter ∷ []) number) }
 {
     let mut buffer = Buffer::new();
-    let mut text = Vec::from_slice(alloc, letter)?;
+    let mut text = Vec::from_slice(alloc, &[letter])?;
     text.extend_from_slice(buffer.format(number).as_bytes())?;
     let name = name_of(alloc, &text)?;
     Ok(name)

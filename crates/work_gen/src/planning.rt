@@ -1,19 +1,19 @@
-//! What becomes of the packets of a link.
+//! The verdicts that a link's plans have.
 
 ghost use Rattle.std.specs.Prelude.{◌≡◌, OnOk};
-ghost use Rattle.script_lang.specs.Declaring.{with_verdicts};
-ghost use Rattle.work_gen.specs.Generated.{fates, nth_fate};
+ghost use Rattle.script_lang.specs.Parts.{with_verdicts};
+ghost use Rattle.work_gen.specs.Generated.{plan_of, nth_verdict};
 ghost use Rattle.work_gen.specs.Building.{IsUnplanned};
 
 use linx_base::{LinkNo, NoMemory, Side, Verdict};
 use script_lang::Script;
 
-/// The packets of a direction that are planned.
-const PLANNED: u32 = 200;
+/// The verdicts of a direction.
+const VERDICTS: u32 = 200;
 
-/// What becomes of the j-th packet of a direction of link k.
-fn fate_of(n: u32, k: u32, from: Side, j: u32) -> Verdict
-    ensures { result ≡ nth_fate n k from j }
+/// The j-th verdict of a direction of link k.
+fn nth_verdict(n: u32, k: u32, from: Side, j: u32) -> Verdict
+    ensures { result ≡ nth_verdict n k from j }
 {
     let shift = match from {
         Side::First => 0,
@@ -27,14 +27,14 @@ fn fate_of(n: u32, k: u32, from: Side, j: u32) -> Verdict
     }
 }
 
-/// Plans the packets of a direction of link k, which has no plan as yet.
+/// Adds the verdicts of a direction of link k, which has no plan as yet.
 pub(crate) fn add_plan(script: &mut Script, n: u32, k: u32, from: Side) -> Result<(), NoMemory>
     requires { IsUnplanned script.old k from }
     ensures { OnOk result
-        (script.new ≡ with_verdicts script.old (record { 0 = k }) from (fates n k from)) }
+        (script.new ≡ with_verdicts script.old (record { 0 = k }) from (plan_of n k from)) }
 {
-    for done in 0..PLANNED {
-        script.add_verdict(LinkNo(k), from, fate_of(n, k, from, done + 1))?;
+    for done in 0..VERDICTS {
+        script.add_verdict(LinkNo(k), from, nth_verdict(n, k, from, done + 1))?;
     }
     Ok(())
 }

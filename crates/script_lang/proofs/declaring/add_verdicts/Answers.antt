@@ -1,5 +1,17 @@
-use Rattle.script_lang.proofs.Verdicts.{room_more, plans_stay, verdicts_more}
+use Rattle.std.proofs.Common.{List, ap, ◌∙◌, arith}
+use Rattle.std.proofs.lemmas.List.{take_all}
+use Rattle.linx_base.specs.declared.frame.Verdict.{Verdict}
+use Rattle.script_lang.specs.Parts.{with_verdicts}
+use Rattle.script_lang.proofs.Verdicts.{room_more, plans_stay, verdicts_none, verdicts_more}
 use Rattle.script_lang.proofs.declaring.add_verdicts.Goals as goal
+
+pub loop-verdict-init : goal.loop-verdict-init
+loop-verdict-init c = record {
+  is = verdicts_none c.args.script c.args.link c.args.from;
+  link = c.requires.link;
+  place = c.requires.place;
+  room = omega arith;
+}
 
 pub loop-verdict-preserved : goal.loop-verdict-preserved
 loop-verdict-preserved c =
@@ -16,3 +28,9 @@ loop-verdict-preserved c =
       room = rw one (room_more s link from _ _ c.loop-verdict.verdict-index so_far.place
           so_far.room);
     }
+
+pub returns : goal.returns
+returns c =
+    c.loop-verdict.invariant.is
+    ∙ ap (λ (vs : List Verdict). with_verdicts c.args.script c.args.link c.args.from vs)
+    (take_all c.loop-verdict.verdict-index c.args.verdicts.now (omega arith))

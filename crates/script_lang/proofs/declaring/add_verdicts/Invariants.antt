@@ -1,7 +1,6 @@
 use Rattle.std.proofs.Common.{◌≡◌, ◌+◌, ◌-◌, ◌<◌, true, length, take}
-use Rattle.script_lang.specs.Parts.{planned_verdicts}
+use Rattle.script_lang.specs.Parts.{planned_verdicts, with_verdicts}
 use Rattle.script_lang.specs.Fits.{is_link}
-use Rattle.script_lang.specs.Declaring.{with_verdicts}
 use Rattle.script_lang.proofs.declaring.add_verdicts.Given as goal
 
 -- the verdicts so far stand behind those of the plan

@@ -1,6 +1,6 @@
 use Rattle.std.proofs.Common.{◌≡◌, ◌++◌}
-use Rattle.work_gen.specs.Copies.{copies}
-use Rattle.work_gen.proofs.acting.add_copies.Given as goal
+use Rattle.script_lang.specs.Copies.{copies}
+use Rattle.script_lang.proofs.copying.add_copies.Given as goal
 
 -- so many copies stand behind the others
 abbrev pub invariant-loop : goal.invariant-loop

@@ -1,5 +1,5 @@
 use Rattle.std.proofs.Common.{◌≡◌, ◌++◌, take}
-use Rattle.work_gen.proofs.acting.add_block.Given as goal
+use Rattle.script_lang.proofs.copying.add_block.Given as goal
 
 -- the commands so far stand behind the others
 abbrev pub invariant-loop-command : goal.invariant-loop-command

@@ -1,5 +1,5 @@
-use Rattle.work_gen.proofs.Lists.{copies_none, copies_on}
-use Rattle.work_gen.proofs.acting.add_copies.Goals as goal
+use Rattle.script_lang.proofs.Copies.{copies_none, copies_on}
+use Rattle.script_lang.proofs.copying.add_copies.Goals as goal
 
 pub loop-init : goal.loop-init
 loop-init c = copies_none c.args.commands.now c.args.block.now
