@@ -17,7 +17,7 @@ use Rattle.journal.specs.Shapes.{Shape}
 use Rattle.journal.specs.declared.effect.Step.{Step}
 use Rattle.journal.proofs.Openings.{same_inc-true}
 use Rattle.link_laws.specs.Ends.{IsLinkOf, node_at}
-use Rattle.link_laws.specs.Fabric.{AllLinked, AllPublishedOpen, Trunks, with_side}
+use Rattle.link_laws.specs.Sides.{AllLinked, AllPublishedOpen, Trunks, with_side}
 use Rattle.link_laws.specs.Linked.{IsLinked, IsTrueOf}
 use Rattle.link_laws.specs.Moves.{questions}
 use Rattle.link_laws.specs.Promises.{ArePublishedOpen}

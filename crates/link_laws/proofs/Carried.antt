@@ -26,9 +26,9 @@ use Rattle.journal.specs.Shapes.{Shape}
 use Rattle.journal.specs.Traffic.{arrived_from}
 use Rattle.journal.specs.declared.effect.Step.{Step}
 use Rattle.journal.proofs.Lists.{all-first_match}
-use Rattle.link_laws.specs.Brought.{IsFront}
+use Rattle.linx_base.specs.Fronts.{IsFront}
 use Rattle.link_laws.specs.Ends.{node_at}
-use Rattle.link_laws.specs.Fabric.{AllLinked, AllTrunks, Trunks}
+use Rattle.link_laws.specs.Sides.{AllLinked, AllTrunks, Trunks}
 use Rattle.link_laws.specs.Linked.{is_session, IsLinked, IsTrueOf, SaysTruly}
 use Rattle.link_laws.specs.Promises.{AllCarried, GotAll, GotFront, IsCarried, has_parted}
 use Rattle.link_laws.specs.Sessions.{paired_session}

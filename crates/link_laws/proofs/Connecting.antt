@@ -26,7 +26,7 @@ use Rattle.journal.specs.declared.effect.Step.{Step}
 use Rattle.journal.specs.declared.head.Head.TheVariants.{Wire}
 use Rattle.link_laws.specs.Brought.{Brought, brought_at, goes_up, goes_down}
 use Rattle.link_laws.specs.Ends.{node_at, IsLinkOf, HasTwoEnds}
-use Rattle.link_laws.specs.Fabric.{Trunks, with_side, AllLinked}
+use Rattle.link_laws.specs.Sides.{Trunks, with_side, AllLinked}
 use Rattle.link_laws.specs.Laws.{delivers, IsLegalStep}
 use Rattle.link_laws.specs.Linked.{IsLinked}
 use Rattle.link_laws.specs.Sessions.{is_cut}

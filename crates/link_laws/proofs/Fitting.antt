@@ -17,7 +17,7 @@ use Rattle.trunk_record.proofs.Sayings.{live-published, proper-before}
 use Rattle.journal.specs.Living.{is_alive}
 use Rattle.journal.specs.declared.effect.Step.{Step}
 use Rattle.link_laws.specs.Ends.{node_at}
-use Rattle.link_laws.specs.Fabric.{records_of}
+use Rattle.link_laws.specs.Sides.{records_of}
 use Rattle.link_laws.specs.Fits.{FitsBoth, FitsNext, FitsSide, RunsFit}
 use Rattle.link_laws.specs.Linked.{IsLinked}
 use Rattle.link_laws.specs.Moves.{IsTold}

@@ -17,7 +17,7 @@ use Rattle.journal.specs.declared.head.Head.{Head}
 use Rattle.journal.proofs.Openings.{IsShort}
 use Rattle.link_laws.specs.Came.{signal_in}
 use Rattle.link_laws.specs.Ends.{HasTwoEnds, node_at}
-use Rattle.link_laws.specs.Fabric.{AllLinked, AreLinksKept, Links, records_of}
+use Rattle.link_laws.specs.Sides.{AllLinked, AreLinksKept, Links, records_of}
 use Rattle.link_laws.specs.Laws.{IsLegal, IsLegalStep}
 use Rattle.link_laws.specs.Linked.{IsUnfound, is_hunted}
 use Rattle.link_laws.specs.Moves.{AllLeft, KeepsNodeLaws}

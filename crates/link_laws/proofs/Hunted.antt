@@ -29,7 +29,7 @@ use Rattle.journal.specs.declared.effect.Step.{Step}
 use Rattle.journal.proofs.Lists.{list_any-filter}
 use Rattle.journal.proofs.Openings.{same_inc-true}
 use Rattle.link_laws.specs.Ends.{IsLinkOf, node_at}
-use Rattle.link_laws.specs.Fabric.{AllHunted, Links, SideState, with_state}
+use Rattle.link_laws.specs.Sides.{AllHunted, Links, SideState, with_state}
 use Rattle.link_laws.specs.Linked.{AreHunted, HasNone, IsTalking, Stands, asking, asks, coming}
 use Rattle.link_laws.specs.Linked.{offers, waiting}
 use Rattle.link_laws.specs.Sessions.{same_side}

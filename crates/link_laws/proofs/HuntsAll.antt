@@ -20,8 +20,8 @@ use Rattle.journal.specs.History.{opened_by, opened_in}
 use Rattle.journal.specs.Shapes.{Shape}
 use Rattle.journal.specs.declared.effect.Step.{Step}
 use Rattle.link_laws.specs.Ends.{HasTwoEnds, IsLinkOf, node_at}
-use Rattle.link_laws.specs.Fabric.{AllHunted, AllTrunks, Links, SideState, Trunks, records_of}
-use Rattle.link_laws.specs.Fabric.{with_state}
+use Rattle.link_laws.specs.Sides.{AllHunted, AllTrunks, Links, SideState, Trunks, records_of}
+use Rattle.link_laws.specs.Sides.{with_state}
 use Rattle.link_laws.specs.Linked.{AreHunted, HasNone, IsTalking, is_hunted}
 use Rattle.link_laws.specs.Moves.{AsksOver, IsLeft, Opens, OpensAt}
 use Rattle.link_laws.specs.Moves.{PublishesOpened, RestartsAt, is_up, is_wanted, opening_side}

@@ -19,7 +19,7 @@ use Rattle.journal.specs.Living.{is_alive}
 use Rattle.journal.specs.Shapes.{Shape}
 use Rattle.journal.specs.declared.effect.Step.{Step}
 use Rattle.link_laws.specs.Ends.{IsLinkOf, node_at}
-use Rattle.link_laws.specs.Fabric.{AllHunted, Links, SideState, with_state}
+use Rattle.link_laws.specs.Sides.{AllHunted, Links, SideState, with_state}
 use Rattle.link_laws.specs.Linked.{AreHunted, HasNone, IsLinked, IsUnfound, Stands, asking, asks}
 use Rattle.link_laws.specs.Linked.{coming, is_hunted, waiting}
 use Rattle.link_laws.specs.Moves.{KeepsNotes, NotesName, questions}

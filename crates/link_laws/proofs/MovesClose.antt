@@ -28,7 +28,7 @@ use Rattle.journal.specs.declared.head.Head.{Head}
 use Rattle.journal.specs.declared.head.Head.TheVariants.{Close, Ended}
 use Rattle.link_laws.specs.Came.{signal_in}
 use Rattle.link_laws.specs.Ends.{IsLinkOf, node_at}
-use Rattle.link_laws.specs.Fabric.{Links, records_of}
+use Rattle.link_laws.specs.Sides.{Links, records_of}
 use Rattle.link_laws.specs.Moves.{AllLeft, Closes, Ends, KeepsNodeLaws}
 use Rattle.link_laws.specs.Promises.{PromisesOf}
 use Rattle.link_laws.specs.Sessions.{restarts}

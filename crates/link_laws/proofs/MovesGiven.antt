@@ -31,8 +31,8 @@ use Rattle.journal.specs.declared.effect.Step.{Step}
 use Rattle.journal.specs.declared.head.Head.TheVariants.{Wire}
 use Rattle.link_laws.specs.Brought.{brought_at}
 use Rattle.link_laws.specs.Ends.{IsLinkOf, node_at}
-use Rattle.link_laws.specs.Fabric.{AllHunted, AllLinked, AllPublishedOpen, Links, SideState}
-use Rattle.link_laws.specs.Fabric.{records_of, with_side, with_state}
+use Rattle.link_laws.specs.Sides.{AllHunted, AllLinked, AllPublishedOpen, Links, SideState}
+use Rattle.link_laws.specs.Sides.{records_of, with_side, with_state}
 use Rattle.link_laws.specs.Laws.{IsLegalStep, delivers}
 use Rattle.link_laws.specs.Linked.{HasNone, IsLinked, asks, is_session, offers, shown_by}
 use Rattle.link_laws.specs.Moves.{Gives, IsRecorded, IsTold, KeepsNotes, NotesName}

@@ -35,7 +35,7 @@ use Rattle.journal.specs.declared.effect.Step.{Step}
 use Rattle.journal.specs.declared.head.Head.TheVariants.{Hunt}
 use Rattle.journal.proofs.Lists.{list_any-filter}
 use Rattle.link_laws.specs.Ends.{node_at}
-use Rattle.link_laws.specs.Fabric.{Links}
+use Rattle.link_laws.specs.Sides.{Links}
 use Rattle.link_laws.specs.Linked.{IsTrueOf, is_hunted}
 use Rattle.link_laws.specs.Moves.{AllLeft, AsksOver, Hunts, KeepsNodeLaws, is_up}
 use Rattle.link_laws.specs.Still.{is_hunt_over}

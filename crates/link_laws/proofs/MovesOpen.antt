@@ -33,7 +33,7 @@ use Rattle.journal.specs.declared.effect.Step.{Step}
 use Rattle.journal.specs.declared.head.Head.TheVariants.{Open}
 use Rattle.journal.proofs.Openings.{next_on, same_inc-true}
 use Rattle.link_laws.specs.Ends.{IsLinkOf, node_at}
-use Rattle.link_laws.specs.Fabric.{Links, records_of}
+use Rattle.link_laws.specs.Sides.{Links, records_of}
 use Rattle.link_laws.specs.Laws.{IsLegalStep}
 use Rattle.link_laws.specs.Linked.{HasNone}
 use Rattle.link_laws.specs.Moves.{KeepsNodeLaws, Opens, OpensAt, is_up, is_wanted}

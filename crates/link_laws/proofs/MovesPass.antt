@@ -14,7 +14,7 @@ use Rattle.journal.specs.declared.effect.Step.{Step}
 use Rattle.journal.specs.declared.head.Head.TheVariants.{Tick, Wire}
 use Rattle.link_laws.specs.Brought.{nothing}
 use Rattle.link_laws.specs.Ends.{IsLinkOf, node_at}
-use Rattle.link_laws.specs.Fabric.{Links, records_of}
+use Rattle.link_laws.specs.Sides.{Links, records_of}
 use Rattle.link_laws.specs.Laws.{IsHandedOver, delivers, stays}
 use Rattle.link_laws.specs.Moves.{AllLeft, Delivers, HandsOver, IsLeft, IsTicked, KeepsNodeLaws}
 use Rattle.link_laws.specs.Moves.{OthersLeft, Passes, TicksAt, TicksOver, brings_down}

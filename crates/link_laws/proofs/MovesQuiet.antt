@@ -30,7 +30,7 @@ use Rattle.journal.specs.declared.head.Head.TheVariants.{Mend, Refused, Restart,
 use Rattle.journal.specs.declared.head.Head.TheVariants.{Take, TakeNone, Waits, Wire}
 use Rattle.link_laws.specs.Came.{signal_in}
 use Rattle.link_laws.specs.Ends.{node_at}
-use Rattle.link_laws.specs.Fabric.{AreLinksKept, Links}
+use Rattle.link_laws.specs.Sides.{AreLinksKept, Links}
 use Rattle.link_laws.specs.Laws.{HasEffects}
 use Rattle.link_laws.specs.Moves.{AllLeft, AllResting, FindsNone, IsResting, KeepsNodeLaws}
 use Rattle.link_laws.specs.Moves.{cut as rests_cut, quiet as rests_quiet}

@@ -26,7 +26,7 @@ use Rattle.journal.specs.declared.effect.Step.{Step}
 use Rattle.journal.specs.declared.head.Head.TheVariants.{Restart}
 use Rattle.journal.proofs.Lists.{all-impl}
 use Rattle.link_laws.specs.Ends.{IsLinkOf, node_at}
-use Rattle.link_laws.specs.Fabric.{AllPublishedOpen, AllTrunks, Links, records_of}
+use Rattle.link_laws.specs.Sides.{AllPublishedOpen, AllTrunks, Links, records_of}
 use Rattle.link_laws.specs.Laws.{downs_of, restarting}
 use Rattle.link_laws.specs.Moves.{KeepsNodeLaws, Restarts, RestartsAt}
 use Rattle.link_laws.specs.Promises.{ArePublishedOpen, ups}

@@ -16,7 +16,7 @@ use Rattle.journal.specs.Living.{is_alive}
 use Rattle.journal.specs.Shapes.{Shape}
 use Rattle.journal.specs.declared.effect.Step.{Step}
 use Rattle.link_laws.specs.Ends.{HasTwoEnds, IsLinkOf, node_at}
-use Rattle.link_laws.specs.Fabric.{AllHunted, AllLinked, AreLinksKept, Links, records_of, with_side}
+use Rattle.link_laws.specs.Sides.{AllHunted, AllLinked, AreLinksKept, Links, records_of, with_side}
 use Rattle.link_laws.specs.Linked.{IsTrueOf}
 use Rattle.link_laws.specs.Moves.{OthersLeft}
 use Rattle.link_laws.specs.Sessions.{tells_heard}

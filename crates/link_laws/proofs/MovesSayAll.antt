@@ -12,7 +12,7 @@ use Rattle.trunk_record.proofs.Changes.{half_of_saying}
 use Rattle.journal.specs.Shapes.{Shape}
 use Rattle.journal.specs.declared.effect.Step.{Step}
 use Rattle.link_laws.specs.Ends.{IsLinkOf, node_at}
-use Rattle.link_laws.specs.Fabric.{AllPublishedOpen, AllTrunks, Trunks}
+use Rattle.link_laws.specs.Sides.{AllPublishedOpen, AllTrunks, Trunks}
 use Rattle.link_laws.specs.Promises.{ArePublishedOpen}
 use Rattle.link_laws.proofs.MovesSay.{SaysWell, says_half}
 use Rattle.link_laws.proofs.Promised.{IsOpenNow, published-saying}

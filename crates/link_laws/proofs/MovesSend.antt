@@ -30,7 +30,7 @@ use Rattle.journal.specs.declared.head.SentTo.{SentTo}
 use Rattle.journal.specs.declared.head.SentTo.TheVariants.{Dead, Link, Queued}
 use Rattle.link_laws.specs.Came.{signal_in}
 use Rattle.link_laws.specs.Ends.{node_at}
-use Rattle.link_laws.specs.Fabric.{AllLinked, Links, records_of, with_side}
+use Rattle.link_laws.specs.Sides.{AllLinked, Links, records_of, with_side}
 use Rattle.link_laws.specs.Fits.{CanSend}
 use Rattle.link_laws.specs.Laws.{IsLegalStep}
 use Rattle.link_laws.specs.Linked.{IsLinked}

@@ -31,8 +31,8 @@ use Rattle.journal.specs.declared.head.Head.TheVariants.{Tick, Wire}
 use Rattle.journal.proofs.Lists.{all-impl}
 use Rattle.link_laws.specs.Brought.{brought_at, goes_down, goes_up}
 use Rattle.link_laws.specs.Ends.{IsLinkOf, node_at}
-use Rattle.link_laws.specs.Fabric.{AllLinked, Links, records_of}
-use Rattle.link_laws.specs.Fabric.{with_side}
+use Rattle.link_laws.specs.Sides.{AllLinked, Links, records_of}
+use Rattle.link_laws.specs.Sides.{with_side}
 use Rattle.link_laws.specs.Laws.{IsLegalStep, delivers}
 use Rattle.link_laws.specs.Linked.{IsLinked}
 use Rattle.link_laws.specs.Linked.{is_hunted}

@@ -8,7 +8,7 @@ use Rattle.trunk_record.specs.Changes.{fresh}
 use Rattle.trunk_record.specs.Records.{given_of, has_session, peer_of, said_of}
 use Rattle.trunk_record.specs.Sayings.{is_shown, is_signal}
 use Rattle.journal.specs.Shapes.{Shape}
-use Rattle.link_laws.specs.Fabric.{AreLinksKept, Links, records_of}
+use Rattle.link_laws.specs.Sides.{AreLinksKept, Links, records_of}
 use Rattle.link_laws.specs.Linked.{AreHunted, IsLinked}
 use Rattle.link_laws.specs.Runs.{AreFirst, first_side, first_state}
 use Rattle.trunk_record.proofs.Changes.{half_new}

@@ -19,8 +19,8 @@ use Rattle.journal.specs.declared.effect.Effect.TheVariants.{Arrived, Found, Gon
 use Rattle.journal.specs.declared.effect.Effect.TheVariants.{Up}
 use Rattle.journal.specs.declared.effect.Step.{Step}
 use Rattle.link_laws.specs.Ends.{HasTwoEnds, IsLinkOf, node_at}
-use Rattle.link_laws.specs.Fabric.{AllHunted, AllLinked, AllPublishedOpen, AreLinksKept}
-use Rattle.link_laws.specs.Fabric.{Links, Trunks, records_of, with_side, with_state}
+use Rattle.link_laws.specs.Sides.{AllHunted, AllLinked, AllPublishedOpen, AreLinksKept}
+use Rattle.link_laws.specs.Sides.{Links, Trunks, records_of, with_side, with_state}
 use Rattle.link_laws.specs.Moves.{AllLeft, OthersLeft, is_side}
 use Rattle.link_laws.specs.Promises.{ups}
 use Rattle.link_laws.specs.Sessions.{same_side, silent_ticks, tells_heard}

@@ -27,7 +27,7 @@ use Rattle.journal.specs.declared.head.Head.TheVariants.{Send}
 use Rattle.journal.specs.declared.head.SentTo.TheVariants.{Link}
 use Rattle.link_laws.specs.Came.{signal_in}
 use Rattle.link_laws.specs.Ends.{node_at, IsLinkOf, HasTwoEnds}
-use Rattle.link_laws.specs.Fabric.{Trunks, with_side, AllLinked}
+use Rattle.link_laws.specs.Sides.{Trunks, with_side, AllLinked}
 use Rattle.link_laws.specs.Linked.{IsLinked}
 use Rattle.link_laws.specs.Moves.{closing_side}
 use Rattle.link_laws.specs.Sessions.{restarts}

@@ -31,7 +31,7 @@ use Rattle.journal.specs.declared.effect.Step.{Step}
 use Rattle.journal.specs.declared.head.Head.TheVariants.{Wire}
 use Rattle.link_laws.specs.Brought.{MayBring, brought_at}
 use Rattle.link_laws.specs.Ends.{node_at, IsLinkOf, HasTwoEnds}
-use Rattle.link_laws.specs.Fabric.{Trunks, with_side, AllLinked}
+use Rattle.link_laws.specs.Sides.{Trunks, with_side, AllLinked}
 use Rattle.link_laws.specs.Laws.{delivers, IsLegalStep}
 use Rattle.link_laws.specs.Linked.{IsLinked, shown_by, IsAt}
 use Rattle.link_laws.specs.Moves.{brought_of}

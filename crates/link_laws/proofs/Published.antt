@@ -13,7 +13,7 @@ use Rattle.journal.specs.Shapes.{Shape}
 use Rattle.journal.specs.declared.effect.Effect.TheVariants.{Up}
 use Rattle.journal.specs.declared.effect.Step.{Step}
 use Rattle.link_laws.specs.Ends.{HasTwoEnds, IsLinkOf, node_at}
-use Rattle.link_laws.specs.Fabric.{AllPublishedOpen, Trunks, with_side}
+use Rattle.link_laws.specs.Sides.{AllPublishedOpen, Trunks, with_side}
 use Rattle.link_laws.specs.Promises.{ArePublishedOpen, ups}
 use Rattle.link_laws.proofs.Promised.{IsOpenNow, earlier-stay, published-saying, published-step}
 use Rattle.link_laws.proofs.Promised.{published-up}

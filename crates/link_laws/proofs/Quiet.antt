@@ -31,7 +31,7 @@ use Rattle.journal.specs.declared.head.Head.TheVariants.{Open, Tick}
 use Rattle.link_laws.specs.Brought.{was_opened}
 use Rattle.link_laws.specs.Came.{signal_in}
 use Rattle.link_laws.specs.Ends.{node_at, IsLinkOf, HasTwoEnds}
-use Rattle.link_laws.specs.Fabric.{Trunks, with_side, AllLinked}
+use Rattle.link_laws.specs.Sides.{Trunks, with_side, AllLinked}
 use Rattle.link_laws.specs.Laws.{IsLegalStep}
 use Rattle.link_laws.specs.Linked.{IsLinked}
 use Rattle.link_laws.specs.Moves.{opening_side}

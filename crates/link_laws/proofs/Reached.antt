@@ -25,11 +25,11 @@ use Rattle.journal.specs.declared.head.Head.TheVariants.{Restart, Tick, Wire}
 use Rattle.link_laws.specs.Brought.{Brought, arrives, brought_at, goes_down, goes_up, meets}
 use Rattle.link_laws.specs.Brought.{nothing, parts}
 use Rattle.link_laws.specs.Ends.{IsLinkOf, node_at}
-use Rattle.link_laws.specs.Fabric.{Links}
+use Rattle.link_laws.specs.Sides.{Links}
 use Rattle.link_laws.specs.Laws.{HasEffects, IsHandedOver, IsLegal, IsLegalStep, KeepsPackets}
 use Rattle.link_laws.specs.Laws.{KeepsTicks, delivers}
 use Rattle.link_laws.specs.Moves.{Moves}
-use Rattle.link_laws.specs.Runs.{IsRun, IsWholeRun}
+use Rattle.link_laws.specs.Runs.{IsRun, IsBoundedRun}
 use Rattle.link_laws.proofs.Away.{same_peer-is}
 use Rattle.link_laws.proofs.Meetings.{effects-meet_none, is_meeting, restarting-meets_none}
 use Rattle.link_laws.proofs.Meetings.{tick-meets_none}
@@ -154,7 +154,7 @@ run-of_shape shape (s ∷ P) after run = (
 )
 
 -- so whom a node reaches over a link is over one that it is an end of
-pub run-reached : (shape : Shape) (P : List Step) (links : Links) → IsWholeRun shape P links
+pub run-reached : (shape : Shape) (P : List Step) (links : Links) → IsBoundedRun shape P links
     → (n : ℕ) (l : LinkNo) (x : Session) (b : Inc) → is_alive P n (There l x b) ≡ true
     → IsEndOf shape n l
 run-reached shape P links whole =

@@ -31,7 +31,7 @@ use Rattle.journal.specs.declared.effect.Step.{Step}
 use Rattle.journal.specs.declared.head.Head.TheVariants.{Restart}
 use Rattle.link_laws.specs.Came.{signal_in}
 use Rattle.link_laws.specs.Ends.{node_at, IsLinkOf}
-use Rattle.link_laws.specs.Fabric.{Trunks, AllLinked}
+use Rattle.link_laws.specs.Sides.{Trunks, AllLinked}
 use Rattle.link_laws.specs.Laws.{down_if, downs_of}
 use Rattle.link_laws.specs.Linked.{IsLinked}
 use Rattle.link_laws.specs.Sessions.{boots}

@@ -13,11 +13,12 @@ use Rattle.journal.specs.declared.head.Head.TheVariants.{Close, Ended, Hunt, Ope
 use Rattle.journal.specs.declared.head.Head.TheVariants.{TakeNone, Tick, Wire}
 use Rattle.journal.proofs.Openings.{IsShort}
 use Rattle.link_laws.specs.Ends.{HasTwoEnds, node_at}
-use Rattle.link_laws.specs.Fabric.{AreLinksKept, Links, records_of}
+use Rattle.link_laws.specs.Sides.{AreLinksKept, Links, records_of}
 use Rattle.link_laws.specs.Laws.{IsLegal}
 use Rattle.link_laws.specs.Moves.{IsMove, KeepsNodeLaws, Moves}
 use Rattle.link_laws.specs.Promises.{KeepsLinkPromises}
-use Rattle.link_laws.specs.Runs.{IsRun, IsWholeRun, NothingVanishesThere}
+use Rattle.link_laws.specs.Runs.{IsBoundedRun, IsRun, KeepsPromises, KeepsThroughout}
+use Rattle.link_laws.specs.Runs.{NothingVanishesThere}
 use Rattle.link_laws.specs.Runs.{RunsAreLegal, RunsKeepPromises}
 use Rattle.link_laws.proofs.Carried.{all_carried}
 use Rattle.link_laws.proofs.Good.{IsGood, IsKnown, step_of}
@@ -93,7 +94,7 @@ run_kept shape two (s ∷ P) after fits run =
       promised = (was.promised, good.promised);
     }
 
-has_kept : (shape : Shape) (P : List Step) (links : Links) → IsWholeRun shape P links
+has_kept : (shape : Shape) (P : List Step) (links : Links) → IsBoundedRun shape P links
     → HasKept shape P links
 has_kept shape P links whole = run_kept shape whole.two_ends P links whole.fits whole.run
 
@@ -114,8 +115,10 @@ vanishes_none shape P links kept l of_shape side quiet a b on open_ =
 short : (P : List Step) → length P ≤ step_limit → IsShort P
 short P fits = omega arith
 
-pub runs_keep_promises : RunsKeepPromises
-runs_keep_promises shape P links whole =
+-- what is promised of the last state
+promises_now : (shape : Shape) (P : List Step) (links : Links) → IsBoundedRun shape P links
+    → KeepsPromises shape P links
+promises_now shape P links whole =
     let kept = has_kept shape P links whole in
     record {
       nodes = keeps-node_promises shape P kept.legal (short P whole.fits);
@@ -125,3 +128,23 @@ runs_keep_promises shape P links whole =
       vanishes_none = vanishes_none shape P links kept.kept;
       still = resting_still shape P links kept.kept;
     }
+
+-- and of each state before it, since each front of a run is a run
+throughout : (shape : Shape) → HasTwoEnds shape → (P : List Step) (links : Links)
+    → length P ≤ step_limit → IsRun shape P links → KeepsThroughout shape P links
+throughout shape two [] links fits first =
+    (promises_now shape [] links (record { two_ends = two; fits = fits; run = first }), first)
+throughout shape two (s ∷ P) after fits run = (
+  promises_now shape (s ∷ P) after (record { two_ends = two; fits = fits; run = run }),
+  (run.0, (throughout shape two P run.0 (omega arith) run.1.0, run.1.1)),
+)
+
+pub runs_keep_promises : RunsKeepPromises
+runs_keep_promises shape P links whole =
+    throughout shape whole.two_ends P links whole.fits whole.run
+
+-- WHAT IS PROMISED THROUGHOUT is promised now
+pub promised_now : (shape : Shape) (P : List Step) (links : Links) → KeepsThroughout shape P links
+    → KeepsPromises shape P links
+promised_now shape [] links kept = kept.0
+promised_now shape (s ∷ P) links kept = kept.0

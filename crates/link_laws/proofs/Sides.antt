@@ -25,7 +25,7 @@ use Rattle.journal.specs.declared.effect.Step.{Step}
 use Rattle.journal.specs.declared.head.Head.{Head}
 use Rattle.link_laws.specs.Came.{signal_in}
 use Rattle.link_laws.specs.Ends.{node_at, IsLinkOf, HasTwoEnds}
-use Rattle.link_laws.specs.Fabric.{Trunks, with_side, AllLinked}
+use Rattle.link_laws.specs.Sides.{Trunks, with_side, AllLinked}
 use Rattle.link_laws.specs.Linked.{IsLinked, shown_by, IsAt}
 use Rattle.link_laws.specs.Moves.{is_side}
 use Rattle.link_laws.specs.Sessions.{same_side}

@@ -26,14 +26,14 @@ use Rattle.journal.specs.declared.effect.Step.{Step}
 use Rattle.journal.specs.declared.head.Head.TheVariants.{Cut, Hunt, Restart, TakeNone, Tick, Wire}
 use Rattle.journal.proofs.Playing.{at_rest, closes, endpoint_kept, ends, made, made_by, note, opens}
 use Rattle.link_laws.specs.Ends.{IsLinkOf, node_at}
-use Rattle.link_laws.specs.Fabric.{Links, SideState}
+use Rattle.link_laws.specs.Sides.{Links, SideState}
 use Rattle.link_laws.specs.Laws.{IsLegal}
 use Rattle.link_laws.specs.Linked.{is_hunted}
 use Rattle.link_laws.specs.Moves.{IsResting, quiet}
 use Rattle.link_laws.specs.Moves.{ClosesAt, IsLeft, IsMove, KeepsNodeLaws, OpensAt, OthersLeft}
 use Rattle.link_laws.specs.Moves.{RestartsAt, brings_down, brings_up, gives, loses_it, publishes}
 use Rattle.link_laws.specs.Moves.{ticks_on}
-use Rattle.link_laws.specs.Runs.{IsRun, IsWholeRun, first_state}
+use Rattle.link_laws.specs.Runs.{IsRun, IsBoundedRun, first_state}
 use Rattle.link_laws.specs.Still.{IsStill, whole}
 use Rattle.link_laws.proofs.Names.{bytes_eq-is, bytes_eq-itself}
 use Rattle.link_laws.proofs.Playing.{a, b, back, down, gone_at, l, met_at, posts, pump, pumped}
@@ -463,7 +463,7 @@ parting_comes = record {
 }
 
 -- SO IT IS A RUN, and is legal
-whole_run : IsWholeRun two_ends one_gone (pair having_closed having_parted)
+whole_run : IsBoundedRun two_ends one_gone (pair having_closed having_parted)
 whole_run = record {
   two_ends = λ k of_shape side. each (λ h at. (node_at two_ends h at
       == node_at two_ends h (other_of at)) ≡ false) refl refl k of_shape side;
@@ -525,7 +525,7 @@ none_is_found = record {
   };
 }
 
-resting_run : IsWholeRun two_ends (finds_it_none ∷ one_ended) all_heard
+resting_run : IsBoundedRun two_ends (finds_it_none ∷ one_ended) all_heard
 resting_run = record {
   two_ends = whole_run.two_ends;
   fits = omega arith;

@@ -2,6 +2,7 @@
 use Rattle.std.specs.Prelude.{ℕ, ◌==◌, ◌≡◌, ◌<◌, Bool, true, false, ◌&&◌, List, [], ◌∷◌, ◌++◌, Some}
 use Rattle.std.specs.Prelude.{None, IsSomeAnd}
 use Rattle.std.specs.List.{list_any, AllByRecursion}
+use Rattle.linx_base.specs.Fronts.{IsFront}
 use Rattle.linx_base.specs.Numbers.{is_on}
 use Rattle.linx_base.specs.Peers.{same_inc, same_peer}
 use Rattle.linx_base.specs.declared.identity.Inc.{Inc}
@@ -50,10 +51,6 @@ brought_by (Arrived b (There l x a) note ∷ rest) = arrives x a b note
 brought_by (Met n (There l x a) name ∷ rest) = meets x a name
 brought_by (Gone n (There l x a) ∷ rest) = parts x a
 brought_by _ = nothing
-
--- the first list is the front of the second
-abbrev pub IsFront : {X : Type 0} → List X → List X → Type 0
-IsFront xs ys = (later : List _) × (ys ≡ xs ++ later)
 
 -- the incarnation was opened on the node, closed or not
 abbrev pub was_opened : List Step → ℕ → Inc → Bool

@@ -14,9 +14,9 @@ use Rattle.journal.specs.Living.{is_alive}
 use Rattle.journal.specs.Shapes.{Shape}
 use Rattle.journal.specs.declared.effect.Step.{Step}
 use Rattle.link_laws.specs.Ends.{IsLinkOf, node_at}
-use Rattle.link_laws.specs.Fabric.{Links}
+use Rattle.link_laws.specs.Sides.{Links}
 use Rattle.link_laws.specs.Moves.{IsTold}
-use Rattle.link_laws.specs.Runs.{IsWholeRun}
+use Rattle.link_laws.specs.Runs.{IsBoundedRun}
 
 -- WHAT A NODE IS GIVEN FITS IT: whom it meets is no living peer as yet, a signal arrives at an open
 -- endpoint from a living peer and is freed where its receiver is closed, and who goes was alive
@@ -50,6 +50,6 @@ pub record FitsBoth (P : List Step) (n : ℕ) (l : LinkNo) (A B : SideRecord) : 
   pub node : FitsNext P n l A B
 
 abbrev pub RunsFit : Type 0
-RunsFit = (shape : Shape) (P : List Step) (links : Links) → IsWholeRun shape P links
+RunsFit = (shape : Shape) (P : List Step) (links : Links) → IsBoundedRun shape P links
     → (l : LinkNo) → IsLinkOf shape l → (side : Side)
     → FitsBoth P (node_at shape l side) l (links l.0 side).side (links l.0 (other_of side)).side

@@ -6,7 +6,7 @@ pub mod Still
 pub mod Laws
 pub mod Linked
 pub mod Promises
-pub mod Fabric
+pub mod Sides
 pub mod Moves
 pub mod Runs
 pub mod Fits

@@ -42,7 +42,7 @@ use Rattle.link_laws.specs.Brought.{Brought, arrives, brought_at, goes_down, goe
 use Rattle.link_laws.specs.Brought.{nothing}
 use Rattle.link_laws.specs.Brought.{parts}
 use Rattle.link_laws.specs.Ends.{IsLinkOf, node_at}
-use Rattle.link_laws.specs.Fabric.{Links, SideState}
+use Rattle.link_laws.specs.Sides.{Links, SideState}
 use Rattle.link_laws.specs.Laws.{HasEffects, actors_alone, delivers}
 use Rattle.link_laws.specs.Linked.{HasNone, is_hunted}
 use Rattle.link_laws.specs.Promises.{IsNotAbove}

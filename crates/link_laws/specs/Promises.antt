@@ -22,7 +22,7 @@ use Rattle.journal.specs.declared.effect.Effect.TheVariants.{Arrived, Gone, Met,
 use Rattle.journal.specs.declared.effect.Step.{Step}
 use Rattle.journal.specs.declared.head.Head.{Head}
 use Rattle.journal.specs.declared.head.Head.TheVariants.{Wire}
-use Rattle.link_laws.specs.Brought.{IsFront}
+use Rattle.linx_base.specs.Fronts.{IsFront}
 use Rattle.link_laws.specs.Ends.{IsLinkOf, node_at}
 use Rattle.link_laws.specs.Sessions.{paired_session}
 

@@ -1,4 +1,4 @@
--- A whole run, step by step, and what holds of it.
+-- A run, step by step, and what holds of it.
 use Rattle.std.specs.Prelude.{ℕ, ◌≡◌, ◌≤◌, true, List, [], ◌∷◌, length}
 use Rattle.linx_base.specs.Numbers.{first_session, is_on}
 use Rattle.linx_base.specs.Sides.{other_of}
@@ -16,7 +16,7 @@ use Rattle.journal.specs.Shapes.{Shape}
 use Rattle.journal.specs.Traffic.{arrived_from, sent_to}
 use Rattle.journal.specs.declared.effect.Step.{Step}
 use Rattle.link_laws.specs.Ends.{HasTwoEnds, IsLinkOf, node_at}
-use Rattle.link_laws.specs.Fabric.{AreLinksKept, Links, SideState}
+use Rattle.link_laws.specs.Sides.{AreLinksKept, Links, SideState}
 use Rattle.link_laws.specs.Laws.{IsLegal}
 use Rattle.link_laws.specs.Linked.{IsUnfound, is_hunted}
 use Rattle.link_laws.specs.Moves.{AllResting, IsLeft, IsMove}
@@ -42,8 +42,8 @@ IsRun shape [] links = AreFirst shape links
 IsRun shape (s ∷ P) after =
     (before : Links) × (IsRun shape P before × IsMove shape P before s after)
 
--- a run on links between two nodes each, with no more steps than a journal takes
-pub record IsWholeRun (shape : Shape) (P : List Step) (links : Links) : Type 0 where
+-- A RUN WITHIN BOUNDS: on links between two nodes each, with no more steps than a journal takes
+pub record IsBoundedRun (shape : Shape) (P : List Step) (links : Links) : Type 0 where
   pub two_ends : HasTwoEnds shape
   pub fits : length P ≤ step_limit
   pub run : IsRun shape P links
@@ -55,7 +55,7 @@ pub record IsSound (shape : Shape) (P : List Step) (links : Links) : Type 0 wher
 
 -- EVERY RUN IS
 abbrev pub RunsAreLegal : Type 0
-RunsAreLegal = (shape : Shape) (P : List Step) (links : Links) → IsWholeRun shape P links
+RunsAreLegal = (shape : Shape) (P : List Step) (links : Links) → IsBoundedRun shape P links
     → IsSound shape P links
 
 -- NOTHING VANISHES. Where the trunk of a link is quiet, an open endpoint has got all that anybody
@@ -75,7 +75,7 @@ NothingVanishesThere shape P links = (l : LinkNo) → IsLinkOf shape l → (side
 abbrev pub AllUnfound : List Step → Type 0
 AllUnfound P = (n : ℕ) (l : LinkNo) (v : List ℕ) → is_hunted P n l v ≡ true → IsUnfound P n l v
 
--- what is promised of a run
+-- what is promised of the journal so far and of the links that it left
 pub record KeepsPromises (shape : Shape) (P : List Step) (links : Links) : Type 0 where
   -- on a node an endpoint has got just what another sent it
   pub nodes : KeepsNodePromises shape P
@@ -88,7 +88,15 @@ pub record KeepsPromises (shape : Shape) (P : List Step) (links : Links) : Type 
   -- links that rest are still
   pub still : AllResting shape P links → AllStill shape P
 
+-- WHAT IS PROMISED HOLDS AFTER EACH STEP, and before the first one, of the links that the moves so
+-- far left
+abbrev pub KeepsThroughout : Shape → List Step → Links → Type 0
+KeepsThroughout shape [] links = KeepsPromises shape [] links × AreFirst shape links
+KeepsThroughout shape (s ∷ P) after =
+    KeepsPromises shape (s ∷ P) after
+    × ((before : Links) × (KeepsThroughout shape P before × IsMove shape P before s after))
+
 -- EVERY RUN KEEPS IT
 abbrev pub RunsKeepPromises : Type 0
-RunsKeepPromises = (shape : Shape) (P : List Step) (links : Links) → IsWholeRun shape P links
-    → KeepsPromises shape P links
+RunsKeepPromises = (shape : Shape) (P : List Step) (links : Links) → IsBoundedRun shape P links
+    → KeepsThroughout shape P links

@@ -1,5 +1,6 @@
--- A link that is still: nothing more comes over it unless somebody acts.
-use Rattle.std.specs.Prelude.{ℕ, ◌≡◌, Bool, true, false, not, ◌&&◌, ◌||◌, ◌==◌, List, Some, None}
+-- A link that is still: nothing more comes over it unless somebody acts; and when all is over.
+use Rattle.std.specs.Prelude.{ℕ, ◌≡◌, ◌≤◌, ◌<◌, Bool, true, false, not, ◌&&◌, ◌||◌, ◌==◌, List}
+use Rattle.std.specs.Prelude.{length, Some, None}
 use Rattle.std.specs.List.{list_any, AllByRecursion}
 use Rattle.std.specs.Str.{bytes_eq}
 use Rattle.linx_base.specs.declared.identity.LinkNo.{LinkNo}
@@ -10,7 +11,7 @@ use Rattle.linx_base.specs.declared.identity.Side.TheVariants.{First, Second}
 use Rattle.linx_base.specs.declared.name.Path.{Path}
 use Rattle.linx_base.specs.declared.name.Path.TheVariants.{Local, Over}
 use Rattle.linx_base.specs.declared.pending.PendingHunt.{PendingHunt}
-use Rattle.journal.specs.History.{name_of, open_endpoints}
+use Rattle.journal.specs.History.{has_ended, name_of, open_endpoints}
 use Rattle.journal.specs.Living.{is_alive, living}
 use Rattle.journal.specs.Pending.{hunting}
 use Rattle.journal.specs.Sessions.{up_session}
@@ -75,3 +76,8 @@ pub data IsStill (shape : Shape) (P : List Step) (l : LinkNo) : Type 0 where
 -- every link of the shape is still
 abbrev pub AllStill : Shape → List Step → Type 0
 AllStill shape P = (l : LinkNo) → IsLinkOf shape l → IsStill shape P l
+
+-- ALL IS OVER: every actor of the shape has ended, and every link is still
+pub record IsOver (shape : Shape) (P : List Step) : Type 0 where
+  pub ended : (k : ℕ) → 0 < k → k ≤ length shape.actors → has_ended P k ≡ true
+  pub still : AllStill shape P

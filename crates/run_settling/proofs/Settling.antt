@@ -20,14 +20,14 @@ use Rattle.link_settling.specs.Runs.{SettlesIn}
 use Rattle.link_settling.proofs.Settling.{links_settle}
 use Rattle.trunk.specs.Events.{TrunkState, near_beat, ticked_at, turned, with_link}
 use Rattle.trunk.proofs.Quiet.{quiet}
-use Rattle.trunk_moves.specs.Steps.{IsWholeTrunkRun, Makes, Passes, Ticks}
+use Rattle.trunk_moves.specs.Steps.{IsBoundedTrunkRun, Makes, Passes, Ticks}
 use Rattle.trunk_moves.specs.Trunks.{RunTrunks}
 use Rattle.trunk_moves.proofs.Runs.{trunk_runs_are_runs, trunk_runs_grant}
 use Rattle.trunk_moves.proofs.Sides.{is_trunk}
 use Rattle.run_settling.specs.Laws.{GoesOn, LinkSettlesIn, NoneFlies, RunsSettle}
 use Rattle.run_settling.proofs.Coming.{comes_settles}
 
-begins : (shape : Shape) (P : List Step) (trunks : RunTrunks) → IsWholeTrunkRun shape P trunks
+begins : (shape : Shape) (P : List Step) (trunks : RunTrunks) → IsBoundedTrunkRun shape P trunks
     → (l : LinkNo) → IsLinkOf shape l → (side : Side) → LinkSettlesIn 6 side l trunks
 begins shape P trunks whole l of_shape side =
     links_settle.begins side (trunks l.0).link

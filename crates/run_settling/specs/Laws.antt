@@ -14,7 +14,7 @@ use Rattle.link_laws.specs.Ends.{IsLinkOf}
 use Rattle.carrier.specs.Events.{is_quiet}
 use Rattle.link_settling.specs.Runs.{IsEmpty, SettlesIn}
 use Rattle.trunk.specs.Events.{kept_of}
-use Rattle.trunk_moves.specs.Steps.{IsTrunkStep, IsWholeTrunkRun}
+use Rattle.trunk_moves.specs.Steps.{IsTrunkStep, IsBoundedTrunkRun}
 use Rattle.trunk_moves.specs.Trunks.{RunTrunks}
 
 -- the link of number l settles in n ticks, the next of which is of this side; and nothing is in
@@ -28,14 +28,14 @@ NoneFlies l trunks = IsEmpty (trunks l.0).link
 -- a run that has room for a step, whatever the maker of the step is
 pub record GoesOn (shape : Shape) (P : List Step) (before : RunTrunks) (s : Step)
     (after : RunTrunks) : Type 0 where
-  pub run : IsWholeTrunkRun shape P before
+  pub run : IsBoundedTrunkRun shape P before
   pub room : length P < step_limit
   pub step : IsTrunkStep shape P before s after
 
 -- A LINK OF A RUN SETTLES IN SIX TICKS, whatever happened to it
 pub record RunsSettle : Type 0 where
   pub begins :
-      (shape : Shape) (P : List Step) (trunks : RunTrunks) → IsWholeTrunkRun shape P trunks
+      (shape : Shape) (P : List Step) (trunks : RunTrunks) → IsBoundedTrunkRun shape P trunks
       → (l : LinkNo) → IsLinkOf shape l → (side : Side) → LinkSettlesIn 6 side l trunks
   -- the first packet from a side comes, and its node answers
   pub comes :
@@ -55,6 +55,6 @@ pub record RunsSettle : Type 0 where
       → LinkSettlesIn 0 side l trunks → is_quiet (trunks l.0).link ≡ true
   -- so both sides are up with each other, and all that was said was given
   pub joined :
-      (shape : Shape) (P : List Step) (trunks : RunTrunks) → IsWholeTrunkRun shape P trunks
+      (shape : Shape) (P : List Step) (trunks : RunTrunks) → IsBoundedTrunkRun shape P trunks
       → (l : LinkNo) → IsLinkOf shape l → is_quiet (trunks l.0).link ≡ true
       → IsQuiet (kept_of First (trunks l.0)) (kept_of Second (trunks l.0))

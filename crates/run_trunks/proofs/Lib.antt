@@ -3,3 +3,4 @@ pub mod Placed
 pub mod Numbered
 pub mod Rested
 pub mod Begun
+pub mod Boots

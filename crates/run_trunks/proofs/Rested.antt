@@ -8,22 +8,22 @@ use Rattle.carrier.specs.Events.{flight_from}
 use Rattle.journal.specs.Shapes.{Shape}
 use Rattle.link_laws.specs.Ends.{IsLinkOf}
 use Rattle.trunk.specs.Events.{TrunkState}
-use Rattle.trunk.specs.Parts.{OnlyGrownFrom}
+use Rattle.trunk.specs.Parts.{HasOnlyGrownAt}
 use Rattle.run_trunks.specs.Changes.{at_link}
 use Rattle.run_trunks.specs.Laws.{AreTrunksOf}
 use Rattle.run_trunks.specs.States.{OnlyChangedAt, TrunksState, both_at, kept, kept_at, no_trunk}
-use Rattle.run_trunks.specs.States.{trunks_of, undone, undone_at}
+use Rattle.run_trunks.specs.States.{trunks_of}
 
 -- at rest packets were at most put
-grown-still : (from : Side) (t : TrunkState) → OnlyGrownFrom from (record { was = t; is = t })
+grown-still : (from : Side) (t : TrunkState) → HasOnlyGrownAt from (record { was = t; is = t })
 grown-still from t = take_all (length (flight_from from t.link)) (flight_from from t.link)
     (omega arith)
 
 pub at-rest-grown : (s : TrunksState) (l : LinkNo) (from : Side) → s.was ≡ s.is
-    → OnlyGrownFrom from (both_at s l)
+    → HasOnlyGrownAt from (both_at s l)
 at-rest-grown s l from rests =
     subst (λ (ts : List TrunkState).
-    OnlyGrownFrom from (record { was = trunks_of s.was l.0; is = trunks_of ts l.0 })) rests
+    HasOnlyGrownAt from (record { was = trunks_of s.was l.0; is = trunks_of ts l.0 })) rests
     (grown-still from (trunks_of s.was l.0))
 
 -- ONE PLACE of a list
@@ -41,12 +41,6 @@ module _ {X : Type 0} (d : X) where
   put-there [] k x v = refl
   put-there (y ∷ xs) zero x v = refl
   put-there (y ∷ xs) (suc k) x v = ap (λ l. y ∷ l) (put-there xs k x v)
-
-  -- and what stood there is put back
-  put-back : (xs : List X) (k : ℕ) (x : X) → set (set xs k x) k (get_or xs k d) ≡ xs
-  put-back [] k x = refl
-  put-back (y ∷ xs) zero x = refl
-  put-back (y ∷ xs) (suc k) x = ap (λ l. y ∷ l) (put-back xs k x)
 
 -- ONE TRUNK
 pub reads-changed : (shape : Shape) (l : LinkNo) (change : TrunkState → TrunkState)
@@ -77,10 +71,3 @@ changes-there s l change alone =
 pub keeps-all : (s : TrunksState) (l : LinkNo) → OnlyChangedAt l s → kept_at l s ≡ kept s
 keeps-all s l alone =
     ap (λ (ts : List TrunkState). record s { was = ts }) (sym alone)
-
-pub undoes-all : (s : TrunksState) (l : LinkNo) → OnlyChangedAt l s → undone_at l s ≡ undone s
-undoes-all s l alone =
-    let k : ℕ = l.0 - 1 in
-    ap (λ (ts : List TrunkState). record s { is = ts })
-    (ap (λ (ts : List TrunkState). set ts k (trunks_of s.was l.0)) alone
-    ∙ put-back no_trunk s.was k (trunks_of s.is l.0))

@@ -1,5 +1,8 @@
 -- What is called at a side: what it makes of a trunk, and what it asks for.
+use Rattle.std.specs.Prelude.{◌<◌}
+use Rattle.linx_base.specs.Numbers.{boot_of}
 use Rattle.linx_base.specs.declared.identity.Side.{Side}
+use Rattle.carrier.specs.Events.{half_of}
 use Rattle.trunk.specs.Events.{TrunkState, asked_at, closed_at, opened_at, published_at}
 use Rattle.trunk.specs.Events.{restarted_at, sent_at, side_of}
 use Rattle.trunk.specs.Laws.{MayPublish, MaySend}
@@ -16,11 +19,12 @@ makes (Published inc name) side t = published_at side inc name.now t
 makes (Asked name) side t = asked_at side name.now t
 makes (Sent from name to signal) side t = sent_at side from name.now to signal.now t
 
--- what the call asks of the side
+-- what the call asks of the side: a boot is later than its own, and a name or a signal is one that
+-- it may say
 abbrev pub MayCall : SideCall → Side → TrunkState → Type 0
 MayCall (Opened inc name) side t = MayPublish (side_of side t) inc name.now
 MayCall (Closed inc) side t = Unit {0}
-MayCall (Restarted boot) side t = Unit {0}
+MayCall (Restarted boot) side t = boot_of (half_of side t.link).end.talk.mine < boot
 MayCall (Published inc name) side t = MayPublish (side_of side t) inc name.now
 MayCall (Asked name) side t = Unit {0}
 MayCall (Sent from name to signal) side t = MaySend (side_of side t) from name.now to signal.now

@@ -5,11 +5,11 @@ use Rattle.linx_base.specs.declared.identity.Side.{Side}
 use Rattle.journal.specs.Shapes.{Shape}
 use Rattle.link_laws.specs.Ends.{IsLinkOf}
 use Rattle.trunk.specs.Events.{TrunkState}
-use Rattle.trunk.specs.Parts.{OnlyGrownFrom}
+use Rattle.trunk.specs.Parts.{HasOnlyGrownAt}
 use Rattle.trunk_moves.specs.Trunks.{AllNew, Become, all_do, with_trunk}
 use Rattle.run_trunks.specs.Changes.{at_link, each_does}
 use Rattle.run_trunks.specs.States.{AllFit, OnlyChangedAt, TrunksState, both_at, kept, kept_at}
-use Rattle.run_trunks.specs.States.{new_trunks, trunks_of, undone, undone_at}
+use Rattle.run_trunks.specs.States.{new_trunks, trunks_of}
 
 -- a trunk for each link of a shape
 abbrev pub AreTrunksOf : Shape → List TrunkState → Type 0
@@ -54,12 +54,11 @@ pub record EventsRest : Type 0 where
   -- at rest no packet was lost or exchanged
   pub grown :
       (s : TrunksState) (l : LinkNo) (from : Side) → s.was ≡ s.is
-      → OnlyGrownFrom from (both_at s l)
+      → HasOnlyGrownAt from (both_at s l)
   -- at rest, and after changes of one trunk, no other one has changed
   pub rests : (s : TrunksState) (l : LinkNo) → s.was ≡ s.is → OnlyChangedAt l s
   pub changes :
       (s : TrunksState) (l : LinkNo) (change : TrunkState → TrunkState) → OnlyChangedAt l s
       → OnlyChangedAt l (record s { is = at_link l change s.is })
-  -- so then to keep, or to undo, that one is to keep, or to undo, all
+  -- so then to keep that one is to keep all
   pub keeps : (s : TrunksState) (l : LinkNo) → OnlyChangedAt l s → kept_at l s ≡ kept s
-  pub undoes : (s : TrunksState) (l : LinkNo) → OnlyChangedAt l s → undone_at l s ≡ undone s

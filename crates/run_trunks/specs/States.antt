@@ -69,9 +69,6 @@ undone s = resting s.links s.was
 abbrev pub kept_at : LinkNo → TrunksState → TrunksState
 kept_at l s = record s { was = slice_set s.was (l.0 - 1) (trunks_of s.is l.0) }
 
-abbrev pub undone_at : LinkNo → TrunksState → TrunksState
-undone_at l s = record s { is = slice_set s.is (l.0 - 1) (trunks_of s.was l.0) }
-
 -- nothing but the trunk of this link has changed since the event began
 abbrev pub OnlyChangedAt : LinkNo → TrunksState → Type 0
 OnlyChangedAt l s = s.is ≡ slice_set s.was (l.0 - 1) (trunks_of s.is l.0)

@@ -1,3 +1,4 @@
+//! What is called at a side of a link.
 use linx_base::{Inc, Name, Signal};
 
 /// What is called at a side of a link.

@@ -15,7 +15,7 @@ pub fn changes_follow()
 {}
 
 /// At the beginning of an event no packet was lost or exchanged. While the trunk of one link alone
-/// has changed, to keep or to undo that one is to keep or to undo all.
+/// has changed, to keep that one is to keep all.
 pub fn events_rest()
     ensures { EventsRest }
 {}

@@ -1,15 +1,13 @@
 //! The events of one trunk, within its numbers: a side numbers the frames of a session and its
 //! sessions with 32 bits, and what would go beyond is refused.
-ghost use Rattle.std.specs.Prelude.{◌≡◌, ◌≤◌, ◌<◌, Some, true, length, IfOk, OnOk};
+ghost use Rattle.std.specs.Prelude.{◌≡◌, ◌<◌, Some, true, length, IfOk, OnOk};
 ghost use Rattle.linx_base.specs.declared.identity.Side.{Side as AnySide};
-ghost use Rattle.ethcm_session.specs.Table.{HasNext};
-ghost use Rattle.ethcm_window.specs.Sending.{left_of};
-ghost use Rattle.carrier.specs.Events.{flight_from, half_of, handed_by};
+ghost use Rattle.carrier.specs.Events.{flight_from, handed_by, HasNextAt};
 ghost use Rattle.carrier.specs.Events.{told_by as link_told_by};
 ghost use Rattle.rlnh_end.specs.declared.heard.Heard.{Heard as AnyHeard};
-ghost use Rattle.trunk.specs.Events.{IsReading, delivered, restarted_at, swapped_from, ticked_at};
-ghost use Rattle.trunk.specs.Events.{told_by};
-ghost use Rattle.trunk.specs.Parts.{OnlyGrownFrom};
+ghost use Rattle.trunk.specs.Events.{IsReading, delivered, swapped_from, ticked_at};
+ghost use Rattle.trunk.specs.Events.{told_by, HasNumbersLeft};
+ghost use Rattle.trunk.specs.Parts.{HasOnlyGrownAt};
 ghost use Rattle.trunk_moves.specs.Packets.{place_of};
 ghost use Rattle.trunk_moves.specs.Trunks.{does};
 ghost use Rattle.run_trunks.specs.Calls.{MayCall, makes};
@@ -24,27 +22,16 @@ const FRAMES_MOST: u32 = 4_096;
 
 /// Whether a side has numbers left for what it says in a call.
 fn has_numbers(trunk: &Trunk, side: Side) -> bool
-    ensures { result ≡ true → 4096 ≤ left_of (half_of side trunk.now.is.link).end.tx }
+    ensures { result ≡ true → HasNumbersLeft side trunk.now.is }
 {
     trunk.frames_left(side) >= FRAMES_MOST
 }
 
 /// Whether a session of the same boot may come after a side's present one.
 fn has_session(trunk: &Trunk, side: Side) -> bool
-    ensures { result ≡ true → HasNext (half_of side trunk.now.is.link).end.talk.mine }
+    ensures { result ≡ true → HasNextAt side trunk.now.is.link }
 {
     trunk.mine(side).count() < u32::MAX
-}
-
-/// A side boots again, with a later boot.
-fn restart(trunk: &mut Trunk, side: Side, boot: u32) -> Result<(), NoMemory>
-    ensures is { OnOk result (trunk.new.is ≡ restarted_at side boot trunk.old.is) }
-    ensures was { trunk.new.was ≡ trunk.old.was }
-{
-    if trunk.mine(side).boot() >= boot {
-        return Err(NoMemory);
-    }
-    trunk.restart(side, boot)
 }
 
 /// A side is called.
@@ -55,7 +42,7 @@ pub(crate) fn call_side(trunk: &mut Trunk, side: Side, call: SideCall<'_>) -> Re
 {
     let may_say = has_numbers(trunk, side);
     match call {
-        SideCall::Restarted(boot) => restart(trunk, side, boot),
+        SideCall::Restarted(boot) => trunk.restart(side, boot),
         _ if !may_say => Err(NoMemory),
         SideCall::Opened(inc, name) => trunk.opened(side, inc, name),
         SideCall::Closed(inc) => trunk.close(side, inc),
@@ -84,7 +71,7 @@ pub(crate) fn call_side_if(
 /// The packet at place 0 from a side comes to the other one, and stays in its place or is gone.
 pub(crate) fn deliver(trunk: &mut Trunk, from: Side, keep: bool) -> Result<TrunkUp, NoMemory>
     requires flies { 0 < length (flight_from from trunk.old.is.link) }
-    requires grown { OnlyGrownFrom from trunk.old }
+    requires grown { HasOnlyGrownAt from trunk.old }
     ensures is_read { OnOk result
         ((heard : AnyHeard) × IsReading (handed_by from 0 trunk.old.is.link) heard) }
     ensures is { OnOk result ((heard : AnyHeard)
@@ -118,7 +105,7 @@ pub(crate) fn tick(trunk: &mut Trunk, side: Side) -> Result<TickedSide, NoMemory
 /// where there are fewer.
 pub(crate) fn swap(trunk: &mut Trunk, from: Side, k: u8)
     requires flies { 0 < length (flight_from from trunk.old.is.link) }
-    requires grown { OnlyGrownFrom from trunk.old }
+    requires grown { HasOnlyGrownAt from trunk.old }
     ensures is { trunk.new.is ≡ swapped_from from 0
         (place_of k (length (flight_from from trunk.old.is.link))) trunk.old.is }
     ensures was { trunk.new.was ≡ trunk.old.was }

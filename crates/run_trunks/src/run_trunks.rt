@@ -1,5 +1,8 @@
+//! The links of a run, each with its trunk: the calls of an event on one link, or on the links of a
+//! node, and what keeps or undoes the event.
 ghost use Rattle.std.specs.Prelude.{◌≡◌, ◌<◌, ◌-◌, length, map, is_some, IfOk, OnErr, OnOk};
 ghost use Rattle.linx_base.specs.Both.{still};
+ghost use Rattle.linx_base.specs.Numbers.{boot_of};
 ghost use Rattle.link_addresses.specs.Meanings.{used_in};
 ghost use Rattle.ethcm_end.specs.States.{peer_of};
 ghost use Rattle.carrier.specs.Events.{flight_from, half_of, handed_by, is_quiet};
@@ -10,7 +13,7 @@ ghost use Rattle.trunk.specs.Events.{new_trunk, opened_at, published_at, restart
 ghost use Rattle.trunk.specs.Events.{side_of, swapped_from, tables_of, ticked_at, told_by};
 ghost use Rattle.trunk.specs.Keeping.{KeepsTrunk};
 ghost use Rattle.trunk.specs.Laws.{MayPublish, MaySend};
-ghost use Rattle.trunk.specs.Parts.{OnlyGrownFrom};
+ghost use Rattle.trunk.specs.Parts.{HasOnlyGrownAt};
 ghost use Rattle.trunk.specs.Promises.{Promises};
 ghost use Rattle.trunk_record.specs.Trunks.{IsTrunk};
 ghost use Rattle.link_laws.specs.Ends.{node_at};
@@ -19,7 +22,7 @@ ghost use Rattle.trunk_moves.specs.Trunks.{side_on};
 ghost use Rattle.run_trunks.specs.Calls.{MayCall, makes};
 ghost use Rattle.run_trunks.specs.Changes.{AllGrant, at_link, each_does};
 ghost use Rattle.run_trunks.specs.States.{AllFit, HasLink, both_at, kept, kept_at, new_trunks};
-ghost use Rattle.run_trunks.specs.States.{over, resting, trunks_of, undone, undone_at};
+ghost use Rattle.run_trunks.specs.States.{over, resting, trunks_of, undone};
 
 use crate::call::SideCall;
 use crate::{links, slots};
@@ -139,9 +142,10 @@ impl RunTrunks {
         self.call_all(node, SideCall::Closed(inc))
     }
 
-    /// A node boots again: so does the side of each link that is on it. It is refused where the
-    /// boot isn't later than that of such a side.
+    /// A node boots again, later than any side of a link that is on it: so does each such side.
     pub fn restarted(&mut self, node: NodeNo, boot: u32) -> Result<(), NoMemory>
+        requires may { AllGrant self.old.links node.0 self.old.is
+            (λ side t. boot_of (half_of side t.link).end.talk.mine < boot) }
         ensures is { OnOk result (self.new.is
             ≡ each_does self.old.links node.0 (λ side. restarted_at side boot) self.old.is) }
         ensures was { self.new.was ≡ self.old.was }
@@ -208,7 +212,7 @@ impl RunTrunks {
     pub fn deliver(&mut self, link: LinkNo, from: Side, keep: bool) -> Result<TrunkUp, NoMemory>
         requires of_run { HasLink self.old link }
         requires flies { 0 < length (flight_from from (trunks_of self.old.is link.0).link) }
-        requires grown { OnlyGrownFrom from (both_at self.old link) }
+        requires grown { HasOnlyGrownAt from (both_at self.old link) }
         // What comes has a reading; the trunk and what is handed up are those of each.
         ensures is_read { OnOk result ((heard : AnyHeard)
             × IsReading (handed_by from 0 (trunks_of self.old.is link.0).link) heard) }
@@ -243,7 +247,7 @@ impl RunTrunks {
     pub fn lose(&mut self, link: LinkNo, from: Side)
         requires of_run { HasLink self.old link }
         requires flies { 0 < length (flight_from from (trunks_of self.old.is link.0).link) }
-        requires grown { OnlyGrownFrom from (both_at self.old link) }
+        requires grown { HasOnlyGrownAt from (both_at self.old link) }
         ensures is { self.new.is ≡ at_link link (lost_from from 0) self.old.is }
         ensures was { self.new.was ≡ self.old.was }
         ensures links { self.new.links ≡ self.old.links }
@@ -257,7 +261,7 @@ impl RunTrunks {
     pub fn swap(&mut self, link: LinkNo, from: Side, k: u8)
         requires of_run { HasLink self.old link }
         requires flies { 0 < length (flight_from from (trunks_of self.old.is link.0).link) }
-        requires grown { OnlyGrownFrom from (both_at self.old link) }
+        requires grown { HasOnlyGrownAt from (both_at self.old link) }
         ensures is { let count = length (flight_from from (trunks_of self.old.is link.0).link) in
             self.new.is ≡ at_link link (swapped_from from 0 (place_of k count)) self.old.is }
         ensures was { self.new.was ≡ self.old.was }
@@ -272,14 +276,6 @@ impl RunTrunks {
         ensures { self.new ≡ kept_at link self.old }
     {
         slots::keep(&mut self.trunks, place_of(link));
-    }
-
-    /// What the trunk of a link was is again. It takes no memory.
-    pub fn undo(&mut self, link: LinkNo)
-        requires of_run { HasLink self.old link }
-        ensures { self.new ≡ undone_at link self.old }
-    {
-        slots::undo(&mut self.trunks, place_of(link));
     }
 
     /// What is now stays, on all links, and the next event begins. It takes no memory.

@@ -5,7 +5,7 @@ ghost use Rattle.carrier.specs.Events.{flight_from, handed_by, told_by as link_t
 ghost use Rattle.rlnh_end.specs.declared.heard.Heard.{Heard as AnyHeard};
 ghost use Rattle.trunk.specs.Events.{IsReading, delivered, lost_from, swapped_from, ticked_at};
 ghost use Rattle.trunk.specs.Events.{told_by};
-ghost use Rattle.trunk.specs.Parts.{OnlyGrownFrom};
+ghost use Rattle.trunk.specs.Parts.{HasOnlyGrownAt};
 ghost use Rattle.trunk_moves.specs.Packets.{place_of};
 ghost use Rattle.run_trunks.specs.Calls.{MayCall, makes};
 ghost use Rattle.run_trunks.specs.Changes.{AllGrant, at_place, each_does};
@@ -112,7 +112,7 @@ pub(crate) fn deliver(
 ) -> Result<TrunkUp, NoMemory>
     requires within { place < length trunks.old }
     requires flies { 0 < length (flight_from from (trunk_at (is_of trunks.old) place).link) }
-    requires grown { OnlyGrownFrom from (record {
+    requires grown { HasOnlyGrownAt from (record {
       was = trunk_at (was_of trunks.old) place;
       is = trunk_at (is_of trunks.old) place;
     }) }
@@ -159,7 +159,7 @@ pub(crate) fn tick(trunks: &mut [Trunk], place: usize, side: Side) -> Result<Tic
 pub(crate) fn lose(trunks: &mut [Trunk], place: usize, from: Side)
     requires within { place < length trunks.old }
     requires flies { 0 < length (flight_from from (trunk_at (is_of trunks.old) place).link) }
-    requires grown { OnlyGrownFrom from (record {
+    requires grown { HasOnlyGrownAt from (record {
       was = trunk_at (was_of trunks.old) place;
       is = trunk_at (is_of trunks.old) place;
     }) }
@@ -174,7 +174,7 @@ pub(crate) fn lose(trunks: &mut [Trunk], place: usize, from: Side)
 pub(crate) fn swap(trunks: &mut [Trunk], place: usize, from: Side, k: u8)
     requires within { place < length trunks.old }
     requires flies { 0 < length (flight_from from (trunk_at (is_of trunks.old) place).link) }
-    requires grown { OnlyGrownFrom from (record {
+    requires grown { HasOnlyGrownAt from (record {
       was = trunk_at (was_of trunks.old) place;
       is = trunk_at (is_of trunks.old) place;
     }) }
@@ -194,14 +194,4 @@ pub(crate) fn keep(trunks: &mut [Trunk], place: usize)
         ≡ slice_set (was_of trunks.old) place (trunk_at (is_of trunks.old) place) }
 {
     trunks[place].keep();
-}
-
-/// What the trunk at a place was is again.
-pub(crate) fn undo(trunks: &mut [Trunk], place: usize)
-    requires { place < length trunks.old }
-    ensures is { is_of trunks.new
-        ≡ slice_set (is_of trunks.old) place (trunk_at (was_of trunks.old) place) }
-    ensures was { was_of trunks.new ≡ was_of trunks.old }
-{
-    trunks[place].undo();
 }

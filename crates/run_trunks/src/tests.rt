@@ -1,5 +1,8 @@
 //! Two links between three nodes.
 ghost use Rattle.std.specs.Prelude.{◌≡◌, ◌<◌, [], true};
+ghost use Rattle.linx_base.specs.Numbers.{boot_of};
+ghost use Rattle.linx_base.specs.declared.identity.Side.TheVariants as AnySide;
+ghost use Rattle.carrier.specs.Events.{half_of};
 ghost use Rattle.trunk.specs.Events.{kept_of};
 ghost use Rattle.run_trunks.specs.States.{HasLink, trunks_of};
 
@@ -137,6 +140,33 @@ fn settle_to_open(
     Err(Fail::from("packets without end"))
 }
 
+/// Whether both sides of a link are in an earlier boot.
+fn is_earlier(trunks: &RunTrunks, link: LinkNo, boot: u32) -> bool
+    requires of_run { HasLink trunks.now link }
+    ensures first { result ≡ true → boot_of
+        (half_of AnySide.First (trunks_of trunks.now.is link.0).link).end.talk.mine < boot }
+    ensures second { result ≡ true → boot_of
+        (half_of AnySide.Second (trunks_of trunks.now.is link.0).link).end.talk.mine < boot }
+{
+    let first = trunks.session(link, Side::First);
+    let second = trunks.session(link, Side::Second);
+    first.boot() < boot && second.boot() < boot
+}
+
+/// A node boots again, where there are two links, all of whose sides are in an earlier boot.
+#[tactic(auto, using(crate::proofs::Boots::earlier_both))]
+fn restart(trunks: &mut RunTrunks, node: NodeNo, boot: u32) -> Result<(), Fail> {
+    let [near, far] = LINKS;
+    if trunks.count() != 2 {
+        return Err(Fail::from("two links"));
+    }
+    if !is_earlier(trunks, near, boot) || !is_earlier(trunks, far, boot) {
+        return Err(Fail::from("an earlier boot"));
+    }
+    trunks.restarted(node, boot)?;
+    Ok(())
+}
+
 /// Both links with all sides up.
 fn two_links(alloc: Global) -> Result<RunTrunks, Fail> {
     let mut trunks = RunTrunks::new(alloc, &[link_from(1), link_from(2)])?;
@@ -188,7 +218,7 @@ fn a_restart_is_undone_on_both_links(rt: HostRuntime) -> Result<(), Fail> {
     let first = Session::of(1, 1);
     let up = [(first, Some(first)); 4];
     assert_eq!(rt; sessions(rt.alloc(), &trunks)?.as_slice(), up.as_slice());
-    trunks.restarted(NodeNo(2), 2)?;
+    restart(&mut trunks, NodeNo(2), 2)?;
     let again = Session::of(2, 1);
     let booted = [
         (first, Some(first)),
@@ -202,7 +232,7 @@ fn a_restart_is_undone_on_both_links(rt: HostRuntime) -> Result<(), Fail> {
     );
     trunks.undo_all();
     assert_eq!(rt; sessions(rt.alloc(), &trunks)?.as_slice(), up.as_slice());
-    trunks.restarted(NodeNo(2), 2)?;
+    restart(&mut trunks, NodeNo(2), 2)?;
     trunks.keep_all();
     trunks.undo_all();
     assert_eq!(rt;

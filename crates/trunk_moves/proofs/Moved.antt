@@ -33,7 +33,7 @@ use Rattle.journal.specs.declared.head.SentTo.{SentTo}
 use Rattle.journal.specs.declared.head.SentTo.TheVariants.{Dead, Link, Queued}
 use Rattle.journal.proofs.Openings.{next_on}
 use Rattle.link_laws.specs.Ends.{IsLinkOf, node_at}
-use Rattle.link_laws.specs.Fabric.{SideState}
+use Rattle.link_laws.specs.Sides.{SideState}
 use Rattle.link_laws.specs.Fits.{CanSend}
 use Rattle.link_laws.specs.Moves.{AsksOver, Closes, ClosesAt, IsLeft, Opens, OpensAt}
 use Rattle.link_laws.specs.Moves.{Restarts, RestartsAt, SendsOver}

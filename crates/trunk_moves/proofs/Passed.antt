@@ -297,9 +297,9 @@ module _ (shape : Shape) (P : List Step) (before after : RunTrunks) (known : IsK
       }
 
   swapped_passed : (from : Side) (k : ℕ) (es : List Effect)
-      → IsSwapped from k es (before l.0) trunk
+      → 0 < length (flight_from from (before l.0).link) → IsSwapped from k es (before l.0) trunk
       → IsPassed false from es
-  swapped_passed from k es swaps =
+  swapped_passed from k es flies swaps =
       let place : ℕ = place_of k (length (flight_from from (before l.0).link)) in
       let t : TrunkState = before l.0 in
       let u : TrunkState = swapped_from from 0 place (before l.0) in
@@ -313,8 +313,8 @@ module _ (shape : Shape) (P : List Step) (before after : RunTrunks) (known : IsK
               (omega (arith, events_tell.silence.swapped from side 0 place t)))),
         );
         kept = subst KeepsTrunk (sym swaps.makes)
-            (events_keep.swapped from 0 place t swaps.flies
-            (place_in k (length (flight_from from (before l.0).link)) swaps.flies)
+            (events_keep.swapped from 0 place t flies
+            (place_in k (length (flight_from from (before l.0).link)) flies)
             (known.kept l of_shape));
         used = subst (UsesUpTo (suc (length P))) (sym swaps.makes)
             (up_to_more (length P) u (λ side. omega (
@@ -392,7 +392,7 @@ module _ (shape : Shape) (P : List Step) (before after : RunTrunks) (known : IsK
           passes.makes from es meets)
       by_verdict (Swap k) cuts meets =
           moved (Swap k) cuts (swapped_passed shape P before after known l passes.of_shape
-          passes.trunk passes.makes from k es meets)
+          passes.trunk passes.makes from k es passes.flies meets)
 
   pub ticking_moved : (l : LinkNo) (side : Side) (es : List Effect)
       → Ticks shape P before after l side es → IsMoved shape P before after n me (Tick l side) es

@@ -19,7 +19,7 @@ use Rattle.link_laws.specs.Runs.{IsSound}
 use Rattle.link_laws.specs.Sessions.{boots}
 use Rattle.link_laws.proofs.Reached.{IsEndOf, run-reached}
 use Rattle.trunk.specs.Events.{kept_of}
-use Rattle.trunk_moves.specs.Steps.{IsWholeTrunkRun}
+use Rattle.trunk_moves.specs.Steps.{IsBoundedTrunkRun}
 use Rattle.trunk_moves.specs.Trunks.{RunTrunks, links_of}
 use Rattle.trunk_moves.proofs.Facts.{own_boot}
 use Rattle.trunk_moves.proofs.Runs.{trunk_runs_are_runs, trunk_runs_keep_all}
@@ -41,7 +41,7 @@ up-is A x is = by_peer A.now.peer refl is
 
 -- A WHOLE RUN WITH TRUNKS
 module _ (shape : Shape) (P : List Step) (trunks : RunTrunks)
-    (whole : IsWholeTrunkRun shape P trunks) where
+    (whole : IsBoundedTrunkRun shape P trunks) where
   run-sound : IsSound shape P (links_of trunks)
   run-sound = (trunk_runs_keep_all shape P trunks whole).sound
 

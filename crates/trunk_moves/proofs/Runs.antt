@@ -18,7 +18,7 @@ use Rattle.journal.specs.declared.head.Head.TheVariants.{Close, Ended, Hunt, Ope
 use Rattle.journal.specs.declared.head.Head.TheVariants.{TakeNone, Tick, Wire}
 use Rattle.link_laws.specs.Ends.{HasTwoEnds, IsLinkOf, node_at}
 use Rattle.link_laws.specs.Moves.{IsLeft, KeepsNodeLaws}
-use Rattle.link_laws.specs.Runs.{AreFirst, IsRun, IsWholeRun, first_state}
+use Rattle.link_laws.specs.Runs.{AreFirst, IsRun, IsBoundedRun, first_state}
 use Rattle.link_laws.proofs.Good.{step_of}
 use Rattle.link_laws.proofs.Runs.{runs_are_legal, runs_keep_promises}
 use Rattle.trunk.specs.Tells.{TellsSide}
@@ -28,7 +28,7 @@ use Rattle.trunk.proofs.Events.{events_keep}
 use Rattle.trunk.proofs.Trunks.{events_tell}
 use Rattle.trunk_moves.specs.Grants.{GrantsAnswer, GrantsSide, TrunkRunsGrant}
 use Rattle.trunk_moves.specs.Laws.{TrunkRunsAreRuns, TrunkRunsKeepAll}
-use Rattle.trunk_moves.specs.Steps.{HuntsName, IsTrunkRun, IsTrunkStep, IsWholeTrunkRun, Makes}
+use Rattle.trunk_moves.specs.Steps.{HuntsName, IsTrunkRun, IsTrunkStep, IsBoundedTrunkRun, Makes}
 use Rattle.trunk_moves.specs.Trunks.{AllKept, AllNew, AllUseUpTo, NodesFit, RunTrunks}
 use Rattle.trunk_moves.specs.Trunks.{UsesUpTo, links_of, state_of}
 use Rattle.trunk_moves.proofs.Facts.{AllNamed, IsKnown, boots_later, hunted_named, new_may}
@@ -127,7 +127,7 @@ run_has shape two nodes (s ∷ P) after fits run =
     let before : RunTrunks = run.0 in
     let step : IsTrunkStep shape P run.0 s after = run.1.1 in
     let was = run_has shape two nodes P run.0 (omega arith) run.1.0 in
-    let whole : IsWholeRun shape P (links_of run.0) =
+    let whole : IsBoundedRun shape P (links_of run.0) =
     record { two_ends = two; fits = omega arith; run = was.run } in
     let known : IsKnown shape P run.0 =
     record {
@@ -168,7 +168,7 @@ trunk_runs_keep_all shape P trunks whole =
 
 -- ---- what the next step may hand to trunks
 
-known_of : (shape : Shape) (P : List Step) (trunks : RunTrunks) → IsWholeTrunkRun shape P trunks
+known_of : (shape : Shape) (P : List Step) (trunks : RunTrunks) → IsBoundedTrunkRun shape P trunks
     → length P < step_limit → IsKnown shape P trunks
 known_of shape P trunks whole room =
     let has = run_has shape whole.two_ends whole.nodes P trunks whole.fits whole.run in

@@ -9,7 +9,7 @@ use Rattle.linx_base.specs.declared.identity.Side.{Side}
 use Rattle.linx_base.specs.declared.identity.Side.TheVariants.{First, Second}
 use Rattle.journal.specs.Shapes.{Shape}
 use Rattle.link_laws.specs.Ends.{HasTwoEnds, IsLinkOf, node_at}
-use Rattle.link_laws.specs.Fabric.{SideState}
+use Rattle.link_laws.specs.Sides.{SideState}
 use Rattle.link_laws.specs.Moves.{AllLeft, IsLeft, OthersLeft}
 use Rattle.link_laws.specs.Sessions.{same_side}
 use Rattle.trunk.specs.Events.{TrunkState}

@@ -363,6 +363,7 @@ module _ (P : List Step) (n : ℕ) (l : LinkNo) (from : Side) (keep : Bool) (rea
     by_up ups.Nothing tells notes effects = nothing_given tells notes effects
     by_up (ups.Arrived a b note) tells notes effects =
         given (arrived a b note) tells effects v (record { side = tells.kept; noted = notes }) zero
+    by_up (ups.Freed a b note) tells notes effects = nothing_given tells notes effects
     by_up (ups.Met i name) tells notes effects =
         given (met i name) tells effects v (record { side = tells.kept; noted = notes }) zero
     by_up (ups.Gone i) tells notes effects =

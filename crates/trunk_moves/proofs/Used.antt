@@ -16,7 +16,7 @@ use Rattle.rlnh_messages.specs.declared.rlnh.Rlnh.TheVariants.{Init, InitReply, 
 use Rattle.rlnh_messages.specs.declared.rlnh.Rlnh.TheVariants.{Publish, Unpublish, UnpublishAck}
 use Rattle.rlnh_end.specs.declared.heard.Heard.{Heard}
 use Rattle.rlnh_end.specs.declared.heard.Heard.TheVariants.{Control, Garbage, Signal}
-use Rattle.rlnh_end.specs.Calls.{Saying, announced, close_of, closed, known_of, opened_of}
+use Rattle.rlnh_end.specs.Calls.{Saying, announced, close_of, closed, publish_sender_of, opened_of}
 use Rattle.rlnh_end.specs.Calls.{publish_of}
 use Rattle.rlnh_end.specs.Calls.{query_of, saying, send_of}
 use Rattle.rlnh_end.specs.declared.up.Up.TheVariants.{Bad, Met}
@@ -98,7 +98,7 @@ send_used : (t : RlnhTables) (i : Inc) (name : List ℕ) (b : Inc) (note : SigNo
     → used_in (send_of t i name b note).tables.own ≤ used_in t.own + 1
 send_used t i name b note = by_address (address_of t.own i)
   where
-    by_address : (at : Option ℕ) → used_in (known_of t i name at).tables.own ≤ used_in t.own + 1
+    by_address : (at : Option ℕ) → used_in (publish_sender_of t i name at).tables.own ≤ used_in t.own + 1
     by_address None = publish_used t i name
     by_address (Some addr) = omega arith
 

@@ -1,9 +1,9 @@
 -- A worked run with trunks, step by step: two endpoints open, a name is hunted over the link, the
 -- link goes up, the name is asked for, published, and met.
-use Rattle.std.proofs.Common.{◌≡◌, ◌≤◌, ◌<◌, ℕ, zero, suc, false, List, [], ◌∷◌, refl}
+use Rattle.std.proofs.Common.{◌≡◌, ◌≤◌, ◌<◌, ℕ, zero, suc, true, false, List, [], ◌∷◌, length, refl}
 use Rattle.std.proofs.Common.{sym, ◌∙◌, ap, arith, subst}
-use Rattle.std.specs.Prelude.{◌==◌, codes}
-use Rattle.std.proofs.lemmas.Bool.{true≢false}
+use Rattle.std.specs.Prelude.{◌==◌, codes, nat_lt}
+use Rattle.std.proofs.lemmas.Bool.{ltb-true, true≢false}
 use Rattle.linx_base.specs.Sides.{other_of}
 use Rattle.linx_base.specs.declared.frame.Verdict.TheVariants.{Deliver}
 use Rattle.linx_base.specs.declared.identity.LinkNo.{LinkNo}
@@ -20,7 +20,7 @@ use Rattle.rlnh_end.specs.declared.heard.Heard.TheVariants.{Control, Garbage}
 use Rattle.fragmenter.specs.Pieces.{cut, followers, framed, pieces_of}
 use Rattle.ethcm_window.specs.Sending.{numbered_from}
 use Rattle.ethcm_end.specs.Rules.{data_in, input_of, offer_of, take_kept, tick_of}
-use Rattle.carrier.specs.Events.{handed_by}
+use Rattle.carrier.specs.Events.{flight_from, handed_by}
 use Rattle.journal.specs.declared.effect.Effect.{Effect}
 use Rattle.journal.specs.declared.effect.Effect.TheVariants.{Found}
 use Rattle.journal.specs.declared.effect.Step.{Step}
@@ -157,15 +157,17 @@ abbrev brings : List Step → Side → Heard → TrunkState → List Effect
 brings P from heard t =
     told_at P (node_at two_ends l (other_of from)) l (other_of from) t (told_by from 0 heard t)
 
--- a packet comes while the link is whole
+-- a packet that is in flight comes while the link is whole
 came : {P : List Step} {from : Side} {es : List Effect} {t : TrunkState} → is_cut P 1 ≡ false
+    → nat_lt 0 (length (flight_from from t.link)) ≡ true
     → (heard : Heard) → IsReading (handed_by from 0 t.link) heard → es ≡ brings P from heard t
     → IsTrunkStep two_ends P (λ k. t) (pump (Wire l from Deliver) es) (λ k. comes P from heard t)
-came {P} {from} {es} {t} whole heard read effects = record {
+came {P} {from} {es} {t} whole flies heard read effects = record {
   laws = passes_laws;
   named = tt;
   makes = record {
     of_shape = one_of;
+    flies = ltb-true 0 (length (flight_from from t.link)) flies;
     cuts = λ cut. absurd (true≢false (sym cut ∙ whole));
     trunk = comes P from heard t;
     meets = record { heard = heard; reading = read; effects = effects; makes = refl };
@@ -201,7 +203,7 @@ answering = comes ticked First Garbage asking
 
 answers : IsTrunkStep two_ends ticked (λ k. asking) (there []) (λ k. answering)
 unfolding input_of tick_of
-answers = came refl Garbage tt refl
+answers = came refl refl Garbage tt refl
 
 -- each side goes up, and the first one asks for the hunted name
 abbrev first_up : List Step
@@ -214,7 +216,7 @@ goes_up : IsTrunkStep two_ends answered_then (λ k. answering) (back (up 1 x11 x
     (λ k. confirming)
 unfolding input_of tick_of offer_of data_in take_kept pieces_of framed cut followers numbered_from
     spelling_of
-goes_up = came refl Garbage tt refl
+goes_up = came refl refl Garbage tt refl
 
 abbrev both_up : List Step
 both_up = there (up 2 x11 x11 ∷ []) ∷ first_up
@@ -226,7 +228,7 @@ goes_up_too : IsTrunkStep two_ends first_up (λ k. confirming) (there (up 2 x11 
     (λ k. connected)
 unfolding input_of tick_of offer_of data_in take_kept pieces_of framed cut followers numbered_from
     spelling_of
-goes_up_too = came refl Garbage tt refl
+goes_up_too = came refl refl Garbage tt refl
 
 -- what connects them is a run
 pub connected_run : IsTrunkRun two_ends both_up (λ k. connected)
@@ -243,7 +245,7 @@ greets : IsTrunkStep two_ends both_up (λ k. connected) (there []) (λ k. greete
 unfolding input_of tick_of offer_of data_in take_kept pieces_of framed cut followers numbered_from
     spelling_of hears
 greets =
-    came refl (Control rlnh.Init)
+    came refl refl (Control rlnh.Init)
     (record {
       from = refl;
       to = refl;
@@ -263,7 +265,7 @@ publishes : IsTrunkStep two_ends greeted_then (λ k. greeted) (there []) (λ k. 
 unfolding input_of tick_of offer_of data_in take_kept pieces_of framed cut followers numbered_from
     spelling_of hears address_of lowest_free with_lowest
 publishes =
-    came refl (Control (rlnh.QueryName (codes "b")))
+    came refl refl (Control (rlnh.QueryName (codes "b")))
     (record {
       from = refl;
       to = refl;
@@ -285,7 +287,7 @@ greets_back : IsTrunkStep two_ends (replied 0) (λ k. published) (back []) (λ k
 unfolding input_of tick_of offer_of data_in take_kept pieces_of framed cut followers numbered_from
     spelling_of hears address_of lowest_free with_lowest
 greets_back =
-    came refl (Control rlnh.Init)
+    came refl refl (Control rlnh.Init)
     (record {
       from = refl;
       to = refl;
@@ -301,7 +303,7 @@ acknowledged = comes (replied 1) Second Garbage greeted_back
 acknowledges : IsTrunkStep two_ends (replied 1) (λ k. greeted_back) (back []) (λ k. acknowledged)
 unfolding input_of tick_of offer_of data_in take_kept pieces_of framed cut followers numbered_from
     spelling_of hears address_of lowest_free with_lowest
-acknowledges = came refl Garbage tt refl
+acknowledges = came refl refl Garbage tt refl
 
 abbrev introduced : TrunkState
 introduced = comes (replied 2) Second (Control rlnh.InitReply) acknowledged
@@ -310,7 +312,7 @@ introduces : IsTrunkStep two_ends (replied 2) (λ k. acknowledged) (back []) (λ
 unfolding input_of tick_of offer_of data_in take_kept pieces_of framed cut followers numbered_from
     spelling_of hears address_of lowest_free with_lowest
 introduces =
-    came refl (Control rlnh.InitReply)
+    came refl refl (Control rlnh.InitReply)
     (record {
       from = refl;
       to = refl;
@@ -327,7 +329,7 @@ acknowledges_too : IsTrunkStep two_ends (replied 3) (λ k. introduced) (back [])
     (λ k. acknowledged_too)
 unfolding input_of tick_of offer_of data_in take_kept pieces_of framed cut followers numbered_from
     spelling_of hears address_of lowest_free with_lowest
-acknowledges_too = came refl Garbage tt refl
+acknowledges_too = came refl refl Garbage tt refl
 
 abbrev answer : Heard
 answer = Control (rlnh.Publish 1 b (codes "b"))
@@ -345,7 +347,7 @@ finds : IsTrunkStep two_ends (replied 4) (λ k. acknowledged_too)
 unfolding input_of tick_of offer_of data_in take_kept pieces_of framed cut followers numbered_from
     spelling_of hears address_of lowest_free with_lowest
 finds =
-    came refl answer
+    came refl refl answer
     (record {
       from = refl;
       to = refl;

@@ -24,7 +24,7 @@ use Rattle.trunk.specs.declared.up.TrunkUp.TheVariants.{Asked}
 use Rattle.trunk.specs.Events.{IsReading, TrunkState, delivered, side_of, told_by}
 use Rattle.trunk.specs.Laws.{MayPublish, MaySend}
 use Rattle.trunk_moves.specs.Packets.{holder_of, names_hunted}
-use Rattle.trunk_moves.specs.Steps.{IsWholeTrunkRun}
+use Rattle.trunk_moves.specs.Steps.{IsBoundedTrunkRun}
 use Rattle.trunk_moves.specs.Trunks.{RunTrunks}
 
 -- all of these are names
@@ -63,6 +63,6 @@ pub record GrantsAnswer (P : List Step) (n : ℕ) (from : Side) (t : TrunkState)
 -- EVERY RUN THAT HAS ROOM FOR A STEP GRANTS IT, on each side of each link
 abbrev pub TrunkRunsGrant : Type 0
 TrunkRunsGrant = (shape : Shape) (P : List Step) (trunks : RunTrunks)
-    → IsWholeTrunkRun shape P trunks → length P < step_limit → (l : LinkNo) → IsLinkOf shape l
+    → IsBoundedTrunkRun shape P trunks → length P < step_limit → (l : LinkNo) → IsLinkOf shape l
     → (from : Side) → GrantsSide P (node_at shape l from) l from (trunks l.0)
     × GrantsAnswer P (node_at shape l (other_of from)) from (trunks l.0)

@@ -2,13 +2,13 @@
 use Rattle.std.specs.Prelude.{List, length}
 use Rattle.journal.specs.Shapes.{Shape}
 use Rattle.journal.specs.declared.effect.Step.{Step}
-use Rattle.link_laws.specs.Runs.{IsSound, IsWholeRun, KeepsPromises}
-use Rattle.trunk_moves.specs.Steps.{IsWholeTrunkRun}
+use Rattle.link_laws.specs.Runs.{IsBoundedRun, IsSound, KeepsThroughout}
+use Rattle.trunk_moves.specs.Steps.{IsBoundedTrunkRun}
 use Rattle.trunk_moves.specs.Trunks.{AllKept, AllUseUpTo, RunTrunks, links_of}
 
--- its steps are moves of a run with links, and every trunk is kept
-pub record IsCarried (shape : Shape) (P : List Step) (trunks : RunTrunks) : Type 0 where
-  pub run : IsWholeRun shape P (links_of trunks)
+-- A RUN OF MOVES: its steps are moves of a run with links, and every trunk is kept
+pub record IsRunOfMoves (shape : Shape) (P : List Step) (trunks : RunTrunks) : Type 0 where
+  pub run : IsBoundedRun shape P (links_of trunks)
   pub kept : AllKept shape trunks
   -- no side has more addresses in use than the run has steps
   pub used : AllUseUpTo shape (length P) trunks
@@ -16,13 +16,14 @@ pub record IsCarried (shape : Shape) (P : List Step) (trunks : RunTrunks) : Type
 -- EVERY RUN WITH TRUNKS IS A RUN OF MOVES
 abbrev pub TrunkRunsAreRuns : Type 0
 TrunkRunsAreRuns = (shape : Shape) (P : List Step) (trunks : RunTrunks)
-    → IsWholeTrunkRun shape P trunks → IsCarried shape P trunks
+    → IsBoundedTrunkRun shape P trunks → IsRunOfMoves shape P trunks
 
--- so it is legal, its links are what its history tells, and it keeps what is promised of runs
+-- so it is legal, its links are what its history tells, and it keeps what is promised of runs after
+-- each of its steps
 pub record KeepsAll (shape : Shape) (P : List Step) (trunks : RunTrunks) : Type 0 where
   pub sound : IsSound shape P (links_of trunks)
-  pub promises : KeepsPromises shape P (links_of trunks)
+  pub promises : KeepsThroughout shape P (links_of trunks)
 
 abbrev pub TrunkRunsKeepAll : Type 0
 TrunkRunsKeepAll = (shape : Shape) (P : List Step) (trunks : RunTrunks)
-    → IsWholeTrunkRun shape P trunks → KeepsAll shape P trunks
+    → IsBoundedTrunkRun shape P trunks → KeepsAll shape P trunks

@@ -1,5 +1,5 @@
 -- What a packet, and a tick, makes of a trunk, with what its node does when it is told of it.
-use Rattle.std.specs.Prelude.{ℕ, ◌-◌, ◌≡◌, ◌<◌, ◌==◌, nat_lt, Bool, true, false, if◌then◌else◌}
+use Rattle.std.specs.Prelude.{ℕ, ◌-◌, ◌≡◌, ◌==◌, nat_lt, Bool, true, false, if◌then◌else◌}
 use Rattle.std.specs.Prelude.{List, [], ◌∷◌}
 use Rattle.std.specs.Prelude.{length, Option, Some, None}
 use Rattle.std.specs.List.{filter_map}
@@ -100,7 +100,6 @@ place_of k count = if nat_lt k count then k else count - 1
 -- it is exchanged with the packet at the place that the swap names
 pub record IsSwapped (from : Side) (k : ℕ) (es : List Effect) (before after : TrunkState) : Type 0
   where
-    pub flies : 0 < length (flight_from from before.link)
     pub effects : es ≡ []
     pub makes :
         after

@@ -1,5 +1,5 @@
 -- What each step of a run makes of the trunks of its links, kind by kind, and runs of such steps.
-use Rattle.std.specs.Prelude.{ℕ, ◌+◌, ◌≡◌, ◌≤◌, true, false, IsTrue, List, [], ◌∷◌, length, Option}
+use Rattle.std.specs.Prelude.{ℕ, ◌+◌, ◌≡◌, ◌≤◌, ◌<◌, true, false, IsTrue, List, [], ◌∷◌, length, Option}
 use Rattle.std.specs.Prelude.{Some, None}
 use Rattle.linx_base.specs.NameText.{is_name}
 use Rattle.linx_base.specs.Sides.{other_of}
@@ -14,7 +14,7 @@ use Rattle.linx_base.specs.declared.name.Path.{Path}
 use Rattle.linx_base.specs.declared.name.Path.TheVariants.{Over}
 use Rattle.linx_base.specs.declared.signal.SigNote.{SigNote}
 use Rattle.rlnh_messages.specs.Signals.{IsSignal}
-use Rattle.carrier.specs.Events.{is_quiet}
+use Rattle.carrier.specs.Events.{flight_from, is_quiet}
 use Rattle.journal.specs.History.{endpoint_by, name_of, next_inc, opened_on}
 use Rattle.journal.specs.Living.{find}
 use Rattle.journal.specs.Logs.{step_limit}
@@ -77,10 +77,11 @@ abbrev pub Hunts : Shape → RunTrunks → RunTrunks → ℕ → Path → Option
 Hunts shape before after n (Over l v) None = AsksThere shape before after n l v
 Hunts shape before after n path found = Become shape after before
 
--- A PACKET meets a verdict, which is to lose it while the link is cut
+-- A PACKET that is in flight meets a verdict, which is to lose it while the link is cut
 pub record Passes (shape : Shape) (P : List Step) (before after : RunTrunks) (l : LinkNo)
     (from : Side) (verdict : Verdict) (es : List Effect) : Type 0 where
   pub of_shape : IsLinkOf shape l
+  pub flies : 0 < length (flight_from from (before l.0).link)
   pub cuts : is_cut P l.0 ≡ true → verdict ≡ Lose
   pub trunk : TrunkState
   pub meets : Meets P (node_at shape l (other_of from)) l from verdict es (before l.0) trunk
@@ -145,7 +146,7 @@ IsTrunkRun shape (s ∷ P) after =
     (before : RunTrunks) × (IsTrunkRun shape P before × IsTrunkStep shape P before s after)
 
 -- a run on links between two nodes each, with no more steps than a journal takes
-pub record IsWholeTrunkRun (shape : Shape) (P : List Step) (trunks : RunTrunks) : Type 0 where
+pub record IsBoundedTrunkRun (shape : Shape) (P : List Step) (trunks : RunTrunks) : Type 0 where
   pub two_ends : HasTwoEnds shape
   pub nodes : NodesFit shape
   pub fits : length P ≤ step_limit

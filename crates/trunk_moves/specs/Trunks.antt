@@ -8,7 +8,7 @@ use Rattle.linx_base.specs.declared.identity.Side.TheVariants.{First, Second}
 use Rattle.link_addresses.specs.Meanings.{used_in}
 use Rattle.journal.specs.Shapes.{Shape}
 use Rattle.link_laws.specs.Ends.{IsLinkOf, node_at}
-use Rattle.link_laws.specs.Fabric.{Links, SideState}
+use Rattle.link_laws.specs.Sides.{Links, SideState}
 use Rattle.trunk.specs.Events.{TrunkState, kept_of, new_trunk, tables_of}
 use Rattle.trunk.specs.Keeping.{KeepsTrunk}
 use Rattle.trunk.specs.Tells.{noted_of, silent_of}
@@ -68,7 +68,8 @@ with_trunk trunks link t k = if k == link then t else trunks k
 
 -- ---- before the first step
 
--- a trunk before anything happened, with a window of at least one frame and pieces of 64 bytes
+-- a trunk before anything happened, with a window of at least one frame and pieces of at least 64
+-- bytes
 pub record IsNew (t : TrunkState) : Type 0 where
   pub window : ℕ
   pub piece : ℕ

@@ -10,8 +10,8 @@ pub fn trunk_runs_are_runs()
     ensures { TrunkRunsAreRuns }
 {}
 
-/// So every such run is legal, the sides of its links are what its history tells, and it keeps what
-/// is promised of runs with links.
+/// So every such run is legal, the sides of its links are what its history tells, and after each of
+/// its steps it keeps what is promised of runs with links.
 pub fn trunk_runs_keep_all()
     ensures { TrunkRunsKeepAll }
 {}

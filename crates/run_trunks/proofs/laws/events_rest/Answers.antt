@@ -1,5 +1,4 @@
 use Rattle.run_trunks.proofs.Rested.{at-rest-grown, changes-there, keeps-all, rests-changed}
-use Rattle.run_trunks.proofs.Rested.{undoes-all}
 use Rattle.run_trunks.proofs.laws.events_rest.Goals as goal
 
 pub returns : goal.returns
@@ -8,5 +7,4 @@ returns c = record {
   rests = rests-changed;
   changes = changes-there;
   keeps = keeps-all;
-  undoes = undoes-all;
 }

@@ -1,4 +1,4 @@
--- What the sides of all links of a run keep.
+-- What a run keeps of its links: the states of their sides.
 use Rattle.std.specs.Prelude.{ℕ, ◌≤◌, ◌&&◌, ◌==◌, List, if◌then◌else◌}
 use Rattle.linx_base.specs.Sides.{other_of}
 use Rattle.linx_base.specs.declared.identity.LinkNo.{LinkNo}
@@ -31,7 +31,7 @@ abbrev pub AllLinked : Shape → List Step → Trunks → Type 0
 AllLinked shape P trunks = (l : LinkNo) → IsLinkOf shape l → (side : Side)
     → IsLinked P (node_at shape l side) l (trunks l.0 side)
 
--- a side as a fabric sees it: its record, the names that the other side asked for in vain, and the
+-- a side as a run sees it: its record, the names that the other side asked for in vain, and the
 -- ticks since it heard
 pub record SideState : Type 0 where
   pub side : SideRecord
@@ -67,7 +67,7 @@ abbrev pub AllPublishedOpen : Shape → List Step → Trunks → Type 0
 AllPublishedOpen shape P trunks = (l : LinkNo) → IsLinkOf shape l → (side : Side)
     → ArePublishedOpen P (node_at shape l side) l (trunks l.0 side)
 
--- WHAT A FABRIC KEEPS OF ITS LINKS, beside a legal journal
+-- WHAT A RUN KEEPS OF ITS LINKS, beside a legal journal
 pub record AreLinksKept (shape : Shape) (P : List Step) (links : Links) : Type 0 where
   pub trunks : AllTrunks shape (records_of links)
   pub linked : AllLinked shape P (records_of links)
