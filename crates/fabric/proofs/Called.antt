@@ -31,10 +31,11 @@ use Rattle.trunk_moves.specs.Steps.{Hunts, HuntsName, Sends, ending}
 use Rattle.trunk_moves.specs.Trunks.{Become}
 use Rattle.trunk_moves.proofs.Peers.{peer-end}
 use Rattle.fabric.specs.Actings.{HasMade}
-use Rattle.fabric.specs.Asks.{FitsEvent, HasSideOn, LeavesBy}
+use Rattle.fabric.specs.Asks.{FitsEvent}
+use Rattle.fabric.specs.Fits.{HasSideOn, LeavesBy}
 use Rattle.fabric.specs.Calls.{CallMade, IsBounded, IsCallMade, IsTyped, ask_of}
 use Rattle.fabric.specs.Calls.{call_made}
-use Rattle.fabric.specs.Calls.{event_of, hand_of, stands_after}
+use Rattle.fabric.specs.Calls.{event_of_call, hand_of, stands_after}
 use Rattle.fabric.specs.declared.call.Call.{Call}
 use Rattle.fabric.specs.declared.call.Call.TheVariants.{Attach, Close, Detach, End, Hunt, Send}
 use Rattle.fabric.specs.declared.standing.Standing.{Standing}
@@ -174,7 +175,7 @@ module _ {f : Layout} {parts : Parts} {actor place home : ℕ} (acts : Acts f pa
     named (Local v) signal typed = tt
     named (Over l v) signal typed = typed
 
-    made-with : (call : Call) → FitsEvent f n (event_of call) (signal_in (hand_of call))
+    made-with : (call : Call) → FitsEvent f n (event_of_call call) (signal_in (hand_of call))
         → IsTyped call → IsBounded call
         → (let made : CallMade = call_made kernel (length P + 1) j call in
         MakesIt made → then ≡ stands_after (length P + 1) made.answer standing
@@ -201,7 +202,7 @@ module _ {f : Layout} {parts : Parts} {actor place home : ℕ} (acts : Acts f pa
         made-detach acts kernel next is standing then stands new f.trunks count j r mine c.node_is
         then_is c.logged (λ l of_shape. refl)
 
-    pub made-call : (call : Call) → FitsEvent f n (event_of call) (signal_in (hand_of call))
+    pub made-call : (call : Call) → FitsEvent f n (event_of_call call) (signal_in (hand_of call))
         → IsTyped call → IsBounded call
         → MakesIt (call_made kernel (length P + 1) j call)
         → (step : ℕ) → step ≡ length new.steps → then ≡ stands_after step answer standing

@@ -130,7 +130,8 @@ kept-new f parts names laid_out log_is trunks_are kernels_are booted_are standin
     record {
       laid_out = subst (λ (n : ℕ). IsLaidOut n f.shape) (sym named) laid_out;
       reached =
-          subst (λ (P : List Step). IsReached f.shape P (trunks_of f.trunks)) (sym steps)
+          subst (λ (P : List Step). IsReached (length f.log.names.nodes) f.shape P
+          (trunks_of f.trunks)) (sym steps)
           (subst (λ (ts : List TrunkState). AreFirst f.shape (trunks_of ts)) (sym trunks_are)
           (all-new f.shape (all-fit nodes f.shape laid_out), λ l of_shape. refl));
       counted = record {

@@ -1,10 +1,11 @@
 -- What a fabric's trunks grant to an actor's step on its node.
-use Rattle.std.proofs.Common.{◌≡◌, ℕ, ◌<◌, Bool, true, false, List, [], length, Some}
+use Rattle.std.proofs.Common.{◌≡◌, ℕ, ◌+◌, ◌<◌, ◌≤◌, Bool, true, false, List, [], length, Some}
 use Rattle.std.proofs.Common.{get_or, refl, sym, ◌∙◌, ap, subst, arith}
-use Rattle.std.specs.Prelude.{◌==◌}
+use Rattle.std.specs.Prelude.{◌==◌, ◌-◌}
 use Rattle.std.specs.Bool.{IsTrue}
 use Rattle.std.proofs.lemmas.Bool.{eqb-true}
 use Rattle.linx_base.specs.NameText.{is_name}
+use Rattle.linx_base.specs.Numbers.{boot_of}
 use Rattle.linx_base.specs.declared.identity.Inc.{Inc}
 use Rattle.linx_base.specs.declared.identity.LinkNo.{LinkNo}
 use Rattle.linx_base.specs.declared.identity.NodeNo.{NodeNo}
@@ -16,12 +17,14 @@ use Rattle.linx_base.specs.declared.identity.Side.TheVariants.{First, Second}
 use Rattle.linx_base.specs.declared.name.Path.{Path}
 use Rattle.linx_base.specs.declared.name.Path.TheVariants.{Local, Over}
 use Rattle.linx_base.specs.declared.signal.SigNote.{SigNote}
+use Rattle.carrier.specs.Events.{half_of}
 use Rattle.journal.specs.History.{endpoint_of, name_of, next_inc, opened_on}
 use Rattle.journal.specs.Living.{is_alive}
 use Rattle.journal.specs.Logs.{step_limit}
 use Rattle.journal.specs.Shapes.{Shape, node_by}
 use Rattle.journal.specs.declared.by.By.TheVariants.{Actor}
 use Rattle.link_laws.specs.Ends.{node_at}
+use Rattle.link_laws.specs.Sessions.{boots}
 use Rattle.node_kernel.specs.Nodes.{NodeState, is_living, is_open}
 use Rattle.run_trunks.specs.Changes.{AllGrant}
 use Rattle.run_trunks.specs.States.{TrunksState, over, trunks_of}
@@ -29,8 +32,9 @@ use Rattle.trunk.specs.Events.{TrunkState, side_of}
 use Rattle.trunk.specs.Laws.{MayPublish}
 use Rattle.trunk_moves.specs.Trunks.{side_if, side_on}
 use Rattle.trunk_moves.proofs.Peers.{peer-end}
-use Rattle.fabric.specs.Asks.{FitsEvent, HasSideOn, LeavesBy}
-use Rattle.fabric.specs.Calls.{event_of, hand_of}
+use Rattle.fabric.specs.Asks.{FitsEvent}
+use Rattle.fabric.specs.Fits.{HasSideOn, LeavesBy}
+use Rattle.fabric.specs.Calls.{event_of_call, hand_of}
 use Rattle.fabric.specs.declared.call.Call.{Call}
 use Rattle.fabric.specs.declared.call.Call.TheVariants.{Attach, Close, Detach, End, Hunt, Send}
 use Rattle.fabric.specs.Machine.{signal_in}
@@ -40,6 +44,7 @@ use Rattle.fabric.specs.Tellings.{HasSide, MaySendTo, MayTell, MayTellHunt, MayT
 use Rattle.fabric.proofs.Nodes.{living-left}
 use Rattle.fabric.proofs.Placed.{Acts, own_kernel-is, own_open}
 use Rattle.fabric.proofs.Reaching.{grants-side, whole-run}
+use Rattle.fabric.proofs.Restarted.{boot-of}
 use Rattle.fabric.proofs.Told.{named-is, node-over, side-over, side-there}
 
 -- a side that is on a node is at that node
@@ -74,6 +79,21 @@ module _ (f : Layout) (parts : Parts) (kept : IsKept f parts) (room : length f.l
         subst (λ (j : Inc). MayPublish (side_of side (trunks_of f.trunks l.0)) j name)
         (ap (λ (m : ℕ). next_inc m (opened_on P m)) there ∙ sym is)
         ((grants-side f parts kept room l of_shape side).opens name named)
+
+    -- a restart of a node, on each side of it
+    pub granted-restart : (n : NodeNo) → 0 < n.0 → n.0 ≤ length f.log.names.nodes → (d boot : ℕ)
+        → boot ≡ get_or parts.booted (n.0 - 1) d + 1
+        → AllGrant f.shape.links n.0 f.trunks
+        (λ side t. boot_of (half_of side t.link).end.talk.mine < boot)
+    granted-restart n above below d boot is l of_shape side on =
+        let there : node_at f.shape l side ≡ n.0 = sym (node-over f.shape l side) ∙ on in
+        let was : get_or parts.booted (n.0 - 1) d ≡ 1 + boots P n.0 =
+        boot-of kept n above below d in
+        let same : boots P (node_at f.shape l side) ≡ boots P n.0 = ap (boots P) there in
+        let earlier : boot_of (half_of side (trunks_of f.trunks l.0).link).end.talk.mine
+        < 2 + boots P (node_at f.shape l side) =
+        (grants-side f parts kept room l of_shape side).boots in
+        omega (arith, is, was, same, earlier)
 
     -- a signal from an open endpoint of a node to a living peer over a link
     pub granted-send : (n : ℕ) (i : Inc) → is_alive P n (Here i) ≡ true → (l : LinkNo) (x : Session)
@@ -149,7 +169,7 @@ module _ {f : Layout} {parts : Parts} {actor place home : ℕ} (acts : Acts f pa
   may-hunt (Local v) leaves = tt
   may-hunt (Over l v) leaves = has-side l leaves
 
-  pub may-tell : (call : Call) → FitsEvent f n (event_of call) (signal_in (hand_of call))
+  pub may-tell : (call : Call) → FitsEvent f n (event_of_call call) (signal_in (hand_of call))
       → MayTell at_rest kernel j call
   may-tell Close fits = tt
   may-tell End fits = tt

@@ -207,7 +207,7 @@ module _ (shape : Shape) (P : List Step) (legal : IsLegal shape P) (short : IsSh
 pub kept-next : (f : Layout) (parts : Parts) (s : Step) (after : List TrunkState) (next : Parts)
     → IsKept f parts → length f.log.steps < step_limit
     → IsTrunkStep f.shape f.log.steps (trunks_of f.trunks) s (trunks_of after)
-    → IsMade f.shape f.log.steps (trunks_of f.trunks) s
+    → IsMade (length f.log.names.nodes) f.shape f.log.steps (trunks_of f.trunks) s
     → (let g : Layout = record f { log = record f.log { steps = s ∷ f.log.steps }; trunks = after }
     in AreCounted g next → AreLeft (s ∷ f.log.steps) next → IsKept g next)
 kept-next f parts s after next kept short step made counted left = record {

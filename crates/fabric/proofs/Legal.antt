@@ -36,11 +36,12 @@ use Rattle.journal.specs.Shapes.{Shape, node_by}
 use Rattle.node_kernel.specs.declared.ask.Ask.{Ask}
 use Rattle.node_kernel.specs.Answers.{event_of, granted_by, hand_of, is_opening as opens, named}
 use Rattle.node_kernel.specs.Answers.{needs_endpoint, refused}
-use Rattle.fabric.specs.Asks.{FitsEvent}
+use Rattle.fabric.specs.Fits.{FitsRun, MayMeetIn}
 use Rattle.fabric.specs.Links.{is_still}
 use Rattle.fabric.specs.Machine.{all_leave_at_rest, granted_head, head_for, head_of}
 use Rattle.fabric.specs.Machine.{is_at_rest, look, pumped_head, signal_in, vain_look}
-use Rattle.fabric.specs.Run.{IsMade, Layout}
+use Rattle.fabric.specs.Run.{IsMade}
+use Rattle.link_laws.specs.Ends.{IsLinkOf}
 use Rattle.link_laws.specs.Laws.{HasEffects, actors_alone, restarting}
 use Rattle.link_laws.specs.Moves.{KeepsNodeLaws}
 use Rattle.link_laws.specs.Sessions.{boots}
@@ -113,23 +114,25 @@ boots-none P by es n (heads.Restart k) off = absurd (true≢false off)
 boots-none P by es n _ off = refl
 
 -- A STEP keeps the laws of nodes, hunts for a name, and is made of what it names
-pub record IsLawful (shape : Shape) (P : List Step) (trunks : RunTrunks) (s : Step) : Type 0 where
+pub record IsLawful (nodes : ℕ) (shape : Shape) (P : List Step) (trunks : RunTrunks) (s : Step)
+    : Type 0 where
   pub laws : KeepsNodeLaws shape P s
   pub named : HuntsName s.head
-  pub made : IsMade shape P trunks s
+  pub made : IsMade nodes shape P trunks s
 
 -- it is so, whoever makes it, by what each law says of its head
-lawful-by : (shape : Shape) (P : List Step) (trunks : RunTrunks) (es : List Effect) (by : By)
+lawful-by : (nodes : ℕ) (shape : Shape) (P : List Step) (trunks : RunTrunks) (es : List Effect)
+    (by : By)
     → IsMaker shape P by → (head : Head) → may_make by head ≡ true
     → (is_opening head ≡ true → is_none (endpoint_by P by) ≡ true)
     → (is_endpoints head ≡ true → is_some (endpoint_by P by) ≡ true) → IsBounded head
     → HasEffects shape P (node_by shape by) (endpoint_by P by) head es
     → KeepsSends P (node_by shape by) head
     → KeepsReceives (actors_alone shape) P (node_by shape by) by (endpoint_by P by) head
-    → HuntsName head → IsMade shape P trunks (record { by = by; head = head; effects = es })
-    → IsLawful shape P trunks (record { by = by; head = head; effects = es })
-lawful-by shape P trunks es by maker head may opens_one needs_one bounds effects sends receives name
-    made = record {
+    → HuntsName head → IsMade nodes shape P trunks (record { by = by; head = head; effects = es })
+    → IsLawful nodes shape P trunks (record { by = by; head = head; effects = es })
+lawful-by nodes shape P trunks es by maker head may opens_one needs_one bounds effects sends receives
+    name made = record {
       laws = record {
         makers = record { maker = maker; may = may };
         endpoints = record { opens = opens_one; needs = needs_one };
@@ -199,7 +202,7 @@ made-of_named shape P still k head opens_one needs_one of_named =
     }))
     ∙ of_named
 
-module _ (shape : Shape) (P : List Step) (trunks : RunTrunks) (k : ℕ)
+module _ (nodes : ℕ) (shape : Shape) (P : List Step) (trunks : RunTrunks) (k : ℕ)
     (maker : IsMaker shape P (Actor k)) where
   abbrev home : ℕ
   home = node_by shape (Actor k)
@@ -217,17 +220,26 @@ module _ (shape : Shape) (P : List Step) (trunks : RunTrunks) (k : ℕ)
   -- a step, if there is one, is lawful
   abbrev pub LawfulIf : Option Head → Type 0
   LawfulIf None = Unit {0}
-  LawfulIf (Some head) = IsLawful shape P trunks (made_by head)
+  LawfulIf (Some head) = IsLawful nodes shape P trunks (made_by head)
 
-  -- it is, by what the laws say of its head and the machine makes of what it names
+  -- what it names fits the run
+  abbrev NamesFitting : Head → Type 0
+  NamesFitting head =
+      FitsRun nodes shape P trunks home (event_of head) (signal_in (hand_of head))
+
+  -- it is lawful, by what the laws say of its head, what the machine makes of what it names, and
+  -- that what it speaks of is there
   made-lawful : (head : Head) → (is_opening head ≡ true → is_none me ≡ true)
       → (is_endpoints head ≡ true → is_some me ≡ true) → IsBounded head → KeepsSends P home head
       → KeepsReceives (actors_alone shape) P home (Actor k) me head → HuntsName head
-      → IsOfNamed shape P still k head → LawfulIf (Some head)
-  made-lawful head opens_one needs_one bounds sends receives name of_named =
-      lawful-by shape P trunks (effects_for shape P home me head) (Actor k) maker head refl
+      → IsOfNamed shape P still k head → NamesFitting head → LawfulIf (Some head)
+  made-lawful head opens_one needs_one bounds sends receives name of_named fits =
+      lawful-by nodes shape P trunks (effects_for shape P home me head) (Actor k) maker head refl
       opens_one needs_one bounds (has-effects shape P home me head) sends receives name
-      (made-of_named shape P still k head opens_one needs_one of_named)
+      (record {
+        given = made-of_named shape P still k head opens_one needs_one of_named;
+        fits = fits;
+      })
 
   vain : (f : Sigsel) → is_some me ≡ true → first_selected f (queue_of P me) ≡ None
       → (rest waits : Bool) → (is_at_rest shape P k && still) ≡ rest
@@ -240,11 +252,11 @@ module _ (shape : Shape) (P : List Step) (trunks : RunTrunks) (k : ℕ)
               (and_parts (is_at_rest shape P k) still at_rest).0 above within different;
           links = refl;
         },
-      ) tt (rw (none, at_rest) refl)
+      ) tt (rw (none, at_rest) refl) tt
   vain f mine none false true at_rest has = tt
   vain f mine none false false at_rest has =
       made-lawful (heads.Waits f) (fails refl) (λ is. mine) tt tt
-      (none, no_filter (waits_with P k) has) tt (rw (none, at_rest, has) refl)
+      (none, no_filter (waits_with P k) has) tt (rw (none, at_rest, has) refl) tt
     where
       no_filter : (w : Option Sigsel) → is_some w ≡ false → w ≡ None
       no_filter None is = refl
@@ -256,60 +268,61 @@ module _ (shape : Shape) (P : List Step) (trunks : RunTrunks) (k : ℕ)
       vain f mine is (is_at_rest shape P k && still) (is_some (waits_with P k)) refl refl
   looks f mine (Some item) is =
       made-lawful (heads.Take f item.pos) (fails refl) (λ is. mine) tt tt (rw is refl) tt
-      (rw is refl)
+      (rw is refl) tt
 
   -- WHAT IS GRANTED makes a lawful step
-  pub granted-lawful : (f : Layout) (event : Event) (note : SigNote) → IsGranted me event
-      → IsNamedEvent event → length note.bytes ≤ data_limit → FitsEvent f home event note
+  pub granted-lawful : (event : Event) (note : SigNote) → IsGranted me event → IsNamedEvent event
+      → length note.bytes ≤ data_limit → FitsRun nodes shape P trunks home event note
       → LawfulIf (head_of shape P still k home me event note)
-  granted-lawful f (asks.Open name) note g named short fits =
-      made-lawful (heads.Open name) (λ is. g.opening refl) (fails refl) named tt tt tt refl
-  granted-lawful f asks.Close note g named short fits =
-      made-lawful heads.Close (fails refl) g.needing tt tt tt tt refl
-  granted-lawful f (asks.Send q) note g named short fits =
+  granted-lawful (asks.Open name) note g named short fits =
+      made-lawful (heads.Open name) (λ is. g.opening refl) (fails refl) named tt tt tt refl tt
+  granted-lawful asks.Close note g named short fits =
+      made-lawful heads.Close (fails refl) g.needing tt tt tt tt refl tt
+  granted-lawful (asks.Send q) note g named short fits =
       made-lawful
       (heads.Send q note (Rattle.journal.specs.Effects.send_answer (is_alive P home q) q))
-      (fails refl) g.needing short refl tt tt refl
-  granted-lawful f (asks.Look filter) note g named short fits =
+      (fails refl) g.needing short refl tt tt refl tt
+  granted-lawful (asks.Look filter) note g named short fits =
       looks filter (g.needing refl) (first_selected filter (queue_of P me)) refl
-  granted-lawful f (asks.Hunt path) note g named short fits =
+  granted-lawful (asks.Hunt path) note g named short fits =
       made-lawful (heads.Hunt path note) (fails refl) g.needing short tt tt
-      (hunts-name path note named) refl
+      (hunts-name path note named) refl fits
     where
       hunts-name : (p : Path) (n : SigNote) → IsNamedEvent (asks.Hunt p)
           → HuntsName (heads.Hunt p n)
       hunts-name (Local v) n named = tt
       hunts-name (Over l v) n named = named
-  granted-lawful f (asks.Attach q) note g named short fits =
-      made-lawful (heads.Attach q note) (fails refl) g.needing fits tt tt tt refl
-  granted-lawful f (asks.Detach r) note g named short fits =
+  granted-lawful (asks.Attach q) note g named short fits =
+      made-lawful (heads.Attach q note) (fails refl) g.needing fits tt tt tt refl fits
+  granted-lawful (asks.Detach r) note g named short fits =
       made-lawful (heads.Detach r (detached_as P home me r)) (fails refl) g.needing tt tt refl tt
-      refl
-  granted-lawful f (asks.Cut link) note g named short fits =
-      made-lawful (heads.Cut link) (fails refl) (fails refl) tt tt tt tt refl
-  granted-lawful f (asks.Mend link) note g named short fits =
-      made-lawful (heads.Mend link) (fails refl) (fails refl) tt tt tt tt refl
-  granted-lawful f (asks.Restart n) note g named short fits =
-      made-lawful (heads.Restart n) (fails refl) (fails refl) tt tt tt tt refl
-  granted-lawful f (asks.Settle link) note g named short fits =
-      made-lawful (heads.Settle link) (fails refl) (fails refl) tt tt tt tt refl
-  granted-lawful f (asks.Refuse reason) note g named short fits =
-      made-lawful (heads.Refused reason) (fails refl) (fails refl) tt tt tt tt refl
-  granted-lawful f asks.End note g named short fits =
-      made-lawful heads.Ended (fails refl) (fails refl) tt tt tt tt refl
-  granted-lawful f (asks.Wire link from verdict) note g named short fits =
-      made-lawful (heads.Wire link from verdict) (fails refl) (fails refl) tt tt tt tt refl
-  granted-lawful f (asks.Tick link side) note g named short fits =
-      made-lawful (heads.Tick link side) (fails refl) (fails refl) tt tt tt tt refl
+      refl tt
+  granted-lawful (asks.Cut link) note g named short fits =
+      made-lawful (heads.Cut link) (fails refl) (fails refl) tt tt tt tt refl fits
+  granted-lawful (asks.Mend link) note g named short fits =
+      made-lawful (heads.Mend link) (fails refl) (fails refl) tt tt tt tt refl fits
+  granted-lawful (asks.Restart n) note g named short fits =
+      made-lawful (heads.Restart n) (fails refl) (fails refl) tt tt tt tt refl fits
+  granted-lawful (asks.Settle link) note g named short fits =
+      made-lawful (heads.Settle link) (fails refl) (fails refl) tt tt tt tt refl fits
+  granted-lawful (asks.Refuse reason) note g named short fits =
+      made-lawful (heads.Refused reason) (fails refl) (fails refl) tt tt tt tt refl tt
+  granted-lawful asks.End note g named short fits =
+      made-lawful heads.Ended (fails refl) (fails refl) tt tt tt tt refl tt
+  granted-lawful (asks.Wire link from verdict) note g named short fits =
+      made-lawful (heads.Wire link from verdict) (fails refl) (fails refl) tt tt tt tt refl fits
+  granted-lawful (asks.Tick link side) note g named short fits =
+      made-lawful (heads.Tick link side) (fails refl) (fails refl) tt tt tt tt refl fits
 
   -- a refusal
-  pub refused-lawful : (reason : Refusal) → IsLawful shape P trunks (made_by (heads.Refused reason))
+  pub refused-lawful : (reason : Refusal)
+      → IsLawful nodes shape P trunks (made_by (heads.Refused reason))
   refused-lawful reason =
-      made-lawful (heads.Refused reason) (fails refl) (fails refl) tt tt tt tt refl
+      made-lawful (heads.Refused reason) (fails refl) (fails refl) tt tt tt tt refl tt
 
 -- A STEP OF A LINK, by a maker that may make it, whatever its effects are
-module _ (shape : Shape) (P : List Step) (trunks : RunTrunks) (es : List Effect) (by : By)
-    (maker : IsMaker shape P by) where
+module _ (nodes : ℕ) (shape : Shape) (P : List Step) (trunks : RunTrunks) (es : List Effect)
+    (by : By) (maker : IsMaker shape P by) where
   -- a head that needs no endpoint is given to an actor by what it names, and to a pump
   given : (head : Head) → is_opening head ≡ false → is_endpoints head ≡ false
       → ((k : ℕ) → IsOfNamed shape P (is_still shape P trunks) k head)
@@ -321,15 +334,22 @@ module _ (shape : Shape) (P : List Step) (trunks : RunTrunks) (es : List Effect)
   given head opens_not needs_not of_named pumped (Pump link) = pumped
 
   pub wire-lawful : (l : LinkNo) (from : Side) (verdict : Verdict)
-      → may_make by (heads.Wire l from verdict) ≡ true
-      → IsLawful shape P trunks
+      → may_make by (heads.Wire l from verdict) ≡ true → MayMeetIn shape P trunks l from verdict
+      → IsLawful nodes shape P trunks
       (record { by = by; head = heads.Wire l from verdict; effects = es })
-  wire-lawful l from verdict may =
-      lawful-by shape P trunks es by maker (heads.Wire l from verdict) may (fails refl) (fails refl)
-      tt tt tt tt tt (given (heads.Wire l from verdict) refl refl (λ k. refl) refl by)
+  wire-lawful l from verdict may meets =
+      lawful-by nodes shape P trunks es by maker (heads.Wire l from verdict) may (fails refl)
+      (fails refl) tt tt tt tt tt (record {
+        given = given (heads.Wire l from verdict) refl refl (λ k. refl) refl by;
+        fits = meets;
+      })
 
   pub tick-lawful : (l : LinkNo) (side : Side) → may_make by (heads.Tick l side) ≡ true
-      → IsLawful shape P trunks (record { by = by; head = heads.Tick l side; effects = es })
-  tick-lawful l side may =
-      lawful-by shape P trunks es by maker (heads.Tick l side) may (fails refl) (fails refl)
-      tt tt tt tt tt (given (heads.Tick l side) refl refl (λ k. refl) refl by)
+      → IsLinkOf shape l
+      → IsLawful nodes shape P trunks (record { by = by; head = heads.Tick l side; effects = es })
+  tick-lawful l side may of_shape =
+      lawful-by nodes shape P trunks es by maker (heads.Tick l side) may (fails refl) (fails refl)
+      tt tt tt tt tt (record {
+        given = given (heads.Tick l side) refl refl (λ k. refl) refl by;
+        fits = of_shape;
+      })

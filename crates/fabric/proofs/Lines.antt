@@ -13,7 +13,7 @@ use Rattle.journal.specs.declared.by.By.{By}
 use Rattle.journal.specs.declared.head.Head.{Head}
 use Rattle.journal.specs.declared.head.Head.TheVariants as heads
 use Rattle.link_laws.specs.Sessions.{is_cut}
-use Rattle.fabric.specs.Lines.{counted, head_of, marked}
+use Rattle.fabric.specs.Lines.{counted, head_of_mark, marked}
 use Rattle.fabric.specs.Links.{is_tick, is_wire, line_left, tick_steps, wire_steps}
 use Rattle.fabric.specs.declared.line.Line.{Line}
 use Rattle.fabric.specs.declared.line.Mark.{Mark}
@@ -50,7 +50,7 @@ module _ (P : List Step) (by : By) (es : List Effect) (k : LinkNo) where
   itself : (k.0 == k.0) ≡ true
   itself = eq-eqb k.0 k.0 refl
 
-  pub own-mark : (mark : Mark) → line_left (step (head_of mark k)) k.0 ≡ marked mark was
+  pub own-mark : (mark : Mark) → line_left (step (head_of_mark mark k)) k.0 ≡ marked mark was
   own-mark Cut = rw itself refl
   own-mark Mend = rw itself refl
   own-mark Settle = rw itself refl

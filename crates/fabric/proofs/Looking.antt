@@ -1,7 +1,7 @@
 -- A look, a refusal, and the end of an actor without an endpoint, as the fabric's methods make
 -- them.
 use Rattle.std.proofs.Common.{◌≡◌, ℕ, suc, Bool, true, false, ◌&&◌, ◌||◌, List}
-use Rattle.std.proofs.Common.{[], ◌∷◌}
+use Rattle.std.proofs.Common.{[], ◌∷◌, length}
 use Rattle.std.proofs.Common.{Option, Some, None, get_or, refl, sym, ◌∙◌, ap, subst}
 use Rattle.std.proofs.Common.{arith, is_some}
 use Rattle.std.specs.List.{filter}
@@ -103,8 +103,9 @@ module _ {f : Layout} {parts : Parts} {actor place home : ℕ} (acts : Acts f pa
         let of_me : first_selected filter (queue_of P me) ≡ Some item = queue-is j filter mine
         ∙ in_queue in
         let head : Head = heads.Take filter item.pos in
-        let legal : IsLawful shape P trunks (step_by head) =
-        subst (λ (o : Option Item). LawfulIf shape P trunks actor acts.maker (looks filter o)) of_me
+        let legal : IsLawful (length f.log.names.nodes) shape P trunks (step_by head) =
+        subst (λ (o : Option Item). LawfulIf (length f.log.names.nodes) shape P trunks actor
+        acts.maker (looks filter o)) of_me
         (granted acts (asks.Look filter) (signal_in None) (granted-own acts (asks.Look filter)
         refl j mine) tt
         (omega arith) tt)
@@ -136,7 +137,8 @@ module _ {f : Layout} {parts : Parts} {actor place home : ℕ} (acts : Acts f pa
         → changed_node shape (Actor actor) head ≡ suc home
         → ((n : ℕ) → effects_by P n me head ≡ []) → TakesNone head
         → hunt_in node.0 now me head ≡ [] → ((a : PendingAttach) → detaches me head a ≡ false)
-        → attach_in node.0 now me head ≡ [] → IsLawful shape P trunks (step_by head)
+        → attach_in node.0 now me head ≡ []
+        → IsLawful (length f.log.names.nodes) shape P trunks (step_by head)
         → MakesTrunks acts head f.trunks
         → (standing then : Standing) → standing ≡ get_or parts.standings place standing
         → then ≡ record standing { waits = waits_in head; ended = is_end head || standing.ended }
@@ -180,9 +182,11 @@ module _ {f : Layout} {parts : Parts} {actor place home : ℕ} (acts : Acts f pa
     vain-legal : (filter : Sigsel) → is_some me ≡ true → (rest waits : Bool)
         → (is_at_rest shape P actor && calm_links) ≡ rest → is_some (waits_with P actor) ≡ waits
         → first_selected filter (queue_of P me) ≡ None
-        → LawfulIf shape P trunks actor acts.maker (vain_look rest waits filter)
+        → LawfulIf (length f.log.names.nodes) shape P trunks actor acts.maker (vain_look rest waits
+        filter)
     vain-legal filter owns rest waits rest_is waits_is none =
-        subst (λ (h : Option Head). LawfulIf shape P trunks actor acts.maker h)
+        subst (λ (h : Option Head). LawfulIf (length f.log.names.nodes) shape P trunks actor
+        acts.maker h)
         (looked-vain filter rest waits rest_is waits_is none)
         (granted acts (asks.Look filter) (signal_in None)
         (record { opening = λ o. absurd (true≢false (sym o)); needing = λ n. owns }) tt
@@ -199,7 +203,8 @@ module _ {f : Layout} {parts : Parts} {actor place home : ℕ} (acts : Acts f pa
     made-find_none filter owns none rest standing then stands then_eq new new_eq =
         let waits : Bool = is_some (waits_with P actor) in
         let both = made-quiet (heads.TakeNone filter) refl (λ l. tt) at.home_is (λ n. refl)
-        (λ x. refl) refl (λ a. refl) refl (vain-legal filter owns true waits rest refl none) (record {
+        (λ x. refl) refl (λ a. refl) refl (vain-legal filter owns true waits rest refl none)
+        (record {
           resting = rests-all shape P trunks
               (and_parts (is_at_rest shape P actor) calm_links rest).1;
           makes = λ l of_shape. refl;
@@ -236,7 +241,8 @@ module _ {f : Layout} {parts : Parts} {actor place home : ℕ} (acts : Acts f pa
         × HasMade f (lay_still new) actor (refused reason) (answers.Refused reason)
     made-refuse reason standing then stands then_eq new new_eq =
         made-quiet (heads.Refused reason) refl (λ l. tt) at.home_is (λ n. refl) (λ x. refl) refl
-        (λ a. refl) refl (refused-lawful shape P trunks actor acts.maker reason)
+        (λ a. refl) refl (refused-lawful (length f.log.names.nodes) shape P trunks actor acts.maker
+        reason)
         (λ l of_shape. refl) standing then stands then_eq new new_eq (answers.Refused reason) refl
 
     -- THE END of one that has no endpoint

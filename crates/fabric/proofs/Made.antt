@@ -44,7 +44,8 @@ use Rattle.node_kernel.specs.Calls.{after_send, detached, after_detach_of}
 use Rattle.node_kernel.specs.Nodes.{NodeState, find_at, is_living, next_of}
 use Rattle.fabric.specs.declared.standing.Standing.{Standing}
 use Rattle.fabric.specs.Actings.{HasMade, asking}
-use Rattle.fabric.specs.Asks.{FitsEvent, LeavesBy}
+use Rattle.fabric.specs.Asks.{FitsEvent}
+use Rattle.fabric.specs.Fits.{LeavesBy}
 use Rattle.fabric.specs.Links.{line_left}
 use Rattle.fabric.specs.Machine.{head_of, signal_in}
 use Rattle.fabric.specs.Remains.{AreStandingsLeft, IsKept, Parts}
@@ -99,13 +100,14 @@ module _ {f : Layout} {parts : Parts} {actor place home : ℕ} (acts : Acts f pa
         (step_by head).effects
 
     -- a lawful step that makes this of the trunks
-    run-step : (head : Head) → IsLawful shape P trunks (step_by head) → (after : List TrunkState)
+    run-step : (head : Head)
+        → IsLawful (length f.log.names.nodes) shape P trunks (step_by head) → (after : List TrunkState)
         → MakesTrunks head after → IsTrunkStep shape P trunks (step_by head) (trunks_of after)
     run-step head lawful after makes =
         record { laws = lawful.laws; named = lawful.named; makes = makes }
 
     -- and is what was asked for, answered so
-    pub is-step : (head : Head) → IsLawful shape P trunks (step_by head)
+    pub is-step : (head : Head) → IsLawful (length f.log.names.nodes) shape P trunks (step_by head)
         → (new : Log) → new.steps ≡ step_by head ∷ P → (after : List TrunkState)
         → MakesTrunks head after → (answer : StepAnswer)
         → answer ≡ answer_of P head (step_by head).effects
@@ -137,7 +139,8 @@ module _ {f : Layout} {parts : Parts} {actor place home : ℕ} (acts : Acts f pa
     -- WHAT IS KEPT where the kernels and the standing of the maker change alone
     kept-with : (kernels : List NodeState) → length kernels ≡ length parts.kernels
         → (head : Head) → is_restart head ≡ false → ((l : ℕ) → IsApart l head)
-        → IsLawful shape P trunks (step_by head) → AreNodesLeft (step_by head ∷ P) kernels
+        → IsLawful (length f.log.names.nodes) shape P trunks (step_by head)
+        → AreNodesLeft (step_by head ∷ P) kernels
         → (standing : Standing)
         → standing ≡ standing_past true now head (step_by head).effects stood
         → (new : Log) → new ≡ record log { steps = step_by head ∷ P }
@@ -169,7 +172,8 @@ module _ {f : Layout} {parts : Parts} {actor place home : ℕ} (acts : Acts f pa
 
     -- where the kernel of its node changes
     calm : (head : Head) → is_restart head ≡ false → ((l : ℕ) → IsApart l head)
-        → changed_node shape (Actor actor) head ≡ suc home → IsLawful shape P trunks (step_by head)
+        → changed_node shape (Actor actor) head ≡ suc home
+        → IsLawful (length f.log.names.nodes) shape P trunks (step_by head)
         → (kernel : NodeState) → kernel ≡ node_left (step_by head ∷ P) node
         → (standing : Standing)
         → standing ≡ standing_past true now head (step_by head).effects stood
@@ -186,7 +190,8 @@ module _ {f : Layout} {parts : Parts} {actor place home : ℕ} (acts : Acts f pa
     -- where none does
     pub calm_own : (head : Head) → is_restart head ≡ false → ((l : ℕ) → IsApart l head)
         → changed_node shape (Actor actor) head ≡ suc home
-        → IsLawful shape P trunks (step_by head) → node_left (step_by head ∷ P) node ≡ old
+        → IsLawful (length f.log.names.nodes) shape P trunks (step_by head)
+        → node_left (step_by head ∷ P) node ≡ old
         → (standing : Standing)
         → standing ≡ standing_past true now head (step_by head).effects stood
         → (new : Log) → new ≡ record log { steps = step_by head ∷ P }
@@ -201,10 +206,11 @@ module _ {f : Layout} {parts : Parts} {actor place home : ℕ} (acts : Acts f pa
     -- what is granted is lawful
     pub granted : (event : Event) (note : SigNote) → IsGranted me event → IsNamedEvent event
         → length note.bytes ≤ data_limit → FitsEvent f (node_by shape (Actor actor)) event note
-        → LawfulIf shape P trunks actor acts.maker
+        → LawfulIf (length f.log.names.nodes) shape P trunks actor acts.maker
         (head_of shape P calm_links actor (node_by shape (Actor actor)) me event note)
     granted event note g named short fit =
-        granted-lawful shape P trunks actor acts.maker f event note g named short fit
+        granted-lawful (length f.log.names.nodes) shape P trunks actor acts.maker event note g
+        named short fit
 
     -- an event of the endpoint's is granted where there is one
     pub granted-own : (event : Event) → is_opening event ≡ false → (j : Inc) → me ≡ Some j
@@ -274,7 +280,8 @@ module _ {f : Layout} {parts : Parts} {actor place home : ℕ} (acts : Acts f pa
           let logged : new ≡ record log { steps = step_by (heads.Open name) ∷ P } =
           logged-as new (heads.Open name) (opening (next_of kernel) name kernel.hunts) new_eq
           (own_es ∙ ap (λ (k : NodeState). opening (next_of k) name k.hunts) (sym k_is)) in
-          let legal : IsLawful shape P trunks (step_by (heads.Open name)) =
+          let legal : IsLawful (length f.log.names.nodes) shape P trunks (step_by (heads.Open
+          name)) =
           granted (asks.Open name) (signal_in None)
           (record { opening = λ o. ap is_none none; needing = λ n. absurd (true≢false (sym n)) })
           named (omega arith) tt
@@ -302,7 +309,8 @@ module _ {f : Layout} {parts : Parts} {actor place home : ℕ} (acts : Acts f pa
       made-closing : (head : Head) → is_restart head ≡ false
           → ((l : ℕ) → IsApart l head) → changed_node shape (Actor actor) head ≡ suc home
           → (ends : (n : ℕ) (e : Option Inc) → effects_for shape P n e head ≡ ending e (owed P n))
-          → (j : Inc) → me ≡ Some j → IsLawful shape P trunks (step_by head)
+          → (j : Inc) → me ≡ Some j
+          → IsLawful (length f.log.names.nodes) shape P trunks (step_by head)
           → node_left (step_by head ∷ P) node ≡ after_close old j now
           → next ≡ after_close kernel j (length P + 1)
           → (step : ℕ) → step ≡ length new.steps
@@ -377,7 +385,8 @@ module _ {f : Layout} {parts : Parts} {actor place home : ℕ} (acts : Acts f pa
       -- A STEP THAT ONLY BRINGS ITEMS, as its kernel tells, and after which its maker doesn't wait
       pub made-items : (head : Head) → is_restart head ≡ false
           → ((l : ℕ) → IsApart l head) → changed_node shape (Actor actor) head ≡ suc home
-          → is_end head ≡ false → waits_in head ≡ None → IsLawful shape P trunks (step_by head)
+          → is_end head ≡ false → waits_in head ≡ None
+          → IsLawful (length f.log.names.nodes) shape P trunks (step_by head)
           → (told : List Effect) → IsLogged new head told → (step_by head).effects ≡ told
           → OnlyItems told → next ≡ node_left (step_by head ∷ P) node
           → then ≡ record standing { waits = None } → MakesTrunks head after

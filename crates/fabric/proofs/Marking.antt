@@ -1,6 +1,6 @@
 -- An actor's cut, mend or end of a link's plans, as the fabric's method makes it.
-use Rattle.std.proofs.Common.{◌≡◌, ℕ, suc, List, [], ◌∷◌, Option}
-use Rattle.std.proofs.Common.{None, get_or, refl, sym, ◌∙◌, ap, subst, arith, false}
+use Rattle.std.proofs.Common.{◌≡◌, ℕ, suc, List, [], ◌∷◌, length}
+use Rattle.std.proofs.Common.{Option, None, get_or, refl, sym, ◌∙◌, ap, subst, arith, false}
 use Rattle.std.specs.Prelude.{◌-◌, slice_get, slice_set}
 use Rattle.linx_base.specs.declared.identity.LinkNo.{LinkNo}
 use Rattle.linx_base.specs.declared.signal.SigNote.{SigNote}
@@ -25,8 +25,8 @@ use Rattle.fabric.specs.declared.line.Mark.TheVariants.{Cut, Mend, Settle}
 use Rattle.fabric.specs.declared.standing.Standing.{Standing}
 use Rattle.fabric.specs.Actings.{HasMade, asking}
 use Rattle.fabric.specs.Asks.{FitsEvent}
-use Rattle.fabric.specs.Lines.{event_of, head_of, marked}
-use Rattle.fabric.specs.Machine.{head_of as head_for_event, signal_in}
+use Rattle.fabric.specs.Lines.{event_of_mark, head_of_mark, marked}
+use Rattle.fabric.specs.Machine.{head_of, signal_in}
 use Rattle.fabric.specs.Remains.{IsKept, Parts, node_left, standing_left}
 use Rattle.fabric.specs.Run.{IsStepOf, Layout}
 use Rattle.fabric.specs.Standings.{waiting_no_more, waiting_none}
@@ -77,16 +77,16 @@ module _ {f : Layout} {parts : Parts} {actor place home : ℕ} (acts : Acts f pa
   -- what is asked for is lawful
   asked : (event : Event) → is_opening event ≡ false → needs_endpoint event ≡ false
       → IsNamedEvent event → FitsEvent f (node_by shape (Actor actor)) event (signal_in None)
-      → LawfulIf shape P trunks actor acts.maker
-      (head_for_event shape P (is_still shape P trunks) actor (node_by shape (Actor actor)) me event
+      → LawfulIf (length f.log.names.nodes) shape P trunks actor acts.maker
+      (head_of shape P (is_still shape P trunks) actor (node_by shape (Actor actor)) me event
       (signal_in None))
   asked event opens_not needs_not named fit =
       granted acts event (signal_in None) (granted-plain me event opens_not needs_not) named
       (omega arith) fit
 
   -- A MARK whose head leaves the nodes and the trunks
-  made-mark : (mark : Mark) → (let head : Head = head_of mark l in
-      IsLawful shape P trunks (step_by head)
+  made-mark : (mark : Mark) → (let head : Head = head_of_mark mark l in
+      IsLawful (length f.log.names.nodes) shape P trunks (step_by head)
       → Makes shape P trunks trunks (node_by shape (Actor actor)) me head []
       → changed_node shape (Actor actor) head ≡ suc home → ((n : ℕ) → effects_by P n me head ≡ [])
       → TakesNone head → hunt_in node.0 now me head ≡ []
@@ -99,7 +99,7 @@ module _ {f : Layout} {parts : Parts} {actor place home : ℕ} (acts : Acts f pa
       × IsStepOf f (laid f new f.trunks) (Actor actor) head answers.Done)
   made-mark mark lawful makes changed none takes hunts cancels attaches line next line_is next_eq
       standing then stands then_eq new new_eq =
-      let head : Head = head_of mark l in
+      let head : Head = head_of_mark mark l in
       let step : IsTrunkStep shape P trunks (step_by head) trunks =
       record { laws = lawful.laws; named = lawful.named; makes = makes } in
       let left : node_left (step_by head ∷ P) node ≡ node_left P node =
@@ -125,9 +125,9 @@ module _ {f : Layout} {parts : Parts} {actor place home : ℕ} (acts : Acts f pa
       → next ≡ marked mark line
       → (standing then : Standing) → standing ≡ get_or parts.standings place standing
       → then ≡ record standing { waits = None }
-      → (new : Log) → IsLogged acts new (head_of mark l) []
+      → (new : Log) → IsLogged acts new (head_of_mark mark l) []
       → IsKept (laid f new f.trunks) (with_mark then next)
-      × HasMade f (laid f new f.trunks) actor (asking (event_of mark l) None) answers.Done
+      × HasMade f (laid f new f.trunks) actor (asking (event_of_mark mark l) None) answers.Done
   made-marked Cut = made-mark Cut (asked (asks.Cut l) refl refl tt of_shape) (λ k of_link. refl)
       at.home_is (λ n. refl) (λ x. refl) refl (λ a. refl) refl
   made-marked Mend = made-mark Mend (asked (asks.Mend l) refl refl tt of_shape) (λ k of_link. refl)
@@ -137,7 +137,7 @@ module _ {f : Layout} {parts : Parts} {actor place home : ℕ} (acts : Acts f pa
 
 -- what is asked of a mark is that its link is one of the shape
 pub mark-fits : (f : Layout) (node : ℕ) (note : SigNote) (mark : Mark) (l : LinkNo)
-    → FitsEvent f node (event_of mark l) note → IsLinkOf f.shape l
+    → FitsEvent f node (event_of_mark mark l) note → IsLinkOf f.shape l
 mark-fits f node note Cut l fits = fits
 mark-fits f node note Mend l fits = fits
 mark-fits f node note Settle l fits = fits

@@ -52,7 +52,7 @@ use Rattle.fabric.specs.Remains.{IsLaidOut}
 use Rattle.fabric.specs.Remains.{IsLink, IsNode, Parts, node_left, standing_left}
 use Rattle.fabric.specs.Run.{IsStepOf, Layout}
 use Rattle.fabric.specs.Standings.{IsStanding, waiting_no_more, waiting_none}
-use Rattle.fabric.specs.Lines.{head_of}
+use Rattle.fabric.specs.Lines.{head_of_mark}
 use Rattle.fabric.proofs.Brings.{leaves_down, leaves_gone, leaves_met, only-up}
 use Rattle.fabric.proofs.Effects.{LeavesOpen, leaves-none, leaves_open, only-arrived}
 use Rattle.fabric.proofs.Effects.{only-founds}
@@ -160,7 +160,7 @@ wire-on l from verdict =
 pub tick-on : (l : LinkNo) (side : Side) → IsOnLink l (heads.Tick l side)
 tick-on l side = on-link l (heads.Tick l side) refl refl refl (λ P es. refl) (λ n other. other)
 
-pub mark-on : (l : LinkNo) (mark : Mark) → IsOnLink l (head_of mark l)
+pub mark-on : (l : LinkNo) (mark : Mark) → IsOnLink l (head_of_mark mark l)
 mark-on l Cut = on-link l (heads.Cut l) refl refl refl (λ P es. refl) (λ n other. other)
 mark-on l Mend = on-link l (heads.Mend l) refl refl refl (λ P es. refl) (λ n other. other)
 mark-on l Settle = on-link l (heads.Settle l) refl refl refl (λ P es. refl) (λ n other. other)
@@ -290,7 +290,8 @@ module _ {f : Layout} {parts : Parts} (kept : IsKept f parts)
 
     -- WHAT IS KEPT after a step on a link that opens and closes none, and after which its maker
     -- waits no more
-    pub made-on_link : IsLawful shape P (trunks_of f.trunks) s → IsMaker shape P s.by
+    pub made-on_link : IsLawful (length f.log.names.nodes) shape P (trunks_of f.trunks) s
+        → IsMaker shape P s.by
         → AreTrunksOf shape after → (l : LinkNo) → IsLinkOf shape l → IsOnLink l s.head
         → LeavesOpen s.effects → (line : Line) → line ≡ line_left (s ∷ P) l.0
         → (kernels : List NodeState) → length kernels ≡ length parts.kernels

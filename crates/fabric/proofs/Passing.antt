@@ -97,13 +97,13 @@ comes-meets P n l from Lose keep es before after comes come = absurd cc
 comes-meets P n l from (Swap k) keep es before after comes come = absurd cc
 
 passes-meets : (P : List Step) (n : ℕ) (l : LinkNo) (from : Side) (verdict : Verdict)
-    (t : TrunkState) → comes_by verdict ≡ None → 0 < length (flight_from from t.link)
+    (t : TrunkState) → comes_by verdict ≡ None
     → Meets P n l from verdict [] t (passed_by from verdict t)
-passes-meets P n l from Deliver t passes flies = absurd cc
-passes-meets P n l from Repeat t passes flies = absurd cc
-passes-meets P n l from Lose t passes flies = record { effects = refl; makes = refl }
-passes-meets P n l from (Swap k) t passes flies =
-    record { flies = flies; effects = refl; makes = refl }
+passes-meets P n l from Deliver t passes = absurd cc
+passes-meets P n l from Repeat t passes = absurd cc
+passes-meets P n l from Lose t passes = record { effects = refl; makes = refl }
+passes-meets P n l from (Swap k) t passes =
+    record { effects = refl; makes = refl }
 
 -- an arrival may come where its receiver is open
 arrival-may : (P : List Step) (n m : ℕ) (l : LinkNo) (x : Session) (a b : Inc) (note : SigNote)
@@ -155,10 +155,11 @@ module _ {f : Layout} {parts : Parts} (kept : IsKept f parts) (by : By) (l : Lin
   abbrev step_of : Brought → Step
   step_of what = record { by = by; head = head; effects = brought_at P n l what }
 
-  lawful : (what : Brought) → IsLawful shape P trunks (step_of what)
+  lawful : (what : Brought) → IsLawful (length f.log.names.nodes) shape P trunks (step_of what)
   lawful what =
-      wire-lawful shape P trunks (brought_at P n l what) by asked.may.maker l from verdict
-      (makes-wire by l from verdict asked.may.may)
+      wire-lawful (length f.log.names.nodes) shape P trunks (brought_at P n l what) by
+      asked.may.maker l from verdict
+      (makes-wire by l from verdict asked.may.may) meeting
 
   -- with what it makes of the trunk it is a step of a run
   run-step : (what : Brought) (change : TrunkState → TrunkState)
@@ -169,6 +170,7 @@ module _ {f : Layout} {parts : Parts} (kept : IsKept f parts) (by : By) (l : Lin
     named = (lawful what).named;
     makes = record {
       of_shape = of_shape;
+      flies = meeting.flies;
       cuts = meeting.lost;
       trunk = change t;
       meets = met;
@@ -207,7 +209,7 @@ module _ {f : Layout} {parts : Parts} (kept : IsKept f parts) (by : By) (l : Lin
       × IsStepOf f (laid f new after) by head answers.Done
   made-passed passes line then line_is then_eq new new_eq after after_eq =
       let met : Meets P n l from verdict [] t (passed_by from verdict t) =
-      passes-meets P n l from verdict t passes meeting.flies in
+      passes-meets P n l from verdict t passes in
       made-wire nothing (passed_by from verdict) met parts.kernels refl
       (kernels-same kept asked.short (step_of nothing) (passes_by l from verdict f.trunks)
       (run-step nothing (passed_by from verdict) met) node refl

@@ -36,7 +36,7 @@ use Rattle.fabric.specs.Run.{Layout}
 use Rattle.fabric.specs.Standings.{vain_with}
 use Rattle.fabric.proofs.Nodes.{own-is_open, own-items}
 use Rattle.link_laws.specs.Laws.{IsLegal}
-use Rattle.link_laws.specs.Runs.{KeepsPromises}
+use Rattle.link_laws.specs.Runs.{KeepsThroughout}
 use Rattle.run_trunks.specs.States.{trunks_of}
 use Rattle.trunk_moves.specs.Trunks.{RunTrunks, links_of}
 use Rattle.fabric.proofs.Legal.{made_by}
@@ -202,7 +202,9 @@ before {f = f} {parts = parts} {actor = actor} {home = home} acts = record {
   old = node_left f.log.steps (record { 0 = suc home });
   stood = standing_left f.log.steps actor;
   me = endpoint_of f.log.steps actor;
-  step_by = λ head. made_by f.shape f.log.steps (trunks_of f.trunks) actor acts.maker head;
+  step_by = λ head.
+      made_by (length f.log.names.nodes) f.shape f.log.steps (trunks_of f.trunks) actor acts.maker
+      head;
   legal_log = legal-kept f parts acts.at.kept;
   fits = acts.at.short;
 }
@@ -241,9 +243,9 @@ module _ {f : Layout} {parts : Parts}
     legal-seen = subst (λ (l : Layout). IsLegal l.shape l.log.steps) seen.view
         (legal-kept f parts seen.well)
 
-    pub promises-seen : KeepsPromises value.shape value.log.steps
+    pub promises-seen : KeepsThroughout value.shape value.log.steps
         (links_of (trunks_of value.trunks))
-    promises-seen = subst (λ (l : Layout). KeepsPromises l.shape l.log.steps
+    promises-seen = subst (λ (l : Layout). KeepsThroughout l.shape l.log.steps
         (links_of (trunks_of l.trunks))) seen.view (keeps-all f parts seen.well).promises
 
     pub endpoint-seen : (k : ℕ) (e : Option Inc) → endpoint_of value.log.steps k ≡ e

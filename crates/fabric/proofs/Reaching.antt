@@ -18,17 +18,17 @@ use Rattle.link_laws.specs.Laws.{IsLegal, IsLegalStep}
 use Rattle.run_trunks.specs.States.{trunks_of}
 use Rattle.trunk_moves.specs.Grants.{GrantsAnswer, GrantsSide}
 use Rattle.trunk_moves.specs.Laws.{KeepsAll}
-use Rattle.trunk_moves.specs.Steps.{IsTrunkRun, IsTrunkStep, IsWholeTrunkRun}
+use Rattle.trunk_moves.specs.Steps.{IsTrunkRun, IsTrunkStep, IsBoundedTrunkRun}
 use Rattle.trunk_moves.specs.Trunks.{NodesFit, RunTrunks}
 use Rattle.trunk_moves.proofs.Runs.{trunk_runs_grant, trunk_runs_keep_all}
 use Rattle.fabric.specs.Remains.{IsKept, IsLaidOut, IsLink, Parts}
 use Rattle.fabric.specs.Run.{IsReached, Layout}
 
-pub reached-run : (shape : Shape) (P : List Step) (trunks : RunTrunks) → IsReached shape P trunks
-    → IsTrunkRun shape P trunks
-reached-run shape [] trunks reached = reached.0
-reached-run shape (s ∷ P) trunks reached =
-    (reached.0, (reached-run shape P reached.0 reached.1.0, reached.1.1.0))
+pub reached-run : (nodes : ℕ) (shape : Shape) (P : List Step) (trunks : RunTrunks)
+    → IsReached nodes shape P trunks → IsTrunkRun shape P trunks
+reached-run nodes shape [] trunks reached = reached.0
+reached-run nodes shape (s ∷ P) trunks reached =
+    (reached.0, (reached-run nodes shape P reached.0 reached.1.0, reached.1.1.0))
 
 -- a link of a layout, by its number
 pub link-is : (nodes : ℕ) (links : List LinkDecl) (k : ℕ) → AllByRecursion (IsLink nodes) links
@@ -73,7 +73,7 @@ module _ (nodes : ℕ) (shape : Shape) (laid : IsLaidOut nodes shape) where
 -- A RUN on such a layout is whole, and legal
 module _ (nodes : ℕ) (shape : Shape) (laid : IsLaidOut nodes shape) (P : List Step)
     (trunks : RunTrunks) (fits : length P ≤ step_limit) (run : IsTrunkRun shape P trunks) where
-  pub whole-of : IsWholeTrunkRun shape P trunks
+  pub whole-of : IsBoundedTrunkRun shape P trunks
   whole-of = record {
     two_ends = two-ends nodes shape laid;
     nodes = nodes-fit nodes shape laid;
@@ -87,9 +87,10 @@ module _ (nodes : ℕ) (shape : Shape) (laid : IsLaidOut nodes shape) (P : List 
 -- WHAT A KEPT FABRIC HAS
 module _ (f : Layout) (parts : Parts) (kept : IsKept f parts) where
   pub run-kept : IsTrunkRun f.shape f.log.steps (trunks_of f.trunks)
-  run-kept = reached-run f.shape f.log.steps (trunks_of f.trunks) kept.reached
+  run-kept =
+      reached-run (length f.log.names.nodes) f.shape f.log.steps (trunks_of f.trunks) kept.reached
 
-  pub whole-run : IsWholeTrunkRun f.shape f.log.steps (trunks_of f.trunks)
+  pub whole-run : IsBoundedTrunkRun f.shape f.log.steps (trunks_of f.trunks)
   whole-run =
       whole-of (length f.log.names.nodes) f.shape kept.laid_out f.log.steps (trunks_of f.trunks)
       kept.short run-kept

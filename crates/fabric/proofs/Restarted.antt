@@ -136,11 +136,13 @@ module _ {f : Layout} {parts : Parts} {actor place own_home : ℕ}
   are_downs = downs-are_downs P n.0 (length shape.links)
 
   abbrev restarted : Step
-  restarted = made_by shape P (trunks_of f.trunks) actor acts.maker (heads.Restart n)
+  restarted = made_by (length f.log.names.nodes) shape P (trunks_of f.trunks) actor acts.maker
+      (heads.Restart n)
 
-  lawful : IsLawful shape P (trunks_of f.trunks) restarted
+  lawful : IsLawful (length f.log.names.nodes) shape P (trunks_of f.trunks) restarted
   lawful =
-      granted-lawful shape P (trunks_of f.trunks) actor acts.maker f (asks.Restart n)
+      granted-lawful (length f.log.names.nodes) shape P (trunks_of f.trunks) actor acts.maker
+      (asks.Restart n)
       (signal_in None) (granted-plain (endpoint_of P actor) (asks.Restart n) refl refl) tt
       (omega arith) (above, below)
 

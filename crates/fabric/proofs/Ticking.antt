@@ -96,10 +96,11 @@ module _ {f : Layout} {parts : Parts} (kept : IsKept f parts) (by : By) (l : Lin
   abbrev becomes : List TrunkState
   becomes = at_link l (ticked_at side) f.trunks
 
-  lawful : IsLawful shape P (trunks_of f.trunks) step
+  lawful : IsLawful (length f.log.names.nodes) shape P (trunks_of f.trunks) step
   lawful =
-      tick-lawful shape P (trunks_of f.trunks) (brought_at P n l what) by asked.may.maker l side
-      (makes-tick by l side asked.may.may)
+      tick-lawful (length f.log.names.nodes) shape P (trunks_of f.trunks) (brought_at P n l what)
+      by asked.may.maker l side
+      (makes-tick by l side asked.may.may) of_shape
 
   run-step : IsTrunkStep shape P (trunks_of f.trunks) step (trunks_of becomes)
   run-step = record {

@@ -32,7 +32,7 @@ use Rattle.run_trunks.proofs.Numbered.{all-do, one-changes}
 use Rattle.trunk.specs.Events.{TrunkState, asked_at, closed_at, sent_at}
 use Rattle.trunk_moves.specs.Steps.{AsksThere, Hunts, Sends, SendsThere, ending}
 use Rattle.trunk_moves.specs.Trunks.{Become, does, side_if, side_on, with_trunk}
-use Rattle.fabric.specs.Asks.{HasSideOn}
+use Rattle.fabric.specs.Fits.{HasSideOn}
 use Rattle.fabric.specs.Remains.{endpoint_left, node_left}
 use Rattle.fabric.specs.Tellings.{asked_over, sent_over}
 use Rattle.fabric.proofs.Nodes.{open-left_of}

@@ -26,13 +26,13 @@ use Rattle.fabric.specs.declared.stop.StepStop.{StepStop}
 use Rattle.fabric.specs.declared.stop.StopCause.TheVariants.{NoMemory}
 
 -- the event that a call is
-abbrev pub event_of : Call → Event
-event_of Close = asks.Close
-event_of End = asks.End
-event_of (Send q signal) = asks.Send q
-event_of (Hunt path signal) = asks.Hunt path
-event_of (Attach q signal) = asks.Attach q
-event_of (Detach r) = asks.Detach r
+abbrev pub event_of_call : Call → Event
+event_of_call Close = asks.Close
+event_of_call End = asks.End
+event_of_call (Send q signal) = asks.Send q
+event_of_call (Hunt path signal) = asks.Hunt path
+event_of_call (Attach q signal) = asks.Attach q
+event_of_call (Detach r) = asks.Detach r
 
 -- the signal that goes with it
 abbrev pub hand_of : Call → Option SigNote
@@ -45,7 +45,7 @@ hand_of (Detach r) = None
 
 -- what is asked by it
 abbrev pub ask_of : Call → Ask
-ask_of call = record { event = event_of call; hand = hand_of call }
+ask_of call = record { event = event_of_call call; hand = hand_of call }
 
 -- an attach has room for the reason
 abbrev pub HasRoom : Call → Type 0

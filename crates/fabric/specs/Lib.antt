@@ -1,6 +1,7 @@
 pub mod Links
 pub mod Lines
 pub mod Machine
+pub mod Fits
 pub mod Run
 pub mod Idle
 pub mod Remains

@@ -16,16 +16,16 @@ abbrev pub fresh_line : Line
 fresh_line = record { cut = false; settled = false; from_first = 0; from_second = 0; ticks = 0 }
 
 -- the event of a mark
-abbrev pub event_of : Mark → LinkNo → Event
-event_of Cut l = asks.Cut l
-event_of Mend l = asks.Mend l
-event_of Settle l = asks.Settle l
+abbrev pub event_of_mark : Mark → LinkNo → Event
+event_of_mark Cut l = asks.Cut l
+event_of_mark Mend l = asks.Mend l
+event_of_mark Settle l = asks.Settle l
 
 -- its head
-abbrev pub head_of : Mark → LinkNo → Head
-head_of Cut l = heads.Cut l
-head_of Mend l = heads.Mend l
-head_of Settle l = heads.Settle l
+abbrev pub head_of_mark : Mark → LinkNo → Head
+head_of_mark Cut l = heads.Cut l
+head_of_mark Mend l = heads.Mend l
+head_of_mark Settle l = heads.Settle l
 
 -- a link that an actor has marked
 abbrev pub marked : Mark → Line → Line

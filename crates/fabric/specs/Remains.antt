@@ -17,9 +17,8 @@ use Rattle.journal.specs.Shapes.{Shape}
 use Rattle.node_kernel.specs.Nodes.{NodeState, OpenEndpoint}
 use Rattle.ethcm_end.specs.Sound.{IsPiece}
 use Rattle.link_laws.specs.Sessions.{boots}
-use Rattle.run_trunks.specs.States.{trunks_of}
 use Rattle.fabric.specs.Links.{line_left}
-use Rattle.fabric.specs.Run.{IsReached, Layout}
+use Rattle.fabric.specs.Run.{IsReachedBy, Layout}
 use Rattle.fabric.specs.declared.line.Line.{Line}
 use Rattle.fabric.specs.declared.standing.Standing.{Standing}
 
@@ -126,7 +125,7 @@ pub record AreLeft (P : List Step) (parts : Parts) : Type 0 where
 -- WHAT A FABRIC KEEPS: its run is one of the machine's, and its parts are what its journal leaves
 pub record IsKept (f : Layout) (parts : Parts) : Type 0 where
   pub laid_out : IsLaidOut (length f.log.names.nodes) f.shape
-  pub reached : IsReached f.shape f.log.steps (trunks_of f.trunks)
+  pub reached : IsReachedBy f
   pub counted : AreCounted f parts
   pub left : AreLeft f.log.steps parts
   -- its journal has at most 200,000 steps

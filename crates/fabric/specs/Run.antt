@@ -1,13 +1,13 @@
 -- A run of the machine: what a step makes of the journal and of the trunks, and which runs there
 -- are.
-use Rattle.std.specs.Prelude.{◌≡◌, List, [], ◌∷◌, Option, Some, None}
+use Rattle.std.specs.Prelude.{ℕ, ◌≡◌, List, [], ◌∷◌, length, Option, Some, None}
 use Rattle.journal.specs.Logs.{Log}
-use Rattle.journal.specs.Shapes.{Shape}
+use Rattle.journal.specs.Shapes.{Shape, node_by}
 use Rattle.journal.specs.declared.by.By.{By}
 use Rattle.journal.specs.declared.effect.Effect.{Effect}
 use Rattle.journal.specs.declared.effect.Step.{Step}
 use Rattle.journal.specs.declared.head.Head.{Head}
-use Rattle.node_kernel.specs.Answers.{answer_of, named}
+use Rattle.node_kernel.specs.Answers.{answer_of, event_of, hand_of, named}
 use Rattle.node_kernel.specs.declared.answers.StepAnswer.{StepAnswer}
 use Rattle.node_kernel.specs.declared.answers.StepAnswer.TheVariants.{NotYet}
 use Rattle.node_kernel.specs.declared.ask.Ask.{Ask}
@@ -15,8 +15,9 @@ use Rattle.run_trunks.specs.States.{new_trunks, trunks_of}
 use Rattle.trunk.specs.Events.{TrunkState}
 use Rattle.trunk_moves.specs.Steps.{IsTrunkStep}
 use Rattle.trunk_moves.specs.Trunks.{AllNew, Become, RunTrunks}
+use Rattle.fabric.specs.Fits.{FitsRun}
 use Rattle.fabric.specs.Links.{is_still}
-use Rattle.fabric.specs.Machine.{head_for}
+use Rattle.fabric.specs.Machine.{head_for, signal_in}
 
 -- what a fabric is seen as: what it is laid out on, its log, and the trunk of each link
 pub record Layout : Type 0 where
@@ -24,22 +25,32 @@ pub record Layout : Type 0 where
   pub log : Log
   pub trunks : List TrunkState
 
--- A STEP IS MADE where the machine gives its head to what that head names
-abbrev pub IsMade : Shape → List Step → RunTrunks → Step → Type 0
-IsMade shape P trunks s =
-    head_for shape P (is_still shape P trunks) s.by (named s.head) ≡ Some s.head
+-- A STEP IS MADE on so many nodes where the machine gives its head to what that head names, and
+-- what it speaks of is there
+pub record IsMade (nodes : ℕ) (shape : Shape) (P : List Step) (trunks : RunTrunks) (s : Step)
+    : Type 0 where
+  pub given : head_for shape P (is_still shape P trunks) s.by (named s.head) ≡ Some s.head
+  pub fits :
+      FitsRun nodes shape P trunks (node_by shape s.by) (event_of s.head)
+      (signal_in (hand_of s.head))
 
 -- before the first step each link's trunk is new, with the window and the piece of its declaration
 abbrev pub AreFirst : Shape → RunTrunks → Type 0
 AreFirst shape trunks =
     AllNew shape trunks × Become shape trunks (trunks_of (new_trunks shape.links))
 
--- THE RUNS: from the first trunks on, each step is made, and makes of the trunks what its kind makes
-abbrev pub IsReached : Shape → List Step → RunTrunks → Type 0
-IsReached shape [] trunks = AreFirst shape trunks
-IsReached shape (s ∷ P) after =
-    (before : RunTrunks) × (IsReached shape P before × (IsTrunkStep shape P before s after
-    × IsMade shape P before s))
+-- THE RUNS on so many nodes: from the first trunks on, each step is made, and makes of the trunks
+-- what its kind makes
+abbrev pub IsReached : ℕ → Shape → List Step → RunTrunks → Type 0
+IsReached nodes shape [] trunks = AreFirst shape trunks
+IsReached nodes shape (s ∷ P) after =
+    (before : RunTrunks)
+    × (IsReached nodes shape P before × (IsTrunkStep shape P before s after
+    × IsMade nodes shape P before s))
+
+-- that of a layout is one of them
+abbrev pub IsReachedBy : Layout → Type 0
+IsReachedBy f = IsReached (length f.log.names.nodes) f.shape f.log.steps (trunks_of f.trunks)
 
 -- A STEP WITH THIS HEAD is added, and this is its answer
 pub record IsStepOf (old new : Layout) (by : By) (head : Head) (answer : StepAnswer) : Type 0 where

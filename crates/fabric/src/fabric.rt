@@ -1,42 +1,42 @@
-ghost use Rattle.std.specs.Prelude.{◌≡◌, ◌==◌, ◌&&◌, ◌||◌, ◌+◌, ◌<◌, ◌≤◌, Option, true, false, []};
-ghost use Rattle.std.specs.Prelude.{length, replicate, is_some, IfOk, IfErr, OnErr, IsSome};
+//! The fabric: what it holds and keeps, and the steps that it makes of what its makers ask for.
+ghost use Rattle.std.specs.Prelude.{◌≡◌, ◌&&◌, ◌<◌, ◌≤◌, Option, true, false, []};
+ghost use Rattle.std.specs.Prelude.{length, replicate, IfOk, IfErr, OnErr, IsSome};
 ghost use Rattle.std.specs.Prelude.{Some, None, IsTrue};
 ghost use Rattle.linx_base.specs.declared.signal.SigNote.{SigNote};
 ghost use Rattle.sigsel.specs.Selection.{first_selected};
 ghost use Rattle.linx_base.specs.NameText.{is_name};
-ghost use Rattle.journal.specs.History.{endpoint_of, has_ended, next_inc, opened_on};
+ghost use Rattle.journal.specs.History.{endpoint_of};
 ghost use Rattle.journal.specs.Laws.{IsMaker};
-ghost use Rattle.journal.specs.Logs.{is_full};
-ghost use Rattle.journal.specs.Rest.{is_idle, leaves_at_rest, queue_of, waits_with};
-ghost use Rattle.journal.specs.Shapes.{node_by};
+ghost use Rattle.journal.specs.Logs.{is_full, step_limit};
+ghost use Rattle.journal.specs.Rest.{queue_of, waits_with};
 ghost use Rattle.journal.specs.declared.head.Head.TheVariants as heads;
 ghost use Rattle.link_laws.specs.Laws.{IsLegal};
-ghost use Rattle.link_laws.specs.Runs.{KeepsPromises};
+ghost use Rattle.link_laws.specs.Runs.{KeepsThroughout};
+ghost use Rattle.link_laws.specs.Still.{IsOver};
 ghost use Rattle.node_kernel.specs.Answers.{granted, refused};
 ghost use Rattle.run_trunks.specs.States.{new_trunks, trunks_of};
 ghost use Rattle.trunk_moves.specs.Trunks.{links_of};
-ghost use Rattle.fabric.specs.Actings.{HasMade, IsHomeOf, LeavesAll, MayMake, OnlyRuns};
+ghost use Rattle.fabric.specs.Actings.{HasMade, LeavesAll, MayMake, OnlyRuns};
 ghost use Rattle.fabric.specs.Actings.{asking};
 ghost use Rattle.fabric.specs.Asks.{MayAsk};
 ghost use Rattle.trunk_moves.specs.Steps.{HuntsName};
 ghost use Rattle.fabric.specs.Calls.{IsTyped, ask_of, hand_of};
 ghost use Rattle.fabric.specs.Lines.{fresh_line};
 ghost use Rattle.fabric.specs.Links.{is_still};
-ghost use Rattle.fabric.specs.Machine.{all_have_ended, have_ended, is_at_rest};
-ghost use Rattle.fabric.specs.Run.{IsReached, IsStepped};
+ghost use Rattle.fabric.specs.Machine.{all_have_ended, is_at_rest};
+ghost use Rattle.fabric.specs.Run.{IsReachedBy, IsStepped};
 ghost use Rattle.fabric.specs.Standings.{empty_nodes, fresh, unless_refused};
 
 use crate::call::{Call, make_call};
 use crate::granting::refusal_of;
 use crate::line::{Line, Mark};
 use crate::makings::{Looked, downs_of, make_open, make_quiet, make_restart, make_take, make_wait};
-use crate::rest::is_vain;
 use crate::standing::Standing;
-use crate::stop::{StepStop, StopCause, no_memory};
+use crate::stop::{StepStop, StopCause, first_cause, no_memory};
 use crate::telling::{keep_told, tell_call};
 use crate::watched_journal::WatchedJournal;
 use journal::{By, Event, Head, Journal, Refusal};
-use linx_base::{Inc, LinkDecl, Name, Names, NoMemory, NodeNo, Path, Peer, Signal};
+use linx_base::{LinkDecl, Name, Names, NoMemory, NodeNo, Path, Peer, Signal};
 use node_kernel::{Kernel, StepAnswer};
 use run_trunks::RunTrunks;
 use sigsel::Sigsel;
@@ -56,7 +56,7 @@ pub struct Fabric {
     pub(crate) standings: Vec<Standing>,
     pub(crate) lines: Vec<Line>,
     /// The place of the actor that was the first that hadn't ended, when one ended last.
-    front: u32,
+    pub(crate) front: u32,
     stop: Option<StopCause>,
 }
 
@@ -188,191 +188,35 @@ impl Fabric {
     }
 
     /// The journal so far, which is legal by the laws of nodes and links, keeps what is promised of
-    /// runs with links, and whose steps are the machine's.
+    /// runs with links after each of its steps, and whose steps are the machine's. It has no more
+    /// steps than a journal takes, and the layout is one that a fabric can have.
     pub fn journal(&self) -> &Journal
         ensures log { result.now.log ≡ self.now.log }
         ensures legal { IsLegal self.now.shape self.now.log.steps }
-        ensures promises { KeepsPromises self.now.shape self.now.log.steps
+        ensures promises { KeepsThroughout self.now.shape self.now.log.steps
             (links_of (trunks_of self.now.trunks)) }
-        ensures reached { IsReached self.now.shape self.now.log.steps (trunks_of self.now.trunks) }
+        ensures reached { IsReachedBy self.now }
+        ensures few { length self.now.log.steps ≤ step_limit }
+        ensures laid_out { IsLaidOut (length self.now.log.names.nodes) self.now.shape }
     {
         self.journal.journal()
     }
 
-    /// The journal, which is legal by the laws of nodes and links, keeps what is promised of runs
-    /// with links, and whose steps are the machine's.
+    /// The journal, of which the same holds. Where every actor has ended and no link stirs, all is
+    /// over, as the journal tells.
     pub fn into_journal(self) -> Journal
         ensures log { result.log ≡ self.log }
         ensures legal { IsLegal self.shape self.log.steps }
-        ensures promises { KeepsPromises self.shape self.log.steps
+        ensures promises { KeepsThroughout self.shape self.log.steps
             (links_of (trunks_of self.trunks)) }
-        ensures reached { IsReached self.shape self.log.steps (trunks_of self.trunks) }
+        ensures reached { IsReachedBy self }
+        ensures few { length self.log.steps ≤ step_limit }
+        ensures laid_out { IsLaidOut (length self.log.names.nodes) self.shape }
+        ensures over { (all_have_ended self.shape self.log.steps
+            && is_still self.shape self.log.steps (trunks_of self.trunks)) ≡ true
+            → IsOver self.shape self.log.steps }
     {
         self.journal.into_journal()
-    }
-
-    /// Whether an actor has made its last step.
-    pub fn has_ended(&self, actor: u32) -> bool
-        requires above { 0 < actor }
-        requires within { actor ≤ length self.now.shape.actors }
-        ensures { result ≡ has_ended self.now.log.steps actor }
-    {
-        self.standings[(actor - 1) as usize].ended
-    }
-
-    /// The endpoint of an actor, if it has one.
-    pub fn endpoint_of(&self, actor: u32) -> Option<Inc>
-        requires above { 0 < actor }
-        requires within { actor ≤ length self.now.shape.actors }
-        ensures { result ≡ endpoint_of self.now.log.steps actor }
-    {
-        self.standings[(actor - 1) as usize].endpoint
-    }
-
-    /// Whether the last step of an actor says that it waits.
-    fn is_waiting(&self, actor: u32) -> bool
-        requires above { 0 < actor }
-        requires within { actor ≤ length self.now.shape.actors }
-        ensures { result ≡ is_some (waits_with self.now.log.steps actor) }
-    {
-        self.standings[(actor - 1) as usize].waits.is_some()
-    }
-
-    /// The place of the kernel of an actor's node.
-    fn kernel_of(&self, actor: u32) -> usize
-        requires above { 0 < actor }
-        requires within { actor ≤ length self.now.shape.actors }
-        ensures { IsHomeOf self.now actor result }
-    {
-        self.actors[(actor - 1) as usize].0 as usize - 1
-    }
-
-    /// The node of an actor.
-    fn node_of(&self, actor: u32) -> NodeNo
-        requires above { 0 < actor }
-        requires within { actor ≤ length self.now.shape.actors }
-        ensures { result ≡ record { 0 = node_by self.now.shape (By.Actor actor) } }
-    {
-        self.actors[(actor - 1) as usize]
-    }
-
-    /// The incarnation that an actor opens next.
-    fn next_inc(&self, actor: u32) -> Inc
-        requires above { 0 < actor }
-        requires within { actor ≤ length self.now.shape.actors }
-        ensures { result ≡ next_inc (node_by self.now.shape (By.Actor actor))
-            (opened_on self.now.log.steps (node_by self.now.shape (By.Actor actor))) }
-    {
-        let openings = self.kernels[self.kernel_of(actor)].openings();
-        Inc::of(self.node_of(actor), openings + 1)
-    }
-
-    /// Whether every actor has made its last step.
-    fn have_ended(&self) -> bool
-        ensures { result ≡ all_have_ended self.now.shape self.now.log.steps }
-    {
-        if self.is_led() {
-            return false;
-        }
-        for place in 0..self.actor_count() {
-            if !self.has_ended(place + 1) {
-                return false;
-            }
-        }
-        true
-    }
-
-    /// Whether the actor at the front hasn't ended.
-    fn is_led(&self) -> bool
-        ensures { result ≡ true
-            → all_have_ended self.now.shape self.now.log.steps ≡ false }
-    {
-        self.front < self.actor_count() && !self.has_ended(self.front + 1)
-    }
-
-    /// How many actors have ended before the first that hasn't.
-    fn first_left(&self) -> u32
-        ensures { have_ended self.now.log.steps result ≡ true }
-    {
-        for place in 0..self.actor_count() {
-            if !self.has_ended(place + 1) {
-                return place;
-            }
-        }
-        self.actor_count()
-    }
-
-    /// Whether every actor has made its last step, and no link stirs.
-    pub fn is_over(&self) -> bool
-        ensures { result ≡ (all_have_ended self.now.shape self.now.log.steps
-            && is_still self.now.shape self.now.log.steps (trunks_of self.now.trunks)) }
-    {
-        self.have_ended() && self.is_still()
-    }
-
-    /// The number of actors. With the links they are at most 96.
-    pub fn actor_count(&self) -> u32
-        ensures count { result ≡ length self.now.shape.actors }
-        ensures few { length self.now.shape.actors + length self.now.shape.links ≤ 96 }
-    {
-        self.actors.len() as u32
-    }
-
-    /// Whether an actor is at rest: each other one has ended, or waits with nothing selected and
-    /// has a greater number; and no link stirs.
-    pub fn is_rest(&self, actor: u32) -> bool
-        ensures { result ≡ (is_at_rest self.now.shape self.now.log.steps actor
-            && is_still self.now.shape self.now.log.steps (trunks_of self.now.trunks)) }
-    {
-        !self.is_behind(actor) && self.is_still() && self.all_leave_at_rest(actor)
-    }
-
-    /// Whether the actor at the front keeps another one from rest.
-    fn is_behind(&self, actor: u32) -> bool
-        ensures { result ≡ true → is_at_rest self.now.shape self.now.log.steps actor ≡ false }
-    {
-        self.front < self.actor_count() && !self.leaves_at_rest(actor, self.front + 1)
-    }
-
-    /// Whether each other actor leaves an actor at rest.
-    fn all_leave_at_rest(&self, actor: u32) -> bool
-        ensures { result ≡ is_at_rest self.now.shape self.now.log.steps actor }
-    {
-        for place in 0..self.actor_count() {
-            if !self.leaves_at_rest(actor, place + 1) {
-                return false;
-            }
-        }
-        true
-    }
-
-    /// Whether an actor is this one, or leaves this one at rest.
-    fn leaves_at_rest(&self, actor: u32, other: u32) -> bool
-        requires above { 0 < other }
-        requires within { other ≤ length self.now.shape.actors }
-        ensures { result ≡ ((actor == other) || leaves_at_rest self.now.log.steps actor other) }
-    {
-        if actor == other || self.has_ended(other) {
-            return true;
-        }
-        if actor > other {
-            return false;
-        }
-        self.is_idle(other)
-    }
-
-    /// Whether an actor waits, and nothing that it waits for is in its queue.
-    pub fn is_idle(&self, actor: u32) -> bool
-        requires above { 0 < actor }
-        requires within { actor ≤ length self.now.shape.actors }
-        ensures { result ≡ is_idle self.now.log.steps actor }
-    {
-        if self.journal.is_known_idle(actor) {
-            return true;
-        }
-        let place = self.kernel_of(actor);
-        let standing = &self.standings[(actor - 1) as usize];
-        is_vain(standing, &self.kernels[place])
     }
 
     /// Notes why the run stops. The first cause stays.
@@ -380,9 +224,7 @@ impl Fabric {
         requires { cause ≡ StopCause.JournalFull → is_full self.old.log.steps ≡ true }
         ensures { self.new ≡ self.old }
     {
-        if self.stop.is_none() {
-            self.stop = Some(cause);
-        }
+        self.stop = first_cause(self.stop, cause);
     }
 
     /// The first cause that was noted.

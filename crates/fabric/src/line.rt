@@ -1,11 +1,13 @@
+//! What a fabric notes of a link beside its trunk.
 ghost use Rattle.std.specs.Prelude.{◌≡◌, ◌<◌, false};
-ghost use Rattle.fabric.specs.Lines.{counted, fresh_line, head_of, marked, ticked_more};
+ghost use Rattle.fabric.specs.Lines.{counted, fresh_line, head_of_mark, marked, ticked_more};
 
 use journal::Head;
 use linx_base::{LinkNo, Side};
 
 /// What a fabric notes of a link: whether it is cut, whether its plans are ended, how many packets
-/// from each side met their verdicts while it wasn't cut, and how often a side was ticked.
+/// from each side met their verdicts while it wasn't cut, and how many ticks the two sides made
+/// together.
 #[derive(Drop)]
 pub(crate) struct Line {
     pub(crate) cut: bool,
@@ -27,7 +29,7 @@ pub(crate) enum Mark {
 impl Mark {
     /// The head of its step.
     pub(crate) fn head(self, link: LinkNo) -> Head
-        ensures { result ≡ head_of self link }
+        ensures { result ≡ head_of_mark self link }
     {
         match self {
             Mark::Cut => Head::Cut(link),
@@ -77,7 +79,7 @@ impl Line {
         }
     }
 
-    /// A side was ticked once more.
+    /// One of the two sides was ticked once more.
     pub(crate) fn tick(&mut self)
         requires { self.old.ticks < 200000 }
         ensures { self.new ≡ ticked_more self.old }

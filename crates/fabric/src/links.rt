@@ -111,7 +111,7 @@ impl Fabric {
         }
     }
 
-    /// How often a side of a link was ticked.
+    /// How many ticks the two sides of a link made together.
     pub fn tick_steps(&self, link: LinkNo) -> u64
         requires of_shape { IsLinkOf self.now.shape link }
         ensures { result ≡ tick_steps self.now.log.steps link.0 }

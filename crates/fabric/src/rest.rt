@@ -1,3 +1,4 @@
+//! Whether an actor waits in vain, by its standing and its node's kernel.
 ghost use Rattle.std.specs.Prelude.{◌≡◌, IfSome, IsTrue};
 ghost use Rattle.node_kernel.specs.Nodes.{is_open};
 ghost use Rattle.fabric.specs.Standings.{vain_with};

@@ -1,3 +1,4 @@
+//! How an actor stands between two steps.
 ghost use Rattle.std.specs.Prelude.{◌≡◌, length, map, Some, None, false, true};
 ghost use Rattle.std.specs.List.{list_any};
 ghost use Rattle.journal.specs.History.{closes};

@@ -8,7 +8,7 @@ ghost use Rattle.journal.specs.declared.head.Head.TheVariants as heads;
 ghost use Rattle.link_laws.specs.Ends.{IsLinkOf};
 ghost use Rattle.fabric.specs.Actings.{HasMade, LeavesAll, MayMake, OnlyRuns, asking};
 ghost use Rattle.fabric.specs.Bringings.{IsThere, comes_by};
-ghost use Rattle.fabric.specs.Lines.{event_of};
+ghost use Rattle.fabric.specs.Lines.{event_of_mark};
 ghost use Rattle.fabric.specs.Run.{IsStepOf};
 
 use crate::bringing::{At, make_delivery, make_tick, pass_by};
@@ -29,9 +29,9 @@ impl Fabric {
         mark: Mark,
         link: LinkNo,
     ) -> Result<StepAnswer, StepStop>
-        requires asked { MayMake self.old (By.Actor actor) (asking (event_of mark link) None) }
+        requires asked { MayMake self.old (By.Actor actor) (asking (event_of_mark mark link) None) }
         ensures ok { IfOk result (HasMade self.old self.new actor
-            (asking (event_of mark link) None)) }
+            (asking (event_of_mark mark link) None)) }
         ensures fixed { OnlyRuns self.old self.new }
         ensures err { IfErr result (LeavesAll self.old self.new None) }
     {

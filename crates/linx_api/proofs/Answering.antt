@@ -28,7 +28,8 @@ use Rattle.node_kernel.specs.Answers.{is_pump_event, refused}
 use Rattle.run_trunks.specs.States.{trunks_of}
 use Rattle.fabric.specs.declared.stop.StepStop.{StepStop}
 use Rattle.fabric.specs.declared.stop.StopCause.TheVariants.{JournalFull}
-use Rattle.fabric.specs.Asks.{FitsEvent, LeavesBy, may_ask}
+use Rattle.fabric.specs.Asks.{FitsEvent, may_ask}
+use Rattle.fabric.specs.Fits.{LeavesBy}
 use Rattle.fabric.specs.Links.{is_still}
 use Rattle.fabric.specs.Machine.{head_for, head_of, is_at_rest, look, pumped_head, signal_in}
 use Rattle.fabric.specs.Machine.{vain_look}

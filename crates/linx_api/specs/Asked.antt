@@ -11,7 +11,7 @@ use Rattle.journal.specs.History.{endpoint_of, has_ended}
 use Rattle.journal.specs.Logs.{is_full}
 use Rattle.journal.specs.Rest.{queue_of, waits_with}
 use Rattle.link_laws.specs.Laws.{IsLegal, IsLegalStep}
-use Rattle.link_laws.specs.Runs.{KeepsPromises}
+use Rattle.link_laws.specs.Runs.{KeepsThroughout}
 use Rattle.node_kernel.specs.declared.answers.StepAnswer.{StepAnswer}
 use Rattle.node_kernel.specs.declared.answers.StepAnswer.TheVariants.{NotYet}
 use Rattle.node_kernel.specs.declared.ask.Ask.{Ask}
@@ -25,7 +25,7 @@ use Rattle.fabric.specs.Actings.{OnlyRuns}
 use Rattle.fabric.specs.Asks.{MayAsk}
 use Rattle.fabric.specs.Links.{is_still}
 use Rattle.fabric.specs.Machine.{head_for, is_at_rest}
-use Rattle.fabric.specs.Run.{IsReached, Layout}
+use Rattle.fabric.specs.Run.{IsReachedBy, Layout}
 use Rattle.turn_lock.specs.declared.story.Made.{Made}
 use Rattle.turn_lock.specs.Passes.{PassView, own_steps}
 use Rattle.turn_lock.specs.Stories.{RestsFor}
@@ -55,11 +55,12 @@ pub record CanAsk (p : PassView Step PlanParts) (ask : Ask) : Type 0 where
   pub unpumped : is_pump_event ask.event ≡ false
 
 -- A LAWFUL RUN: its journal is legal by the laws of nodes and links, and keeps what is promised of
--- runs with links, and each step is the machine's and made of the trunks what its kind makes
+-- runs with links after each of its steps, and each step is the machine's and made of the trunks
+-- what its kind makes
 pub record IsLawful (f : Layout) : Type 0 where
   pub legal : IsLegal f.shape f.log.steps
-  pub promises : KeepsPromises f.shape f.log.steps (links_of (trunks_of f.trunks))
-  pub reached : IsReached f.shape f.log.steps (trunks_of f.trunks)
+  pub promises : KeepsThroughout f.shape f.log.steps (links_of (trunks_of f.trunks))
+  pub reached : IsReachedBy f
 
 module _ (old new : Layout) (by : By) (ask : Ask) where
   -- A STEP WAS MADE of what a maker asked: its head is the machine's, it is legal, it made of the

@@ -1,3 +1,4 @@
+//! One call of an actor under the lock.
 ghost use Rattle.fabric.specs.Actings.{asking};
 ghost use Rattle.turn_lock.specs.Passes.{IsPassOf};
 ghost use Rattle.linx_api.specs.Asked.{CanAsk, IsAsked};
@@ -11,7 +12,7 @@ use std::sync::Wait;
 use turn_lock::{Pass, TurnLock};
 
 /// Takes the fabric, makes at most one step of the pass's actor, and gives the fabric back.
-pub fn ask<R: Wait>(
+pub(crate) fn ask<R: Wait>(
     rt: &R,
     lock: &TurnLock<SharedFabric>,
     pass: Pass<SharedFabric>,

@@ -1,10 +1,11 @@
+//! The side of one actor: the calls of LINX.
 ghost use Rattle.std.specs.Prelude.{◌≡◌, ◌<◌, false, length};
 ghost use Rattle.linx_base.specs.Content.{data_limit};
 ghost use Rattle.journal.specs.declared.by.By.TheVariants.{Actor};
 ghost use Rattle.journal.specs.Shapes.{node_by};
 ghost use Rattle.node_kernel.specs.Answers.{is_end_event};
 ghost use Rattle.fabric.specs.Actings.{asking};
-ghost use Rattle.fabric.specs.Asks.{LeavesBy};
+ghost use Rattle.fabric.specs.Fits.{LeavesBy};
 ghost use Rattle.turn_lock.specs.Passes.{IsPassOf};
 ghost use Rattle.linx_api.specs.Asked.{CanAsk, IsActors, IsAsked, IsRunning};
 

@@ -1,3 +1,4 @@
+//! What no step of a fabric changes.
 use linx_base::{LinkDecl, Names, NodeNo};
 use std::marker::Model;
 

@@ -1,6 +1,6 @@
-ghost use Rattle.std.specs.Prelude.{◌≡◌, ◌≤◌, [], true, length, IfOk};
+//! The fabric behind the lock: a story of steps, each with the number of its maker.
+ghost use Rattle.std.specs.Prelude.{◌≡◌, ◌≤◌, [], length, IfOk};
 ghost use Rattle.std.specs.Borrow.{sem};
-ghost use Rattle.journal.specs.Logs.{is_full};
 ghost use Rattle.run_trunks.specs.States.{new_trunks};
 ghost use Rattle.fabric.specs.Actings.{OnlyRuns, asking};
 ghost use Rattle.fabric.specs.Asks.{MayAsk};
@@ -9,7 +9,7 @@ ghost use Rattle.linx_api.specs.Asked.{IsAnswered, IsLawful};
 ghost use Rattle.linx_api.specs.Telling.{number_of};
 
 use crate::plan::Plan;
-use fabric::{Fabric, StepStop, StopCause};
+use fabric::{Fabric, StepStop};
 use journal::{By, Event, Step};
 use linx_base::{LinkDecl, Names, NoMemory, NodeNo, Signal};
 use node_kernel::StepAnswer;
@@ -133,13 +133,5 @@ impl SharedFabric {
         let answer = self.fabric.step(by, event, hand);
         let _ = self.fabric.journal();
         answer
-    }
-
-    /// Notes why the run stops. The first cause stays.
-    pub fn stop(&mut self, cause: StopCause)
-        requires { cause ≡ StopCause.JournalFull → is_full self.old.log.steps ≡ true }
-        ensures { self.new ≡ self.old }
-    {
-        self.fabric.stop(cause);
     }
 }

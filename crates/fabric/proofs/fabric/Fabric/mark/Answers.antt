@@ -3,7 +3,7 @@ use Rattle.journal.specs.declared.by.By.TheVariants.{Actor}
 use Rattle.link_laws.specs.Ends.{IsLinkOf}
 use Rattle.node_kernel.specs.declared.answers.StepAnswer.TheVariants as answers
 use Rattle.fabric.specs.Actings.{asking}
-use Rattle.fabric.specs.Lines.{event_of}
+use Rattle.fabric.specs.Lines.{event_of_mark}
 use Rattle.fabric.specs.Machine.{signal_in}
 use Rattle.fabric.specs.Run.{Layout}
 use Rattle.journal.specs.Shapes.{node_by}
@@ -31,7 +31,7 @@ returns-in-Ok-clause-ok c =
     let acts = acting-home seen c.args.actor c.requires.asked.may.maker c.requires.asked.short in
     let of_shape = back seen (λ (v : Layout). IsLinkOf v.shape c.args.link)
     (mark-fits c.args.self.now _ _ c.args.mark c.args.link c.requires.asked.may.fits) in
-    makes-seen seen _ c.args.actor (asking (event_of c.args.mark c.args.link) None) answers.Done
+    makes-seen seen _ c.args.actor (asking (event_of_mark c.args.mark c.args.link) None) answers.Done
     (made-marked acts c.args.link of_shape c.args.mark c.index_mut.result.now c.mark.new.self
     c.index_mut.ensures.value c.mark.ensures c.index_mut-in-Ok.result.now c.wait.new.self
     c.index_mut-in-Ok.ensures.value c.wait.ensures c.make_quiet.new.journal.log

@@ -6,6 +6,7 @@ use Rattle.fabric.specs.Actings.{asking}
 use Rattle.fabric.specs.declared.fabric.Fabric.TheView.{view}
 use Rattle.fabric.specs.declared.standing.Standing.{Standing}
 use Rattle.fabric.proofs.Counting.{take-front}
+use Rattle.fabric.proofs.Granted.{granted-restart}
 use Rattle.fabric.proofs.Placed.{acting-home, at-value, may-seen, sees}
 use Rattle.fabric.proofs.Restarted.{boot-fits, endpoints-few, made-restart}
 use Rattle.fabric.proofs.Seen.{IsMadeSeen, made-told, parts_of, refilled}
@@ -17,6 +18,15 @@ overflow_add-boot c =
     let fits = boot-fits (at-value c.self.invariant.0 c.self.view_is) c.args.node
     c.requires.asked.may.fits.0 c.requires.asked.may.fits.1 c.index.result.now in
     omega (arith, fits, c.index.ensures)
+
+pub restarted-requires : goal.restarted-requires
+restarted-requires c =
+    let asked = may-seen (sees c.self.invariant.0 c.self.view_is) c.requires.asked in
+    record {
+      may = granted-restart _ _ c.self.invariant.0 asked.short c.args.node asked.may.fits.0
+          asked.may.fits.1 c.index.result.now (c.index.result.now + 1)
+          (ap (λ (b : ℕ). b + 1) c.index.ensures);
+    }
 
 pub make_restart-made-requires-clause-room : goal.make_restart-made-requires-clause-room
 make_restart-made-requires-clause-room c =
