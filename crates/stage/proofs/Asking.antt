@@ -1,7 +1,7 @@
 -- What an actor asks for next is what it may ask for.
 use Rattle.std.proofs.Common.{◌≡◌, ℕ, zero, suc, ◌<◌, ◌≤◌, ◌+◌, ◌-◌, Bool, true, false, List, []}
-use Rattle.std.proofs.Common.{◌∷◌, length, Option, Some, None, refl, sym, ◌∙◌, ap, subst, arith, inl}
-use Rattle.std.proofs.Common.{inr}
+use Rattle.std.proofs.Common.{◌∷◌, length, Option, Some, None, refl, sym, ◌∙◌, ap, subst, arith}
+use Rattle.std.proofs.Common.{inl, inr}
 use Rattle.std.specs.Prelude.{◌&&◌, ◌==◌, is_some, map, nat_le, slice_get}
 use Rattle.std.specs.List.{list_all}
 use Rattle.std.proofs.lemmas.List.{length-map}
@@ -42,7 +42,8 @@ use Rattle.actor_run.specs.Asking.{signal_of}
 use Rattle.actor_run.specs.Bindings.{lookup}
 use Rattle.actor_run.specs.Following.{knows, next_ask}
 use Rattle.actor_run.specs.Knowing.{Knows}
-use Rattle.fabric.specs.Asks.{FitsEvent, LeavesBy, MayAsk}
+use Rattle.fabric.specs.Asks.{FitsEvent, MayAsk}
+use Rattle.fabric.specs.Fits.{LeavesBy}
 use Rattle.fabric.specs.Machine.{hands_over, signal_in}
 use Rattle.fabric.specs.Run.{Layout}
 use Rattle.stage.specs.Turns.{commands_in, commands_of, shape_of}

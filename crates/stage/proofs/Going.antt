@@ -128,10 +128,9 @@ settles-there f k ask l may event =
 
 -- WHAT GOING ON NEEDS is there
 pub may-go_on : (old new : Layout) (k : ℕ) (ask : Ask) (answer : StepAnswer)
-    → MayAsk old (Actor k) ask → IsLaidOut (length old.log.names.nodes) old.shape
-    → IsStepped old new (Actor k) ask answer → OnlyRuns old new
-    → length new.log.steps ≤ 200000 → MayGoOn (settled_by ask.event) k new
-may-go_on old new k ask answer may laid stepped fixed few = go (settled_by ask.event) refl
+    → MayAsk old (Actor k) ask → IsStepped old new (Actor k) ask answer → OnlyRuns old new
+    → MayGoOn (settled_by ask.event) k new
+may-go_on old new k ask answer may stepped fixed = go (settled_by ask.event) refl
   where
     go : (o : Option LinkNo) → settled_by ask.event ≡ o → MayGoOn o k new
     go None is = tt
@@ -145,8 +144,6 @@ may-go_on old new k ask answer may laid stepped fixed few = go (settled_by ask.e
           maker = subst (λ (x : Shape). IsMaker x new.log.steps (Actor k)) (sym same)
               (may.maker.0, may.maker.1, begun-runs old new k l answer step may.maker.2);
           settled = begun-settled old new k l answer step;
-          laid_out = rw fixed laid;
-          few = few;
         }
 
 -- HOW FAR AN ACTOR GOES after its step: it stops there, or it has settled a link so far
@@ -163,7 +160,8 @@ pub record GoesFar (old new : Layout) (k : ℕ) (ask : Ask) (answer : StepAnswer
   pub fixed : OnlyRuns old between
   pub rest : (new ≡ between) ⊎ SettlesOn ask.event k between new
 
-after-far : (event : Event) (k : ℕ) (between new : Layout) → GoesOnAfter (settled_by event) k between new
+after-far : (event : Event) (k : ℕ) (between new : Layout)
+    → GoesOnAfter (settled_by event) k between new
     → (new ≡ between) ⊎ SettlesOn event k between new
 after-far event k between new goes = go (settled_by event) refl goes
   where
@@ -274,14 +272,3 @@ not_full P room =
       | inr full ↦
           absurd (room (or_left (nat_le 200000 (length P)) _ (le-leb 200000 (length P) full)))
     ]
-
-pub few-after : (old new : Layout) (by : By) (head : Option Head) (answer : StepAnswer)
-    → IsStepFor old new by head answer → length old.log.steps < 200000
-    → length new.log.steps ≤ 200000
-few-after old new by None answer made low =
-    let same : length new.log.steps ≡ length old.log.steps =
-    ap (λ (l : Layout). length l.log.steps) made.0 in
-    omega arith
-few-after old new by (Some head) answer made low =
-    let more : length new.log.steps ≡ suc (length old.log.steps) = ap length made.steps in
-    omega arith

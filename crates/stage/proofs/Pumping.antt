@@ -1,8 +1,8 @@
 -- The pump's rule: it asks for something exactly where its link stirs, for what it may ask, and its
 -- steps are as planned.
-use Rattle.std.proofs.Common.{◌≡◌, ◌≢◌, ℕ, zero, suc, ◌-◌, ◌%◌, ◌<◌, ◌≤◌, ◌⊎◌, Bool, true, false, not, List, []}
-use Rattle.std.proofs.Common.{◌∷◌, length, Option, Some, None, refl, sym, ◌∙◌, ap, subst, inl, inr}
-use Rattle.std.proofs.Common.{arith}
+use Rattle.std.proofs.Common.{◌≡◌, ◌≢◌, ℕ, zero, suc, ◌-◌, ◌%◌, ◌<◌, ◌≤◌, ◌⊎◌, Bool, true, false}
+use Rattle.std.proofs.Common.{not, List, [], ◌∷◌, length, Option, Some, None, refl, sym, ◌∙◌, ap}
+use Rattle.std.proofs.Common.{subst, inl, inr, arith}
 use Rattle.std.specs.Prelude.{◌&&◌, ◌||◌, ◌==◌, nat_le, nat_lt, is_some, slice_get}
 use Rattle.std.specs.Prelude.{if◌then◌else◌}
 use Rattle.std.specs.List.{list_all}
@@ -33,7 +33,8 @@ use Rattle.script_lang.specs.Limits.{verdict_limit}
 use Rattle.script_lang.specs.Parts.{ScriptParts, plan_in, planned_verdicts, side_of}
 use Rattle.trunk.specs.Events.{TrunkState}
 use Rattle.trunk_moves.specs.Trunks.{RunTrunks}
-use Rattle.fabric.specs.Asks.{IsVerdict, MayAsk, MayMeet}
+use Rattle.fabric.specs.Asks.{MayAsk, MayMeet}
+use Rattle.fabric.specs.Fits.{IsVerdict}
 use Rattle.fabric.specs.Links.{flies_from, is_settled, is_up_at, stirs, stirs_if, tick_steps}
 use Rattle.fabric.specs.Links.{wire_steps}
 use Rattle.fabric.specs.Machine.{pumped_head}
@@ -191,8 +192,10 @@ used_fits (v ∷ rest) (suc used) all =
 
 side_fits : (plans : Plans) (from : Side) → fits_plans plans ≡ true
     → fits_plan (side_of plans from) ≡ true
-side_fits plans First fits = (and_parts (fits_plan plans.from_first) (fits_plan plans.from_second) fits).0
-side_fits plans Second fits = (and_parts (fits_plan plans.from_first) (fits_plan plans.from_second) fits).1
+side_fits plans First fits =
+    (and_parts (fits_plan plans.from_first) (fits_plan plans.from_second) fits).0
+side_fits plans Second fits =
+    (and_parts (fits_plan plans.from_first) (fits_plan plans.from_second) fits).1
 
 plan_fits : (all : List Plans) (place : ℕ) (from : Side) → list_all fits_plans all ≡ true
     → list_all fits_verdict (plan_in (slice_get all place) from) ≡ true
@@ -200,7 +203,8 @@ plan_fits [] zero from fits = refl
 plan_fits [] (suc place) from fits = refl
 plan_fits (plans ∷ rest) zero from fits =
     let plan : List Verdict = side_of plans from in
-    let its = side_fits plans from (and_parts (fits_plans plans) (list_all fits_plans rest) fits).0 in
+    let here = (and_parts (fits_plans plans) (list_all fits_plans rest) fits).0 in
+    let its = side_fits plans from here in
     (and_parts (nat_le (length plan) verdict_limit) (list_all fits_verdict plan) its).1
 plan_fits (plans ∷ rest) (suc place) from fits =
     plan_fits rest place from (and_parts (fits_plans plans) (list_all fits_plans rest) fits).1

@@ -30,9 +30,10 @@ use Rattle.actor_run.specs.Following.{knows, next_ask, Follows}
 use Rattle.run_trunks.specs.States.{trunks_of}
 use Rattle.trunk_moves.specs.Trunks.{RunTrunks}
 use Rattle.fabric.specs.Links.{is_still, none_stirs, stirs}
-use Rattle.fabric.specs.Machine.{all_have_ended, all_leave_at_rest, hands_over, have_ended, head_for}
-use Rattle.fabric.specs.Machine.{is_at_rest, pumped_head}
+use Rattle.fabric.specs.Machine.{all_have_ended, all_leave_at_rest, hands_over, have_ended}
+use Rattle.fabric.specs.Machine.{head_for, is_at_rest, pumped_head}
 use Rattle.fabric.specs.Run.{IsStepFor, Layout}
+use Rattle.fabric.proofs.Resting.{ended-each}
 use Rattle.stage.specs.Plays.{AllFollow}
 use Rattle.stage.specs.Pumps.{pump_event}
 use Rattle.stage.specs.Turns.{AreTurns, IsPumpIf, IsRound, IsTurnBy, IsTurnIf}
@@ -125,18 +126,6 @@ module _ (shape : Shape) (P : List Step) (still : Bool) (k : ℕ) (commands : Li
   none-stuck : is_some ask.hand ≡ hands_over ask.event
       → head_for shape P still (Actor k) ask ≡ None → IsStuck shape P still k
   none-stuck handed none = vain-stuck (vain-is shape P still k ask handed none)
-
--- ENDED. Each of so many has ended
-pub ended-each : (P : List Step) (n o : ℕ) → have_ended P n ≡ true → 0 < o → o ≤ n
-    → has_ended P o ≡ true
-ended-each P zero o all above within = absurd (omega arith)
-ended-each P (suc n) o all above within =
-    let parts = and_parts (have_ended P n) (has_ended P (suc n)) all in
-    elim (cases_order o (suc n)) [
-      | inl same ↦ subst (λ (x : ℕ). has_ended P x ≡ true) (sym same) parts.1
-      | inr (inl less) ↦ ended-each P n o parts.0 above (omega arith)
-      | inr (inr more) ↦ absurd (omega arith)
-    ]
 
 -- the first of so many that hasn't ended
 record IsFirst (P : List Step) (n : ℕ) : Type 0 where

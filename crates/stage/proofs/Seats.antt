@@ -15,7 +15,8 @@ use Rattle.journal.specs.declared.event.Event.{Event}
 use Rattle.journal.specs.History.{has_ended}
 use Rattle.journal.specs.Shapes.{Shape}
 use Rattle.link_laws.specs.Laws.{IsLegal}
-use Rattle.link_laws.specs.Runs.{KeepsPromises}
+use Rattle.link_laws.specs.Runs.{KeepsThroughout}
+use Rattle.link_laws.specs.Still.{IsOver}
 use Rattle.run_trunks.specs.States.{new_trunks, trunks_of}
 use Rattle.script_lang.specs.declared.actor_script.ActorScript.{ActorScript}
 use Rattle.script_lang.specs.Fits.{IsScript}
@@ -30,9 +31,10 @@ use Rattle.fabric.specs.Actings.{OnlyRuns}
 use Rattle.fabric.specs.Links.{is_still}
 use Rattle.fabric.specs.Machine.{all_have_ended, have_ended}
 use Rattle.fabric.specs.Asks.{MayAsk}
-use Rattle.fabric.specs.Run.{IsReached, Layout}
+use Rattle.fabric.specs.Run.{IsReached, IsReachedBy, Layout}
 use Rattle.fabric.specs.declared.stop.StepStop.{StepStop}
 use Rattle.fabric.proofs.Kept.{get-set, get-set-other}
+use Rattle.fabric.proofs.Resting.{ended-each}
 use Rattle.stage.specs.declared.player.Player.{Player}
 use Rattle.stage.specs.declared.stage.Pump as pumps
 use Rattle.stage.specs.declared.stage.Turn.{Turn}
@@ -46,7 +48,7 @@ use Rattle.stage.proofs.Asking.{may_ask, next-handed}
 use Rattle.stage.proofs.Going.{GoesFar, done-far, half-far}
 use Rattle.stage.proofs.Planned.{far-planned, new-planned, planned-pumped}
 use Rattle.stage.proofs.Players.{after-goes_on, far-goes_on, none-goes_on, seated-other}
-use Rattle.stage.proofs.Rounds.{ended-each, round-moves}
+use Rattle.stage.proofs.Rounds.{round-moves}
 
 -- BEFORE THE FIRST TURNS
 first_seated : (actors : List ActorScript) (n : ℕ) (player : Player)
@@ -179,16 +181,14 @@ module _ (script : ScriptParts) (old new : Layout) (players : List Player)
 
   -- of an actor
   module _ (k : ℕ) (player : Player) (above : 0 < k) (within : k ≤ length script.actors) where
-    staged-next : length new.log.steps ≤ 200000
-        → ((m : ℕ) → k ≢ m → GoesOn m new.log.steps old.log.steps)
+    staged-next : ((m : ℕ) → k ≢ m → GoesOn m new.log.steps old.log.steps)
         → IsSeated script new.log.steps k player
         → IsPlanned script new.log.steps (trunks_of new.trunks)
         → IsStaged script new (slice_set players (k - 1) player)
-    staged-next few on seated planned = record {
+    staged-next on seated planned = record {
       declared = staged.declared;
       shape = staged-shape;
       names = staged-names;
-      few = few;
       count = length-set players (k - 1) player ∙ staged.count;
       seated = go k above within refl;
       planned = planned;
@@ -209,12 +209,12 @@ module _ (script : ScriptParts) (old new : Layout) (players : List Player)
 
     -- whatever came of it: the actor went so far
     staged-far : settler_in old ≡ None → (answer : StepAnswer)
-        → GoesFar old new k (asked_next script k old) answer → length new.log.steps ≤ 200000
+        → GoesFar old new k (asked_next script k old) answer
         → MayAsk old (Actor k) (asked_next script k old)
         → IsSeated script new.log.steps k player
         → IsStaged script new (slice_set players (k - 1) player)
-    staged-far calm answer far few may seated =
-        staged-next few (far-goes_on old new k (asked_next script k old) answer far) seated
+    staged-far calm answer far may seated =
+        staged-next (far-goes_on old new k (asked_next script k old) answer far) seated
         (far-planned script old new staged.shape calm k answer far may staged.planned)
 
     -- or nothing changed
@@ -222,7 +222,6 @@ module _ (script : ScriptParts) (old new : Layout) (players : List Player)
         → IsStaged script new (slice_set players (k - 1) player)
     staged-same same seated =
         staged-next
-        (subst (λ (l : Layout). length l.log.steps ≤ 200000) (sym same) staged.few)
         (λ m other. subst (λ (l : Layout). GoesOn m l.log.steps old.log.steps) (sym same)
         (none-goes_on old.log.steps m))
         seated
@@ -231,10 +230,9 @@ module _ (script : ScriptParts) (old new : Layout) (players : List Player)
 
     pub staged-turned : (r : Result Turn StepStop) → settler_in old ≡ None
         → has_ended old.log.steps k ≡ false → IfOk r (IsActed script k old new)
-        → OnErr r (IsTurnStopped script k old new) → length new.log.steps ≤ 200000
-        → IsSeated script new.log.steps k player
+        → OnErr r (IsTurnStopped script k old new) → IsSeated script new.log.steps k player
         → IsStaged script new (slice_set players (k - 1) player)
-    staged-turned r calm running acted stopped few seated = go r acted stopped
+    staged-turned r calm running acted stopped seated = go r acted stopped
       where
         may : MayAsk old (Actor k) (asked_next script k old)
         may = may_ask script staged.declared old staged.shape staged.names k above within running
@@ -244,22 +242,21 @@ module _ (script : ScriptParts) (old new : Layout) (players : List Player)
             → IsStaged script new (slice_set players (k - 1) player)
         go (Ok turn) acted stopped =
             staged-far calm acted.answer
-            (done-far old new k (asked_next script k old) acted.answer acted.done) few may seated
+            (done-far old new k (asked_next script k old) acted.answer acted.done) may seated
         go (Err stop) acted (inl same) = staged-same same seated
         go (Err stop) acted (inr half) =
-            staged-far calm half.0 (half-far old new k (asked_next script k old) half.0 half.1) few
-            may seated
+            staged-far calm half.0 (half-far old new k (asked_next script k old) half.0 half.1) may
+            seated
 
   -- of a link's pump
   pumped-if : (o : Option Event) (l : LinkNo) (pump : pumps.Pump)
       → pump_event script old.log.steps (trunks_of old.trunks) l ≡ o → settler_in old ≡ None
-      → length new.log.steps ≤ 200000 → IsPumpIf o l old new pump → IsStaged script new players
-  pumped-if None l pump asks calm few made = staged-kept (made.0)
-  pumped-if (Some event) l pump asks calm few made = record {
+      → IsPumpIf o l old new pump → IsStaged script new players
+  pumped-if None l pump asks calm made = staged-kept (made.0)
+  pumped-if (Some event) l pump asks calm made = record {
     declared = staged.declared;
     shape = staged-shape;
     names = staged-names;
-    few = few;
     count = staged.count;
     seated = λ n player is.
         seated-other script new.log.steps old.log.steps (suc n) player
@@ -270,12 +267,12 @@ module _ (script : ScriptParts) (old new : Layout) (players : List Player)
   }
 
   pub staged-pumped : (r : Result pumps.Pump StepStop) (l : LinkNo)
-      → (is_some (settler_in old) ≡ true → IsErr r) → length new.log.steps ≤ 200000
-      → IfOk r (IsPump script l old new) → OnErr r (new ≡ old) → IsStaged script new players
-  staged-pumped (Ok pump) l settling few made stopped =
+      → (is_some (settler_in old) ≡ true → IsErr r) → IfOk r (IsPump script l old new)
+      → OnErr r (new ≡ old) → IsStaged script new players
+  staged-pumped (Ok pump) l settling made stopped =
       pumped-if (pump_event script old.log.steps (trunks_of old.trunks) l) l pump refl
-      (none-settles (settler_in old) (λ is. true≢false (sym (settling is)))) few made
-  staged-pumped (Err stop) l settling few made stopped = staged-kept stopped
+      (none-settles (settler_in old) (λ is. true≢false (sym (settling is)))) made
+  staged-pumped (Err stop) l settling made stopped = staged-kept stopped
 
 -- A STAGE BEFORE ITS FIRST TURN
 pub first-same : (script : ScriptParts) (links : List LinkDecl) (nodes : List NodeNo)
@@ -296,7 +293,6 @@ staged-first script fabric players declared is started =
       declared = declared;
       shape = refl;
       names = refl;
-      few = omega arith;
       count = length-map script.actors _;
       seated = unstarted-seated script;
       planned = new-planned script declared;
@@ -308,21 +304,34 @@ module _ (script : ScriptParts) (fabric : Layout) (players : List Player)
   pub staged-follows : AllFollow script fabric.log.steps
   staged-follows = all-follow script fabric.log.steps players staged.count staged.seated
 
+  staged-reached : IsReachedBy fabric
+      → IsReached (length script.names.nodes) (shape_of script) fabric.log.steps
+      (trunks_of fabric.trunks)
+  staged-reached reached =
+      subst (λ (names : Names). IsReached (length names.nodes) (shape_of script) fabric.log.steps
+      (trunks_of fabric.trunks)) staged.names
+      (subst (λ (s : Shape). IsReached (length fabric.log.names.nodes) s fabric.log.steps
+      (trunks_of fabric.trunks)) staged.shape reached)
+
   pub staged-so_far : IsLegal fabric.shape fabric.log.steps
-      → KeepsPromises fabric.shape fabric.log.steps (links_of (trunks_of fabric.trunks))
-      → IsReached fabric.shape fabric.log.steps (trunks_of fabric.trunks)
-      → IsSoFar script fabric
+      → KeepsThroughout fabric.shape fabric.log.steps (links_of (trunks_of fabric.trunks))
+      → IsReachedBy fabric → IsSoFar script fabric
   staged-so_far legal promises reached = record {
     shape = staged.shape;
     names = staged.names;
     legal = subst (λ (s : Shape). IsLegal s fabric.log.steps) staged.shape legal;
     promises = subst (λ (s : Shape).
-        KeepsPromises s fabric.log.steps (links_of (trunks_of fabric.trunks))) staged.shape promises;
-    reached = subst (λ (s : Shape). IsReached s fabric.log.steps (trunks_of fabric.trunks))
-        staged.shape reached;
+        KeepsThroughout s fabric.log.steps (links_of (trunks_of fabric.trunks))) staged.shape
+        promises;
+    reached = staged-reached reached;
     follows = staged-follows;
     planned = staged.planned;
   }
+
+  -- where all is over, it is so of the script's shape
+  pub staged-over : (is_over fabric ≡ true → IsOver fabric.shape fabric.log.steps)
+      → is_over fabric ≡ true → IsOver (shape_of script) fabric.log.steps
+  staged-over over is = subst (λ (s : Shape). IsOver s fabric.log.steps) staged.shape (over is)
 
   pub staged-moves : is_over fabric ≡ false → (next : Layout) → IsRound script fabric next
       → length fabric.log.steps < length next.log.steps

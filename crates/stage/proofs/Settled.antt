@@ -27,10 +27,10 @@ use Rattle.run_settling.specs.Laws.{GoesOn, LinkSettlesIn, RunsSettle}
 use Rattle.node_kernel.specs.declared.answers.StepAnswer.{StepAnswer}
 use Rattle.run_trunks.specs.States.{trunks_of}
 use Rattle.trunk.specs.Events.{TrunkState}
-use Rattle.trunk_moves.specs.Steps.{IsWholeTrunkRun}
+use Rattle.trunk_moves.specs.Steps.{IsBoundedTrunkRun}
 use Rattle.fabric.specs.Actings.{OnlyRuns, asking}
 use Rattle.fabric.specs.Links.{flies_from, is_settled, is_tick, stirs, stirs_if, tick_steps}
-use Rattle.fabric.specs.Run.{IsReached, IsStepOf, IsStepped, Layout}
+use Rattle.fabric.specs.Run.{IsReachedBy, IsStepOf, IsStepped, Layout}
 use Rattle.fabric.specs.Remains.{IsLaidOut}
 use Rattle.fabric.proofs.Reaching.{reached-run, whole-of}
 use Rattle.stage.specs.Pumps.{flying_side, in_turn, is_even, settling_event}
@@ -91,7 +91,7 @@ pub record IsLeft (l : LinkNo) (f : Layout) (ticks : ℕ) : Type 0 where
       LinkSettlesIn (6 - ticks) (in_turn (tick_steps f.log.steps l.0)) l (trunks_of f.trunks)
 
 module _ (law : RunsSettle) (old new : Layout) (by : By) (l : LinkNo) (ticks_so_far : ℕ)
-    (run : IsWholeTrunkRun old.shape old.log.steps (trunks_of old.trunks))
+    (run : IsBoundedTrunkRun old.shape old.log.steps (trunks_of old.trunks))
     (room : length old.log.steps < 200000) (left : IsLeft l old ticks_so_far) where
   on-with : (head : Head) (answer : StepAnswer) (step : IsStepOf old new by head answer)
       → GoesOn old.shape old.log.steps (trunks_of old.trunks)
@@ -156,14 +156,14 @@ module _ (law : RunsSettle) (old new : Layout) (by : By) (l : LinkNo) (ticks_so_
 -- a run with one step more is whole
 pub whole-more : (old new : Layout) (by : By) (head : Head) (answer : StepAnswer)
     → IsStepOf old new by head answer → OnlyRuns old new → length old.log.steps < 200000
-    → IsWholeTrunkRun old.shape old.log.steps (trunks_of old.trunks)
-    → IsWholeTrunkRun new.shape new.log.steps (trunks_of new.trunks)
+    → IsBoundedTrunkRun old.shape old.log.steps (trunks_of old.trunks)
+    → IsBoundedTrunkRun new.shape new.log.steps (trunks_of new.trunks)
 whole-more old new by head answer step fixed room run =
     let s : Step = record { by = by; head = head; effects = step.effects } in
     let long : length new.log.steps ≡ suc (length old.log.steps) = ap length step.steps in
-    subst (λ (x : Shape). IsWholeTrunkRun x new.log.steps (trunks_of new.trunks))
+    subst (λ (x : Shape). IsBoundedTrunkRun x new.log.steps (trunks_of new.trunks))
     (sym (ap (λ (f : Layout). f.shape) fixed))
-    (subst (λ (P : List Step). IsWholeTrunkRun old.shape P (trunks_of new.trunks))
+    (subst (λ (P : List Step). IsBoundedTrunkRun old.shape P (trunks_of new.trunks))
     (sym step.steps) (record {
       two_ends = run.two_ends;
       nodes = run.nodes;
@@ -192,7 +192,7 @@ pub record IsUnderWay (by : By) (l : LinkNo) (start now : Layout) (ticks : ℕ) 
   pub made : AreSettlings by l steps start now
   pub counted : tick_steps now.log.steps l.0 ≡ tick_steps start.log.steps l.0 + ticks
   pub left : IsLeft l now ticks
-  pub run : IsWholeTrunkRun now.shape now.log.steps (trunks_of now.trunks)
+  pub run : IsBoundedTrunkRun now.shape now.log.steps (trunks_of now.trunks)
   pub of_shape : IsLinkOf now.shape l
   pub whole : is_cut now.log.steps l.0 ≡ false
   pub settled : is_settled now.log.steps l.0 ≡ true
@@ -203,12 +203,11 @@ pub record IsUnderWay (by : By) (l : LinkNo) (start now : Layout) (ticks : ℕ) 
 pub way-begins : RunsSettle → (by : By) (l : LinkNo) (f : Layout) → IsLinkOf f.shape l
     → IsMaker f.shape f.log.steps by → is_cut f.log.steps l.0 ≡ false
     → is_settled f.log.steps l.0 ≡ true → IsLaidOut (length f.log.names.nodes) f.shape
-    → length f.log.steps ≤ 200000 → IsReached f.shape f.log.steps (trunks_of f.trunks)
-    → IsUnderWay by l f f 0
+    → length f.log.steps ≤ 200000 → IsReachedBy f → IsUnderWay by l f f 0
 way-begins law by l f of_shape maker whole settled laid few reached =
-    let run : IsWholeTrunkRun f.shape f.log.steps (trunks_of f.trunks) =
+    let run : IsBoundedTrunkRun f.shape f.log.steps (trunks_of f.trunks) =
     whole-of (length f.log.names.nodes) f.shape laid f.log.steps (trunks_of f.trunks) few
-    (reached-run f.shape f.log.steps (trunks_of f.trunks) reached) in
+    (reached-run (length f.log.names.nodes) f.shape f.log.steps (trunks_of f.trunks) reached) in
     record {
       steps = 0;
       made = refl;

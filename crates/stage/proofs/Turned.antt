@@ -18,7 +18,6 @@ use Rattle.actor_run.specs.Knowing.{Knows, stopped_with, told}
 use Rattle.actor_run.proofs.Turns.{stopped_same, turned}
 use Rattle.fabric.specs.Asks.{MayAsk}
 use Rattle.fabric.specs.Machine.{hands_over}
-use Rattle.fabric.specs.Remains.{IsLaidOut}
 use Rattle.fabric.specs.Run.{IsStepped, Layout}
 use Rattle.stage.specs.declared.player.Player.{Player}
 use Rattle.stage.specs.declared.stage.Turn.{Turn}
@@ -27,7 +26,6 @@ use Rattle.stage.specs.Settlings.{IsDone, IsHalfDone}
 use Rattle.stage.specs.Turns.{IsActed, IsTurnStopped, came_of, commands_of, shape_of}
 use Rattle.stage.proofs.Asking.{may_ask, next-handed}
 use Rattle.stage.proofs.Going.{GoesFar, begun-calm, begun-runs, settle-made}
-use Rattle.stage.proofs.LaidOut.{laid_out}
 use Rattle.stage.proofs.Makings.{makes}
 use Rattle.stage.proofs.Players.{settlings-playing}
 use Rattle.stage.proofs.Seats.{turned-seated}
@@ -50,9 +48,6 @@ module _ (script : ScriptParts) (declared : IsScript script) (old : Layout)
   turn-asks =
       subst (MayAsk old (Actor k)) (sym ask-next)
       (may_ask script declared old shape names k above within playing.running)
-
-  pub turn-laid_out : IsLaidOut (length old.log.names.nodes) old.shape
-  turn-laid_out = rw (names, shape) (laid_out script declared)
 
   -- WHAT IT MAKES
   pub turn-moves : (new : Layout) (answer : StepAnswer) (turn : Turn)
@@ -84,7 +79,8 @@ module _ (script : ScriptParts) (declared : IsScript script) (old : Layout)
       (makes old new k ask answer handed_is stepped) in
       let over = is_end_event (asked_by commands mind me).event in
       turned-seated script new.log.steps k player over
-      (rw (mind_is, me_is) (turned commands k P new.log.steps mind me answer over playing refl made))
+      (rw (mind_is, me_is)
+      (turned commands k P new.log.steps mind me answer over playing refl made))
 
   -- WHAT IT LEAVES, as far as it goes
   pub turn-seated : (new : Layout) (answer : StepAnswer) → GoesFar old new k ask answer
@@ -102,8 +98,8 @@ module _ (script : ScriptParts) (declared : IsScript script) (old : Layout)
             turned-seated script new.log.steps k player false
             (settlings-playing (commands_of script k) k on.link player.mind player.me on.steps
             far.between new on.made (begun-calm old far.between k on.link answer step)
-            (subst (λ (b : Bool). IsTurned (commands_of script k) k far.between.log.steps player.mind
-            player.me b) runs first))
+            (subst (λ (b : Bool). IsTurned (commands_of script k) k far.between.log.steps
+            player.mind player.me b) runs first))
       ]
 
   -- WHAT A STOP LEAVES where nothing was done

@@ -1,7 +1,7 @@
 -- Turns make a round, and rounds a whole run.
 use Rattle.std.proofs.Common.{◌≡◌, ℕ, zero, suc, ◌+◌, ◌<◌, ◌≤◌, ◌⊎◌, Bool, true, false, List}
-use Rattle.std.proofs.Common.{length, Result, Ok, Err, IfErr, OnErr, Option, Some, None, refl, sym, ◌∙◌, ap}
-use Rattle.std.proofs.Common.{subst, inl, inr, arith}
+use Rattle.std.proofs.Common.{length, Result, Ok, Err, IfErr, OnErr, Option, Some, None, refl}
+use Rattle.std.proofs.Common.{sym, ◌∙◌, ap, subst, inl, inr, arith}
 use Rattle.std.specs.Result.{IsErrAnd}
 use Rattle.std.specs.Prelude.{not, ◌&&◌, is_some, nat_le, nat_lt, if◌then◌else◌}
 use Rattle.std.proofs.lemmas.Bool.{and_parts, cases_order, leb-true, ltb-true, true≢false}
@@ -24,15 +24,16 @@ use Rattle.fabric.specs.Asks.{MayAsk}
 use Rattle.fabric.specs.Links.{is_still, none_stirs, stirs}
 use Rattle.fabric.specs.Machine.{all_have_ended}
 use Rattle.fabric.specs.Run.{Layout}
+use Rattle.fabric.proofs.Resting.{ended-each}
 use Rattle.fabric.specs.declared.stop.StepStop.{StepStop}
 use Rattle.fabric.specs.declared.stop.StopCause.TheVariants.{JournalFull}
 use Rattle.stage.specs.declared.stage.Turn.{Turn}
 use Rattle.stage.specs.Settlings.{IsHalfDone, Settler, if_stirs, settler_in, settler_of, stirs_on}
 use Rattle.stage.specs.Turns.{AreRounds, AreTurns, IsFullForActor, IsFullForLink, IsRound, IsTurnOf}
-use Rattle.stage.specs.Turns.{IsTurnStopped, asked_next, is_over, shape_of}
+use Rattle.stage.specs.Turns.{IsStoppedRound, IsStoppedRun, IsTurnStopped, asked_next, is_over}
+use Rattle.stage.specs.Turns.{makers, shape_of}
 use Rattle.stage.proofs.Going.{begun-under, settle-made, settles-there, settles_it}
 use Rattle.stage.proofs.Idling.{not_true}
-use Rattle.stage.proofs.Rounds.{ended-each}
 use Rattle.stage.proofs.Settling.{IsUnder, settles-now, settlings-fixed, settlings-under}
 
 -- one turn more
@@ -53,6 +54,25 @@ pub rounds-more : (script : ScriptParts) (start before now : Layout)
     → HaveRounds script start now
 rounds-more script start before now rounds running round =
     (suc rounds.0, (before, (rounds.1, (running, round))))
+
+-- so many turns of a round, and then one that stopped
+abbrev pub HasFront : ScriptParts → Layout → Layout → Type 0
+HasFront script before now =
+    (n : ℕ) × (n < makers script) × IsStoppedRound script n before now
+
+-- a run that stopped there
+pub run-stopped : (script : ScriptParts) (start before now : Layout)
+    → HaveRounds script start before → is_over before ≡ false → HasFront script before now
+    → IsStoppedRun script start now
+run-stopped script start before now rounds running front = record {
+  rounds = rounds.0;
+  before = before;
+  made = rounds.1;
+  running = running;
+  turns = front.0;
+  few = front.1;
+  stopped = front.2;
+}
 
 -- WHERE A MAKER HAS A TURN TO TAKE not all is over
 module _ (script : ScriptParts) (f : Layout) (shape : f.shape ≡ shape_of script) where

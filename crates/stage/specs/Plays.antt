@@ -7,7 +7,7 @@ use Rattle.journal.specs.declared.event.Event.TheVariants as asks
 use Rattle.journal.specs.declared.head.Head.{Head}
 use Rattle.journal.specs.declared.head.Head.TheVariants.{Tick, Wire}
 use Rattle.link_laws.specs.Laws.{IsLegal}
-use Rattle.link_laws.specs.Runs.{KeepsPromises}
+use Rattle.link_laws.specs.Runs.{KeepsThroughout}
 use Rattle.node_kernel.specs.Answers.{event_of, is_pumped}
 use Rattle.actor_run.specs.Following.{Follows, FollowsWhole}
 use Rattle.run_trunks.specs.States.{trunks_of}
@@ -59,8 +59,8 @@ pub record IsPlannedStep (script : ScriptParts) (P : List Step) (before : RunTru
       IsInTurn script P before (settler_now (shape_of script) P before) s.by s.head
 
 -- A RUN AS PLANNED: from the first trunks on, each step makes of them what its kind makes, each
--- step of a packet or of a clock is the one that the pump's rule asks for before it, and who settles
--- a link is not disturbed until it is done
+-- step of a packet or of a clock is the one that the pump's rule asks for before it, and who
+-- settles a link is not disturbed until it is done
 abbrev pub IsPlanned : ScriptParts → List Step → RunTrunks → Type 0
 IsPlanned script [] trunks = AreFirst (shape_of script) trunks
 IsPlanned script (s ∷ P) after =
@@ -69,13 +69,15 @@ IsPlanned script (s ∷ P) after =
     × IsPlannedStep script P before s))
 
 -- A RUN OF THE SCRIPT SO FAR: it has its names, is legal by the laws of nodes and links, keeps what
--- is promised of such runs, each actor follows its commands, and the links do as is planned
+-- is promised of such runs after each of its steps, each actor follows its commands, and the links
+-- do as is planned
 pub record IsSoFar (script : ScriptParts) (run : Layout) : Type 0 where
   pub shape : run.shape ≡ shape_of script
   pub names : run.log.names ≡ script.names
   pub legal : IsLegal (shape_of script) run.log.steps
   pub promises :
-      KeepsPromises (shape_of script) run.log.steps (links_of (trunks_of run.trunks))
-  pub reached : IsReached (shape_of script) run.log.steps (trunks_of run.trunks)
+      KeepsThroughout (shape_of script) run.log.steps (links_of (trunks_of run.trunks))
+  pub reached :
+      IsReached (length script.names.nodes) (shape_of script) run.log.steps (trunks_of run.trunks)
   pub follows : AllFollow script run.log.steps
   pub planned : IsPlanned script run.log.steps (trunks_of run.trunks)

@@ -1,5 +1,5 @@
 -- What a stage keeps of its actors between two turns.
-use Rattle.std.specs.Prelude.{ℕ, suc, ◌≡◌, ◌≤◌, List, length, map, slice_get, Some, None}
+use Rattle.std.specs.Prelude.{ℕ, suc, ◌≡◌, List, length, map, slice_get, Some, None}
 use Rattle.journal.specs.declared.effect.Step.{Step}
 use Rattle.journal.specs.History.{has_ended}
 use Rattle.script_lang.specs.declared.actor_script.ActorScript.{ActorScript}
@@ -28,13 +28,12 @@ AreSeated script P players =
     (n : ℕ) → (player : Player) → slice_get players n ≡ Some player
     → IsSeated script P (suc n) player
 
--- What a stage keeps: its fabric is laid out as the script says, has its names and no more steps
--- than a journal takes, each actor has its player, and the links do as is planned
+-- What a stage keeps: its fabric is laid out as the script says and has its names, each actor has
+-- its player, and the links do as is planned
 pub record IsStaged (script : ScriptParts) (fabric : Layout) (players : List Player) : Type 0 where
   pub declared : IsScript script
   pub shape : fabric.shape ≡ shape_of script
   pub names : fabric.log.names ≡ script.names
-  pub few : length fabric.log.steps ≤ 200000
   pub count : length players ≡ length script.actors
   pub seated : AreSeated script fabric.log.steps players
   pub planned : IsPlanned script fabric.log.steps (trunks_of fabric.trunks)

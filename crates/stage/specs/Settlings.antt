@@ -26,7 +26,6 @@ use Rattle.fabric.specs.Actings.{OnlyRuns}
 use Rattle.fabric.specs.declared.stop.StepStop.{StepStop}
 use Rattle.fabric.specs.declared.stop.StopCause.TheVariants.{JournalFull}
 use Rattle.fabric.specs.Links.{is_settled, stirs, tick_steps}
-use Rattle.fabric.specs.Remains.{IsLaidOut}
 use Rattle.fabric.specs.Run.{IsStepped, Layout}
 use Rattle.stage.specs.declared.acting.Acted.{Acted}
 use Rattle.stage.specs.declared.acting.Acted.TheVariants.{Done, Halfway, Stopped}
@@ -112,8 +111,6 @@ pub record MaySettleNow (l : LinkNo) (k : ℕ) (f : Layout) : Type 0 where
   pub declared : IsLinkOf f.shape l
   pub maker : IsMaker f.shape f.log.steps (Actor k)
   pub settled : is_settled f.log.steps l.0 ≡ true
-  pub laid_out : IsLaidOut (length f.log.names.nodes) f.shape
-  pub few : length f.log.steps ≤ 200000
 
 abbrev pub MayGoOn : Option LinkNo → ℕ → Layout → Type 0
 MayGoOn None k f = Unit {0}

@@ -1,5 +1,5 @@
 -- The fixed order: turns, rounds and whole runs, each as what it makes of a run's state.
-use Rattle.std.specs.Prelude.{ℕ, zero, suc, ◌+◌, ◌-◌, ◌≡◌, ◌⊎◌, Bool, true, false, ◌&&◌, List}
+use Rattle.std.specs.Prelude.{ℕ, zero, suc, ◌+◌, ◌-◌, ◌≡◌, ◌<◌, ◌⊎◌, Bool, true, false, ◌&&◌, List}
 use Rattle.std.specs.Prelude.{[], length, map, nat_le, slice_get, is_some, Option, Some, None}
 use Rattle.std.specs.Prelude.{if◌then◌else◌}
 use Rattle.linx_base.specs.declared.identity.LinkNo.{LinkNo}
@@ -154,6 +154,17 @@ AreRounds script zero start new = new ≡ start
 AreRounds script (suc n) start new =
     (before : Layout)
     × (AreRounds script n start before × ((is_over before ≡ false) × IsRound script before new))
+
+-- A RUN THAT STOPPED: so many rounds were made, not all was over, and of the next round so many
+-- turns were made before the one that stopped
+pub record IsStoppedRun (script : ScriptParts) (start new : Layout) : Type 0 where
+  pub rounds : ℕ
+  pub before : Layout
+  pub made : AreRounds script rounds start before
+  pub running : is_over before ≡ false
+  pub turns : ℕ
+  pub few : turns < makers script
+  pub stopped : IsStoppedRound script turns before new
 
 -- before the first turn
 abbrev pub first_layout : ScriptParts → Layout

@@ -1,7 +1,7 @@
 //! What an actor asks for, on a fabric that is at hand: the step, and after a settle the steps that
 //! settle the link.
 
-ghost use Rattle.std.specs.Prelude.{◌≡◌, ◌≤◌, length, true, false, is_some, None, IfOk, IfErr, OnOk};
+ghost use Rattle.std.specs.Prelude.{◌≡◌, true, false, is_some, None, IfOk, IfErr, OnOk};
 ghost use Rattle.std.specs.Prelude.{OnErr};
 ghost use Rattle.journal.specs.Laws.{IsMaker};
 ghost use Rattle.journal.specs.Logs.{is_full};
@@ -12,7 +12,6 @@ ghost use Rattle.run_trunks.specs.States.{trunks_of};
 ghost use Rattle.fabric.specs.Actings.{OnlyRuns};
 ghost use Rattle.fabric.specs.Asks.{MayAsk};
 ghost use Rattle.fabric.specs.Links.{is_settled};
-ghost use Rattle.fabric.specs.Remains.{IsLaidOut};
 ghost use Rattle.stage.specs.Settlings.{GoesOnAfter, IsActedAs, IsSettled, MayGoOn, MaySettle};
 ghost use Rattle.stage.specs.Settlings.{StopsAfter, StopsSettling, if_stirs, settled_by};
 ghost use Rattle.stage.specs.Settlings.{settler_after, settler_by, settler_in, stirs_on, ticks_of};
@@ -98,24 +97,22 @@ fn ticks_of(event: &Event) -> u32
 }
 
 /// Settles a link: makes the steps of its pump, as this maker, until the link doesn't stir. It
-/// answers how many ticks that took: six at most, and then both sides are up with each other. A stop
-/// leaves the steps that were made.
+/// answers how many ticks that took: six at most, and then both sides are up with each other. A
+/// stop leaves the steps that were made.
 pub fn settle(fabric: &mut Fabric, by: By, link: LinkNo) -> Result<u32, StepStop>
     requires declared { IsLinkOf fabric.old.shape link }
     requires maker { IsMaker fabric.old.shape fabric.old.log.steps by }
     requires may { MaySettle by link }
     requires whole { is_cut fabric.old.log.steps link.0 ≡ false }
     requires settled { is_settled fabric.old.log.steps link.0 ≡ true }
-    requires laid_out { IsLaidOut (length fabric.old.log.names.nodes) fabric.old.shape }
-    requires few { length fabric.old.log.steps ≤ 200000 }
     ensures ok { IfOk result (λ ticks. IsSettled by link ticks fabric.old fabric.new) }
     ensures err { OnErr result (StopsSettling by link fabric.old fabric.new) }
     ensures full { IfErr result (λ stop. is_full fabric.new.log.steps ≡ true
         → stop.cause ≡ StopCause.JournalFull) }
     ensures full_only { IfErr result (λ stop. stop.cause ≡ StopCause.JournalFull
         → is_full fabric.new.log.steps ≡ true) }
+    ensures hand { IfErr result (λ stop. stop.hand ≡ None) }
     ensures fixed { OnlyRuns fabric.old fabric.new }
-    ensures few { length fabric.new.log.steps ≤ 200000 }
 {
     runs_settle();
     let _ = fabric.journal();
@@ -146,7 +143,6 @@ fn go_on(fabric: &mut Fabric, actor: u32, settled: Option<LinkNo>) -> Result<(),
     ensures full_only { IfErr result (λ cause. cause ≡ StopCause.JournalFull
         → is_full fabric.new.log.steps ≡ true) }
     ensures fixed { OnlyRuns fabric.old fabric.new }
-    ensures few { length fabric.old.log.steps ≤ 200000 → length fabric.new.log.steps ≤ 200000 }
 {
     let Some(link) = settled else {
         return Ok(());
@@ -164,12 +160,10 @@ fn go_on(fabric: &mut Fabric, actor: u32, settled: Option<LinkNo>) -> Result<(),
 /// that isn't cut.
 pub fn act(fabric: &mut Fabric, actor: u32, ask: Ask) -> Acted
     requires asks { MayAsk fabric.old (Actor actor) ask }
-    requires laid_out { IsLaidOut (length fabric.old.log.names.nodes) fabric.old.shape }
     ensures came { IsActedAs fabric.old fabric.new actor ask result }
     ensures full { is_full fabric.old.log.steps ≡ true
         → result ≡ Acted.Stopped (record { cause = StopCause.JournalFull; hand = ask.hand }) }
     ensures fixed { OnlyRuns fabric.old fabric.new }
-    ensures few { length fabric.old.log.steps ≤ 200000 → length fabric.new.log.steps ≤ 200000 }
 {
     let Ask { event, hand } = ask;
     let settled = settled_by(&event);

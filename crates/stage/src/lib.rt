@@ -14,9 +14,9 @@ mod pump;
 mod stage;
 
 pub use acting::{Acted, act, is_settling, settle};
-pub use player::Player;
+pub use player::{Player, actor_of};
 pub use pump::{pump_event, pump_on};
-pub use stage::{Pump, Stage, Turn, players_of};
+pub use stage::{Pump, Stage, Turn, nodes_of, players_of};
 
 #[cfg(test)]
 mod tests;

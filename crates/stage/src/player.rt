@@ -1,4 +1,5 @@
-ghost use Rattle.std.specs.Prelude.{◌≡◌, ◌<◌, ◌≤◌, true, length, IfOk, IfErr, OnErr, IsErr};
+//! An actor of a script: what it does in a turn, and what it learns.
+ghost use Rattle.std.specs.Prelude.{◌≡◌, ◌<◌, ◌≤◌, true, length, None, IfOk, IfErr, OnErr, IsErr};
 ghost use Rattle.journal.specs.Logs.{is_full};
 ghost use Rattle.actor_run.specs.Asking.{AreRunnable};
 ghost use Rattle.actor_run.specs.Following.{Playing, endpoint_after};
@@ -35,7 +36,7 @@ fn came_of(answer: &StepAnswer) -> Turn
 }
 
 /// What an actor does.
-fn actor_of(script: &Script, actor: u32) -> &ActorScript
+pub fn actor_of(script: &Script, actor: u32) -> &ActorScript
     requires above { 0 < actor }
     requires within { actor ≤ length script.now.actors }
     ensures commands { result.now.commands ≡ commands_of script.now actor }
@@ -47,7 +48,7 @@ fn actor_of(script: &Script, actor: u32) -> &ActorScript
 
 impl Player {
     /// Learns what the answer to a command tells.
-    fn told(&mut self, script: &ActorScript, answer: StepAnswer)
+    pub fn told(&mut self, script: &ActorScript, answer: StepAnswer)
         requires runnable { AreRunnable script.now.commands }
         requires place { self.old.mind.place ≤ length script.now.commands }
         ensures mind { self.new.mind ≡ told script.now.commands self.old.mind answer }
@@ -79,7 +80,7 @@ pub(crate) fn turn_of(
     ensures full { is_full fabric.old.log.steps ≡ true → IsErr result }
     ensures full_only { IfErr result (λ stop. stop.cause ≡ StopCause.JournalFull
         → is_full fabric.new.log.steps ≡ true) }
-    ensures few { length fabric.old.log.steps ≤ 200000 → length fabric.new.log.steps ≤ 200000 }
+    ensures hand { IfErr result (λ stop. stop.hand ≡ None) }
     ensures fixed { OnlyRuns fabric.old fabric.new }
 {
     let commands = actor_of(script, actor);

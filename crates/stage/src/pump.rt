@@ -1,6 +1,7 @@
 //! The pump's rule: what a link does next by itself, as its plans say.
 
-ghost use Rattle.std.specs.Prelude.{◌≡◌, ◌<◌, ◌≤◌, true, length, is_some, IfOk, IfErr, OnErr, IsErr};
+ghost use Rattle.std.specs.Prelude.{◌≡◌, ◌<◌, true, length, is_some, None, IfOk, IfErr, OnErr};
+ghost use Rattle.std.specs.Prelude.{IsErr};
 ghost use Rattle.carrier.specs.Events.{flight_from};
 ghost use Rattle.journal.specs.Logs.{is_full};
 ghost use Rattle.link_laws.specs.Ends.{IsLinkOf};
@@ -38,8 +39,8 @@ pub fn pump_event(fabric: &Fabric, script: &Script, link: LinkNo) -> Option<Even
     }
 }
 
-/// What the steps that settle a link that isn't cut are: each packet is delivered, and where none is
-/// in flight, a side ticks. None exactly where the link doesn't stir.
+/// What the steps that settle a link that isn't cut are: each packet is delivered, and where none
+/// is in flight, a side ticks. None exactly where the link doesn't stir.
 pub(crate) fn settling_event(fabric: &Fabric, link: LinkNo) -> Option<Event>
     requires declared { IsLinkOf fabric.now.shape link }
     ensures { result ≡ settling_event fabric.now.log.steps (trunks_of fabric.now.trunks) link }
@@ -159,7 +160,7 @@ pub fn pump_on(fabric: &mut Fabric, script: &Script, link: LinkNo) -> Result<Pum
         → IsErr result }
     ensures full_only { IfErr result (λ stop. stop.cause ≡ StopCause.JournalFull
         → IsFullForLink fabric.old link) }
-    ensures few { length fabric.old.log.steps ≤ 200000 → length fabric.new.log.steps ≤ 200000 }
+    ensures hand { IfErr result (λ stop. stop.hand ≡ None) }
     ensures fixed { OnlyRuns fabric.old fabric.new }
     ensures err { OnErr result (fabric.new ≡ fabric.old) }
 {

@@ -1,9 +1,11 @@
+//! The actors and the links of a script on a fabric: their turns, rounds and whole runs.
 ghost use Rattle.std.specs.Prelude.{◌≡◌, ℕ, ◌<◌, ◌≤◌, true, false, [], length, map, IfOk, IfErr};
-ghost use Rattle.std.specs.Prelude.{OnOk, OnErr, IsErr, is_some, not, ◌&&◌};
+ghost use Rattle.std.specs.Prelude.{OnOk, OnErr, IsErr, is_some, not, ◌&&◌, None};
 ghost use Rattle.journal.specs.Logs.{is_full};
 ghost use Rattle.journal.specs.History.{has_ended};
 ghost use Rattle.journal.specs.Rest.{is_idle};
 ghost use Rattle.link_laws.specs.Ends.{IsLinkOf};
+ghost use Rattle.link_laws.specs.Still.{IsOver};
 ghost use Rattle.run_trunks.specs.States.{trunks_of};
 ghost use Rattle.fabric.specs.Links.{is_still};
 ghost use Rattle.fabric.specs.Machine.{is_at_rest};
@@ -12,7 +14,8 @@ ghost use Rattle.stage.specs.Plays.{AllFollowWhole, IsSoFar};
 ghost use Rattle.stage.specs.Seats.{IsStaged, unstarted};
 ghost use Rattle.stage.specs.Settlings.{settler_in, stirs_in};
 ghost use Rattle.stage.specs.Turns.{AreRounds, IsFullForActor, IsFullForLink, IsPump, IsRound};
-ghost use Rattle.stage.specs.Turns.{IsStoppedOf, IsStoppedRound, IsTurn, IsTurnOf, IsTurnStopped};
+ghost use Rattle.stage.specs.Turns.{IsStoppedOf, IsStoppedRound, IsStoppedRun, IsTurn, IsTurnOf};
+ghost use Rattle.stage.specs.Turns.{IsTurnStopped};
 ghost use Rattle.stage.specs.Turns.{IsWhole, first_layout, is_over, makers, shape_of};
 
 use crate::acting::{is_settling, unsettled};
@@ -67,7 +70,7 @@ impl Model for Stage {
 }
 
 /// The nodes of the actors, in order.
-fn nodes_of(alloc: Global, actors: &[ActorScript]) -> Result<Vec<NodeNo>, NoMemory>
+pub fn nodes_of(alloc: Global, actors: &[ActorScript]) -> Result<Vec<NodeNo>, NoMemory>
     ensures { IfOk result (λ nodes. nodes.items ≡ map (λ a. a.node) actors.now) }
 {
     let mut nodes = Vec::with_capacity(alloc, actors.len())?;
@@ -134,22 +137,27 @@ impl Stage {
         self.fabric.journal()
     }
 
-    /// The journal. Where all is over, each actor has followed its commands to their end.
+    /// The journal. Where all is over, each actor has followed its commands to their end, and every
+    /// link is still.
     pub fn into_journal(self) -> Journal
         ensures log { result.log ≡ self.run.log }
         ensures so_far { IsSoFar self.script self.run }
         ensures whole { is_over self.run ≡ true → AllFollowWhole self.script self.run.log.steps }
+        ensures over { is_over self.run ≡ true → IsOver (shape_of self.script) self.run.log.steps }
     {
         self.fabric.into_journal()
     }
 
-    /// Whether every actor has ended, and no link stirs. Until then the next round makes a step.
+    /// Whether every actor has ended, and no link stirs. Until then the next round makes a step;
+    /// and the journal has no more steps than one takes.
     pub fn is_over(&self) -> bool
         ensures over { result ≡ is_over self.now.run }
+        ensures few { length self.now.run.log.steps ≤ 200000 }
         ensures moves { result ≡ false → (next : Layout) → IsRound self.now.script self.now.run next
             → length self.now.run.log.steps < length next.log.steps }
     {
         let _ = &self.players;
+        let _ = self.fabric.journal();
         self.fabric.is_over()
     }
 
@@ -166,7 +174,7 @@ impl Stage {
             → has_ended self.old.run.log.steps actor ≡ false → IsErr result }
         ensures full_only { IfErr result (λ stop. stop.cause ≡ StopCause.JournalFull
             → IsFullForActor self.new.run actor) }
-        ensures few { length self.new.run.log.steps ≤ 200000 }
+        ensures hand { IfErr result (λ stop. stop.hand ≡ None) }
         ensures err { OnErr result
             (IsTurnStopped self.old.script actor self.old.run self.new.run) }
     {
@@ -208,7 +216,7 @@ impl Stage {
             → stirs_in self.old.run link ≡ true → IsErr result }
         ensures full_only { IfErr result (λ stop. stop.cause ≡ StopCause.JournalFull
             → IsFullForLink self.old.run link) }
-        ensures few { length self.new.run.log.steps ≤ 200000 }
+        ensures hand { IfErr result (λ stop. stop.hand ≡ None) }
         ensures err { OnErr result (self.new ≡ self.old) }
     {
         let _ = &self.players;
@@ -223,7 +231,7 @@ impl Stage {
         ensures script { self.new.script ≡ self.old.script }
         ensures full_only { IfErr result (λ stop. stop.cause ≡ StopCause.JournalFull
             → (is_full self.new.run.log.steps ≡ true) × (is_over self.new.run ≡ false)) }
-        ensures few { length self.new.run.log.steps ≤ 200000 }
+        ensures hand { IfErr result (λ stop. stop.hand ≡ None) }
         ensures err { OnErr result
             (IsStoppedOf self.old.script number self.old.run self.new.run) }
     {
@@ -246,7 +254,8 @@ impl Stage {
             × IsStoppedRound self.old.script n self.old.run self.new.run) }
         ensures full_only { IfErr result (λ stop. stop.cause ≡ StopCause.JournalFull
             → (is_full self.new.run.log.steps ≡ true) × (is_over self.new.run ≡ false)) }
-        ensures few { length self.new.run.log.steps ≤ 200000 }
+        ensures hand { IfErr result (λ stop. stop.hand ≡ None) }
+        ensures few { OnOk result (length self.new.run.log.steps ≤ 200000) }
     {
         let count = (self.script.actors().len() + self.script.links().len()) as u32;
         'turns: for place in 0..count {
@@ -255,14 +264,18 @@ impl Stage {
         Ok(self.is_over())
     }
 
-    /// Rounds until all is over, from whatever was done.
+    /// Rounds until all is over, from whatever was done. A stop leaves the rounds before it, and of
+    /// its own round what `round` leaves.
     pub fn finish(&mut self) -> Result<(), StepStop>
         ensures over { OnOk result (is_over self.new.run ≡ true) }
         ensures rounds { OnOk result ((n : ℕ)
             × AreRounds self.old.script n self.old.run self.new.run) }
         ensures script { self.new.script ≡ self.old.script }
+        ensures front { OnErr result
+            (IsStoppedRun self.old.script self.old.run self.new.run) }
         ensures full_only { IfErr result (λ stop. stop.cause ≡ StopCause.JournalFull
             → (is_full self.new.run.log.steps ≡ true) × (is_over self.new.run ≡ false)) }
+        ensures hand { IfErr result (λ stop. stop.hand ≡ None) }
     {
         'rounds: while !self.is_over() {
             self.round()?;
@@ -270,13 +283,16 @@ impl Stage {
         Ok(())
     }
 
-    /// The whole run: rounds until all is over.
+    /// The whole run: rounds until all is over. A stop leaves what `finish` leaves.
     pub fn play(&mut self) -> Result<(), StepStop>
         requires unstarted { self.old.run ≡ first_layout self.old.script }
         ensures whole { OnOk result (IsWhole self.old.script self.new.run) }
         ensures script { self.new.script ≡ self.old.script }
+        ensures front { OnErr result
+            (IsStoppedRun self.old.script self.old.run self.new.run) }
         ensures full_only { IfErr result (λ stop. stop.cause ≡ StopCause.JournalFull
             → (is_full self.new.run.log.steps ≡ true) × (is_over self.new.run ≡ false)) }
+        ensures hand { IfErr result (λ stop. stop.hand ≡ None) }
     {
         self.finish()
     }

@@ -6,6 +6,7 @@ use Rattle.std.specs.Prelude.{slice_get}
 use Rattle.std.proofs.lemmas.List.{length-map, get_or-map}
 use Rattle.std.proofs.lemmas.List.Elements.{All-head, All-tail}
 use Rattle.std.proofs.lemmas.Option.{get_or_from_slice_get}
+use Rattle.linx_base.specs.declared.name.Names.{Names}
 use Rattle.journal.specs.declared.effect.Step.{Step}
 use Rattle.journal.specs.Shapes.{Shape}
 use Rattle.run_trunks.specs.States.{trunks_of}
@@ -17,7 +18,7 @@ use Rattle.turn_lock.specs.Passes.{AreBack, AreDealt, IsSamePass, LockView, Pass
 use Rattle.turn_lock.specs.Passes.{new_pass}
 use Rattle.turn_lock.specs.Stories.{AllMadeUpTo, RestsFor}
 use Rattle.turn_lock.proofs.Back.{dealt_at}
-use Rattle.fabric.specs.Run.{IsReached, Layout}
+use Rattle.fabric.specs.Run.{IsReached, IsReachedBy, Layout}
 use Rattle.linx_api.specs.Telling.{PlanParts, number_of, numbered, plan_of, story_of, told_by}
 use Rattle.stage.specs.declared.player.Player.{Player}
 use Rattle.stage.specs.Plays.{IsPlanned}
@@ -37,7 +38,8 @@ module _ (script : ScriptParts) where
   pub makers-planned : (seats : ℕ) (P : List Step) (trunks : RunTrunks)
       → AllMadeUpTo seats (told_by (shape_of script) P)
       → ((n : ℕ) → 0 < n → n ≤ seats → OwnPlanned script n P)
-      → IsReached (shape_of script) P trunks → IsPlanned script P trunks
+      → IsReached (length script.names.nodes) (shape_of script) P trunks
+      → IsPlanned script P trunks
   makers-planned seats [] trunks made own reached = reached
   makers-planned seats (s ∷ P) trunks made own reached =
       let shape : Shape = shape_of script in
@@ -232,22 +234,26 @@ module _ (script : ScriptParts) (all : List Worked) (count : length all ≡ make
       let counted = count-left script f.log.steps 0 all (omega arith) (omega arith) closed-played in
       omega arith
 
+  closed-names : f.log.names ≡ script.names
+  closed-names = ap (λ (q : PlanParts). q.names) plan
+
   -- A STAGE CAN GO ON from the closed fabric
   pub closed-staged : IsScript script → AllMadeUpTo (makers script) (story_of f)
-      → IsReached f.shape f.log.steps (trunks_of f.trunks) → length f.log.steps ≤ 200000
-      → IsStaged script f (players_in all)
-  closed-staged declared made reached few = record {
+      → IsReachedBy f → IsStaged script f (players_in all)
+  closed-staged declared made reached = record {
     declared = declared;
     shape = closed-shape;
-    names = ap (λ (q : PlanParts). q.names) plan;
-    few = few;
+    names = closed-names;
     count = closed-count;
     seated = closed-seated;
     planned = makers-planned script (makers script) f.log.steps (trunks_of f.trunks)
         (subst (λ (s : Shape). AllMadeUpTo (makers script) (told_by s f.log.steps)) closed-shape
         made)
         closed-own
-        (subst (λ (s : Shape). IsReached s f.log.steps (trunks_of f.trunks)) closed-shape reached);
+        (subst (λ (names : Names). IsReached (length names.nodes) (shape_of script) f.log.steps
+        (trunks_of f.trunks)) closed-names
+        (subst (λ (s : Shape). IsReached (length f.log.names.nodes) s f.log.steps
+        (trunks_of f.trunks)) closed-shape reached));
   }
 
 -- ---- who came back

@@ -13,7 +13,7 @@ use Rattle.turn_lock.specs.Passes.{AreBack, AreDealt, IsLeastMissing, IsPassOf, 
 use Rattle.turn_lock.specs.Passes.{new_pass}
 use Rattle.turn_lock.specs.Stories.{AllMadeUpTo, RestsFor}
 use Rattle.turn_lock.proofs.Back.{back_fixed, back_of_lock, dealt_at, none_missing}
-use Rattle.fabric.specs.Run.{IsReached, Layout}
+use Rattle.fabric.specs.Run.{IsReachedBy, Layout}
 use Rattle.linx_api.specs.Telling.{PlanParts, plan_of, story_of}
 use Rattle.stage.specs.declared.player.Player.{Player}
 use Rattle.stage.specs.Seats.{IsStaged, unstarted}
@@ -23,7 +23,8 @@ use Rattle.workers.specs.declared.worker.Job.{Job}
 use Rattle.workers.specs.declared.worker.Worked.{Worked}
 use Rattle.workers.specs.Running.{jobs_with, passes_in, players_in}
 use Rattle.workers.specs.Working.{AreWorkedJobs, IsPlayedBy, IsReadyJob, IsWorking, plan_for}
-use Rattle.workers.proofs.Closing.{back-in, closed-staged, jobs-back, passes_of, there-at, within-of}
+use Rattle.workers.proofs.Closing.{back-in, closed-staged, jobs-back, passes_of, there-at}
+use Rattle.workers.proofs.Closing.{within-of}
 
 -- ---- what is dealt
 
@@ -188,10 +189,9 @@ module _ (script : ScriptParts) (shared : Layout) (bare : shared ≡ first_layou
         → All (λ (p : PassView Step PlanParts). RestsFor p.number (story_of f) p.front) back
         → AllMadeUpTo lock.seats (story_of f)
         → (left : Layout) → left ≡ f
-        → IsReached left.shape left.log.steps (trunks_of left.trunks)
-        → length left.log.steps ≤ 200000
-        → (others : List Player) → others ≡ players_in all → IsStaged script left others
-    came_staged declared some f fixed rests made left same reached few others are =
+        → IsReachedBy left → (others : List Player) → others ≡ players_in all
+        → IsStaged script left others
+    came_staged declared some f fixed rests made left same reached others are =
         subst (λ (l : List Player). IsStaged script left l) (sym are)
         (subst (λ (g : Layout). IsStaged script g (players_in all)) (sym same)
         (closed-staged script all came-many
@@ -201,5 +201,4 @@ module _ (script : ScriptParts) (shared : Layout) (bare : shared ≡ first_layou
         kept rests)
         (came-plan f some fixed) declared
         (subst (λ (n : ℕ). AllMadeUpTo n (story_of f)) seats made)
-        (subst (λ (g : Layout). IsReached g.shape g.log.steps (trunks_of g.trunks)) same reached)
-        (subst (λ (g : Layout). length g.log.steps ≤ 200000) same few)))
+        (subst IsReachedBy same reached)))

@@ -40,7 +40,7 @@ IsRunOf script P trunks = IsRunFrom (shape_of script) (trunks_of (new_trunks scr
 
 -- the runs of the machine are
 pub reached-run : (script : ScriptParts) (P : List Step) (trunks : RunTrunks)
-    → IsReached (shape_of script) P trunks → IsRunOf script P trunks
+    → IsReached (length script.names.nodes) (shape_of script) P trunks → IsRunOf script P trunks
 reached-run script [] trunks first = first.1
 reached-run script (s ∷ P) trunks reached =
     (reached.0, (reached-run script P reached.0 reached.1.0, reached.1.1.0))

@@ -1,10 +1,11 @@
 -- A turn under the lock keeps what a worker knows: each step that it adds is its maker's, and is as
 -- planned in whatever state the steps before it reach.
-use Rattle.std.proofs.Common.{◌≡◌, ℕ, zero, suc, false, List, [], ◌∷◌, ◌++◌}
+use Rattle.std.proofs.Common.{◌≡◌, ℕ, zero, suc, false, List, [], ◌∷◌, ◌++◌, length}
 use Rattle.std.proofs.Common.{Option, Some, None, refl, sym, ◌∙◌, ap, subst, inl, inr}
 use Rattle.std.proofs.Common.{append_assoc}
 use Rattle.std.proofs.lemmas.List.Elements.{All-nil, All-cons, All-append}
 use Rattle.linx_base.specs.declared.identity.LinkNo.{LinkNo}
+use Rattle.linx_base.specs.declared.name.Names.{Names}
 use Rattle.journal.specs.declared.by.By.{By}
 use Rattle.journal.specs.declared.by.By.TheVariants.{Actor, Pump}
 use Rattle.journal.specs.declared.effect.Step.{Step}
@@ -26,7 +27,7 @@ use Rattle.turn_lock.specs.Stories.{IsAddedBy, RestsFor}
 use Rattle.fabric.specs.Actings.{OnlyRuns}
 use Rattle.fabric.specs.Asks.{MayAsk}
 use Rattle.fabric.specs.Links.{is_still}
-use Rattle.fabric.specs.Run.{IsReached, IsStepFor, IsStepOf, IsStepped, Layout}
+use Rattle.fabric.specs.Run.{IsReached, IsReachedBy, IsStepFor, IsStepOf, IsStepped, Layout}
 use Rattle.linx_api.specs.Telling.{PlanParts, number_of, numbered, plan_of, story_of, told_by}
 use Rattle.stage.specs.declared.acting.Acted.{Acted}
 use Rattle.stage.specs.declared.acting.Acted.TheVariants.{Done, Halfway, Stopped}
@@ -46,7 +47,8 @@ use Rattle.stage.proofs.Settling.{HasMoved, IsUnder, by-move, due-stirs, has-mov
 use Rattle.stage.proofs.Settling.{settles-now, under-moved}
 use Rattle.workers.specs.Working.{IsPlayedBy, IsWorking, OwnPlanned}
 use Rattle.workers.proofs.Planning.{IsOneState, IsRunOf, planned-then, reached-run}
-use Rattle.workers.proofs.Resting.{found-planned, found-shape, having_seen, working-after}
+use Rattle.workers.proofs.Resting.{found-names, found-planned, found-shape, having_seen}
+use Rattle.workers.proofs.Resting.{working-after}
 
 -- ---- the steps are as planned
 
@@ -298,16 +300,21 @@ added-pump script old new fixed l n number pump turn =
 module _ (script : ScriptParts) (one-state : IsOneState script) (p : PassView Step PlanParts)
     (player : Option Player) (working : IsWorking script p player) (old : Layout)
     (plan : plan_of old ≡ p.fixed) (rests : RestsFor p.number (story_of old) p.front)
-    (reached : IsReached old.shape old.log.steps (trunks_of old.trunks)) where
+    (reached : IsReachedBy old) where
   -- of the fabric that it finds
   pub found-known : IsKnown script one-state p.number old
   found-known =
       let shape : old.shape ≡ shape_of script =
       found-shape script p player working old plan rests in
+      let names : old.log.names ≡ script.names =
+      found-names script p player working old plan rests in
       record {
         shape = shape;
         run = reached-run script old.log.steps (trunks_of old.trunks)
-            (subst (λ (x : Shape). IsReached x old.log.steps (trunks_of old.trunks)) shape reached);
+            (subst (λ (names : Names). IsReached (length names.nodes) (shape_of script)
+            old.log.steps (trunks_of old.trunks)) names
+            (subst (λ (x : Shape). IsReached (length old.log.names.nodes) x old.log.steps
+            (trunks_of old.trunks)) shape reached));
         own = found-planned script p player working old plan rests;
       }
 

@@ -10,7 +10,6 @@ use Rattle.node_kernel.specs.declared.ask.Ask.{Ask}
 use Rattle.actor_run.specs.Asking.{asked_by}
 use Rattle.actor_run.specs.Following.{endpoint_after}
 use Rattle.actor_run.specs.Knowing.{stopped_with, told}
-use Rattle.run_trunks.specs.States.{trunks_of}
 use Rattle.script_lang.specs.Parts.{ScriptParts}
 use Rattle.turn_lock.specs.Passes.{PassView}
 use Rattle.turn_lock.specs.Stories.{RestsFor}
@@ -18,7 +17,7 @@ use Rattle.fabric.specs.declared.stop.StepStop.{StepStop}
 use Rattle.fabric.specs.declared.stop.StopCause.{StopCause}
 use Rattle.fabric.specs.declared.stop.StopCause.TheVariants.{JournalFull}
 use Rattle.fabric.specs.Actings.{OnlyRuns}
-use Rattle.fabric.specs.Run.{IsReached, Layout}
+use Rattle.fabric.specs.Run.{IsReachedBy, Layout}
 use Rattle.linx_api.specs.Telling.{PlanParts, plan_of, story_of}
 use Rattle.stage.specs.declared.acting.Acted.{Acted}
 use Rattle.stage.specs.declared.acting.Acted.TheVariants.{Done, Halfway, Stopped}
@@ -40,7 +39,7 @@ pub record IsInTurnOf (before : PassView Step PlanParts) (found left : Layout)
     (after : PassView Step PlanParts) : Type 0 where
   pub plan : plan_of found ≡ before.fixed
   pub rests : RestsFor before.number (story_of found) before.front
-  pub reached : IsReached found.shape found.log.steps (trunks_of found.trunks)
+  pub reached : IsReachedBy found
   pub calm : IsCalm found left
   pub fixed : OnlyRuns found left
   pub same : after ≡ record before { front = story_of left }

@@ -1,7 +1,8 @@
 -- What the workers of a run know by their passes.
-use Rattle.std.specs.Prelude.{ℕ, ◌≡◌, ◌<◌, ◌≤◌, true, List, [], ◌∷◌, length}
+use Rattle.std.specs.Prelude.{ℕ, ◌≡◌, ◌<◌, ◌≤◌, true, false, List, [], ◌∷◌, length}
 use Rattle.std.specs.Prelude.{Option, Some, None, slice_index_or}
 use Rattle.journal.specs.declared.effect.Step.{Step}
+use Rattle.journal.specs.History.{has_ended}
 use Rattle.journal.specs.Logs.{is_full}
 use Rattle.turn_lock.specs.Passes.{IsPassOf, IsSamePass, LockView, PassView}
 use Rattle.linx_api.specs.Telling.{PlanParts, number_of, steps_in}
@@ -27,7 +28,8 @@ plan_for script = record { names = script.names; shape = shape_of script }
 -- the step is as planned in whatever state the steps before it reach
 abbrev pub IsPlannedThen : ScriptParts → List Step → Step → Type 0
 IsPlannedThen script P s =
-    (trunks : RunTrunks) → IsReached (shape_of script) P trunks → IsPlannedStep script P trunks s
+    (trunks : RunTrunks) → IsReached (length script.names.nodes) (shape_of script) P trunks
+    → IsPlannedStep script P trunks s
 
 -- THE STEPS OF ONE MAKER, by its number, are as planned
 abbrev pub OwnPlanned : ScriptParts → ℕ → List Step → Type 0
@@ -49,6 +51,11 @@ pub record IsWorking (script : ScriptParts) (p : PassView Step PlanParts) (playe
   pub within : p.number ≤ makers script
   pub played : IsPlayedBy script (seen p) p.number player
   pub planned : OwnPlanned script p.number (seen p)
+
+-- where it is an actor, it hasn't ended as far as its pass has seen
+abbrev pub StillRuns : PassView Step PlanParts → Option Player → Type 0
+StillRuns p player =
+    (actor : Player) → player ≡ Some actor → has_ended (seen p) p.number ≡ false
 
 -- A WORKER IS DONE: its pass is back, it knows what it knew between two turns, and it met a full
 -- journal only where its pass has seen one

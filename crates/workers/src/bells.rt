@@ -2,8 +2,9 @@
 //! before its turn, and sleeps only while the bell hasn't rung since: so no ring falls between.
 //!
 //! Where threads can't be made, the workers run one after another, and one that waits for a later
-//! one would wait for ever. So before all have started none sleeps for longer than a moment, and one
-//! that has slept so for a second gives up. Then all others give up too, where they would sleep.
+//! one would wait for ever. So before all have started none sleeps for longer than a moment, and
+//! one that has slept so for a second gives up. Then all others give up too, where they would
+//! sleep.
 
 use crate::rings::Rings;
 use linx_base::NoMemory;
@@ -16,8 +17,8 @@ use std::time::Duration;
 // How often a worker looks at its bell before it sleeps: what it waits for is mostly a moment away.
 const LOOKS: u32 = 20;
 
-// How many milliseconds a worker sleeps that waits for others to start, and how often before it gives
-// up.
+// How many milliseconds a worker sleeps that waits for others to start, and how often before it
+// gives up.
 const MOMENT: u64 = 1;
 
 const MOMENTS: u32 = 1_000;

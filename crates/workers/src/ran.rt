@@ -1,6 +1,6 @@
 //! A whole run: deals out the passes, runs the workers, closes the lock, and does what is left in
 //! the fixed order.
-ghost use Rattle.std.specs.Prelude.{◌≡◌, ◌<◌, ◌≤◌, None, Some, true, false, map, IfOk};
+ghost use Rattle.std.specs.Prelude.{◌≡◌, ◌<◌, ◌≤◌, None, Some, true, false, IfOk};
 ghost use Rattle.journal.specs.Logs.{is_full};
 ghost use Rattle.stage.specs.Seats.{IsStaged, unstarted};
 ghost use Rattle.stage.specs.Turns.{first_layout, is_over, makers};
@@ -10,34 +10,20 @@ use crate::bells::Bells;
 use crate::worker::{Job, Worked, workers};
 use fabric::{Fabric, StopCause};
 use linx_api::SharedFabric;
-use linx_base::{NoMemory, NodeNo, TryCopy};
+use linx_base::{NoMemory, TryCopy};
 use linx_outside::Gate;
-use script_lang::{ActorScript, Script};
-use stage::{Player, Stage, players_of};
+use script_lang::Script;
+use stage::{Player, Stage, nodes_of, players_of};
 use std::alloc::Global;
 use std::sync::Wait;
 use std::thread::Threads;
 use turn_lock::{Pass, TurnLock};
-
-/// The steps that a journal takes. No journal has more, which is looked at for the proof alone.
-const STEPS_MOST: u64 = 200_000;
 
 /// A run after its last step, and why it stopped, if it did.
 #[derive(Drop)]
 pub struct Ran {
     pub stage: Stage,
     pub stop: Option<StopCause>,
-}
-
-/// The nodes of the actors, in order.
-fn nodes_of(alloc: Global, actors: &[ActorScript]) -> Result<Vec<NodeNo>, NoMemory>
-    ensures { IfOk result (λ nodes. nodes.items ≡ map (λ a. a.node) actors.now) }
-{
-    let mut nodes = Vec::with_capacity(alloc, actors.len())?;
-    for actor in actors {
-        nodes.push(actor.node)?;
-    }
-    Ok(nodes)
 }
 
 /// The fabric of a script, without steps.
@@ -135,9 +121,7 @@ fn left_by_workers<R: Threads + Wait + Sync, G: Gate + Sync>(
         unreachable!()
     };
     let fabric = shared.into_fabric();
-    if fabric.journal().len() > STEPS_MOST {
-        return Err(NoMemory);
-    }
+    let _ = fabric.journal();
     Ok(Left {
         fabric,
         players,

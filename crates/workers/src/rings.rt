@@ -1,8 +1,8 @@
-//! Whom to ring after a step, by what it did. A worker sleeps where its actor waits for a signal, or
-//! where its link doesn't stir. An actor's look finds something once an item that it selects is in
-//! its queue, once somebody else closes its endpoint, or once it is at rest; a pump has work once
-//! its link stirs, and is done once all actors have ended. Each of these comes by a step, and that
-//! step's maker rings.
+//! Whom to ring after a step, by what it did. A worker sleeps where its actor waits for a signal,
+//! or where its link doesn't stir. An actor's look finds something once an item that it selects is
+//! in its queue, once somebody else closes its endpoint, or once it is at rest; a pump has work
+//! once its link stirs, and is done once all actors have ended. Each of these comes by a step, and
+//! that step's maker rings.
 ghost use Rattle.std.specs.Prelude.{◌≡◌, ◌<◌, ◌≤◌, length, IfSome};
 
 use fabric::Fabric;

@@ -5,24 +5,22 @@ ghost use Rattle.journal.specs.declared.by.By.TheVariants.{Actor};
 ghost use Rattle.journal.specs.History.{has_ended};
 ghost use Rattle.journal.specs.Logs.{is_full};
 ghost use Rattle.actor_run.specs.Asking.{AreRunnable};
-ghost use Rattle.run_trunks.specs.States.{trunks_of};
 ghost use Rattle.script_lang.specs.Fits.{IsScript};
 ghost use Rattle.turn_lock.specs.Passes.{IsPassOf, IsSamePass};
 ghost use Rattle.fabric.specs.Actings.{OnlyRuns};
 ghost use Rattle.fabric.specs.Asks.{MayAsk};
-ghost use Rattle.fabric.specs.Remains.{IsLaidOut};
-ghost use Rattle.fabric.specs.Run.{IsReached};
+ghost use Rattle.fabric.specs.Run.{IsReachedBy};
 ghost use Rattle.link_laws.specs.Ends.{IsLinkOf};
 ghost use Rattle.stage.specs.Settlings.{IsActedAs, settler_in};
-ghost use Rattle.stage.specs.Turns.{commands_of, shape_of};
+ghost use Rattle.stage.specs.Turns.{shape_of};
 ghost use Rattle.workers.specs.Turning.{Asks, IsActedIn, IsCalm, IsPumpTurn, IsPumpedAs};
-ghost use Rattle.workers.specs.Turning.{IsRightlyFull, IsRightlyFullOn, Learns, goes_on, stop_in, stop_of};
+ghost use Rattle.workers.specs.Turning.{IsRightlyFull, IsRightlyFullOn, Learns, goes_on, stop_in};
+ghost use Rattle.workers.specs.Turning.{stop_of};
 ghost use Rattle.workers.specs.Working.{AreWorkedJobs, IsReadyJob, IsWorked};
-ghost use Rattle.workers.specs.Working.{IsWorking, seen};
+ghost use Rattle.workers.specs.Working.{IsWorking, StillRuns, seen};
 
 use crate::bells::Bells;
 use crate::rings::{Rings, first_running, rings_since};
-use actor_run::endpoint_after;
 use fabric::{Fabric, StepStop, StopCause};
 use linx_api::SharedFabric;
 use linx_base::{LinkNo, NoMemory};
@@ -30,7 +28,7 @@ use linx_outside::Gate;
 use node_kernel::{Ask, StepAnswer};
 use run_states::runs_reach_one_state;
 use script_lang::{ActorScript, Script};
-use stage::{Acted, Player, Pump, act, is_settling, pump_on};
+use stage::{Acted, Player, Pump, act, actor_of, is_settling, pump_on};
 use std::alloc::Global;
 use std::sync::Wait;
 use std::thread;
@@ -91,7 +89,6 @@ fn stop_before(fabric: &Fabric, script: &Script) -> Option<StopCause>
 fn act_on(fabric: &mut Fabric, script: &Script, actor: u32, ask: Ask) -> Acted
     requires shape { fabric.old.shape ≡ shape_of script.now }
     requires asks { MayAsk fabric.old (Actor actor) ask }
-    requires laid_out { IsLaidOut (length fabric.old.log.names.nodes) fabric.old.shape }
     ensures came { IsActedAs fabric.old fabric.new actor ask result }
     ensures calm { IsCalm fabric.old fabric.new }
     ensures fixed { OnlyRuns fabric.old fabric.new }
@@ -132,12 +129,10 @@ fn rings_of(fabric: &Fabric, links: u32, before: u64, acted: &Acted) -> Rings
 fn take_turn(fabric: &mut Fabric, script: &Script, actor: u32, ask: Ask) -> InTurn
     requires shape { fabric.old.shape ≡ shape_of script.now }
     requires asks { MayAsk fabric.old (Actor actor) ask }
-    requires laid_out { IsLaidOut (length fabric.old.log.names.nodes) fabric.old.shape }
     ensures came { IsActedAs fabric.old fabric.new actor ask result.acted }
     ensures calm { IsCalm fabric.old fabric.new }
     ensures over { result.ended ≡ has_ended fabric.new.log.steps actor }
-    ensures reached { IsReached fabric.old.shape fabric.old.log.steps
-        (trunks_of fabric.old.trunks) }
+    ensures reached { IsReachedBy fabric.old }
     ensures fixed { OnlyRuns fabric.old fabric.new }
 {
     let before = fabric.journal().len();
@@ -189,17 +184,6 @@ fn note_no_memory<R: Wait>(
     lock.give(held)
 }
 
-/// What an actor does.
-fn actor_of(script: &Script, actor: u32) -> &ActorScript
-    requires above { 0 < actor }
-    requires within { actor ≤ length script.now.actors }
-    ensures commands { result.now.commands ≡ commands_of script.now actor }
-    ensures runnable { AreRunnable result.now.commands }
-    ensures script { IsScript script.now }
-{
-    &script.actors()[(actor - 1) as usize]
-}
-
 /// What came of a turn that was answered so.
 fn turned_by(answer: &StepAnswer, ended: bool) -> Turned
     ensures goes { goes_on result ≡ true → ended ≡ false }
@@ -225,13 +209,11 @@ fn learn(player: &mut Player, commands: &ActorScript, acted: Acted, ended: bool)
     match acted {
         Acted::Done(answer) => {
             let turned = turned_by(&answer, ended);
-            player.me = endpoint_after(player.me, &answer);
-            player.mind.told(commands, answer);
+            player.told(commands, answer);
             turned
         }
         Acted::Halfway(answer, cause) => {
-            player.me = endpoint_after(player.me, &answer);
-            player.mind.told(commands, answer);
+            player.told(commands, answer);
             Turned::Done(Some(cause))
         }
         Acted::Stopped(StepStop { cause, hand }) => {
@@ -276,43 +258,6 @@ fn turn_of<R: Wait>(
     bells.ring(rings);
     let turned = learn(player, commands, acted, ended);
     (pass, turned)
-}
-
-/// Takes turns for an actor until it has ended, or a stop comes.
-fn work_for_actor<R: Wait, G: Gate>(
-    rt: &R,
-    alloc: Global,
-    lock: &TurnLock<SharedFabric>,
-    script: &Script,
-    gate: &G,
-    bells: &Bells,
-    pass: Pass<SharedFabric>,
-    player: Player,
-) -> Worked
-    requires lock { IsPassOf lock.now pass }
-    requires working { IsWorking script.now pass (Some player) }
-    requires running { has_ended (seen pass) pass.number ≡ false }
-    ensures { IsWorked script.now pass result }
-{
-    let mut pass = pass;
-    let mut player = player;
-    let mut turn = 0u64;
-    'turns: for _ in rt.forever() {
-        turn = turn.wrapping_add(1);
-        let number = pass.number();
-        gate.pass(rt, number, turn);
-        let heard = bells.heard(number);
-        let (back, turned) = turn_of(rt, alloc, lock, script, bells, pass, &mut player);
-        pass = back;
-        if !goes_past(rt, bells, number, heard, turned) {
-            return Worked {
-                pass,
-                player: Some(player),
-                stop: stop_in(turned),
-            };
-        }
-    }
-    unreachable!()
 }
 
 /// Waits for the bell where nothing can be done before it rings. It answers whether further turns
@@ -391,8 +336,7 @@ fn take_pump_turn(fabric: &mut Fabric, script: &Script, number: u32) -> (Turned,
     ensures came { IsPumpTurn script.now number fabric.old fabric.new }
     ensures full { IsRightlyFullOn fabric.new (stop_in result.0) }
     ensures calm { IsCalm fabric.old fabric.new }
-    ensures reached { IsReached fabric.old.shape fabric.old.log.steps
-        (trunks_of fabric.old.trunks) }
+    ensures reached { IsReachedBy fabric.old }
     ensures fixed { OnlyRuns fabric.old fabric.new }
 {
     let before = fabric.journal().len();
@@ -427,41 +371,38 @@ fn pump_in_turn<R: Wait>(
     (pass, turned)
 }
 
-/// Takes turns for a link's pump until all actors have ended and the link doesn't stir, or a stop
-/// comes.
-fn work_for_link<R: Wait, G: Gate>(
+/// One turn of a maker: of an actor that hasn't ended, or of a link's pump.
+fn turn_for<R: Wait>(
     rt: &R,
+    alloc: Global,
     lock: &TurnLock<SharedFabric>,
     script: &Script,
-    gate: &G,
     bells: &Bells,
     pass: Pass<SharedFabric>,
-) -> Worked
+    player: Option<Player>,
+) -> (Pass<SharedFabric>, Option<Player>, Turned)
     requires lock { IsPassOf lock.now pass }
-    requires working { IsWorking script.now pass None }
-    ensures { IsWorked script.now pass result }
+    requires working { IsWorking script.now pass player }
+    requires running { StillRuns pass player }
+    ensures same { IsSamePass pass result.0 }
+    ensures working { IsWorking script.now result.0 result.1 }
+    ensures running { goes_on result.2 ≡ true → StillRuns result.0 result.1 }
+    ensures full { IsRightlyFull result.0 (stop_in result.2) }
 {
-    let mut pass = pass;
-    let mut turn = 0u64;
-    'turns: for _ in rt.forever() {
-        turn = turn.wrapping_add(1);
-        let number = pass.number();
-        gate.pass(rt, number, turn);
-        let heard = bells.heard(number);
-        let (back, turned) = pump_in_turn(rt, lock, script, bells, pass);
-        pass = back;
-        if !goes_past(rt, bells, number, heard, turned) {
-            return Worked {
-                pass,
-                player: None,
-                stop: stop_in(turned),
-            };
+    match player {
+        Some(mut player) => {
+            let (pass, turned) = turn_of(rt, alloc, lock, script, bells, pass, &mut player);
+            (pass, Some(player), turned)
+        }
+        None => {
+            let (pass, turned) = pump_in_turn(rt, lock, script, bells, pass);
+            (pass, None, turned)
         }
     }
-    unreachable!()
 }
 
-/// Takes the turns of a maker until it is done.
+/// Takes the turns of a maker until it is done: an actor has ended, or all actors have and a link
+/// doesn't stir; or a stop comes.
 fn work<R: Wait, G: Gate>(
     rt: &R,
     alloc: Global,
@@ -476,10 +417,26 @@ fn work<R: Wait, G: Gate>(
 {
     bells.start();
     let Job { pass, player } = job;
-    match player {
-        Some(player) => work_for_actor(rt, alloc, lock, script, gate, bells, pass, player),
-        None => work_for_link(rt, lock, script, gate, bells, pass),
+    let mut pass = pass;
+    let mut player = player;
+    let mut turn = 0u64;
+    'turns: for _ in rt.forever() {
+        turn = turn.wrapping_add(1);
+        let number = pass.number();
+        gate.pass(rt, number, turn);
+        let heard = bells.heard(number);
+        let (back, left, turned) = turn_for(rt, alloc, lock, script, bells, pass, player);
+        pass = back;
+        player = left;
+        if !goes_past(rt, bells, number, heard, turned) {
+            return Worked {
+                pass,
+                player,
+                stop: stop_in(turned),
+            };
+        }
     }
+    unreachable!()
 }
 
 /// Runs a worker for each pass, and joins them.

@@ -10,8 +10,8 @@ use Rattle.stage.proofs.acting.settle.Goals as goal
 pub steps-init : goal.steps-init
 steps-init c =
     way-begins c.runs_settle.ensures c.args.by c.args.link c.args.fabric.now c.requires.declared
-    c.requires.maker c.requires.whole c.requires.settled c.requires.laid_out c.requires.few
-    c.journal.ensures.reached
+    c.requires.maker c.requires.whole c.requires.settled c.journal.ensures.laid_out
+    c.journal.ensures.few c.journal.ensures.reached
 
 pub step-requires : goal.step-requires
 step-requires c = record {

@@ -3,28 +3,20 @@ use Rattle.script_words.specs.declared.command.Command.{Command}
 use Rattle.actor_run.specs.Asking.{asked_by, handed}
 use Rattle.actor_run.specs.Knowing.{Knows, told}
 use Rattle.stage.proofs.Going.{done-far, half-far}
-use Rattle.stage.proofs.Turned.{turn-asks, turn-laid_out, turn-seated}
+use Rattle.stage.proofs.Turned.{turn-asks, turn-seated}
 use Rattle.stage.proofs.player.turn_of.Goals as goal
 
-pub act-requires-clause-asks : goal.act-requires-clause-asks
-act-requires-clause-asks c =
+pub act-requires : goal.act-requires
+act-requires c =
     let mind = c.args.player.now.mind in
     let me = c.args.player.now.me in
-    turn-asks c.args.script.now c.actor_of-commands.ensures.script c.args.fabric.now
-    c.requires.shape c.requires.names c.args.actor c.requires.above c.requires.within mind me
-    c.requires.playing c.in-Ok.ask
-    (c.in-Ok.ensures.ask
-    ∙ ap (λ (l : List Command). asked_by l mind me) c.actor_of-commands.ensures.commands)
-
-pub act-requires-clause-laid_out : goal.act-requires-clause-laid_out
-act-requires-clause-laid_out c =
-    let mind = c.args.player.now.mind in
-    let me = c.args.player.now.me in
-    turn-laid_out c.args.script.now c.actor_of-commands.ensures.script c.args.fabric.now
-    c.requires.shape c.requires.names c.args.actor c.requires.above c.requires.within mind me
-    c.requires.playing c.in-Ok.ask
-    (c.in-Ok.ensures.ask
-    ∙ ap (λ (l : List Command). asked_by l mind me) c.actor_of-commands.ensures.commands)
+    record {
+      asks = turn-asks c.args.script.now c.actor_of-commands.ensures.script c.args.fabric.now
+          c.requires.shape c.requires.names c.args.actor c.requires.above c.requires.within mind me
+          c.requires.playing c.in-Ok.ask
+          (c.in-Ok.ensures.ask
+          ∙ ap (λ (l : List Command). asked_by l mind me) c.actor_of-commands.ensures.commands);
+    }
 
 pub returns-in-Done-clause-seated : goal.returns-in-Done-clause-seated
 returns-in-Done-clause-seated c =

@@ -1,5 +1,4 @@
-use Rattle.std.proofs.Common.{◌∙◌, ◌<◌, ◌≤◌, length, ap, arith}
-use Rattle.journal.specs.Logs.{Log}
+use Rattle.std.proofs.Common.{◌∙◌, ◌<◌, arith}
 use Rattle.stage.specs.Turns.{makers}
 use Rattle.workers.proofs.Dealing.{came_all, came_of_lock, came_staged, jobs_ready}
 use Rattle.workers.proofs.ran.left_by_workers.Goals as goal
@@ -31,14 +30,11 @@ returns g c =
     let left = c.into_fabric-fabric.result in
     let seats = c.requires.seats in
     let some : 0 < makers c.args.script.now = omega (arith, seats) in
-    let log = ap (λ (l : Log). length l.steps) c.journal.ensures.log in
-    let few : length left.log.steps ≤ 200000 =
-    omega (arith, c.len.ensures, log, c.if-len-gt-STEPS_MOST.false) in
     came_staged c.args.script.now c.args.shared c.requires.first c.in_ok-lock.lock
     (c.in_ok-lock.ensures.0 ∙ seats.0) c.in_ok-lock.passes.items c.in_ok-lock.ensures.1
     c.args.players.items c.requires.players c.in_ok-jobs.jobs.items c.in_ok-jobs.ensures
     c.in_ok-all.all.items c.in_ok-all.ensures c.in_ok-passes.field-0.passes.items
     c.in_ok-passes.ensures.passes c.actors.ensures.script some c.in-Ok.shared c.in-Ok.ensures.fixed
     c.in-Ok.ensures.rests c.in-Ok.ensures.makers left c.into_fabric-fabric.ensures
-    c.journal.ensures.reached few c.in_ok-passes.field-0.players.items
+    c.journal.ensures.reached c.in_ok-passes.field-0.players.items
     c.in_ok-passes.ensures.players

@@ -1,5 +1,5 @@
 use Rattle.std.proofs.Common.{sym}
-use Rattle.stage.proofs.Seats.{staged-so_far, staged-whole}
+use Rattle.stage.proofs.Seats.{staged-over, staged-so_far, staged-whole}
 use Rattle.stage.proofs.stage.Stage.into_journal.Goals as goal
 
 pub returns-clause-so_far : goal.returns-clause-so_far
@@ -14,3 +14,9 @@ returns-clause-whole c =
     let s = c.self.inside in
     rw (sym c.self.view_is)
     (staged-whole s.script s.fabric s.players.items c.self.invariant)
+
+pub returns-clause-over : goal.returns-clause-over
+returns-clause-over c =
+    let s = c.self.inside in
+    rw (sym c.self.view_is)
+    (staged-over s.script s.fabric s.players.items c.self.invariant c.into_journal.ensures.over)

@@ -5,5 +5,8 @@ use Rattle.stage.proofs.stage.Stage.is_over.Goals as goal
 pub returns-clause-moves : goal.returns-clause-moves
 returns-clause-moves c running =
     let s = c.self.inside in
-    let over = sym c.is_over.ensures ∙ running in
+    let over = sym c.is_over.ensures.value ∙ running in
     rw (sym c.self.view_is) (staged-moves s.script s.fabric s.players.items c.self.invariant over)
+
+pub returns-clause-few : goal.returns-clause-few
+returns-clause-few c = rw (sym c.self.view_is) c.journal.ensures.few

@@ -10,6 +10,5 @@ turns-preserved c = record {
       c.take_turn.new.self.run c.turns.place c.turns.invariant.turns
       (subst (λ (s : ScriptParts). IsTurnOf s (c.turns.place + 1) c.turns.self.run
       c.take_turn.new.self.run) c.turns.invariant.script c.in_ok-take_turn.ensures.ok);
-  few = c.take_turn.ensures.few;
   script = c.take_turn.ensures.script ∙ c.turns.invariant.script;
 }

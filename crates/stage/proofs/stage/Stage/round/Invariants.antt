@@ -1,4 +1,4 @@
-use Rattle.std.proofs.Common.{◌≡◌, ◌≤◌, length}
+use Rattle.std.proofs.Common.{◌≡◌}
 use Rattle.stage.specs.Turns.{AreTurns}
 use Rattle.stage.proofs.stage.Stage.round.Given as goal
 
@@ -6,6 +6,5 @@ use Rattle.stage.proofs.stage.Stage.round.Given as goal
 abbrev pub invariant-turns : goal.invariant-turns
 invariant-turns l = record {
   turns : AreTurns l.initial.self.script l.place l.initial.self.run l.self.run;
-  few : length l.self.run.log.steps ≤ 200000;
   script : l.self.script ≡ l.initial.self.script;
 }

@@ -1,4 +1,5 @@
-use Rattle.std.proofs.Common.{◌≡◌, ◌-◌, ◌≤◌, Bool, true, false, length, None, refl, sym, ◌∙◌, subst, arith}
+use Rattle.std.proofs.Common.{◌≡◌, ◌-◌, ◌≤◌, Bool, true, false, length, None, refl, sym, ◌∙◌}
+use Rattle.std.proofs.Common.{subst, arith}
 use Rattle.std.specs.Prelude.{not, ◌&&◌}
 use Rattle.std.proofs.lemmas.Bool.{and_parts, true≢false}
 use Rattle.std.proofs.lemmas.Option.{slice_get_read}
@@ -46,7 +47,7 @@ invariant_of-self c =
     staged-turned s.script s.fabric c.turn_of.new.fabric s.players.items c.self.invariant
     c.turn_of.ensures.fixed c.args.actor c.turn_of.new.player c.requires.above within
     c.turn_of.result calm running c.turn_of.ensures.ok c.turn_of.ensures.err
-    (c.turn_of.ensures.few c.self.invariant.few) c.turn_of.ensures.seated
+    c.turn_of.ensures.seated
 
 pub returns-clause-full_only : goal.returns-clause-full_only
 returns-clause-full_only c =
