@@ -6,6 +6,7 @@ use Rattle.journal.specs.declared.effect.Step.{Step}
 use Rattle.journal.specs.Logs.{Log, is_full}
 use Rattle.journal.specs.Shapes.{Shape}
 use Rattle.link_laws.specs.Laws.{IsLegal}
+use Rattle.link_laws.specs.Still.{IsOver}
 use Rattle.fabric.specs.Run.{Layout}
 use Rattle.fabric.specs.declared.stop.StopCause.{StopCause}
 use Rattle.fabric.specs.declared.stop.StopCause.TheVariants as stops
@@ -15,7 +16,7 @@ use Rattle.stage.specs.Turns.{is_over, shape_of}
 use Rattle.workers.specs.declared.ran.Ran.{Ran}
 use Rattle.linx_sim.specs.Causes.{is_of_writing, stop_status}
 use Rattle.linx_sim.specs.Runs.{IsAnswerTo, IsLegalSomehow, IsOverUnder, IsRan, IsRunAs, IsRunOf}
-use Rattle.linx_sim.specs.Runs.{IsRunUnder}
+use Rattle.linx_sim.specs.Runs.{IsRunUnder, IsWholeAs}
 use Rattle.linx_sim.specs.declared.asked.Asked.{Asked}
 use Rattle.linx_sim.specs.declared.asked.Asked.TheVariants.{Run, Serial, Gen}
 use Rattle.linx_sim.specs.declared.outcome.Status.{Status}
@@ -44,17 +45,15 @@ answers-written asked ReadFault script log writes run = cc
 
 -- a run that is over is the whole one that a command asks for
 whole-under : (asked : Asked) (script : ScriptParts) (run : Layout) (log : Log)
-    → IsRunAs script run log → (is_over run ≡ true → AllFollowWhole script log.steps)
-    → IsOverUnder asked script run → IsRunUnder asked script log
-whole-under Run script run log so_far follows over =
-    (run, record { so_far = so_far; follows = follows over; over = over })
-whole-under Serial script run log so_far follows whole = record {
+    → (is_over run ≡ true → IsWholeAs script run log) → IsOverUnder asked script run
+    → IsRunUnder asked script log
+whole-under Run script run log whole over = (run, whole over)
+whole-under Serial script run log whole in_order = record {
   run = run;
-  is = record { so_far = so_far; follows = follows whole.over; over = whole.over };
-  whole = whole;
+  is = whole in_order.over;
+  whole = in_order;
 }
-whole-under (Gen n) script run log so_far follows over =
-    (run, record { so_far = so_far; follows = follows over; over = over })
+whole-under (Gen n) script run log whole over = (run, whole over)
 
 -- a run that stopped
 answers-stopped : (asked : Asked) (cause : StopCause) (script : ScriptParts) (run : Layout)
@@ -77,17 +76,32 @@ run-as script stage log of so_far is = record {
   so_far = subst (λ (s : ScriptParts). IsSoFar s stage.run) of so_far;
 }
 
+-- and where all is over, a whole one
+whole-as : (script : ScriptParts) (stage : Play) (log : Log) → stage.script ≡ script
+    → IsSoFar stage.script stage.run → log ≡ stage.run.log → is_over stage.run ≡ true
+    → AllFollowWhole stage.script stage.run.log.steps
+    → IsOver (shape_of stage.script) stage.run.log.steps → IsWholeAs script stage.run log
+whole-as script stage log of so_far is over follows still = record {
+  so_far = run-as script stage log of so_far is;
+  follows = subst (λ (s : ScriptParts). AllFollowWhole s log.steps) of
+      (subst (λ (l : Log). AllFollowWhole stage.script l.steps) (sym is) follows);
+  over = over;
+  still = subst (λ (s : ScriptParts). IsOver (shape_of s) log.steps) of
+      (subst (λ (l : Log). IsOver (shape_of stage.script) l.steps) (sym is) still);
+}
+
 -- a script that was run to its end, and whose text was written, or was to be
-pub answers-played : (asked : Asked) (status : Status) (script : ScriptParts) (ran : Ran) (log : Log)
-    → IsRan asked script ran → ran.stop ≡ None → IsSoFar ran.stage.script ran.stage.run
+pub answers-played : (asked : Asked) (status : Status) (script : ScriptParts) (ran : Ran)
+    (log : Log) → IsRan asked script ran → ran.stop ≡ None
+    → IsSoFar ran.stage.script ran.stage.run
     → (is_over ran.stage.run ≡ true → AllFollowWhole ran.stage.script ran.stage.run.log.steps)
+    → (is_over ran.stage.run ≡ true
+    → IsOver (shape_of ran.stage.script) ran.stage.run.log.steps)
     → log ≡ ran.stage.run.log → is_of_writing status ≡ true → IsAnswerTo asked status script log
-answers-played asked status script ran log is_ran none so_far whole is writes =
+answers-played asked status script ran log is_ran none so_far whole still is writes =
     answers-written asked status script log writes
     (whole-under asked script ran.stage.run log
-    (run-as script ran.stage log is_ran.of so_far is)
-    (λ over. subst (λ (s : ScriptParts). AllFollowWhole s log.steps) is_ran.of
-    (subst (λ (l : Log). AllFollowWhole ran.stage.script l.steps) (sym is) (whole over)))
+    (λ over. whole-as script ran.stage log is_ran.of so_far is over (whole over) (still over))
     (is_ran.over none))
 
 -- a script that was run until it was stopped

@@ -5,13 +5,14 @@ use Rattle.journal.specs.declared.effect.Step.{Step}
 use Rattle.journal.specs.Logs.{Log, is_full}
 use Rattle.journal.specs.Shapes.{Shape}
 use Rattle.link_laws.specs.Laws.{IsLegal}
+use Rattle.link_laws.specs.Still.{IsOver}
 use Rattle.fabric.specs.declared.stop.StopCause.TheVariants as stops
 use Rattle.fabric.specs.Run.{Layout}
 use Rattle.script_lang.specs.Parts.{ScriptParts}
 use Rattle.script_lang.specs.Reading.{script_of}
 use Rattle.script_words.specs.declared.bad_kind.BadKind.{BadKind}
 use Rattle.stage.specs.Plays.{AllFollowWhole, IsSoFar}
-use Rattle.stage.specs.Turns.{IsWhole, is_over}
+use Rattle.stage.specs.Turns.{IsWhole, is_over, shape_of}
 use Rattle.workers.specs.declared.ran.Ran.{Ran}
 use Rattle.linx_sim.specs.Statuses.{IsDoneOrRefused}
 use Rattle.linx_sim.specs.Streams.{read_most}
@@ -31,11 +32,12 @@ abbrev pub IsRunSoFar : ScriptParts → Log → Type 0
 IsRunSoFar script log = (run : Layout) × IsRunAs script run log
 
 -- a whole run of a script, whose journal has this log: each actor's steps are all that its commands
--- ask for, and all is over
+-- ask for, and all is over; as the journal tells, every actor has ended, and every link is still
 pub record IsWholeAs (script : ScriptParts) (run : Layout) (log : Log) : Type 0 where
   pub so_far : IsRunAs script run log
   pub follows : AllFollowWhole script log.steps
   pub over : is_over run ≡ true
+  pub still : IsOver (shape_of script) log.steps
 
 -- A JOURNAL IS THAT OF A WHOLE RUN of a script, in whichever order the turns came
 abbrev pub IsRunOf : ScriptParts → Log → Type 0

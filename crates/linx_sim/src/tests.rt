@@ -9,7 +9,7 @@ use crate::rows::{SELF_SEND, outcome_under};
 use crate::serving;
 use crate::told::tell;
 use crate::whole_program::program;
-use crate::words::words_behind_name;
+use crate::words::{Unread, Words};
 use linx_outside::{MemSink, MemSource, OpenGate, PlainSource};
 use std::alloc::Global;
 use std::env::{Env, FillError};
@@ -244,8 +244,8 @@ fn is_all<R: Threads + Wait + Sync + Eprint>(
     let mut source = PlainSource::new(Vec::from_slice(alloc, script)?);
     let mut text = MemSink::new(alloc, 100, 4096, Vec::new(alloc))?;
     let mut errors = MemSink::new(alloc, 100, 4096, Vec::new(alloc))?;
-    let given = Given { words };
-    let told = program(rt, &given, alloc, &mut source, &mut text, &mut errors);
+    let given = Words::of(&Given { words }, alloc);
+    let told = program(rt, alloc, given, &mut source, &mut text, &mut errors);
     Ok(
         told.report(rt) == ExitCode::from(all.0)
             && text.held() == all.1.as_bytes()
@@ -269,8 +269,8 @@ fn the_program_writes_its_text_or_its_line_and_ends_with_its_number(
     Ok(())
 }
 
-fn words_given(alloc: Global, words: &[&[u8]]) -> Result<Vec<String>, Status> {
-    words_behind_name(&Given { words }, alloc)
+fn words_given(alloc: Global, words: &[&[u8]]) -> Words {
+    Words::of(&Given { words }, alloc)
 }
 
 #[test]
@@ -278,17 +278,22 @@ fn the_name_of_the_program_is_not_looked_at(rt: HostRuntime) {
     let alloc = rt.alloc();
     let given: [&[u8]; 3] = [b"\xff\xfe", b"run", b"fast"];
     assert!(rt;
-        matches!(&words_given(alloc, &given), Ok(words)
+        matches!(&words_given(alloc, &given), Words::Read(words)
         if words.len() == 2 && words[0].as_str() == "run" && words[1].as_str() == "fast")
     );
-    assert!(rt; matches!(&words_given(alloc, &[]), Ok(words) if words.is_empty()));
+    assert!(rt; matches!(&words_given(alloc, &[]), Words::Read(words) if words.is_empty()));
 }
 
 #[test]
 fn words_that_no_command_has(rt: HostRuntime) {
     let alloc = rt.alloc();
     let not_utf8: [&[u8]; 2] = [b"linx_sim", b"\xff"];
-    assert!(rt; matches!(&words_given(alloc, &not_utf8), Err(Status::Usage)));
+    assert!(rt;
+        matches!(
+            &words_given(alloc, &not_utf8),
+            Words::Unread(Unread::NotWords)
+        )
+    );
     let long: [&[u8]; 2] = [b"linx_sim", &[b'x'; 65]];
-    assert!(rt; matches!(&words_given(alloc, &long), Err(Status::Usage)));
+    assert!(rt; matches!(&words_given(alloc, &long), Words::Unread(Unread::NotWords)));
 }
