@@ -17,7 +17,7 @@ use Rattle.node_kernel.specs.declared.ask.Ask.{Ask}
 use Rattle.actor_run.specs.Knowing.{Knows, told, learned, moved_on, knows_nothing, stopped_with}
 use Rattle.actor_run.specs.Asking.{asked_by, handed, is_sending}
 use Rattle.actor_run.specs.Following.{is_own, knows, endpoint_after, Follows, FollowsWhole, Playing}
-use Rattle.actor_run.specs.Following.{IsMade, Makes, IsTurned}
+use Rattle.actor_run.specs.Following.{IsMade, MakesAsked, IsTurned}
 use Rattle.actor_run.proofs.Keeps.{past}
 use Rattle.actor_run.proofs.Heads.{is_look, granted_end, granted_pump, granted_look}
 use Rattle.actor_run.proofs.Heads.{is_end_by_event, waits_look, waits_by_answer, waits_by_filter}
@@ -211,7 +211,7 @@ turned_by_step commands k P mind me answer s false playing e made =
 pub turned : (commands : List Command) (k : ℕ) (P new : List Step) (mind : Knows)
     (me : Option Inc) (answer : StepAnswer) (over : Bool)
     → Playing commands k P mind me → is_end_event (asked_by commands mind me).event ≡ over
-    → Makes P k (asked_by commands mind me) answer new
+    → MakesAsked P k (asked_by commands mind me) answer new
     → IsTurned commands k new (told commands (handed commands mind me) answer)
     (endpoint_after me answer) over
 turned commands k P new mind me answer over playing e (inl made) =

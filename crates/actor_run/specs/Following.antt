@@ -79,7 +79,7 @@ pub record IsMade (P : List Step) (k : ℕ) (ask : Ask) (answer : StepAnswer) (s
   pub once : is_waits s.head ≡ true → last_waits P k ≡ false
 
 -- an ask that makes no step: a receive that has said that it waits, and finds nothing yet
-pub record IsStill (P : List Step) (k : ℕ) (ask : Ask) (answer : StepAnswer) (new : List Step)
+pub record MakesNone (P : List Step) (k : ℕ) (ask : Ask) (answer : StepAnswer) (new : List Step)
     : Type 0 where
   pub same : new ≡ P
   pub answered : answer ≡ NotYet
@@ -88,9 +88,9 @@ pub record IsStill (P : List Step) (k : ℕ) (ask : Ask) (answer : StepAnswer) (
   pub waits : last_waits P k ≡ true
 
 -- what an ask makes of the history P: one step more, or none
-abbrev pub Makes : List Step → ℕ → Ask → StepAnswer → List Step → Type 0
-Makes P k ask answer new =
-    ((s : Step) × (new ≡ s ∷ P) × IsMade P k ask answer s) ⊎ IsStill P k ask answer new
+abbrev pub MakesAsked : List Step → ℕ → Ask → StepAnswer → List Step → Type 0
+MakesAsked P k ask answer new =
+    ((s : Step) × (new ≡ s ∷ P) × IsMade P k ask answer s) ⊎ MakesNone P k ask answer new
 
 -- after a turn of actor k, by whether it asked for its end
 abbrev pub IsTurned : List Command → ℕ → List Step → Knows → Option Inc → Bool → Type 0

@@ -86,7 +86,7 @@ fn put_near<T: Drop>(rows: &mut [Binding<T>], near: usize, name: &Name, value: T
     put(rows, name, value);
 }
 
-/// The same for a table's rows.
+/// Gives a value to a name of a table, whose row is likely this one.
 fn put_row<T: Drop>(rows: &mut Vec<Binding<T>>, near: usize, name: &Name, value: T)
     requires { are_named_once rows.old.items ≡ true }
     ensures { rows.new.items ≡ remember rows.old.items name.now value }
@@ -151,7 +151,7 @@ impl<T: Drop> Bindings<T> {
         Ok(Bindings { rows, places })
     }
 
-    /// The row of the name that the command at this place speaks of, likely.
+    /// Where to look first for the name that the command at this place speaks of.
     fn near(&self, place: usize) -> usize {
         match self.places.get(place) {
             Some(at) => *at as usize,

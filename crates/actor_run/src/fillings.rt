@@ -3,17 +3,19 @@ ghost use Rattle.linx_base.specs.Content.{data_limit};
 ghost use Rattle.script_words.specs.Filling.{data_of, fits_data};
 ghost use Rattle.actor_run.specs.Asking.{signal_of};
 
+use crate::filled::{Filled, filled_with};
 use linx_base::{Blob, NoMemory, Signal, TryCopy};
 use script_lang::Filling;
 use std::alloc::Global;
 
-/// The bytes that a filling stands for. Those of the script are shared.
-fn bytes_of(alloc: Global, filling: &Filling) -> Result<Blob, NoMemory>
+/// The bytes that a filling stands for. Those of the script are shared, and so are those that were
+/// filled last.
+fn bytes_of(alloc: Global, last: &mut Option<Filled>, filling: &Filling) -> Result<Blob, NoMemory>
     ensures { IfOk result (λ bytes. bytes ≡ data_of filling.now) }
 {
     match filling {
         Filling::Bytes(bytes) => bytes.copy(),
-        Filling::Repeat { count, byte } => { Blob::shared(vec![in alloc; *byte; *count as usize]?) }
+        Filling::Repeat { count, byte } => filled_with(alloc, last, *count, *byte),
     }
 }
 
@@ -21,12 +23,13 @@ fn bytes_of(alloc: Global, filling: &Filling) -> Result<Blob, NoMemory>
 #[tactic(auto, using(crate::proofs::Runnable::within))]
 pub(crate) fn signal_filled(
     alloc: Global,
+    last: &mut Option<Filled>,
     number: u32,
     filling: &Filling,
 ) -> Result<Signal, NoMemory>
     requires { IsTrue (fits_data data_limit filling.now) }
     ensures { IfOk result (λ signal. signal ≡ signal_of number (data_of filling.now)) }
 {
-    let bytes = bytes_of(alloc, filling)?;
+    let bytes = bytes_of(alloc, last, filling)?;
     Ok(Signal::of(number, bytes))
 }

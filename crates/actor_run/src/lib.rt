@@ -8,6 +8,7 @@
 
 mod asks;
 mod bindings;
+mod filled;
 mod fillings;
 mod mind;
 mod names;

@@ -1,4 +1,4 @@
-ghost use Rattle.std.specs.Prelude.{◌≡◌, ◌≤◌, IfOk, OnOk, OnErr, None, true, false, length};
+ghost use Rattle.std.specs.Prelude.{◌≡◌, ◌≤◌, IfOk, OnOk, OnErr, None, Some, true, false, length};
 ghost use Rattle.std.specs.Prelude.{if◌then◌else◌};
 ghost use Rattle.std.specs.Option.{option_copied};
 ghost use Rattle.actor_run.specs.Asking.{ask_of, peer_of, ask_forward, asked_by, handed};
@@ -6,9 +6,9 @@ ghost use Rattle.actor_run.specs.Asking.{is_forward, is_sending, fits_signal, Ar
 ghost use Rattle.actor_run.specs.Knowing.{knows_nothing, told, stopped_with, learned, passed};
 ghost use Rattle.actor_run.specs.Following.{endpoint_after};
 
-use crate::asks::{empty_handed, holding, refuse};
+use crate::asks::{ask_attach, ask_detach, ask_hunt, ask_send, empty_handed, holding, refuse};
 use crate::bindings::Bindings;
-use crate::fillings::signal_filled;
+use crate::filled::Filled;
 use crate::names::{NameKind, keep_at};
 use journal::{Event, Refusal};
 use linx_base::{AttRef, Inc, NoMemory, Peer, Signal, TryCopy};
@@ -37,6 +37,8 @@ pub struct Mind {
     lent: bool,
     kept: Bindings<Peer>,
     refs: Bindings<AttRef>,
+    // No contract sees it: an equal buffer is shared.
+    filled: Option<Filled>,
 }
 
 impl Model for Mind {
@@ -71,6 +73,7 @@ impl Mind {
             lent: false,
             kept,
             refs,
+            filled: None,
         })
     }
 
@@ -114,49 +117,34 @@ impl Mind {
     fn ask_of(
         &self,
         alloc: Global,
-        command: Option<&Command>,
+        last: &mut Option<Filled>,
+        command: &Command,
         me: Option<Inc>,
     ) -> Result<Ask, NoMemory>
-        requires other { is_forward (option_copied command) ≡ false }
-        requires fits { fits_signal (option_copied command) ≡ true }
-        ensures { IfOk result (λ ask. ask ≡ ask_of self.now me (option_copied command.entry)) }
+        requires other { is_forward (Some command.now) ≡ false }
+        requires fits { fits_signal (Some command.now) ≡ true }
+        ensures { IfOk result (λ ask. ask ≡ ask_of self.now me (Some command.now)) }
     {
-        let Some(command) = command else {
-            return Ok(empty_handed(Event::End));
-        };
         match command {
             Command::Open(name) => Ok(empty_handed(Event::Open(name.copy()?))),
             Command::Close => Ok(empty_handed(Event::Close)),
-            Command::Send { to, number, bytes } => match self.peer_of(to, me) {
-                Some(peer) => Ok(holding(Event::Send(peer), signal_filled(alloc, *number, bytes)?)),
-                None => Ok(refuse(Refusal::NoPeer)),
-            },
+            Command::Send { to, number, bytes } => {
+                ask_send(alloc, last, self.peer_of(to, me), *number, bytes)
+            }
             Command::Forward(_) => unreachable!(),
             Command::Recv(filter) => Ok(empty_handed(Event::Look(filter.copy()?))),
             Command::Hunt {
                 path,
                 number,
                 bytes,
-            } => Ok(holding(
-                Event::Hunt(path.copy()?),
-                signal_filled(alloc, *number, bytes)?,
-            )),
+            } => ask_hunt(alloc, last, path, *number, bytes),
             Command::Attach {
                 to,
                 number,
                 bytes,
                 ..
-            } => match self.peer_of(to, me) {
-                Some(peer) => Ok(holding(
-                    Event::Attach(peer),
-                    signal_filled(alloc, *number, bytes)?,
-                )),
-                None => Ok(refuse(Refusal::NoPeer)),
-            },
-            Command::Detach(r) => match self.refs.get(self.place, r) {
-                Some(r) => Ok(empty_handed(Event::Detach(r))),
-                None => Ok(refuse(Refusal::NoRef)),
-            },
+            } => { ask_attach(alloc, last, self.peer_of(to, me), *number, bytes) }
+            Command::Detach(r) => Ok(ask_detach(self.refs.get(self.place, r))),
             Command::Keep(_) => Ok(refuse(Refusal::NoPeer)),
             Command::Cut(link) => Ok(empty_handed(Event::Cut(*link))),
             Command::Mend(link) => Ok(empty_handed(Event::Mend(*link))),
@@ -179,8 +167,14 @@ impl Mind {
         ensures err { OnErr result (self.new ≡ self.old) }
     {
         match script.commands.get(self.place) {
+            None => Ok(empty_handed(Event::End)),
             Some(Command::Forward(to)) => Ok(self.forward(to, me)),
-            command => self.ask_of(alloc, command, me),
+            Some(command) => {
+                let mut filled = self.filled.take();
+                let asked = self.ask_of(alloc, &mut filled, command, me);
+                self.filled = filled;
+                asked
+            }
         }
     }
 

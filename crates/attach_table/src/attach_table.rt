@@ -1,15 +1,18 @@
-ghost use Rattle.std.specs.Prelude.{◌≡◌, ◌<◌, [], ◌∷◌, ◌++◌, not, filter, length, slice_get};
-ghost use Rattle.std.specs.Prelude.{IfSome, OnOk, OnErr, IfErr};
-ghost use Rattle.std.specs.Option.{option_copied, option_map};
+ghost use Rattle.std.specs.Prelude.{◌≡◌, ◌<◌, [], ◌∷◌, ◌++◌, not, filter, length, OnOk, OnErr, IfErr};
+ghost use Rattle.std.specs.List.{list_any};
 ghost use Rattle.linx_base.specs.Content.{data_limit};
-ghost use Rattle.linx_base.specs.FirstMatch.{first_match, without_match};
-ghost use Rattle.attach_table.specs.Attaches.{is_to, is_within, is_held_by, is_attach};
+ghost use Rattle.linx_base.specs.Peers.{same_inc, same_peer};
+ghost use Rattle.linx_base.specs.Pending.{is_attach, is_of_session};
+ghost use Rattle.attach_table.specs.Attaches.{HaveRoom};
 
-use crate::attach_key::{AttachKey, peer_key};
-use keyed_list::KeyedList;
+use crate::attach_key::{AttachKey, peer_key, reference_key, within_key};
+use keyed_list::{KeyedList, Under};
 use linx_base::{AttRef, Inc, LinkNo, NoMemory, Peer, PendingAttach, Session, Signal};
 use std::alloc::Global;
 use std::marker::Model;
+
+/// A walk over attaches of a table, in order of attaching.
+pub type AttachesUnder<'a> = Under<'a, PendingAttach, AttachKey>;
 
 /// The attaches of a node that are owed a notification, which contracts see as their list in order
 /// of attaching. Each signal has room for the byte of a reason.
@@ -40,85 +43,66 @@ impl AttachTable {
         }
     }
 
-    /// Adds an attach of a holder to a peer at the end. A refusal gives the signal back and changes
-    /// nothing.
-    pub fn attach(
-        &mut self,
-        at: Inc,
-        peer: Peer,
-        signal: Signal,
-        reference: AttRef,
-    ) -> Result<(), (NoMemory, Signal)>
-        requires { length signal.bytes < data_limit }
-        ensures ok { OnOk result (self.new ≡ self.old
-            ++ record { at = at; peer = peer; signal = signal; reference = reference } ∷ []) }
+    /// Adds an attach at the end. A refusal gives its signal back and changes nothing.
+    pub fn attach(&mut self, attach: PendingAttach) -> Result<(), (NoMemory, Signal)>
+        requires { length attach.signal.bytes < data_limit }
+        ensures ok { OnOk result (self.new ≡ self.old ++ attach ∷ []) }
         ensures err { OnErr result (self.new ≡ self.old) }
-        ensures given_back { IfErr result (λ back. back.1 ≡ signal) }
+        ensures given_back { IfErr result (λ back. back.1 ≡ attach.signal) }
     {
-        let attach = PendingAttach {
-            at,
-            peer,
-            signal,
-            reference,
-        };
         match self.attaches.push(attach) {
             Ok(()) => Ok(()),
             Err((refusal, attach)) => Err((refusal, attach.signal)),
         }
     }
 
-    /// Takes out an attach of a holder by its reference, and gives its signal. `None` exactly where
-    /// the holder has none of this reference. It takes no memory.
-    pub fn detach(&mut self, at: Inc, reference: AttRef) -> Option<Signal>
-        ensures signal { result ≡ option_map (λ attach. attach.signal)
-            (first_match (is_attach at reference) self.old) }
-        ensures others { self.new ≡ without_match (is_attach at reference) self.old }
+    /// The attaches to a peer, in order.
+    pub fn attaches_to(&self, peer: Peer) -> AttachesUnder<'_>
+        ensures attaches { result ≡ filter (λ attach. same_peer peer attach.peer) self.now }
+        ensures room { HaveRoom result }
     {
-        let attach = self
-            .attaches
-            .take_first(AttachKey::Reference { at, reference })?;
-        Some(attach.signal)
+        self.attaches.under(peer_key(peer))
     }
 
-    /// Takes out the earliest attach to a peer. `None` exactly where there is none. It takes no
-    /// memory.
-    pub fn next_ended(&mut self, peer: Peer) -> Option<PendingAttach>
-        ensures earliest { result ≡ first_match (is_to peer) self.old }
-        ensures others { self.new ≡ without_match (is_to peer) self.old }
+    /// The attaches to the peers of a session, in order.
+    pub fn attaches_within(&self, link: LinkNo, session: Session) -> AttachesUnder<'_>
+        ensures attaches { result
+            ≡ filter (λ attach. is_of_session link session attach.peer) self.now }
+        ensures room { HaveRoom result }
     {
-        self.attaches.take_first(peer_key(peer))
+        self.attaches.under(within_key(link, session))
     }
 
-    /// Takes out the earliest attach to any peer of a session. `None` exactly where there is none.
-    /// It takes no memory.
-    pub fn next_lost(&mut self, link: LinkNo, session: Session) -> Option<PendingAttach>
-        ensures earliest { result ≡ first_match (is_within link session) self.old }
-        ensures others { self.new ≡ without_match (is_within link session) self.old }
+    /// Frees the attaches of a holder with this reference, and says whether there was one. It takes
+    /// no memory.
+    pub fn detach(&mut self, at: Inc, reference: AttRef) -> bool
+        ensures any { result ≡ list_any (is_attach at reference) self.old }
+        ensures others { self.new ≡ filter (λ attach. not (is_attach at reference attach))
+            self.old }
     {
-        self.attaches
-            .take_first(AttachKey::Within { link, session })
+        let any = self.attaches.has(reference_key(at, reference));
+        self.attaches.drop_all(reference_key(at, reference));
+        any
     }
 
-    /// The k-th attach to a peer, from 0. `None` exactly where there are at most k.
-    pub fn nth_ended(&self, peer: Peer, k: usize) -> Option<&PendingAttach>
-        ensures nth { option_copied result ≡ slice_get (filter (is_to peer) self.now) k }
-        ensures room { IfSome result (λ attach. length attach.now.signal.bytes < data_limit) }
+    /// Frees the attaches to a peer. It takes no memory.
+    pub fn drop_to(&mut self, peer: Peer)
+        ensures { self.new ≡ filter (λ attach. not (same_peer peer attach.peer)) self.old }
     {
-        self.attaches.nth(peer_key(peer), k)
+        self.attaches.drop_all(peer_key(peer));
     }
 
-    /// The k-th attach to any peer of a session, from 0. `None` exactly where there are at most k.
-    pub fn nth_lost(&self, link: LinkNo, session: Session, k: usize) -> Option<&PendingAttach>
-        ensures nth { option_copied result ≡ slice_get (filter (is_within link session) self.now)
-            k }
-        ensures room { IfSome result (λ attach. length attach.now.signal.bytes < data_limit) }
+    /// Frees the attaches to the peers of a session. It takes no memory.
+    pub fn drop_within(&mut self, link: LinkNo, session: Session)
+        ensures { self.new ≡ filter (λ attach. not (is_of_session link session attach.peer))
+            self.old }
     {
-        self.attaches.nth(AttachKey::Within { link, session }, k)
+        self.attaches.drop_all(within_key(link, session));
     }
 
     /// Frees the attaches of a holder. It takes no memory.
     pub fn drop_of(&mut self, at: Inc)
-        ensures { self.new ≡ filter (λ attach. not (is_held_by at attach)) self.old }
+        ensures { self.new ≡ filter (λ attach. not (same_inc at attach.at)) self.old }
     {
         self.attaches.drop_all(AttachKey::Holder(at));
     }

@@ -1,5 +1,5 @@
-use crate::AttachTable;
-use linx_base::{AttRef, Inc, LinkNo, NoMemory, NodeNo, Peer, Session, Signal};
+use crate::{AttachTable, AttachesUnder};
+use linx_base::{AttRef, Inc, LinkNo, NoMemory, NodeNo, Peer, PendingAttach, Session, Signal};
 use std::alloc::Global;
 use std::test::Fail;
 
@@ -25,17 +25,32 @@ fn attach(
     peer: Peer,
     reference: u64,
 ) -> Result<(), Fail> {
-    let signal = Signal::alloc(alloc, 252, b"x")?;
-    table
-        .attach(at, peer, signal, AttRef(reference))
-        .map_err(|_| NoMemory)?;
+    let attach = PendingAttach {
+        at,
+        peer,
+        signal: Signal::alloc(alloc, 252, b"x")?,
+        reference: AttRef(reference),
+    };
+    table.attach(attach).map_err(|_| NoMemory)?;
     Ok(())
+}
+
+/// How many attaches a walk goes over, and the reference of the last, or 0.
+fn referred(mut attaches: AttachesUnder<'_>) -> (u64, u64) {
+    let mut many = 0;
+    let mut last = 0;
+    while let Some(attach) = attaches.next_entry() {
+        many = u64::min(many + 1, 9);
+        last = attach.reference.0;
+    }
+    (many, last)
 }
 
 #[test]
 fn attaches_are_found_by_peer_session_holder_and_reference(rt: HostRuntime) -> Result<(), Fail> {
     let alloc = rt.alloc();
     let here = Peer::Here(holder(9));
+    let (link, session) = (LinkNo(1), Session::of(1, 1));
     let mut table = AttachTable::new(alloc);
     attach(alloc, &mut table, holder(1), remote(1, 1), 1)?;
     attach(alloc, &mut table, holder(2), here, 2)?;
@@ -43,30 +58,18 @@ fn attaches_are_found_by_peer_session_holder_and_reference(rt: HostRuntime) -> R
     attach(alloc, &mut table, holder(1), remote(2, 1), 4)?;
     attach(alloc, &mut table, holder(3), here, 5)?;
     attach(alloc, &mut table, holder(3), remote(1, 1), 6)?;
-    assert!(rt; table.detach(holder(1), AttRef(2)).is_none());
-    assert!(rt;
-        table
-            .nth_ended(here, 1)
-            .is_some_and(|a| a.reference == AttRef(5))
-    );
-    assert!(rt; table.nth_ended(here, 2).is_none());
-    let third = table.nth_lost(LinkNo(1), Session::of(1, 1), 2);
-    assert!(rt; third.is_some_and(|a| a.reference == AttRef(6)));
-    assert!(rt; table.nth_lost(LinkNo(2), Session::of(1, 1), 0).is_none());
-    assert!(rt; table.detach(holder(2), AttRef(2)).is_some());
-    assert!(rt;
-        table
-            .next_ended(here)
-            .is_some_and(|a| a.reference == AttRef(5))
-    );
+    assert!(rt; !table.detach(holder(1), AttRef(2)));
+    assert_eq!(rt; referred(table.attaches_to(here)), (2, 5));
+    assert_eq!(rt; referred(table.attaches_within(link, session)), (3, 6));
+    assert_eq!(rt; referred(table.attaches_within(LinkNo(2), session)), (0, 0));
+    assert!(rt; table.detach(holder(2), AttRef(2)));
+    assert_eq!(rt; referred(table.attaches_to(here)), (1, 5));
+    table.drop_to(here);
+    assert_eq!(rt; referred(table.attaches_to(here)), (0, 0));
     table.drop_of(holder(1));
-    let next = table.next_lost(LinkNo(1), Session::of(1, 1));
-    assert!(rt; next.is_some_and(|a| a.reference == AttRef(3)));
-    assert!(rt; table.next_ended(remote(2, 1)).is_none());
-    assert!(rt;
-        table
-            .next_ended(remote(1, 1))
-            .is_some_and(|a| a.at == holder(3))
-    );
+    assert_eq!(rt; referred(table.attaches_within(link, session)), (2, 6));
+    assert_eq!(rt; referred(table.attaches_to(remote(2, 1))), (0, 0));
+    table.drop_within(link, session);
+    assert_eq!(rt; referred(table.attaches_to(remote(1, 1))), (0, 0));
     Ok(())
 }

@@ -159,7 +159,7 @@ EndsAt place places at =
     IsPartitionPoint (λ p. is_before p place ≡ true) (λ p. is_before p place ≡ false) places at
 
 -- a place whose ticket is above all others keeps the order where it is put
-pub adds : (place : Place) (old new : IndexContent Place) (at : ℕ) → CanTake old place.ticket
+pub adds : (place : Place) (old new : IndexContent) (at : ℕ) → CanTake old place.ticket
     → at ≤ length old.places → EndsAt place old.places at
     → new.places ≡ insert old.places at place → new.room + 1 ≡ old.room → Adds place old new
 adds place old new at can within between is room =
@@ -182,13 +182,13 @@ adds place old new at can within between is room =
     }
 
 -- a place that is there is taken out where it stands
-pub stands_at : (place : Place) (index : IndexContent Place) (at : ℕ) → Has place index
+pub stands_at : (place : Place) (index : IndexContent) (at : ℕ) → Has place index
     → EndsAt place index.places at
     → (at < length index.places) × (place ≡ get_or index.places at place)
 stands_at place index at has between =
     place_found index.places place at has.ordered between has.there
 
-pub takes_out : (place : Place) (old new : IndexContent Place) (at : ℕ) → Has place old
+pub takes_out : (place : Place) (old new : IndexContent) (at : ℕ) → Has place old
     → EndsAt place old.places at
     → new.places ≡ remove old.places at → old.room ≤ new.room → TakesOut place old new
 takes_out place old new at has between is room =

@@ -8,7 +8,9 @@ use Rattle.std.specs.List.Sorted.{IsPartitionPoint, IsPartitionedBy}
 use Rattle.std.proofs.lemmas.Bool.Decides.{nat_tests}
 use Rattle.std.proofs.lemmas.List.{get_or_default}
 use Rattle.endpoint_queue.specs.declared.place.Place.{Place}
-use Rattle.endpoint_queue.specs.Places.{IsBefore, is_before, IsLeastTicket, is_listed, lower_of}
+use Rattle.sigsel.specs.Selects.{selects}
+use Rattle.sigsel.specs.declared.sigsel.Sigsel.TheVariants.{Only}
+use Rattle.endpoint_queue.specs.Places.{IsBefore, is_before, IsLeastTicket, lower_of}
 
 -- the order of places by its test
 pub before_from_test : (p q : Place) → is_before p q ≡ true → IsBefore p q
@@ -61,10 +63,6 @@ pub record IsTestOf (number : ℕ) (p : ℕ → Bool) : Type 0 where
 
 pub test_of : (number : ℕ) → IsTestOf number (λ n. eqb number n)
 test_of number =
-    record { passes = grind (arith, nat_tests); only = λ n h. grind (arith, nat_tests) }
-
-pub test_by : (number : ℕ) → IsTestOf number (λ n. eqb n number)
-test_by number =
     record { passes = grind (arith, nat_tests); only = λ n h. grind (arith, nat_tests) }
 
 -- what a place says of each place, where it stands first of its number in an order
@@ -153,10 +151,10 @@ module _ (number : ℕ) (p : ℕ → Bool) (test : IsTestOf number p) (places : 
 
 -- one more listed number
 listed_more : (listed : List ℕ) (n m : ℕ)
-    → is_listed (listed ++ n ∷ []) m ≡ (is_listed listed m || eqb n m)
+    → selects (Only (listed ++ n ∷ [])) m ≡ (selects (Only listed) m || eqb n m)
 listed_more [] n m = grind (arith, nat_tests)
 listed_more (x ∷ listed) n m =
-    let rest : is_listed (listed ++ n ∷ []) m ≡ (is_listed listed m || eqb n m) =
+    let rest : selects (Only (listed ++ n ∷ [])) m ≡ (selects (Only listed) m || eqb n m) =
     listed_more listed n m in
     grind (arith, nat_tests, rest)
 
@@ -220,11 +218,11 @@ module _ (places : List Place) (p q r : ℕ → Bool) (either : (m : ℕ) → r 
 
 module _ (places : List Place) where
   pub least_ticket_more : (listed : List ℕ) (n : ℕ) (one other : Option ℕ)
-      → IsLeastTicket (is_listed listed) places one → IsLeastTicket (λ m. eqb n m) places other
-      → IsLeastTicket (is_listed (listed ++ n ∷ [])) places (lower_of one other)
+      → IsLeastTicket (selects (Only listed)) places one → IsLeastTicket (λ m. eqb n m) places other
+      → IsLeastTicket (selects (Only (listed ++ n ∷ []))) places (lower_of one other)
   least_ticket_more listed n one other was first =
-      least_of_both places (is_listed listed) (λ m. eqb n m) (is_listed (listed ++ n ∷ []))
+      least_of_both places (selects (Only listed)) (λ m. eqb n m) (selects (Only (listed ++ n ∷ [])))
       (listed_more listed n) one other was first
 
-  pub least_ticket_none : IsLeastTicket (is_listed []) places None
+  pub least_ticket_none : IsLeastTicket (selects (Only [])) places None
   least_ticket_none k d inside = refl

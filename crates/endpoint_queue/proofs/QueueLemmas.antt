@@ -7,6 +7,7 @@ use Rattle.std.specs.List.{All, AllPairs, Contains, remove, count_by, position, 
 use Rattle.std.specs.List.Sorted.{IsPermutation, IsBinarySearchResult}
 use Rattle.std.specs.Ordering.{nat_cmp}
 use Rattle.std.specs.Result.{result_ok}
+use Rattle.std.proofs.lemmas.Bool.Decides.{nat_tests}
 use Rattle.std.proofs.lemmas.List.Edits.{length-remove, get_or-remove_below, get_or-remove_above}
 use Rattle.std.proofs.lemmas.List.Quantifiers.{all_pairs_push, all_pairs_remove}
 use Rattle.std.proofs.lemmas.List.Elements.{All-push, All-contains}
@@ -45,7 +46,7 @@ All-remove P xs n within all k d inside =
 -- an index of the items that have a key
 module _ (key : Item → Option ℕ) (items : List Item) (tickets : List ℕ)
     (paired : length tickets ≡ length items)
-    (old new : IndexContent Place) (index : IsIndex key items tickets old.places) where
+    (old new : IndexContent) (index : IsIndex key items tickets old.places) where
   pub length-index : length old.places ≡ count_by (λ item. is_some (key item)) items
   length-index =
       length_permutation (places_by key items tickets) old.places index.whole
@@ -63,7 +64,7 @@ module _ (key : Item → Option ℕ) (items : List Item) (tickets : List ℕ)
       → AddsKey o next old new
       → IsPermutation (before ++ placed o next []) new.places × AllPairs IsBefore new.places
   added None next before whole same =
-      let P : IndexContent Place → Type 0 =
+      let P : IndexContent → Type 0 =
       λ i. IsPermutation (before ++ []) i.places × AllPairs IsBefore i.places in
       subst P (sym same) (rw (append-nil before) whole, index.ordered)
   added (Some n) next before whole adds =
@@ -87,7 +88,7 @@ module _ (key : Item → Option ℕ) (items : List Item) (tickets : List ℕ)
       → IsPermutation before (placed o ticket after) → TakesOutKey o ticket old new
       → IsPermutation after new.places × AllPairs IsBefore new.places
   taken_out None ticket before after whole moved same =
-      let P : IndexContent Place → Type 0 =
+      let P : IndexContent → Type 0 =
       λ i. IsPermutation after i.places × AllPairs IsBefore i.places in
       subst P (sym same) (
         IsPermutation-trans _ _ _ (IsPermutation-sym _ _ moved) whole,
@@ -136,10 +137,10 @@ pub few_notices : (items : List Item) (n : ℕ) → count_notices (take n items)
 few_notices items n = sum_by-take-le (λ item. cond (is_some (notice_key item)) 1 0) items n
 
 -- a place takes up room
-pub total_kept : (o : Option ℕ) (ticket : ℕ) (old new : IndexContent Place)
+pub total_kept : (o : Option ℕ) (ticket : ℕ) (old new : IndexContent)
     → AddsKey o ticket old new
     → length new.places + new.room ≡ length old.places + old.room
-total_kept None ticket old new same = ap (λ (i : IndexContent Place). length i.places + i.room) same
+total_kept None ticket old new same = ap (λ (i : IndexContent). length i.places + i.room) same
 total_kept (Some n) ticket old new adds =
     omega (
       arith,
@@ -149,21 +150,21 @@ total_kept (Some n) ticket old new adds =
     )
 
 -- a place that is taken out leaves the room
-pub room_left : (o : Option ℕ) (ticket : ℕ) (old new : IndexContent Place)
+pub room_left : (o : Option ℕ) (ticket : ℕ) (old new : IndexContent)
     → TakesOutKey o ticket old new
     → old.room ≤ new.room
 room_left None ticket old new same = rw same (omega arith)
 room_left (Some n) ticket old new takes = takes.room
 
 -- an item that is added takes at most one place
-pub room_taken : (o : Option ℕ) (ticket : ℕ) (old new : IndexContent Place)
+pub room_taken : (o : Option ℕ) (ticket : ℕ) (old new : IndexContent)
     → AddsKey o ticket old new
     → old.room ≤ new.room + 1
 room_taken None ticket old new same = rw same (omega arith)
 room_taken (Some n) ticket old new adds = omega (arith, adds.room)
 
 -- what a queue keeps, where the indexes have these contents
-module _ {items : List Item} {tickets : List ℕ} (numbers notices : IndexContent Place) {next : ℕ}
+module _ {items : List Item} {tickets : List ℕ} (numbers notices : IndexContent) {next : ℕ}
     (kept : IsIndexed items tickets numbers.places notices.places next) where
   pub length-numbers : length numbers.places ≡ length items
   length-numbers =
@@ -188,7 +189,7 @@ module _ {items : List Item} {tickets : List ℕ} (numbers notices : IndexConten
       index_can_take notice_key items tickets kept.paired notices notices kept.by_attach next
       kept.numbered.1 room
 
-  pub put_kept : (item : Item) (numbers' notices' : IndexContent Place) {items' : List Item}
+  pub put_kept : (item : Item) (numbers' notices' : IndexContent) {items' : List Item}
       {tickets' : List ℕ}
       → AddsKey (number_key item) next numbers numbers'
       → AddsKey (notice_key item) next notices notices'
@@ -228,7 +229,7 @@ module _ {items : List Item} {tickets : List ℕ} (numbers notices : IndexConten
         index_has notice_key items tickets kept.paired notices notices kept.by_attach k item ticket
         within item_is ticket_is
 
-    pub take_kept : (numbers' notices' : IndexContent Place)
+    pub take_kept : (numbers' notices' : IndexContent)
         → TakesOutKey (number_key item) ticket numbers numbers'
         → TakesOutKey (notice_key item) ticket notices notices'
         → IsIndexed (remove items k) (remove tickets k) numbers'.places notices'.places next
@@ -367,13 +368,16 @@ module _ (key : Item → Option ℕ) (p : ℕ → Bool) (test : Item → Bool)
 
 -- a notice is found by its attach
 pub notice_alike : (r : AttRef) (item : Item)
-    → is_notice_of r item ≡ key_passes (λ n. n == r.0) (notice_key item)
+    → is_notice_of r item ≡ key_passes (λ n. r.0 == n) (notice_key item)
 notice_alike r item = by_kind item.kind
   where
-    by_kind : (kind : Kind) → notifies r kind ≡ key_passes (λ n. n == r.0) (attach_of kind)
+    turned : (a b : ℕ) → (a == b) ≡ (b == a)
+    turned a b = grind (arith, nat_tests)
+
+    by_kind : (kind : Kind) → notifies r kind ≡ key_passes (λ n. r.0 == n) (attach_of kind)
     by_kind Plain = refl
     by_kind (Found hunt) = refl
-    by_kind (Notice attach) = refl
+    by_kind (Notice attach) = turned attach.0 r.0
 
 range_suc : (a n j : ℕ) → a + n ≡ j → range_with_len a (suc n) ≡ range_with_len a n ++ j ∷ []
 range_suc a zero j is = ap (λ i. i ∷ []) (omega arith)

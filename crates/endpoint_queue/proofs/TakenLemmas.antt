@@ -1,6 +1,7 @@
 -- What is taken at the position of the first item that passes a test.
 use Rattle.std.proofs.Common.{◌≡◌, ℕ, ◌<◌, Bool, false, List, [], ◌∷◌, length, get_or, ap, sym}
-use Rattle.std.proofs.Common.{subst, ◌∙◌, arith, refl}
+use Rattle.std.proofs.Common.{◌++◌, ◌-◌, suc, take, subst, append-nil, ◌∙◌, arith, refl}
+use Rattle.std.proofs.lemmas.List.{drop_all}
 use Rattle.std.specs.Prelude.{Some, None}
 use Rattle.std.specs.List.{All, remove, position}
 use Rattle.linx_base.specs.FirstMatch.{TakesEarliest, first_match, without_match, without_beside}
@@ -56,3 +57,11 @@ position_any sel (item ∷ items) is more =
     let P : Sigsel → Type 0 = λ s. position (is_selected s) (item ∷ items) ≡ Some 0 in
     subst P (sym is) (position_at (is_selected Any) (item ∷ items) 0 item more refl
     (λ j low. absurd (omega arith)))
+
+-- what is left where the last one is taken out
+pub last_removed : {X : Type 0} (xs left : List X) (many at : ℕ) → length xs ≡ many
+    → at ≡ many - 1 → left ≡ remove xs at → left ≡ take (many - 1) xs
+last_removed xs left many at long last is =
+    is ∙ ap (remove xs) last
+    ∙ ap (λ back. take (many - 1) xs ++ back) (drop_all (suc (many - 1)) xs (omega arith))
+    ∙ append-nil (take (many - 1) xs)

@@ -1,6 +1,6 @@
 use Rattle.std.specs.Prelude.{◌≡◌, ℕ, ◌<◌, ◌≤◌, ◌⊎◌, Bool, true, false, ◌&&◌, ◌||◌, ◌==◌, nat_lt}
 use Rattle.std.specs.Prelude.{min, List, [], ◌∷◌, length, Option, Some, None, is_some, count_by}
-use Rattle.std.specs.List.{All, AllPairs, Any, list_any}
+use Rattle.std.specs.List.{All, AllPairs, Any}
 use Rattle.std.specs.List.Sorted.{IsPermutation}
 use Rattle.linx_base.specs.declared.item.Item.{Item}
 use Rattle.linx_base.specs.declared.item.Kind.{Kind}
@@ -66,10 +66,6 @@ pub record IsIndexed (items : List Item) (tickets : List ℕ) (numbers notices :
   pub numbered : AreTickets tickets next
   pub by_number : IsIndex number_key items tickets numbers
   pub by_attach : IsIndex notice_key items tickets notices
-
--- a number is listed
-abbrev pub is_listed : List ℕ → ℕ → Bool
-is_listed listed number = list_any (λ n. n == number) listed
 
 -- the least ticket of the places whose number passes a test, if one does
 abbrev pub IsLeastTicket : (ℕ → Bool) → List Place → Option ℕ → Type 0

@@ -2,22 +2,23 @@ ghost use Rattle.std.specs.Prelude.{◌≡◌, ◌+◌, ◌≤◌, ◌<◌, [], 
 ghost use Rattle.std.specs.Prelude.{OnOk};
 ghost use Rattle.std.specs.List.{remove};
 
+use crate::place::Place;
 use std::alloc::{AllocError, Global};
 use std::marker::Model;
 
 /// Places in order, with room for more. What is removed from the front stays before the others
 /// until room is made, so that it moves nothing.
 #[derive(Drop)]
-pub(crate) struct Index<P> {
-    slots: Vec<P>,
+pub(crate) struct Index {
+    slots: Vec<Place>,
     gone: usize,
 }
 
-impl<P> Model for Index<P> {
+impl Model for Index {
     ghost use Rattle.std.specs.Prelude.{◌-◌, ◌≤◌, drop, vec_capacity, vec_len};
     ghost use Rattle.endpoint_queue.specs.IndexContent.{IndexContent};
 
-    ghost Value = { IndexContent P };
+    ghost Value = { IndexContent };
 
     ghost view = { λ i. record {
       places = drop i.gone i.slots.items;
@@ -28,7 +29,7 @@ impl<P> Model for Index<P> {
 }
 
 /// Adds a place, for which there is room.
-fn insert_place<P: Drop>(places: &mut Vec<P>, at: usize, place: P)
+fn insert_place(places: &mut Vec<Place>, at: usize, place: Place)
     requires within { at ≤ vec_len places.old }
     requires room { vec_len places.old < vec_capacity places.old }
     ensures items { places.new.items ≡ insert places.old.items at place }
@@ -38,9 +39,9 @@ fn insert_place<P: Drop>(places: &mut Vec<P>, at: usize, place: P)
     let _ = places.insert(at, place);
 }
 
-impl<P: Drop> Index<P> {
+impl Index {
     /// The empty index. It takes no memory.
-    pub(crate) fn new(alloc: Global) -> Index<P>
+    pub(crate) fn new(alloc: Global) -> Index
         ensures { result.places ≡ [] }
     {
         Index {
@@ -49,7 +50,7 @@ impl<P: Drop> Index<P> {
         }
     }
 
-    pub(crate) fn as_slice(&self) -> &[P]
+    pub(crate) fn as_slice(&self) -> &[Place]
         ensures { result.now ≡ self.now.places }
     {
         &self.slots[self.gone..]
@@ -88,7 +89,7 @@ impl<P: Drop> Index<P> {
     }
 
     /// Adds a place, for which there is room.
-    pub(crate) fn insert(&mut self, at: usize, place: P)
+    pub(crate) fn insert(&mut self, at: usize, place: Place)
         requires within { at ≤ length self.old.places }
         requires room { 0 < self.old.room }
         ensures places { self.new.places ≡ insert self.old.places at place }

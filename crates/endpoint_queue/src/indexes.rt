@@ -3,7 +3,6 @@ ghost use Rattle.endpoint_queue.specs.Places.{attach_of, number_key, notice_key}
 ghost use Rattle.endpoint_queue.specs.IndexChanges.{AddsKey, CanTake, HasKey, TakesOutKey};
 
 use crate::index::Index;
-use crate::noted::{Noted, add_noted, take_noted};
 use crate::place::{Place, add_place, take_place};
 use linx_base::{Item, Kind};
 use std::alloc::{AllocError, Global};
@@ -12,8 +11,8 @@ use std::alloc::{AllocError, Global};
 /// attach.
 #[derive(Drop)]
 pub(crate) struct Indexes {
-    pub(crate) numbers: Index<Place>,
-    pub(crate) notices: Index<Noted>,
+    pub(crate) numbers: Index,
+    pub(crate) notices: Index,
 }
 
 impl Indexes {
@@ -59,7 +58,7 @@ impl Indexes {
         ensures numbers { AddsKey (number_key item.now) ticket self.old.numbers self.new.numbers }
         ensures notices { AddsKey (notice_key item.now) ticket self.old.notices self.new.notices }
     {
-        let number = item.signal.number();
+        let number = item.signal.number() as u64;
         add_place(&mut self.numbers, Place { number, ticket });
         note(&mut self.notices, item.kind, ticket);
     }
@@ -73,28 +72,40 @@ impl Indexes {
         ensures notices { TakesOutKey (notice_key item.now) ticket self.old.notices
             self.new.notices }
     {
-        let number = item.signal.number();
+        let number = item.signal.number() as u64;
         take_place(&mut self.numbers, &Place { number, ticket });
         forget(&mut self.notices, item.kind, ticket);
     }
 }
 
 /// Adds the place of a notice, if it is one.
-fn note(notices: &mut Index<Noted>, kind: Kind, ticket: u64)
+fn note(notices: &mut Index, kind: Kind, ticket: u64)
     requires { CanTake notices.old ticket }
     ensures { AddsKey (attach_of kind) ticket notices.old notices.new }
 {
     if let Kind::Notice(attach) = kind {
-        add_noted(notices, Noted::of(attach, ticket));
+        add_place(
+            notices,
+            Place {
+                number: attach.0,
+                ticket,
+            },
+        );
     }
 }
 
 /// Takes out the place of a notice, if it is one.
-fn forget(notices: &mut Index<Noted>, kind: Kind, ticket: u64)
+fn forget(notices: &mut Index, kind: Kind, ticket: u64)
     requires { HasKey (attach_of kind) ticket notices.old }
     ensures { TakesOutKey (attach_of kind) ticket notices.old notices.new }
 {
     if let Kind::Notice(attach) = kind {
-        take_noted(notices, &Noted::of(attach, ticket));
+        take_place(
+            notices,
+            &Place {
+                number: attach.0,
+                ticket,
+            },
+        );
     }
 }

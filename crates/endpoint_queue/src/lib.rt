@@ -7,9 +7,13 @@
 
 mod index;
 mod indexes;
-mod noted;
 mod place;
 mod queue;
+
+pub use linx_base::{Item, Kind};
+pub use place::Place;
+pub use queue::Queue;
+
 #[cfg(test)]
 mod tests;
 

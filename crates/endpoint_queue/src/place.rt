@@ -1,16 +1,18 @@
 ghost use Rattle.std.specs.Prelude.{◌≡◌, ◌==◌, ◌≤◌, true, false, length};
 ghost use Rattle.std.specs.List.{AllPairs};
 ghost use Rattle.std.specs.List.Sorted.{IsPartitionPoint};
-ghost use Rattle.endpoint_queue.specs.Places.{IsBefore, IsLeastTicket, is_before, is_listed};
-ghost use Rattle.endpoint_queue.specs.Places.{lower_of};
+ghost use Rattle.sigsel.specs.Selects.{selects};
+ghost use Rattle.sigsel.specs.declared.sigsel.Sigsel.TheVariants.{Only};
+ghost use Rattle.endpoint_queue.specs.Places.{IsBefore, IsLeastTicket, is_before, lower_of};
 ghost use Rattle.endpoint_queue.specs.IndexChanges.{Adds, CanTake, Has, TakesOut};
 
 use crate::index::Index;
 
-/// Where an item stands in the index of a queue: its signal's number, then its ticket.
+/// Where an item stands in an index of a queue: the number that it is found by, its signal's or its
+/// attach's, then its ticket.
 #[derive(Clone, Copy, Debug, PartialEq, Eq, Hash)]
 pub struct Place {
-    pub number: u32,
+    pub number: u64,
     pub ticket: u64,
 }
 
@@ -31,7 +33,7 @@ fn count_before(places: &[Place], place: &Place) -> usize
 }
 
 /// Adds a place, whose ticket is above all others, and for which there is room.
-pub(crate) fn add_place(index: &mut Index<Place>, place: Place)
+pub(crate) fn add_place(index: &mut Index, place: Place)
     requires { CanTake index.old place.ticket }
     ensures { Adds place index.old index.new }
 {
@@ -40,7 +42,7 @@ pub(crate) fn add_place(index: &mut Index<Place>, place: Place)
 }
 
 /// Takes out a place.
-pub(crate) fn take_place(index: &mut Index<Place>, place: &Place)
+pub(crate) fn take_place(index: &mut Index, place: &Place)
     requires { Has place.now index.old }
     ensures { TakesOut place.now index.old index.new }
 {
@@ -49,7 +51,7 @@ pub(crate) fn take_place(index: &mut Index<Place>, place: &Place)
 }
 
 /// The ticket of the first item of a number.
-fn first_ticket(places: &[Place], number: u32) -> Option<u64>
+pub(crate) fn first_ticket(places: &[Place], number: u64) -> Option<u64>
     requires { AllPairs IsBefore places.now }
     ensures { IsLeastTicket (λ n. number == n) places.now result }
 {
@@ -70,14 +72,14 @@ fn lower_of(one: Option<u64>, other: Option<u64>) -> Option<u64>
     }
 }
 
-/// The least ticket of the listed numbers. It looks at one place of each listed number.
+/// The least ticket of the listed numbers. It searches once for each listed number.
 pub(crate) fn least_ticket(places: &[Place], listed: &[u32]) -> Option<u64>
     requires { AllPairs IsBefore places.now }
-    ensures { IsLeastTicket (is_listed listed.now) places.now result }
+    ensures { IsLeastTicket (selects (Only listed.now)) places.now result }
 {
     let mut least = None;
     for number in listed {
-        least = lower_of(least, first_ticket(places, *number));
+        least = lower_of(least, first_ticket(places, *number as u64));
     }
     least
 }

@@ -10,8 +10,7 @@ ghost use Rattle.linx_base.specs.FirstMatch.{TakesEarliest, first_match, without
 ghost use Rattle.linx_base.specs.FirstMatch.{without_beside};
 
 use crate::indexes::Indexes;
-use crate::noted::noted_ticket;
-use crate::place::{Place, least_ticket};
+use crate::place::{Place, first_ticket, least_ticket};
 use linx_base::{AttRef, Item, NoMemory};
 use sigsel::Sigsel;
 use std::alloc::Global;
@@ -122,10 +121,11 @@ fn ticketed(
 }
 
 impl Queue {
-    ghost use Rattle.endpoint_queue.specs.Places.{AreTickets, IsBefore, is_listed, places_of};
+    ghost use Rattle.endpoint_queue.specs.Places.{AreTickets, IsBefore, places_of};
     ghost use Rattle.endpoint_queue.specs.QueueContent.{next_for, tickets_for};
     ghost use Rattle.sigsel.specs.Selection.{first_selected, is_notice_of, is_selected};
     ghost use Rattle.sigsel.specs.Selection.{without_first};
+    ghost use Rattle.sigsel.specs.declared.sigsel.Sigsel.TheVariants.{Only};
 
     /// The empty queue. It takes no memory.
     pub fn new(alloc: Global) -> Queue
@@ -184,8 +184,7 @@ impl Queue {
 
     /// The position of the first item of a listed number.
     fn first_listed(&self, listed: &[u32]) -> Option<usize>
-        ensures { result ≡ position (λ item. is_listed listed.now item.signal.number)
-            self.now.items }
+        ensures { result ≡ position (is_selected (Only listed.now)) self.now.items }
     {
         let ticket = least_ticket(self.indexes.numbers.as_slice(), listed)?;
         self.tickets.binary_search(&ticket).ok()
@@ -210,7 +209,7 @@ impl Queue {
     fn notice_position(&self, attach: AttRef) -> Option<usize>
         ensures { result ≡ position (is_notice_of attach) self.now.items }
     {
-        let ticket = noted_ticket(self.indexes.notices.as_slice(), attach)?;
+        let ticket = first_ticket(self.indexes.notices.as_slice(), attach.0)?;
         self.tickets.binary_search(&ticket).ok()
     }
 
@@ -278,6 +277,7 @@ impl Queue {
     pub fn take_last(&mut self) -> Option<Item>
         ensures item { result ≡ slice_get self.old.items (length self.old.items - 1) }
         ensures others { self.new.items ≡ take (length self.old.items - 1) self.old.items }
+        ensures tickets { self.new.tickets ≡ take (length self.old.items - 1) self.old.tickets }
         ensures counts { (self.new.next ≡ self.old.next) × (self.new.spare ≡ self.old.spare) }
     {
         if self.items.is_empty() {

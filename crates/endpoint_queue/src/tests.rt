@@ -17,7 +17,7 @@ fn numbers(alloc: Global, listed: &[u32]) -> Result<Numbers, Fail> {
     Ok(Numbers::of(listed.to_vec(alloc)?))
 }
 
-fn place(number: u32, ticket: u64) -> Place {
+fn place(number: u64, ticket: u64) -> Place {
     Place { number, ticket }
 }
 
@@ -55,6 +55,23 @@ struct Listed {
     number: u32,
     step: u64,
     is_notice: bool,
+}
+
+/// An item that comes, and its entry in the plain list: each kind of item, of eight numbers.
+fn arrival(alloc: Global, random: u64, step: u64) -> Result<(Item, Listed), Fail> {
+    let number = (random % 8) as u32;
+    let kind = match random / 8 % 4 {
+        0 | 1 => Kind::Notice(AttRef(step)),
+        2 => Kind::Found(step),
+        _ => Kind::Plain,
+    };
+    let is_notice = kind == Kind::Notice(AttRef(step));
+    let listed = Listed {
+        number,
+        step,
+        is_notice,
+    };
+    Ok((item(alloc, number, kind, step)?, listed))
 }
 
 /// The place of the first that passes, by a scan.
@@ -99,6 +116,32 @@ fn filter_of(alloc: Global, random: u64) -> Result<Sigsel, Fail> {
     })
 }
 
+/// One to four items come, for which room is made at once.
+fn put_some(queue: &mut Queue, list: &mut Vec<Listed>, random: u64, step: u64) -> Result<(), Fail> {
+    let alloc = *list.allocator();
+    queue.reserve(4)?;
+    for k in 0..random / 512 % 4 + 1 {
+        queue.reserve(1)?;
+        let (item, listed) = arrival(alloc, random / (k + 1), step * 4 + k)?;
+        queue.put(item);
+        list.push(listed)?;
+    }
+    Ok(())
+}
+
+/// The place of the notice of an attach, by a scan.
+fn noted(list: &[Listed], attach: u64) -> Option<usize> {
+    list.iter()
+        .position(|listed| listed.is_notice && listed.step == attach)
+}
+
+/// The next of a sequence of numbers of no use.
+fn next_random(random: u64) -> u64 {
+    let random = random ^ random << 13;
+    let random = random ^ random >> 7;
+    random ^ random << 17
+}
+
 #[test]
 fn a_thousand_calls_answer_as_a_scanned_list_does(rt: HostRuntime) -> Result<(), Fail> {
     let alloc = rt.alloc();
@@ -106,38 +149,20 @@ fn a_thousand_calls_answer_as_a_scanned_list_does(rt: HostRuntime) -> Result<(),
     let mut list: Vec<Listed> = Vec::new(alloc);
     let mut random: u64 = 88_172_645_463_325_252;
     for step in 0..1_000u64 {
-        random ^= random << 13;
-        random ^= random >> 7;
-        random ^= random << 17;
+        random = next_random(random);
         let chosen = random / 1_024;
         match random % 8 {
-            0 | 1 | 2 | 3 => {
-                let number = (chosen % 8) as u32;
-                let is_notice = chosen / 8 % 2 == 0;
-                let kind = if is_notice {
-                    Kind::Notice(AttRef(step))
-                } else {
-                    Kind::Plain
-                };
-                queue.reserve(1)?;
-                queue.put(item(alloc, number, kind, step)?);
-                list.push(Listed {
-                    number,
-                    step,
-                    is_notice,
-                })?;
+            0 | 1 => put_some(&mut queue, &mut list, chosen, step)?,
+            2 => {
+                let wanted = list.pop().map(|listed| listed.step);
+                assert_eq!(rt; step_of(queue.take_last()), wanted, "at {step}");
             }
-            4 => {
-                let attach = chosen % (step + 1);
-                let at = list
-                    .iter()
-                    .position(|listed| listed.is_notice && listed.step == attach);
+            3 => {
+                let attach = chosen % (step * 4 + 1);
+                let at = noted(&list, attach);
                 let wanted = taken_from(&mut list, at);
-                assert_eq!(rt;
-                    step_of(queue.remove_ref(AttRef(attach))),
-                    wanted,
-                    "at {step}"
-                );
+                let removed = queue.remove_ref(AttRef(attach));
+                assert_eq!(rt; step_of(removed), wanted, "at {step}");
             }
             _ => {
                 let filter = filter_of(alloc, chosen)?;

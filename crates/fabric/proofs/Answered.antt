@@ -1,29 +1,24 @@
 -- What a node that is told of a packet answers is what a packet of a run makes of its trunk.
-use Rattle.std.proofs.Common.{◌≡◌, ℕ, Bool, true, false, cond, List, [], ◌∷◌, ◌++◌, Option, Some}
+use Rattle.std.proofs.Common.{◌≡◌, ℕ, List, Option, Some}
 use Rattle.std.proofs.Common.{None, refl, ◌∙◌, ap}
-use Rattle.std.specs.Prelude.{◌==◌}
-use Rattle.std.specs.List.{cons_option, filter_map}
+use Rattle.linx_base.specs.Pending.{names_over}
 use Rattle.linx_base.specs.declared.identity.Inc.{Inc}
 use Rattle.linx_base.specs.declared.identity.LinkNo.{LinkNo}
 use Rattle.linx_base.specs.declared.identity.NodeNo.{NodeNo}
 use Rattle.linx_base.specs.declared.identity.Side.{Side}
-use Rattle.linx_base.specs.declared.name.Path.{Path}
-use Rattle.linx_base.specs.declared.name.Path.TheVariants.{Local, Over}
-use Rattle.linx_base.specs.declared.pending.PendingHunt.{PendingHunt}
 use Rattle.journal.specs.declared.effect.Step.{Step}
 use Rattle.journal.specs.History.{open_endpoints}
 use Rattle.journal.specs.Pending.{hunting}
 use Rattle.link_laws.specs.Brought.{Brought, arrives, brought_at, goes_down, goes_up, meets}
 use Rattle.link_laws.specs.Brought.{nothing, parts}
-use Rattle.node_kernel.specs.Nodes.{first_named, name_over, names_over}
+use Rattle.node_kernel.specs.Nodes.{first_named}
 use Rattle.run_trunks.specs.Changes.{at_link}
 use Rattle.run_trunks.proofs.Rested.{changes-again}
 use Rattle.trunk.specs.Events.{TrunkState, published_at}
 use Rattle.trunk.specs.declared.up.TrunkUp.{TrunkUp}
 use Rattle.trunk.specs.declared.up.TrunkUp.TheVariants.{Nothing, WentUp, WentDown, Arrived, Met}
 use Rattle.trunk.specs.declared.up.TrunkUp.TheVariants.{Gone, Asked}
-use Rattle.trunk_moves.specs.Packets.{answered, asks_for, holder_of, name_over as name_there}
-use Rattle.trunk_moves.specs.Packets.{publishes_if}
+use Rattle.trunk_moves.specs.Packets.{answered, asks_for, holder_of, publishes_if}
 use Rattle.fabric.specs.declared.bringing.At.{At}
 use Rattle.fabric.specs.Bringings.{answers_told, brought_on, publishes_over}
 use Rattle.fabric.specs.Remains.{node_left}
@@ -38,24 +33,6 @@ brought-on P node l (goes_down x) = refl
 brought-on P node l (arrives x a b note) = refl
 brought-on P node l (meets x a name) = refl
 brought-on P node l (parts x a) = refl
-
--- THE NAMES that are hunted for over a link
-one-over : (l : LinkNo) (path : Path) (names : List (List ℕ))
-    → name_over l path ++ names ≡ cons_option (name_there l path) names
-one-over l (Local name) names = refl
-one-over l (Over m name) names = by_test (m.0 == l.0)
-  where
-    by_test : (here : Bool)
-        → cond here (name ∷ []) [] ++ names ≡ cons_option (cond here (Some name) None) names
-    by_test true = refl
-    by_test false = refl
-
-pub names-over : (l : LinkNo) (hunts : List PendingHunt)
-    → names_over l hunts ≡ filter_map (λ (h : PendingHunt). name_there l h.path) hunts
-names-over l [] = refl
-names-over l (h ∷ hunts) =
-    ap (λ (names : List (List ℕ)). name_over l h.path ++ names) (names-over l hunts)
-    ∙ one-over l h.path (filter_map (λ (k : PendingHunt). name_there l k.path) hunts)
 
 -- THE ENDPOINT of a name
 pub holder-is : (P : List Step) (node : NodeNo) (name : List ℕ)
@@ -76,9 +53,7 @@ module _ (P : List Step) (node : NodeNo) (l : LinkNo) (side : Side)
       ≡ at_link l (λ t. answered P node.0 l side up (first t)) ts
   answers-are at there by Nothing = refl
   answers-are at there by (WentUp session peer) = rw (there, by)
-      (changes-again l first (asks_for side (names_over l (hunting P node.0))) ts
-      ∙ ap (λ (names : List (List ℕ)). at_link l (λ t. asks_for side names (first t)) ts)
-      (names-over l (hunting P node.0)))
+      (changes-again l first (asks_for side (names_over l (hunting P node.0))) ts)
   answers-are at there by (WentDown session) = refl
   answers-are at there by (Arrived a b note) = refl
   answers-are at there by (Met i name) = refl

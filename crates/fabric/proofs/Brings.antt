@@ -26,7 +26,8 @@ use Rattle.journal.specs.declared.effect.Effect.TheVariants.{Arrived, Down, Gone
 use Rattle.journal.specs.declared.head.Head.{Head}
 use Rattle.journal.specs.declared.head.Head.TheVariants.{Restart, Tick, Wire}
 use Rattle.journal.specs.Effects.{closings, founds, hunts_for, losing, meeting, notices, parting}
-use Rattle.journal.specs.Living.{is_of_session, living_after}
+use Rattle.linx_base.specs.Pending.{is_of_session}
+use Rattle.journal.specs.Living.{living_after}
 use Rattle.journal.specs.Pending.{answers_hunt, attach_in, detaches, ends_hunt, hunt_in, hunts_past}
 use Rattle.journal.specs.Pending.{notifies, owed_past, settles}
 use Rattle.journal.proofs.Lists.{all-impl}

@@ -41,7 +41,8 @@ use Rattle.journal.specs.Effects.{arrivals_of, attached, closings, ending, found
 use Rattle.journal.specs.Effects.{held_elsewhere, hunted, hunts_for, notice, notices}
 use Rattle.journal.specs.History.{closes, endpoint_by, open_endpoints, opened_by, opens}
 use Rattle.journal.specs.Laws.{attaching, effects_by, hunting_by, sending}
-use Rattle.journal.specs.Living.{find, is_alive, is_of_session, living_after}
+use Rattle.linx_base.specs.Pending.{is_of_session}
+use Rattle.journal.specs.Living.{find, is_alive, living_after}
 use Rattle.journal.specs.Pending.{answers_hunt, attach_at, attach_in, cancels, detaches, ends_hunt}
 use Rattle.journal.specs.Pending.{hunt_at, hunt_in, hunting, hunts_past, is_own_attach, notifies}
 use Rattle.journal.specs.Pending.{owed, owed_past, settles}

@@ -36,7 +36,8 @@ use Rattle.journal.specs.Effects.{arrivals_of, attached, closings, ending, found
 use Rattle.journal.specs.Effects.{held_elsewhere, hunted, hunts_for, notice, notices}
 use Rattle.journal.specs.History.{endpoint_by, open_endpoints}
 use Rattle.journal.specs.Laws.{attaching, effects_by, hunting_by, sending}
-use Rattle.journal.specs.Living.{find, is_alive, is_of_session, living, living_after}
+use Rattle.linx_base.specs.Pending.{is_of_session}
+use Rattle.journal.specs.Living.{find, is_alive, living, living_after}
 use Rattle.journal.specs.Pending.{hunting, owed}
 use Rattle.journal.specs.Sessions.{session_after, session_past, up_session}
 use Rattle.journal.specs.Shapes.{Shape, node_by}

@@ -24,7 +24,7 @@ use Rattle.journal.specs.declared.head.Head.TheVariants as heads
 use Rattle.journal.specs.Effects.{notices, founds}
 use Rattle.journal.specs.History.{endpoint_of, is_by, is_end}
 use Rattle.journal.specs.Laws.{IsMaker}
-use Rattle.journal.specs.Living.{is_of_session}
+use Rattle.linx_base.specs.Pending.{is_of_session}
 use Rattle.journal.specs.Logs.{Log, step_limit}
 use Rattle.journal.specs.Pending.{hunting, owed}
 use Rattle.journal.specs.Rest.{waits_in}

@@ -2,7 +2,8 @@
 use Rattle.std.proofs.Common.{◌≡◌, ℕ, List, Option, Some, None, ◌∙◌, ap}
 use Rattle.linx_base.specs.declared.frame.LinkDecl.{LinkDecl}
 use Rattle.linx_base.specs.declared.identity.Inc.{Inc}
-use Rattle.node_kernel.specs.Nodes.{NodeState, first_named, names_over}
+use Rattle.linx_base.specs.Pending.{names_over}
+use Rattle.node_kernel.specs.Nodes.{NodeState, first_named}
 use Rattle.run_trunks.specs.States.{OnlyChangedAt, TrunksState, kept_at, resting}
 use Rattle.run_trunks.proofs.Rested.{changes-there, keeps-all}
 use Rattle.trunk.specs.Events.{TrunkState, published_at}

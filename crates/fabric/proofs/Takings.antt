@@ -18,7 +18,8 @@ use Rattle.journal.specs.declared.head.Detached.{Detached}
 use Rattle.journal.specs.declared.head.Detached.TheVariants.{Pending, Queued, None as Neither}
 use Rattle.journal.specs.declared.head.Head.{Head}
 use Rattle.journal.specs.declared.head.Head.TheVariants.{Take, Detach}
-use Rattle.journal.specs.Pending.{is_attach, settles}
+use Rattle.linx_base.specs.Pending.{is_attach}
+use Rattle.journal.specs.Pending.{settles}
 use Rattle.journal.specs.Queues.{left_by, queued}
 use Rattle.journal.proofs.Openings.{Rising, same_inc-refl, same_inc-true}
 use Rattle.journal.proofs.Queueing.{left-take}

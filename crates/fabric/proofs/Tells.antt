@@ -3,6 +3,8 @@ use Rattle.std.proofs.Common.{ℕ, ◌≡◌, ◌+◌, ◌-◌, Bool, true, fals
 use Rattle.std.proofs.Common.{Some, None, refl, sym, ◌∙◌, ap, subst}
 use Rattle.std.specs.Prelude.{slice_get}
 use Rattle.std.proofs.lemmas.Bool.{true≢false}
+use Rattle.std.proofs.lemmas.List.{take_more}
+use Rattle.std.proofs.lemmas.Option.{get_or_from_slice_get, slice_get_within}
 use Rattle.linx_base.specs.declared.identity.Inc.{Inc}
 use Rattle.linx_base.specs.declared.identity.LinkNo.{LinkNo}
 use Rattle.linx_base.specs.declared.identity.NodeNo.{NodeNo}
@@ -14,7 +16,6 @@ use Rattle.linx_base.specs.declared.signal.SigNote.{SigNote}
 use Rattle.rlnh_messages.specs.Signals.{IsSignal}
 use Rattle.journal.specs.History.{name_or_none}
 use Rattle.node_kernel.specs.Nodes.{NodeState, OpenEndpoint, is_at, is_living, is_open, name_at}
-use Rattle.node_kernel.proofs.Gathering.{read_more}
 use Rattle.run_trunks.specs.Changes.{at_link}
 use Rattle.run_trunks.specs.States.{TrunksState, over, trunk_at, trunks_of}
 use Rattle.run_trunks.proofs.Rested.{changes-again}
@@ -29,6 +30,13 @@ asks-last : (side : Side) (names : List (List ℕ)) (v : List ℕ) (t : TrunkSta
     → asks_for side (names ++ v ∷ []) t ≡ asked_at side v (asks_for side names t)
 asks-last side [] v t = refl
 asks-last side (w ∷ names) v t = asks-last side names v (asked_at side w t)
+
+-- one more element is read
+read_more : {X : Type 0} (xs : List X) (k : ℕ) (x : X) → slice_get xs k ≡ Some x
+    → take (k + 1) xs ≡ take k xs ++ x ∷ []
+read_more xs k x is =
+    take_more xs k x (slice_get_within xs k x is)
+    ∙ ap (λ y. take k xs ++ y ∷ []) (get_or_from_slice_get xs k x x is)
 
 -- THE NAMES that are asked for over a link, one after the other: one more
 module _ (l : LinkNo) (side : Side) (ts : List TrunkState) (names : List (List ℕ)) where

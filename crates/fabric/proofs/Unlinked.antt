@@ -21,7 +21,7 @@ use Rattle.journal.specs.declared.head.Head.{Head}
 use Rattle.journal.specs.declared.head.Head.TheVariants.{Restart, Tick, Wire}
 use Rattle.journal.specs.Effects.{closings, hunts_for, losing, notices}
 use Rattle.journal.specs.History.{endpoint_by, open_endpoints}
-use Rattle.journal.specs.Living.{is_of_session}
+use Rattle.linx_base.specs.Pending.{is_of_session}
 use Rattle.journal.specs.Pending.{hunting, owed}
 use Rattle.journal.specs.Sessions.{session_past, up_session}
 use Rattle.journal.specs.Shapes.{Shape, node_by}

@@ -19,7 +19,8 @@ use Rattle.journal.specs.declared.effect.Effect.{Effect}
 use Rattle.journal.specs.declared.effect.Effect.TheVariants.{Arrived, Up}
 use Rattle.link_laws.specs.Brought.{Brought, arrives, goes_down, goes_up, meets, nothing, parts}
 use Rattle.link_laws.specs.Ends.{node_at}
-use Rattle.node_kernel.specs.Nodes.{NodeState, first_named, is_open, names_over}
+use Rattle.linx_base.specs.Pending.{names_over}
+use Rattle.node_kernel.specs.Nodes.{NodeState, first_named, is_open}
 use Rattle.run_trunks.specs.Changes.{at_link}
 use Rattle.rlnh_end.specs.declared.heard.Heard.{Heard}
 use Rattle.run_trunks.specs.States.{TrunksState, resting, trunks_of}

@@ -1,2 +1,1 @@
-pub mod Hunts
 pub mod Keys

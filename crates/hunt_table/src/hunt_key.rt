@@ -1,8 +1,8 @@
-ghost use Rattle.std.specs.Prelude.{◌≡◌};
+ghost use Rattle.std.specs.Prelude.{◌≡◌, is_some};
 ghost use Rattle.keyed_list.specs.Keys.{is_under};
-ghost use Rattle.hunt_table.specs.Hunts.{is_for};
-ghost use Rattle.hunt_table.specs.Keys.{path_key, link_key, keys_of};
+ghost use Rattle.linx_base.specs.Pending.{is_for, name_over};
 ghost use Rattle.linx_base.specs.declared.pending.PendingHunt.{PendingHunt as Hunt};
+ghost use Rattle.hunt_table.specs.Keys.{path_key, link_key, keys_of};
 
 use keyed_list::Keyed;
 use linx_base::{Inc, LinkNo, Path, PendingHunt};
@@ -10,7 +10,7 @@ use name_key::NameKey;
 
 /// By what a hunt is found: its path, the link that this goes over, and the hunter.
 #[derive(PartialEq, Eq, PartialOrd, Ord, Drop)]
-pub(crate) enum HuntKey {
+pub enum HuntKey {
     Local(NameKey),
     Over { link: LinkNo, name: NameKey },
     Link(LinkNo),
@@ -30,6 +30,14 @@ pub(crate) fn path_key(path: &Path) -> HuntKey
             name: NameKey::of(name),
         },
     }
+}
+
+/// The key of the hunts over a link.
+pub(crate) fn over_key(link: LinkNo) -> HuntKey
+    ensures { (hunt : Hunt) → is_under ⟦<HuntKey as Ord>⟧.cmp keys_of result hunt
+        ≡ is_some (name_over link hunt.path) }
+{
+    HuntKey::Link(link)
 }
 
 /// The key of the hunts over the link of a path, `None` exactly where it goes over none.

@@ -1,10 +1,10 @@
 ghost use Rattle.std.specs.Prelude.{◌≡◌, [], ◌∷◌, ◌++◌, not, filter, slice_get, OnOk, OnErr, IfErr};
 ghost use Rattle.std.specs.Option.{option_copied};
-ghost use Rattle.linx_base.specs.FirstMatch.{first_match, without_match};
-ghost use Rattle.hunt_table.specs.Hunts.{is_for, is_of, hunted_name, names_over};
+ghost use Rattle.linx_base.specs.Peers.{same_inc};
+ghost use Rattle.linx_base.specs.Pending.{is_for, name_over, names_over};
 
-use crate::hunt_key::{HuntKey, path_key};
-use keyed_list::KeyedList;
+use crate::hunt_key::{HuntKey, over_key, path_key};
+use keyed_list::{KeyedList, Under};
 use linx_base::{Inc, LinkNo, Name, NoMemory, Path, PendingHunt};
 use std::alloc::Global;
 use std::marker::Model;
@@ -24,13 +24,16 @@ impl Model for HuntTable {
     ghost view = { λ t. t.hunts };
 }
 
-/// The name that a path ends with.
-fn name_of(path: &Path) -> &Name
-    ensures { result.now ≡ hunted_name path.now }
+/// A walk over hunts of a table, in order of hunting.
+pub type HuntsUnder<'a> = Under<'a, PendingHunt, HuntKey>;
+
+/// The name that a path has over a link.
+fn name_over(link: LinkNo, path: &Path) -> Option<&Name>
+    ensures { option_copied result ≡ name_over link path.now }
 {
     match path {
-        Path::Local(name) => name,
-        Path::Over { name, .. } => name,
+        Path::Local(_) => None,
+        Path::Over { link: over, name } => { if over.0 == link.0 { Some(name) } else { None } }
     }
 }
 
@@ -53,20 +56,11 @@ impl HuntTable {
         self.hunts.push(hunt)
     }
 
-    /// Takes out the earliest hunt for a path. `None` exactly where there is none. It takes no
-    /// memory.
-    pub fn next_for(&mut self, path: &Path) -> Option<PendingHunt>
-        ensures earliest { result ≡ first_match (is_for path.now) self.old }
-        ensures others { self.new ≡ without_match (is_for path.now) self.old }
+    /// The hunts for a path, in order.
+    pub fn hunts_for(&self, path: &Path) -> HuntsUnder<'_>
+        ensures { result ≡ filter (is_for path.now) self.now }
     {
-        self.hunts.take_first(path_key(path))
-    }
-
-    /// The k-th hunt for a path, from 0. `None` exactly where there are at most k.
-    pub fn nth_for(&self, path: &Path, k: usize) -> Option<&PendingHunt>
-        ensures { option_copied result ≡ slice_get (filter (is_for path.now) self.now) k }
-    {
-        self.hunts.nth(path_key(path), k)
+        self.hunts.under(path_key(path))
     }
 
     /// The name of the k-th hunt, from 0, whose path goes over a link. `None` exactly where there
@@ -74,14 +68,21 @@ impl HuntTable {
     pub fn nth_over(&self, link: LinkNo, k: usize) -> Option<&Name>
         ensures { option_copied result ≡ slice_get (names_over link self.now) k }
     {
-        let hunt = self.hunts.nth(HuntKey::Link(link), k)?;
-        Some(name_of(&hunt.path))
+        let hunt = self.hunts.nth(over_key(link), k)?;
+        name_over(link, &hunt.path)
     }
 
-    /// Frees the hunts of an endpoint. It takes no memory.
-    pub fn drop_of(&mut self, inc: Inc)
-        ensures { self.new ≡ filter (λ hunt. not (is_of inc hunt)) self.old }
+    /// Frees the hunts for a path. It takes no memory.
+    pub fn drop_for(&mut self, path: &Path)
+        ensures { self.new ≡ filter (λ hunt. not (is_for path.now hunt)) self.old }
     {
-        self.hunts.drop_all(HuntKey::Hunter(inc));
+        self.hunts.drop_all(path_key(path));
+    }
+
+    /// Frees the hunts of a hunter. It takes no memory.
+    pub fn drop_of(&mut self, hunter: Inc)
+        ensures { self.new ≡ filter (λ hunt. not (same_inc hunter hunt.at)) self.old }
+    {
+        self.hunts.drop_all(HuntKey::Hunter(hunter));
     }
 }

@@ -2,7 +2,8 @@
 use Rattle.std.specs.Prelude.{ℕ, Bool, true, false, not, List, [], ◌∷◌, map, filter, Option, Some}
 use Rattle.std.specs.Prelude.{None}
 use Rattle.linx_base.specs.Content.{with_reason}
-use Rattle.linx_base.specs.Peers.{same_inc, same_path, same_peer}
+use Rattle.linx_base.specs.Peers.{same_inc, same_peer}
+use Rattle.linx_base.specs.Pending.{is_for, is_of_session}
 use Rattle.linx_base.specs.declared.identity.Inc.{Inc}
 use Rattle.linx_base.specs.declared.identity.LinkNo.{LinkNo}
 use Rattle.linx_base.specs.declared.identity.NodeNo.{NodeNo}
@@ -23,11 +24,10 @@ use Rattle.journal.specs.declared.head.SentTo.TheVariants as sent_to
 use Rattle.journal.specs.declared.effect.Effect.{Effect}
 use Rattle.journal.specs.declared.effect.Effect.TheVariants.{Opened, Closed, Arrived, Found}
 use Rattle.journal.specs.declared.effect.Effect.TheVariants.{Notified, Met, Gone, Down}
-use Rattle.journal.specs.Living.{is_of_session}
 
 -- the hunts for a path
 abbrev pub hunts_for : Path → List PendingHunt → List PendingHunt
-hunts_for path hunts = filter (λ h. same_path path h.path) hunts
+hunts_for path hunts = filter (is_for path) hunts
 
 -- the answer to a hunt: it found a peer
 abbrev pub found : Peer → PendingHunt → Effect

@@ -23,7 +23,8 @@ use Rattle.journal.specs.Effects.{opening, ending, arrivals_of, hunted, attached
 use Rattle.journal.specs.Effects.{send_answer, detach_answer}
 use Rattle.journal.specs.History.{endpoint_by, has_ended, next_inc, open_endpoints, opened_on}
 use Rattle.journal.specs.Living.{find, is_alive}
-use Rattle.journal.specs.Pending.{hunting, is_attach, owed}
+use Rattle.linx_base.specs.Pending.{is_attach}
+use Rattle.journal.specs.Pending.{hunting, owed}
 use Rattle.journal.specs.Rest.{IsAtRest, queue_of, waits_with}
 use Rattle.journal.specs.Shapes.{Shape, node_by}
 
@@ -101,7 +102,8 @@ attaching P node (Some j) q note =
     attached (is_alive P node q)
     (record { at = j; peer = q; signal = note; reference = record { 0 = suc (length P) } })
 
--- THE EFFECTS of a step, by the node and the endpoint of its maker, and its head
+-- THE EFFECTS of a step, by the node and the endpoint of its maker, and its head. What a packet and
+-- a tick bring, and the sessions that go down at a restart, link_laws says
 abbrev pub effects_by : List Step → ℕ → Option Inc → Head → List Effect
 effects_by P node me (Open name) = opening (next_inc node (opened_on P node)) name (hunting P node)
 effects_by P node me Close = ending me (owed P node)
@@ -148,9 +150,8 @@ detached_as P node me r =
     detach_answer (is_owed P node me r) (list_any (is_notice_of r) (queue_of P me))
 
 -- LAW OF RECEIVING. A receive takes the earliest item that its filter selects; or it finds none,
--- and
--- then nothing is selected and all else is at rest; or it waits, and then nothing is selected and
--- its maker doesn't wait already. A detach cancels what is owed, or takes out what is queued
+-- and then nothing is selected and all else is at rest; or it waits, and then nothing is selected
+-- and its maker doesn't wait already. A detach cancels what is owed, or takes out what is queued
 abbrev pub KeepsReceives : Shape → List Step → ℕ → By → Option Inc → Head → Type 0
 KeepsReceives shape P node by me (Take filter position) =
     IsSomeAnd (first_selected filter (queue_of P me)) (λ item. item.pos ≡ position)
@@ -161,7 +162,8 @@ KeepsReceives shape P node by me (Waits filter) =
 KeepsReceives shape P node by me (Detach r answer) = answer ≡ detached_as P node me r
 KeepsReceives shape P node by me _ = Unit {0}
 
--- A step is legal after the steps P. As yet none is made on a link
+-- A step off the links is legal after the steps P. What is claimed of runs with links is claimed of
+-- `IsLegal` of link_laws, which has these laws too
 pub record IsLegalStep (shape : Shape) (P : List Step) (s : Step) : Type 0 where
   pub makers : KeepsMakers shape P s.by s.head
   pub endpoints : KeepsEndpoints (endpoint_by P s.by) s.head
@@ -171,7 +173,7 @@ pub record IsLegalStep (shape : Shape) (P : List Step) (s : Step) : Type 0 where
   pub receives : KeepsReceives shape P (node_by shape s.by) s.by (endpoint_by P s.by) s.head
   pub unlinked : is_on_link s.head ≡ false
 
--- a journal is legal: each step is, after the steps before it
+-- a journal of steps off the links is legal: each step is, after the steps before it
 abbrev pub IsLegal : Shape → List Step → Type 0
 IsLegal shape [] = Unit {0}
 IsLegal shape (s ∷ P) = IsLegal shape P × IsLegalStep shape P s

@@ -5,11 +5,11 @@ use Rattle.std.specs.List.{list_any, fold}
 use Rattle.std.specs.Str.{bytes_eq}
 use Rattle.linx_base.specs.FirstMatch.{first_match}
 use Rattle.linx_base.specs.Peers.{same_inc, same_peer}
+use Rattle.linx_base.specs.Pending.{is_of_session}
 use Rattle.linx_base.specs.declared.identity.Inc.{Inc}
 use Rattle.linx_base.specs.declared.identity.LinkNo.{LinkNo}
 use Rattle.linx_base.specs.declared.identity.Peer.{Peer}
 use Rattle.linx_base.specs.declared.identity.Peer.TheVariants.{Here, There}
-use Rattle.linx_base.specs.declared.identity.Session.{Session}
 use Rattle.linx_base.specs.declared.name.Path.{Path}
 use Rattle.linx_base.specs.declared.name.Path.TheVariants.{Local, Over}
 use Rattle.linx_base.specs.declared.pending.MetPeer.{MetPeer}
@@ -18,15 +18,10 @@ use Rattle.journal.specs.declared.effect.Effect.TheVariants.{Met, Gone, Down}
 use Rattle.journal.specs.declared.effect.Step.{Step}
 use Rattle.journal.specs.History.{open_endpoints, name_of}
 
--- a peer of this session of a link
-abbrev pub is_of_session : LinkNo → Session → Peer → Bool
-is_of_session l x (Here i) = false
-is_of_session l x (There m y i) = m.0 == l.0 && y.0 == x.0
-
 -- a peer over a link
-abbrev pub is_over : LinkNo → Peer → Bool
-is_over l (Here i) = false
-is_over l (There m y i) = m.0 == l.0
+abbrev pub is_peer_over : LinkNo → Peer → Bool
+is_peer_over l (Here i) = false
+is_peer_over l (There m y i) = m.0 == l.0
 
 -- the living peers of a node after an effect: it meets one, parts from one, or loses a session's
 abbrev pub living_after : ℕ → List MetPeer → Effect → List MetPeer
@@ -64,7 +59,7 @@ met_peer (Some m) = Some m.peer
 
 -- a met peer has this name, over this link
 abbrev pub is_named_over : LinkNo → List ℕ → MetPeer → Bool
-is_named_over l name m = is_over l m.peer && bytes_eq name m.name
+is_named_over l name m = is_peer_over l m.peer && bytes_eq name m.name
 
 -- what a path finds at a node: the first opened endpoint of the name that is open, or the first met
 -- peer of the name that lives

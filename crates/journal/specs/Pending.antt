@@ -5,6 +5,7 @@ use Rattle.std.specs.Prelude.{length, filter, Option, Some, None, if◌then◌el
 use Rattle.std.specs.List.{list_any}
 use Rattle.linx_base.specs.Numbers.{is_on}
 use Rattle.linx_base.specs.Peers.{same_inc}
+use Rattle.linx_base.specs.Pending.{is_attach}
 use Rattle.linx_base.specs.declared.identity.AttRef.{AttRef}
 use Rattle.linx_base.specs.declared.identity.Inc.{Inc}
 use Rattle.linx_base.specs.declared.identity.Peer.{Peer}
@@ -52,10 +53,6 @@ abbrev pub hunting : List Step → ℕ → List PendingHunt
 hunting [] node = []
 hunting (s ∷ P) node =
     hunts_past node (suc (length P)) (endpoint_by P s.by) s.head s.effects (hunting P node)
-
--- the attach has this holder and this reference
-abbrev pub is_attach : Inc → AttRef → PendingAttach → Bool
-is_attach j r a = same_inc j a.at && a.reference.0 == r.0
 
 -- the attach of this reference is one of the endpoint's own
 abbrev pub is_own_attach : Option Inc → AttRef → PendingAttach → Bool

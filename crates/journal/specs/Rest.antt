@@ -41,8 +41,8 @@ is_idle P k = waits_in_vain P (waits_with P k) (endpoint_of P k)
 abbrev pub leaves_at_rest : List Step → ℕ → ℕ → Bool
 leaves_at_rest P k other = has_ended P other || (is_idle P other && nat_lt k other)
 
--- An actor is at rest where every other one leaves it so, and no link is there to stir (links come
--- with their stage)
+-- An actor of a run without links is at rest where every other one leaves it so. Where there are
+-- links, link_laws says that each is still
 pub record IsAtRest (shape : Shape) (P : List Step) (k : ℕ) : Type 0 where
   pub others : (other : ℕ) → 0 < other → other ≤ length shape.actors → other ≢ k
       → leaves_at_rest P k other ≡ true

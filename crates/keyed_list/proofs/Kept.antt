@@ -1,8 +1,8 @@
 -- What each call leaves of a keyed list.
 use Rattle.std.proofs.Common.{◌≡◌, ℕ, ◌+◌, ◌<◌, Bool, true, false, cond, List, [], ◌∷◌, ◌++◌, refl}
 use Rattle.std.proofs.Common.{ap, sym, subst, ◌∙◌}
-use Rattle.std.specs.Prelude.{Some, None, slice_get, filter}
-use Rattle.std.specs.List.{AllByRecursion}
+use Rattle.std.specs.Prelude.{Some, None, is_some, slice_get, filter}
+use Rattle.std.specs.List.{AllByRecursion, list_any}
 use Rattle.std.specs.Map.{lookup, remove_entry, values_of}
 use Rattle.std.specs.declared.cmp.Ordering.{Ordering}
 use Rattle.std.specs.Ordering.{nat_cmp}
@@ -10,16 +10,18 @@ use Rattle.std.specs.Cmp.{IsTotalOrder}
 use Rattle.std.specs.BTreeMap.{is_at, insert_entry}
 use Rattle.std.proofs.lemmas.List.{map-append}
 use Rattle.linx_base.specs.FirstMatch.{first_match, without_match}
-use Rattle.sorted_set.specs.Sorted.{Ascends}
+use Rattle.sorted_set.specs.Sorted.{Ascends, elements_from}
 use Rattle.keyed_list.specs.declared.place.Place.{Place}
 use Rattle.keyed_list.specs.Keys.{is_under}
 use Rattle.keyed_list.specs.Places.{place_cmp, tickets_at, tickets_under, without_ticket, AreRising}
-use Rattle.keyed_list.specs.Places.{AreBelowTicket, IsIndexed, Noted, Forgot}
-use Rattle.keyed_list.proofs.Indexing.{unnoted}
+use Rattle.keyed_list.specs.Places.{AreBelowTicket, IsIndexed, Noted, Forgot, entries_at}
+use Rattle.keyed_list.specs.Places.{front_tickets}
+use Rattle.keyed_list.proofs.Indexing.{unnoted, front_under}
 use Rattle.keyed_list.proofs.Entries.{insert_last, below-more, rising-more, rising-remove}
 use Rattle.keyed_list.proofs.Entries.{tickets-more, tickets-remove, below-tickets, lookup_nth}
 use Rattle.keyed_list.proofs.Entries.{passing_none, passing_found, not_among, first_passing}
-use Rattle.keyed_list.proofs.Entries.{without_first, without_none_first}
+use Rattle.keyed_list.proofs.Entries.{without_first, without_none_first, entries_at-tickets}
+use Rattle.keyed_list.proofs.Entries.{tickets-some}
 
 module _ {T K : Type 0} (cmp : K → K → Ordering) (total : IsTotalOrder cmp) (keys : T → List K)
     (entries : List (ℕ × T)) (places : List (Place K)) (indexed : IsIndexed cmp keys entries places)
@@ -85,6 +87,22 @@ module _ {T K : Type 0} (cmp : K → K → Ordering) (total : IsTotalOrder cmp) 
       nth_some t some =
           lookup_nth (is_under cmp keys q) entries n t indexed.rising
           (sym (some ∙ ap (λ l. slice_get l n) (indexed.placed q)))
+
+    -- ALL ENTRIES under a key
+    module _ (q : K) where
+      pub all_under : entries_at entries (front_tickets cmp q
+          (elements_from (place_cmp cmp) (record { key = q; ticket = 0 }) places))
+          ≡ filter (is_under cmp keys q) (values_of entries)
+      all_under =
+          ap (entries_at entries) (front_under cmp total q places indexed.ordered
+          ∙ indexed.placed q)
+          ∙ entries_at-tickets (is_under cmp keys q) entries indexed.rising
+
+      pub any_under : is_some (slice_get (tickets_at cmp q places) 0)
+          ≡ list_any (is_under cmp keys q) (values_of entries)
+      any_under =
+          ap (λ l. is_some (slice_get l 0)) (indexed.placed q)
+          ∙ tickets-some (is_under cmp keys q) entries
 
     -- THE FIRST ENTRY under a key, taken out
     module _ (q : K) where

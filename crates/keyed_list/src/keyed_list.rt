@@ -1,5 +1,6 @@
 ghost use Rattle.std.specs.Prelude.{◌≡◌, [], ◌∷◌, ◌++◌, not, filter, ℕ, OnOk, OnErr, IfErr};
 ghost use Rattle.std.specs.Prelude.{slice_get};
+ghost use Rattle.std.specs.List.{list_any};
 ghost use Rattle.std.specs.Option.{option_copied};
 ghost use Rattle.std.specs.BTreeMap.{values};
 ghost use Rattle.linx_base.specs.FirstMatch.{first_match, without_match};
@@ -9,6 +10,7 @@ ghost use Rattle.keyed_list.specs.Places.{AreBelowTicket, IsIndexed};
 use crate::index::{forget, note, nth_ticket};
 use crate::keyed::Keyed;
 use crate::place::Place;
+use crate::under::Under;
 use linx_base::NoMemory;
 use sorted_set::SortedSet;
 use std::alloc::Global;
@@ -102,6 +104,28 @@ impl<T: Keyed<K>, K: Ord + Drop> KeyedList<T, K> {
         let from = Place { key, ticket: 0 };
         let ticket = nth_ticket(&self.places, &from, k)?;
         self.entries.get(&ticket)
+    }
+
+    /// The entries under a key, in order.
+    pub fn under(&self, key: K) -> Under<'_, T, K>
+        ensures { result ≡ filter (is_under K.cmp T.keys key) self.now }
+    {
+        let from = Place { key, ticket: 0 };
+        let places = self.places.rest_from(&from);
+        let Place { key, ticket: _ } = from;
+        Under {
+            entries: &self.entries,
+            places,
+            key,
+        }
+    }
+
+    /// Whether an entry stands under a key.
+    pub fn has(&self, key: K) -> bool
+        ensures { result ≡ list_any (is_under K.cmp T.keys key) self.now }
+    {
+        let from = Place { key, ticket: 0 };
+        nth_ticket(&self.places, &from, 0).is_some()
     }
 
     /// Takes out the first entry under a key. `None` exactly where there is none. It takes no

@@ -30,7 +30,20 @@ fn entries_are_found_in_order(rt: HostRuntime) -> Result<(), Fail> {
     assert!(rt; list.nth(3, 100).is_none());
     assert!(rt; list.take_first(163).is_some_and(|n| n.0 == 63));
     assert!(rt; list.nth(3, 0).is_some_and(|n| n.0 == 133));
+    let mut under = list.under(3);
+    for n in 0..99u64 {
+        let wanted = list.nth(3, n as usize);
+        assert_eq!(rt;
+            under.next_entry().map(|n| n.0),
+            wanted.map(|n| n.0),
+            "at {n}"
+        );
+    }
+    assert!(rt; under.next_entry().is_none());
+    assert!(rt; list.has(3));
     list.drop_all(3);
+    assert!(rt; !list.has(3));
+    assert!(rt; list.under(3).next_entry().is_none());
     assert!(rt; list.nth(3, 0).is_none());
     assert!(rt; list.nth(4, 0).is_some_and(|n| n.0 == 14));
     Ok(())

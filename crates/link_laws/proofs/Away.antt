@@ -16,7 +16,8 @@ use Rattle.linx_base.specs.declared.identity.Peer.TheVariants.{Here, There}
 use Rattle.linx_base.specs.declared.identity.Session.{Session}
 use Rattle.linx_base.specs.declared.pending.MetPeer.{MetPeer}
 use Rattle.trunk_record.specs.Sayings.{Given, met, gone, arrived}
-use Rattle.journal.specs.Living.{living_after, living, is_alive, is_of_session}
+use Rattle.linx_base.specs.Pending.{is_of_session}
+use Rattle.journal.specs.Living.{living_after, living, is_alive}
 use Rattle.journal.specs.Sessions.{session_after, up_session}
 use Rattle.journal.specs.declared.effect.Effect.{Effect}
 use Rattle.journal.specs.declared.effect.Effect.TheVariants.{Arrived, Met, Gone, Up, Down}

@@ -26,7 +26,8 @@ use Rattle.journal.specs.History.{closes, effects_of, endpoint_by, endpoint_of, 
 use Rattle.journal.specs.History.{last_opened, next_inc, open_endpoints, opened_by, opened_in}
 use Rattle.journal.specs.History.{opened_on, openings}
 use Rattle.journal.specs.Laws.{is_opening, attaching, effects_by, hunting_by, sending}
-use Rattle.journal.specs.Living.{find, is_alive, is_of_session}
+use Rattle.linx_base.specs.Pending.{is_of_session}
+use Rattle.journal.specs.Living.{find, is_alive}
 use Rattle.journal.specs.Pending.{hunting, owed}
 use Rattle.journal.specs.Sessions.{up_session}
 use Rattle.journal.specs.Shapes.{Shape, node_by}

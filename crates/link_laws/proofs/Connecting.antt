@@ -16,7 +16,7 @@ use Rattle.trunk_record.specs.Trunks.{IsBelow}
 use Rattle.journal.specs.Effects.{notices}
 use Rattle.journal.specs.History.{endpoint_by, closes, opens}
 use Rattle.journal.specs.Laws.{KeepsMakers}
-use Rattle.journal.specs.Living.{is_of_session}
+use Rattle.linx_base.specs.Pending.{is_of_session}
 use Rattle.journal.specs.Pending.{owed}
 use Rattle.journal.specs.Shapes.{Shape}
 use Rattle.journal.specs.declared.by.By.{By}

@@ -21,7 +21,7 @@ use Rattle.journal.specs.Effects.{closings}
 use Rattle.journal.specs.History.{effects_of, endpoint_by, next_inc, open_endpoints, opened_by}
 use Rattle.journal.specs.History.{opened_in, opened_on, openings}
 use Rattle.journal.specs.Laws.{is_opening}
-use Rattle.journal.specs.Living.{is_of_session}
+use Rattle.linx_base.specs.Pending.{is_of_session}
 use Rattle.journal.specs.Pending.{hunting, owed}
 use Rattle.journal.specs.Sessions.{up_session}
 use Rattle.journal.specs.Shapes.{Shape, node_by}

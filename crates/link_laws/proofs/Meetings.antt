@@ -20,7 +20,8 @@ use Rattle.journal.specs.Effects.{arrivals_of, attached, closings, ending, held_
 use Rattle.journal.specs.Effects.{meeting}
 use Rattle.journal.specs.History.{endpoint_by, next_inc, open_endpoints, opened_on}
 use Rattle.journal.specs.Laws.{effects_by}
-use Rattle.journal.specs.Living.{find, is_alive, is_of_session}
+use Rattle.linx_base.specs.Pending.{is_of_session}
+use Rattle.journal.specs.Living.{find, is_alive}
 use Rattle.journal.specs.Pending.{hunting, owed}
 use Rattle.journal.specs.Sessions.{up_session}
 use Rattle.journal.specs.Shapes.{Shape, node_by}

@@ -20,7 +20,7 @@ use Rattle.trunk_record.proofs.Changes.{half_of_up}
 use Rattle.trunk_record.proofs.Changes.{half_saying, half_up}
 use Rattle.journal.specs.Effects.{notices}
 use Rattle.journal.specs.Laws.{KeepsMakers}
-use Rattle.journal.specs.Living.{is_of_session}
+use Rattle.linx_base.specs.Pending.{is_of_session}
 use Rattle.journal.specs.Pending.{owed}
 use Rattle.journal.specs.Shapes.{Shape}
 use Rattle.journal.specs.declared.by.By.{By}

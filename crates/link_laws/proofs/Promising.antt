@@ -11,7 +11,7 @@ use Rattle.trunk_record.specs.Changes.{giving}
 use Rattle.trunk_record.specs.Records.{SideRecord, all}
 use Rattle.trunk_record.specs.Sayings.{Given, arrived, asked_for, freed, gone, met}
 use Rattle.trunk_record.specs.Trunks.{IsHalf}
-use Rattle.journal.specs.Living.{is_of_session}
+use Rattle.linx_base.specs.Pending.{is_of_session}
 use Rattle.journal.specs.Pending.{hunting, owed}
 use Rattle.journal.specs.declared.effect.Effect.{Effect}
 use Rattle.journal.specs.declared.effect.Effect.TheVariants.{Found, Notified}

@@ -20,7 +20,8 @@ use Rattle.trunk_record.specs.Trunks.{IsBelow}
 use Rattle.journal.specs.Effects.{founds, notices, opening}
 use Rattle.journal.specs.History.{endpoint_by, name_of, openings, name_or_none, opening_name}
 use Rattle.journal.specs.Laws.{KeepsMakers}
-use Rattle.journal.specs.Living.{is_alive, is_of_session}
+use Rattle.linx_base.specs.Pending.{is_of_session}
+use Rattle.journal.specs.Living.{is_alive}
 use Rattle.journal.specs.Pending.{hunting, owed}
 use Rattle.journal.specs.Shapes.{Shape}
 use Rattle.journal.specs.declared.by.By.{By}

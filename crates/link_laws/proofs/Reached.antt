@@ -15,7 +15,8 @@ use Rattle.linx_base.specs.declared.identity.Side.{Side}
 use Rattle.linx_base.specs.declared.name.Path.TheVariants.{Over}
 use Rattle.linx_base.specs.declared.pending.MetPeer.{MetPeer}
 use Rattle.journal.specs.History.{endpoint_by}
-use Rattle.journal.specs.Living.{is_alive, is_of_session, living}
+use Rattle.linx_base.specs.Pending.{is_of_session}
+use Rattle.journal.specs.Living.{is_alive, living}
 use Rattle.journal.specs.Pending.{hunting, owed}
 use Rattle.journal.specs.Shapes.{Shape, node_by}
 use Rattle.journal.specs.declared.effect.Effect.{Effect}

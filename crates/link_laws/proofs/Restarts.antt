@@ -18,7 +18,8 @@ use Rattle.trunk_record.specs.Records.{SideRecord, given_in, up_in}
 use Rattle.trunk_record.specs.Sayings.{Given, heard_as, is_live}
 use Rattle.journal.specs.Effects.{closings}
 use Rattle.journal.specs.History.{open_endpoints, endpoint_by, opens}
-use Rattle.journal.specs.Living.{is_alive, living, living_after, is_of_session}
+use Rattle.linx_base.specs.Pending.{is_of_session}
+use Rattle.journal.specs.Living.{is_alive, living, living_after}
 use Rattle.journal.specs.Sessions.{up_session, session_after}
 use Rattle.journal.specs.declared.effect.Effect.{Effect}
 use Rattle.journal.specs.declared.effect.Effect.TheVariants.{Closed, Down}

@@ -18,7 +18,8 @@ use Rattle.trunk_record.specs.Records.{given_of, peer_of, said_in, given_in, pee
 use Rattle.trunk_record.specs.Sayings.{Said, heard_as, is_live, is_shown, is_signal}
 use Rattle.trunk_record.specs.Trunks.{IsBelow}
 use Rattle.journal.specs.History.{endpoint_by}
-use Rattle.journal.specs.Living.{is_alive, living, is_of_session}
+use Rattle.linx_base.specs.Pending.{is_of_session}
+use Rattle.journal.specs.Living.{is_alive, living}
 use Rattle.journal.specs.Sessions.{up_session}
 use Rattle.journal.specs.declared.effect.Effect.{Effect}
 use Rattle.journal.specs.declared.effect.Effect.TheVariants.{Up, Down}

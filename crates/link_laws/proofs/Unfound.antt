@@ -25,7 +25,7 @@ use Rattle.trunk_record.specs.Sayings.{published}
 use Rattle.journal.specs.Effects.{found, founds, hunted, hunts_for, meeting}
 use Rattle.journal.specs.History.{endpoint_by, name_of}
 use Rattle.journal.specs.Laws.{is_opening}
-use Rattle.journal.specs.Living.{find, is_named_over, is_over, living}
+use Rattle.journal.specs.Living.{find, is_named_over, is_peer_over, living}
 use Rattle.journal.specs.Living.{living_after, met_peer}
 use Rattle.journal.specs.Pending.{answers_hunt, ends_hunt, hunt_in, hunting}
 use Rattle.journal.specs.Shapes.{Shape, node_by}
@@ -434,6 +434,6 @@ unfound shape P legal short n l v hunted_for x a lives =
         subst (λ (p : Peer). IsNamed P p name) peer named in
         let name_is : u ≡ name = bytes_eq-is u v both.1 ∙ bytes_eq-is v (name_of P a) same
         ∙ there.1.1 in
-        ap (λ p. is_over k p && bytes_eq u name) peer
+        ap (λ p. is_peer_over k p && bytes_eq u name) peer
         ∙ ap (λ t. t && bytes_eq u name) (eq-eqb l.0 k.0 (sym (eqb-true k.0 l.0 both.0)))
         ∙ ap (bytes_eq u) (sym name_is) ∙ bytes_eq-itself u

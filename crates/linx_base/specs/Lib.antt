@@ -8,3 +8,4 @@ pub mod Both
 pub mod FirstMatch
 pub mod Fronts
 pub mod Failures
+pub mod Pending

@@ -1,9 +1,10 @@
 -- What calls leave of a node, in the words of their contracts.
 use Rattle.std.proofs.Common.{◌≡◌, ℕ, ◌+◌, Bool, true, false, not, cond, List, [], ◌∷◌, ◌++◌, map}
-use Rattle.std.proofs.Common.{refl, ap, sym, ◌∙◌}
-use Rattle.std.specs.Prelude.{Option, Some, None, filter}
+use Rattle.std.proofs.Common.{refl, ap, sym, subst, ◌∙◌}
+use Rattle.std.specs.Prelude.{Option, Some, None, Result, Ok, Err, IfOk, OnOk, filter}
 use Rattle.std.specs.List.{list_any}
 use Rattle.linx_base.specs.Peers.{same_inc, same_path, same_peer}
+use Rattle.linx_base.specs.Pending.{is_attach, is_of_session}
 use Rattle.linx_base.specs.declared.identity.AttRef.{AttRef}
 use Rattle.linx_base.specs.declared.identity.Inc.{Inc}
 use Rattle.linx_base.specs.declared.identity.LinkNo.{LinkNo}
@@ -23,8 +24,6 @@ use Rattle.sigsel.specs.Selection.{is_notice_of}
 use Rattle.journal.specs.declared.effect.Effect.{Effect}
 use Rattle.journal.specs.Effects.{arrivals_of, attached, closing, detach_answer, found, hunted}
 use Rattle.journal.specs.Effects.{losing, meeting, notice, opening}
-use Rattle.journal.specs.Living.{is_of_session}
-use Rattle.journal.specs.Pending.{is_attach}
 use Rattle.node_kernel.specs.Nodes.{NodeState, OpenEndpoint, find_at, is_at, is_living, is_open}
 use Rattle.node_kernel.specs.Nodes.{items_at, next_of, put_all, put_into, with_items}
 use Rattle.node_kernel.specs.Nodes.{without_endpoint}
@@ -287,3 +286,18 @@ module _ (n : NodeState) (j : Inc) (r : AttRef) (roster : NodeEndpoints)
   pub neither_node : false ≡ list_any (is_notice_of r) (items_at n.endpoints j)
       → assembled roster n.hunts attaches n.met ≡ after_detach n j r
   neither_node queued = rw (roster_is, attaches_is) (after_neither n j r (sym owed) (sym queued))
+
+-- what was made is what was brought
+pub made_is : {A E F : Type 0} (made : Result A E) (result : Result A F) (P : A → Type 0)
+    → IfOk made P → IfOk result (λ a. made ≡ Ok a) → IfOk result P
+made_is {A = A} {E = E} made (Ok a) P said same =
+    let Q : Result A E → Type 0 = λ r. IfOk r P in subst Q same said
+made_is made (Err e) P said same = tt
+
+pub put_is : {A E F N : Type 0} (made : Result A E) (result : Result A F) (value : A)
+    (after : A → N) (new : N) → IfOk made (λ a. a ≡ value) → IfOk result (λ a. made ≡ Ok a)
+    → IfOk result (λ a. new ≡ after a) → OnOk result (new ≡ after value)
+put_is {A = A} {E = E} made (Ok a) value after new said same put =
+    let Q : Result A E → Type 0 = λ r. IfOk r (λ b. b ≡ value) in
+    let is : a ≡ value = subst Q same said in put ∙ ap after is
+put_is made (Err e) value after new said same put = tt

@@ -1,76 +1,77 @@
 -- Lists gathered element by element.
-use Rattle.std.proofs.Common.{◌≡◌, ◌⊎◌, inl, inr, ℕ, ◌+◌, ◌<◌, ◌≤◌, Bool, true, false}
-use Rattle.std.proofs.Common.{◌&&◌, cond, List, [], ◌∷◌, ◌++◌, length, map, take, refl}
-use Rattle.std.proofs.Common.{ap, sym, ◌∙◌, arith}
-use Rattle.std.specs.Prelude.{Option, Some, None, slice_get, filter}
-use Rattle.std.specs.Option.{option_map}
+use Rattle.std.proofs.Common.{◌≡◌, ℕ, ◌+◌, ◌<◌, Bool, true, false, ◌&&◌, cond, List, [], ◌∷◌, ◌++◌}
+use Rattle.std.proofs.Common.{length, map, take, drop, get_or, refl, ap, sym, subst, ◌∙◌, arith}
+use Rattle.std.specs.Prelude.{Some, None, slice_get, filter}
+use Rattle.std.specs.List.{AllByRecursion}
 use Rattle.std.proofs.lemmas.List.{append_assoc, append-nil, map_push, take_more}
-use Rattle.std.proofs.lemmas.List.{take_all}
-use Rattle.std.proofs.lemmas.List.Elements.{filter-append}
-use Rattle.std.proofs.lemmas.Option.{slice_get_within, get_or_from_slice_get, slice_get-get_or}
 use Rattle.journal.proofs.Lists.{filter-filter}
 
 module _ {X : Type 0} where
-  -- one more element is read
-  pub read_more : (xs : List X) (k : ℕ) (x : X) → slice_get xs k ≡ Some x
-      → take (k + 1) xs ≡ take k xs ++ x ∷ []
-  read_more xs k x is =
-      take_more xs k x (slice_get_within xs k x is)
-      ∙ ap (λ y. take k xs ++ y ∷ []) (get_or_from_slice_get xs k x x is)
+  -- A WALK over a list: `left` is still to come, and `rest` is that without the next one
+  pub falls : (left rest : List X) (x : X) → Some x ≡ slice_get left 0 → rest ≡ drop 1 left
+      → length rest < length left
+  falls [] rest x is next = cc is
+  falls (y ∷ left) rest x is next =
+      let same : length rest ≡ length left = ap length next in omega (arith, same)
 
-  -- or all are
-  pub past_of : (xs : List X) (k : ℕ) → slice_get xs k ≡ None → length xs ≤ k
-  past_of xs k is = by_bound (up_to (length xs) k)
-    where
-      up_to : (n m : ℕ) → (n ≤ m) ⊎ (m < n)
-      up_to n m = grind arith
+  pub all_next : (P : X → Type 0) (left : List X) (x : X) → AllByRecursion P left
+      → Some x ≡ slice_get left 0 → P x
+  all_next P [] x all is = cc is
+  all_next P (y ∷ left) x all is = let same : y ≡ x = cc is in subst P same all.0
 
-      none_within : (ys : List X) (j : ℕ) → j < length ys → slice_get ys j ≡ None → length xs ≤ k
-      none_within [] j within none = absurd (omega arith)
-      none_within (y ∷ ys) j within none = let some = slice_get-get_or (y ∷ ys) j y within in cc
+  pub all_rest : (P : X → Type 0) (left rest : List X) → AllByRecursion P left → rest ≡ drop 1 left
+      → AllByRecursion P rest
+  all_rest P [] rest all next = subst (AllByRecursion P) (sym next) tt
+  all_rest P (y ∷ left) rest all next = subst (AllByRecursion P) (sym next) all.1
 
-      by_bound : (length xs ≤ k) ⊎ (k < length xs) → length xs ≤ k
-      by_bound (inl past) = past
-      by_bound (inr within) = none_within xs k within is
+  -- what is read of those that came, and of those still to come, is what is read of all
+  module _ {Y : Type 0} (f : X → Y) (whole : List Y) where
+    pub gathered : (left : List X) (now : List Y) → None ≡ slice_get left 0
+        → now ++ map f left ≡ whole → now ≡ whole
+    gathered [] now none so_far = sym (append-nil now) ∙ so_far
+    gathered (y ∷ left) now none so_far = cc none
 
-  pub read_all : (xs : List X) (k : ℕ) → slice_get xs k ≡ None → take k xs ≡ xs
-  read_all xs k is = take_all k xs (past_of xs k is)
+    pub gather_more : (left rest : List X) (now after : List Y) (x : X) (y : Y)
+        → Some x ≡ slice_get left 0 → rest ≡ drop 1 left → y ≡ f x → after ≡ now ++ y ∷ []
+        → now ++ map f left ≡ whole → after ++ map f rest ≡ whole
+    gather_more [] rest now after x y is next read more so_far = cc is
+    gather_more (z ∷ left) rest now after x y is next read more so_far =
+        let same : x ≡ z = cc is in
+        let one : y ≡ f z = read ∙ ap f same in
+        (λ i. more i ++ map f (next i)) ∙ ap (λ v. (now ++ v ∷ []) ++ map f left) one
+        ∙ append_assoc now (f z ∷ []) (map f left) ∙ so_far
 
-  module _ {Y : Type 0} (f : X → Y) (xs : List X) (before now : List Y) (k : ℕ) where
-    pub gather_more : (x : X) → slice_get xs k ≡ Some x → now ≡ before ++ map f (take k xs)
-        → now ++ f x ∷ [] ≡ before ++ map f (take (k + 1) xs)
-    gather_more x is so_far =
-        ap (λ l. l ++ f x ∷ []) so_far
-        ∙ append_assoc before (map f (take k xs)) (f x ∷ [])
-        ∙ ap (λ l. before ++ l) (sym (map_push f (take k xs) x)
-        ∙ ap (map f) (sym (read_more xs k x is)))
+    -- the same of those that pass a test
+    module _ (p : X → Bool) where
+      pub picked : (left : List X) (now : List Y) → None ≡ slice_get left 0
+          → now ++ map f (filter p left) ≡ whole → now ≡ whole
+      picked [] now none so_far = sym (append-nil now) ∙ so_far
+      picked (y ∷ left) now none so_far = cc none
 
-    pub gathered : slice_get xs k ≡ None → now ≡ before ++ map f (take k xs)
-        → now ≡ before ++ map f xs
-    gathered none so_far = so_far ∙ ap (λ l. before ++ map f l) (read_all xs k none)
+      pub pick_more : (left rest : List X) (now after : List Y) (x : X) (y : Y)
+          → Some x ≡ slice_get left 0 → rest ≡ drop 1 left → p x ≡ true → y ≡ f x
+          → after ≡ now ++ y ∷ [] → now ++ map f (filter p left) ≡ whole
+          → after ++ map f (filter p rest) ≡ whole
+      pick_more [] rest now after x y is next passes read more so_far = cc is
+      pick_more (z ∷ left) rest now after x y is next passes read more so_far =
+          let same : x ≡ z = cc is in
+          let one : y ≡ f z = read ∙ ap f same in
+          let with : filter p (z ∷ left) ≡ z ∷ filter p left =
+          ap (λ b. cond b (z ∷ filter p left) (filter p left)) (ap p (sym same) ∙ passes) in
+          (λ i. more i ++ map f (filter p (next i)))
+          ∙ ap (λ v. (now ++ v ∷ []) ++ map f (filter p left)) one
+          ∙ append_assoc now (f z ∷ []) (map f (filter p left))
+          ∙ ap (λ l. now ++ map f l) (sym with) ∙ so_far
 
-  -- the same of those that pass a test
-  module _ {Y : Type 0} (f : X → Y) (p : X → Bool) (xs : List X) (before now : List Y) (k : ℕ)
-      (x : X) (is : slice_get xs k ≡ Some x) (so_far : now ≡ before ++ map f (filter p (take k xs)))
-    where
-      both : filter p (take (k + 1) xs) ≡ filter p (take k xs) ++ filter p (x ∷ [])
-      both = ap (filter p) (read_more xs k x is) ∙ filter-append p (take k xs) (x ∷ [])
-
-      pub pick_more : p x ≡ true → now ++ f x ∷ [] ≡ before ++ map f (filter p (take (k + 1) xs))
-      pick_more passes =
-          let more : filter p (take (k + 1) xs) ≡ filter p (take k xs) ++ x ∷ [] = both
-          ∙ ap (λ b. filter p (take k xs) ++ cond b (x ∷ []) []) passes in
-          ap (λ l. l ++ f x ∷ []) so_far
-          ∙ append_assoc before (map f (filter p (take k xs))) (f x ∷ [])
-          ∙ ap (λ l. before ++ l)
-          (sym (map_push f (filter p (take k xs)) x) ∙ ap (map f) (sym more))
-
-      pub pick_none : p x ≡ false → now ≡ before ++ map f (filter p (take (k + 1) xs))
-      pick_none fails =
-          let same : filter p (take (k + 1) xs) ≡ filter p (take k xs) = both
-          ∙ ap (λ b. filter p (take k xs) ++ cond b (x ∷ []) []) fails
-          ∙ append-nil (filter p (take k xs)) in
-          so_far ∙ ap (λ l. before ++ map f l) (sym same)
+      pub pick_none : (left rest : List X) (now : List Y) (x : X) → Some x ≡ slice_get left 0
+          → rest ≡ drop 1 left → p x ≡ false → now ++ map f (filter p left) ≡ whole
+          → now ++ map f (filter p rest) ≡ whole
+      pick_none [] rest now x is next fails so_far = cc is
+      pick_none (z ∷ left) rest now x is next fails so_far =
+          let same : x ≡ z = cc is in
+          let past : filter p (z ∷ left) ≡ filter p left =
+          ap (λ b. cond b (z ∷ filter p left) (filter p left)) (ap p (sym same) ∙ fails) in
+          ap (λ l. now ++ map f (filter p l)) next ∙ ap (λ l. now ++ map f l) (sym past) ∙ so_far
 
   -- two filters in the other order
   pub filter_swap : (p q : X → Bool) (xs : List X) → filter p (filter q xs) ≡ filter q (filter p xs)
@@ -86,27 +87,9 @@ module _ {X : Type 0} where
       alike [] = refl
       alike (x ∷ xs) = rw (and_comm (q x) (p x)) (ap (λ l. cond (p x && q x) (x ∷ l) l) (alike xs))
 
-  pub picked : {Y : Type 0} (f : X → Y) (p q : X → Bool) (xs : List X) (before now : List Y) (k : ℕ)
-      → slice_get (filter q xs) k ≡ None → now ≡ before ++ map f (filter p (take k (filter q xs)))
-      → now ≡ before ++ map f (filter q (filter p xs))
-  picked f p q xs before now k none so_far =
-      so_far ∙ ap (λ l. before ++ map f (filter p l)) (read_all (filter q xs) k none)
-      ∙ ap (λ l. before ++ map f l) (filter_swap p q xs)
-
-  -- what is read of one more element
-  pub none_of : {Y : Type 0} (f : X → Y) (o : Option X) → option_map f o ≡ None → o ≡ None
-  none_of f None is = refl
-  none_of f (Some x) is = cc
-
-  pub read_of_more : {Y Z : Type 0} (f : X → Y) (g : Y → Z) (xs : List X) (k : ℕ) (y : Y)
-      → option_map f (slice_get xs k) ≡ Some y → map (λ x. g (f x)) (take (k + 1) xs)
-      ≡ map (λ x. g (f x)) (take k xs) ++ g y ∷ []
-  read_of_more f g xs k y is = by_read (slice_get xs k) refl is
-    where
-      by_read : (o : Option X) → slice_get xs k ≡ o → option_map f o ≡ Some y
-          → map (λ x. g (f x)) (take (k + 1) xs) ≡ map (λ x. g (f x)) (take k xs) ++ g y ∷ []
-      by_read None read some = cc
-      by_read (Some x) read some =
-          let same : f x ≡ y = cc in
-          ap (map (λ z. g (f z))) (read_more xs k x read) ∙ map_push (λ z. g (f z)) (take k xs) x
-          ∙ ap (λ z. map (λ v. g (f v)) (take k xs) ++ g z ∷ []) same
+  -- what is read of one element more
+  pub map-take_more : {Y : Type 0} (f : X → Y) (xs : List X) (k : ℕ) (x : X) → k < length xs
+      → x ≡ get_or xs k x → map f (take (k + 1) xs) ≡ map f (take k xs) ++ f x ∷ []
+  map-take_more f xs k x within is =
+      ap (map f) (take_more xs k x within) ∙ map_push f (take k xs) (get_or xs k x)
+      ∙ ap (λ y. map f (take k xs) ++ f y ∷ []) (sym is)

@@ -20,62 +20,62 @@ use Rattle.name_table.specs.declared.named.NamedEndpoint.{NamedEndpoint}
 use Rattle.name_table.specs.Naming.{has_name, is_endpoint}
 use Rattle.node_kernel.specs.Nodes.{OpenEndpoint, first_named, inc_if, is_at, is_named, put_all}
 use Rattle.node_kernel.specs.Nodes.{put_into, with_items, without_endpoint}
-use Rattle.node_kernel.specs.Kept.{AreKept, AreRising, change_items, named, put_item}
+use Rattle.node_kernel.specs.Kept.{AreKept, AreRising, change_items, name_entry, put_item}
 use Rattle.node_kernel.proofs.Bringing.{map_both}
 use Rattle.node_kernel.proofs.Rising.{all_without}
 
 -- THE SAME ENDPOINTS, with other queues
 pub same_endpoints : (f : OpenEndpoint → OpenEndpoint)
-    → ((e : OpenEndpoint) → named (f e) ≡ named e) → (es : List OpenEndpoint)
-    → map named (map f es) ≡ map named es
-same_endpoints f same es = map_both named f named same es
+    → ((e : OpenEndpoint) → name_entry (f e) ≡ name_entry e) → (es : List OpenEndpoint)
+    → map name_entry (map f es) ≡ map name_entry es
+same_endpoints f same es = map_both name_entry f name_entry same es
 
 named_changed : (i : Inc) (f : List Item → List Item) (e : OpenEndpoint)
-    → named (change_items i f e) ≡ named e
+    → name_entry (change_items i f e) ≡ name_entry e
 named_changed i f e =
-    elim (same_inc i e.inc) as (λ b. named (cond b (record e { items = f e.items }) e) ≡ named e)
+    elim (same_inc i e.inc) as (λ b. name_entry (cond b (record e { items = f e.items }) e) ≡ name_entry e)
     [ true ↦ refl | false ↦ refl ]
 
 pub same_put_all : (step : ℕ) (effects : List Effect) (es : List OpenEndpoint)
-    → map named (put_all step effects es) ≡ map named es
+    → map name_entry (put_all step effects es) ≡ map name_entry es
 same_put_all step effects es = same_endpoints (put_into step effects) (λ e. refl) es
 
 pub same_put : (i : Inc) (item : Item) (es : List OpenEndpoint)
-    → map named (map (put_item i item) es) ≡ map named es
+    → map name_entry (map (put_item i item) es) ≡ map name_entry es
 same_put i item es = same_endpoints (put_item i item) (λ e. refl) es
 
 pub same_changed : (i : Inc) (f : List Item → List Item) (es : List OpenEndpoint)
-    → map named (map (change_items i f) es) ≡ map named es
+    → map name_entry (map (change_items i f) es) ≡ map name_entry es
 same_changed i f es = same_endpoints (change_items i f) (named_changed i f) es
 
 pub same_with_items : (es : List OpenEndpoint) (i : Inc) (items : List Item)
-    → map named (with_items es i items) ≡ map named es
+    → map name_entry (with_items es i items) ≡ map name_entry es
 same_with_items [] i items = refl
 same_with_items (e ∷ es) i items =
-    elim (is_at i e) as (λ b. map named (cond b (record e { items = items } ∷ es) (e
-    ∷ with_items es i items)) ≡ map named (e ∷ es)) [
+    elim (is_at i e) as (λ b. map name_entry (cond b (record e { items = items } ∷ es) (e
+    ∷ with_items es i items)) ≡ map name_entry (e ∷ es)) [
       | true ↦ refl
-      | false ↦ ap (λ l. named e ∷ l) (same_with_items es i items)
+      | false ↦ ap (λ l. name_entry e ∷ l) (same_with_items es i items)
     ]
 
-all_alike : (P : NamedEndpoint → Type 0) (xs ys : List OpenEndpoint) → map named xs ≡ map named ys
-    → AllByRecursion (λ e. P (named e)) ys → AllByRecursion (λ e. P (named e)) xs
+all_alike : (P : NamedEndpoint → Type 0) (xs ys : List OpenEndpoint) → map name_entry xs ≡ map name_entry ys
+    → AllByRecursion (λ e. P (name_entry e)) ys → AllByRecursion (λ e. P (name_entry e)) xs
 all_alike P [] ys is all = tt
 all_alike P (x ∷ xs) [] is all = cc
 all_alike P (x ∷ xs) (y ∷ ys) is all =
-    let head : named y ≡ named x = cc in
-    let tail : map named xs ≡ map named ys = cc in
+    let head : name_entry y ≡ name_entry x = cc in
+    let tail : map name_entry xs ≡ map name_entry ys = cc in
     (subst P head all.0, all_alike P xs ys tail all.1)
 
-pub rising_alike : (xs ys : List OpenEndpoint) → map named xs ≡ map named ys → AreRising ys
+pub rising_alike : (xs ys : List OpenEndpoint) → map name_entry xs ≡ map name_entry ys → AreRising ys
     → AreRising xs
 rising_alike [] ys is rising = tt
 rising_alike (x ∷ xs) [] is rising = cc
 rising_alike (x ∷ xs) (y ∷ ys) is rising =
-    let head : named y ≡ named x = cc in
-    let tail : map named xs ≡ map named ys = cc in
+    let head : name_entry y ≡ name_entry x = cc in
+    let tail : map name_entry xs ≡ map name_entry ys = cc in
     let number : y.inc.0 ≡ x.inc.0 = ap (λ (n : NamedEndpoint). n.inc.0) head in
-    let above : AllByRecursion (λ e. y.inc.0 < (named e).inc.0) xs =
+    let above : AllByRecursion (λ e. y.inc.0 < (name_entry e).inc.0) xs =
     all_alike (λ n. y.inc.0 < n.inc.0) xs ys tail rising.0 in (
       subst (λ k. AllByRecursion (λ (e : OpenEndpoint). k < e.inc.0) xs) number above,
       rising_alike xs ys tail rising.1,
@@ -83,7 +83,7 @@ rising_alike (x ∷ xs) (y ∷ ys) is rising =
 
 pub kept_alike_of : {node : NodeNo} {openings : ℕ} {es : List OpenEndpoint}
     {names : List NamedEndpoint} → AreKept node openings es names → (xs : List OpenEndpoint)
-    → map named xs ≡ map named es → AreKept node openings xs names
+    → map name_entry xs ≡ map name_entry es → AreKept node openings xs names
 kept_alike_of {node = node} {openings = openings} {es = es} kept xs is = record {
   rising = rising_alike xs es is kept.rising;
   below = all_alike (λ n. n.inc.0 < (next_inc node.0 openings).0) xs es is kept.below;
@@ -106,14 +106,14 @@ module _ (node : NodeNo) (openings : ℕ) (es : List OpenEndpoint) (names : List
       ]
 
   without_named : (i : Inc) (xs : List OpenEndpoint)
-      → without_match (is_endpoint i) (map named xs) ≡ map named (without_endpoint xs i)
+      → without_match (is_endpoint i) (map name_entry xs) ≡ map name_entry (without_endpoint xs i)
   without_named i [] = refl
   without_named i (x ∷ xs) =
-      elim (same_inc i x.inc) as (λ b. cond b (map named xs) (named x
-      ∷ without_match (is_endpoint i) (map named xs))
-      ≡ map named (cond b xs (x ∷ without_endpoint xs i))) [
+      elim (same_inc i x.inc) as (λ b. cond b (map name_entry xs) (name_entry x
+      ∷ without_match (is_endpoint i) (map name_entry xs))
+      ≡ map name_entry (cond b xs (x ∷ without_endpoint xs i))) [
         | true ↦ refl
-        | false ↦ ap (λ l. named x ∷ l) (without_named i xs)
+        | false ↦ ap (λ l. name_entry x ∷ l) (without_named i xs)
       ]
 
   pub kept_without : (i : Inc) → AreKept node openings (without_endpoint es i)
@@ -149,13 +149,13 @@ module _ (node : NodeNo) (openings : ℕ) (es : List OpenEndpoint) (names : List
         < (next_inc node.0 openings).0). omega arith) es kept.below)
         (omega arith, tt);
     named = ap (λ l. l ++ record { name = name; inc = next_inc node.0 openings } ∷ []) kept.named
-        ∙ sym (map_push named es (new_one name));
+        ∙ sym (map_push name_entry es (new_one name));
   }
 
   -- and its name taken out again
   none_named : (i : Inc) (xs : List OpenEndpoint) → AllByRecursion (λ e. e.inc.0 < i.0) xs
-      → (name : List ℕ) → without_match (is_endpoint i) (map named xs
-      ++ record { name = name; inc = i } ∷ []) ≡ map named xs
+      → (name : List ℕ) → without_match (is_endpoint i) (map name_entry xs
+      ++ record { name = name; inc = i } ∷ []) ≡ map name_entry xs
   none_named i [] below name = rw (itself i) refl
     where
       itself : (j : Inc) → same_inc j j ≡ true
@@ -163,7 +163,7 @@ module _ (node : NodeNo) (openings : ℕ) (es : List OpenEndpoint) (names : List
   none_named i (x ∷ xs) below name =
       let less : x.inc.0 < i.0 = below.0 in
       let other : same_inc i x.inc ≡ false = grind (arith, nat_tests) in
-      rw other (ap (λ l. named x ∷ l) (none_named i xs below.1 name))
+      rw other (ap (λ l. name_entry x ∷ l) (none_named i xs below.1 name))
 
   pub name_out : (name : List ℕ) → without_match (is_endpoint (next_inc node.0 openings)) (names
       ++ record { name = name; inc = next_inc node.0 openings } ∷ []) ≡ names
@@ -174,12 +174,12 @@ module _ (node : NodeNo) (openings : ℕ) (es : List OpenEndpoint) (names : List
 
   -- THE FIRST OF A NAME
   first_of : (name : List ℕ) (xs : List OpenEndpoint)
-      → option_map (λ (e : NamedEndpoint). e.inc) (first_match (has_name name) (map named xs))
+      → option_map (λ (e : NamedEndpoint). e.inc) (first_match (has_name name) (map name_entry xs))
       ≡ first_named xs name
   first_of name [] = refl
   first_of name (x ∷ xs) =
       elim (bytes_eq name x.name) as (λ b. option_map (λ (e : NamedEndpoint). e.inc)
-      (cond b (Some (named x)) (first_match (has_name name) (map named xs)))
+      (cond b (Some (name_entry x)) (first_match (has_name name) (map name_entry xs)))
       ≡ inc_if (cond b (Some x) (first_match (is_named name) xs))) [
         | true ↦ refl
         | false ↦ first_of name xs
@@ -235,13 +235,13 @@ if_ok (Err b) said f = tt
 
 pub same_delivered : (i : Inc) (item : Item) (old new : List OpenEndpoint) (r : Result Bool Item)
     → OnOk r (new ≡ map (put_item i item) old) → IfErr r (λ back. (back ≡ item) × (new ≡ old))
-    → map named new ≡ map named old
-same_delivered i item old new (Ok found) put back = ap (map named) put ∙ same_put i item old
-same_delivered i item old new (Err other) put back = ap (map named) back.1
+    → map name_entry new ≡ map name_entry old
+same_delivered i item old new (Ok found) put back = ap (map name_entry) put ∙ same_put i item old
+same_delivered i item old new (Err other) put back = ap (map name_entry) back.1
 
 pub same_brought : {A B : Type 0} (step : ℕ) (effects : List Effect) (old new : List OpenEndpoint)
     (r : Result A B) → OnOk r (new ≡ put_all step effects old) → OnErr r (new ≡ old)
-    → map named new ≡ map named old
-same_brought step effects old new (Ok a) put back = ap (map named) put
+    → map name_entry new ≡ map name_entry old
+same_brought step effects old new (Ok a) put back = ap (map name_entry) put
     ∙ same_put_all step effects old
-same_brought step effects old new (Err b) put back = ap (map named) back
+same_brought step effects old new (Err b) put back = ap (map name_entry) back

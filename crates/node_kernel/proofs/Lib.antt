@@ -5,6 +5,4 @@ pub mod Gathering
 pub mod Keeping
 pub mod Calling
 pub mod ByPeer
-pub mod NamesOver
-pub mod Owing
 mod Worked

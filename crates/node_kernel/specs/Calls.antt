@@ -3,6 +3,7 @@ use Rattle.std.specs.Prelude.{ℕ, ◌+◌, ◌≡◌, Bool, true, false, not, L
 use Rattle.std.specs.Prelude.{length, filter, Option, Some, None}
 use Rattle.std.specs.List.{list_any}
 use Rattle.linx_base.specs.Peers.{same_inc, same_path, same_peer}
+use Rattle.linx_base.specs.Pending.{is_attach, is_of_session}
 use Rattle.linx_base.specs.declared.identity.AttRef.{AttRef}
 use Rattle.linx_base.specs.declared.identity.Inc.{Inc}
 use Rattle.linx_base.specs.declared.identity.LinkNo.{LinkNo}
@@ -20,8 +21,6 @@ use Rattle.journal.specs.declared.head.Detached.TheVariants.{None as Neither}
 use Rattle.journal.specs.declared.effect.Effect.TheVariants.{Arrived}
 use Rattle.journal.specs.Effects.{opening, closing, arrivals_of, hunted, attached, detach_answer}
 use Rattle.journal.specs.Effects.{held_elsewhere, meeting, parting, losing}
-use Rattle.journal.specs.Living.{is_of_session}
-use Rattle.journal.specs.Pending.{is_attach}
 use Rattle.node_kernel.specs.declared.answers.OpenError.{OpenError}
 use Rattle.node_kernel.specs.declared.answers.OpenError.TheVariants.{Full, NoMemory}
 use Rattle.node_kernel.specs.declared.answers.Sent.{Sent}

@@ -22,8 +22,8 @@ AreRising [] = ⊤
 AreRising (e ∷ es) = AllByRecursion (λ f. e.inc.0 < f.inc.0) es × AreRising es
 
 -- an endpoint under its name
-abbrev pub named : OpenEndpoint → NamedEndpoint
-named e = record { name = e.name; inc = e.inc }
+abbrev pub name_entry : OpenEndpoint → NamedEndpoint
+name_entry e = record { name = e.name; inc = e.inc }
 
 -- what the endpoints of a node are seen as: the node, how many were opened so far, and those that
 -- are open, in order of opening
@@ -38,7 +38,7 @@ pub record AreKept (node : NodeNo) (openings : ℕ) (endpoints : List OpenEndpoi
     (names : List NamedEndpoint) : Type 0 where
   pub rising : AreRising endpoints
   pub below : AllByRecursion (λ e. e.inc.0 < (next_inc node.0 openings).0) endpoints
-  pub named : names ≡ map named endpoints
+  pub named : names ≡ map name_entry endpoints
 
 -- an endpoint with one more item, if it is this one
 abbrev pub put_item : Inc → Item → OpenEndpoint → OpenEndpoint

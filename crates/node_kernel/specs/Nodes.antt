@@ -1,11 +1,10 @@
-use Rattle.std.specs.Prelude.{ℕ, ◌+◌, ◌==◌, Bool, List, [], ◌∷◌, ◌++◌, map}
+use Rattle.std.specs.Prelude.{ℕ, Bool, List, [], ◌∷◌, ◌++◌, map}
 use Rattle.std.specs.Prelude.{Option, Some, None, if◌then◌else◌}
-use Rattle.std.specs.List.{list_any, flat_map}
+use Rattle.std.specs.List.{list_any}
 use Rattle.std.specs.Str.{bytes_eq}
 use Rattle.linx_base.specs.FirstMatch.{first_match, without_match}
 use Rattle.linx_base.specs.Peers.{same_inc}
 use Rattle.linx_base.specs.declared.identity.Inc.{Inc}
-use Rattle.linx_base.specs.declared.identity.LinkNo.{LinkNo}
 use Rattle.linx_base.specs.declared.identity.NodeNo.{NodeNo}
 use Rattle.linx_base.specs.declared.identity.Peer.{Peer}
 use Rattle.linx_base.specs.declared.identity.Peer.TheVariants.{Here, There}
@@ -94,10 +93,11 @@ name_if (Some e) = Some e.name
 abbrev pub name_at : List OpenEndpoint → Inc → Option (List ℕ)
 name_at endpoints i = name_if (first_match (is_at i) endpoints)
 
--- the first opened endpoint of a name that is open
+-- the endpoint has this name
 abbrev pub is_named : List ℕ → OpenEndpoint → Bool
 is_named name e = bytes_eq name e.name
 
+-- the first opened endpoint of a name that is open; none where no open endpoint has it
 abbrev pub inc_if : Option OpenEndpoint → Option Inc
 inc_if None = None
 inc_if (Some e) = Some e.inc
@@ -118,11 +118,3 @@ find_at k (Over l name) = met_peer (first_match (is_named_over l name) k.met)
 -- the next incarnation of a node
 abbrev pub next_of : NodeState → Inc
 next_of k = next_inc k.node.0 k.openings
-
--- the names that are hunted for over a link
-abbrev pub name_over : LinkNo → Path → List (List ℕ)
-name_over l (Local name) = []
-name_over l (Over m name) = if m.0 == l.0 then name ∷ [] else []
-
-abbrev pub names_over : LinkNo → List PendingHunt → List (List ℕ)
-names_over l hunts = flat_map (λ h. name_over l h.path) hunts

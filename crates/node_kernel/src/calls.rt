@@ -1,19 +1,19 @@
 //! What single calls do at the roster, the hunts and the attaches of a node.
 ghost use Rattle.std.specs.Prelude.{◌≡◌, ◌<◌, [], ◌∷◌, ◌++◌, length, IfOk, IfErr, OnOk};
-ghost use Rattle.linx_base.specs.Content.{data_limit, with_reason};
+ghost use Rattle.linx_base.specs.Content.{data_limit};
 ghost use Rattle.linx_base.specs.declared.identity.Peer.TheVariants.{Here};
 ghost use Rattle.linx_base.specs.declared.name.Path.TheVariants.{Local, Over};
 ghost use Rattle.linx_base.specs.declared.signal.Reason.TheVariants.{Dead};
-ghost use Rattle.journal.specs.declared.effect.Effect.TheVariants.{Arrived};
-ghost use Rattle.journal.specs.Effects.{arrivals_of, found, notice};
+ghost use Rattle.journal.specs.declared.effect.Effect.TheVariants.{Arrived, Found};
+ghost use Rattle.journal.specs.Effects.{arrivals_of, notice};
 ghost use Rattle.node_kernel.specs.Nodes.{is_open, put_all};
 ghost use Rattle.node_kernel.specs.Calls.{IsSent};
 
 use crate::answers::Sent;
-use crate::attaches::Attaches;
-use crate::hunts::Hunts;
 use crate::roster::Roster;
 use crate::rules::one;
+use attach_table::AttachTable;
+use hunt_table::HuntTable;
 use journal::{Effect, Effects};
 use linx_base::{
     AttRef, Inc, Item, ItemAt, Kind, LinkNo, Name, NoMemory, Path, Peer, PendingAttach,
@@ -66,6 +66,28 @@ pub(crate) fn send_here(
     }
 }
 
+/// What was made of a signal is brought to its endpoint. A refusal gives the signal back.
+fn brought(
+    roster: &mut Roster,
+    made: Result<Effects, NoMemory>,
+    signal: Signal,
+    step: u64,
+) -> Result<Effects, (NoMemory, Signal)>
+    ensures effects { IfOk result (λ effects. made ≡ Ok effects) }
+    ensures ok { IfOk result (λ effects. roster.new ≡ record roster.old
+        { endpoints = put_all step effects roster.old.endpoints }) }
+    ensures err { IfErr result (λ back. (back.1 ≡ signal) × (roster.new ≡ roster.old)) }
+{
+    let effects = match made {
+        Ok(effects) => effects,
+        Err(refusal) => return Err((refusal, signal)),
+    };
+    match roster.bring_all(effects.as_slice(), step) {
+        Ok(()) => Ok(effects),
+        Err(refusal) => Err((refusal, signal)),
+    }
+}
+
 /// The arrival of a signal.
 fn arrival(alloc: Global, at: Inc, from: Peer, signal: &Signal) -> Result<Effects, NoMemory>
     ensures { IfOk result (λ effects. effects ≡ Arrived at from signal.now ∷ []) }
@@ -87,20 +109,8 @@ pub(crate) fn arrive(
         { endpoints = put_all step (Arrived at from signal ∷ []) roster.old.endpoints }) }
     ensures err { IfErr result (λ back. (back.1 ≡ signal) × (roster.new ≡ roster.old)) }
 {
-    let effects = match arrival(roster.allocator(), at, from, &signal) {
-        Ok(effects) => effects,
-        Err(refusal) => return Err((refusal, signal)),
-    };
-    let item = Item {
-        signal,
-        from,
-        kind: Kind::Plain,
-        pos: ItemAt { step, place: 1 },
-    };
-    match roster.deliver(at, item) {
-        Ok(_) => Ok(effects),
-        Err(item) => Err((NoMemory, item.signal)),
-    }
+    let made = arrival(roster.allocator(), at, from, &signal);
+    brought(roster, made, signal, step)
 }
 
 /// What a hunt that found a peer at once brings.
@@ -111,13 +121,7 @@ fn found_at_once(
     signal: &Signal,
     number: u64,
 ) -> Result<Effects, NoMemory>
-    ensures { IfOk result (λ effects. (path : Path)
-        → effects ≡ found peer (record {
-          at = at;
-          path = path;
-          signal = signal.now;
-          number = number;
-        }) ∷ []) }
+    ensures { IfOk result (λ effects. effects ≡ Found at peer signal.now number ∷ []) }
 {
     let note = signal.note()?;
     one(alloc, Effect::Found(at, peer, note, number))
@@ -131,39 +135,18 @@ pub(crate) fn answer(
     signal: Signal,
     number: u64,
 ) -> Result<Effects, (NoMemory, Signal)>
-    ensures effects { IfOk result (λ effects. (path : Path)
-        → effects ≡ found peer (record { at = at; path = path; signal = signal; number = number })
-        ∷ []) }
-    ensures ok { OnOk result ((path : Path) → roster.new
-        ≡ record roster.old {
-          endpoints = put_all number
-              (found peer (record { at = at; path = path; signal = signal; number = number }) ∷ [])
-              roster.old.endpoints;
-        }) }
+    ensures effects { IfOk result (λ effects. effects ≡ Found at peer signal number ∷ []) }
+    ensures ok { OnOk result (roster.new ≡ record roster.old
+        { endpoints = put_all number (Found at peer signal number ∷ []) roster.old.endpoints }) }
     ensures err { IfErr result (λ back. (back.1 ≡ signal) × (roster.new ≡ roster.old)) }
 {
-    let effects = match found_at_once(roster.allocator(), at, peer, &signal, number) {
-        Ok(effects) => effects,
-        Err(refusal) => return Err((refusal, signal)),
-    };
-    let item = Item {
-        signal,
-        from: peer,
-        kind: Kind::Found(number),
-        pos: ItemAt {
-            step: number,
-            place: 1,
-        },
-    };
-    match roster.deliver(at, item) {
-        Ok(_) => Ok(effects),
-        Err(item) => Err((NoMemory, item.signal)),
-    }
+    let made = found_at_once(roster.allocator(), at, peer, &signal, number);
+    brought(roster, made, signal, number)
 }
 
 /// A hunt stays pending.
 pub(crate) fn pend(
-    hunts: &mut Hunts,
+    hunts: &mut HuntTable,
     alloc: Global,
     hunt: PendingHunt,
 ) -> Result<Effects, (NoMemory, Signal)>
@@ -179,7 +162,7 @@ pub(crate) fn pend(
 
 /// An attach is owed.
 pub(crate) fn owe(
-    attaches: &mut Attaches,
+    attaches: &mut AttachTable,
     alloc: Global,
     attach: PendingAttach,
 ) -> Result<Effects, (NoMemory, Signal)>
@@ -194,27 +177,24 @@ pub(crate) fn owe(
     }
 }
 
-/// The signal of a notification that a peer isn't alive, and the notification itself.
+/// The notification that a peer isn't alive.
 fn dead_notice(
     alloc: Global,
     at: Inc,
     peer: Peer,
     signal: &Signal,
     r: AttRef,
-) -> Result<(Signal, Effects), NoMemory>
+) -> Result<Effects, NoMemory>
     requires { length signal.now.bytes < data_limit }
-    ensures { IfOk result (λ made. (made.0 ≡ with_reason Dead signal.now)
-        × (made.1 ≡ notice Dead (record {
-          at = at;
-          peer = peer;
-          signal = signal.now;
-          reference = r;
-        }) ∷ [])) }
+    ensures { IfOk result (λ effects. effects ≡ notice Dead (record {
+      at = at;
+      peer = peer;
+      signal = signal.now;
+      reference = r;
+    }) ∷ []) }
 {
-    let told = signal.with_reason(Reason::Dead)?;
-    let note = told.note()?;
-    let effects = one(alloc, Effect::Notified(at, peer, note, r, Reason::Dead))?;
-    Ok((told, effects))
+    let note = signal.with_reason(Reason::Dead)?.note()?;
+    one(alloc, Effect::Notified(at, peer, note, r, Reason::Dead))
 }
 
 /// The holder of an attach to a peer that isn't alive is notified at once.
@@ -238,21 +218,6 @@ pub(crate) fn notify_dead(
     }) }
     ensures err { IfErr result (λ back. (back.1 ≡ signal) × (roster.new ≡ roster.old)) }
 {
-    let (told, effects) = match dead_notice(roster.allocator(), at, peer, &signal, r) {
-        Ok(made) => made,
-        Err(refusal) => return Err((refusal, signal)),
-    };
-    let item = Item {
-        signal: told,
-        from: peer,
-        kind: Kind::Notice(r),
-        pos: ItemAt {
-            step: r.0,
-            place: 1,
-        },
-    };
-    match roster.deliver(at, item) {
-        Ok(_) => Ok(effects),
-        Err(_) => Err((NoMemory, signal)),
-    }
+    let made = dead_notice(roster.allocator(), at, peer, &signal, r);
+    brought(roster, made, signal, r.0)
 }

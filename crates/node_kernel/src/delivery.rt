@@ -1,7 +1,7 @@
 //! Effects bring items to endpoints: all of a step's, or none.
 ghost use Rattle.std.specs.Prelude.{◌≡◌, ℕ, List, map, IfOk, OnOk, OnErr};
 ghost use Rattle.node_kernel.specs.Nodes.{OpenEndpoint, put_all};
-ghost use Rattle.node_kernel.specs.Kept.{AreRising, bring_into, delivery_at, named, receiver_of};
+ghost use Rattle.node_kernel.specs.Kept.{AreRising, bring_into, delivery_at, name_entry, receiver_of};
 
 use crate::endpoint::Endpoint;
 use crate::lookup::{deliver, take_last};
@@ -113,7 +113,7 @@ fn bring(endpoints: &mut [Endpoint], effect: &Effect, pos: ItemAt) -> Result<(),
 /// Takes back what an effect delivered.
 fn take_back(endpoints: &mut [Endpoint], effect: &Effect)
     requires { AreRising endpoints.old }
-    ensures same { map named endpoints.new ≡ map named endpoints.old }
+    ensures same { map name_entry endpoints.new ≡ map name_entry endpoints.old }
     ensures back { (pos : ItemAt) (before : List OpenEndpoint)
         → endpoints.old ≡ map (bring_into pos effect.now) before → endpoints.new ≡ before }
 {
@@ -125,7 +125,7 @@ fn take_back(endpoints: &mut [Endpoint], effect: &Effect)
 /// Takes back what a step's effects delivered.
 pub(crate) fn take_back_all(endpoints: &mut [Endpoint], effects: &[Effect])
     requires { AreRising endpoints.old }
-    ensures same { map named endpoints.new ≡ map named endpoints.old }
+    ensures same { map name_entry endpoints.new ≡ map name_entry endpoints.old }
     ensures back { (step : ℕ) (before : List OpenEndpoint)
         → endpoints.old ≡ put_all step effects.now before → endpoints.new ≡ before }
 {

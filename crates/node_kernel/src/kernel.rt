@@ -2,6 +2,7 @@ ghost use Rattle.std.specs.Prelude.{◌≡◌, ◌<◌, [], ◌∷◌, length, f
 ghost use Rattle.std.specs.Prelude.{IfOk, IfErr, OnOk, OnErr, IsTrue};
 ghost use Rattle.std.specs.Option.{option_copied};
 ghost use Rattle.linx_base.specs.Content.{data_limit};
+ghost use Rattle.linx_base.specs.Pending.{names_over};
 ghost use Rattle.linx_base.specs.declared.identity.Peer.TheVariants.{Here, There};
 ghost use Rattle.sigsel.specs.Selection.{first_selected, without_first};
 ghost use Rattle.journal.specs.declared.effect.Effect.TheVariants.{Arrived};
@@ -9,12 +10,12 @@ ghost use Rattle.journal.specs.Effects.{opening, closing, closings, hunted, atta
 ghost use Rattle.journal.specs.Effects.{parting, losing};
 
 use crate::answers::{OpenError, OpenedAs, Sent};
-use crate::attaches::Attaches;
 use crate::calls::{answer, arrive, local_path, notify_dead, owe, path_over, pend, send_here};
-use crate::hunts::Hunts;
 use crate::met::MetPeers;
 use crate::roster::Roster;
 use crate::rules::{closing, closings, losing, meeting, opening, parting};
+use attach_table::AttachTable;
+use hunt_table::HuntTable;
 use journal::{Detached, Effects};
 use linx_base::{
     AttRef, Inc, Item, LinkNo, MetPeer, Name, NoMemory, NodeNo, Path, Peer, PendingAttach,
@@ -28,8 +29,8 @@ use std::marker::Model;
 #[derive(Drop)]
 pub struct Kernel {
     roster: Roster,
-    hunts: Hunts,
-    attaches: Attaches,
+    hunts: HuntTable,
+    attaches: AttachTable,
     met: MetPeers,
 }
 
@@ -51,7 +52,7 @@ impl Model for Kernel {
 impl Kernel {
     ghost use Rattle.node_kernel.specs.Nodes.{empty_node, is_open, items_at, with_items, is_living};
     ghost use Rattle.node_kernel.specs.Nodes.{endpoint_limit, next_of, first_named, name_at};
-    ghost use Rattle.node_kernel.specs.Nodes.{find_at, names_over};
+    ghost use Rattle.node_kernel.specs.Nodes.{find_at};
     ghost use Rattle.node_kernel.specs.Calls.{after_open, RefusesOpening, after_close, after_send};
     ghost use Rattle.node_kernel.specs.Calls.{IsSent, after_arrival, after_hunt, after_attach};
     ghost use Rattle.node_kernel.specs.Calls.{detached, after_detach, after_restart, after_met};
@@ -63,8 +64,8 @@ impl Kernel {
     {
         Kernel {
             roster: Roster::new(alloc, node),
-            hunts: Hunts::new(alloc),
-            attaches: Attaches::new(alloc),
+            hunts: HuntTable::new(alloc),
+            attaches: AttachTable::new(alloc),
             met: MetPeers::new(alloc),
         }
     }
@@ -82,7 +83,7 @@ impl Kernel {
         self.roster.has(inc)
     }
 
-    /// The first opened endpoint of a name that is open.
+    /// The first opened endpoint of a name that is open. `None` exactly where no open endpoint has it.
     pub fn first(&self, name: &Name) -> Option<Inc>
         ensures { result ≡ first_named self.now.endpoints name.now }
     {
@@ -319,8 +320,8 @@ impl Kernel {
         let alloc = self.roster.allocator();
         let effects = closings(alloc, &self.roster)?;
         self.roster.clear();
-        self.hunts = Hunts::new(alloc);
-        self.attaches = Attaches::new(alloc);
+        self.hunts = HuntTable::new(alloc);
+        self.attaches = AttachTable::new(alloc);
         self.met = MetPeers::new(alloc);
         Ok(effects)
     }
@@ -401,7 +402,7 @@ impl Kernel {
         let node = self.roster.node();
         let effects = losing(self.roster.allocator(), node, link, session, &self.attaches)?;
         self.roster.bring_all(effects.as_slice(), step)?;
-        self.attaches.drop_over(link, session);
+        self.attaches.drop_within(link, session);
         self.met.drop_session(link, session);
         Ok(effects)
     }

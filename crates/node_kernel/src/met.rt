@@ -3,7 +3,8 @@ ghost use Rattle.keyed_list.specs.Keys.{is_under};
 ghost use Rattle.linx_base.specs.FirstMatch.{first_match};
 ghost use Rattle.linx_base.specs.Peers.{same_peer};
 ghost use Rattle.linx_base.specs.declared.pending.MetPeer.{MetPeer as Met};
-ghost use Rattle.journal.specs.Living.{is_met, is_named_over, is_of_session, met_peer};
+ghost use Rattle.linx_base.specs.Pending.{is_of_session};
+ghost use Rattle.journal.specs.Living.{is_met, is_named_over, met_peer};
 ghost use Rattle.node_kernel.specs.Tables.{met_key, met_keys};
 
 use keyed_list::{Keyed, KeyedList};
@@ -115,7 +116,7 @@ impl MetPeers {
     pub(crate) fn has(&self, peer: Peer) -> bool
         ensures { result ≡ is_met self.now peer }
     {
-        self.peers.nth(peer_key(peer), 0).is_some()
+        self.peers.has(peer_key(peer))
     }
 
     /// The first peer of a name that was met over a link. `None` exactly where there is none.

@@ -1,7 +1,7 @@
 ghost use Rattle.std.specs.Prelude.{ℕ, ◌≡◌, ◌==◌, ◌+◌, ◌<◌, ◌∷◌, ◌++◌, [], filter, is_some, length};
-ghost use Rattle.std.specs.Prelude.{map, not, slice_get, IfErr, IfOk, OnErr, OnOk};
+ghost use Rattle.std.specs.Prelude.{map, not, IfErr, IfOk, OnErr, OnOk};
 ghost use Rattle.std.specs.List.{list_any};
-ghost use Rattle.std.specs.Option.{option_copied, option_map};
+ghost use Rattle.std.specs.Option.{option_copied};
 ghost use Rattle.sigsel.specs.Selection.{first_selected, is_notice_of, without_first};
 ghost use Rattle.journal.specs.History.{next_inc};
 ghost use Rattle.node_kernel.specs.Nodes.{endpoint_limit, first_named, is_open, items_at, name_at};
@@ -112,12 +112,11 @@ impl Roster {
         Inc::of(self.node, self.openings + 1)
     }
 
-    /// The k-th open endpoint, from 0. `None` exactly where there are at most k.
-    pub(crate) fn nth(&self, k: usize) -> Option<Inc>
-        ensures { result ≡ option_map (λ e. e.inc) (slice_get self.now.endpoints k) }
+    /// The open endpoints, in order of opening.
+    pub(crate) fn endpoints(&self) -> &[Endpoint]
+        ensures { result.now ≡ self.now.endpoints }
     {
-        let endpoint = self.endpoints.get(k)?;
-        Some(endpoint.inc())
+        &self.endpoints
     }
 
     pub(crate) fn has(&self, inc: Inc) -> bool
@@ -133,7 +132,7 @@ impl Roster {
         lookup::name_of(&self.endpoints, inc)
     }
 
-    /// The first opened endpoint of a name that is open.
+    /// The first opened endpoint of a name that is open. `None` exactly where no open endpoint has it.
     pub(crate) fn first(&self, name: &Name) -> Option<Inc>
         ensures { result ≡ first_named self.now.endpoints name.now }
     {

@@ -4,14 +4,14 @@ ghost use Rattle.linx_base.specs.Content.{data_limit};
 ghost use Rattle.linx_base.specs.Peers.{same_peer};
 ghost use Rattle.linx_base.specs.declared.identity.Peer.TheVariants.{Here};
 ghost use Rattle.linx_base.specs.declared.name.Path.TheVariants.{Local, Over};
-ghost use Rattle.linx_base.specs.declared.signal.Reason.TheVariants.{Closed, Lost};
+ghost use Rattle.linx_base.specs.declared.signal.Reason.TheVariants.{Closed};
 ghost use Rattle.journal.specs.Effects.{opening, closing, closings, found, founds, held_elsewhere};
 ghost use Rattle.journal.specs.Effects.{losing, meeting, notice, notices, parting};
-ghost use Rattle.journal.specs.Living.{is_of_session};
+ghost use Rattle.attach_table.specs.Attaches.{HaveRoom};
 
-use crate::attaches::Attaches;
-use crate::hunts::Hunts;
 use crate::roster::Roster;
+use attach_table::{AttachTable, AttachesUnder};
+use hunt_table::HuntTable;
 use journal::{Effect, Effects};
 use linx_base::{
     Inc, LinkNo, Name, NoMemory, NodeNo, Path, Peer, PendingAttach, PendingHunt, Reason, Session,
@@ -46,69 +46,52 @@ fn notice(reason: Reason, attach: &PendingAttach) -> Result<Effect, NoMemory>
 }
 
 /// Adds what a found peer brings to the hunts for its path.
-fn add_founds(effects: &mut Effects, hunts: &Hunts, path: &Path, peer: Peer) -> Result<(), NoMemory>
+fn add_founds(
+    effects: &mut Effects,
+    hunts: &HuntTable,
+    path: &Path,
+    peer: Peer,
+) -> Result<(), NoMemory>
     ensures { OnOk result (effects.new ≡ effects.old ++ founds path.now peer hunts.now) }
 {
-    for k in 0..usize::MAX {
-        let Some(hunt) = hunts.nth_for(path, k) else {
-            return Ok(());
-        };
+    let mut left = hunts.hunts_for(path);
+    while let Some(hunt) = left.next_entry() {
         effects.push(found(peer, hunt)?)?;
     }
-    Err(NoMemory)
+    Ok(())
 }
 
 /// Adds the notifications of the attaches to an endpoint that another one holds.
 fn add_notices_elsewhere(
     effects: &mut Effects,
-    attaches: &Attaches,
+    attaches: &AttachTable,
     inc: Inc,
 ) -> Result<(), NoMemory>
     ensures { OnOk result (effects.new ≡ effects.old
         ++ notices Closed (same_peer (Here inc)) (held_elsewhere inc attaches.now)) }
 {
-    for k in 0..usize::MAX {
-        let Some(attach) = attaches.nth_to(Peer::Here(inc), k) else {
-            return Ok(());
-        };
+    let mut left = attaches.attaches_to(Peer::Here(inc));
+    while let Some(attach) = left.next_entry() {
         if inc.0 != attach.at.0 {
             effects.push(notice(Reason::Closed, attach)?)?;
         }
     }
-    Err(NoMemory)
+    Ok(())
 }
 
-/// Adds the notifications of the attaches to a peer.
-fn add_notices(effects: &mut Effects, attaches: &Attaches, peer: Peer) -> Result<(), NoMemory>
-    ensures { OnOk result (effects.new ≡ effects.old
-        ++ notices Closed (same_peer peer) attaches.now) }
-{
-    for k in 0..usize::MAX {
-        let Some(attach) = attaches.nth_to(peer, k) else {
-            return Ok(());
-        };
-        effects.push(notice(Reason::Closed, attach)?)?;
-    }
-    Err(NoMemory)
-}
-
-/// Adds the notifications of the attaches to the peers of a session.
-fn add_losses(
+/// Adds the notifications of attaches.
+fn add_notices(
     effects: &mut Effects,
-    attaches: &Attaches,
-    link: LinkNo,
-    session: Session,
+    reason: Reason,
+    mut left: AttachesUnder<'_>,
 ) -> Result<(), NoMemory>
-    ensures { OnOk result (effects.new ≡ effects.old
-        ++ notices Lost (is_of_session link session) attaches.now) }
+    requires { HaveRoom left }
+    ensures { OnOk result (effects.new ≡ effects.old ++ map (notice reason) left.entry) }
 {
-    for k in 0..usize::MAX {
-        let Some(attach) = attaches.nth_over(link, session, k) else {
-            return Ok(());
-        };
-        effects.push(notice(Reason::Lost, attach)?)?;
+    while let Some(attach) = left.next_entry() {
+        effects.push(notice(reason, attach)?)?;
     }
-    Err(NoMemory)
+    Ok(())
 }
 
 /// The effects of an opening, whose name makes this path.
@@ -116,7 +99,7 @@ pub(crate) fn opening(
     alloc: Global,
     inc: Inc,
     path: &Path,
-    hunts: &Hunts,
+    hunts: &HuntTable,
 ) -> Result<Effects, NoMemory>
     ensures { IfOk result (λ effects. (name : List ℕ) → path.now ≡ Local name
         → effects ≡ opening inc name hunts.now) }
@@ -127,7 +110,7 @@ pub(crate) fn opening(
 }
 
 /// The effects of a closing.
-pub(crate) fn closing(alloc: Global, inc: Inc, attaches: &Attaches) -> Result<Effects, NoMemory>
+pub(crate) fn closing(alloc: Global, inc: Inc, attaches: &AttachTable) -> Result<Effects, NoMemory>
     ensures { IfOk result (λ effects. effects ≡ closing inc attaches.now) }
 {
     let mut effects = one(alloc, Effect::Closed(inc))?;
@@ -140,13 +123,11 @@ pub(crate) fn closings(alloc: Global, roster: &Roster) -> Result<Effects, NoMemo
     ensures { IfOk result (λ effects. effects ≡ closings (map (λ e. e.inc) roster.now.endpoints)) }
 {
     let mut effects = Effects::new(alloc);
-    for k in 0..usize::MAX {
-        let Some(inc) = roster.nth(k) else {
-            return Ok(effects);
-        };
-        effects.push(Effect::Closed(inc))?;
+    let endpoints = roster.endpoints();
+    for endpoint in endpoints {
+        effects.push(Effect::Closed(endpoint.inc()))?;
     }
-    Err(NoMemory)
+    Ok(effects)
 }
 
 /// The effects of meeting a peer, whose link and name make this path.
@@ -156,7 +137,7 @@ pub(crate) fn meeting(
     peer: Peer,
     name: &Name,
     path: &Path,
-    hunts: &Hunts,
+    hunts: &HuntTable,
 ) -> Result<Effects, NoMemory>
     ensures { IfOk result (λ effects. (link : LinkNo) → path.now ≡ Over link name.now
         → effects ≡ meeting node link peer name.now hunts.now) }
@@ -171,12 +152,12 @@ pub(crate) fn parting(
     alloc: Global,
     node: NodeNo,
     peer: Peer,
-    attaches: &Attaches,
+    attaches: &AttachTable,
 ) -> Result<Effects, NoMemory>
     ensures { IfOk result (λ effects. effects ≡ parting node peer attaches.now) }
 {
     let mut effects = one(alloc, Effect::Gone(node, peer))?;
-    add_notices(&mut effects, attaches, peer)?;
+    add_notices(&mut effects, Reason::Closed, attaches.attaches_to(peer))?;
     Ok(effects)
 }
 
@@ -186,11 +167,12 @@ pub(crate) fn losing(
     node: NodeNo,
     link: LinkNo,
     session: Session,
-    attaches: &Attaches,
+    attaches: &AttachTable,
 ) -> Result<Effects, NoMemory>
     ensures { IfOk result (λ effects. effects ≡ losing node link session attaches.now) }
 {
     let mut effects = one(alloc, Effect::Down(node, link, session))?;
-    add_losses(&mut effects, attaches, link, session)?;
+    let lost = attaches.attaches_within(link, session);
+    add_notices(&mut effects, Reason::Lost, lost)?;
     Ok(effects)
 }

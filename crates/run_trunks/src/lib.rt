@@ -9,6 +9,10 @@ mod limits;
 mod links;
 mod run_trunks;
 mod slots;
+
+pub use laws::{changes_are_of_runs, changes_follow, events_rest};
+pub use run_trunks::RunTrunks;
+
 #[cfg(test)]
 mod tests;
 

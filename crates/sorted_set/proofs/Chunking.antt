@@ -372,7 +372,7 @@ joined_drop chunks at c within is =
 module _ {X : Type 0} (cmp : X → X → Ordering) (x : X) (chunks : List (List X)) (at : ℕ)
     (place : IsPlaceFor cmp x chunks at) (c : List X) (is : c ≡ get_or chunks at c) (first : ℕ)
     (rest : elements_from cmp x c ≡ drop first c) (k : ℕ) where
-  from_parts : elements_from cmp x (joined chunks) ≡ drop first c ++ after chunks at
+  pub from_parts : elements_from cmp x (joined chunks) ≡ drop first c ++ after chunks at
   from_parts =
       from cmp x chunks at place c
       ∙ ap (λ l. l ++ after chunks at) (ap (elements_from cmp x) (sym is) ∙ rest)

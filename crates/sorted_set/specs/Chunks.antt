@@ -1,5 +1,5 @@
 -- A list in chunks of neighbours.
-use Rattle.std.specs.Prelude.{ℕ, suc, ◌<◌, Bool, true, List, [], ◌∷◌, length, take, drop}
+use Rattle.std.specs.Prelude.{◌≡◌, ℕ, suc, ◌<◌, Bool, true, List, [], ◌∷◌, length, take, drop}
 use Rattle.std.specs.List.{AllByRecursion, flat_map}
 use Rattle.std.specs.declared.cmp.Ordering.{Ordering}
 use Rattle.std.specs.Ordering.{is_ge}
@@ -29,3 +29,9 @@ pub record IsPlaceFor {X : Type 0} (cmp : X → X → Ordering) (x : X) (chunks 
   pub within : at < length chunks
   pub before : AreBelow cmp x (joined (take at chunks))
   pub after : AreAbove cmp x (joined (drop (suc at) chunks))
+
+-- a walk stands at an element, unless none is left: no chunk after this one is empty, and none is
+-- left where this one is
+pub record IsReady {X : Type 0} (here : List X) (later : List (List X)) : Type 0 where
+  pub filled : AreFilled later
+  pub stands : length here ≡ 0 → later ≡ []

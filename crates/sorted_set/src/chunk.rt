@@ -28,6 +28,16 @@ impl<T> Model for Chunk<T> {
     ghost view = { λ c. c.elements.items };
 }
 
+impl<T> Chunk<T> {
+    /// Its elements from a place on.
+    pub(crate) fn part_from(&self, first: usize) -> &[T]
+        requires { first ≤ length self.now }
+        ensures { result.now ≡ drop first self.now }
+    {
+        &self.elements[first..]
+    }
+}
+
 impl<T: Ord + Drop> Chunk<T> {
     /// A chunk of one element. A refusal frees it.
     pub(crate) fn of(alloc: Global, element: T) -> Result<Chunk<T>, NoMemory>

@@ -1,6 +1,6 @@
 //! The chunks of a sorted set: each has neighbours, none is empty.
-ghost use Rattle.std.specs.Prelude.{◌≡◌, ◌+◌, ◌<◌, ◌≤◌, insert, length, OnOk, OnErr, slice_get};
-ghost use Rattle.std.specs.Prelude.{vec_len, vec_capacity};
+ghost use Rattle.std.specs.Prelude.{◌≡◌, ◌+◌, ◌<◌, ◌≤◌, false, insert, length, IfOk, OnOk, OnErr};
+ghost use Rattle.std.specs.Prelude.{slice_get, vec_len, vec_capacity};
 ghost use Rattle.std.specs.Option.{option_copied};
 ghost use Rattle.std.specs.BTreeMap.{is_at};
 ghost use Rattle.std.specs.BTreeSet.{insert_key};
@@ -9,6 +9,7 @@ ghost use Rattle.sorted_set.specs.Sorted.{elements_from};
 ghost use Rattle.sorted_set.specs.Chunks.{AreChunks, IsPlaceFor, joined};
 
 use crate::chunk::{CHUNK_MOST, Chunk};
+use crate::rest::Rest;
 use linx_base::NoMemory;
 
 /// The place of the chunk in which an element stands or would stand: the last that doesn't begin
@@ -33,21 +34,38 @@ fn insert_chunk<T: Ord + Drop>(chunks: &mut Vec<Chunk<T>>, at: usize, chunk: Chu
     let _ = chunks.insert(at, chunk);
 }
 
-/// Cuts a full chunk in two. A refusal changes nothing.
-fn split_full<T: Ord + Drop>(chunks: &mut Vec<Chunk<T>>, at: usize) -> Result<(), NoMemory>
+/// Cuts a full chunk in two, and says whether it did. A refusal changes nothing.
+fn split_full<T: Ord + Drop>(chunks: &mut Vec<Chunk<T>>, at: usize) -> Result<bool, NoMemory>
     requires within { at < vec_len chunks.old }
     requires chunks { AreChunks T.cmp chunks.old.items }
     ensures elements { joined chunks.new.items ≡ joined chunks.old.items }
     ensures chunks { AreChunks T.cmp chunks.new.items }
     ensures len { vec_len chunks.old ≤ vec_len chunks.new }
+    ensures same { IfOk result (λ split. split ≡ false → chunks.new.items ≡ chunks.old.items) }
 {
     if chunks[at].len() < CHUNK_MOST {
-        return Ok(());
+        return Ok(false);
     }
     chunks.reserve(1)?;
     let back = chunks[at].split()?;
     insert_chunk(chunks, at + 1, back);
-    Ok(())
+    Ok(true)
+}
+
+/// The place of the chunk in which an element stands or would stand, which is cut in two first
+/// where it is full.
+fn room_for<T: Ord + Drop>(chunks: &mut Vec<Chunk<T>>, element: &T) -> Result<usize, NoMemory>
+    requires chunks { AreChunks T.cmp chunks.old.items }
+    requires some { 0 < vec_len chunks.old }
+    ensures place { IfOk result (IsPlaceFor T.cmp element.now chunks.new.items) }
+    ensures elements { joined chunks.new.items ≡ joined chunks.old.items }
+    ensures chunks { AreChunks T.cmp chunks.new.items }
+{
+    let at = chunk_for(chunks, element);
+    if split_full(chunks, at)? {
+        return Ok(chunk_for(chunks, element));
+    }
+    Ok(at)
 }
 
 /// Adds an element at its place, unless an equal one is there. A refusal frees it.
@@ -63,9 +81,7 @@ pub(crate) fn insert<T: Ord + Drop>(chunks: &mut Vec<Chunk<T>>, element: T) -> R
         chunks.push(chunk)?;
         return Ok(());
     }
-    let full = chunk_for(chunks, &element);
-    split_full(chunks, full)?;
-    let at = chunk_for(chunks, &element);
+    let at = room_for(chunks, &element)?;
     chunks[at].insert(element)?;
     Ok(())
 }
@@ -122,4 +138,18 @@ pub(crate) fn nth_from<'a, T: Ord + Drop>(
         return chunk.get(first + k);
     }
     nth(&chunks[at + 1..], k - here)
+}
+
+/// The elements that aren't below this one, in order.
+pub(crate) fn rest_from<'a, T: Ord + Drop>(chunks: &'a [Chunk<T>], from: &T) -> Rest<'a, T>
+    requires { AreChunks T.cmp chunks.now }
+    ensures { result ≡ elements_from T.cmp from.now (joined chunks.now) }
+{
+    if chunks.is_empty() {
+        return Rest::of(&[], chunks);
+    }
+    let at = chunk_for(chunks, from);
+    let chunk = &chunks[at];
+    let first = chunk.count_below(from);
+    Rest::of(chunk.part_from(first), &chunks[at + 1..])
 }

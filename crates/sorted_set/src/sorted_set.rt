@@ -7,6 +7,7 @@ ghost use Rattle.sorted_set.specs.Sorted.{Ascends, elements_from};
 
 use crate::chunk::Chunk;
 use crate::chunks;
+use crate::rest::Rest;
 use linx_base::NoMemory;
 use std::alloc::Global;
 use std::marker::Model;
@@ -62,5 +63,13 @@ impl<T: Ord + Drop> SortedSet<T> {
         ensures ascending { Ascends T.cmp self.now }
     {
         chunks::nth_from(&self.chunks, from, k)
+    }
+
+    /// The elements that aren't below this one, in order.
+    pub fn rest_from(&self, from: &T) -> Rest<'_, T>
+        ensures rest { result ≡ elements_from T.cmp from.now self.now }
+        ensures ascending { Ascends T.cmp self.now }
+    {
+        chunks::rest_from(&self.chunks, from)
     }
 }

@@ -26,6 +26,12 @@ fn thousand_elements_stand_in_order(rt: HostRuntime) -> Result<(), Fail> {
         assert_eq!(rt; set.nth_from(&0, k), Some(element));
         assert_eq!(rt; set.nth_from(element, 0), Some(element));
     }
+    let mut rest = set.rest_from(&0);
+    for element in &kept {
+        assert_eq!(rt; rest.first(), Some(element));
+        rest.pass();
+    }
+    assert_eq!(rt; rest.first(), None);
     assert_eq!(rt; set.nth_from(&0, kept.len()), None);
     assert_eq!(rt; set.nth_from(&1_009, 0), None);
     Ok(())

@@ -37,7 +37,7 @@ use Rattle.node_kernel.specs.Answers.{is_opening, is_pump_event, is_pumped, is_w
 use Rattle.node_kernel.specs.Answers.{needs_endpoint, opened_as, refused}
 use Rattle.script_words.specs.declared.command.Command.{Command}
 use Rattle.actor_run.specs.Asking.{is_sending}
-use Rattle.actor_run.specs.Following.{endpoint_after, next_ask, Makes}
+use Rattle.actor_run.specs.Following.{endpoint_after, next_ask, MakesAsked}
 use Rattle.run_trunks.specs.States.{trunks_of}
 use Rattle.trunk.specs.Events.{TrunkState, kept_of, told_by}
 use Rattle.trunk.specs.Tells.{up_of_tick}
@@ -322,7 +322,7 @@ module _ (old new : Layout) (k : ℕ) (ask : Ask) (answer : StepAnswer) where
   made_with : (head : Option Head)
       → IsHeadOr old.shape P still k (endpoint_of P k) (granted P k ask).event
       (granted P k ask).hand head
-      → IsStepFor old new (Actor k) head answer → Makes P k ask answer new.log.steps
+      → IsStepFor old new (Actor k) head answer → MakesAsked P k ask answer new.log.steps
   made_with None vain same =
       let looks : ask.event ≡ asks.Look vain.filter =
       granted_look (endpoint_of P k) (closed_step P k) ask vain.filter vain.looks in
@@ -347,7 +347,7 @@ module _ (old new : Layout) (k : ℕ) (ask : Ask) (answer : StepAnswer) where
       )
 
   pub makes : is_some ask.hand ≡ hands_over ask.event → IsStepped old new (Actor k) ask answer
-      → Makes old.log.steps k ask answer new.log.steps
+      → MakesAsked old.log.steps k ask answer new.log.steps
   makes handed stepped =
       made_with (head_for old.shape P still (Actor k) ask)
       (the_head-made old.shape P still k ask handed) stepped

@@ -13,7 +13,7 @@ use Rattle.node_kernel.specs.declared.answers.StepAnswer.{StepAnswer}
 use Rattle.node_kernel.specs.declared.ask.Ask.{Ask}
 use Rattle.node_kernel.specs.Answers.{is_end_event}
 use Rattle.actor_run.specs.Asking.{asked_by, handed}
-use Rattle.actor_run.specs.Following.{IsTurned, endpoint_after, next_ask, Makes, Playing}
+use Rattle.actor_run.specs.Following.{IsTurned, endpoint_after, next_ask, MakesAsked, Playing}
 use Rattle.actor_run.specs.Knowing.{Knows, stopped_with, told}
 use Rattle.actor_run.proofs.Turns.{stopped_same, turned}
 use Rattle.fabric.specs.Asks.{MayAsk}
@@ -74,8 +74,8 @@ module _ (script : ScriptParts) (declared : IsScript script) (old : Layout)
       let handed_is : is_some ask.hand ≡ hands_over ask.event =
       subst (λ (a : Ask). is_some a.hand ≡ hands_over a.event) (sym ask-next)
       (next-handed script declared P k) in
-      let made : Makes P k (asked_by commands mind me) answer new.log.steps =
-      subst (λ (a : Ask). Makes P k a answer new.log.steps) is
+      let made : MakesAsked P k (asked_by commands mind me) answer new.log.steps =
+      subst (λ (a : Ask). MakesAsked P k a answer new.log.steps) is
       (makes old new k ask answer handed_is stepped) in
       let over = is_end_event (asked_by commands mind me).event in
       turned-seated script new.log.steps k player over

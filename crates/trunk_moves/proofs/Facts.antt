@@ -53,7 +53,8 @@ use Rattle.trunk.specs.Events.{TrunkState, kept_of, side_of}
 use Rattle.trunk.specs.Laws.{MayPublish}
 use Rattle.trunk.proofs.Trunks.{agree}
 use Rattle.trunk_moves.specs.Grants.{AreNames}
-use Rattle.trunk_moves.specs.Packets.{name_over, names_hunted}
+use Rattle.linx_base.specs.Pending.{name_over}
+use Rattle.trunk_moves.specs.Packets.{names_hunted}
 use Rattle.trunk_moves.specs.Steps.{HuntsName}
 use Rattle.trunk_moves.specs.Trunks.{AllKept, AllUseUpTo, NodesFit, RunTrunks, links_of}
 use Rattle.trunk_moves.proofs.Told.{with_name}

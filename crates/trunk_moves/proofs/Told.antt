@@ -69,7 +69,8 @@ use Rattle.trunk.proofs.Events.{events_keep, near_tells, turned_keeps}
 use Rattle.trunk.proofs.Silence.{offers_ticks}
 use Rattle.trunk.proofs.Trunks.{events_tell}
 use Rattle.trunk_moves.specs.Grants.{AreNames}
-use Rattle.trunk_moves.specs.Packets.{answered, asks_for, holder_of, name_over}
+use Rattle.linx_base.specs.Pending.{name_over}
+use Rattle.trunk_moves.specs.Packets.{answered, asks_for, holder_of}
 use Rattle.trunk_moves.specs.Packets.{names_hunted, publishes_if, told_at}
 use Rattle.trunk_moves.specs.Trunks.{state_of}
 use Rattle.trunk_moves.proofs.Beats.{lost_silent}

@@ -1,10 +1,10 @@
 -- What a packet, and a tick, makes of a trunk, with what its node does when it is told of it.
-use Rattle.std.specs.Prelude.{ℕ, ◌-◌, ◌≡◌, ◌==◌, nat_lt, Bool, true, false, if◌then◌else◌}
+use Rattle.std.specs.Prelude.{ℕ, ◌-◌, ◌≡◌, nat_lt, Bool, true, false, if◌then◌else◌}
 use Rattle.std.specs.Prelude.{List, [], ◌∷◌}
 use Rattle.std.specs.Prelude.{length, Option, Some, None}
-use Rattle.std.specs.List.{filter_map}
 use Rattle.std.specs.Str.{bytes_eq}
 use Rattle.linx_base.specs.FirstMatch.{first_match}
+use Rattle.linx_base.specs.Pending.{names_over}
 use Rattle.linx_base.specs.Sides.{other_of}
 use Rattle.linx_base.specs.declared.frame.Verdict.{Verdict}
 use Rattle.linx_base.specs.declared.frame.Verdict.TheVariants.{Deliver, Lose, Repeat, Swap}
@@ -12,9 +12,6 @@ use Rattle.linx_base.specs.declared.identity.Inc.{Inc}
 use Rattle.linx_base.specs.declared.identity.LinkNo.{LinkNo}
 use Rattle.linx_base.specs.declared.identity.Session.{Session}
 use Rattle.linx_base.specs.declared.identity.Side.{Side}
-use Rattle.linx_base.specs.declared.name.Path.{Path}
-use Rattle.linx_base.specs.declared.name.Path.TheVariants.{Local, Over}
-use Rattle.linx_base.specs.declared.pending.PendingHunt.{PendingHunt}
 use Rattle.rlnh_end.specs.declared.heard.Heard.{Heard}
 use Rattle.carrier.specs.Events.{flight_from, handed_by, told_by as link_told_by}
 use Rattle.journal.specs.History.{name_of, open_endpoints}
@@ -32,14 +29,9 @@ use Rattle.trunk.specs.Tells.{up_of_tick}
 
 -- ---- what a node does when it is told
 
--- the name that a path has over a link
-abbrev pub name_over : LinkNo → Path → Option (List ℕ)
-name_over l (Local name) = None
-name_over l (Over m name) = if m.0 == l.0 then Some name else None
-
 -- the names of the hunts of a node that are pending over a link, in order of hunting
 abbrev pub names_hunted : List Step → ℕ → LinkNo → List (List ℕ)
-names_hunted P n l = filter_map (λ (h : PendingHunt). name_over l h.path) (hunting P n)
+names_hunted P n l = names_over l (hunting P n)
 
 -- a side asks for names, one after the other
 abbrev pub asks_for : Side → List (List ℕ) → TrunkState → TrunkState

@@ -1,8 +1,9 @@
 //! The smallest story: a title, and who made each step. It shows what a state behind the lock owes,
 //! and the lock is tried on it.
-ghost use Rattle.std.specs.Prelude.{◌≡◌, [], ◌∷◌, OnOk, OnErr};
-ghost use Rattle.turn_lock.specs.Passes.{IsPassOf, own_steps};
-ghost use Rattle.turn_lock.specs.Stories.{made};
+ghost use Rattle.std.specs.Prelude.{◌≡◌, List, [], ◌∷◌, OnOk, OnErr};
+ghost use Rattle.turn_lock.specs.Passes.{IsPassOf, IsSamePass, own_steps};
+ghost use Rattle.turn_lock.specs.Stories.{made, RestsFor};
+ghost use Rattle.turn_lock.specs.declared.story.Made.{Made};
 
 use crate::lock::TurnLock;
 use crate::pass::Pass;
@@ -75,7 +76,11 @@ pub fn add_step<R: Wait>(
     pass: Pass<Log>,
 ) -> (Pass<Log>, Result<(), AllocError>)
     requires { IsPassOf lock.now pass }
-    ensures same { result.0 ≡ record pass { front = result.0.front } }
+    ensures same { IsSamePass pass result.0 }
+    ensures goes_on { OnOk result.1 ((found : List (Made (Unit {0})))
+        × (result.0.front ≡ made pass.number tt ∷ found)
+        × RestsFor pass.number found pass.front) }
+    ensures stays { OnErr result.1 (RestsFor pass.number result.0.front pass.front) }
     ensures own { OnOk result.1 (own_steps result.0 ≡ made pass.number tt ∷ own_steps pass) }
     ensures refused { OnErr result.1 (own_steps result.0 ≡ own_steps pass) }
 {

@@ -1,6 +1,6 @@
 use Rattle.std.proofs.Common.{◌≡◌, ◌∙◌, ap, sym, List, ℕ, Some}
 use Rattle.std.specs.Prelude.{slice_get, option_copied}
-use Rattle.node_kernel.specs.Nodes.{names_over}
+use Rattle.linx_base.specs.Pending.{names_over}
 use Rattle.fabric.proofs.Tells.{asks-more}
 use Rattle.fabric.proofs.bringing.ask_again.Goals as goal
 

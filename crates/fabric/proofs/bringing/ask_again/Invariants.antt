@@ -1,5 +1,5 @@
 use Rattle.std.proofs.Common.{◌≡◌, take}
-use Rattle.node_kernel.specs.Nodes.{names_over}
+use Rattle.linx_base.specs.Pending.{names_over}
 use Rattle.run_trunks.specs.Changes.{at_link}
 use Rattle.trunk_moves.specs.Packets.{asks_for}
 use Rattle.fabric.proofs.bringing.ask_again.Given as goal

@@ -1,6 +1,6 @@
 use Rattle.std.proofs.Common.{◌∙◌, ◌+◌, sym, ap, map, take}
 use Rattle.node_kernel.specs.Nodes.{put_all}
-use Rattle.node_kernel.specs.Kept.{bring_into, named}
+use Rattle.node_kernel.specs.Kept.{bring_into, name_entry}
 use Rattle.node_kernel.proofs.Bringing.{put_more, put_none}
 use Rattle.node_kernel.proofs.Keeping.{rising_alike, same_put_all}
 use Rattle.node_kernel.proofs.delivery.bring_all.Goals as goal
@@ -11,13 +11,13 @@ loop-k-init c = sym (put_none c.args.step c.args.endpoints.now)
 pub bring-requires : goal.bring-requires
 bring-requires c =
     let es = c.args.endpoints.now in
-    rising_alike c.loop-k.endpoints es (ap (map named) c.loop-k.invariant
+    rising_alike c.loop-k.endpoints es (ap (map name_entry) c.loop-k.invariant
     ∙ same_put_all c.args.step (take c.loop-k.k c.args.effects.now) es) c.requires
 
 pub take_back_all-requires : goal.take_back_all-requires
 take_back_all-requires c =
     let es = c.args.endpoints.now in
-    rising_alike c.bring.new.endpoints es (ap (map named) (c.in-Err.ensures.err
+    rising_alike c.bring.new.endpoints es (ap (map name_entry) (c.in-Err.ensures.err
     ∙ c.loop-k.invariant) ∙ same_put_all c.args.step (take c.loop-k.k c.args.effects.now) es)
     c.requires
 

@@ -1,6 +1,6 @@
 use Rattle.std.proofs.Common.{◌∙◌, sym}
 use Rattle.sigsel.specs.Selection.{is_notice_of}
-use Rattle.keyed_list.proofs.Entries.{others, others_none, without_none_first}
+use Rattle.keyed_list.proofs.Entries.{others_none, without_none_first}
 use Rattle.node_kernel.proofs.endpoint.drop_rest.Goals as goal
 
 pub returns : goal.returns

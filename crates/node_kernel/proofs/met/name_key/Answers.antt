@@ -1,6 +1,6 @@
 use Rattle.std.proofs.Common.{refl, ◌∙◌}
-use Rattle.keyed_list.proofs.Finding.{alone, same_number, same_parts, same_text}
-use Rattle.node_kernel.proofs.ByPeer.{by_peer, flipped}
+use Rattle.keyed_list.proofs.Finding.{alone, flipped, same_number, same_parts, same_text}
+use Rattle.node_kernel.proofs.ByPeer.{by_peer}
 use Rattle.node_kernel.proofs.met.name_key.Goals as goal
 
 pub returns : goal.returns

@@ -1,8 +1,11 @@
-use Rattle.std.proofs.Common.{◌≡◌, ◌++◌, map, take}
-use Rattle.journal.specs.Effects.{found, hunts_for}
+use Rattle.std.proofs.Common.{◌≡◌, ◌++◌, length, map}
+use Rattle.journal.specs.Effects.{found, founds}
 use Rattle.node_kernel.proofs.rules.add_founds.Given as goal
 
--- the hunts so far are answered
-abbrev pub invariant-loop-k : goal.invariant-loop-k
-invariant-loop-k l = l.effects ≡ l.fn.effects
-    ++ map (found l.peer) (take l.k (hunts_for l.path l.hunts))
+-- the answers so far, and those to the hunts that are left, are all
+abbrev pub invariant-loop-hunt : goal.invariant-loop-hunt
+invariant-loop-hunt l = l.effects ++ map (found l.peer) l.left
+    ≡ l.fn.effects ++ founds l.path l.peer l.hunts
+
+abbrev pub decreases-loop-hunt : goal.decreases-loop-hunt
+decreases-loop-hunt l = length l.left

@@ -3,5 +3,6 @@ use Rattle.journal.specs.declared.effect.Effect.TheVariants.{Closed}
 use Rattle.node_kernel.proofs.rules.closings.Given as goal
 
 -- the endpoints so far are closed
-abbrev pub invariant-loop-k : goal.invariant-loop-k
-invariant-loop-k l = l.effects ≡ map (λ e. Closed e.inc) (take l.k l.roster.endpoints)
+abbrev pub invariant-loop-endpoint : goal.invariant-loop-endpoint
+invariant-loop-endpoint l =
+    l.effects ≡ map (λ e. Closed e.inc) (take l.endpoint-index l.endpoints)

@@ -14,4 +14,9 @@ returns g c =
     c.in_ok-back.back c.insert_chunk.new.chunks.items c.requires.chunks within was back.ok
     back.halves.0 back.halves.1
     (rw c.in_ok-reserve.ensures.items at c.insert_chunk.ensures.items) in
-    record { elements = both.0; chunks = both.1; len = grind (arith, common_steps) }
+    record {
+      elements = both.0;
+      chunks = both.1;
+      len = grind (arith, common_steps);
+      same = λ not_split. cc;
+    }

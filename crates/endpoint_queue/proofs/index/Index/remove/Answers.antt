@@ -4,7 +4,7 @@ use Rattle.endpoint_queue.proofs.DropLemmas.{drop-first, drop-remove}
 use Rattle.endpoint_queue.proofs.index.Index.remove.Goals as goal
 
 pub returns-then-at-eq0-clause-places : goal.returns-then-at-eq0-clause-places
-returns-then-at-eq0-clause-places g c =
+returns-then-at-eq0-clause-places c =
     let slots = c.self.inside.slots.items in
     let gone = c.self.inside.gone in
     let left : length (drop gone slots) ≡ length c.args.self.now.places =
@@ -13,7 +13,7 @@ returns-then-at-eq0-clause-places g c =
     rw (c.if-at-eq0.true, ← c.self.view_is) (drop-first slots gone (gone + 1) within refl)
 
 pub returns-else-at-eq0-clause-places : goal.returns-else-at-eq0-clause-places
-returns-else-at-eq0-clause-places g c =
+returns-else-at-eq0-clause-places c =
     let within : c.self.inside.gone ≤ length c.self.inside.slots.items =
     grind (arith, common_steps) in
     rw (c.remove.ensures.items, ← c.self.view_is)

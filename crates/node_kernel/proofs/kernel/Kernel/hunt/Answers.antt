@@ -19,7 +19,7 @@ hunt_of at path signal number =
 pub returns-in-Some-clause-effects : goal.returns-in-Some-clause-effects
 returns-in-Some-clause-effects c =
     let h = hunt_of c.args.at c.args.path c.args.signal c.args.number in
-    if_ok c.answer.result c.answer.ensures.effects (λ effects e. e c.args.path
+    if_ok c.answer.result c.answer.ensures.effects (λ effects e. e
     ∙ ap (λ o. hunted o h) c.in-Some.ensures)
 
 pub returns-in-Some-clause-ok : goal.returns-in-Some-clause-ok
@@ -36,8 +36,8 @@ returns-in-Some-clause-ok c =
     in
     on_ok c.answer.result c.answer.ensures.ok (λ e.
     elim c.match-path.branch [
-      | in-Local-1 w ↦ w.self-is ∙ ap whole (e c.args.path) ∙ finds
-      | in-Over-1 w ↦ w.self-is ∙ ap whole (e c.args.path) ∙ finds
+      | in-Local-1 w ↦ w.self-is ∙ ap whole e ∙ finds
+      | in-Over-1 w ↦ w.self-is ∙ ap whole e ∙ finds
     ])
 
 pub returns-in-None-clause-ok : goal.returns-in-None-clause-ok

@@ -1,7 +1,7 @@
 use Rattle.std.proofs.Common.{◌≡◌, ◌∙◌, ◌++◌, ap, arith, drop, length, map, take, List}
 use Rattle.std.proofs.lemmas.List.{take_at}
 use Rattle.node_kernel.specs.Nodes.{OpenEndpoint, put_all, without_endpoint}
-use Rattle.node_kernel.specs.Kept.{NodeEndpoints, named}
+use Rattle.node_kernel.specs.Kept.{NodeEndpoints, name_entry}
 use Rattle.node_kernel.proofs.Calling.{without_put}
 use Rattle.node_kernel.proofs.Keeping.{kept_alike_of, same_put_all}
 use Rattle.node_kernel.proofs.roster.Roster.close.Goals as goal
@@ -14,7 +14,7 @@ invariant_of-self-2 c =
     let is : new ≡ put_all c.args.step c.args.effects.now old.items = c.in_ok-bring_all.ensures.ok
     ∙ ap (put_all c.args.step c.args.effects.now) c.deref_mut.ensures.value in
     kept_alike_of c.self.invariant (take old.len (new ++ drop (length new) old.items))
-    (ap (map named) (take_at new (drop (length new) old.items) old.len len ∙ is)
+    (ap (map name_entry) (take_at new (drop (length new) old.items) old.len len ∙ is)
     ∙ same_put_all c.args.step c.args.effects.now old.items)
 
 pub returns-clause-ok : goal.returns-clause-ok

@@ -1,6 +1,6 @@
 use Rattle.std.proofs.Common.{◌≡◌, ◌∙◌, ◌++◌, ap, arith, drop, length, map, take}
 use Rattle.std.proofs.lemmas.List.{take_at}
-use Rattle.node_kernel.specs.Kept.{named}
+use Rattle.node_kernel.specs.Kept.{name_entry}
 use Rattle.node_kernel.proofs.Keeping.{kept_alike_of, same_delivered}
 use Rattle.node_kernel.proofs.roster.Roster.deliver.Goals as goal
 
@@ -9,9 +9,9 @@ invariant_of-self c =
     let new = c.deliver.new.endpoints in
     let old = c.self.inside.endpoints in
     let len : length new ≡ old.len = omega arith in
-    let same : map named new ≡ map named c.deref_mut.result.now =
+    let same : map name_entry new ≡ map name_entry c.deref_mut.result.now =
     same_delivered c.args.inc c.args.item c.deref_mut.result.now new c.deliver.result
     c.deliver.ensures.queued c.deliver.ensures.err in
     kept_alike_of c.self.invariant (take old.len (new ++ drop (length new) old.items))
-    (ap (map named) (take_at new (drop (length new) old.items) old.len len) ∙ same
-    ∙ ap (map named) c.deref_mut.ensures.value)
+    (ap (map name_entry) (take_at new (drop (length new) old.items) old.len len) ∙ same
+    ∙ ap (map name_entry) c.deref_mut.ensures.value)

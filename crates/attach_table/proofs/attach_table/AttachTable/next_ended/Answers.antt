@@ -1,6 +1,0 @@
-use Rattle.attach_table.proofs.Rooms.{all_without}
-use Rattle.attach_table.proofs.attach_table.AttachTable.next_ended.Goals as goal
-
-pub invariant_of-self : goal.invariant_of-self
-invariant_of-self c = rw c.take_first.ensures.others
-    (all_without _ _ c.self.inside.attaches c.self.invariant)
