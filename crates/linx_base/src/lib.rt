@@ -31,6 +31,3 @@ pub use signal::{BufferError, Reason, SigNote, Signal};
 pub use try_copy::TryCopy;
 pub use undo_list::UndoList;
 pub use undo_queue::UndoQueue;
-
-#[cfg(test)]
-mod tests;

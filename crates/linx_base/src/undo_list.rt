@@ -63,21 +63,3 @@ impl<T> UndoList<T> {
         self.elements.truncate(self.kept);
     }
 }
-
-#[cfg(test)]
-mod tests {
-    use super::UndoList;
-    use std::test::Fail;
-
-    #[test]
-    fn an_undo_list_goes_back_to_what_was_kept(rt: HostRuntime) -> Result<(), Fail> {
-        let mut list = UndoList::new(rt.alloc());
-        list.push(1u32)?;
-        list.keep();
-        list.push(2)?;
-        assert_eq!(rt; list.elements.as_slice(), [1, 2].as_slice());
-        list.undo();
-        assert_eq!(rt; list.elements.as_slice(), [1].as_slice());
-        Ok(())
-    }
-}

@@ -5,6 +5,3 @@
 mod name_key;
 
 pub use name_key::NameKey;
-
-#[cfg(test)]
-mod tests;

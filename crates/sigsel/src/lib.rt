@@ -8,6 +8,3 @@ mod spelling;
 
 pub use sigsel::{Numbers, Sigsel};
 pub use spelling::SelError;
-
-#[cfg(test)]
-mod tests;

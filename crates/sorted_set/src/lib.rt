@@ -10,6 +10,3 @@ mod sorted_set;
 
 pub use rest::Rest;
 pub use sorted_set::SortedSet;
-
-#[cfg(test)]
-mod tests;
