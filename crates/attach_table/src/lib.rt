@@ -10,6 +10,3 @@ mod attach_table;
 
 pub use attach_key::AttachKey;
 pub use attach_table::{AttachTable, AttachesUnder};
-
-#[cfg(test)]
-mod tests;

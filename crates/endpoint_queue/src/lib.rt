@@ -13,10 +13,3 @@ mod queue;
 pub use linx_base::{Item, Kind};
 pub use place::Place;
 pub use queue::Queue;
-
-#[cfg(test)]
-mod tests;
-
-pub use linx_base::{Item, Kind};
-pub use place::Place;
-pub use queue::Queue;

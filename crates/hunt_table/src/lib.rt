@@ -7,6 +7,3 @@ mod hunt_table;
 
 pub use hunt_key::HuntKey;
 pub use hunt_table::{HuntTable, HuntsUnder};
-
-#[cfg(test)]
-mod tests;

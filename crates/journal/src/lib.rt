@@ -16,6 +16,3 @@ pub use effect::{Effect, Effects, Step};
 pub use event::Event;
 pub use head::{Detached, Head, Refusal, SentTo};
 pub use journal::Journal;
-
-#[cfg(test)]
-mod tests;

@@ -9,6 +9,3 @@ mod named;
 
 pub use name_table::NameTable;
 pub use named::NamedEndpoint;
-
-#[cfg(test)]
-mod tests;

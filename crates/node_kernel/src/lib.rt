@@ -19,6 +19,3 @@ mod rules;
 pub use answers::{OpenError, OpenedAs, Sent, StepAnswer};
 pub use ask::Ask;
 pub use kernel::Kernel;
-
-#[cfg(test)]
-mod tests;

@@ -1,0 +1,258 @@
+//! Calls of the tables of a node: its names, its pending hunts and its attaches.
+
+use crate::follow::{Called, follows};
+use crate::texts::{add_piece, inc_text, name_text, or_nothing, word, yes_text};
+use crate::words::{front, inc_of, name_of, path_of, peer_of, session_of};
+use attach_table::{AttachTable, AttachesUnder};
+use hunt_table::HuntTable;
+use linx_base::{AttRef, Inc, LinkNo, NodeNo, PendingAttach, PendingHunt, Signal};
+use name_table::NameTable;
+use std::alloc::Global;
+use std::mem;
+use std::test::Fail;
+
+/// `add INC NAME`.
+fn add(alloc: Global, table: &mut NameTable, rest: &str) -> Result<String, Fail> {
+    let (inc, name) = front(rest);
+    match table.add(name_of(alloc, name)?, inc_of(inc)?) {
+        Ok(()) => word(alloc, "done"),
+        Err(_) => Err(Fail::from("out of memory")),
+    }
+}
+
+/// `fill COUNT NAME`: so many endpoints on the first node are added under a name.
+fn fill(alloc: Global, table: &mut NameTable, rest: &str) -> Result<String, Fail> {
+    let (count, name) = front(rest);
+    for k in 0..count.parse::<u32>()? {
+        let inc = Inc::of(NodeNo(1), k + 1);
+        if table.add(name_of(alloc, name)?, inc).is_err() {
+            return Err(Fail::from("out of memory"));
+        }
+    }
+    word(alloc, "done")
+}
+
+/// `first NAME`: the first endpoint of the name.
+fn first(alloc: Global, table: &NameTable, rest: &str) -> Result<String, Fail> {
+    match table.first(&name_of(alloc, rest)?) {
+        Some(inc) => inc_text(alloc, inc),
+        None => word(alloc, "none"),
+    }
+}
+
+impl Called for NameTable {
+    fn answer(&mut self, alloc: Global, call: &str) -> Result<String, Fail> {
+        let (call, rest) = front(call);
+        match call {
+            "add" => add(alloc, self, rest),
+            "fill" => fill(alloc, self, rest),
+            "first" => first(alloc, self, rest),
+            "name" => name_text(alloc, self.name_of(inc_of(rest)?)),
+            "remove" => yes_text(alloc, self.remove(inc_of(rest)?)),
+            _ => Err(Fail::from("no such call")),
+        }
+    }
+}
+
+#[test]
+fn first_of_a_name_is_the_first_that_is_left(rt: HostRuntime) -> Result<(), Fail> {
+    let mut table = NameTable::new(rt.alloc());
+    let outcome = follows(
+        rt.alloc(),
+        &mut table,
+        "fill 99 server -> done
+        add 1.100 client -> done
+        first server -> 1.1
+        first serve -> none
+        name 1.100 -> client
+        remove 1.1 -> yes
+        remove 1.1 -> no
+        name 1.1 -> none
+        first server -> 1.2",
+    );
+    mem::forget(table);
+    outcome
+}
+
+/// `pend NUMBER HUNTER PATH`: a hunt, with an empty signal.
+fn pend(alloc: Global, table: &mut HuntTable, rest: &str) -> Result<String, Fail> {
+    let (number, rest) = front(rest);
+    let (at, path) = front(rest);
+    let hunt = PendingHunt {
+        at: inc_of(at)?,
+        number: number.parse()?,
+        path: path_of(alloc, path)?,
+        signal: Signal::alloc(alloc, 251, b"")?,
+    };
+    match table.pend(hunt) {
+        Ok(()) => word(alloc, "done"),
+        Err(_) => Err(Fail::from("out of memory")),
+    }
+}
+
+/// `for PATH`: the numbers of the hunts for the path.
+fn hunts_for(alloc: Global, table: &HuntTable, rest: &str) -> Result<String, Fail> {
+    let path = path_of(alloc, rest)?;
+    let mut hunts = table.hunts_for(&path);
+    let mut text = String::new(alloc);
+    for _ in 0..u64::MAX {
+        let Some(hunt) = hunts.next_entry() else {
+            break;
+        };
+        add_piece(
+            &mut text,
+            " ",
+            format!(in alloc; "{}", hunt.number)?.as_str(),
+        )?;
+    }
+    or_nothing(alloc, text)
+}
+
+/// `over LINK PLACE`: the name of the hunt over the link at that place, from 0.
+fn hunt_over(alloc: Global, table: &HuntTable, rest: &str) -> Result<String, Fail> {
+    let (link, place) = front(rest);
+    let link = LinkNo(link.parse()?);
+    name_text(alloc, table.nth_over(link, place.parse()?))
+}
+
+impl Called for HuntTable {
+    fn answer(&mut self, alloc: Global, call: &str) -> Result<String, Fail> {
+        let (call, rest) = front(call);
+        match call {
+            "pend" => return pend(alloc, self, rest),
+            "for" => return hunts_for(alloc, self, rest),
+            "over" => return hunt_over(alloc, self, rest),
+            "drop_of" => self.drop_of(inc_of(rest)?),
+            "drop_for" => self.drop_for(&path_of(alloc, rest)?),
+            _ => return Err(Fail::from("no such call")),
+        }
+        word(alloc, "done")
+    }
+}
+
+#[test]
+fn hunts_are_found_by_path_link_and_hunter(rt: HostRuntime) -> Result<(), Fail> {
+    let mut table = HuntTable::new(rt.alloc());
+    let outcome = follows(
+        rt.alloc(),
+        &mut table,
+        "pend 10 1.1 1/a -> done
+        pend 11 1.2 a -> done
+        pend 12 1.1 2/a -> done
+        pend 13 1.3 1/b -> done
+        pend 14 1.3 1/a -> done
+        for 1/a -> 10 14
+        over 1 1 -> b
+        over 1 3 -> none
+        drop_of 1.3 -> done
+        for 1/a -> 10
+        drop_for 1/a -> done
+        for 1/a -> nothing
+        over 2 0 -> a
+        for a -> 11",
+    );
+    mem::forget(table);
+    outcome
+}
+
+/// `attach HOLDER PEER REFERENCE`: an attach, whose signal has one byte.
+fn attach(alloc: Global, table: &mut AttachTable, rest: &str) -> Result<String, Fail> {
+    let (at, rest) = front(rest);
+    let (peer, reference) = front(rest);
+    let attach = PendingAttach {
+        at: inc_of(at)?,
+        peer: peer_of(peer)?,
+        reference: AttRef(reference.parse()?),
+        signal: Signal::alloc(alloc, 252, b"x")?,
+    };
+    if attach.signal.bytes().len() > 100 {
+        return Err(Fail::from("too long a signal"));
+    }
+    match table.attach(attach) {
+        Ok(()) => word(alloc, "done"),
+        Err(_) => Err(Fail::from("out of memory")),
+    }
+}
+
+/// The references of the attaches that a walk goes over.
+fn references(alloc: Global, mut attaches: AttachesUnder<'_>) -> Result<String, Fail> {
+    let mut text = String::new(alloc);
+    for _ in 0..u64::MAX {
+        let Some(attach) = attaches.next_entry() else {
+            break;
+        };
+        add_piece(
+            &mut text,
+            " ",
+            format!(in alloc; "{}", attach.reference.0)?.as_str(),
+        )?;
+    }
+    or_nothing(alloc, text)
+}
+
+/// `within LINK SESSION`: the references of the attaches to the peers of a session.
+fn within(alloc: Global, table: &AttachTable, rest: &str) -> Result<String, Fail> {
+    let (link, session) = front(rest);
+    let link = LinkNo(link.parse()?);
+    references(alloc, table.attaches_within(link, session_of(session)?))
+}
+
+/// `detach HOLDER REFERENCE`: whether there was one.
+fn detach(alloc: Global, table: &mut AttachTable, rest: &str) -> Result<String, Fail> {
+    let (at, reference) = front(rest);
+    yes_text(alloc, table.detach(inc_of(at)?, AttRef(reference.parse()?)))
+}
+
+/// `drop_within LINK SESSION`.
+fn drop_within(table: &mut AttachTable, rest: &str) -> Result<(), Fail> {
+    let (link, session) = front(rest);
+    table.drop_within(LinkNo(link.parse()?), session_of(session)?);
+    Ok(())
+}
+
+impl Called for AttachTable {
+    fn answer(&mut self, alloc: Global, call: &str) -> Result<String, Fail> {
+        let (call, rest) = front(call);
+        match call {
+            "attach" => return attach(alloc, self, rest),
+            "to" => return references(alloc, self.attaches_to(peer_of(rest)?)),
+            "within" => return within(alloc, self, rest),
+            "detach" => return detach(alloc, self, rest),
+            "drop_to" => self.drop_to(peer_of(rest)?),
+            "drop_of" => self.drop_of(inc_of(rest)?),
+            "drop_within" => drop_within(self, rest)?,
+            _ => return Err(Fail::from("no such call")),
+        }
+        word(alloc, "done")
+    }
+}
+
+#[test]
+fn attaches_are_found_by_peer_session_holder_and_reference(rt: HostRuntime) -> Result<(), Fail> {
+    let mut table = AttachTable::new(rt.alloc());
+    let outcome = follows(
+        rt.alloc(),
+        &mut table,
+        "attach 1.1 1:1.1:2.1 1 -> done
+        attach 1.2 1.9 2 -> done
+        attach 1.2 1:1.1:2.2 3 -> done
+        attach 1.1 1:1.2:2.1 4 -> done
+        attach 1.3 1.9 5 -> done
+        attach 1.3 1:1.1:2.1 6 -> done
+        detach 1.1 2 -> no
+        to 1.9 -> 2 5
+        within 1 1.1 -> 1 3 6
+        within 2 1.1 -> nothing
+        detach 1.2 2 -> yes
+        to 1.9 -> 5
+        drop_to 1.9 -> done
+        to 1.9 -> nothing
+        drop_of 1.1 -> done
+        within 1 1.1 -> 3 6
+        to 1:1.2:2.1 -> nothing
+        drop_within 1 1.1 -> done
+        to 1:1.1:2.1 -> nothing",
+    );
+    mem::forget(table);
+    outcome
+}
