@@ -17,6 +17,3 @@ pub use laws::{each_is_spelled, one_packet, one_spelling};
 pub use packets::{Packet, Part};
 pub use reading::{ReadError, read};
 pub use writing::write;
-
-#[cfg(test)]
-mod tests;

@@ -8,6 +8,3 @@ mod talk;
 
 pub use standing::{Change, Standing, TalkState};
 pub use talk::Talk;
-
-#[cfg(test)]
-mod tests;

@@ -11,6 +11,3 @@ mod tx;
 
 pub use rx::{Accept, Rx};
 pub use tx::Tx;
-
-#[cfg(test)]
-mod tests;

@@ -12,6 +12,3 @@ mod laws;
 pub use cutting::pieces;
 pub use joiner::{Joined, Joiner};
 pub use laws::{pieces_join, streams_join};
-
-#[cfg(test)]
-mod tests;

@@ -13,6 +13,3 @@ mod way_back;
 
 pub use addresses::Addresses;
 pub use meaning::Meaning;
-
-#[cfg(test)]
-mod tests;

@@ -5,6 +5,3 @@
 mod watch;
 
 pub use watch::{Alive, Watch};
-
-#[cfg(test)]
-mod tests;

@@ -6,6 +6,3 @@
 mod wire;
 
 pub use wire::Wire;
-
-#[cfg(test)]
-mod tests;

@@ -15,6 +15,3 @@ pub use reading::{RlnhError, read};
 pub use rlnh::Rlnh;
 pub use signals::{read_signal, write_signal};
 pub use writing::write;
-
-#[cfg(test)]
-mod tests;

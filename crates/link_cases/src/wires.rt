@@ -1,0 +1,120 @@
+//! The packets in flight on a wire.
+
+use crate::lines::{Called, follows, front};
+use linx_base::Blob;
+use lossy_wire::Wire;
+use std::alloc::Global;
+use std::str;
+use std::test::Fail;
+
+/// A packet of the bytes of a word is put on a wire.
+fn put(alloc: Global, wire: &mut Wire, word: &str) -> Result<(), Fail> {
+    let packet = Blob::of(alloc, word.as_bytes())?;
+    match wire.put(packet) {
+        Ok(()) => Ok(()),
+        Err(_) => Err(Fail::from("not put")),
+    }
+}
+
+/// The packet at a place is lost, in an event that begins with it.
+fn lose(wire: &mut Wire, place: usize) -> Result<(), Fail> {
+    wire.keep();
+    if place >= wire.len() {
+        return Err(Fail::from("no such packet"));
+    }
+    wire.lose(place);
+    Ok(())
+}
+
+/// The packets at two places are exchanged, in an event that begins with it.
+fn swap(wire: &mut Wire, place: usize, other: usize) -> Result<(), Fail> {
+    wire.keep();
+    if place >= wire.len() || other >= wire.len() {
+        return Err(Fail::from("no such packets"));
+    }
+    wire.swap(place, other);
+    Ok(())
+}
+
+fn lose_word(wire: &mut Wire, place: &str) -> Result<(), Fail> {
+    lose(wire, place.parse()?)
+}
+
+fn swap_words(wire: &mut Wire, places: &str) -> Result<(), Fail> {
+    let (place, other) = front(places);
+    swap(wire, place.parse()?, other.parse()?)
+}
+
+/// The packets in flight, in order.
+fn flying(alloc: Global, wire: &Wire) -> Result<String, Fail> {
+    let mut text = String::new(alloc);
+    for place in 0..wire.len() {
+        text.push_str(str::from_utf8(wire.at(place).bytes())?)?;
+    }
+    Ok(text)
+}
+
+fn ends_event(wire: &mut Wire, word: &str) -> Result<(), Fail> {
+    match word {
+        "keep" => wire.keep(),
+        "undo" => wire.undo(),
+        _ => return Err(Fail::from("no such call")),
+    }
+    Ok(())
+}
+
+fn call(alloc: Global, wire: &mut Wire, word: &str, rest: &str) -> Result<(), Fail> {
+    match word {
+        "put" => put(alloc, wire, rest),
+        "lose" => lose_word(wire, rest),
+        "swap" => swap_words(wire, rest),
+        _ => ends_event(wire, word),
+    }
+}
+
+impl Called for Wire {
+    fn anew(alloc: Global) -> Wire {
+        Wire::new(alloc)
+    }
+
+    fn answer(&mut self, alloc: Global, line: &str) -> Result<String, Fail> {
+        let (word, rest) = front(line);
+        call(alloc, self, word, rest)?;
+        flying(alloc, self)
+    }
+}
+
+/// Each call answers the packets in flight, whose bytes are a letter.
+#[test]
+fn a_wire_has_what_was_put(rt: HostRuntime) -> Result<(), Fail> {
+    follows::<Wire>(
+        rt.alloc(),
+        "# packets are exchanged and lost
+        put a: a
+        put b: ab
+        put c: abc
+        swap 0 2: cba
+        lose 1: ca
+        keep: ca
+
+        # what an event did is undone
+        put a: a
+        put b: ab
+        put c: abc
+        lose 0: bc
+        put d: bcd
+        undo: abc
+        swap 1 2: acb
+        put e: acbe
+        undo: abc",
+    )
+}
+
+#[test]
+fn a_wire_is_empty_until_a_packet_is_put(rt: HostRuntime) -> Result<(), Fail> {
+    let mut wire = Wire::new(rt.alloc());
+    let was_empty = wire.is_empty();
+    put(rt.alloc(), &mut wire, "a")?;
+    assert!(rt; was_empty && !wire.is_empty());
+    Ok(())
+}
