@@ -14,6 +14,3 @@ mod note;
 pub use carrier::Carrier;
 pub use handed::{Handed, TickedSide};
 pub use laws::{events_keep, events_tell, links_keep_promises, quiet_is_complete};
-
-#[cfg(test)]
-mod tests;

@@ -19,6 +19,3 @@ pub use laws::{
     ends_keep_laws, input_answers_exactly, input_follows_rules, offer_follows_rules,
     tick_follows_rules,
 };
-
-#[cfg(test)]
-mod tests;

@@ -23,6 +23,3 @@ pub use heard::Heard;
 pub use laws::{calls_follow_rules, hearing_follows_rules};
 pub use met_at::MetAt;
 pub use up::Up;
-
-#[cfg(test)]
-mod tests;

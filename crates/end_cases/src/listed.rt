@@ -1,7 +1,7 @@
 //! What each side of a link offered and was handed up in each of its sessions, in plain lists, by
 //! what the calls answer.
 
-use crate::{Carrier, Handed};
+use carrier::{Carrier, Handed};
 use linx_base::{Blob, Message, Session, Side};
 use std::alloc::Global;
 use std::mem;

@@ -1,8 +1,17 @@
-//! The calls of a link, each tried only where its conditions hold.
+//! The calls of a link, each an event, and tried only where its conditions hold.
 
-use crate::{Carrier, Handed, TickedSide};
+use carrier::{Carrier, Handed, TickedSide};
 use linx_base::{Message, Side};
+use std::alloc::Global;
 use std::test::Fail;
+
+/// A link with this window, of one frame at least, and pieces of 64 bytes.
+pub fn new_link(alloc: Global, window: u32) -> Carrier {
+    if window == 0 {
+        return Carrier::new(alloc, 1, 64);
+    }
+    Carrier::new(alloc, window, 64)
+}
 
 /// The packet at place k from a side comes to the other one.
 pub fn deliver(c: &mut Carrier, from: Side, k: usize, keep: bool) -> Result<Handed, Fail> {
