@@ -141,7 +141,7 @@ fn signals_on(now: &Told, others: &[Told], inc: Inc) -> bool {
     is_on
 }
 
-fn goes_up(now: &mut Told, others: &[Told], session: Session, peer: Session) -> Result<(), Fail> {
+fn goes_up(now: &mut Told, others: &[Told], session: Session, peer: Session) -> Result<u32, Fail> {
     if now.session != session || now.peer.is_some() {
         return Err(Fail::from("another session went up"));
     }
@@ -149,51 +149,90 @@ fn goes_up(now: &mut Told, others: &[Told], session: Session, peer: Session) -> 
         return Err(Fail::from("it went up with no session of the other side"));
     }
     now.peer = Some(peer);
-    Ok(())
+    Ok(0)
 }
 
-fn meets(now: &mut Told, inc: Inc, name: &Name, names: &[Name]) -> Result<(), Fail> {
+fn meets(
+    now: &mut Told,
+    others: &[Told],
+    inc: Inc,
+    name: &Name,
+    names: &[Name],
+) -> Result<u32, Fail> {
     let called = names.get(name_of(inc) as usize).ok_or("no such name")?;
     if !called.same(name) || now.met.contains(&inc) {
         return Err(Fail::from("a peer was met twice, or by another name"));
     }
     now.met.push(inc)?;
-    Ok(())
+    give(now, others, Word::Published(inc))
 }
 
-fn parts(now: &mut Told, others: &[Told], inc: Inc) -> Result<(), Fail> {
+/// A peer that was met has gone, after its last signal.
+fn parts(now: &mut Told, others: &[Told], inc: Inc) -> Result<u32, Fail> {
+    let freed = give(now, others, Word::Unpublished(inc))?;
     if !now.met.contains(&inc) || signals_on(now, others, inc) {
         return Err(Fail::from("a peer has gone that wasn't met, or before its last signal"));
     }
     without(&mut now.met, inc);
-    Ok(())
+    Ok(freed)
 }
 
-/// A name is noted once. The answer is its number.
-fn asks(now: &mut Told, name: &Name, names: &[Name]) -> Result<u64, Fail> {
-    let place = names
-        .iter()
-        .position(|other| other.same(name))
-        .ok_or("no such name")?;
-    let number = place as u64;
+/// The number of a name.
+fn number_of(name: &Name, names: &[Name]) -> Result<u64, Fail> {
+    for (number, other) in names.iter().enumerate() {
+        if other.same(name) {
+            return Ok(number as u64);
+        }
+    }
+    Err(Fail::from("no such name"))
+}
+
+/// A name that is asked for is noted once.
+fn asks(now: &mut Told, others: &[Told], name: &Name, names: &[Name]) -> Result<u32, Fail> {
+    let number = number_of(name, names)?;
     if !now.noted.contains(&number) {
         now.noted.push(number)?;
     }
-    Ok(number)
+    give(now, others, Word::Asked(number))
 }
 
-fn arrives(alloc: Global, now: &Told, to: Inc, signal: &Signal) -> Result<(), Fail> {
-    if !now.live.contains(&to) {
-        return Err(Fail::from("a signal arrived at an endpoint that isn't published"));
+/// A signal arrives at an endpoint that is published, with the data of its number.
+fn arrives(
+    alloc: Global,
+    now: &mut Told,
+    others: &[Told],
+    (from, to): (Inc, Inc),
+    signal: &Signal,
+) -> Result<u32, Fail> {
+    let number = signal.number();
+    if !now.live.contains(&to) || signal.bytes() != data_of(alloc, number)?.as_slice() {
+        return Err(Fail::from("it arrived at no published endpoint, or with other data"));
     }
-    if signal.bytes() != data_of(alloc, signal.number())?.as_slice() {
-        return Err(Fail::from("a signal arrived with other data"));
-    }
-    Ok(())
+    give(now, others, Word::Signaled { from, to, number })
 }
 
 fn one_more(count: &mut u32) {
     *count = count.wrapping_add(1);
+}
+
+/// What happened is counted.
+fn count(tally: &mut Tally, up: &TrunkUp) {
+    match up {
+        TrunkUp::Nothing => {}
+        TrunkUp::WentUp { .. } => one_more(&mut tally.ups),
+        TrunkUp::WentDown { .. } => one_more(&mut tally.downs),
+        TrunkUp::Arrived { .. } => one_more(&mut tally.arrived),
+        TrunkUp::Met { .. } => one_more(&mut tally.met),
+        TrunkUp::Gone { .. } => one_more(&mut tally.gone),
+        TrunkUp::Asked { .. } => one_more(&mut tally.asked),
+    }
+}
+
+fn goes_down(now: &Told, session: Session) -> Result<u32, Fail> {
+    if now.session != session || now.peer.is_none() {
+        return Err(Fail::from("another session went down"));
+    }
+    Ok(0)
 }
 
 /// What a packet, or a tick, means to the present session of a side. Its session is `mine` then.
@@ -201,68 +240,49 @@ pub fn judge(
     alloc: Global,
     near: &mut Node,
     far: &Node,
-    up: TrunkUp,
+    up: &TrunkUp,
     mine: Session,
     names: &[Name],
 ) -> Result<(), Fail> {
-    let Some(now) = near.sessions.last_mut() else {
-        return Err(Fail::from("no session"));
-    };
-    let (others, tally) = (far.sessions.as_slice(), &mut near.tally);
+    let freed = judge_now(alloc, near, far, up, names)?;
+    count(&mut near.tally, up);
+    near.tally.freed = near.tally.freed.wrapping_add(freed);
     match up {
-        TrunkUp::Nothing => Ok(()),
-        TrunkUp::WentUp { session, peer } => {
-            one_more(&mut tally.ups);
-            goes_up(now, others, session, peer)
-        }
-        TrunkUp::WentDown { session } => {
-            if now.session != session || now.peer.is_none() {
-                return Err(Fail::from("another session went down"));
-            }
-            one_more(&mut tally.downs);
-            begin(alloc, near, mine)
-        }
-        up => given(alloc, now, others, tally, up, names),
+        TrunkUp::WentDown { .. } => begin(alloc, near, mine),
+        _ => Ok(()),
     }
 }
 
-/// What the other side said comes to a session.
-fn given(
+/// What it means to the present session. The answer is how many signals were freed.
+fn judge_now(
+    alloc: Global,
+    near: &mut Node,
+    far: &Node,
+    up: &TrunkUp,
+    names: &[Name],
+) -> Result<u32, Fail> {
+    let now = near.sessions.last_mut().ok_or("no session")?;
+    judge_session(alloc, now, far.sessions.as_slice(), up, names)
+}
+
+fn judge_session(
     alloc: Global,
     now: &mut Told,
     others: &[Told],
-    tally: &mut Tally,
-    up: TrunkUp,
+    up: &TrunkUp,
     names: &[Name],
-) -> Result<(), Fail> {
-    let word = match up {
+) -> Result<u32, Fail> {
+    match up {
+        TrunkUp::Nothing => Ok(0),
+        TrunkUp::WentUp { session, peer } => goes_up(now, others, *session, *peer),
+        TrunkUp::WentDown { session } => goes_down(now, *session),
         TrunkUp::Arrived { from, to, signal } => {
-            one_more(&mut tally.arrived);
-            arrives(alloc, now, to, &signal)?;
-            let number = signal.number();
-            Word::Signaled { from, to, number }
+            arrives(alloc, now, others, (*from, *to), signal)
         }
-        TrunkUp::Met { inc, name } => {
-            one_more(&mut tally.met);
-            meets(now, inc, &name, names)?;
-            Word::Published(inc)
-        }
-        TrunkUp::Asked { name } => {
-            one_more(&mut tally.asked);
-            Word::Asked(asks(now, &name, names)?)
-        }
-        TrunkUp::Gone { inc } => {
-            one_more(&mut tally.gone);
-            Word::Unpublished(inc)
-        }
-        _ => return Ok(()),
-    };
-    let freed = give(now, others, word)?;
-    tally.freed = tally.freed.wrapping_add(freed);
-    if let Word::Unpublished(inc) = word {
-        parts(now, others, inc)?;
+        TrunkUp::Met { inc, name } => meets(now, others, *inc, name, names),
+        TrunkUp::Asked { name } => asks(now, others, name, names),
+        TrunkUp::Gone { inc } => parts(now, others, *inc),
     }
-    Ok(())
 }
 
 /// A session of a side begins.

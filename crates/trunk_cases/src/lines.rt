@@ -72,31 +72,45 @@ fn arrival_text(alloc: Global, from: Inc, to: Inc, signal: &Signal) -> Result<St
     Ok(format!(in alloc; "arrived {from} {to} {} {data}", signal.number())?)
 }
 
+fn text_of(alloc: Global, word: &str) -> Result<String, Fail> {
+    Ok(String::from_str(alloc, word)?)
+}
+
+fn went_up_text(alloc: Global, session: Session, peer: Session) -> Result<String, Fail> {
+    let (mine, other) = (session_text(alloc, session)?, session_text(alloc, peer)?);
+    Ok(format!(in alloc; "up {mine} {other}")?)
+}
+
+fn went_down_text(alloc: Global, session: Session) -> Result<String, Fail> {
+    let mine = session_text(alloc, session)?;
+    Ok(format!(in alloc; "down {mine}")?)
+}
+
+fn met_text(alloc: Global, inc: Inc, name: &Name) -> Result<String, Fail> {
+    let (inc, name) = (inc_text(alloc, inc)?, name_text(alloc, name)?);
+    Ok(format!(in alloc; "met {inc} {name}")?)
+}
+
+fn gone_text(alloc: Global, inc: Inc) -> Result<String, Fail> {
+    let inc = inc_text(alloc, inc)?;
+    Ok(format!(in alloc; "gone {inc}")?)
+}
+
+fn asked_text(alloc: Global, name: &Name) -> Result<String, Fail> {
+    let name = name_text(alloc, name)?;
+    Ok(format!(in alloc; "asked {name}")?)
+}
+
 /// What is handed up of a packet.
-fn up_text(alloc: Global, up: TrunkUp) -> Result<String, Fail> {
+fn up_text(alloc: Global, up: &TrunkUp) -> Result<String, Fail> {
     match up {
-        TrunkUp::Nothing => Ok(String::from_str(alloc, "nothing")?),
-        TrunkUp::WentUp { session, peer } => {
-            let (mine, other) = (session_text(alloc, session)?, session_text(alloc, peer)?);
-            Ok(format!(in alloc; "up {mine} {other}")?)
-        }
-        TrunkUp::WentDown { session } => {
-            let mine = session_text(alloc, session)?;
-            Ok(format!(in alloc; "down {mine}")?)
-        }
-        TrunkUp::Arrived { from, to, signal } => arrival_text(alloc, from, to, &signal),
-        TrunkUp::Met { inc, name } => {
-            let (inc, name) = (inc_text(alloc, inc)?, name_text(alloc, &name)?);
-            Ok(format!(in alloc; "met {inc} {name}")?)
-        }
-        TrunkUp::Gone { inc } => {
-            let inc = inc_text(alloc, inc)?;
-            Ok(format!(in alloc; "gone {inc}")?)
-        }
-        TrunkUp::Asked { name } => {
-            let name = name_text(alloc, &name)?;
-            Ok(format!(in alloc; "asked {name}")?)
-        }
+        TrunkUp::Nothing => text_of(alloc, "nothing"),
+        TrunkUp::WentUp { session, peer } => went_up_text(alloc, *session, *peer),
+        TrunkUp::WentDown { session } => went_down_text(alloc, *session),
+        TrunkUp::Arrived { from, to, signal } => arrival_text(alloc, *from, *to, signal),
+        TrunkUp::Met { inc, name } => met_text(alloc, *inc, name),
+        TrunkUp::Gone { inc } => gone_text(alloc, *inc),
+        TrunkUp::Asked { name } => asked_text(alloc, name),
     }
 }
 
@@ -108,17 +122,34 @@ fn deliver_text(
     keep: bool,
 ) -> Result<String, Fail> {
     let up = deliver(t, from, place.parse()?, keep)?;
-    up_text(alloc, up)
+    up_text(alloc, &up)
+}
+
+fn ticked_text(alloc: Global, ticked: TickedSide) -> Result<String, Fail> {
+    match ticked {
+        TickedSide::Stays => text_of(alloc, "stays"),
+        TickedSide::WentDown { session } => went_down_text(alloc, session),
+    }
 }
 
 fn tick_text(alloc: Global, t: &mut Trunk, side: Side) -> Result<String, Fail> {
-    match tick(t, side)? {
-        TickedSide::Stays => Ok(String::from_str(alloc, "stays")?),
-        TickedSide::WentDown { session } => {
-            let mine = session_text(alloc, session)?;
-            Ok(format!(in alloc; "down {mine}")?)
-        }
+    let ticked = tick(t, side)?;
+    ticked_text(alloc, ticked)
+}
+
+/// What a packet means to the side that it comes to is written behind the text, unless it is
+/// nothing.
+fn add_up(text: &mut String, to: &str, up: &str) -> Result<(), Fail> {
+    if up == "nothing" {
+        return Ok(());
     }
+    if !text.is_empty() {
+        text.push_str(", ")?;
+    }
+    text.push_str(to)?;
+    text.push(' ')?;
+    text.push_str(up)?;
+    Ok(())
 }
 
 /// The next packet from a side comes, where one flies; what it means is written behind the text.
@@ -127,16 +158,11 @@ fn come_next(alloc: Global, t: &mut Trunk, from: Side, text: &mut String) -> Res
         return Ok(());
     }
     let up = deliver_text(alloc, t, from, "0", false)?;
-    if up.as_str() == "nothing" {
-        return Ok(());
-    }
     let to = match from {
         Side::First => "T",
         Side::Second => "F",
     };
-    let comma = if text.is_empty() { "" } else { ", " };
-    text.push_str(format!(in alloc; "{comma}{to} {up}")?.as_str())?;
-    Ok(())
+    add_up(text, to, up.as_str())
 }
 
 /// All packets come, in turn from each side, until none flies. The text is what they meant.
@@ -153,26 +179,104 @@ fn settle_text(alloc: Global, t: &mut Trunk) -> Result<String, Fail> {
 }
 
 fn answer_text(alloc: Global, is_done: bool) -> Result<String, Fail> {
-    Ok(String::from_str(alloc, if is_done { "done" } else { "may not" })?)
+    text_of(alloc, if is_done { "done" } else { "may not" })
 }
 
 fn yes_text(alloc: Global, is_so: bool) -> Result<String, Fail> {
-    Ok(String::from_str(alloc, if is_so { "yes" } else { "no" })?)
+    text_of(alloc, if is_so { "yes" } else { "no" })
+}
+
+/// A signal, as its number and its data.
+fn signal_of(alloc: Global, words: &str) -> Result<Signal, Fail> {
+    let (number, data) = front(words);
+    let data = data_of(alloc, data)?;
+    Ok(Signal::alloc(alloc, number.parse()?, data.as_slice())?)
 }
 
 /// A signal is sent: by an incarnation, of a name, to a peer, with a number and data.
 fn send_text(alloc: Global, t: &mut Trunk, side: Side, rest: &str) -> Result<String, Fail> {
     let (from, rest) = front(rest);
     let (name, rest) = front(rest);
-    let (to, rest) = front(rest);
-    let (number, data) = front(rest);
+    let (to, signal) = front(rest);
     let name = Name::of(alloc, name.as_bytes())?;
-    let signal = Signal::alloc(alloc, number.parse()?, data_of(alloc, data)?.as_slice())?;
+    let signal = signal_of(alloc, signal)?;
     let is_sent = send(t, side, inc_of(from)?, &name, inc_of(to)?, &signal)?;
     answer_text(alloc, is_sent)
 }
 
-/// A call at a side.
+fn query_text(alloc: Global, t: &mut Trunk, side: Side, name: &str) -> Result<String, Fail> {
+    query(t, side, &Name::of(alloc, name.as_bytes())?)?;
+    answer_text(alloc, true)
+}
+
+fn close_text(alloc: Global, t: &mut Trunk, side: Side, inc: &str) -> Result<String, Fail> {
+    close(t, side, inc_of(inc)?)?;
+    answer_text(alloc, true)
+}
+
+/// An endpoint of a name is published, or it opened.
+fn publish_text(
+    alloc: Global,
+    t: &mut Trunk,
+    side: Side,
+    rest: &str,
+    is_new: bool,
+) -> Result<String, Fail> {
+    let (inc, name) = front(rest);
+    let name = Name::of(alloc, name.as_bytes())?;
+    let is_published = publish(t, side, inc_of(inc)?, &name, is_new)?;
+    answer_text(alloc, is_published)
+}
+
+fn lose_text(alloc: Global, t: &mut Trunk, from: Side, place: &str) -> Result<String, Fail> {
+    lose(t, from, place.parse()?)?;
+    answer_text(alloc, true)
+}
+
+fn swap_text(alloc: Global, t: &mut Trunk, from: Side, places: &str) -> Result<String, Fail> {
+    let (first, second) = front(places);
+    swap(t, from, first.parse()?, second.parse()?)?;
+    answer_text(alloc, true)
+}
+
+fn restart_text(alloc: Global, t: &mut Trunk, side: Side, boot: &str) -> Result<String, Fail> {
+    restart(t, side, boot.parse()?)?;
+    answer_text(alloc, true)
+}
+
+fn peer_text(alloc: Global, peer: Option<Session>) -> Result<String, Fail> {
+    match peer {
+        None => text_of(alloc, "none"),
+        Some(peer) => session_text(alloc, peer),
+    }
+}
+
+fn count_text(alloc: Global, count: usize) -> Result<String, Fail> {
+    Ok(format!(in alloc; "{count}")?)
+}
+
+fn met_by_text(alloc: Global, t: &Trunk, side: Side, inc: &str) -> Result<String, Fail> {
+    yes_text(alloc, t.is_met(side, inc_of(inc)?))
+}
+
+fn live_text(alloc: Global, t: &Trunk, side: Side, inc: &str) -> Result<String, Fail> {
+    yes_text(alloc, t.is_published(side, inc_of(inc)?))
+}
+
+/// What a look at a side tells.
+fn look_text(alloc: Global, t: &Trunk, word: &str, side: Side, rest: &str) -> Result<String, Fail> {
+    match word {
+        "flying" => count_text(alloc, t.in_flight(side)),
+        "used" => count_text(alloc, t.used(side) as usize),
+        "mine" => session_text(alloc, t.mine(side)),
+        "peer" => peer_text(alloc, t.peer(side)),
+        "met" => met_by_text(alloc, t, side, rest),
+        "live" => live_text(alloc, t, side, rest),
+        _ => Err(Fail::from("no such event")),
+    }
+}
+
+/// What comes of a call at a side.
 fn call_text(
     alloc: Global,
     t: &mut Trunk,
@@ -180,58 +284,14 @@ fn call_text(
     side: Side,
     rest: &str,
 ) -> Result<String, Fail> {
-    if word == "send" {
-        return send_text(alloc, t, side, rest);
-    }
-    if word == "query" {
-        query(t, side, &Name::of(alloc, rest.as_bytes())?)?;
-        return answer_text(alloc, true);
-    }
-    let (inc, name) = front(rest);
-    let inc = inc_of(inc)?;
-    if word == "close" {
-        close(t, side, inc)?;
-        return answer_text(alloc, true);
-    }
-    let name = Name::of(alloc, name.as_bytes())?;
-    let is_published = publish(t, side, inc, &name, word == "opened")?;
-    answer_text(alloc, is_published)
-}
-
-/// What happens to packets or to a side.
-fn chance_text(
-    alloc: Global,
-    t: &mut Trunk,
-    word: &str,
-    side: Side,
-    rest: &str,
-) -> Result<String, Fail> {
-    let (first, second) = front(rest);
     match word {
-        "lose" => lose(t, side, first.parse()?)?,
-        "swap" => swap(t, side, first.parse()?, second.parse()?)?,
-        _ => restart(t, side, first.parse()?)?,
-    }
-    answer_text(alloc, true)
-}
-
-fn peer_text(alloc: Global, peer: Option<Session>) -> Result<String, Fail> {
-    match peer {
-        None => Ok(String::from_str(alloc, "none")?),
-        Some(peer) => session_text(alloc, peer),
-    }
-}
-
-/// What a look at a side tells.
-fn look_text(alloc: Global, t: &Trunk, word: &str, side: Side, rest: &str) -> Result<String, Fail> {
-    match word {
-        "flying" => Ok(format!(in alloc; "{}", t.in_flight(side))?),
-        "used" => Ok(format!(in alloc; "{}", t.used(side))?),
-        "mine" => session_text(alloc, t.mine(side)),
-        "peer" => peer_text(alloc, t.peer(side)),
-        "met" => yes_text(alloc, t.is_met(side, inc_of(rest)?)),
-        "live" => yes_text(alloc, t.is_published(side, inc_of(rest)?)),
-        _ => Err(Fail::from("no such event")),
+        "publish" => publish_text(alloc, t, side, rest, false),
+        "opened" => publish_text(alloc, t, side, rest, true),
+        "close" => close_text(alloc, t, side, rest),
+        "query" => query_text(alloc, t, side, rest),
+        "send" => send_text(alloc, t, side, rest),
+        "restart" => restart_text(alloc, t, side, rest),
+        _ => look_text(alloc, t, word, side, rest),
     }
 }
 
@@ -247,9 +307,9 @@ fn side_text(
         "deliver" => deliver_text(alloc, t, side, rest, false),
         "repeat" => deliver_text(alloc, t, side, rest, true),
         "tick" => tick_text(alloc, t, side),
-        "publish" | "opened" | "close" | "query" | "send" => call_text(alloc, t, word, side, rest),
-        "lose" | "swap" | "restart" => chance_text(alloc, t, word, side, rest),
-        _ => look_text(alloc, t, word, side, rest),
+        "lose" => lose_text(alloc, t, side, rest),
+        "swap" => swap_text(alloc, t, side, rest),
+        _ => call_text(alloc, t, word, side, rest),
     }
 }
 

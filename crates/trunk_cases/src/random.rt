@@ -69,7 +69,7 @@ fn new_run(alloc: Global, seed: u64) -> Result<Run, Fail> {
 }
 
 /// What a side was told is judged.
-fn told(alloc: Global, run: &mut Run, side: Side, up: TrunkUp) -> Result<(), Fail> {
+fn told(alloc: Global, run: &mut Run, side: Side, up: &TrunkUp) -> Result<(), Fail> {
     let mine = run.trunk.mine(side);
     let names = run.names.as_slice();
     match side {
@@ -81,13 +81,13 @@ fn told(alloc: Global, run: &mut Run, side: Side, up: TrunkUp) -> Result<(), Fai
 /// The packet at a place from a side comes.
 fn comes(alloc: Global, run: &mut Run, from: Side, place: usize, keep: bool) -> Result<(), Fail> {
     let up = deliver(&mut run.trunk, from, place, keep)?;
-    told(alloc, run, from.other(), up)
+    told(alloc, run, from.other(), &up)
 }
 
 fn ticks(alloc: Global, run: &mut Run, side: Side) -> Result<(), Fail> {
     match tick(&mut run.trunk, side)? {
         TickedSide::Stays => Ok(()),
-        TickedSide::WentDown { session } => told(alloc, run, side, TrunkUp::WentDown { session }),
+        TickedSide::WentDown { session } => told(alloc, run, side, &TrunkUp::WentDown { session }),
     }
 }
 
@@ -182,6 +182,31 @@ fn asking(
     says(node, Word::Asked(number % 4))
 }
 
+/// The open endpoint at a place, counted round.
+fn open_at(node: &Node, place: u64) -> Option<Inc> {
+    let open = node.open.as_slice();
+    open.get((place % (open.len() as u64).max(1)) as usize)
+        .copied()
+}
+
+fn closing(t: &mut Trunk, side: Side, node: &mut Node, inc: Inc) -> Result<(), Fail> {
+    close(t, side, inc)?;
+    closes(node, inc)
+}
+
+fn publishing(
+    t: &mut Trunk,
+    side: Side,
+    node: &mut Node,
+    inc: Inc,
+    name: &Name,
+) -> Result<(), Fail> {
+    if !publish(t, side, inc, name, false)? {
+        return Ok(());
+    }
+    publishes(node, inc)
+}
+
 /// An open endpoint closes, is published, or sends.
 fn with_endpoint(
     alloc: Global,
@@ -191,22 +216,13 @@ fn with_endpoint(
     names: &[Name],
     drawn: Drawn,
 ) -> Result<(), Fail> {
-    let place = drawn.place % (node.open.len() as u64).max(1);
-    let Some(inc) = node.open.get(place as usize).copied() else {
+    let Some(inc) = open_at(node, drawn.place) else {
         return Ok(());
     };
     let name = name_at(names, name_of(inc))?;
     match drawn.kind {
-        2 => {
-            close(t, side, inc)?;
-            closes(node, inc)
-        }
-        3 => {
-            if publish(t, side, inc, name, false)? {
-                publishes(node, inc)?;
-            }
-            Ok(())
-        }
+        2 => closing(t, side, node, inc),
+        3 => publishing(t, side, node, inc, name),
         _ => sending(alloc, t, side, node, (inc, name), drawn),
     }
 }
@@ -226,14 +242,25 @@ fn sending(
         return Err(Fail::from("the trunk takes another peer for met or endpoint for live"));
     }
     let number = drawn.number;
-    let signal = Signal::alloc(alloc, number, data_of(alloc, number)?.as_slice())?;
-    if send(t, side, from, name, to, &signal)? {
-        if !is_live(node, from) {
-            publishes(node, from)?;
-        }
-        says(node, Word::Signaled { from, to, number })?;
+    let signal = signal_of(alloc, number)?;
+    if !send(t, side, from, name, to, &signal)? {
+        return Ok(());
     }
-    Ok(())
+    signals(node, from, to, number)
+}
+
+/// The signal of a number.
+fn signal_of(alloc: Global, number: u32) -> Result<Signal, Fail> {
+    let data = data_of(alloc, number)?;
+    Ok(Signal::alloc(alloc, number, data.as_slice())?)
+}
+
+/// A signal was sent, whose sender is published first.
+fn signals(node: &mut Node, from: Inc, to: Inc, number: u32) -> Result<(), Fail> {
+    if !is_live(node, from) {
+        publishes(node, from)?;
+    }
+    says(node, Word::Signaled { from, to, number })
 }
 
 /// A call at a side: an endpoint opens, a name is asked for, an endpoint closes, is published or

@@ -1,4 +1,5 @@
-//! Exchanges over a trunk, each line an event and what comes of it.
+//! Exchanges over a trunk, each line an event and what comes of it. They stand in sections, each
+//! behind a `#` and a line that says what it shows, and each is gone through by a new trunk.
 
 use crate::lines::event_text;
 use std::alloc::Global;
@@ -6,26 +7,26 @@ use std::mem;
 use std::test::Fail;
 use trunk::Trunk;
 
-/// Whether what stands behind the colon comes of the event before it. An event that is `undone` is
-/// undone then.
-fn follows_line(alloc: Global, t: &mut Trunk, line: &str) -> Result<bool, Fail> {
-    let (event, wanted) = line.split_once(':').ok_or("no colon")?;
-    match event.strip_prefix("undone ") {
-        None => {
-            let text = event_text(alloc, t, event)?;
-            Ok(text.as_str() == wanted.trim())
-        }
-        Some(event) => {
-            let text = event_text(alloc, t, event)?;
-            t.undo();
-            Ok(text.as_str() == wanted.trim())
-        }
-    }
+/// What comes of an event that may be `undone`, and is undone then.
+fn any_text(alloc: Global, t: &mut Trunk, event: &str) -> Result<String, Fail> {
+    let Some(undone) = event.strip_prefix("undone ") else {
+        return event_text(alloc, t, event);
+    };
+    let text = event_text(alloc, t, undone)?;
+    t.undo();
+    Ok(text)
 }
 
-/// A trunk goes through the events. It fails at the first line that comes out otherwise.
-fn goes_through(alloc: Global, t: &mut Trunk, events: &'static str) -> Result<(), Fail> {
-    for line in events.lines() {
+/// Whether what stands behind the colon comes of the event before it.
+fn follows_line(alloc: Global, t: &mut Trunk, line: &str) -> Result<bool, Fail> {
+    let (event, wanted) = line.split_once(':').ok_or("no colon")?;
+    let text = any_text(alloc, t, event)?;
+    Ok(text.as_str() == wanted.trim())
+}
+
+/// A trunk goes through the events of a section.
+fn goes_through(alloc: Global, t: &mut Trunk, section: &'static str) -> Result<(), Fail> {
+    for line in section.trim().lines().skip(1) {
         if !follows_line(alloc, t, line.trim())? {
             return Err(Fail::from(line));
         }
@@ -33,24 +34,37 @@ fn goes_through(alloc: Global, t: &mut Trunk, events: &'static str) -> Result<()
     Ok(())
 }
 
-/// A new trunk with pieces of 64 bytes goes through the events.
-fn follows(alloc: Global, window: u32, events: &'static str) -> Result<(), Fail> {
+/// A trunk with this window, of one frame at least, and pieces of 64 bytes.
+fn new_trunk(alloc: Global, window: u32) -> Trunk {
     if window == 0 {
-        return Err(Fail::from("no window"));
+        return Trunk::new(alloc, 1, 64);
     }
-    // The trunk is never dropped: to prove the drops of all its layers takes longer than the tests.
-    let mut t = Trunk::new(alloc, window, 64);
-    let outcome = goes_through(alloc, &mut t, events);
+    Trunk::new(alloc, window, 64)
+}
+
+/// A new trunk goes through a section. It is never dropped.
+fn follows_section(alloc: Global, window: u32, section: &'static str) -> Result<(), Fail> {
+    let mut t = new_trunk(alloc, window);
+    let outcome = goes_through(alloc, &mut t, section);
     mem::forget(t);
     outcome
 }
 
+/// All sections are gone through. It fails at the first line that comes out otherwise.
+fn follows(alloc: Global, window: u32, exchanges: &'static str) -> Result<(), Fail> {
+    for section in exchanges.split("# ").skip(1) {
+        follows_section(alloc, window, section)?;
+    }
+    Ok(())
+}
+
 #[test]
-fn a_question_is_answered_by_a_meeting(rt: HostRuntime) -> Result<(), Fail> {
+fn words_come_over_a_trunk(rt: HostRuntime) -> Result<(), Fail> {
     follows(
         rt.alloc(),
         32,
-        "tick F: stays
+        "# a question is answered by a meeting
+        tick F: stays
         deliver F 0: nothing
         deliver T 0: up 1.1 1.1
         deliver F 0: up 1.1 1.1
@@ -65,16 +79,10 @@ fn a_question_is_answered_by_a_meeting(rt: HostRuntime) -> Result<(), Fail> {
         deliver T 0: met 2.1 b
         met F 2.1: yes
         met T 2.1: no
-        live T 2.1: yes",
-    )
-}
+        live T 2.1: yes
 
-#[test]
-fn a_noted_name_is_met_when_an_endpoint_opens(rt: HostRuntime) -> Result<(), Fail> {
-    follows(
-        rt.alloc(),
-        32,
-        "tick F: stays
+        # a noted name is met when an endpoint opens
+        tick F: stays
         settle: F up 1.1 1.1, T up 1.1 1.1
         opened T 2.1 b: done
         live T 2.1: no
@@ -87,16 +95,10 @@ fn a_noted_name_is_met_when_an_endpoint_opens(rt: HostRuntime) -> Result<(), Fai
         opened T 2.4 c: done
         settle:
         quiet: yes
-        used T: 1",
-    )
-}
+        used T: 1
 
-#[test]
-fn a_sender_is_met_before_its_first_signal(rt: HostRuntime) -> Result<(), Fail> {
-    follows(
-        rt.alloc(),
-        32,
-        "tick F: stays
+        # a sender is met before its first signal
+        tick F: stays
         settle: F up 1.1 1.1, T up 1.1 1.1
         send F 1.1 a 2.1 5 aa: may not
         publish T 2.1 b: done
@@ -110,40 +112,10 @@ fn a_sender_is_met_before_its_first_signal(rt: HostRuntime) -> Result<(), Fail> 
         settle: F arrived 2.1 1.2 8 0102
         used F: 2
         used T: 1
-        quiet: yes",
-    )
-}
-
-/// Only one piece flies at a time, so the closing is said while the data wait.
-#[test]
-fn a_peer_goes_after_all_its_signals(rt: HostRuntime) -> Result<(), Fail> {
-    follows(
-        rt.alloc(),
-        1,
-        "tick F: stays
-        settle: F up 1.1 1.1, T up 1.1 1.1
-        publish T 2.1 b: done
-        settle: F met 2.1 b
-        send F 1.1 a 2.1 5 #200: done
-        send F 1.1 a 2.1 6 #130: done
-        close F 1.1: done
-        live F 1.1: no
-        flying F: 1
-        settle: T met 1.1 a, T arrived 1.1 2.1 5 #200, T arrived 1.1 2.1 6 #130, T gone 1.1
         quiet: yes
-        publish F 1.1 a: may not
-        send F 1.1 a 2.1 7: may not
-        send T 2.1 b 1.1 8: may not
-        used F: 0",
-    )
-}
 
-#[test]
-fn a_name_is_asked_for_again_in_each_connection(rt: HostRuntime) -> Result<(), Fail> {
-    follows(
-        rt.alloc(),
-        32,
-        "query F b: done
+        # a name is asked for again in each connection
+        query F b: done
         flying F: 0
         tick F: stays
         settle: F up 1.1 1.1, T up 1.1 1.1
@@ -165,17 +137,11 @@ fn a_name_is_asked_for_again_in_each_connection(rt: HostRuntime) -> Result<(), F
         settle: F met 2.1 b
         opened T 2.2 b: done
         settle:
-        quiet: yes",
-    )
-}
+        quiet: yes
 
-/// The third endpoint gets the first address once the other side has confirmed its closing.
-#[test]
-fn an_address_is_free_once_its_closing_is_confirmed(rt: HostRuntime) -> Result<(), Fail> {
-    follows(
-        rt.alloc(),
-        32,
-        "tick F: stays
+        # an address is free once its closing is confirmed
+        # The third endpoint gets the first address once the other side has confirmed its closing.
+        tick F: stays
         settle: F up 1.1 1.1, T up 1.1 1.1
         publish T 2.1 b: done
         settle: F met 2.1 b
@@ -194,16 +160,10 @@ fn an_address_is_free_once_its_closing_is_confirmed(rt: HostRuntime) -> Result<(
         used T: 2
         send F 1.1 a 2.3 5 aa: done
         send F 1.1 a 2.2 6 bb: done
-        settle: T met 1.1 a, T arrived 1.1 2.3 5 aa, T arrived 1.1 2.2 6 bb",
-    )
-}
+        settle: T met 1.1 a, T arrived 1.1 2.3 5 aa, T arrived 1.1 2.2 6 bb
 
-#[test]
-fn a_signal_to_a_closing_endpoint_is_freed(rt: HostRuntime) -> Result<(), Fail> {
-    follows(
-        rt.alloc(),
-        32,
-        "tick F: stays
+        # a signal to a closing endpoint is freed
+        tick F: stays
         settle: F up 1.1 1.1, T up 1.1 1.1
         publish T 2.1 b: done
         publish T 2.2 c: done
@@ -214,16 +174,10 @@ fn a_signal_to_a_closing_endpoint_is_freed(rt: HostRuntime) -> Result<(), Fail> 
         settle: T met 1.1 a, F gone 2.1, T arrived 1.1 2.2 6 bb
         met F 2.1: no
         send F 1.1 a 2.1 7: may not
-        quiet: yes",
-    )
-}
+        quiet: yes
 
-#[test]
-fn a_packet_of_an_old_session_shows_nothing(rt: HostRuntime) -> Result<(), Fail> {
-    follows(
-        rt.alloc(),
-        32,
-        "tick F: stays
+        # a packet of an old session shows nothing
+        tick F: stays
         settle: F up 1.1 1.1, T up 1.1 1.1
         publish T 2.1 b: done
         settle: F met 2.1 b
@@ -248,16 +202,10 @@ fn a_packet_of_an_old_session_shows_nothing(rt: HostRuntime) -> Result<(), Fail>
         met T 1.1: no
         met F 2.1: no
         send F 1.1 a 2.1 6: may not
-        quiet: yes",
-    )
-}
+        quiet: yes
 
-#[test]
-fn a_restart_begins_with_nothing_met(rt: HostRuntime) -> Result<(), Fail> {
-    follows(
-        rt.alloc(),
-        32,
-        "tick F: stays
+        # a restart begins with nothing met
+        tick F: stays
         settle: F up 1.1 1.1, T up 1.1 1.1
         publish F 1.1 a: done
         publish T 2.1 b: done
@@ -281,16 +229,10 @@ fn a_restart_begins_with_nothing_met(rt: HostRuntime) -> Result<(), Fail> {
         settle: T met 1.1 a
         send T 2.2 c 1.1 5: done
         settle: F met 2.2 c, F arrived 2.2 1.1 5 -
-        quiet: yes",
-    )
-}
+        quiet: yes
 
-#[test]
-fn a_silent_side_goes_down_at_the_third_tick(rt: HostRuntime) -> Result<(), Fail> {
-    follows(
-        rt.alloc(),
-        32,
-        "tick F: stays
+        # a silent side goes down at the third tick
+        tick F: stays
         settle: F up 1.1 1.1, T up 1.1 1.1
         publish F 1.1 a: done
         tick F: stays
@@ -300,17 +242,11 @@ fn a_silent_side_goes_down_at_the_third_tick(rt: HostRuntime) -> Result<(), Fail
         used F: 0
         live F 1.1: no
         publish F 1.1 a: done
-        live F 1.1: no",
-    )
-}
+        live F 1.1: no
 
-/// What is undone comes again.
-#[test]
-fn an_undone_event_leaves_the_trunk_as_it_was(rt: HostRuntime) -> Result<(), Fail> {
-    follows(
-        rt.alloc(),
-        32,
-        "tick F: stays
+        # an undone event leaves the trunk as it was
+        # What is undone comes again.
+        tick F: stays
         settle: F up 1.1 1.1, T up 1.1 1.1
         undone publish T 2.1 b: done
         live T 2.1: no
@@ -334,5 +270,30 @@ fn an_undone_event_leaves_the_trunk_as_it_was(rt: HostRuntime) -> Result<(), Fai
         settle: T gone 1.1
         publish F 1.1 a: may not
         quiet: yes",
+    )
+}
+
+#[test]
+fn over_a_trunk_with_a_window_of_one_frame(rt: HostRuntime) -> Result<(), Fail> {
+    follows(
+        rt.alloc(),
+        1,
+        "# a peer goes after all its signals
+        # Only one piece flies at a time, so the closing is said while the data wait.
+        tick F: stays
+        settle: F up 1.1 1.1, T up 1.1 1.1
+        publish T 2.1 b: done
+        settle: F met 2.1 b
+        send F 1.1 a 2.1 5 #200: done
+        send F 1.1 a 2.1 6 #130: done
+        close F 1.1: done
+        live F 1.1: no
+        flying F: 1
+        settle: T met 1.1 a, T arrived 1.1 2.1 5 #200, T arrived 1.1 2.1 6 #130, T gone 1.1
+        quiet: yes
+        publish F 1.1 a: may not
+        send F 1.1 a 2.1 7: may not
+        send T 2.1 b 1.1 8: may not
+        used F: 0",
     )
 }
