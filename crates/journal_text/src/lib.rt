@@ -25,8 +25,3 @@ pub use all_logs::write_logs;
 pub use logs::write_log;
 pub use steps::{write_count, write_step};
 pub use whole_text::text;
-
-#[cfg(test)]
-mod log_tests;
-#[cfg(test)]
-mod tests;

@@ -8,6 +8,3 @@ mod reports;
 mod summary;
 
 pub use reports::{ReportError, write_report, write_summary};
-
-#[cfg(test)]
-mod tests;
