@@ -1,104 +1,23 @@
 //! Statements and commands in each of their forms, and what they mean.
 
-use linx_base::{LinkNo, Name, NodeNo, Path, Side, Verdict};
-use script_lang::{Command, Filling, Script, Target, parse};
-use sigsel::Sigsel;
+use crate::shown::{plan_of, shown_commands, shown_link};
+use linx_base::{NodeNo, Side, Verdict};
+use script_lang::{Script, parse};
 use std::alloc::Global;
 use std::test::Fail;
 
-/// A name as text.
-fn text_of(name: &Name) -> &str {
-    str::from_utf8(name.bytes()).unwrap_or("?")
+/// The node of the actor at a place of a script, and its commands, each shown on a line.
+fn actor_shown(alloc: Global, text: &str, place: usize) -> Result<(NodeNo, String), Fail> {
+    let script = parse(alloc, text.as_bytes())?;
+    let actor = script.actors().get(place).ok_or("no such actor")?;
+    Ok((actor.node, shown_commands(alloc, actor)?))
 }
 
-fn shown_target(to: &Target) -> &str {
-    match to {
-        Target::Me => "self",
-        Target::Last => "last",
-        Target::Kept(name) => text_of(name),
-    }
-}
-
-/// Data as hexadecimal digits.
-fn shown_data(alloc: Global, bytes: &Filling) -> Result<String, Fail> {
-    match bytes {
-        Filling::Bytes(bytes) => Ok(hex::encode(alloc, bytes.bytes())?),
-        Filling::Repeat { count, byte } => {
-            let all = vec![in alloc; *byte; *count as usize]?;
-            Ok(hex::encode(alloc, all)?)
-        }
-    }
-}
-
-/// A command in a notation of its own: links and nodes by their numbers, data in brackets.
-fn shown(alloc: Global, command: &Command) -> Result<String, Fail> {
-    let text = match command {
-        Command::Open(name) => format!(in alloc; "open {}", text_of(name))?,
-        Command::Close => format!(in alloc; "close")?,
-        Command::Send { to, number, bytes } => {
-            let data = shown_data(alloc, bytes)?;
-            format!(in alloc; "send {} {number} [{data}]", shown_target(to))?
-        }
-        Command::Forward(to) => format!(in alloc; "forward {}", shown_target(to))?,
-        Command::Recv(Sigsel::Any) => format!(in alloc; "recv any")?,
-        Command::Recv(Sigsel::Only(listed)) => format!(in alloc;
-            "recv only {:?}",
-            listed.as_slice()
-        )?,
-        Command::Recv(Sigsel::Not(listed)) => format!(in alloc;
-            "recv not {:?}",
-            listed.as_slice()
-        )?,
-        Command::Hunt {
-            path,
-            number,
-            bytes,
-        } => {
-            let data = shown_data(alloc, bytes)?;
-            match path {
-                Path::Local(name) => format!(in alloc; "hunt {} {number} [{data}]", text_of(name))?,
-                Path::Over { link, name } => format!(in alloc;
-                    "hunt {}/{} {number} [{data}]",
-                    link.0,
-                    text_of(name)
-                )?,
-            }
-        }
-        Command::Attach {
-            to,
-            r,
-            number,
-            bytes,
-        } => {
-            let data = shown_data(alloc, bytes)?;
-            format!(in alloc;
-                "attach {} {} {number} [{data}]",
-                shown_target(to),
-                text_of(r)
-            )?
-        }
-        Command::Detach(r) => format!(in alloc; "detach {}", text_of(r))?,
-        Command::Keep(name) => format!(in alloc; "keep {}", text_of(name))?,
-        Command::Cut(link) => format!(in alloc; "cut {}", link.0)?,
-        Command::Mend(link) => format!(in alloc; "mend {}", link.0)?,
-        Command::Restart(node) => format!(in alloc; "restart {}", node.0)?,
-        Command::Settle(link) => format!(in alloc; "settle {}", link.0)?,
-    };
-    Ok(text)
-}
-
-/// The commands of an actor on the first of two nodes with a link, each shown on a line.
-fn commands_shown(rt: &HostRuntime, commands: &str) -> Result<String, Fail> {
-    let text = format!(in rt.alloc(); "node m\nnode n\nlink l m n\nactor p m\n{commands}\nend")?;
-    let script = parse(rt.alloc(), text.as_bytes())?;
-    let mut all = String::new(rt.alloc());
-    for actor in script.actors() {
-        for command in actor.commands.as_slice() {
-            all.push_str(&shown(rt.alloc(), command)?)?;
-            all.push('\n')?;
-        }
-    }
-    Ok(all)
+/// The commands of an actor on the first of two nodes with a link.
+fn commands_shown(alloc: Global, commands: &str) -> Result<String, Fail> {
+    let text = format!(in alloc; "node m\nnode n\nlink l m n\nactor p m\n{commands}\nend")?;
+    let (_node, shown) = actor_shown(alloc, text.as_str(), 0)?;
+    Ok(shown)
 }
 
 /// Commands, and what they mean.
@@ -145,7 +64,7 @@ const MEANINGS: [(&str, &str); 27] = [
 fn commands_and_their_meaning(rt: HostRuntime) -> Result<(), Fail> {
     for (commands, meaning) in MEANINGS {
         assert!(rt;
-            commands_shown(&rt, commands)?.as_str() == meaning,
+            commands_shown(rt.alloc(), commands)?.as_str() == meaning,
             "at {commands}"
         );
     }
@@ -185,8 +104,8 @@ const PAIRS: [(&str, &str, bool); 22] = [
 #[test]
 fn commands_that_mean_the_same_or_not(rt: HostRuntime) -> Result<(), Fail> {
     for (one, other, same) in PAIRS {
-        let left = commands_shown(&rt, one)?;
-        let right = commands_shown(&rt, other)?;
+        let left = commands_shown(rt.alloc(), one)?;
+        let right = commands_shown(rt.alloc(), other)?;
         assert_eq!(rt; left.as_str() == right.as_str(), same, "at {one}");
     }
     Ok(())
@@ -232,61 +151,69 @@ end\n\
 close\n\
 end";
 
-#[test]
-fn links_with_and_without_sizes(rt: HostRuntime) -> Result<(), Fail> {
-    let script = parse(rt.alloc(), GOOD.as_bytes()).ok().ok_or("a script")?;
-    assert_eq!(rt; script.names().nodes.len(), 2);
-    assert_eq!(rt; script.names().links.len(), 2);
-    let [l, k] = script.links() else {
-        return Err(Fail::from("two links"));
-    };
-    assert_eq!(rt; (l.first, l.second), (NodeNo(1), NodeNo(2)));
-    assert_eq!(rt; (l.window, l.piece), (32, 1400));
-    assert_eq!(rt; (k.first, k.second), (NodeNo(2), NodeNo(1)));
-    assert_eq!(rt; (k.window, k.piece), (2, 64));
-    Ok(())
+fn good_script(alloc: Global) -> Result<Script, Fail> {
+    Ok(parse(alloc, GOOD.as_bytes())?)
 }
 
 #[test]
-fn commands_of_actors(rt: HostRuntime) -> Result<(), Fail> {
-    let script = parse(rt.alloc(), GOOD.as_bytes()).ok().ok_or("a script")?;
-    let [p, m] = script.actors() else {
-        return Err(Fail::from("two actors"));
+fn links_with_and_without_sizes(rt: HostRuntime) -> Result<(), Fail> {
+    let script = good_script(rt.alloc())?;
+    assert!(rt; script.names().nodes.len() == 2 && script.names().links.len() == 2);
+    let [l, k] = script.links() else {
+        return Err(Fail::from("two links"));
     };
-    assert_eq!(rt; (p.node, p.commands.len()), (NodeNo(1), 20));
-    assert_eq!(rt; (m.node, m.commands.len()), (NodeNo(2), 7));
-    assert!(rt;
-        matches!(
-            p.commands.get(1),
-            Some(Command::Send {
-                to: Target::Me,
-                number: 1,
-                ..
-            })
-        )
-    );
-    assert!(rt; matches!(p.commands.get(7), Some(Command::Recv(Sigsel::Not(_)))));
-    assert!(rt;
-        matches!(
-            p.commands.get(9),
-            Some(Command::Hunt {
-                path: Path::Over {
-                    link: LinkNo(1),
-                    ..
-                },
-                number: 7,
-                ..
-            })
-        )
-    );
-    assert!(rt; matches!(p.commands.get(18), Some(Command::Restart(NodeNo(2)))));
+    assert!(rt; shown_link(rt.alloc(), l)?.as_str() == "1 2 window 32 piece 1400");
+    assert!(rt; shown_link(rt.alloc(), k)?.as_str() == "2 1 window 2 piece 64");
+    Ok(())
+}
+
+/// What the actors of the good script do.
+const FIRST: &str = "\
+open a
+send self 1 []
+send last 2 [0aff]
+send x 4294967295 [5a5a5a]
+forward last
+recv any
+recv only [7, 8]
+recv not [9]
+hunt b 251 []
+hunt 1/b 7 []
+hunt a 251 [00]
+attach x self 252 []
+attach last r 300 [65531 times 00]
+detach r
+keep x
+cut 1
+mend 2
+settle 1
+restart 2
+close
+";
+
+const SECOND: &str = "\
+send self 1 []
+recv only [1]
+send self 1 []
+recv only [1]
+send self 1 []
+recv only [1]
+close
+";
+
+#[test]
+fn commands_of_actors(rt: HostRuntime) -> Result<(), Fail> {
+    for (place, node, commands) in [(0, 1, FIRST), (1, 2, SECOND)] {
+        let shown = actor_shown(rt.alloc(), GOOD, place)?;
+        assert!(rt; shown.0 == NodeNo(node) && shown.1.as_str() == commands);
+    }
+    assert!(rt; good_script(rt.alloc())?.actors().len() == 2);
     Ok(())
 }
 
 #[test]
 fn verdicts_of_each_direction(rt: HostRuntime) -> Result<(), Fail> {
-    let script = parse(rt.alloc(), GOOD.as_bytes()).ok().ok_or("a script")?;
-    assert!(rt; 1 <= script.names().links.len());
+    let script = good_script(rt.alloc())?;
     let there = [
         Verdict::Deliver,
         Verdict::Lose,
@@ -294,8 +221,7 @@ fn verdicts_of_each_direction(rt: HostRuntime) -> Result<(), Fail> {
         Verdict::Swap(9),
         Verdict::Deliver,
     ];
-    assert!(rt; script.plan(LinkNo(1), Side::First) == there.as_slice());
-    let back = [Verdict::Swap(1)];
-    assert!(rt; script.plan(LinkNo(1), Side::Second) == back.as_slice());
+    assert!(rt; plan_of(&script, 1, Side::First)? == there.as_slice());
+    assert!(rt; plan_of(&script, 1, Side::Second)? == [Verdict::Swap(1)].as_slice());
     Ok(())
 }

@@ -9,6 +9,3 @@ mod naming;
 mod planning;
 
 pub use building::script;
-
-#[cfg(test)]
-mod tests;
