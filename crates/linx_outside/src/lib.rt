@@ -22,6 +22,3 @@ pub use sink::{Sink, WriteAnswer};
 pub use source::{ReadAnswer, Source};
 pub use whole_reads::{Reached, ReadStop, read_up_to};
 pub use whole_writes::{WriteFault, write_all};
-
-#[cfg(test)]
-mod tests;
