@@ -12,9 +12,3 @@ mod slots;
 
 pub use laws::{changes_are_of_runs, changes_follow, events_rest};
 pub use run_trunks::RunTrunks;
-
-#[cfg(test)]
-mod tests;
-
-pub use laws::{changes_are_of_runs, changes_follow, events_rest};
-pub use run_trunks::RunTrunks;

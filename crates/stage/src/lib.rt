@@ -17,6 +17,3 @@ pub use acting::{Acted, act, is_settling, settle};
 pub use player::{Player, actor_of};
 pub use pump::{pump_event, pump_on};
 pub use stage::{Pump, Stage, Turn, nodes_of, players_of};
-
-#[cfg(test)]
-mod tests;

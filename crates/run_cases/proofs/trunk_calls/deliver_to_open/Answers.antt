@@ -7,7 +7,7 @@ use Rattle.trunk.specs.Events.{IsReading, TrunkState, delivered, kept_of}
 use Rattle.run_trunks.specs.States.{HasLink, TrunksState, over, trunks_of}
 use Rattle.run_trunks.proofs.Begun.{up-silent}
 use Rattle.run_trunks.proofs.Rested.{reads-changed}
-use Rattle.run_trunks.proofs.tests.deliver_to_open.Goals as goal
+use Rattle.run_cases.proofs.trunk_calls.deliver_to_open.Goals as goal
 
 pub publish-requires-clause-silent : goal.publish-requires-clause-silent
 publish-requires-clause-silent c =

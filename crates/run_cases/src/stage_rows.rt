@@ -1,0 +1,168 @@
+//! Turns in an order of the caller's own, rounds, and links that are settled. Each line is a turn,
+//! and what comes of it: the last step with its maker stands behind, if a step was made.
+
+use crate::played::Played;
+use crate::words::{front, parted, text_of, yes_text};
+use journal::{By, Head, Journal};
+use stage::{Pump, Turn};
+use std::alloc::Global;
+use std::mem;
+use std::test::Fail;
+
+fn word_of(head: &Head) -> &'static str {
+    match head {
+        Head::Open(_) => "open",
+        Head::Close => "close",
+        Head::Send(..) => "send",
+        Head::Take(..) => "take",
+        Head::Waits(_) => "waits",
+        Head::Hunt(..) => "hunt",
+        Head::Cut(_) => "cut",
+        Head::Settle(_) => "settle",
+        Head::Wire(..) => "wire",
+        Head::Ended => "ended",
+        _ => "another",
+    }
+}
+
+/// The actor that made a step, and its head.
+fn step_text(alloc: Global, journal: &Journal, position: u64) -> Result<String, Fail> {
+    let step = journal.step(position).ok_or("no such step")?;
+    match step.by {
+        By::Actor(actor) => Ok(format!(in alloc; "{actor} {}", word_of(&step.head))?),
+        By::Pump(_) => text_of(alloc, "of a link"),
+    }
+}
+
+fn turn_text(alloc: Global, played: &mut Played, actor: u32) -> Result<String, Fail> {
+    let before = played.stage.journal().len();
+    let word = match played.turn(actor)? {
+        Turn::Moved => "moved",
+        Turn::Waits => "waits",
+        Turn::Ended => "ended",
+    };
+    let after = played.stage.journal().len();
+    if after == before {
+        return text_of(alloc, word);
+    }
+    let step = step_text(alloc, played.stage.journal(), after)?;
+    Ok(format!(in alloc; "{word}, {step}")?)
+}
+
+fn pump_text(alloc: Global, played: &mut Played, link: u32) -> Result<String, Fail> {
+    match played.pump(link)? {
+        Pump::Moved => text_of(alloc, "moved"),
+        Pump::NoWork => text_of(alloc, "no work"),
+    }
+}
+
+fn round_text(alloc: Global, played: &mut Played) -> Result<String, Fail> {
+    let is_over = played.round()?;
+    text_of(alloc, if is_over { "over" } else { "goes on" })
+}
+
+/// What comes of a turn, or how many steps there are and who made one.
+fn event_text(alloc: Global, played: &mut Played, event: &str) -> Result<String, Fail> {
+    let (word, number) = front(event);
+    match word {
+        "turn" => turn_text(alloc, played, number.parse()?),
+        "pump" => pump_text(alloc, played, number.parse()?),
+        "round" => round_text(alloc, played),
+        "over" => yes_text(alloc, played.stage.is_over()),
+        "steps" => Ok(format!(in alloc; "{}", played.stage.journal().len())?),
+        "step" => step_text(alloc, played.stage.journal(), number.parse()?),
+        _ => Err(Fail::from("no such turn")),
+    }
+}
+
+fn goes_through(alloc: Global, played: &mut Played, turns: &'static str) -> Result<(), Fail> {
+    for line in turns.lines() {
+        let (event, wanted) = parted(line)?;
+        let text = event_text(alloc, played, event)?;
+        if text.as_str() != wanted {
+            return Err(Fail::from(line));
+        }
+    }
+    Ok(())
+}
+
+/// The stage of a script goes through the turns. It is never dropped, since to prove the drops of
+/// all layers takes longer than the tests.
+fn follows(alloc: Global, script: &str, turns: &'static str) -> Result<(), Fail> {
+    let mut played = Played::new(alloc, script)?;
+    let outcome = goes_through(alloc, &mut played, turns);
+    mem::forget(played);
+    outcome
+}
+
+/// The hunt waits for the opening, and a receive says once that it waits.
+#[test]
+fn turns_in_an_order_of_the_callers_own(rt: HostRuntime) -> Result<(), Fail> {
+    follows(
+        rt.alloc(),
+        "node n\nactor p n\nopen a\nrecv 1\nend\n\
+            actor q n\nopen b\nhunt a\nrecv 251\nsend last 1\nend\n",
+        "turn 2: moved, 2 open
+        turn 2: moved, 2 hunt
+        turn 1: moved, 1 open
+        turn 1: waits, 1 waits
+        turn 1: waits
+        turn 2: moved, 2 take
+        turn 1: waits
+        turn 2: moved, 2 send
+        turn 1: moved, 1 take
+        turn 1: moved, 1 ended
+        turn 1: ended
+        turn 2: moved, 2 ended
+        turn 2: ended
+        over: yes",
+    )
+}
+
+/// Each actor that hasn't ended has one turn in a round, by number.
+#[test]
+fn rounds_leave_nobody_out(rt: HostRuntime) -> Result<(), Fail> {
+    follows(
+        rt.alloc(),
+        "node n\nactor p n\nopen a\nend\nactor q n\nopen b\nclose\nend\nactor r n\nend\n",
+        "round: goes on
+        round: goes on
+        round: over
+        step 1: 1 open
+        step 2: 2 open
+        step 3: 3 ended
+        step 4: 1 ended
+        step 5: 2 close
+        step 6: 2 ended
+        steps: 6",
+    )
+}
+
+/// The plans lose packets of both sides; the first settle ends them. The pump's steps follow the
+/// settle at once.
+#[test]
+fn a_settle_goes_on_until_the_link_is_quiet(rt: HostRuntime) -> Result<(), Fail> {
+    follows(
+        rt.alloc(),
+        "node m\nnode n\nlink l m n\nplan l > L D L L\nplan l < L L\n\
+            actor p m\nopen a\nsettle l\nhunt l/b\nend\nactor q n\nopen b\nend\n",
+        "turn 2: moved, 2 open
+        turn 1: moved, 1 open
+        turn 1: moved, 1 wire
+        pump 1: no work
+        turn 1: moved, 1 hunt
+        pump 1: moved",
+    )
+}
+
+/// It is marked as settled, and nothing more.
+#[test]
+fn a_settle_of_a_cut_link_is_one_step(rt: HostRuntime) -> Result<(), Fail> {
+    follows(
+        rt.alloc(),
+        "node m\nnode n\nlink l m n\nactor p m\ncut l\nsettle l\nend\nactor q n\nend\n",
+        "turn 1: moved, 1 cut
+        turn 1: moved, 1 settle
+        steps: 2",
+    )
+}
