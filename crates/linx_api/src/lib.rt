@@ -22,6 +22,3 @@ mod shared_fabric;
 pub use endpoint::{Endpoint, Told};
 pub use plan::Plan;
 pub use shared_fabric::SharedFabric;
-
-#[cfg(test)]
-mod tests;

@@ -22,6 +22,3 @@ pub use lock::{CloseRefused, TurnLock};
 pub use log::{Log, add_step};
 pub use pass::{Held, Pass, Turn};
 pub use story::{Made, Story};
-
-#[cfg(test)]
-mod tests;

@@ -11,6 +11,3 @@ mod rings;
 mod worker;
 
 pub use ran::{Ran, run};
-
-#[cfg(test)]
-mod tests;
