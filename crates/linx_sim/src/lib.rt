@@ -18,24 +18,3 @@ pub use serving::{run, serial};
 pub use told::Told;
 pub use whole_program::program;
 pub use words::{Unread, Words};
-
-#[cfg(test)]
-mod example_rows;
-#[cfg(test)]
-mod fault_rows;
-#[cfg(test)]
-mod gen_rows;
-#[cfg(test)]
-mod link_rows;
-#[cfg(test)]
-mod link_texts;
-#[cfg(test)]
-mod ring;
-#[cfg(test)]
-mod rows;
-#[cfg(test)]
-mod settle_rows;
-#[cfg(test)]
-mod settle_texts;
-#[cfg(test)]
-mod tests;

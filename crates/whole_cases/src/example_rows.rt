@@ -1,7 +1,8 @@
 //! The scripts of `examples/` with the texts that stand beside them, in the fixed order.
 //! `bench/example_rows.py` writes this file.
 
-use crate::rows::prints;
+use crate::runs::text_under;
+use crate::texts::compare;
 use std::test::Fail;
 
 const EXAMPLES: [(&str, &str); 15] = [
@@ -600,8 +601,9 @@ const EXAMPLES: [(&str, &str); 15] = [
 
 #[test]
 fn each_example_prints_the_text_beside_it(rt: HostRuntime) -> Result<(), Fail> {
-    for row in EXAMPLES {
-        assert!(rt; prints(&rt, rt.alloc(), row)?);
+    for (script, wanted) in EXAMPLES {
+        let text = text_under(&rt, rt.alloc(), "serial", script)?;
+        compare(text.as_str(), wanted)?;
     }
     Ok(())
 }

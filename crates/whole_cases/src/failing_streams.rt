@@ -1,0 +1,128 @@
+//! Runs of which one read or one write fails, each in its turn.
+
+use crate::endpoints::PENDING_HUNT;
+use crate::requests::{log_of_client, log_of_server, script_of_requests};
+use crate::runs::{Ended, end_of, roomy_sink, source_of};
+use crate::signals::SELF_SEND;
+use crate::texts::unindented;
+use linx_outside::{MemSink, MemSource};
+use linx_sim::{Status, serial};
+use std::alloc::Global;
+use std::test::Fail;
+
+/// Gives a script, so many bytes a read. The read of this number fails.
+pub fn failing_source(
+    alloc: Global,
+    script: &str,
+    most: usize,
+    failing: u64,
+) -> Result<MemSource, Fail> {
+    if most == 0 {
+        return Err(Fail::new("no bytes a read"));
+    }
+    let bytes = Vec::from_slice(alloc, script.as_bytes())?;
+    let fails = Vec::from_slice(alloc, &[failing])?;
+    Ok(MemSource::new(bytes, most, fails))
+}
+
+/// Takes so many bytes a write. The write of this number fails.
+pub fn failing_sink(alloc: Global, most: usize, failing: u64) -> Result<MemSink, Fail> {
+    if most == 0 {
+        return Err(Fail::new("no bytes a write"));
+    }
+    let fails = Vec::from_slice(alloc, &[failing])?;
+    Ok(MemSink::new(alloc, most, 4096, fails)?)
+}
+
+/// How the run in the fixed order ends of a script that this source gives.
+fn end_over(alloc: Global, source: &mut MemSource, sink: &mut MemSink) -> Ended {
+    end_of(serial(alloc, source, sink))
+}
+
+const FAULTY_READ: Ended = Ended {
+    status: Status::ReadFault,
+    steps: 0,
+};
+
+#[test]
+fn a_read_that_fails_writes_nothing(rt: HostRuntime) -> Result<(), Fail> {
+    let script = unindented(rt.alloc(), SELF_SEND.script)?;
+    let mut source = failing_source(rt.alloc(), script.as_str(), 4, 2)?;
+    let mut sink = roomy_sink(rt.alloc())?;
+    assert_eq!(rt; end_over(rt.alloc(), &mut source, &mut sink), FAULTY_READ);
+    assert!(rt; sink.held().is_empty());
+    Ok(())
+}
+
+/// How a hundred requests over a lossy link end whose script comes 100 bytes a read, and whose read
+/// of this number fails.
+fn end_of_requests(alloc: Global, failing: u64, sink: &mut MemSink) -> Result<Ended, Fail> {
+    let script = script_of_requests(alloc)?;
+    let mut source = failing_source(alloc, script.as_str(), 100, failing)?;
+    Ok(end_over(alloc, &mut source, sink))
+}
+
+/// The script has 1,102 bytes, so its end is met at the thirteenth read.
+#[test]
+fn each_read_that_fails_ends_the_run(rt: HostRuntime) -> Result<(), Fail> {
+    for failing in 1..14u64 {
+        let mut sink = roomy_sink(rt.alloc())?;
+        assert_eq!(rt;
+            end_of_requests(rt.alloc(), failing, &mut sink)?,
+            FAULTY_READ
+        );
+        assert!(rt; sink.held().is_empty());
+    }
+    Ok(())
+}
+
+#[test]
+fn a_read_that_is_never_made_changes_nothing(rt: HostRuntime) -> Result<(), Fail> {
+    let mut sink = roomy_sink(rt.alloc())?;
+    let Ended { status, .. } = end_of_requests(rt.alloc(), 14, &mut sink)?;
+    assert_eq!(rt; status, Status::Done);
+    let mut logs = log_of_client(rt.alloc())?;
+    logs.push_str(log_of_server(rt.alloc())?.as_str())?;
+    assert!(rt; sink.held().starts_with(logs.as_bytes()));
+    Ok(())
+}
+
+/// How the run in the fixed order of a script ends whose text goes to this sink.
+fn end_into(alloc: Global, script: &str, sink: &mut MemSink) -> Result<Ended, Fail> {
+    let mut source = source_of(alloc, unindented(alloc, script)?.as_str())?;
+    Ok(end_of(serial(alloc, &mut source, sink)))
+}
+
+#[test]
+fn a_write_that_fails_leaves_a_front_of_the_text(rt: HostRuntime) -> Result<(), Fail> {
+    let mut sink = failing_sink(rt.alloc(), 10, 2)?;
+    let Ended { status, .. } = end_into(rt.alloc(), SELF_SEND.script, &mut sink)?;
+    assert_eq!(rt; status, Status::WriteFault);
+    assert!(rt; sink.held() == b"log 1.1 a ".as_slice());
+    Ok(())
+}
+
+/// Whether a run whose text goes 64 bytes a write, and whose write of this number fails, writes
+/// what was to be written before it: all of it only where the text has no such write.
+fn writes_until(alloc: Global, text: &str, failing: u64) -> Result<bool, Fail> {
+    let mut sink = failing_sink(alloc, 64, failing)?;
+    let Ended { status, .. } = end_into(alloc, PENDING_HUNT.script, &mut sink)?;
+    let before = 64usize.saturating_mul(failing.saturating_sub(1) as usize);
+    let wanted = match text.as_bytes().get(..before) {
+        Some(front) if before < text.len() => (Status::WriteFault, front),
+        _ => (Status::Done, text.as_bytes()),
+    };
+    Ok((status, sink.held()) == wanted)
+}
+
+#[test]
+fn each_write_that_fails_leaves_what_came_before_it(rt: HostRuntime) -> Result<(), Fail> {
+    let text = unindented(rt.alloc(), PENDING_HUNT.text)?;
+    for failing in 1..21u64 {
+        assert!(rt;
+            writes_until(rt.alloc(), text.as_str(), failing)?,
+            "at write {failing}"
+        );
+    }
+    Ok(())
+}

@@ -1,0 +1,41 @@
+//! Whole runs in memory: scripts with the texts of their runs, what is told of runs in threads,
+//! streams that fail, and how the program ends. They stand apart from `linx_sim`, so that it, and
+//! the programs that stand on it, are proved once.
+#![tactic(auto)]
+
+#[cfg(test)]
+mod command_line;
+#[cfg(test)]
+mod endpoints;
+#[cfg(test)]
+mod example_rows;
+#[cfg(test)]
+mod failing_streams;
+#[cfg(test)]
+mod limits;
+#[cfg(test)]
+mod link_facts;
+#[cfg(test)]
+mod link_peers;
+#[cfg(test)]
+mod lost_links;
+#[cfg(test)]
+mod program_ends;
+#[cfg(test)]
+mod requests;
+#[cfg(test)]
+mod restarted_links;
+#[cfg(test)]
+mod restarts;
+#[cfg(test)]
+mod ring;
+#[cfg(test)]
+mod runs;
+#[cfg(test)]
+mod settle_facts;
+#[cfg(test)]
+mod settled_links;
+#[cfg(test)]
+mod signals;
+#[cfg(test)]
+mod texts;
