@@ -1,9 +1,9 @@
 #!/usr/bin/env python3
-"""Writes crates/linx_sim/src/example_rows.rt, which tests the examples against their texts.
+"""Writes crates/whole_cases/src/example_rows.rt, which tests the examples against their texts.
 
 Run it after each change of an example, whose text is that of bench/model:
 
-    bench/example_rows.py > crates/linx_sim/src/example_rows.rt
+    bench/example_rows.py > crates/whole_cases/src/example_rows.rt
 """
 import pathlib
 import sys
@@ -13,15 +13,17 @@ HEAD = """\
 //! The scripts of `examples/` with the texts that stand beside them, in the fixed order.
 //! `bench/example_rows.py` writes this file.
 
-use crate::rows::prints;
+use crate::runs::text_under;
+use crate::texts::compare;
 use std::test::Fail;
 
 """
 TEST = """
 #[test]
 fn each_example_prints_the_text_beside_it(rt: HostRuntime) -> Result<(), Fail> {
-    for row in EXAMPLES {
-        assert!(rt; prints(&rt, rt.alloc(), row)?);
+    for (script, wanted) in EXAMPLES {
+        let text = text_under(&rt, rt.alloc(), "serial", script)?;
+        compare(text.as_str(), wanted)?;
     }
     Ok(())
 }

@@ -13,7 +13,9 @@ cat > src/main.rt <<'PROGRAM'
 use anyhow::{Context, anyhow};
 use attach_table::AttachTable;
 use hunt_table::HuntTable;
-use linx_base::{AttRef, Inc, LinkNo, Name, Path, Peer, PendingHunt, Session, Signal};
+use linx_base::{
+    AttRef, Inc, LinkNo, Name, Path, Peer, PendingAttach, PendingHunt, Session, Signal,
+};
 use name_table::NameTable;
 use std::alloc::Global;
 use std::time::Instant;
@@ -90,14 +92,12 @@ fn hunts(rt: &HostRuntime, entries: u64) -> anyhow::Result<()> {
     let start = Instant::now(rt).context("clock")?;
     let mut found: u64 = 0;
     for round in 0..ROUNDS {
-        table
-            .pend(hunt(alloc, 1_000_000)?)
-            .map_err(|_| anyhow!("pend"))?;
-        if table.nth_for(&sought, 0).is_some() && table.nth_over(LinkNo(0), 0).is_some() {
+        table.pend(hunt(alloc, 1_000_000)?).map_err(|_| anyhow!("pend"))?;
+        if table.hunts_for(&sought).next_entry().is_some() && table.nth_over(LinkNo(0), 0).is_some() {
             found = found.wrapping_add(1);
         }
         if round % 2 == 0 {
-            table.next_for(&sought);
+            table.drop_for(&sought);
         } else {
             table.drop_of(Inc(1_000_000));
         }
@@ -112,31 +112,33 @@ fn attaches(rt: &HostRuntime, entries: u64) -> anyhow::Result<()> {
     let alloc = rt.alloc();
     let mut table = AttachTable::new(alloc);
     for k in 0..entries {
-        let signal = Signal::alloc(alloc, 252, b"")?;
-        table
-            .attach(Inc(k), remote(k), signal, AttRef(k))
-            .map_err(|_| anyhow!("attach"))?;
+        let attach = PendingAttach {
+            at: Inc(k),
+            peer: remote(k),
+            signal: Signal::alloc(alloc, 252, b"")?,
+            reference: AttRef(k),
+        };
+        table.attach(attach).map_err(|_| anyhow!("attach"))?;
     }
     let peer = remote(1_000_001);
     let start = Instant::now(rt).context("clock")?;
     let mut found: u64 = 0;
     for round in 0..ROUNDS {
-        let reference = AttRef(round.saturating_add(1_000_000));
-        let signal = Signal::alloc(alloc, 252, b"")?;
-        table
-            .attach(Inc(1_000_000), peer, signal, reference)
-            .map_err(|_| anyhow!("attach"))?;
-        let lost = table.nth_lost(LinkNo(1), Session(1), 0).is_some();
-        if table.nth_ended(peer, 0).is_some() && lost {
+        let reference = AttRef(1_000_000 + round);
+        let attach = PendingAttach {
+            at: Inc(1_000_000),
+            peer,
+            signal: Signal::alloc(alloc, 252, b"")?,
+            reference,
+        };
+        table.attach(attach).map_err(|_| anyhow!("attach"))?;
+        let of_session = table.attaches_within(LinkNo(1), Session(1)).next_entry().is_some();
+        if table.attaches_to(peer).next_entry().is_some() && of_session {
             found = found.wrapping_add(1);
         }
         match round % 3 {
-            0 => {
-                table.detach(Inc(1_000_000), reference);
-            }
-            1 => {
-                table.next_ended(peer);
-            }
+            0 => { table.detach(Inc(1_000_000), reference); }
+            1 => table.drop_to(peer),
             _ => table.drop_of(Inc(1_000_000)),
         }
     }

@@ -2,9 +2,9 @@
 """Runs the built program with a thread for each actor and each link: each worked script many times,
 and random scripts once each.
 
-The worked scripts are those of `examples/` and those that stand in the tests of linx_sim and
-workers. The makers of the steps in a run's journal are the order in which they took their turns. In
-this order bench/model takes the same turns: all must be over behind the last of them, and its text
+The worked scripts are those of `examples/` and those that stand in whole_cases and thread_cases.
+The makers of the steps in a run's journal are the order in which they took their turns. In this
+order bench/model takes the same turns: all must be over behind the last of them, and its text
 must be the run's, byte by byte. A run may say that its journal is full only where the model's is in
 the fixed order. Each run must end within ten seconds. Prints how many runs of how many scripts were
 as they should be, in how many ways they ended, and the first that was wrong.
@@ -30,10 +30,11 @@ LITERAL = re.compile(r'"(node (?:[^"\\]|\\.)*)"', re.DOTALL)
 def worked_scripts():
     """The good scripts of the examples and of the tests, each once."""
     scripts = {file.read_text(): file.stem for file in sorted((TOP / "examples").glob("*.linx"))}
-    for crate in "linx_sim", "workers":
+    for crate in "whole_cases", "thread_cases":
         for file in sorted((TOP / "crates" / crate / "src").glob("*.rt")):
             for literal in LITERAL.findall(file.read_text()):
                 script = re.sub(r"\\\n\s*", "", literal).replace("\\n", "\n")
+                script = re.sub(r"(?m)^ +", "", script).rstrip("\n") + "\n"
                 if judge.is_script(script.encode()):
                     scripts.setdefault(script, f"{crate} {file.stem}: {script[:60]!r}")
     return [(name, script) for script, name in scripts.items()]
