@@ -54,8 +54,9 @@ named() {
 
 script="$top/crates/linx_self_send/stdin"
 printf 'node n\nnod m\n' > "$work/bad"
-printf '%s\n' 'node n' 'actor p n' 'open a' 'repeat 600' 'send self 1 fill:65532:00' 'end' \
-    'close' 'end' > "$work/large"
+# an actor shares a filling with the one before it where they are equal: so these take turns
+printf '%s\n' 'node n' 'actor p n' 'open a' 'repeat 300' 'send self 1 fill:65532:00' \
+    'send self 1 fill:65532:01' 'end' 'close' 'end' > "$work/large"
 usage=$'linx_sim: usage: linx_sim run, serial or gen N\n'
 
 row 'done' 0 '' "$script" "$work/text" plain run
