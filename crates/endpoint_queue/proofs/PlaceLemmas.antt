@@ -221,8 +221,8 @@ module _ (places : List Place) where
       → IsLeastTicket (selects (Only listed)) places one → IsLeastTicket (λ m. eqb n m) places other
       → IsLeastTicket (selects (Only (listed ++ n ∷ []))) places (lower_of one other)
   least_ticket_more listed n one other was first =
-      least_of_both places (selects (Only listed)) (λ m. eqb n m) (selects (Only (listed ++ n ∷ [])))
-      (listed_more listed n) one other was first
+      least_of_both places (selects (Only listed)) (λ m. eqb n m)
+      (selects (Only (listed ++ n ∷ []))) (listed_more listed n) one other was first
 
   pub least_ticket_none : IsLeastTicket (selects (Only [])) places None
   least_ticket_none k d inside = refl

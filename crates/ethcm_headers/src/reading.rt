@@ -1,7 +1,7 @@
 ghost use Rattle.std.specs.Prelude.{◌≡◌, ◌≤◌, ◌++◌, List, ℕ, length, drop, IfSome, IfNone, IfOk};
 ghost use Rattle.std.specs.Prelude.{IfErr};
 ghost use Rattle.ethcm_headers.specs.declared.packets.Packet.{Packet as AnyPacket};
-ghost use Rattle.ethcm_headers.specs.declared.reading.ReadError.TheVariants.{NoMemory as OutOfMemory};
+ghost use Rattle.ethcm_headers.specs.declared.reading.ReadError.TheVariants as errors;
 ghost use Rattle.ethcm_headers.specs.Packets.{Spells};
 ghost use Rattle.ethcm_headers.specs.Chains.{packet_with, part_with};
 
@@ -40,7 +40,7 @@ impl fmt::Display for ReadError {
 impl Error for ReadError {}
 
 impl From<NoMemory> for ReadError {
-    ghost from_gives = { λ _ e. e ≡ OutOfMemory };
+    ghost from_gives = { λ _ e. e ≡ errors.NoMemory };
 
     fn from(_refusal: NoMemory) -> ReadError {
         ReadError::NoMemory

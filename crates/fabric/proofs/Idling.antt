@@ -1,6 +1,7 @@
 -- Whoever waits in vain still does after a step of another maker that doesn't reach its endpoint.
 use Rattle.std.proofs.Common.{◌≡◌, ◌≢◌, ℕ, zero, suc, ◌<◌, Bool, true, false, cond, not, List, []}
-use Rattle.std.proofs.Common.{◌∷◌, ◌++◌, length, map, filter, replicate, Option, Some, None, is_none}
+use Rattle.std.proofs.Common.{◌∷◌, ◌++◌, length, map, filter, replicate}
+use Rattle.std.proofs.Common.{Option, Some, None, is_none}
 use Rattle.std.proofs.Common.{drop, get_or, set, take}
 use Rattle.std.proofs.Common.{refl, sym, ◌∙◌, ap, subst, arith, ◌⊎◌, inl, inr}
 use Rattle.std.specs.Prelude.{◌+◌, ◌==◌, slice_get, slice_set}

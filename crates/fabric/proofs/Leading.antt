@@ -26,7 +26,8 @@ module _ (shape : Shape) (P : List Step) (n : ℕ) (above : 0 < n)
   -- one that hasn't ended
   pub led : b ≡ has_ended P n → not b ≡ true → all_have_ended shape P ≡ false
   led is fails =
-      all-fail (have_ended P) (has_ended P) (λ m. refl) n (length shape.actors) above within b is fails
+      all-fail (have_ended P) (has_ended P) (λ m. refl) n (length shape.actors) above within b is
+      fails
 
   -- one that doesn't leave another at rest
   pub behind : (k : ℕ) → b ≡ ((k == n) || leaves_at_rest P k n) → not b ≡ true

@@ -131,8 +131,8 @@ lawful-by : (nodes : ℕ) (shape : Shape) (P : List Step) (trunks : RunTrunks) (
     → KeepsReceives (actors_alone shape) P (node_by shape by) by (endpoint_by P by) head
     → HuntsName head → IsMade nodes shape P trunks (record { by = by; head = head; effects = es })
     → IsLawful nodes shape P trunks (record { by = by; head = head; effects = es })
-lawful-by nodes shape P trunks es by maker head may opens_one needs_one bounds effects sends receives
-    name made = record {
+lawful-by nodes shape P trunks es by maker head may opens_one needs_one bounds effects sends
+    receives name made = record {
       laws = record {
         makers = record { maker = maker; may = may };
         endpoints = record { opens = opens_one; needs = needs_one };

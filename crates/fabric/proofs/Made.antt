@@ -101,8 +101,9 @@ module _ {f : Layout} {parts : Parts} {actor place home : ℕ} (acts : Acts f pa
 
     -- a lawful step that makes this of the trunks
     run-step : (head : Head)
-        → IsLawful (length f.log.names.nodes) shape P trunks (step_by head) → (after : List TrunkState)
-        → MakesTrunks head after → IsTrunkStep shape P trunks (step_by head) (trunks_of after)
+        → IsLawful (length f.log.names.nodes) shape P trunks (step_by head)
+        → (after : List TrunkState) → MakesTrunks head after
+        → IsTrunkStep shape P trunks (step_by head) (trunks_of after)
     run-step head lawful after makes =
         record { laws = lawful.laws; named = lawful.named; makes = makes }
 

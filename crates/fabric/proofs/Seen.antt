@@ -1,5 +1,5 @@
--- The fabric as its methods see it: by their fields, and by what is now of its trunks once they were
--- told, which stays.
+-- The fabric as its methods see it: by their fields, and by what is now of its trunks once they
+-- were told, which stays.
 use Rattle.std.proofs.Common.{◌≡◌, ℕ, List, refl, sym, ◌∙◌, ap, subst, ◌++◌, length, take, drop}
 use Rattle.journal.specs.Logs.{Log}
 use Rattle.journal.specs.Shapes.{Shape}

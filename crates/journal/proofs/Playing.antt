@@ -1,4 +1,4 @@
--- The words of worked runs, and how one is shown to be legal, step by step, by tests that compute.
+-- The words of worked runs of nodes, and tests that compute of the laws of a step.
 use Rattle.std.proofs.Common.{◌≡◌, ◌≢◌, ℕ, zero, suc, ◌<◌, ◌≤◌, nat_lt, nat_le, ◌==◌, Bool, true}
 use Rattle.std.proofs.Common.{false, not, ◌&&◌, ◌||◌, List, [], ◌∷◌, length, Option, is_none}
 use Rattle.std.proofs.Common.{is_some, inl, inr, refl, sym, ap, ◌∙◌, arith}
@@ -21,15 +21,13 @@ use Rattle.journal.specs.declared.effect.Step.{Step}
 use Rattle.journal.specs.declared.head.Head.TheVariants.{Open, Close, Send, Take, Ended}
 use Rattle.journal.specs.declared.head.Head.{Head}
 use Rattle.journal.specs.declared.head.SentTo.TheVariants.{Queued}
-use Rattle.journal.specs.History.{endpoint_of, has_ended}
-use Rattle.journal.specs.Shapes.{Shape, node_by}
+use Rattle.journal.specs.History.{has_ended}
+use Rattle.journal.specs.Shapes.{Shape}
 use Rattle.journal.specs.Rest.{IsAtRest, leaves_at_rest}
-use Rattle.journal.specs.Laws.{KeepsMakers, KeepsEndpoints, IsBounded, KeepsSends, KeepsReceives}
-use Rattle.journal.specs.Laws.{IsLegalStep, IsLegal, is_opening, is_endpoints, is_on_link}
-use Rattle.journal.specs.Laws.{effects_by}
+use Rattle.journal.specs.Laws.{KeepsMakers, KeepsEndpoints, is_opening, is_endpoints}
 
 -- the test of an actor as a maker: it is one of the shape, and hasn't ended
-abbrev is_actor : Shape → List Step → ℕ → Bool
+abbrev pub is_actor : Shape → List Step → ℕ → Bool
 is_actor shape P k = nat_lt 0 k && (nat_le k (length shape.actors) && not (has_ended P k))
 
 pub made_by : {shape : Shape} {P : List Step} {k : ℕ} {head : Head} → is_actor shape P k ≡ true
@@ -56,7 +54,7 @@ implied true b follows is = follows
 implied false b follows is = absurd (true≢false (sym is))
 
 -- the test of a head for a maker with this endpoint
-abbrev has_endpoint : Option Inc → Head → Bool
+abbrev pub has_endpoint : Option Inc → Head → Bool
 has_endpoint me head =
     implies (is_opening head) (is_none me) && implies (is_endpoints head) (is_some me)
 
@@ -69,40 +67,6 @@ endpoint_kept {me} {head} is =
       opens = implied (is_opening head) (is_none me) parts.0;
       needs = implied (is_endpoints head) (is_some me) parts.1;
     }
-
--- the test of a head for an actor: it may act, its endpoint is as the head needs, and it isn't on a
--- link
-abbrev may_act : Shape → List Step → ℕ → Head → Bool
-may_act shape P k head =
-    is_actor shape P k && (has_endpoint (endpoint_of P k) head && not (is_on_link head))
-
--- a step of an actor is legal where that test, and what is said of its head, compute
-pub acts : {shape : Shape} {P : List Step} {k : ℕ} {head : Head} {effects : List Effect}
-    → may_act shape P k head ≡ true → IsBounded head
-    → effects ≡ effects_by P (node_by shape (Actor k)) (endpoint_of P k) head
-    → KeepsSends P (node_by shape (Actor k)) head
-    → KeepsReceives shape P (node_by shape (Actor k)) (Actor k) (endpoint_of P k) head
-    → IsLegalStep shape P (record { by = Actor k; head = head; effects = effects })
-acts {shape} {P} {k} {head} {effects} may bounds same sends receives =
-    let me : Option Inc = endpoint_of P k in
-    let parts =
-    and_parts (is_actor shape P k) (has_endpoint me head && not (is_on_link head)) may in
-    let others = and_parts (has_endpoint me head) (not (is_on_link head)) parts.1 in
-    record {
-      makers = made_by parts.0;
-      endpoints = endpoint_kept others.0;
-      bounds = bounds;
-      effects = same;
-      sends = sends;
-      receives = receives;
-      unlinked = not-true (is_on_link head) others.1;
-    }
-
--- a legal run goes on with a legal step
-infixl 1 ◌▸◌
-pub ◌▸◌ : {shape : Shape} {P : List Step} {s : Step} → IsLegal shape P → IsLegalStep shape P s
-    → IsLegal shape (s ∷ P)
-before ▸ step = (before, step)
 
 -- the test of the first actors, so many, that they leave actor k at rest
 abbrev all_leave : List Step → ℕ → ℕ → Bool

@@ -1,5 +1,6 @@
--- When a step is legal after the steps before it, and a journal is.
-use Rattle.std.specs.Prelude.{ℕ, suc, ◌≡◌, ◌≤◌, ◌<◌, Bool, true, false, ◌==◌, List, [], ◌∷◌, length}
+-- The laws of a step at its node, after the steps before it. When a step is legal, by these and by
+-- the laws of links, and when a journal is, link_laws says.
+use Rattle.std.specs.Prelude.{ℕ, suc, ◌≡◌, ◌≤◌, ◌<◌, Bool, true, false, ◌==◌, List, [], length}
 use Rattle.std.specs.Prelude.{is_none, is_some, IsSomeAnd, Option, Some, None}
 use Rattle.std.specs.List.{list_any}
 use Rattle.linx_base.specs.Content.{data_limit}
@@ -21,12 +22,12 @@ use Rattle.journal.specs.declared.effect.Effect.{Effect}
 use Rattle.journal.specs.declared.effect.Step.{Step}
 use Rattle.journal.specs.Effects.{opening, ending, arrivals_of, hunted, attached, closings}
 use Rattle.journal.specs.Effects.{send_answer, detach_answer}
-use Rattle.journal.specs.History.{endpoint_by, has_ended, next_inc, open_endpoints, opened_on}
+use Rattle.journal.specs.History.{has_ended, next_inc, open_endpoints, opened_on}
 use Rattle.journal.specs.Living.{find, is_alive}
 use Rattle.linx_base.specs.Pending.{is_attach}
 use Rattle.journal.specs.Pending.{hunting, owed}
 use Rattle.journal.specs.Rest.{IsAtRest, queue_of, waits_with}
-use Rattle.journal.specs.Shapes.{Shape, node_by}
+use Rattle.journal.specs.Shapes.{Shape}
 
 -- a maker is an actor of the shape that hasn't ended, or the pump of one of its links
 abbrev pub IsMaker : Shape → List Step → By → Type 0
@@ -66,15 +67,6 @@ is_endpoints _ = false
 pub record KeepsEndpoints (me : Option Inc) (head : Head) : Type 0 where
   pub opens : is_opening head ≡ true → is_none me ≡ true
   pub needs : is_endpoints head ≡ true → is_some me ≡ true
-
--- a step of this head is one on a link
-abbrev pub is_on_link : Head → Bool
-is_on_link (Cut l) = true
-is_on_link (Mend l) = true
-is_on_link (Settle l) = true
-is_on_link (Wire l side verdict) = true
-is_on_link (Tick l side) = true
-is_on_link _ = false
 
 -- LAW OF BOUNDS. A name is one, a signal has at most 65,532 data bytes, and the signal of an attach
 -- one fewer, for its reason
@@ -161,19 +153,3 @@ KeepsReceives shape P node by me (Waits filter) =
     (first_selected filter (queue_of P me) ≡ None) × HasNotWaited P by
 KeepsReceives shape P node by me (Detach r answer) = answer ≡ detached_as P node me r
 KeepsReceives shape P node by me _ = Unit {0}
-
--- A step off the links is legal after the steps P. What is claimed of runs with links is claimed of
--- `IsLegal` of link_laws, which has these laws too
-pub record IsLegalStep (shape : Shape) (P : List Step) (s : Step) : Type 0 where
-  pub makers : KeepsMakers shape P s.by s.head
-  pub endpoints : KeepsEndpoints (endpoint_by P s.by) s.head
-  pub bounds : IsBounded s.head
-  pub effects : s.effects ≡ effects_by P (node_by shape s.by) (endpoint_by P s.by) s.head
-  pub sends : KeepsSends P (node_by shape s.by) s.head
-  pub receives : KeepsReceives shape P (node_by shape s.by) s.by (endpoint_by P s.by) s.head
-  pub unlinked : is_on_link s.head ≡ false
-
--- a journal of steps off the links is legal: each step is, after the steps before it
-abbrev pub IsLegal : Shape → List Step → Type 0
-IsLegal shape [] = Unit {0}
-IsLegal shape (s ∷ P) = IsLegal shape P × IsLegalStep shape P s

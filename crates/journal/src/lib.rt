@@ -1,8 +1,9 @@
 //! The journal: every step that was made, in order. A step has a maker, one head that says what was
 //! done, and the effects of it in order. What LINX promises is said of this list alone: the
-//! definitions in `specs/` cut queues, arrivals, open endpoints and the laws of a legal step out of
-//! it; those of links stand in `link_laws`. In them a history has the newest step first, so behind a
-//! step stand the steps before it; every other list is oldest first.
+//! definitions in `specs/` cut queues, arrivals, open endpoints and the laws of a step at its node
+//! out of it; those of links, and when a step is legal, stand in `link_laws`. In them a history has
+//! the newest step first, so behind a step stand the steps before it; every other list is oldest
+//! first.
 #![tactic(auto)]
 
 mod by;

@@ -179,7 +179,8 @@ pub closed_not_live : (f : ℕ → Option ℕ) (old new : List Meaning) (inc : I
     → IsLive new inc → ⊥
 closed_not_live f old new inc a index live change after =
     elim (eqb_tells after.0 a) [
-      | inl p ↦ closing_isnt_live inc inc (sym change.here ∙ ap (meaning_of new) (sym p.1) ∙ after.1)
+      | inl p ↦
+          closing_isnt_live inc inc (sym change.here ∙ ap (meaning_of new) (sym p.1) ∙ after.1)
       | inr p ↦ p.1 (same_some after.0 a (f inc.0)
           (index inc after.0 (sym (change.others after.0 p.1) ∙ after.1)) (index inc a live))
     ]

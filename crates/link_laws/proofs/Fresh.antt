@@ -1,8 +1,7 @@
 -- What a legal step opens is new: the incarnations of a node are numbered in order of opening.
-use Rattle.std.proofs.Common.{◌≡◌, ℕ, zero, suc, ◌<◌, ◌≤◌, ◌||◌, Bool, true, false, cond, inl, inr}
-use Rattle.std.proofs.Common.{List, [], ◌∷◌, ◌++◌, length, Option, Some, None, refl, sym, ◌∙◌, ap}
-use Rattle.std.proofs.Common.{subst, arith}
-use Rattle.std.specs.Prelude.{if◌then◌else◌}
+use Rattle.std.proofs.Common.{◌≡◌, ℕ, zero, suc, ◌<◌, ◌||◌, Bool, true, false, cond, inl, inr, List}
+use Rattle.std.proofs.Common.{[], ◌∷◌, ◌++◌, length, Option, Some, None, refl, sym, ◌∙◌, ap, subst}
+use Rattle.std.proofs.Common.{arith}
 use Rattle.std.specs.List.{list_any, filter, filter_map}
 use Rattle.std.proofs.Math.Bool.{or-false}
 use Rattle.std.proofs.lemmas.Bool.{eq-eqb, false_from_ne_true, or_cases, true≢false}
@@ -18,8 +17,8 @@ use Rattle.linx_base.specs.declared.identity.Session.{Session}
 use Rattle.linx_base.specs.declared.identity.Side.{Side}
 use Rattle.linx_base.specs.declared.name.Path.TheVariants.{Over}
 use Rattle.journal.specs.Effects.{closings}
-use Rattle.journal.specs.History.{effects_of, endpoint_by, next_inc, open_endpoints, opened_by}
-use Rattle.journal.specs.History.{opened_in, opened_on, openings}
+use Rattle.journal.specs.History.{effects_of, endpoint_by, open_endpoints, opened_by, opened_in}
+use Rattle.journal.specs.History.{openings}
 use Rattle.journal.specs.Laws.{is_opening}
 use Rattle.linx_base.specs.Pending.{is_of_session}
 use Rattle.journal.specs.Pending.{hunting, owed}
@@ -39,6 +38,7 @@ use Rattle.link_laws.specs.Laws.{KeepsPackets, KeepsTicks, delivers, down_if, do
 use Rattle.link_laws.specs.Laws.{restarting, stays}
 use Rattle.link_laws.proofs.Done.{opened-items}
 use Rattle.link_laws.proofs.Opened.{OpensNew}
+use Rattle.link_laws.proofs.Orderly.{IsOrderly, IsOrderlyStep, node_of-next_on, opened_next}
 use Rattle.link_laws.proofs.Sides.{founds-items, notices-items}
 use Rattle.linx_base.specs.declared.signal.Reason.TheVariants as reasons
 
@@ -93,9 +93,6 @@ restarting-opens_none shape P n =
     ∙ closings-open_none (open_endpoints P n)
 
 -- AN OPENING OPENS the next incarnation of its maker's node, and no other step opens one
-abbrev opened_next : List Step → ℕ → Head → List Inc
-opened_next P node head = if is_opening head then next_on P node ∷ [] else []
-
 head-opens : (shape : Shape) (P : List Step) (node : ℕ) (me : Option Inc) (head : Head)
     (es : List Effect) → HasEffects shape P node me head es → KeepsPackets shape P head es
     → KeepsTicks shape P head es → filter_map opened_in es ≡ opened_next P node head
@@ -114,27 +111,25 @@ pub step-opens : (shape : Shape) (P : List Step) (s : Step) → IsLegalStep shap
 step-opens shape P s legal = head-opens shape P (node_by shape s.by) (endpoint_by P s.by) s.head
     s.effects legal.effects legal.packets legal.ticks
 
-at_most_one : (p : Inc → Bool) (i : Inc) (t : Bool) → length (filter p (cond t (i ∷ []) [])) ≤ 1
-at_most_one p i false = omega arith
-at_most_one p i true = elim (p i) as (λ b. length (cond b (i ∷ []) []) ≤ 1) [
-  | true ↦
-      omega arith
-  | false ↦ omega arith
-]
+-- so a legal step is orderly
+pub orderly-step : (shape : Shape) (P : List Step) (s : Step) → IsLegalStep shape P s
+    → IsOrderlyStep shape P s
+orderly-step shape P s legal = record {
+  makers = legal.makers;
+  endpoints = legal.endpoints;
+  opens = step-opens shape P s legal;
+}
 
--- a step opens at most one
-pub opened-few : (shape : Shape) (P : List Step) → IsLegal shape P → (node : ℕ)
-    → opened_on P node ≤ length P
-opened-few shape [] legal node = omega arith
-opened-few shape (s ∷ P) legal node =
-    let before = opened-few shape P legal.0 node in
-    let one = at_most_one (is_on node) (next_on P (node_by shape s.by)) (is_opening s.head) in
-    let new = ap (λ (xs : List Inc). length (filter (is_on node) xs)) (step-opens shape P s legal.1)
-    in
-    omega arith
+-- and so is a legal run
+pub orderly : (shape : Shape) (P : List Step) → IsLegal shape P → IsOrderly shape P
+orderly shape [] legal = tt
+orderly shape (s ∷ P) legal =
+    (orderly shape P legal.0, orderly-step shape P s legal.1)
 
-pub node_of-next : (node opened : ℕ) → opened < 4294967295 → node_of (next_inc node opened) ≡ node
-node_of-next node opened fits = omega arith
+-- the next incarnation of a node is on it
+pub next_on-home : (shape : Shape) (P : List Step) → IsLegal shape P → IsShort P → (node : ℕ)
+    → node_of (next_on P node) ≡ node
+next_on-home shape P legal = node_of-next_on shape P (orderly shape P legal)
 
 -- each incarnation that was opened is below the next one of its node
 pub opened-below : (shape : Shape) (P : List Step) → IsLegal shape P → IsShort P → (i : Inc)
@@ -161,11 +156,10 @@ opened-below shape (s ∷ P) legal short i is =
     opens_it false e among = absurd (true≢false (sym among))
     opens_it true e among =
         let short_before : IsShort P = omega arith in
-        let few = opened-few shape P legal.0 node in
         let same : i ≡ next_on P node = same_inc-true i (next_on P node)
         (sym (or-false (same_inc i (next_on P node))) ∙ among) in
         let home : node_of (next_on P node) ≡ node =
-        node_of-next node (opened_on P node) (omega arith) in
+        next_on-home shape P legal.0 short_before node in
         let on : is_on node (next_on P node) ≡ true = eq-eqb (node_of (next_on P node)) node home in
         let one : opened_by node s.effects ≡ next_on P node ∷ [] =
         ap (filter (is_on node)) (step-opens shape P s legal.1
@@ -181,10 +175,8 @@ pub opens-new : (shape : Shape) (P : List Step) → IsLegal shape P → IsShort 
     → OpensNew P (Opened (next_on P node) ∷ [])
 opens-new shape P legal short node i was =
     ap (λ t. t || false) (false_from_ne_true (same_inc i (next_on P node)) (λ is.
-    let few = opened-few shape P legal node in
     let same : i ≡ next_on P node = same_inc-true i (next_on P node) is in
-    let home : node_of (next_on P node) ≡ node =
-    node_of-next node (opened_on P node) (omega arith) in
+    let home : node_of (next_on P node) ≡ node = next_on-home shape P legal short node in
     let low : i.0 < (next_on P (node_of i)).0 = opened-below shape P legal short i was in
     let at : node_of i ≡ node = ap node_of same ∙ home in
     let lower : i.0 < (next_on P node).0 = subst (λ (h : ℕ). i.0 < (next_on P h).0) at low in

@@ -20,7 +20,7 @@ use Rattle.link_laws.specs.Ends.{HasTwoEnds, node_at}
 use Rattle.link_laws.specs.Sides.{AllLinked, AreLinksKept, Links, records_of}
 use Rattle.link_laws.specs.Laws.{IsLegal, IsLegalStep}
 use Rattle.link_laws.specs.Linked.{IsUnfound, is_hunted}
-use Rattle.link_laws.specs.Moves.{AllLeft, KeepsNodeLaws}
+use Rattle.link_laws.specs.Moves.{AllLeft}
 use Rattle.link_laws.specs.Promises.{PromisesOf}
 use Rattle.link_laws.specs.Sessions.{restarts}
 use Rattle.link_laws.proofs.Acts.{keeps_quiet}
@@ -28,7 +28,6 @@ use Rattle.link_laws.proofs.Away.{touches}
 use Rattle.link_laws.proofs.Done.{IsDone}
 use Rattle.link_laws.proofs.Hunted.{hunts_stay}
 use Rattle.link_laws.proofs.Hunts.{IsSameHere}
-use Rattle.link_laws.proofs.Legal.{AsksNothing}
 use Rattle.link_laws.proofs.OneSide.{all_kept, raises-none, tells-none, untouched-raises}
 use Rattle.link_laws.proofs.Opened.{OpensNew, opened-any}
 use Rattle.link_laws.proofs.Published.{opened_step}
@@ -64,22 +63,6 @@ pub record IsGood (shape : Shape) (P : List Step) (s : Step) (after : Links) : T
   pub legal : IsLegalStep shape P s
   pub kept : AreLinksKept shape (s ∷ P) after
   pub promised : PromisesOf shape P s.head s.effects
-
--- the laws of nodes, and those of the links
-pub legal_with : (shape : Shape) (P : List Step) (s : Step) → KeepsNodeLaws shape P s
-    → AsksNothing shape P s.head s.effects → IsLegalStep shape P s
-legal_with shape P s laws links = record {
-  makers = laws.makers;
-  endpoints = laws.endpoints;
-  bounds = laws.bounds;
-  effects = laws.effects;
-  sends = laws.sends;
-  receives = laws.receives;
-  rest = links.rest;
-  packets = links.packets;
-  cuts = links.cuts;
-  ticks = links.ticks;
-}
 
 -- what opens nothing opens nothing that was opened before
 pub opens-nothing : (P : List Step) (es : List Effect) → filter_map opened_in es ≡ []

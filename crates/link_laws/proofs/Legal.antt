@@ -11,10 +11,12 @@ use Rattle.linx_base.specs.declared.identity.LinkNo.{LinkNo}
 use Rattle.linx_base.specs.declared.identity.Session.{Session}
 use Rattle.linx_base.specs.declared.identity.Side.{Side}
 use Rattle.journal.specs.Effects.{losing}
-use Rattle.journal.specs.Laws.{KeepsEndpoints, KeepsMakers, is_endpoints, is_opening}
+use Rattle.journal.specs.History.{endpoint_by}
+use Rattle.journal.specs.Laws.{IsBounded, KeepsEndpoints, KeepsMakers, KeepsReceives, KeepsSends}
+use Rattle.journal.specs.Laws.{is_endpoints, is_opening}
 use Rattle.journal.specs.Pending.{owed}
 use Rattle.journal.specs.Sessions.{up_session}
-use Rattle.journal.specs.Shapes.{Shape}
+use Rattle.journal.specs.Shapes.{Shape, node_by}
 use Rattle.journal.specs.declared.by.By.{By}
 use Rattle.journal.specs.declared.effect.Effect.{Effect}
 use Rattle.journal.specs.declared.effect.Step.{Step}
@@ -22,8 +24,10 @@ use Rattle.journal.specs.declared.head.Head.{Head}
 use Rattle.journal.specs.declared.head.Head.TheVariants.{Restart, TakeNone, Tick, Wire}
 use Rattle.link_laws.specs.Brought.{Brought, MayBring, brought_at}
 use Rattle.link_laws.specs.Ends.{node_at}
-use Rattle.link_laws.specs.Laws.{IsTick, IsHandedOver, IsLegalStep, IsPacket, KeepsCuts}
-use Rattle.link_laws.specs.Laws.{KeepsPackets, KeepsRest, KeepsTicks, delivers, loses, restarting}
+use Rattle.link_laws.specs.Laws.{HasEffects, IsHandedOver, IsLegalStep, IsPacket, IsTick}
+use Rattle.link_laws.specs.Laws.{KeepsCuts, KeepsPackets, KeepsRest, KeepsTicks, actors_alone}
+use Rattle.link_laws.specs.Laws.{delivers, loses, restarting}
+use Rattle.link_laws.specs.Moves.{KeepsNodeLaws}
 use Rattle.link_laws.specs.Sessions.{is_cut, silent_ticks}
 
 -- no endpoint is needed for what is no opening and no step of an endpoint
@@ -57,6 +61,38 @@ asks-nothing shape P (Tick k side) effects plain = absurd (true≢false (sym pla
 asks-nothing shape P _ effects plain =
     record { rest = tt; packets = tt; cuts = tt; ticks = tt }
 
+-- a step is legal that keeps the laws of nodes, and those of the links
+pub legal_with : (shape : Shape) (P : List Step) (s : Step) → KeepsNodeLaws shape P s
+    → AsksNothing shape P s.head s.effects → IsLegalStep shape P s
+legal_with shape P s laws links = record {
+  makers = laws.makers;
+  endpoints = laws.endpoints;
+  bounds = laws.bounds;
+  effects = laws.effects;
+  sends = laws.sends;
+  receives = laws.receives;
+  rest = links.rest;
+  packets = links.packets;
+  cuts = links.cuts;
+  ticks = links.ticks;
+}
+
+-- a step that needs no endpoint keeps the laws of nodes where what they ask of its head is kept
+pub node_laws : {shape : Shape} {P : List Step} {by : By} {head : Head} {es : List Effect}
+    → KeepsMakers shape P by head → is_opening head ≡ false → is_endpoints head ≡ false
+    → IsBounded head → HasEffects shape P (node_by shape by) (endpoint_by P by) head es
+    → KeepsSends P (node_by shape by) head
+    → KeepsReceives (actors_alone shape) P (node_by shape by) by (endpoint_by P by) head
+    → KeepsNodeLaws shape P (record { by = by; head = head; effects = es })
+node_laws makers opens needs bounds effects sends receives = record {
+  makers = makers;
+  endpoints = no_endpoint opens needs;
+  bounds = bounds;
+  effects = effects;
+  sends = sends;
+  receives = receives;
+}
+
 -- a packet that meets a verdict
 pub legal_passing : (shape : Shape) (P : List Step) (by : By) (l : LinkNo) (from : Side)
     (verdict : Verdict) (es : List Effect) → KeepsMakers shape P by (Wire l from verdict)
@@ -64,18 +100,9 @@ pub legal_passing : (shape : Shape) (P : List Step) (by : By) (l : LinkNo) (from
     → IsHandedOver (delivers verdict) P (node_at shape l (other_of from)) (node_at shape l from) l
     es
     → IsLegalStep shape P (record { by = by; head = Wire l from verdict; effects = es })
-legal_passing shape P by l from verdict es maker cuts handed = record {
-  makers = maker;
-  endpoints = no_endpoint refl refl;
-  bounds = tt;
-  effects = tt;
-  sends = tt;
-  receives = tt;
-  rest = tt;
-  packets = handed;
-  cuts = cuts;
-  ticks = tt;
-}
+legal_passing shape P by l from verdict es maker cuts handed =
+    legal_with shape P _ (node_laws maker refl refl tt tt tt tt)
+    (record { rest = tt; packets = handed; cuts = cuts; ticks = tt })
 
 -- the step of a packet that brings this
 abbrev pub wire_step : Shape → List Step → By → LinkNo → Side → Verdict → Brought → Step
@@ -104,18 +131,9 @@ pub legal_tick : (shape : Shape) (P : List Step) (by : By) (l : LinkNo) (side : 
     (es : List Effect) → KeepsMakers shape P by (Tick l side)
     → IsTick P (node_at shape l side) l side es
     → IsLegalStep shape P (record { by = by; head = Tick l side; effects = es })
-legal_tick shape P by l side es maker tick = record {
-  makers = maker;
-  endpoints = no_endpoint refl refl;
-  bounds = tt;
-  effects = tt;
-  sends = tt;
-  receives = tt;
-  rest = tt;
-  packets = tt;
-  cuts = tt;
-  ticks = tick;
-}
+legal_tick shape P by l side es maker tick =
+    legal_with shape P _ (node_laws maker refl refl tt tt tt tt)
+    (record { rest = tt; packets = tt; cuts = tt; ticks = tick })
 
 -- the step of a tick at which a session is lost
 abbrev pub lost_step : Shape → List Step → By → LinkNo → Side → Session → Step
@@ -144,15 +162,6 @@ restart_step shape P by n = record {
 pub legal_restart : (shape : Shape) (P : List Step) (by : By) (n : ℕ)
     → KeepsMakers shape P by (Restart (record { 0 = n }))
     → IsLegalStep shape P (restart_step shape P by n)
-legal_restart shape P by n maker = record {
-  makers = maker;
-  endpoints = no_endpoint refl refl;
-  bounds = tt;
-  effects = refl;
-  sends = tt;
-  receives = tt;
-  rest = tt;
-  packets = tt;
-  cuts = tt;
-  ticks = tt;
-}
+legal_restart shape P by n maker =
+    legal_with shape P _ (node_laws maker refl refl tt refl tt tt)
+    (record { rest = tt; packets = tt; cuts = tt; ticks = tt })

@@ -1,8 +1,11 @@
 pub mod Legal
 pub mod Playing
+pub mod WorkedNodes
 pub mod Worked
 pub mod Reconnected
 pub mod Told
+pub mod Refusing
+pub mod RefusedNodes
 pub mod Refused
 pub mod Bridges
 pub mod Done

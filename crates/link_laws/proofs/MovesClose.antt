@@ -35,10 +35,10 @@ use Rattle.link_laws.specs.Sessions.{restarts}
 use Rattle.link_laws.specs.Still.{is_hunt_over}
 use Rattle.link_laws.proofs.Alike.{linked-alike}
 use Rattle.link_laws.proofs.Done.{IsDone, opened-items}
-use Rattle.link_laws.proofs.Good.{IsGood, IsKnown, left_kept, legal_with, short, step_of}
+use Rattle.link_laws.proofs.Good.{IsGood, IsKnown, left_kept, short, step_of}
 use Rattle.link_laws.proofs.Hunted.{IsCalm, calm_here}
 use Rattle.link_laws.proofs.HuntsAll.{hunted_sayings}
-use Rattle.link_laws.proofs.Legal.{asks-nothing, is_plain}
+use Rattle.link_laws.proofs.Legal.{asks-nothing, is_plain, legal_with}
 use Rattle.link_laws.proofs.MovesSay.{SaysWell}
 use Rattle.link_laws.proofs.MovesSayAll.{opened-say, trunks-say}
 use Rattle.link_laws.proofs.OneSide.{raises-none, silence-side, tells-none}

@@ -40,12 +40,12 @@ use Rattle.link_laws.specs.Linked.{IsTrueOf, is_hunted}
 use Rattle.link_laws.specs.Moves.{AllLeft, AsksOver, Hunts, KeepsNodeLaws, is_up}
 use Rattle.link_laws.specs.Still.{is_hunt_over}
 use Rattle.link_laws.proofs.Done.{AreItems, IsDone, opened-items}
-use Rattle.link_laws.proofs.Good.{IsGood, IsKnown, TouchesNone, left_kept, legal_with}
-use Rattle.link_laws.proofs.Good.{opens-nothing, short, step_of}
+use Rattle.link_laws.proofs.Good.{IsGood, IsKnown, TouchesNone, left_kept, opens-nothing, short}
+use Rattle.link_laws.proofs.Good.{step_of}
 use Rattle.link_laws.proofs.Hunted.{BeginsNone, calm_here, names_were}
 use Rattle.link_laws.proofs.Hunts.{IsSameHere}
 use Rattle.link_laws.proofs.HuntsAll.{BeginsOne, hunted_asking, none-some}
-use Rattle.link_laws.proofs.Legal.{asks-nothing}
+use Rattle.link_laws.proofs.Legal.{asks-nothing, legal_with}
 use Rattle.link_laws.proofs.MovesSay.{SaysWell, linked_says, said_kept}
 use Rattle.link_laws.proofs.Names.{bytes_eq-is, bytes_eq-itself}
 use Rattle.link_laws.proofs.OneSide.{raises-none, tells-none}

@@ -41,10 +41,10 @@ use Rattle.link_laws.proofs.Alike.{linked-alike}
 use Rattle.link_laws.proofs.Brings.{published-opened}
 use Rattle.link_laws.proofs.Closings.{open-unclosed}
 use Rattle.link_laws.proofs.Done.{IsDone, name-done, opened-items}
-use Rattle.link_laws.proofs.Fresh.{node_of-next, opened-few, opens-new}
-use Rattle.link_laws.proofs.Good.{IsGood, IsKnown, legal_with, short, short_after, step_of}
+use Rattle.link_laws.proofs.Fresh.{next_on-home, opens-new}
+use Rattle.link_laws.proofs.Good.{IsGood, IsKnown, short, short_after, step_of}
 use Rattle.link_laws.proofs.HuntsAll.{OpensOne, hunted_opening}
-use Rattle.link_laws.proofs.Legal.{asks-nothing}
+use Rattle.link_laws.proofs.Legal.{asks-nothing, legal_with}
 use Rattle.link_laws.proofs.MovesSay.{SaysWell}
 use Rattle.link_laws.proofs.MovesSayAll.{opened-say, trunks-say}
 use Rattle.link_laws.proofs.OneSide.{raises-none, silence-side, tells-none}
@@ -74,10 +74,7 @@ module _ (shape : Shape) (P : List Step) (before after : Links) (known : IsKnown
   done = record { effects = refl; items_only = founds-items (Local name) (Here i) (hunting P n) }
 
   home : node_of i ≡ n
-  home =
-      let few = opened-few shape P known.legal n in
-      let room = known.room in
-      node_of-next n _ (omega arith)
+  home = next_on-home shape P known.legal (short shape P before known) n
 
   on : is_on n i ≡ true
   on = eq-eqb (node_of i) n home

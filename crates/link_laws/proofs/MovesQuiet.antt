@@ -39,9 +39,9 @@ use Rattle.link_laws.specs.Sessions.{restarts}
 use Rattle.link_laws.specs.Still.{AllStill, IsStill, cut as still_cut, whole as still_whole}
 use Rattle.link_laws.specs.Still.{is_hunt_over}
 use Rattle.link_laws.proofs.Done.{AreItems, opened-items}
-use Rattle.link_laws.proofs.Good.{IsGood, IsKnown, TouchesNone, left_kept, legal_with, step_of}
+use Rattle.link_laws.proofs.Good.{IsGood, IsKnown, TouchesNone, left_kept, step_of}
 use Rattle.link_laws.proofs.Hunted.{IsCalm, calm_here}
-use Rattle.link_laws.proofs.Legal.{AsksNothing}
+use Rattle.link_laws.proofs.Legal.{AsksNothing, legal_with}
 use Rattle.link_laws.proofs.Sides.{no_signal}
 use Rattle.link_laws.proofs.Stillness.{still_half}
 

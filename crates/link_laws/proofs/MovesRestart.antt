@@ -33,10 +33,10 @@ use Rattle.link_laws.specs.Promises.{ArePublishedOpen, ups}
 use Rattle.link_laws.specs.Sessions.{boots, downs, ends_session, own_session, restarts, tells_heard}
 use Rattle.link_laws.proofs.Alike.{linked-alike}
 use Rattle.link_laws.proofs.Fresh.{restarting-opens_none}
-use Rattle.link_laws.proofs.Good.{IsGood, IsKnown, legal_with, step_of}
+use Rattle.link_laws.proofs.Good.{IsGood, IsKnown, step_of}
 use Rattle.link_laws.proofs.Hunted.{IsCalm}
 use Rattle.link_laws.proofs.HuntsAll.{hunted_restarting}
-use Rattle.link_laws.proofs.Legal.{asks-nothing}
+use Rattle.link_laws.proofs.Legal.{asks-nothing, legal_with}
 use Rattle.link_laws.proofs.OneSide.{silence-side}
 use Rattle.link_laws.proofs.Published.{RaisesNone, opened_step}
 use Rattle.link_laws.proofs.Restarted.{restarted, whole_restart}

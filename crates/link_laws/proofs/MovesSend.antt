@@ -39,12 +39,12 @@ use Rattle.link_laws.proofs.Acts.{keeps_quiet, keeps_send}
 use Rattle.link_laws.proofs.Away.{touches}
 use Rattle.link_laws.proofs.Closings.{open-unclosed}
 use Rattle.link_laws.proofs.Done.{IsDone}
-use Rattle.link_laws.proofs.Good.{IsGood, IsKnown, left_kept, legal_with, short}
-use Rattle.link_laws.proofs.Good.{opens-nothing, short_after, step_of}
+use Rattle.link_laws.proofs.Good.{IsGood, IsKnown, left_kept, short, opens-nothing, short_after}
+use Rattle.link_laws.proofs.Good.{step_of}
 use Rattle.link_laws.proofs.Hunted.{IsCalm, calm_here}
 use Rattle.link_laws.proofs.HuntsAll.{back_half}
 use Rattle.link_laws.proofs.HuntsOver.{hunted_sending}
-use Rattle.link_laws.proofs.Legal.{asks-nothing}
+use Rattle.link_laws.proofs.Legal.{asks-nothing, legal_with}
 use Rattle.link_laws.proofs.LivingPeers.{alive-known, open-not_unpublished}
 use Rattle.link_laws.proofs.Makers.{maker-open}
 use Rattle.link_laws.proofs.MovesSay.{said_kept}

@@ -18,7 +18,7 @@ use Rattle.journal.specs.declared.effect.Effect.{Effect}
 use Rattle.journal.specs.declared.effect.Effect.TheVariants.{Opened}
 use Rattle.journal.specs.declared.effect.Step.{Step}
 use Rattle.journal.proofs.Lists.{list_any-filter}
-use Rattle.journal.proofs.Openings.{open-after, same_inc-true}
+use Rattle.journal.proofs.Openings.{list_any-passed, open-after, same_inc-true}
 use Rattle.link_laws.specs.Brought.{was_opened}
 use Rattle.link_laws.specs.Linked.{IsTrueOf}
 use Rattle.link_laws.proofs.Done.{IsDone, closed-done, closes-done, name-done, opens-done}
@@ -50,21 +50,6 @@ any-filter q p pi same (x ∷ xs) =
     any-cond q (p x) x (filter p xs) ∙ test_first (p x) pi (q x) (list_any q xs)
     (list_any q (filter p xs)) (same x) (any-filter q p pi same xs)
 
--- what a filter keeps, passes
-kept-passes : (p : Inc → Bool) (i : Inc) (xs : List Inc)
-    → list_any (same_inc i) (filter p xs) ≡ true → p i ≡ true
-kept-passes p i [] is = absurd (true≢false (sym is))
-kept-passes p i (x ∷ xs) is = by_test (p x) refl is (kept-passes p i xs)
-  where
-    by_test : (t : Bool) → p x ≡ t → list_any (same_inc i) (cond t (x ∷ filter p xs) (filter p xs))
-        ≡ true → (list_any (same_inc i) (filter p xs) ≡ true → p i ≡ true) → p i ≡ true
-    by_test true passes e rest =
-        elim (or_cases (same_inc i x) (list_any (same_inc i) (filter p xs)) e) [
-          | inl here ↦ ap p (same_inc-true i x here) ∙ passes
-          | inr later ↦ rest later
-        ]
-    by_test false fails e rest = rest e
-
 -- where an open endpoint of a node comes from: it was open, or the step opens it
 pub was_open_or_opened : (P : List Step) (s : Step) (n : ℕ) (i : Inc)
     → is_alive (s ∷ P) n (Here i) ≡ true → (is_alive P n (Here i) ≡ true)
@@ -82,7 +67,7 @@ open-on [] n i is = absurd (true≢false (sym is))
 open-on (s ∷ P) n i is =
     elim (was_open_or_opened P s n i is) [
       | inl was ↦ open-on P n i was
-      | inr new ↦ kept-passes (is_on n) i (filter_map opened_in s.effects) new
+      | inr new ↦ list_any-passed (is_on n) i (filter_map opened_in s.effects) new
     ]
 
 -- what a step closes isn't open after it
@@ -90,7 +75,7 @@ pub closed-dead : (P : List Step) (s : Step) (n : ℕ) (i : Inc)
     → list_any (closes i) s.effects ≡ true → is_alive (s ∷ P) n (Here i) ≡ false
 closed-dead P s n i closed = false_from_ne_true (is_alive (s ∷ P) n (Here i)) (λ is.
     true≢false (sym closed ∙ not_true (list_any (closes i) s.effects)
-    (kept-passes (λ j. not (list_any (closes j) s.effects)) i (open_endpoints P n
+    (list_any-passed (λ j. not (list_any (closes j) s.effects)) i (open_endpoints P n
     ++ opened_by n s.effects) is)))
   where
     not_true : (t : Bool) → not t ≡ true → t ≡ false

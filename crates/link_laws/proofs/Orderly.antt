@@ -1,8 +1,8 @@
 -- The endpoints of an orderly run: what holds of them by who makes each step, who opens, and what a
 -- step opens, whatever else the laws say.
-use Rattle.std.proofs.Common.{◌≡◌, ℕ, zero, suc, ◌<◌, ◌≤◌, Bool, true, false, not, cond, ◌&&◌}
-use Rattle.std.proofs.Common.{◌||◌, ◌⊎◌, inl, inr, List, [], ◌∷◌, ◌++◌, append-nil, length, Option}
-use Rattle.std.proofs.Common.{Some, None, is_none, refl, sym, ap, ◌∙◌, subst, arith}
+use Rattle.std.proofs.Common.{◌≡◌, ℕ, zero, suc, ◌<◌, ◌≤◌, Bool, true, false, not, cond, ◌||◌, ◌⊎◌}
+use Rattle.std.proofs.Common.{inl, inr, List, [], ◌∷◌, ◌++◌, append-nil, length, Option, Some, None}
+use Rattle.std.proofs.Common.{is_none, refl, sym, ap, ◌∙◌, subst, arith}
 use Rattle.std.specs.Prelude.{if◌then◌else◌}
 use Rattle.std.specs.List.{list_any, filter, filter_map, AllByRecursion}
 use Rattle.std.proofs.lemmas.Bool.{cases_eq, cond_both, eq-eqb, eqb-true, false_from_ne_true}
@@ -29,15 +29,14 @@ use Rattle.journal.specs.declared.by.By.TheVariants.{Actor, Pump}
 use Rattle.journal.specs.declared.effect.Step.{Step}
 use Rattle.journal.specs.declared.head.Head.{Head}
 use Rattle.journal.specs.declared.head.Head.TheVariants.{Attach, Hunt, Open}
-use Rattle.journal.proofs.Holders.{IsOpenAt}
 use Rattle.journal.proofs.Lists.{all-append, all-filter, all-impl, filter-all, list_any-filter}
 use Rattle.journal.proofs.Lists.{list_any-one}
-use Rattle.journal.proofs.Openings.{IsBelow, IsShort, OpensBy, Owner, Rising, all-among}
+use Rattle.journal.proofs.Openings.{IsBelow, IsOpenAt, IsShort, OpensBy, Owner, Rising, all-among}
 use Rattle.journal.proofs.Openings.{endpoint_opened, is_by-actor, last_in, last_opened-opens}
-use Rattle.journal.proofs.Openings.{next_on, open-after, same_inc-refl, same_inc-true}
+use Rattle.journal.proofs.Openings.{list_any-passed, list_any-passing, next_on, open-after}
+use Rattle.journal.proofs.Openings.{same_inc-refl, same_inc-true}
 use Rattle.journal.proofs.Openings.{unless_closed-some}
-use Rattle.link_laws.proofs.Opened.{any-filter, both_true, open-on, stays-unclosed}
-use Rattle.link_laws.proofs.Opened.{was_open_or_opened}
+use Rattle.link_laws.proofs.Opened.{open-on, stays-unclosed, was_open_or_opened}
 
 -- ORDERLY STEPS. What a step of this head opens: the next incarnation of its maker's node where it
 -- is an opening, and else nothing
@@ -94,7 +93,7 @@ opened_on-few shape (s ∷ P) orderly node =
 -- the next incarnation of a node is on it, and on no other
 module _ (shape : Shape) (P : List Step) (orderly : IsOrderly shape P) (short : IsShort P)
     (node : ℕ) where
-  node_of-next_on : node_of (next_on P node) ≡ node
+  pub node_of-next_on : node_of (next_on P node) ≡ node
   node_of-next_on =
       let few = opened_on-few shape P orderly node in
       omega arith
@@ -187,17 +186,6 @@ open-rising shape (s ∷ P) orderly short node =
     in
     rising-filter _ (before ++ opened_by node s.effects) new
 
--- one incarnation among those that pass a test
-among-filter : (p : Inc → Bool) (i : Inc) (incs : List Inc)
-    → list_any (same_inc i) (filter p incs) ≡ (p i && list_any (same_inc i) incs)
-among-filter p i incs =
-    any-filter (same_inc i) p (p i) (λ j is. ap p (sym (same_inc-true i j is))) incs
-
-among-passing : (p : Inc → Bool) (i : Inc) (incs : List Inc) → list_any (same_inc i) incs ≡ true
-    → p i ≡ true → list_any (same_inc i) (filter p incs) ≡ true
-among-passing p i incs is passes =
-    among-filter p i incs ∙ ap (λ t. t && list_any (same_inc i) incs) passes ∙ is
-
 -- THE ENDPOINT OF AN ACTOR is the one that it had, or the one that its step opens
 pub endpoint_opened-from : (shape : Shape) (P : List Step) (s : Step) → IsOrderlyStep shape P s
     → (k : ℕ) (j : Inc) → endpoint_opened P s k ≡ Some j
@@ -251,7 +239,7 @@ endpoint-open shape (s ∷ P) orderly short k j is =
           ap (list_any (same_inc next)) opens ∙ or_left (same_inc next next) false
           (same_inc-refl next) in
           inr (subst (λ i. list_any (same_inc i) (opened_by node s.effects) ≡ true) (sym new.next)
-          (among-passing (is_on node) next (filter_map opened_in s.effects) among
+          (list_any-passing (is_on node) next (filter_map opened_in s.effects) among
           (next_on-is_on shape P orderly.0 short_before node)))
     ]
 
@@ -398,11 +386,9 @@ pigeonhole f (suc n) incs rising own =
     below : (i : Inc) → list_any (same_inc i) (filter others incs) ≡ true
         → (k : ℕ) × (0 < k) × (k ≤ n) × (f k ≡ Some i)
     below i is =
-        let both = both_true (others i) (list_any (same_inc i) incs)
-        (sym (among-filter others i incs) ∙ is) in
-        let owner = own i both.1 in
+        let owner = own i (list_any-filter (same_inc i) others incs is) in
         let apart : is_endpoint i (f (suc n)) ≡ false =
-        not-true (is_endpoint i (f (suc n))) both.0 in
+        not-true (is_endpoint i (f (suc n))) (list_any-passed others i incs is) in
         let last : owner.0 ≡ suc n → ⊥ = λ same.
         true≢false (sym (same_inc-refl i)
         ∙ sym (ap (is_endpoint i) (ap f (sym same) ∙ owner.3)) ∙ apart) in

@@ -10,28 +10,11 @@ use Rattle.journal.specs.Pending.{hunting, owed}
 use Rattle.journal.specs.Shapes.{Shape, node_by}
 use Rattle.journal.specs.declared.by.By.TheVariants.{Actor}
 use Rattle.journal.specs.declared.effect.Step.{Step}
-use Rattle.journal.proofs.Holders.{IsOpenAt}
-use Rattle.journal.proofs.Openings.{IsBelow, IsShort, OpensBy, Owner, Rising, endpoint_opened}
-use Rattle.journal.proofs.Openings.{next_on}
+use Rattle.journal.proofs.Openings.{IsBelow, IsOpenAt, IsShort, OpensBy, Owner, Rising}
+use Rattle.journal.proofs.Openings.{endpoint_opened, next_on}
 use Rattle.link_laws.specs.Laws.{IsLegal, IsLegalStep}
-use Rattle.link_laws.proofs.Fresh.{step-opens}
+use Rattle.link_laws.proofs.Fresh.{orderly, orderly-step}
 use Rattle.link_laws.proofs.Orderly
-use Rattle.link_laws.proofs.Orderly.{IsOrderly, IsOrderlyStep}
-
--- a legal step is orderly
-pub orderly-step : (shape : Shape) (P : List Step) (s : Step) → IsLegalStep shape P s
-    → IsOrderlyStep shape P s
-orderly-step shape P s legal = record {
-  makers = legal.makers;
-  endpoints = legal.endpoints;
-  opens = step-opens shape P s legal;
-}
-
--- and so is a legal run
-pub orderly : (shape : Shape) (P : List Step) → IsLegal shape P → IsOrderly shape P
-orderly shape [] legal = tt
-orderly shape (s ∷ P) legal =
-    (orderly shape P legal.0, orderly-step shape P s legal.1)
 
 -- the endpoint of an actor after a step is the one that it had, or the one that its step opens
 pub endpoint_opened-from : (shape : Shape) (P : List Step) (s : Step) → IsLegalStep shape P s

@@ -1,13 +1,14 @@
--- The words of worked runs over a link, and how one is shown to be legal, step by step.
+-- How a worked run is shown to be legal, step by step, and the words of worked runs over a link.
 use Rattle.std.proofs.Common.{◌≡◌, ℕ, true, false, List, [], ◌∷◌, refl, sym, ◌∙◌, ◌≤◌, ◌<◌}
-use Rattle.std.proofs.Common.{ap, arith, subst}
-use Rattle.std.proofs.lemmas.Bool.{true≢false}
+use Rattle.std.proofs.Common.{Bool, ◌&&◌, ap, arith, subst}
+use Rattle.std.proofs.lemmas.Bool.{and_parts, true≢false}
 use Rattle.linx_base.specs.Numbers.{inc_of, session_of}
 use Rattle.linx_base.specs.Sides.{other_of}
 use Rattle.linx_base.specs.declared.frame.Verdict.{Verdict}
 use Rattle.linx_base.specs.declared.frame.Verdict.TheVariants.{Deliver, Lose}
 use Rattle.linx_base.specs.declared.identity.Inc.{Inc}
 use Rattle.linx_base.specs.declared.identity.LinkNo.{LinkNo}
+use Rattle.linx_base.specs.declared.identity.NodeNo.{NodeNo}
 use Rattle.linx_base.specs.declared.identity.Peer.TheVariants.{There}
 use Rattle.linx_base.specs.declared.identity.Session.{Session}
 use Rattle.linx_base.specs.declared.identity.Side.{Side}
@@ -15,8 +16,7 @@ use Rattle.linx_base.specs.declared.identity.Side.TheVariants.{First, Second}
 use Rattle.linx_base.specs.declared.signal.SigNote.{SigNote}
 use Rattle.sigsel.specs.declared.sigsel.Sigsel.{Sigsel}
 use Rattle.journal.specs.History.{endpoint_of}
-use Rattle.journal.specs.Laws.{IsBounded, KeepsEndpoints, KeepsMakers, KeepsReceives, KeepsSends}
-use Rattle.journal.specs.Laws.{may_make}
+use Rattle.journal.specs.Laws.{IsBounded, KeepsMakers, KeepsReceives, KeepsSends, may_make}
 use Rattle.journal.specs.Shapes.{Shape, node_by}
 use Rattle.journal.specs.declared.by.By.TheVariants.{Actor, Pump}
 use Rattle.journal.specs.declared.effect.Effect.{Effect}
@@ -25,60 +25,77 @@ use Rattle.journal.specs.declared.effect.Step.{Step}
 use Rattle.journal.specs.declared.head.Head.{Head}
 use Rattle.journal.specs.declared.head.Head.TheVariants.{Send, TakeNone, Wire, Tick}
 use Rattle.journal.specs.declared.head.SentTo.TheVariants.{Link}
+use Rattle.journal.proofs.Playing.{endpoint_kept, has_endpoint, is_actor, made, made_by, on_node}
 use Rattle.link_laws.specs.Brought.{MayBring, Brought, brought_at}
-use Rattle.link_laws.specs.Ends.{node_at}
-use Rattle.link_laws.specs.Laws.{HasEffects}
-use Rattle.link_laws.specs.Laws.{IsHandedOver, IsLegal, IsLegalStep, IsTick, actors_alone, delivers}
+use Rattle.link_laws.specs.Ends.{IsLinkOf, node_at}
+use Rattle.link_laws.specs.Laws.{HasEffects, IsHandedOver, IsLegal, IsLegalStep, IsTick}
+use Rattle.link_laws.specs.Laws.{actors_alone, delivers}
+use Rattle.link_laws.specs.Moves.{KeepsNodeLaws}
 use Rattle.link_laws.specs.Sessions.{is_cut}
 use Rattle.link_laws.specs.Still.{AllStill, IsStill}
-use Rattle.link_laws.proofs.Legal.{asks-nothing, is_plain, legal_passing, legal_tick}
+use Rattle.link_laws.proofs.Legal.{asks-nothing, is_plain, legal_passing, legal_tick, legal_with}
+use Rattle.link_laws.proofs.Legal.{node_laws}
 
--- a step of an actor is legal where what is said of its head computes
+-- the test of a head for an actor: it may act, and its endpoint is as the head needs
+abbrev may_act : Shape → List Step → ℕ → Head → Bool
+may_act shape P k head = is_actor shape P k && has_endpoint (endpoint_of P k) head
+
+-- a step of an actor keeps the laws of nodes where that test, and what is said of its head, compute
+pub keeps_laws : {shape : Shape} {P : List Step} {k : ℕ} {head : Head} {effects : List Effect}
+    → may_act shape P k head ≡ true → IsBounded head
+    → HasEffects shape P (node_by shape (Actor k)) (endpoint_of P k) head effects
+    → KeepsSends P (node_by shape (Actor k)) head
+    → KeepsReceives (actors_alone shape) P (node_by shape (Actor k)) (Actor k) (endpoint_of P k)
+    head
+    → KeepsNodeLaws shape P (record { by = Actor k; head = head; effects = effects })
+keeps_laws {shape} {P} {k} {head} {effects} may bounds same sends receives =
+    let parts = and_parts (is_actor shape P k) (has_endpoint (endpoint_of P k) head) may in
+    record {
+      makers = made_by parts.0;
+      endpoints = endpoint_kept parts.1;
+      bounds = bounds;
+      effects = same;
+      sends = sends;
+      receives = receives;
+    }
+
+-- it is legal where its head is plain, too
 pub acts : {shape : Shape} {P : List Step} {k : ℕ} {head : Head} {effects : List Effect}
-    → KeepsMakers shape P (Actor k) head → KeepsEndpoints (endpoint_of P k) head
-    → is_plain head ≡ true → IsBounded head
+    → (may_act shape P k head && is_plain head) ≡ true → IsBounded head
     → HasEffects shape P (node_by shape (Actor k)) (endpoint_of P k) head effects
     → KeepsSends P (node_by shape (Actor k)) head
     → KeepsReceives (actors_alone shape) P (node_by shape (Actor k)) (Actor k) (endpoint_of P k)
     head
     → IsLegalStep shape P (record { by = Actor k; head = head; effects = effects })
-acts {shape} {P} {k} {head} {effects} makers endpoints plain bounds same sends receives =
-    let others = asks-nothing shape P head effects plain in
-    record {
-      makers = makers;
-      endpoints = endpoints;
-      bounds = bounds;
-      effects = same;
-      sends = sends;
-      receives = receives;
-      rest = others.rest;
-      packets = others.packets;
-      cuts = others.cuts;
-      ticks = others.ticks;
-    }
+acts {shape} {P} {k} {head} {effects} may bounds same sends receives =
+    let parts = and_parts (may_act shape P k head) (is_plain head) may in
+    legal_with shape P (made k head effects) (keeps_laws parts.0 bounds same sends receives)
+    (asks-nothing shape P head effects parts.1)
 
 -- a step of an actor that finds none, where the links are still
 pub finds_none : {shape : Shape} {P : List Step} {k : ℕ} {filter : Sigsel}
-    → KeepsMakers shape P (Actor k) (TakeNone filter)
-    → KeepsEndpoints (endpoint_of P k) (TakeNone filter)
+    → may_act shape P k (TakeNone filter) ≡ true
     → KeepsReceives (actors_alone shape) P (node_by shape (Actor k)) (Actor k) (endpoint_of P k)
     (TakeNone filter) → AllStill shape P → IsLegalStep shape P
     (record { by = Actor k; head = TakeNone filter; effects = [] })
-finds_none {shape} {P} {k} {filter} makers endpoints receives still =
-    record {
-      makers = makers;
-      endpoints = endpoints;
-      bounds = tt;
-      effects = refl;
-      sends = tt;
-      receives = receives;
-      rest = still;
-      packets = tt;
-      cuts = tt;
-      ticks = tt;
-    }
+finds_none {shape} {P} {k} {filter} may receives still =
+    legal_with shape P (made k (TakeNone filter) []) (keeps_laws may tt refl tt receives)
+    (record { rest = still; packets = tt; cuts = tt; ticks = tt })
 
--- the one link of these runs, between nodes 1 and 2, with an actor on each
+-- where there is no link, all are still
+pub no_links : {actors : List NodeNo} {P : List Step} → AllStill (on_node actors) P
+no_links {actors} {P} k of_shape =
+    let low : 0 < k.0 = of_shape.0 in
+    let high : k.0 ≤ 0 = of_shape.1 in
+    absurd (omega arith)
+
+-- a legal run goes on with a legal step
+infixl 1 ◌▸◌
+pub ◌▸◌ : {shape : Shape} {P : List Step} {s : Step} → IsLegal shape P → IsLegalStep shape P s
+    → IsLegal shape (s ∷ P)
+before ▸ step = (before, step)
+
+-- RUNS OVER A LINK. The one link of these runs, between nodes 1 and 2, with an actor on each
 abbrev pub l : LinkNo
 l = record { 0 = 1 }
 
@@ -88,6 +105,26 @@ two_ends = record {
       ∷ [];
   actors = record { 0 = 1 } ∷ record { 0 = 2 } ∷ [];
 }
+
+-- it is one of the shape, and all that is
+pub one_of : IsLinkOf two_ends l
+one_of = (omega arith, omega arith)
+
+pub only_link : (k : LinkNo) → IsLinkOf two_ends k → l ≡ k
+only_link k of_shape =
+    let low : 0 < k.0 = of_shape.0 in
+    let high : k.0 ≤ 1 = of_shape.1 in
+    ap (λ (n : ℕ). let m : LinkNo = record { 0 = n } in m) (omega arith)
+
+-- what holds of both sides of the one link holds of all
+pub each : (Holds : LinkNo → Side → Type 0) → Holds l First → Holds l Second → (k : LinkNo)
+    → IsLinkOf two_ends k → (side : Side) → Holds k side
+each Holds first second k of_shape side =
+    subst (λ (h : LinkNo). Holds h side) (only_link k of_shape) (by_side side)
+  where
+    by_side : (at : Side) → Holds l at
+    by_side First = first
+    by_side Second = second
 
 -- its pump may make what is on it
 pub pumped : {P : List Step} {head : Head} → may_make (Pump l) head ≡ true
@@ -123,11 +160,14 @@ pub ticked : {P : List Step} {side : Side} {es : List Effect}
     → IsLegalStep two_ends P (record { by = Pump l; head = Tick l side; effects = es })
 ticked {P} {side} {es} tick = legal_tick two_ends P (Pump l) l side es (pumped refl) tick
 
--- a legal run goes on with a legal step
-infixl 1 ◌▸◌
-pub ◌▸◌ : {P : List Step} {s : Step} → IsLegal two_ends P → IsLegalStep two_ends P s
-    → IsLegal two_ends (s ∷ P)
-before ▸ step = (before, step)
+-- the laws of nodes ask little of a packet and of a tick
+pub wire_laws : {P : List Step} {from : Side} {verdict : Verdict} {es : List Effect}
+    → KeepsNodeLaws two_ends P (record { by = Pump l; head = Wire l from verdict; effects = es })
+wire_laws = node_laws (pumped refl) refl refl tt tt tt tt
+
+pub tick_laws : {P : List Step} {side : Side} {es : List Effect}
+    → KeepsNodeLaws two_ends P (record { by = Pump l; head = Tick l side; effects = es })
+tick_laws = node_laws (pumped refl) refl refl tt tt tt tt
 
 -- the first sessions of two boots, and the second of the first
 abbrev pub x11 : Session
@@ -178,7 +218,4 @@ gone_at n x i = Gone (record { 0 = n }) (There l x i)
 
 -- where the one link is still, all are
 pub one_still : {P : List Step} → IsStill two_ends P l → AllStill two_ends P
-one_still {P} still k of_shape = let low : 0 < k.0 = of_shape.0 in
-    let high : k.0 ≤ 1 = of_shape.1 in
-    let same : l ≡ k = ap (λ (n : ℕ). let m : LinkNo = record { 0 = n } in m) (omega arith) in
-    subst (IsStill two_ends P) same still
+one_still {P} still k of_shape = subst (IsStill two_ends P) (only_link k of_shape) still

@@ -14,7 +14,7 @@ use Rattle.journal.specs.declared.effect.Step.{Step}
 use Rattle.journal.specs.declared.head.Head.TheVariants.{Attach, Cut, Hunt, Mend, Restart, Send}
 use Rattle.journal.specs.declared.head.Head.TheVariants.{Tick, Wire}
 use Rattle.journal.specs.declared.head.SentTo.TheVariants.{Link}
-use Rattle.journal.proofs.Playing.{at, endpoint_kept, ends, made, made_by, note, ref, takes}
+use Rattle.journal.proofs.Playing.{at, ends, made, note, ref, takes}
 use Rattle.link_laws.specs.Brought.{arrives, goes_down, goes_up, meets}
 use Rattle.link_laws.specs.Laws.{IsLegal, loses, stays}
 use Rattle.link_laws.specs.Sessions.{own_session, paired_session, silent_ticks}
@@ -64,30 +64,30 @@ mended =
 both_attached_is_legal : IsLegal two_ends both_attached
 both_attached_is_legal =
     found_over_is_legal
-    ▸ acts (made_by refl) (endpoint_kept refl) refl (omega arith) refl tt tt
-    ▸ acts (made_by refl) (endpoint_kept refl) refl (omega arith) refl refl tt
-    ▸ acts (made_by refl) (endpoint_kept refl) refl (omega arith) refl refl tt
+    ▸ acts refl (omega arith) refl tt tt
+    ▸ acts refl (omega arith) refl refl tt
+    ▸ acts refl (omega arith) refl refl tt
     ▸ brings (meets x11 a (codes "a")) refl refl
     (record { up = refl; opened = refl; named = refl; new = refl })
     ▸ brings (arrives x11 a b (note 1 [])) refl refl
     (record { receiver = refl; sender = refl; alive = refl; front = (note 2 [] ∷ [], refl) })
-    ▸ acts (made_by refl) (endpoint_kept refl) refl tt refl tt refl
-    ▸ acts (made_by refl) (endpoint_kept refl) refl (omega arith) refl tt tt
+    ▸ acts refl tt refl tt refl
+    ▸ acts refl (omega arith) refl tt tt
     ▸ brings (arrives x11 a b (note 2 [])) refl refl
     (record { receiver = refl; sender = refl; alive = refl; front = ([], refl) })
-    ▸ acts (made_by refl) (endpoint_kept refl) refl tt refl tt refl
-    ▸ acts (made_by refl) (endpoint_kept refl) refl (omega arith) refl refl tt
+    ▸ acts refl tt refl tt refl
+    ▸ acts refl (omega arith) refl refl tt
     ▸ brings (arrives x11 b a (note 9 [])) refl refl
     (record { receiver = refl; sender = refl; alive = refl; front = ([], refl) })
-    ▸ acts (made_by refl) (endpoint_kept refl) refl tt refl tt refl
+    ▸ acts refl tt refl tt refl
 
 pub cut_off_is_legal : IsLegal two_ends cut_off
 cut_off_is_legal =
     both_attached_is_legal
-    ▸ acts (made_by refl) (endpoint_kept refl) refl tt refl tt tt
-    ▸ acts (made_by refl) (endpoint_kept refl) refl (omega arith) refl refl tt
-    ▸ acts (made_by refl) (endpoint_kept refl) refl (omega arith) refl refl tt
-    ▸ acts (made_by refl) (endpoint_kept refl) refl (omega arith) refl refl tt
+    ▸ acts refl tt refl tt tt
+    ▸ acts refl (omega arith) refl refl tt
+    ▸ acts refl (omega arith) refl refl tt
+    ▸ acts refl (omega arith) refl refl tt
     ▸ passes (λ cut. refl) refl
     ▸ ticked (stays refl)
     ▸ ticked (stays refl)
@@ -103,21 +103,21 @@ both_down_is_legal =
 mended_is_legal : IsLegal two_ends mended
 mended_is_legal =
     both_down_is_legal
-    ▸ acts (made_by refl) (endpoint_kept refl) refl tt refl tt refl
-    ▸ acts (made_by refl) (endpoint_kept refl) refl tt refl tt refl
-    ▸ acts (made_by refl) (endpoint_kept refl) refl tt refl tt tt
+    ▸ acts refl tt refl tt refl
+    ▸ acts refl tt refl tt refl
+    ▸ acts refl tt refl tt tt
     ▸ brings (goes_up x12 x12) refl refl (record { down = refl; own = refl; other_had = refl })
     ▸ brings (goes_up x12 x12) refl refl (record { down = refl; own = refl; other_had = refl })
-    ▸ acts (made_by refl) (endpoint_kept refl) refl (omega arith) refl tt tt
+    ▸ acts refl (omega arith) refl tt tt
     ▸ brings (meets x12 b (codes "b")) refl refl
     (record { up = refl; opened = refl; named = refl; new = refl })
-    ▸ acts (made_by refl) (endpoint_kept refl) refl tt refl tt refl
-    ▸ acts (made_by refl) (endpoint_kept refl) refl (omega arith) refl refl tt
+    ▸ acts refl tt refl tt refl
+    ▸ acts refl (omega arith) refl refl tt
     ▸ brings (meets x12 a (codes "a")) refl refl
     (record { up = refl; opened = refl; named = refl; new = refl })
     ▸ brings (arrives x12 a b (note 6 [])) refl refl
     (record { receiver = refl; sender = refl; alive = refl; front = ([], refl) })
-    ▸ acts (made_by refl) (endpoint_kept refl) refl tt refl tt refl
+    ▸ acts refl tt refl tt refl
 
 two_ticks_in_silence : silent_ticks cut_off 1 1 First ≡ 2
 two_ticks_in_silence = refl
@@ -152,13 +152,13 @@ reconnected_is_legal : (bytes : List ℕ) → length bytes ≤ data_limit
     → IsLegal two_ends (reconnected bytes)
 reconnected_is_legal bytes bounded =
     one_answered_is_legal
-    ▸ acts (made_by refl) (endpoint_kept refl) refl bounded refl refl tt
-    ▸ acts (made_by refl) (endpoint_kept refl) refl tt refl tt tt
-    ▸ acts (made_by refl) (endpoint_kept refl) refl tt refl tt tt
+    ▸ acts refl bounded refl refl tt
+    ▸ acts refl tt refl tt tt
+    ▸ acts refl tt refl tt tt
     ▸ brings (goes_down x11) refl refl (record { up = refl; passed = omega arith })
     ▸ brings (goes_up x12 x21) refl refl (record { down = refl; own = refl; other_had = refl })
-    ▸ acts (made_by refl) (endpoint_kept refl) refl tt refl tt refl
-    ▸ acts (made_by refl) (endpoint_kept refl) refl tt refl tt tt
+    ▸ acts refl tt refl tt refl
+    ▸ acts refl tt refl tt tt
 
 a_boot_later : (bytes : List ℕ) → own_session (restarted bytes) 1 1 ≡ x21
 a_boot_later bytes = refl

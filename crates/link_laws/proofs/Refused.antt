@@ -1,9 +1,9 @@
 -- Runs that the laws of links refuse: after a legal history stands a step that breaks one law
 -- alone.
-use Rattle.std.proofs.Common.{◌≡◌, ℕ, Bool, true, false, List, [], ◌∷◌, Some, refl, sym, ap, ◌∙◌}
-use Rattle.std.proofs.Common.{length, subst, arith, ◌≤◌, ◌<◌}
-use Rattle.std.specs.Prelude.{codes, not, ◌==◌}
-use Rattle.std.proofs.lemmas.Bool.{eqb-false, true≢false}
+use Rattle.std.proofs.Common.{◌≡◌, ℕ, true, false, List, [], ◌∷◌, Some, refl, sym, ap, ◌∙◌, length}
+use Rattle.std.proofs.Common.{subst, arith, ◌≤◌, ◌<◌}
+use Rattle.std.specs.Prelude.{codes}
+use Rattle.std.proofs.lemmas.Bool.{true≢false}
 use Rattle.linx_base.specs.declared.frame.Verdict.TheVariants.{Deliver, Lose}
 use Rattle.linx_base.specs.declared.identity.Peer.TheVariants.{There}
 use Rattle.linx_base.specs.declared.identity.Session.{Session}
@@ -11,9 +11,6 @@ use Rattle.linx_base.specs.declared.identity.Side.TheVariants.{First, Second}
 use Rattle.linx_base.specs.declared.signal.SigNote.{SigNote}
 use Rattle.linx_base.specs.declared.signal.Reason.TheVariants as reasons
 use Rattle.sigsel.specs.declared.sigsel.Sigsel.TheVariants.{Any}
-use Rattle.journal.specs.History.{endpoint_by}
-use Rattle.journal.specs.Laws.{IsBounded, KeepsEndpoints, KeepsMakers, KeepsReceives, KeepsSends}
-use Rattle.journal.specs.Shapes.{Shape, node_by}
 use Rattle.journal.specs.Traffic.{arrived_from, sent_to}
 use Rattle.journal.specs.declared.effect.Effect.{Effect}
 use Rattle.journal.specs.declared.effect.Effect.TheVariants.{Arrived, Closed, Notified}
@@ -22,85 +19,20 @@ use Rattle.journal.specs.declared.head.Head.TheVariants.{Restart, TakeNone, Tick
 use Rattle.journal.proofs.Playing.{at_rest, closes, endpoint_kept, made, made_by, note, ref}
 use Rattle.link_laws.specs.Brought.{IsArrival, IsGoingDown, IsGoingUp, IsMeeting, IsParting}
 use Rattle.link_laws.specs.Brought.{arrives, meets, nothing}
-use Rattle.link_laws.specs.Laws.{HasEffects, IsLegal, IsPacket, KeepsCuts, KeepsPackets, KeepsRest}
-use Rattle.link_laws.specs.Laws.{IsTick, KeepsTicks, actors_alone, loses, stays}
+use Rattle.link_laws.specs.Laws.{IsLegal, IsPacket, IsTick, loses, stays}
 use Rattle.link_laws.specs.Sessions.{is_cut}
 use Rattle.link_laws.specs.Still.{IsStill, cut, whole as whole_link}
 use Rattle.link_laws.proofs.Playing.{acts, a, b, brings, down, gone_at, l, met_at, posts, pump}
 use Rattle.link_laws.proofs.Playing.{pumped, there, ticked, two_ends, up, x11, x21, ◌▸◌}
 use Rattle.link_laws.proofs.Reconnected.{cut_off, cut_off_is_legal}
+use Rattle.link_laws.proofs.Refusing.{Breaks, cutting, effects, packets, resting, ticking, unequal}
 use Rattle.link_laws.proofs.Told.{may_told}
 use Rattle.link_laws.proofs.Worked.{closed_behind_data, closed_behind_data_is_legal, found_over}
 use Rattle.link_laws.proofs.Worked.{found_over_is_legal, one_answered, one_answered_is_legal}
 
--- the laws of a step
-data Law : Type 0 where
-  makers : Law
-  endpoints : Law
-  bounds : Law
-  effects : Law
-  sending : Law
-  receiving : Law
-  resting : Law
-  packets : Law
-  cutting : Law
-  ticking : Law
-
-abbrev law_number : Law → ℕ
-law_number makers = 1
-law_number endpoints = 2
-law_number bounds = 3
-law_number effects = 4
-law_number sending = 5
-law_number receiving = 6
-law_number resting = 7
-law_number packets = 8
-law_number cutting = 9
-law_number ticking = 10
-
--- a step after P keeps a law
-abbrev Keeps : Shape → List Step → Step → Law → Type 0
-Keeps shape P s makers = KeepsMakers shape P s.by s.head
-Keeps shape P s endpoints = KeepsEndpoints (endpoint_by P s.by) s.head
-Keeps shape P s bounds = IsBounded s.head
-Keeps shape P s effects =
-    HasEffects shape P (node_by shape s.by) (endpoint_by P s.by) s.head s.effects
-Keeps shape P s sending = KeepsSends P (node_by shape s.by) s.head
-Keeps shape P s receiving =
-    KeepsReceives (actors_alone shape) P (node_by shape s.by) s.by (endpoint_by P s.by) s.head
-Keeps shape P s resting = KeepsRest shape P s.head
-Keeps shape P s packets = KeepsPackets shape P s.head s.effects
-Keeps shape P s cutting = KeepsCuts P s.head
-Keeps shape P s ticking = KeepsTicks shape P s.head s.effects
-
--- this is asked for, or not
-abbrev IsAsked : Bool → Type 0 → Type 0
-IsAsked true A = A
-IsAsked false A = Unit {0}
-
--- a step keeps a law, if it isn't this one
-abbrev KeepsOther : Shape → List Step → Step → Law → Law → Type 0
-KeepsOther shape P s law other =
-    IsAsked (not (law_number law == law_number other)) (Keeps shape P s other)
-
--- it keeps all laws but this one
-abbrev KeepsAllBut : Shape → List Step → Step → Law → Type 0
-KeepsAllBut shape P s law =
-    KeepsOther shape P s law makers × KeepsOther shape P s law endpoints
-    × KeepsOther shape P s law bounds × KeepsOther shape P s law effects
-    × KeepsOther shape P s law sending × KeepsOther shape P s law receiving
-    × KeepsOther shape P s law resting × KeepsOther shape P s law packets
-    × KeepsOther shape P s law cutting × KeepsOther shape P s law ticking
-
--- after a legal history stands a step that breaks one law, and no other
-record Breaks (P : List Step) (s : Step) (law : Law) : Type 0 where
-  before : IsLegal two_ends P
-  broken : ¬ (Keeps two_ends P s law)
-  others : KeepsAllBut two_ends P s law
-
 -- a packet to node 2, over a whole link, may break the law of packets alone
 brings_wrong : {P : List Step} {es : List Effect} → IsLegal two_ends P → is_cut P 1 ≡ false
-    → ¬ (IsPacket P 2 1 l es) → Breaks P (there es) packets
+    → ¬ (IsPacket P 2 1 l es) → Breaks two_ends P (there es) packets
 brings_wrong {P} {es} before uncut broken = record {
   before = before;
   broken = broken;
@@ -131,10 +63,6 @@ abbrev first_byte : List ℕ → ℕ
 first_byte [] = 0
 first_byte (byte ∷ rest) = byte
 
--- numbers that a test tells apart
-unequal : (j k : ℕ) → (j == k) ≡ false → ¬ (j ≡ k)
-unequal j k apart same = eqb-false j k apart same
-
 -- two signals are on their way to node 2, of which the sender was not met as yet, and then was
 abbrev two_sent : List Step
 two_sent = posts x11 b (note 2 []) ∷ posts x11 b (note 1 []) ∷ found_over
@@ -148,8 +76,8 @@ one_came = there (Arrived b (There l x11 a) (note 1 []) ∷ []) ∷ two_coming
 two_sent_is_legal : IsLegal two_ends two_sent
 two_sent_is_legal =
     found_over_is_legal
-    ▸ acts (made_by refl) (endpoint_kept refl) refl (omega arith) refl refl tt
-    ▸ acts (made_by refl) (endpoint_kept refl) refl (omega arith) refl refl tt
+    ▸ acts refl (omega arith) refl refl tt
+    ▸ acts refl (omega arith) refl refl tt
 
 two_coming_is_legal : IsLegal two_ends two_coming
 two_coming_is_legal =
@@ -164,20 +92,22 @@ one_came_is_legal =
     (record { receiver = refl; sender = refl; alive = refl; front = (note 2 [] ∷ [], refl) })
 
 -- ARRIVALS. The second signal comes first
-second_comes_first : Breaks two_coming (there (Arrived b (There l x11 a) (note 2 []) ∷ [])) packets
+second_comes_first : Breaks two_ends two_coming (there (Arrived b (There l x11 a) (note 2 []) ∷ []))
+    packets
 second_comes_first = brings_wrong two_coming_is_legal refl (λ packet.
     let law : IsArrival two_coming 2 1 l x11 a b (note 2 []) = may_told packet in
     unequal 1 2 refl (ap first_number law.front.1))
 
 -- a signal comes from one that wasn't met
-comes_from_a_stranger : Breaks two_sent (there (Arrived b (There l x11 a) (note 1 []) ∷ [])) packets
+comes_from_a_stranger : Breaks two_ends two_sent
+    (there (Arrived b (There l x11 a) (note 1 []) ∷ [])) packets
 comes_from_a_stranger = brings_wrong two_sent_is_legal refl (λ packet.
     let law : IsArrival two_sent 2 1 l x11 a b (note 1 []) = may_told packet in
     let wrong : false ≡ true = law.alive in
     cc)
 
 -- a signal comes again
-comes_again : Breaks one_came (there (Arrived b (There l x11 a) (note 1 []) ∷ [])) packets
+comes_again : Breaks two_ends one_came (there (Arrived b (There l x11 a) (note 1 []) ∷ [])) packets
 comes_again = brings_wrong one_came_is_legal refl (λ packet.
     let law : IsArrival one_came 2 1 l x11 a b (note 1 []) = may_told packet in
     unequal 2 1 refl (ap second_number law.front.1))
@@ -188,17 +118,17 @@ receiver_closed = closes 2 b ∷ two_coming
 
 receiver_closed_is_legal : IsLegal two_ends receiver_closed
 receiver_closed_is_legal =
-    two_coming_is_legal ▸ acts (made_by refl) (endpoint_kept refl) refl tt refl tt tt
+    two_coming_is_legal ▸ acts refl tt refl tt tt
 
-comes_to_the_closed : Breaks receiver_closed (there (Arrived b (There l x11 a) (note 1 []) ∷ []))
-    packets
+comes_to_the_closed : Breaks two_ends receiver_closed
+    (there (Arrived b (There l x11 a) (note 1 []) ∷ [])) packets
 comes_to_the_closed = brings_wrong receiver_closed_is_legal refl (λ packet.
     let law : IsArrival receiver_closed 2 1 l x11 a b (note 1 []) = may_told packet in
     let wrong : false ≡ true = law.receiver in
     cc)
 
 -- a packet that is lost brings a signal
-lost_packet_brings : Breaks two_coming
+lost_packet_brings : Breaks two_ends two_coming
     (pump (Wire l First Lose) (Arrived b (There l x11 a) (note 1 []) ∷ [])) packets
 lost_packet_brings = record {
   before = two_coming_is_legal;
@@ -207,53 +137,53 @@ lost_packet_brings = record {
 }
 
 -- MEETINGS. A peer is met twice
-met_twice : Breaks two_coming (there (met_at 2 x11 a (codes "a") ∷ [])) packets
+met_twice : Breaks two_ends two_coming (there (met_at 2 x11 a (codes "a") ∷ [])) packets
 met_twice = brings_wrong two_coming_is_legal refl (λ packet.
     let law : IsMeeting two_coming 2 1 l x11 a (codes "a") = may_told packet in
     let wrong : true ≡ false = law.new in
     cc)
 
 -- by a name that it wasn't opened with
-met_by_another_name : Breaks two_sent (there (met_at 2 x11 a (codes "c") ∷ [])) packets
+met_by_another_name : Breaks two_ends two_sent (there (met_at 2 x11 a (codes "c") ∷ [])) packets
 met_by_another_name = brings_wrong two_sent_is_legal refl (λ packet.
     let law : IsMeeting two_sent 2 1 l x11 a (codes "c") = may_told packet in
     unequal 97 99 refl (ap first_byte law.named))
 
 -- PARTINGS. A peer goes before all that it sent has come
-overtakes_data : Breaks closed_behind_data (there (gone_at 2 x11 a ∷ [])) packets
+overtakes_data : Breaks two_ends closed_behind_data (there (gone_at 2 x11 a ∷ [])) packets
 overtakes_data = brings_wrong closed_behind_data_is_legal refl (λ packet.
     let law : IsParting closed_behind_data 2 1 l x11 a = may_told packet in
     unequal 1 4 refl (ap length law.all_got.0))
 
 -- one goes that is open
-goes_while_open : Breaks two_coming (there (gone_at 2 x11 a ∷ [])) packets
+goes_while_open : Breaks two_ends two_coming (there (gone_at 2 x11 a ∷ [])) packets
 goes_while_open = brings_wrong two_coming_is_legal refl (λ packet.
     let law : IsParting two_coming 2 1 l x11 a = may_told packet in
     let wrong : false ≡ true = law.closed in
     cc)
 
 -- SESSIONS. A side goes up in a session that isn't its own
-up_in_another_session : Breaks [] (there (up 2 x21 x11 ∷ [])) packets
+up_in_another_session : Breaks two_ends [] (there (up 2 x21 x11 ∷ [])) packets
 up_in_another_session = brings_wrong tt refl (λ packet.
     let law : IsGoingUp [] 2 1 l x21 x11 = may_told packet in
     unequal 8589934593 4294967297 refl (ap (λ (x : Session). x.0) law.own))
 
 -- with one that the other side never had
-up_with_no_session : Breaks [] (there (up 2 x11 x21 ∷ [])) packets
+up_with_no_session : Breaks two_ends [] (there (up 2 x11 x21 ∷ [])) packets
 up_with_no_session = brings_wrong tt refl (λ packet.
     let law : IsGoingUp [] 2 1 l x11 x21 = may_told packet in
     let wrong : false ≡ true = law.other_had in
     cc)
 
 -- a side goes down while the other one has the session still
-down_for_nothing : Breaks found_over (there (down 2 x11 ∷ [])) packets
+down_for_nothing : Breaks two_ends found_over (there (down 2 x11 ∷ [])) packets
 down_for_nothing = brings_wrong found_over_is_legal refl (λ packet.
     let law : IsGoingDown found_over 2 1 l x11 = may_told packet in
     let wrong : 4294967297 < 4294967297 = law.passed in
     omega arith)
 
 -- CUTS. A packet passes a cut
-passes_a_cut : Breaks cut_off (there []) cutting
+passes_a_cut : Breaks two_ends cut_off (there []) cutting
 passes_a_cut = record {
   before = cut_off_is_legal;
   broken = λ law. let wrong : Deliver ≡ Lose = law refl in cc;
@@ -278,7 +208,7 @@ one_tick_cut = pump (Tick l Second) [] ∷ cut_off
 one_tick_cut_is_legal : IsLegal two_ends one_tick_cut
 one_tick_cut_is_legal = cut_off_is_legal ▸ ticked (stays refl)
 
-lost_too_early : Breaks one_tick_cut
+lost_too_early : Breaks two_ends one_tick_cut
     (pump (Tick l Second)
     (down 2 x11 ∷ Notified b (There l x11 a) (note 252 (1 ∷ [])) (ref 14) reasons.Lost ∷ []))
     ticking
@@ -295,8 +225,8 @@ lost_too_early = record {
     by_tick (loses x is silent same) = let wrong : 2 ≤ 1 = silent in omega arith
 
 -- EFFECTS. A restart closes the endpoints of its node alone
-forgets_the_session : Breaks one_answered (made 1 (Restart (record { 0 = 1 })) (Closed a ∷ []))
-    effects
+forgets_the_session : Breaks two_ends one_answered
+    (made 1 (Restart (record { 0 = 1 })) (Closed a ∷ [])) effects
 forgets_the_session = record {
   before = one_answered_is_legal;
   broken = λ same. absurd cc;
@@ -309,9 +239,9 @@ other_waits = made 2 (Waits Any) [] ∷ two_coming
 
 other_waits_is_legal : IsLegal two_ends other_waits
 other_waits_is_legal =
-    two_coming_is_legal ▸ acts (made_by refl) (endpoint_kept refl) refl tt refl tt (refl, refl)
+    two_coming_is_legal ▸ acts refl tt refl tt (refl, refl)
 
-finds_none_too_early : Breaks other_waits (made 1 (TakeNone Any) []) resting
+finds_none_too_early : Breaks two_ends other_waits (made 1 (TakeNone Any) []) resting
 finds_none_too_early = record {
   before = other_waits_is_legal;
   broken = λ still. by_link (still l (omega arith, omega arith));

@@ -14,8 +14,7 @@ use Rattle.journal.specs.declared.effect.Effect.TheVariants.{Closed, Arrived, Fo
 use Rattle.journal.specs.declared.effect.Step.{Step}
 use Rattle.journal.specs.declared.head.Head.TheVariants.{Send, TakeNone, Hunt, Attach, Wire}
 use Rattle.journal.specs.declared.head.SentTo.TheVariants.{Link}
-use Rattle.journal.proofs.Playing.{made_by, endpoint_kept, at_rest, made, note, at, ref, opens}
-use Rattle.journal.proofs.Playing.{closes, takes, ends}
+use Rattle.journal.proofs.Playing.{at_rest, made, note, at, ref, opens, closes, takes, ends}
 use Rattle.link_laws.specs.Brought.{nothing, goes_up, arrives, meets, parts}
 use Rattle.link_laws.specs.Laws.{IsLegal}
 use Rattle.link_laws.specs.Still.{whole as whole_link, IsStill}
@@ -39,14 +38,14 @@ found_over =
 
 pub found_over_is_legal : IsLegal two_ends found_over
 found_over_is_legal =
-    tt ▸ acts (made_by refl) (endpoint_kept refl) refl refl refl tt tt
-    ▸ acts (made_by refl) (endpoint_kept refl) refl refl refl tt tt
-    ▸ acts (made_by refl) (endpoint_kept refl) refl (omega arith) refl tt tt
+    tt ▸ acts refl refl refl tt tt
+    ▸ acts refl refl refl tt tt
+    ▸ acts refl (omega arith) refl tt tt
     ▸ brings (goes_up x11 x11) refl refl (record { down = refl; own = refl; other_had = refl })
     ▸ brings (goes_up x11 x11) refl refl (record { down = refl; own = refl; other_had = refl })
     ▸ brings (meets x11 b (codes "b")) refl refl
     (record { up = refl; opened = refl; named = refl; new = refl })
-    ▸ acts (made_by refl) (endpoint_kept refl) refl tt refl tt refl
+    ▸ acts refl tt refl tt refl
 
 hunt_is_pending : hunting hunted_over 1 ≡ record {
   at = a;
@@ -71,12 +70,12 @@ large bytes =
 large_is_legal : (bytes : List ℕ) → length bytes ≤ data_limit → IsLegal two_ends (large bytes)
 large_is_legal bytes bounded =
     found_over_is_legal
-    ▸ acts (made_by refl) (endpoint_kept refl) refl bounded refl refl tt
+    ▸ acts refl bounded refl refl tt
     ▸ brings (meets x11 a (codes "a")) refl refl
     (record { up = refl; opened = refl; named = refl; new = refl })
     ▸ brings (arrives x11 a b (note 9 bytes)) refl refl
     (record { receiver = refl; sender = refl; alive = refl; front = ([], refl) })
-    ▸ acts (made_by refl) (endpoint_kept refl) refl tt refl tt refl
+    ▸ acts refl tt refl tt refl
 
 large_arrives : (bytes : List ℕ) → arrived_from (large bytes) b (There l x11 a) ≡ note 9 bytes ∷ []
 large_arrives bytes = refl
@@ -103,11 +102,11 @@ five_taken =
 five_sent_is_legal : IsLegal two_ends five_sent
 five_sent_is_legal =
     found_over_is_legal
-    ▸ acts (made_by refl) (endpoint_kept refl) refl (omega arith) refl refl tt
-    ▸ acts (made_by refl) (endpoint_kept refl) refl (omega arith) refl refl tt
-    ▸ acts (made_by refl) (endpoint_kept refl) refl (omega arith) refl refl tt
-    ▸ acts (made_by refl) (endpoint_kept refl) refl (omega arith) refl refl tt
-    ▸ acts (made_by refl) (endpoint_kept refl) refl (omega arith) refl refl tt
+    ▸ acts refl (omega arith) refl refl tt
+    ▸ acts refl (omega arith) refl refl tt
+    ▸ acts refl (omega arith) refl refl tt
+    ▸ acts refl (omega arith) refl refl tt
+    ▸ acts refl (omega arith) refl refl tt
     ▸ brings (meets x11 a (codes "a")) refl refl
     (record { up = refl; opened = refl; named = refl; new = refl })
 
@@ -149,11 +148,11 @@ five_arrived_is_legal =
 five_taken_is_legal : IsLegal two_ends five_taken
 five_taken_is_legal =
     five_arrived_is_legal
-    ▸ acts (made_by refl) (endpoint_kept refl) refl tt refl tt refl
-    ▸ acts (made_by refl) (endpoint_kept refl) refl tt refl tt refl
-    ▸ acts (made_by refl) (endpoint_kept refl) refl tt refl tt refl
-    ▸ acts (made_by refl) (endpoint_kept refl) refl tt refl tt refl
-    ▸ acts (made_by refl) (endpoint_kept refl) refl tt refl tt refl
+    ▸ acts refl tt refl tt refl
+    ▸ acts refl tt refl tt refl
+    ▸ acts refl tt refl tt refl
+    ▸ acts refl tt refl tt refl
+    ▸ acts refl tt refl tt refl
 
 five_in_order : arrived_from five_taken b (There l x11 a) ≡ note 1 [] ∷ note 2 [] ∷ note 3 []
     ∷ note 4 [] ∷ note 5 [] ∷ []
@@ -189,25 +188,25 @@ told_of_close =
 pub one_answered_is_legal : IsLegal two_ends one_answered
 one_answered_is_legal =
     found_over_is_legal
-    ▸ acts (made_by refl) (endpoint_kept refl) refl (omega arith) refl refl tt
+    ▸ acts refl (omega arith) refl refl tt
     ▸ brings (meets x11 a (codes "a")) refl refl
     (record { up = refl; opened = refl; named = refl; new = refl })
     ▸ brings (arrives x11 a b (note 1 [])) refl refl
     (record { receiver = refl; sender = refl; alive = refl; front = ([], refl) })
-    ▸ acts (made_by refl) (endpoint_kept refl) refl tt refl tt refl
-    ▸ acts (made_by refl) (endpoint_kept refl) refl (omega arith) refl tt tt
-    ▸ acts (made_by refl) (endpoint_kept refl) refl (omega arith) refl refl tt
+    ▸ acts refl tt refl tt refl
+    ▸ acts refl (omega arith) refl tt tt
+    ▸ acts refl (omega arith) refl refl tt
     ▸ brings (arrives x11 b a (note 9 [])) refl refl
     (record { receiver = refl; sender = refl; alive = refl; front = ([], refl) })
-    ▸ acts (made_by refl) (endpoint_kept refl) refl tt refl tt refl
+    ▸ acts refl tt refl tt refl
 
 pub closed_behind_data_is_legal : IsLegal two_ends closed_behind_data
 closed_behind_data_is_legal =
     one_answered_is_legal
-    ▸ acts (made_by refl) (endpoint_kept refl) refl (omega arith) refl refl tt
-    ▸ acts (made_by refl) (endpoint_kept refl) refl (omega arith) refl refl tt
-    ▸ acts (made_by refl) (endpoint_kept refl) refl (omega arith) refl refl tt
-    ▸ acts (made_by refl) (endpoint_kept refl) refl tt refl tt tt
+    ▸ acts refl (omega arith) refl refl tt
+    ▸ acts refl (omega arith) refl refl tt
+    ▸ acts refl (omega arith) refl refl tt
+    ▸ acts refl tt refl tt tt
 
 told_of_close_is_legal : IsLegal two_ends told_of_close
 told_of_close_is_legal =
@@ -224,7 +223,7 @@ told_of_close_is_legal =
     ▸ brings (arrives x11 a b (note 4 [])) refl refl
     (record { receiver = refl; sender = refl; alive = refl; front = ([], refl) })
     ▸ brings (parts x11 a) refl refl (record { alive = refl; closed = refl; all_got = (refl, tt) })
-    ▸ acts (made_by refl) (endpoint_kept refl) refl tt refl tt refl
+    ▸ acts refl tt refl tt refl
 
 told_after_all_data : arrived_from told_of_close b (There l x11 a) ≡ note 1 [] ∷ note 2 []
     ∷ note 3 [] ∷ note 4 [] ∷ []
@@ -250,9 +249,9 @@ found_none = ends 2 (Closed c ∷ []) ∷ made 2 (TakeNone Any) [] ∷ freed_sig
 freed_signals_are_legal : IsLegal two_ends freed_signals
 freed_signals_are_legal =
     found_over_is_legal
-    ▸ acts (made_by refl) (endpoint_kept refl) refl (omega arith) refl refl tt
-    ▸ acts (made_by refl) (endpoint_kept refl) refl (omega arith) refl refl tt
-    ▸ acts (made_by refl) (endpoint_kept refl) refl (omega arith) refl refl tt
+    ▸ acts refl (omega arith) refl refl tt
+    ▸ acts refl (omega arith) refl refl tt
+    ▸ acts refl (omega arith) refl refl tt
     ▸ brings (meets x11 a (codes "a")) refl refl
     (record { up = refl; opened = refl; named = refl; new = refl })
     ▸ brings (arrives x11 a b (note 1 [])) refl refl
@@ -262,13 +261,13 @@ freed_signals_are_legal =
       alive = refl;
       front = (note 2 [] ∷ note 3 [] ∷ [], refl);
     })
-    ▸ acts (made_by refl) (endpoint_kept refl) refl tt refl tt refl
-    ▸ acts (made_by refl) (endpoint_kept refl) refl tt refl tt tt
-    ▸ acts (made_by refl) (endpoint_kept refl) refl refl refl tt tt
+    ▸ acts refl tt refl tt refl
+    ▸ acts refl tt refl tt tt
+    ▸ acts refl refl refl tt tt
     ▸ brings nothing refl refl tt
     ▸ brings nothing refl refl tt
     ▸ brings (parts x11 b) refl refl (record { alive = refl; closed = refl; all_got = (refl, tt) })
-    ▸ acts (made_by refl) (endpoint_kept refl) refl tt refl tt tt
+    ▸ acts refl tt refl tt tt
     ▸ brings (parts x11 a) refl refl (record { alive = refl; closed = refl; all_got = (refl, tt) })
 
 link_is_still : IsStill two_ends freed_signals l
@@ -292,8 +291,8 @@ link_is_still = whole_link refl x11 x11 (record {
 found_none_is_legal : IsLegal two_ends found_none
 found_none_is_legal =
     freed_signals_are_legal
-    ▸ finds_none (made_by refl) (endpoint_kept refl) (refl, at_rest refl) (one_still link_is_still)
-    ▸ acts (made_by refl) (endpoint_kept refl) refl tt refl tt tt
+    ▸ finds_none refl (refl, at_rest refl) (one_still link_is_still)
+    ▸ acts refl tt refl tt tt
 
 only_one_arrived : arrived_from found_none b (There l x11 a) ≡ note 1 [] ∷ []
 only_one_arrived = refl

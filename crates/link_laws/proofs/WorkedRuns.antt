@@ -1,14 +1,13 @@
 -- A worked run, move by move, with the records of both sides of its link: a name is hunted over the
 -- link, asked for, published and met; a signal is sent and arrives; its sender closes and goes.
-use Rattle.std.proofs.Common.{◌≡◌, ◌≤◌, ℕ, suc, true, false, ◌&&◌, List, [], ◌∷◌, Some, refl, sym}
-use Rattle.std.proofs.Common.{◌∙◌, ap, arith, subst}
+use Rattle.std.proofs.Common.{◌≡◌, ℕ, suc, true, false, ◌&&◌, List, [], ◌∷◌, Some, refl, sym, ◌∙◌}
+use Rattle.std.proofs.Common.{ap, arith, subst}
 use Rattle.std.specs.Prelude.{codes, ◌==◌}
 use Rattle.std.specs.List.{list_any}
 use Rattle.std.specs.Str.{bytes_eq}
 use Rattle.std.proofs.Math.Bool.{or-false}
-use Rattle.std.proofs.lemmas.Bool.{eq-eqb, or_left, true≢false}
+use Rattle.std.proofs.lemmas.Bool.{or_left, true≢false}
 use Rattle.linx_base.specs.Sides.{other_of}
-use Rattle.linx_base.specs.declared.frame.Verdict.{Verdict}
 use Rattle.linx_base.specs.declared.identity.LinkNo.{LinkNo}
 use Rattle.linx_base.specs.declared.identity.Peer.TheVariants.{There}
 use Rattle.linx_base.specs.declared.identity.Session.{Session}
@@ -23,21 +22,23 @@ use Rattle.journal.specs.Traffic.{arrived_from, sent_to}
 use Rattle.journal.specs.declared.effect.Effect.{Effect}
 use Rattle.journal.specs.declared.effect.Effect.TheVariants.{Arrived, Closed, Found}
 use Rattle.journal.specs.declared.effect.Step.{Step}
-use Rattle.journal.specs.declared.head.Head.TheVariants.{Cut, Hunt, Restart, TakeNone, Tick, Wire}
-use Rattle.journal.proofs.Playing.{at_rest, closes, endpoint_kept, ends, made, made_by, note, opens}
+use Rattle.journal.specs.declared.head.Head.TheVariants.{Cut, Hunt, Restart, TakeNone, Tick}
+use Rattle.journal.proofs.Playing.{at_rest, closes, ends, made, note, opens}
 use Rattle.link_laws.specs.Ends.{IsLinkOf, node_at}
 use Rattle.link_laws.specs.Sides.{Links, SideState}
 use Rattle.link_laws.specs.Laws.{IsLegal}
 use Rattle.link_laws.specs.Linked.{is_hunted}
 use Rattle.link_laws.specs.Moves.{IsResting, quiet}
-use Rattle.link_laws.specs.Moves.{ClosesAt, IsLeft, IsMove, KeepsNodeLaws, OpensAt, OthersLeft}
+use Rattle.link_laws.specs.Moves.{ClosesAt, Delivers, IsLeft, IsMove, OpensAt, OthersLeft}
 use Rattle.link_laws.specs.Moves.{RestartsAt, brings_down, brings_up, gives, loses_it, publishes}
 use Rattle.link_laws.specs.Moves.{ticks_on}
 use Rattle.link_laws.specs.Runs.{IsRun, IsBoundedRun, first_state}
+use Rattle.link_laws.specs.Sessions.{is_cut}
 use Rattle.link_laws.specs.Still.{IsStill, whole}
 use Rattle.link_laws.proofs.Names.{bytes_eq-is, bytes_eq-itself}
-use Rattle.link_laws.proofs.Playing.{a, b, back, down, gone_at, l, met_at, posts, pump, pumped}
-use Rattle.link_laws.proofs.Playing.{there, two_ends, up, x11, x12, x21}
+use Rattle.link_laws.proofs.Playing.{a, b, back, down, each, gone_at, keeps_laws, l, met_at}
+use Rattle.link_laws.proofs.Playing.{one_of, only_link, posts, pump, there, tick_laws, two_ends}
+use Rattle.link_laws.proofs.Playing.{up, wire_laws, x11, x12, x21}
 use Rattle.link_laws.proofs.Runs.{runs_are_legal}
 
 -- THE STATES of the two sides of the one link
@@ -56,55 +57,21 @@ up_with said given = record {
   silent = 0;
 }
 
--- what holds of both sides of the one link holds of all
-each : (Holds : LinkNo → Side → Type 0) → Holds l First → Holds l Second → (k : LinkNo)
-    → IsLinkOf two_ends k → (side : Side) → Holds k side
-each Holds first second k of_shape side = subst (λ (h : LinkNo). Holds h side) same (by_side side)
-  where
-    same : l ≡ k
-    same =
-        let low = of_shape.0 in
-        let high : k.0 ≤ 1 = of_shape.1 in
-        ap (λ (n : ℕ). let m : LinkNo = record { 0 = n } in m) (omega arith)
-
-    by_side : (at : Side) → Holds l at
-    by_side First = first
-    by_side Second = second
-
 itself : (C : SideState) → IsLeft C C
 itself C = record { side = refl; noted = refl; silent = omega arith }
 
+-- one side changes, and the other is left
+is_one : (k : LinkNo) → IsLinkOf two_ends k → ((k.0 == 1) && true) ≡ true
+is_one k of_shape =
+    subst (λ (h : LinkNo). ((h.0 == 1) && true) ≡ true) (only_link k of_shape) refl
+
 first_only : (C D E : SideState) → OthersLeft two_ends (pair C E) (pair D E) l First
-first_only C D E h of_h First apart = absurd (true≢false (sym is ∙ apart))
-  where
-    is : ((h.0 == 1) && true) ≡ true
-    is =
-        let low = of_h.0 in
-        let high : h.0 ≤ 1 = of_h.1 in
-        ap (λ t. t && true) (eq-eqb h.0 1 (omega arith))
+first_only C D E h of_h First apart = absurd (true≢false (sym (is_one h of_h) ∙ apart))
 first_only C D E h of_h Second apart = itself E
 
 second_only : (C D E : SideState) → OthersLeft two_ends (pair E C) (pair E D) l Second
 second_only C D E h of_h First apart = itself E
-second_only C D E h of_h Second apart = absurd (true≢false (sym is ∙ apart))
-  where
-    is : ((h.0 == 1) && true) ≡ true
-    is =
-        let low = of_h.0 in
-        let high : h.0 ≤ 1 = of_h.1 in
-        ap (λ t. t && true) (eq-eqb h.0 1 (omega arith))
-
--- the laws of nodes ask little of a packet
-wire_laws : {P : List Step} {from : Side} {verdict : Verdict} {es : List Effect}
-    → KeepsNodeLaws two_ends P (pump (Wire l from verdict) es)
-wire_laws = record {
-  makers = pumped refl;
-  endpoints = endpoint_kept refl;
-  bounds = tt;
-  effects = tt;
-  sends = tt;
-  receives = tt;
-}
+second_only C D E h of_h Second apart = absurd (true≢false (sym (is_one h of_h) ∙ apart))
 
 -- a run goes on with a move
 infixl 1 ◌▹◌
@@ -112,9 +79,28 @@ infixl 1 ◌▹◌
     → IsMove two_ends P before s after → IsRun two_ends (s ∷ P) after
 ◌▹◌ {P} {s} {before} {after} run move = (before, (run, move))
 
--- the link is one of the shape
-one_of : IsLinkOf two_ends l
-one_of = (omega arith, omega arith)
+-- a packet is handed over while the link is whole: to the second side, and to the first
+second_hears : {P : List Step} {es : List Effect} (C D E : SideState) → is_cut P 1 ≡ false
+    → Delivers P 2 l C D E es → IsMove two_ends P (pair E C) (there es) (pair E D)
+second_hears {P} {es} C D E uncut delivered = record {
+  laws = wire_laws;
+  moves = record {
+    of_shape = one_of;
+    cuts = λ cut. absurd (true≢false (sym cut ∙ uncut));
+    handed = (delivered, second_only C D E);
+  };
+}
+
+first_hears : {P : List Step} {es : List Effect} (C D E : SideState) → is_cut P 1 ≡ false
+    → Delivers P 1 l C D E es → IsMove two_ends P (pair C E) (back es) (pair D E)
+first_hears {P} {es} C D E uncut delivered = record {
+  laws = wire_laws;
+  moves = record {
+    of_shape = one_of;
+    cuts = λ cut. absurd (true≢false (sym cut ∙ uncut));
+    handed = (delivered, first_only C D E);
+  };
+}
 
 -- THE RUN. Both endpoints open, and a name is hunted while the link is down
 abbrev both_open : List Step
@@ -132,14 +118,7 @@ begins = each (λ k side. IsLeft first_state (both_down k.0 side)) (itself first
 
 opens_a : IsMove two_ends [] both_down (opens 1 (codes "a") a) both_down
 opens_a = record {
-  laws = record {
-    makers = made_by refl;
-    endpoints = endpoint_kept refl;
-    bounds = refl;
-    effects = refl;
-    sends = tt;
-    receives = tt;
-  };
+  laws = keeps_laws refl refl refl tt tt;
   moves = each (λ k side. OpensAt (node_at two_ends k side == 1) a (codes "a") (both_down k.0 side)
       (both_down k.0 side))
       (record { side = refl; noted = λ w apart is. is; silent = omega arith })
@@ -148,14 +127,7 @@ opens_a = record {
 
 opens_b : IsMove two_ends (opens 1 (codes "a") a ∷ []) both_down (opens 2 (codes "b") b) both_down
 opens_b = record {
-  laws = record {
-    makers = made_by refl;
-    endpoints = endpoint_kept refl;
-    bounds = refl;
-    effects = refl;
-    sends = tt;
-    receives = tt;
-  };
+  laws = keeps_laws refl refl refl tt tt;
   moves = each (λ k side. OpensAt (node_at two_ends k side == 2) b (codes "b") (both_down k.0 side)
       (both_down k.0 side)) (itself first_state)
       (record { side = refl; noted = λ w apart is. is; silent = omega arith });
@@ -164,14 +136,7 @@ opens_b = record {
 hunts_b : IsMove two_ends both_open both_down
     (made 1 (Hunt (Over l (codes "b")) (note 251 [])) []) both_down
 hunts_b = record {
-  laws = record {
-    makers = made_by refl;
-    endpoints = endpoint_kept refl;
-    bounds = omega arith;
-    effects = refl;
-    sends = tt;
-    receives = tt;
-  };
+  laws = keeps_laws refl (omega arith) refl tt tt;
   moves = record {
     at = First;
     of_shape = one_of;
@@ -212,28 +177,20 @@ answered = up_with (asked (codes "b") ∷ []) (met b (codes "b") ∷ [])
 
 second_goes_up : IsMove two_ends hunted_first both_down (there (up 2 x11 x11 ∷ []))
     (pair first_state (up_with [] []))
-second_goes_up = record {
-  laws = wire_laws;
-  moves = record {
-    of_shape = one_of;
-    cuts = λ cut. absurd (true≢false (sym cut));
-    handed = (
-      brings_up (record {
-        y = x11;
-        down = refl;
-        other_has = refl;
-        forward = (tt, tt);
-        effects = refl;
-        names = [];
-        asks_all = λ v is. absurd (true≢false (sym is));
-        side = refl;
-        noted = refl;
-        silent = refl;
-      }),
-      second_only first_state (up_with [] []) first_state,
-    );
-  };
-}
+second_goes_up =
+    second_hears first_state (up_with [] []) first_state refl
+    (brings_up (record {
+      y = x11;
+      down = refl;
+      other_has = refl;
+      forward = (tt, tt);
+      effects = refl;
+      names = [];
+      asks_all = λ v is. absurd (true≢false (sym is));
+      side = refl;
+      noted = refl;
+      silent = refl;
+    }))
 
 asks_b : (v : List ℕ) → is_hunted second_up 1 l v ≡ true
     → list_any (bytes_eq v) (codes "b" ∷ []) ≡ true
@@ -244,71 +201,47 @@ asks_b v is =
 
 first_goes_up : IsMove two_ends second_up (pair first_state (up_with [] []))
     (back (up 1 x11 x11 ∷ [])) (pair asking (up_with [] []))
-first_goes_up = record {
-  laws = wire_laws;
-  moves = record {
-    of_shape = one_of;
-    cuts = λ cut. absurd (true≢false (sym cut));
-    handed = (
-      brings_up (record {
-        y = x11;
-        down = refl;
-        other_has = refl;
-        forward = (tt, tt);
-        effects = refl;
-        names = codes "b" ∷ [];
-        asks_all = asks_b;
-        side = refl;
-        noted = refl;
-        silent = refl;
-      }),
-      first_only first_state asking (up_with [] []),
-    );
-  };
-}
+first_goes_up =
+    first_hears first_state asking (up_with [] []) refl
+    (brings_up (record {
+      y = x11;
+      down = refl;
+      other_has = refl;
+      forward = (tt, tt);
+      effects = refl;
+      names = codes "b" ∷ [];
+      asks_all = asks_b;
+      side = refl;
+      noted = refl;
+      silent = refl;
+    }))
 
 question_comes : IsMove two_ends both_up (pair asking (up_with [] [])) (there [])
     (pair asking answering)
-question_comes = record {
-  laws = wire_laws;
-  moves = record {
-    of_shape = one_of;
-    cuts = λ cut. absurd (true≢false (sym cut));
-    handed = (
-      gives (record {
-        g = asked_for (codes "b");
-        told = record { y = x11; pair = refl; back = refl; later = []; said = refl };
-        fits = tt;
-        effects = refl;
-        receives = publishes b refl refl refl (λ w apart is. is);
-        silent = refl;
-      }),
-      second_only (up_with [] []) answering asking,
-    );
-  };
-}
+question_comes =
+    second_hears (up_with [] []) answering asking refl
+    (gives (record {
+      g = asked_for (codes "b");
+      told = record { y = x11; pair = refl; back = refl; later = []; said = refl };
+      fits = tt;
+      effects = refl;
+      receives = publishes b refl refl refl (λ w apart is. is);
+      silent = refl;
+    }))
 
 answer_comes : IsMove two_ends question_heard (pair asking answering)
     (back (met_at 1 x11 b (codes "b") ∷ Found a (There l x11 b) (note 251 []) 3 ∷ []))
     (pair answered answering)
-answer_comes = record {
-  laws = wire_laws;
-  moves = record {
-    of_shape = one_of;
-    cuts = λ cut. absurd (true≢false (sym cut));
-    handed = (
-      gives (record {
-        g = met b (codes "b");
-        told = record { y = x11; pair = refl; back = refl; later = []; said = refl };
-        fits = tt;
-        effects = refl;
-        receives = record { side = refl; noted = refl };
-        silent = refl;
-      }),
-      first_only asking answered answering,
-    );
-  };
-}
+answer_comes =
+    first_hears asking answered answering refl
+    (gives (record {
+      g = met b (codes "b");
+      told = record { y = x11; pair = refl; back = refl; later = []; said = refl };
+      fits = tt;
+      effects = refl;
+      receives = record { side = refl; noted = refl };
+      silent = refl;
+    }))
 
 found_run : IsRun two_ends found_then (pair answered answering)
 found_run = hunted_run ▹ second_goes_up ▹ first_goes_up ▹ question_comes ▹ answer_comes
@@ -340,14 +273,7 @@ having_got = up_with (published b (codes "b") ∷ [])
 sends_one : IsMove two_ends found_then (pair answered answering) (posts x11 b (note 1 []))
     (pair having_sent answering)
 sends_one = record {
-  laws = record {
-    makers = made_by refl;
-    endpoints = endpoint_kept refl;
-    bounds = omega arith;
-    effects = refl;
-    sends = refl;
-    receives = tt;
-  };
+  laws = keeps_laws refl (omega arith) refl refl tt;
   moves = record {
     at = First;
     of_shape = one_of;
@@ -361,51 +287,35 @@ sends_one = record {
 
 sender_comes : IsMove two_ends one_sent (pair having_sent answering)
     (there (met_at 2 x11 a (codes "a") ∷ [])) (pair having_sent having_met)
-sender_comes = record {
-  laws = wire_laws;
-  moves = record {
-    of_shape = one_of;
-    cuts = λ cut. absurd (true≢false (sym cut));
-    handed = (
-      gives (record {
-        g = met a (codes "a");
-        told = record {
-          y = x11;
-          pair = refl;
-          back = refl;
-          later = signaled a b (note 1 []) ∷ [];
-          said = refl;
-        };
-        fits = tt;
-        effects = refl;
-        receives = record { side = refl; noted = refl };
-        silent = refl;
-      }),
-      second_only answering having_met having_sent,
-    );
-  };
-}
+sender_comes =
+    second_hears answering having_met having_sent refl
+    (gives (record {
+      g = met a (codes "a");
+      told = record {
+        y = x11;
+        pair = refl;
+        back = refl;
+        later = signaled a b (note 1 []) ∷ [];
+        said = refl;
+      };
+      fits = tt;
+      effects = refl;
+      receives = record { side = refl; noted = refl };
+      silent = refl;
+    }))
 
 signal_comes : IsMove two_ends sender_met (pair having_sent having_met)
     (there (Arrived b (There l x11 a) (note 1 []) ∷ [])) (pair having_sent having_got)
-signal_comes = record {
-  laws = wire_laws;
-  moves = record {
-    of_shape = one_of;
-    cuts = λ cut. absurd (true≢false (sym cut));
-    handed = (
-      gives (record {
-        g = arrived a b (note 1 []);
-        told = record { y = x11; pair = refl; back = refl; later = []; said = refl };
-        fits = refl;
-        effects = refl;
-        receives = record { side = refl; noted = refl };
-        silent = refl;
-      }),
-      second_only having_met having_got having_sent,
-    );
-  };
-}
+signal_comes =
+    second_hears having_met having_got having_sent refl
+    (gives (record {
+      g = arrived a b (note 1 []);
+      told = record { y = x11; pair = refl; back = refl; later = []; said = refl };
+      fits = refl;
+      effects = refl;
+      receives = record { side = refl; noted = refl };
+      silent = refl;
+    }))
 
 arrived_run : IsRun two_ends one_arrived (pair having_sent having_got)
 arrived_run = found_run ▹ sends_one ▹ sender_comes ▹ signal_comes
@@ -427,14 +337,7 @@ having_parted = up_with (published b (codes "b") ∷ [])
 closes_a : IsMove two_ends one_arrived (pair having_sent having_got) (closes 1 a)
     (pair having_closed having_got)
 closes_a = record {
-  laws = record {
-    makers = made_by refl;
-    endpoints = endpoint_kept refl;
-    bounds = tt;
-    effects = refl;
-    sends = tt;
-    receives = tt;
-  };
+  laws = keeps_laws refl tt refl tt tt;
   moves = each (λ k side. ClosesAt 1 (node_at two_ends k side) a
       (pair having_sent having_got k.0 side) (pair having_closed having_got k.0 side))
       (record { side = refl; noted = refl; silent = omega arith })
@@ -443,24 +346,16 @@ closes_a = record {
 
 parting_comes : IsMove two_ends one_closed (pair having_closed having_got)
     (there (gone_at 2 x11 a ∷ [])) (pair having_closed having_parted)
-parting_comes = record {
-  laws = wire_laws;
-  moves = record {
-    of_shape = one_of;
-    cuts = λ cut. absurd (true≢false (sym cut));
-    handed = (
-      gives (record {
-        g = gone a;
-        told = record { y = x11; pair = refl; back = refl; later = []; said = refl };
-        fits = tt;
-        effects = refl;
-        receives = record { side = refl; noted = refl };
-        silent = refl;
-      }),
-      second_only having_got having_parted having_closed,
-    );
-  };
-}
+parting_comes =
+    second_hears having_got having_parted having_closed refl
+    (gives (record {
+      g = gone a;
+      told = record { y = x11; pair = refl; back = refl; later = []; said = refl };
+      fits = tt;
+      effects = refl;
+      receives = record { side = refl; noted = refl };
+      silent = refl;
+    }))
 
 -- SO IT IS A RUN, and is legal
 whole_run : IsBoundedRun two_ends one_gone (pair having_closed having_parted)
@@ -494,14 +389,7 @@ leaves_all = each (λ k side. IsLeft (all_heard k.0 side) (all_heard k.0 side))
 
 ends_one : IsMove two_ends one_gone all_heard (ends 1 []) all_heard
 ends_one = record {
-  laws = record {
-    makers = made_by refl;
-    endpoints = endpoint_kept refl;
-    bounds = tt;
-    effects = refl;
-    sends = tt;
-    receives = tt;
-  };
+  laws = keeps_laws refl tt refl tt tt;
   moves = leaves_all;
 }
 
@@ -510,14 +398,7 @@ rests = quiet refl (record { pair = refl; back = refl; said = refl; answered = r
 
 none_is_found : IsMove two_ends one_ended all_heard finds_it_none all_heard
 none_is_found = record {
-  laws = record {
-    makers = made_by refl;
-    endpoints = endpoint_kept refl;
-    bounds = tt;
-    effects = refl;
-    sends = tt;
-    receives = (refl, at_rest refl);
-  };
+  laws = keeps_laws refl tt refl tt (refl, at_rest refl);
   moves = record {
     resting = λ k of_shape. each (λ h side. IsResting one_ended h having_closed having_parted) rests
         rests k of_shape First;
@@ -554,14 +435,7 @@ restarts_one : IsMove two_ends one_arrived (pair having_sent having_got)
     (made 1 (Restart (record { 0 = 1 })) (down 1 x11 ∷ Closed a ∷ []))
     (pair (begun_after x21 having_sent) having_got)
 restarts_one = record {
-  laws = record {
-    makers = made_by refl;
-    endpoints = endpoint_kept refl;
-    bounds = tt;
-    effects = refl;
-    sends = tt;
-    receives = tt;
-  };
+  laws = keeps_laws refl tt refl tt tt;
   moves = each (λ k side. RestartsAt (node_at two_ends k side == 1) x21
       (pair having_sent having_got k.0 side)
       (pair (begun_after x21 having_sent) having_got k.0 side))
@@ -571,49 +445,33 @@ restarts_one = record {
 other_learns : IsMove two_ends one_restarted (pair (begun_after x21 having_sent) having_got)
     (there (down 2 x11 ∷ []))
     (pair (begun_after x21 having_sent) (begun_after x12 having_got))
-other_learns = record {
-  laws = wire_laws;
-  moves = record {
-    of_shape = one_of;
-    cuts = λ cut. absurd (true≢false (sym cut));
-    handed = (
-      brings_down (record {
-        y = x11;
-        pair = refl;
-        passed = omega arith;
-        effects = refl;
-        begins = record { side = refl; silent = omega arith };
-      }),
-      second_only having_got (begun_after x12 having_got) (begun_after x21 having_sent),
-    );
-  };
-}
+other_learns =
+    second_hears having_got (begun_after x12 having_got) (begun_after x21 having_sent) refl
+    (brings_down (record {
+      y = x11;
+      pair = refl;
+      passed = omega arith;
+      effects = refl;
+      begins = record { side = refl; silent = omega arith };
+    }))
 
 other_goes_up : IsMove two_ends other_down
     (pair (begun_after x21 having_sent) (begun_after x12 having_got)) (there (up 2 x12 x21 ∷ []))
     (pair (begun_after x21 having_sent) again_up)
-other_goes_up = record {
-  laws = wire_laws;
-  moves = record {
-    of_shape = one_of;
-    cuts = λ cut. absurd (true≢false (sym cut));
-    handed = (
-      brings_up (record {
-        y = x21;
-        down = refl;
-        other_has = refl;
-        forward = (tt, (omega arith, tt));
-        effects = refl;
-        names = [];
-        asks_all = λ v is. absurd (true≢false (sym is));
-        side = refl;
-        noted = refl;
-        silent = refl;
-      }),
-      second_only (begun_after x12 having_got) again_up (begun_after x21 having_sent),
-    );
-  };
-}
+other_goes_up =
+    second_hears (begun_after x12 having_got) again_up (begun_after x21 having_sent) refl
+    (brings_up (record {
+      y = x21;
+      down = refl;
+      other_has = refl;
+      forward = (tt, (omega arith, tt));
+      effects = refl;
+      names = [];
+      asks_all = λ v is. absurd (true≢false (sym is));
+      side = refl;
+      noted = refl;
+      silent = refl;
+    }))
 
 again_run : IsRun two_ends up_again (pair (begun_after x21 having_sent) again_up)
 again_run = arrived_run ▹ restarts_one ▹ other_learns ▹ other_goes_up
@@ -634,28 +492,10 @@ two_ticks = pump (Tick l First) [] ∷ first_ticks
 abbrev three_ticks : List Step
 three_ticks = pump (Tick l First) (down 1 x11 ∷ []) ∷ two_ticks
 
-tick_laws : {P : List Step} {side : Side} {es : List Effect}
-    → KeepsNodeLaws two_ends P (pump (Tick l side) es)
-tick_laws = record {
-  makers = pumped refl;
-  endpoints = endpoint_kept refl;
-  bounds = tt;
-  effects = tt;
-  sends = tt;
-  receives = tt;
-}
-
 cuts_it : IsMove two_ends one_arrived (pair having_sent having_got) (made 1 (Cut l) [])
     (pair having_sent having_got)
 cuts_it = record {
-  laws = record {
-    makers = made_by refl;
-    endpoints = endpoint_kept refl;
-    bounds = tt;
-    effects = refl;
-    sends = tt;
-    receives = tt;
-  };
+  laws = keeps_laws refl tt refl tt tt;
   moves = each (λ k side. IsLeft (pair having_sent having_got k.0 side)
       (pair having_sent having_got k.0 side)) (itself having_sent) (itself having_got);
 }
@@ -696,8 +536,8 @@ loses_first = record {
 lost_run : IsRun two_ends three_ticks (pair (begun_after x12 having_sent) having_got)
 lost_run = arrived_run ▹ cuts_it ▹ ticks_one link_cut 0 ▹ ticks_one first_ticks 1 ▹ loses_first
 
--- WHY NOTHING VANISHES SPEAKS OF A QUIET TRUNK: the laws let a link be still, by what is open, while
--- the signal of one that closed before it was met is on its way
+-- WHY NOTHING VANISHES SPEAKS OF A QUIET TRUNK: the laws let a link be still, by what is open,
+-- while the signal of one that closed before it was met is on its way
 abbrev closed_early : List Step
 closed_early = closes 1 a ∷ one_sent
 

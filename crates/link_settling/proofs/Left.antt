@@ -4,7 +4,6 @@ use Rattle.std.proofs.Common.{◌≡◌, ◌⊎◌, ◌<◌, ◌≤◌, ℕ, suc
 use Rattle.std.proofs.Common.{◌∷◌, ◌++◌, length, refl, sym, ap, ◌∙◌, arith, inl, inr}
 use Rattle.std.proofs.lemmas.Bool.{cases_lt}
 use Rattle.std.proofs.lemmas.Option.{same_Some}
-use Rattle.linx_base.specs.declared.frame.Message.{Message}
 use Rattle.linx_base.specs.declared.identity.Session.{Session}
 use Rattle.ethcm_headers.specs.declared.packets.Packet.{Packet}
 use Rattle.ethcm_session.specs.Table.{is_confirmed_in}
@@ -45,93 +44,42 @@ pub data Left (n : ℕ) (a b : HalfState) (there back : List Packet) : Type 0 wh
 
 -- ---- they don't become more as packets come and messages are offered
 
-module _ (n : ℕ) where
-  left_near_came : (a b : HalfState) (there left : List Packet) (p : Packet)
-      → Holds a b there (p ∷ left) → Holds (came a p) b (there ++ came_out a p) left
-      → Left n a b there (p ∷ left) → Left n (came a p) b (there ++ came_out a p) left
-  left_near_came a b there left p k now (calm h) =
-      calm (calm_lasts.near_came a b there left p k now h)
-  left_near_came a b there left p k now (begun l h) =
-      begun l (begun_lasts.near_came a b there left p k now h)
-  left_near_came a b there left p k now (joining l h) =
-      joining l (joining_lasts.near_came a b there left p k now h)
-  left_near_came a b there left p k now (opening l h) =
-      opening l (opening_lasts.near_came a b there left p k now h)
-  left_near_came a b there left p k now (calling l h) =
-      calling l (calling_lasts.near_came a b there left p k now h)
-  left_near_came a b there left p k now (ending l h) =
-      ending l (ending_lasts.near_came a b there left p k now h)
-  left_near_came a b there left p k now (stale l h) =
-      stale l (stale_lasts.near_came a b there left p k now h)
-  left_near_came a b there left p k now (any l) = any l
+-- what each of these keeps, they keep
+left_after : (n : ℕ) (a b c d : HalfState) (there back sent answered : List Packet)
+    → ((C : HalfState → HalfState → List Packet → List Packet → Type 0) → Lasts C
+    → C a b there back → C c d sent answered)
+    → Left n a b there back → Left n c d sent answered
+left_after n a b c d there back sent answered keep (calm h) = calm (keep Calm calm_lasts h)
+left_after n a b c d there back sent answered keep (begun l h) =
+    begun l (keep Begun begun_lasts h)
+left_after n a b c d there back sent answered keep (joining l h) =
+    joining l (keep Joining joining_lasts h)
+left_after n a b c d there back sent answered keep (opening l h) =
+    opening l (keep Opening opening_lasts h)
+left_after n a b c d there back sent answered keep (calling l h) =
+    calling l (keep Calling calling_lasts h)
+left_after n a b c d there back sent answered keep (ending l h) =
+    ending l (keep Ending ending_lasts h)
+left_after n a b c d there back sent answered keep (stale l h) =
+    stale l (keep Stale stale_lasts h)
+left_after n a b c d there back sent answered keep (any l) = any l
 
-  left_far_came : (a b : HalfState) (left back : List Packet) (p : Packet)
-      → Holds a b (p ∷ left) back → Holds a (came b p) left (back ++ came_out b p)
-      → Left n a b (p ∷ left) back → Left n a (came b p) left (back ++ came_out b p)
-  left_far_came a b left back p k now (calm h) =
-      calm (calm_lasts.far_came a b left back p k now h)
-  left_far_came a b left back p k now (begun l h) =
-      begun l (begun_lasts.far_came a b left back p k now h)
-  left_far_came a b left back p k now (joining l h) =
-      joining l (joining_lasts.far_came a b left back p k now h)
-  left_far_came a b left back p k now (opening l h) =
-      opening l (opening_lasts.far_came a b left back p k now h)
-  left_far_came a b left back p k now (calling l h) =
-      calling l (calling_lasts.far_came a b left back p k now h)
-  left_far_came a b left back p k now (ending l h) =
-      ending l (ending_lasts.far_came a b left back p k now h)
-  left_far_came a b left back p k now (stale l h) =
-      stale l (stale_lasts.far_came a b left back p k now h)
-  left_far_came a b left back p k now (any l) = any l
-
-  left_near_offered : (a b : HalfState) (there back : List Packet) (m : Message) (peer : Session)
-      → peer_of a.end ≡ Some peer → Holds a b there back
-      → Holds (offered a m) b (there ++ offered_out a m) back → Left n a b there back
-      → Left n (offered a m) b (there ++ offered_out a m) back
-  left_near_offered a b there back m peer e k now (calm h) =
-      calm (calm_lasts.near_offered a b there back m peer e k now h)
-  left_near_offered a b there back m peer e k now (begun l h) =
-      begun l (begun_lasts.near_offered a b there back m peer e k now h)
-  left_near_offered a b there back m peer e k now (joining l h) =
-      joining l (joining_lasts.near_offered a b there back m peer e k now h)
-  left_near_offered a b there back m peer e k now (opening l h) =
-      opening l (opening_lasts.near_offered a b there back m peer e k now h)
-  left_near_offered a b there back m peer e k now (calling l h) =
-      calling l (calling_lasts.near_offered a b there back m peer e k now h)
-  left_near_offered a b there back m peer e k now (ending l h) =
-      ending l (ending_lasts.near_offered a b there back m peer e k now h)
-  left_near_offered a b there back m peer e k now (stale l h) =
-      stale l (stale_lasts.near_offered a b there back m peer e k now h)
-  left_near_offered a b there back m peer e k now (any l) = any l
-
-  left_far_offered : (a b : HalfState) (there back : List Packet) (m : Message) (peer : Session)
-      → peer_of b.end ≡ Some peer → Holds a b there back
-      → Holds a (offered b m) there (back ++ offered_out b m) → Left n a b there back
-      → Left n a (offered b m) there (back ++ offered_out b m)
-  left_far_offered a b there back m peer e k now (calm h) =
-      calm (calm_lasts.far_offered a b there back m peer e k now h)
-  left_far_offered a b there back m peer e k now (begun l h) =
-      begun l (begun_lasts.far_offered a b there back m peer e k now h)
-  left_far_offered a b there back m peer e k now (joining l h) =
-      joining l (joining_lasts.far_offered a b there back m peer e k now h)
-  left_far_offered a b there back m peer e k now (opening l h) =
-      opening l (opening_lasts.far_offered a b there back m peer e k now h)
-  left_far_offered a b there back m peer e k now (calling l h) =
-      calling l (calling_lasts.far_offered a b there back m peer e k now h)
-  left_far_offered a b there back m peer e k now (ending l h) =
-      ending l (ending_lasts.far_offered a b there back m peer e k now h)
-  left_far_offered a b there back m peer e k now (stale l h) =
-      stale l (stale_lasts.far_offered a b there back m peer e k now h)
-  left_far_offered a b there back m peer e k now (any l) = any l
-
-  pub left_lasts : Lasts (λ a b there back. Left n a b there back)
-  left_lasts =
-      record {
-        near_came = left_near_came;
-        far_came = left_far_came;
-        near_offered = left_near_offered;
-        far_offered = left_far_offered;
-      }
+pub left_lasts : (n : ℕ) → Lasts (λ a b there back. Left n a b there back)
+left_lasts n =
+    record {
+      near_came = λ a b there left p k now.
+          left_after n a b (came a p) b there (p ∷ left) (there ++ came_out a p) left
+          (λ C lasts. lasts.near_came a b there left p k now);
+      far_came = λ a b left back p k now.
+          left_after n a b a (came b p) (p ∷ left) back left (back ++ came_out b p)
+          (λ C lasts. lasts.far_came a b left back p k now);
+      near_offered = λ a b there back m peer e k now.
+          left_after n a b (offered a m) b there back (there ++ offered_out a m) back
+          (λ C lasts. lasts.near_offered a b there back m peer e k now);
+      far_offered = λ a b there back m peer e k now.
+          left_after n a b a (offered b m) there back there (back ++ offered_out b m)
+          (λ C lasts. lasts.far_offered a b there back m peer e k now);
+    }
 
 -- ---- a tick while nothing is in flight makes them one less
 

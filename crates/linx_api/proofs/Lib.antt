@@ -2,4 +2,3 @@ mod Numbers
 pub mod Own
 pub mod Answering
 pub mod Calls
-mod Fresh

@@ -33,7 +33,8 @@ same_endpoints f same es = map_both name_entry f name_entry same es
 named_changed : (i : Inc) (f : List Item → List Item) (e : OpenEndpoint)
     → name_entry (change_items i f e) ≡ name_entry e
 named_changed i f e =
-    elim (same_inc i e.inc) as (λ b. name_entry (cond b (record e { items = f e.items }) e) ≡ name_entry e)
+    elim (same_inc i e.inc) as
+    (λ b. name_entry (cond b (record e { items = f e.items }) e) ≡ name_entry e)
     [ true ↦ refl | false ↦ refl ]
 
 pub same_put_all : (step : ℕ) (effects : List Effect) (es : List OpenEndpoint)
@@ -58,7 +59,8 @@ same_with_items (e ∷ es) i items =
       | false ↦ ap (λ l. name_entry e ∷ l) (same_with_items es i items)
     ]
 
-all_alike : (P : NamedEndpoint → Type 0) (xs ys : List OpenEndpoint) → map name_entry xs ≡ map name_entry ys
+all_alike : (P : NamedEndpoint → Type 0) (xs ys : List OpenEndpoint)
+    → map name_entry xs ≡ map name_entry ys
     → AllByRecursion (λ e. P (name_entry e)) ys → AllByRecursion (λ e. P (name_entry e)) xs
 all_alike P [] ys is all = tt
 all_alike P (x ∷ xs) [] is all = cc
@@ -67,8 +69,8 @@ all_alike P (x ∷ xs) (y ∷ ys) is all =
     let tail : map name_entry xs ≡ map name_entry ys = cc in
     (subst P head all.0, all_alike P xs ys tail all.1)
 
-pub rising_alike : (xs ys : List OpenEndpoint) → map name_entry xs ≡ map name_entry ys → AreRising ys
-    → AreRising xs
+pub rising_alike : (xs ys : List OpenEndpoint) → map name_entry xs ≡ map name_entry ys
+    → AreRising ys → AreRising xs
 rising_alike [] ys is rising = tt
 rising_alike (x ∷ xs) [] is rising = cc
 rising_alike (x ∷ xs) (y ∷ ys) is rising =

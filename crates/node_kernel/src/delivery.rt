@@ -1,7 +1,8 @@
 //! Effects bring items to endpoints: all of a step's, or none.
 ghost use Rattle.std.specs.Prelude.{◌≡◌, ℕ, List, map, IfOk, OnOk, OnErr};
 ghost use Rattle.node_kernel.specs.Nodes.{OpenEndpoint, put_all};
-ghost use Rattle.node_kernel.specs.Kept.{AreRising, bring_into, delivery_at, name_entry, receiver_of};
+ghost use Rattle.node_kernel.specs.Kept.{AreRising, bring_into, delivery_at, name_entry};
+ghost use Rattle.node_kernel.specs.Kept.{receiver_of};
 
 use crate::endpoint::Endpoint;
 use crate::lookup::{deliver, take_last};

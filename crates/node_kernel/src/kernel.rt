@@ -83,7 +83,8 @@ impl Kernel {
         self.roster.has(inc)
     }
 
-    /// The first opened endpoint of a name that is open. `None` exactly where no open endpoint has it.
+    /// The first opened endpoint of a name that is open. `None` exactly where no open endpoint has
+    /// it.
     pub fn first(&self, name: &Name) -> Option<Inc>
         ensures { result ≡ first_named self.now.endpoints name.now }
     {

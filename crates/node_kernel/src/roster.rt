@@ -132,7 +132,8 @@ impl Roster {
         lookup::name_of(&self.endpoints, inc)
     }
 
-    /// The first opened endpoint of a name that is open. `None` exactly where no open endpoint has it.
+    /// The first opened endpoint of a name that is open. `None` exactly where no open endpoint has
+    /// it.
     pub(crate) fn first(&self, name: &Name) -> Option<Inc>
         ensures { result ≡ first_named self.now.endpoints name.now }
     {

@@ -138,7 +138,7 @@ fn is_earlier(trunks: &RunTrunks, link: LinkNo, boot: u32) -> bool
 }
 
 /// A node boots again, where all sides of both links are in an earlier boot.
-#[tactic(auto, using(run_trunks::proofs::Boots::earlier_both))]
+#[tactic(auto, using(crate::proofs::Boots::earlier_both))]
 pub fn restart(trunks: &mut RunTrunks, node: NodeNo, boot: u32) -> Result<(), Fail> {
     let [near, far] = LINKS;
     if trunks.count() != 2 {

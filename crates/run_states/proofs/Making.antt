@@ -1,5 +1,5 @@
--- A step makes the same of the same trunks, whatever it is, and the ends of these keep their windows
--- and pieces.
+-- A step makes the same of the same trunks, whatever it is, and the ends of these keep their
+-- windows and pieces.
 use Rattle.std.proofs.Common.{◌≡◌, ℕ, Bool, true, false, cond, List, Option, Some, None}
 use Rattle.std.proofs.Common.{refl, sym, ◌∙◌, ap, subst}
 use Rattle.std.specs.Prelude.{◌==◌, ◌+◌}

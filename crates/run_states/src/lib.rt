@@ -1,7 +1,7 @@
-//! That a journal reaches one state. A run over trunks says of each step which trunks it leaves, and
-//! not how they are computed; `proofs/` shows that the steps of a journal leave no choice, so that
-//! whoever knows the trunks at the beginning and the journal knows the trunks at its end. No step
-//! changes the window or the piece of an end, so the trunks at the end tell how the run began.
+//! That a journal reaches one state. A run over trunks says of each step which trunks it leaves,
+//! and not how they are computed; `proofs/` shows that the steps of a journal leave no choice, so
+//! that whoever knows the trunks at the beginning and the journal knows the trunks at its end. No
+//! step changes the window or the piece of an end, so the trunks at the end tell how the run began.
 #![tactic(auto)]
 
 mod laws;

@@ -2,5 +2,3 @@ pub mod Lists
 pub mod Placed
 pub mod Numbered
 pub mod Rested
-pub mod Begun
-pub mod Boots

@@ -1,5 +1,5 @@
 ghost use Rattle.std.specs.Prelude.{◌≡◌};
-ghost use Rattle.script_words.specs.declared.line_error.LineError.TheVariants.{NoMemory as OutOfMemory};
+ghost use Rattle.script_words.specs.declared.line_error.LineError.TheVariants as errors;
 
 use crate::bad_kind::BadKind;
 use linx_base::NoMemory;
@@ -37,7 +37,7 @@ impl fmt::Display for LineError {
 impl Error for LineError {}
 
 impl From<NoMemory> for LineError {
-    ghost from_gives = { λ _ e. e ≡ OutOfMemory };
+    ghost from_gives = { λ _ e. e ≡ errors.NoMemory };
 
     fn from(_refusal: NoMemory) -> LineError {
         LineError::NoMemory
@@ -45,7 +45,7 @@ impl From<NoMemory> for LineError {
 }
 
 impl From<AllocError> for LineError {
-    ghost from_gives = { λ _ e. e ≡ OutOfMemory };
+    ghost from_gives = { λ _ e. e ≡ errors.NoMemory };
 
     fn from(_refusal: AllocError) -> LineError {
         LineError::NoMemory

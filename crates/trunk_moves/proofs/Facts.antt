@@ -46,9 +46,10 @@ use Rattle.link_laws.specs.Linked.{IsLinked}
 use Rattle.link_laws.specs.Runs.{IsRun, IsSound}
 use Rattle.link_laws.specs.Sessions.{boots, downs, ends_session, own_session, restarts}
 use Rattle.link_laws.proofs.Brings.{published-opened, unpublished-closed}
-use Rattle.link_laws.proofs.Fresh.{opened-few, opens-new, step-opens}
+use Rattle.link_laws.proofs.Fresh.{opens-new, step-opens}
 use Rattle.link_laws.proofs.LivingPeers.{alive-known, open-not_unpublished}
 use Rattle.link_laws.proofs.Opened.{both_true, open-on, open-opened, opened-any}
+use Rattle.link_laws.proofs.Places.{opened_on-few}
 use Rattle.trunk.specs.Events.{TrunkState, kept_of, side_of}
 use Rattle.trunk.specs.Laws.{MayPublish}
 use Rattle.trunk.proofs.Trunks.{agree}
@@ -237,7 +238,7 @@ module _ (shape : Shape) (P : List Step) (trunks : RunTrunks) (known : IsKnown s
         let room = known.room in
         omega arith;
     numbered =
-        let few = opened-few shape P known.sound.legal n in
+        let few = opened_on-few shape P known.sound.legal n in
         let room = known.room in
         let node = fits in
         omega arith;

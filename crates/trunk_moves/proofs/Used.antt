@@ -98,7 +98,8 @@ send_used : (t : RlnhTables) (i : Inc) (name : List ℕ) (b : Inc) (note : SigNo
     → used_in (send_of t i name b note).tables.own ≤ used_in t.own + 1
 send_used t i name b note = by_address (address_of t.own i)
   where
-    by_address : (at : Option ℕ) → used_in (publish_sender_of t i name at).tables.own ≤ used_in t.own + 1
+    by_address : (at : Option ℕ)
+        → used_in (publish_sender_of t i name at).tables.own ≤ used_in t.own + 1
     by_address None = publish_used t i name
     by_address (Some addr) = omega arith
 

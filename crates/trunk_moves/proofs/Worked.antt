@@ -1,7 +1,7 @@
 -- A worked run with trunks, step by step: two endpoints open, a name is hunted over the link, the
 -- link goes up, the name is asked for, published, and met.
-use Rattle.std.proofs.Common.{◌≡◌, ◌≤◌, ◌<◌, ℕ, zero, suc, true, false, List, [], ◌∷◌, length, refl}
-use Rattle.std.proofs.Common.{sym, ◌∙◌, ap, arith, subst}
+use Rattle.std.proofs.Common.{◌≡◌, ◌<◌, ℕ, zero, suc, true, false, List, [], ◌∷◌, length, refl, sym}
+use Rattle.std.proofs.Common.{◌∙◌, arith, subst}
 use Rattle.std.specs.Prelude.{◌==◌, codes, nat_lt}
 use Rattle.std.proofs.lemmas.Bool.{ltb-true, true≢false}
 use Rattle.linx_base.specs.Sides.{other_of}
@@ -25,11 +25,11 @@ use Rattle.journal.specs.declared.effect.Effect.{Effect}
 use Rattle.journal.specs.declared.effect.Effect.TheVariants.{Found}
 use Rattle.journal.specs.declared.effect.Step.{Step}
 use Rattle.journal.specs.declared.head.Head.TheVariants.{Hunt, Tick, Wire}
-use Rattle.journal.proofs.Playing.{endpoint_kept, made, made_by, note, opens}
-use Rattle.link_laws.specs.Ends.{HasTwoEnds, IsLinkOf, node_at}
-use Rattle.link_laws.specs.Moves.{KeepsNodeLaws}
+use Rattle.journal.proofs.Playing.{made, note, opens}
+use Rattle.link_laws.specs.Ends.{HasTwoEnds, node_at}
 use Rattle.link_laws.specs.Sessions.{is_cut}
-use Rattle.link_laws.proofs.Playing.{a, b, back, l, met_at, pump, pumped, there, two_ends, up, x11}
+use Rattle.link_laws.proofs.Playing.{a, b, back, each, keeps_laws, l, met_at, one_of, only_link}
+use Rattle.link_laws.proofs.Playing.{pump, there, tick_laws, two_ends, up, wire_laws, x11}
 use Rattle.trunk.specs.Events.{IsReading, TrunkState, delivered, new_trunk, ticked_at, told_by}
 use Rattle.trunk_moves.specs.Laws.{KeepsAll}
 use Rattle.trunk_moves.specs.Packets.{answered, told_at}
@@ -43,16 +43,10 @@ infixl 1 ◌▹◌
     → IsTrunkStep two_ends P before s after → IsTrunkRun two_ends (s ∷ P) after
 ◌▹◌ {P} {s} {before} {after} run step = (before, (run, step))
 
--- the one link is one of the shape, and all that is
-one_of : IsLinkOf two_ends l
-one_of = (omega arith, omega arith)
-
+-- what the trunk of the one link becomes, all become
 all_of : (after made_so : RunTrunks) → after 1 ≡ made_so 1 → Become two_ends after made_so
 all_of after made_so same k of_shape =
-    let low = of_shape.0 in
-    let high : k.0 ≤ 1 = of_shape.1 in
-    let is : 1 ≡ k.0 = omega arith in
-    subst (λ (n : ℕ). after n ≡ made_so n) is same
+    subst (λ (h : LinkNo). after h.0 ≡ made_so h.0) (only_link k of_shape) same
 
 -- both endpoints open, and a name is hunted while the link is down
 abbrev opened_a : List Step
@@ -78,28 +72,14 @@ begins k of_shape = record {
 
 opens_a : IsTrunkStep two_ends [] (λ k. fresh) (opens 1 (codes "a") a) (λ k. fresh)
 opens_a = record {
-  laws = record {
-    makers = made_by refl;
-    endpoints = endpoint_kept refl;
-    bounds = refl;
-    effects = refl;
-    sends = tt;
-    receives = tt;
-  };
+  laws = keeps_laws refl refl refl tt tt;
   named = tt;
   makes = all_of _ _ refl;
 }
 
 opens_b : IsTrunkStep two_ends opened_a (λ k. fresh) (opens 2 (codes "b") b) (λ k. fresh)
 opens_b = record {
-  laws = record {
-    makers = made_by refl;
-    endpoints = endpoint_kept refl;
-    bounds = refl;
-    effects = refl;
-    sends = tt;
-    receives = tt;
-  };
+  laws = keeps_laws refl refl refl tt tt;
   named = tt;
   makes = all_of _ _ refl;
 }
@@ -107,14 +87,7 @@ opens_b = record {
 hunts_b : IsTrunkStep two_ends both_open (λ k. fresh)
     (made 1 (Hunt (Over l (codes "b")) (note 251 [])) []) (λ k. fresh)
 hunts_b = record {
-  laws = record {
-    makers = made_by refl;
-    endpoints = endpoint_kept refl;
-    bounds = omega arith;
-    effects = refl;
-    sends = tt;
-    receives = tt;
-  };
+  laws = keeps_laws refl (omega arith) refl tt tt;
   named = refl;
   makes = record { at = First; of_shape = one_of; node = refl; makes = all_of _ _ refl };
 }
@@ -123,29 +96,6 @@ hunted_run : IsTrunkRun two_ends hunted (λ k. fresh)
 hunted_run = begins ▹ opens_a ▹ opens_b ▹ hunts_b
 
 -- ---- the pump
-
--- the laws of nodes ask little of a packet and of a tick
-passes_laws : {P : List Step} {from : Side} {es : List Effect}
-    → KeepsNodeLaws two_ends P (pump (Wire l from Deliver) es)
-passes_laws = record {
-  makers = pumped refl;
-  endpoints = endpoint_kept refl;
-  bounds = tt;
-  effects = tt;
-  sends = tt;
-  receives = tt;
-}
-
-ticks_laws : {P : List Step} {side : Side} {es : List Effect}
-    → KeepsNodeLaws two_ends P (pump (Tick l side) es)
-ticks_laws = record {
-  makers = pumped refl;
-  endpoints = endpoint_kept refl;
-  bounds = tt;
-  effects = tt;
-  sends = tt;
-  receives = tt;
-}
 
 -- the trunk after a packet of this reading from a side, and what is told of it then
 abbrev comes : List Step → Side → Heard → TrunkState → TrunkState
@@ -163,7 +113,7 @@ came : {P : List Step} {from : Side} {es : List Effect} {t : TrunkState} → is_
     → (heard : Heard) → IsReading (handed_by from 0 t.link) heard → es ≡ brings P from heard t
     → IsTrunkStep two_ends P (λ k. t) (pump (Wire l from Deliver) es) (λ k. comes P from heard t)
 came {P} {from} {es} {t} whole flies heard read effects = record {
-  laws = passes_laws;
+  laws = wire_laws;
   named = tt;
   makes = record {
     of_shape = one_of;
@@ -185,7 +135,7 @@ asking = ticked_at First fresh
 ticks_first : IsTrunkStep two_ends hunted (λ k. fresh) (pump (Tick l First) []) (λ k. asking)
 unfolding tick_of
 ticks_first = record {
-  laws = ticks_laws;
+  laws = tick_laws;
   named = tt;
   makes = record {
     of_shape = one_of;
@@ -368,27 +318,11 @@ found_run =
 
 -- ---- the whole run
 
-one_link : (k : LinkNo) → IsLinkOf two_ends k → l ≡ k
-one_link k of_shape =
-    let low = of_shape.0 in
-    let high : k.0 ≤ 1 = of_shape.1 in
-    ap (λ (n : ℕ). let m : LinkNo = record { 0 = n } in m) (omega arith)
-
 two : HasTwoEnds two_ends
-two k of_shape First =
-    subst (λ (h : LinkNo). (node_at two_ends h First == node_at two_ends h Second) ≡ false)
-    (one_link k of_shape) refl
-two k of_shape Second =
-    subst (λ (h : LinkNo). (node_at two_ends h Second == node_at two_ends h First) ≡ false)
-    (one_link k of_shape) refl
+two = each (λ h at. (node_at two_ends h at == node_at two_ends h (other_of at)) ≡ false) refl refl
 
 fit : NodesFit two_ends
-fit k of_shape First =
-    subst (λ (h : LinkNo). node_at two_ends h First < 4294967296) (one_link k of_shape)
-    (omega arith)
-fit k of_shape Second =
-    subst (λ (h : LinkNo). node_at two_ends h Second < 4294967296) (one_link k of_shape)
-    (omega arith)
+fit = each (λ h at. node_at two_ends h at < 4294967296) (omega arith) (omega arith)
 
 -- so it is a run of moves, is legal, and keeps what is promised
 pub found_keeps_all : KeepsAll two_ends found_then (λ k. found)

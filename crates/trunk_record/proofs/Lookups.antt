@@ -1,6 +1,6 @@
 -- Sessions looked up in a side, also in one that said or was given more.
-use Rattle.std.proofs.Common.{[], ◌≡◌, ◌<◌, ℕ, true, false, cond, List, ◌∷◌, ◌++◌, Option, Some, None}
-use Rattle.std.proofs.Common.{refl, ◌∙◌, ap, arith}
+use Rattle.std.proofs.Common.{[], ◌≡◌, ◌<◌, ℕ, true, false, cond, List, ◌∷◌, ◌++◌, Option, Some}
+use Rattle.std.proofs.Common.{None, refl, ◌∙◌, ap, arith}
 use Rattle.std.specs.Prelude.{◌==◌}
 use Rattle.std.specs.List.{AllByRecursion}
 use Rattle.std.proofs.lemmas.Bool.{eq-eqb}

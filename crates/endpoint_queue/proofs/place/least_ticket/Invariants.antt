@@ -6,4 +6,5 @@ use Rattle.endpoint_queue.proofs.place.least_ticket.Given as goal
 
 -- the least ticket of the numbers so far
 abbrev pub invariant-loop-number : goal.invariant-loop-number
-invariant-loop-number l = IsLeastTicket (selects (Only (take l.number-index l.listed))) l.places l.least
+invariant-loop-number l =
+    IsLeastTicket (selects (Only (take l.number-index l.listed))) l.places l.least

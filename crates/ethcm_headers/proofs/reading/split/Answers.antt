@@ -6,7 +6,8 @@ use Rattle.ethcm_headers.proofs.Found.{too_long, headers_missing, payload_missin
 use Rattle.ethcm_headers.proofs.Found.{is_spelled}
 use Rattle.ethcm_headers.proofs.reading.split.Goals as goal
 
-pub returns-then-bytes-gt-PACKET_MOST-clause-none : goal.returns-then-bytes-gt-PACKET_MOST-clause-none
+pub returns-then-bytes-gt-PACKET_MOST-clause-none :
+    goal.returns-then-bytes-gt-PACKET_MOST-clause-none
 returns-then-bytes-gt-PACKET_MOST-clause-none c =
     λ packet spells. too_long packet c.args.bytes.now spells c.if-bytes-gt-PACKET_MOST.true
 

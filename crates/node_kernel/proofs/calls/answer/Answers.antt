@@ -7,11 +7,12 @@ use Rattle.node_kernel.proofs.calls.answer.Goals as goal
 
 pub returns-clause-effects : goal.returns-clause-effects
 returns-clause-effects c =
-    made_is c.found_at_once-made.result c.brought.result _ c.found_at_once-made.ensures c.brought.ensures.effects
+    made_is c.found_at_once-made.result c.brought.result _ c.found_at_once-made.ensures
+    c.brought.ensures.effects
 
 pub returns-clause-ok : goal.returns-clause-ok
 returns-clause-ok c =
     let after : List Effect → NodeEndpoints = λ effects. record c.args.roster.now
     { endpoints = put_all c.args.number effects c.args.roster.now.endpoints } in
-    put_is c.found_at_once-made.result c.brought.result _ after c.brought.new.roster c.found_at_once-made.ensures
-    c.brought.ensures.effects c.brought.ensures.ok
+    put_is c.found_at_once-made.result c.brought.result _ after c.brought.new.roster
+    c.found_at_once-made.ensures c.brought.ensures.effects c.brought.ensures.ok

@@ -7,11 +7,12 @@ use Rattle.node_kernel.proofs.calls.notify_dead.Goals as goal
 
 pub returns-clause-effects : goal.returns-clause-effects
 returns-clause-effects c =
-    made_is c.dead_notice-made.result c.brought.result _ c.dead_notice-made.ensures c.brought.ensures.effects
+    made_is c.dead_notice-made.result c.brought.result _ c.dead_notice-made.ensures
+    c.brought.ensures.effects
 
 pub returns-clause-ok : goal.returns-clause-ok
 returns-clause-ok c =
     let after : List Effect → NodeEndpoints = λ effects. record c.args.roster.now
     { endpoints = put_all c.args.r.0 effects c.args.roster.now.endpoints } in
-    put_is c.dead_notice-made.result c.brought.result _ after c.brought.new.roster c.dead_notice-made.ensures
-    c.brought.ensures.effects c.brought.ensures.ok
+    put_is c.dead_notice-made.result c.brought.result _ after c.brought.new.roster
+    c.dead_notice-made.ensures c.brought.ensures.effects c.brought.ensures.ok

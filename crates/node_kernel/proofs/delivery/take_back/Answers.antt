@@ -6,7 +6,8 @@ use Rattle.node_kernel.proofs.delivery.take_back.Goals as goal
 
 pub returns-in-Some-clause-same : goal.returns-in-Some-clause-same
 returns-in-Some-clause-same c =
-    ap (map name_entry) c.take_last.ensures ∙ same_changed c.in-Some.to without_last c.args.endpoints.now
+    ap (map name_entry) c.take_last.ensures
+    ∙ same_changed c.in-Some.to without_last c.args.endpoints.now
 
 pub returns-in-Some-clause-back : goal.returns-in-Some-clause-back
 returns-in-Some-clause-back c = λ pos before is.

@@ -7,8 +7,8 @@ use Rattle.journal.specs.Effects.{held_elsewhere, notice, notices}
 use Rattle.attach_table.specs.Attaches.{HaveRoom}
 use Rattle.node_kernel.proofs.rules.add_notices_elsewhere.Given as goal
 
--- the notifications so far, and those of the attaches that are left and that another endpoint holds,
--- are all
+-- the notifications so far, and those of the attaches that are left and that another endpoint
+-- holds, are all
 abbrev pub invariant-loop-attach : goal.invariant-loop-attach
 invariant-loop-attach l = record {
   told : l.effects ++ map (notice Closed) (filter (λ a. not (same_inc l.inc a.at)) l.left)

@@ -5,7 +5,7 @@ use Rattle.carrier.specs.Events.{handed_by}
 use Rattle.rlnh_end.specs.declared.heard.Heard.{Heard}
 use Rattle.trunk.specs.Events.{IsReading, TrunkState, delivered, kept_of}
 use Rattle.run_trunks.specs.States.{HasLink, TrunksState, over, trunks_of}
-use Rattle.run_trunks.proofs.Begun.{up-silent}
+use Rattle.run_cases.proofs.Begun.{up-silent}
 use Rattle.run_trunks.proofs.Rested.{reads-changed}
 use Rattle.run_cases.proofs.trunk_calls.deliver_to_open.Goals as goal
 

@@ -18,8 +18,8 @@ of-requires-2 g c =
 pub returns : goal.returns
 returns g c =
     let at = c.chunk_for-at.result in
-    let later = take_rest c.args.chunks.now (at + 1) ∙ ap (λ n. drop n c.args.chunks.now) (add-one at)
-    in
+    let later =
+    take_rest c.args.chunks.now (at + 1) ∙ ap (λ n. drop n c.args.chunks.now) (add-one at) in
     c.of-2.ensures
     ∙ (λ i. c.part_from.ensures i ++ joined (later i))
     ∙ sym (from_parts g.T.Ord.cmp c.args.from.now c.args.chunks.now at c.chunk_for-at.ensures

@@ -53,8 +53,8 @@ made c =
     let same = kernel-is acts.at c.index.result.now c.index.ensures
     ∙ sym (kernel-is acts.at c.index_mut.result.now c.index_mut.ensures.value) in
     made-told c.self.view_is c.make_call-made.new.journal.log c.tell_call.new.trunks
-    c.keep_told.new.trunks _ c.in-Ok.ensures.links (rw same at c.in-Ok.ensures.is) c.keep_told.ensures _
-    c.args.actor (ask_of c.args.call) c.in-Ok-made.answer
+    c.keep_told.new.trunks _ c.in-Ok.ensures.links (rw same at c.in-Ok.ensures.is)
+    c.keep_told.ensures _ c.args.actor (ask_of c.args.call) c.in-Ok-made.answer
     (made-call acts c.in-Some.at mine c.index_mut.result.now c.make_call-made.new.kernel
     c.index_mut.ensures.value c.index_mut-in-Ok-made.result.now c.call.new.self
     c.index_mut-in-Ok-made.ensures.value c.make_call-made.new.journal.log c.in-Ok-made.answer

@@ -31,7 +31,8 @@ returns-in-Ok-clause-ok c =
     let acts = acting-home seen c.args.actor c.requires.asked.may.maker c.requires.asked.short in
     let of_shape = back seen (λ (v : Layout). IsLinkOf v.shape c.args.link)
     (mark-fits c.args.self.now _ _ c.args.mark c.args.link c.requires.asked.may.fits) in
-    makes-seen seen _ c.args.actor (asking (event_of_mark c.args.mark c.args.link) None) answers.Done
+    makes-seen seen _ c.args.actor (asking (event_of_mark c.args.mark c.args.link) None)
+    answers.Done
     (made-marked acts c.args.link of_shape c.args.mark c.index_mut.result.now c.mark.new.self
     c.index_mut.ensures.value c.mark.ensures c.index_mut-in-Ok.result.now c.wait.new.self
     c.index_mut-in-Ok.ensures.value c.wait.ensures c.make_quiet.new.journal.log

@@ -9,7 +9,8 @@ invariant_of-self c =
     let new = c.take_back_all.new.endpoints in
     let old = c.self.inside.endpoints in
     let len : length new ≡ old.len = omega arith in
-    let same : map name_entry new ≡ map name_entry c.deref_mut.result.now = c.take_back_all.ensures.same in
+    let same : map name_entry new ≡ map name_entry c.deref_mut.result.now =
+    c.take_back_all.ensures.same in
     kept_alike_of c.self.invariant (take old.len (new ++ drop (length new) old.items))
     (ap (map name_entry) (take_at new (drop (length new) old.items) old.len len) ∙ same
     ∙ ap (map name_entry) c.deref_mut.ensures.value)

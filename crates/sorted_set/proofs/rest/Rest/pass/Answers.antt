@@ -19,5 +19,5 @@ returns g c =
     let here = c.self.inside.here.now in
     let later = c.self.inside.later.now in
     let some : 0 < length here = grind (arith, nat_tests) in
-    c.self-2.view_is ∙ c.of.ensures ∙ ap (λ l. l ++ joined later) (take_rest here 1) ∙ one_left here later some
-    ∙ ap (drop 1) c.self.view_is
+    c.self-2.view_is ∙ c.of.ensures ∙ ap (λ l. l ++ joined later) (take_rest here 1)
+    ∙ one_left here later some ∙ ap (drop 1) c.self.view_is

@@ -34,10 +34,11 @@ use Rattle.journal.specs.Pending.{hunting, owed}
 use Rattle.journal.specs.Queues.{queued}
 use Rattle.journal.specs.Rest.{is_idle}
 use Rattle.journal.specs.Traffic.{sent_to, arrived_from}
-use Rattle.journal.specs.Laws.{IsLegal}
-use Rattle.journal.proofs.Playing.{acts, at_rest, ◌▸◌, one_actor, two_actors, three_actors, first}
+use Rattle.journal.proofs.Playing.{at_rest, one_actor, two_actors, three_actors, first}
 use Rattle.journal.proofs.Playing.{second, third, made, note, at, ref, opens, closes, sends, takes}
 use Rattle.journal.proofs.Playing.{ends, item}
+use Rattle.link_laws.specs.Laws.{IsLegal}
+use Rattle.link_laws.proofs.Playing.{acts, finds_none, no_links, ◌▸◌}
 
 -- SELF SEND AND RECEIVE
 abbrev self_send : List Step
@@ -111,7 +112,7 @@ negated =
 negated_is_legal : IsLegal one_actor (ends 1 (Closed first ∷ []) ∷ negated)
 negated_is_legal =
     tt ▸ acts refl refl refl tt tt ▸ acts refl (omega arith) refl refl tt
-    ▸ acts refl tt refl tt (refl, at_rest refl) ▸ acts refl tt refl tt tt
+    ▸ finds_none refl (refl, at_rest refl) no_links ▸ acts refl tt refl tt tt
 
 negated_leaves_the_signal : queued negated first ≡ item (note 8 []) first Plain (at 2 1) ∷ []
 negated_leaves_the_signal = refl
@@ -180,7 +181,7 @@ finds_the_open_one_is_legal =
     tt ▸ acts refl refl refl tt tt ▸ acts refl refl refl tt tt ▸ acts refl refl refl tt tt
     ▸ acts refl tt refl tt tt ▸ acts refl tt refl tt (refl, refl)
     ▸ acts refl (omega arith) refl tt tt ▸ acts refl tt refl tt tt ▸ acts refl tt refl tt refl
-    ▸ acts refl tt refl tt tt ▸ acts refl tt refl tt (refl, at_rest refl)
+    ▸ acts refl tt refl tt tt ▸ finds_none refl (refl, at_rest refl) no_links
     ▸ acts refl tt refl tt tt
 
 first_opened_is_found : find two_of_a_name 1 (Local (codes "x")) ≡ Some (Here first)
@@ -266,7 +267,7 @@ detached_twice_is_legal : IsLegal two_actors
     (ends 1 (Closed first ∷ []) ∷ made 1 (TakeNone (Only (252 ∷ []))) [] ∷ detached_twice)
 detached_twice_is_legal =
     told_dead_is_legal ▸ acts refl tt refl tt refl ▸ acts refl tt refl tt refl
-    ▸ acts refl tt refl tt (refl, at_rest refl) ▸ acts refl tt refl tt tt
+    ▸ finds_none refl (refl, at_rest refl) no_links ▸ acts refl tt refl tt tt
 
 dead_is_queued : queued told_dead first ≡
     item (note 252 (2 ∷ [])) second (Notice (ref 15)) (at 15 1) ∷ []
@@ -341,7 +342,7 @@ restart_leaves_none_owed = refl
 second_lost_its_endpoint : is_none (endpoint_of restarted 2) ≡ true
 second_lost_its_endpoint = refl
 
--- WHAT LINKS WILL BRING: a peer that is met answers the hunts for its path; one that parts is told
+-- WHAT LINKS BRING: a peer that is met answers the hunts for its path; one that parts is told
 -- as closed, one of a lost session as lost, each with the byte of its reason
 abbrev pub link : LinkNo
 link = record { 0 = 1 }

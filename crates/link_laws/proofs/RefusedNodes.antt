@@ -1,100 +1,38 @@
--- Runs that the laws refuse: after a legal history stands a step that breaks one law alone.
-use Rattle.std.proofs.Common.{◌≡◌, ℕ, ◌≤◌, ◌==◌, Bool, true, false, List, [], ◌∷◌, length}
-use Rattle.std.proofs.Common.{replicate, Some, None, refl, ap, arith}
-use Rattle.std.specs.Prelude.{codes}
-use Rattle.std.specs.Prelude.{sum_by}
-use Rattle.std.proofs.lemmas.Bool.{eqb-false}
+-- Runs of one node that the laws refuse: after a legal history stands a step that breaks one law
+-- alone.
+use Rattle.std.proofs.Common.{◌≡◌, ℕ, ◌≤◌, true, false, List, [], ◌∷◌, length, replicate, Some}
+use Rattle.std.proofs.Common.{None, refl, ap, arith}
+use Rattle.std.specs.Prelude.{codes, sum_by}
 use Rattle.std.proofs.lemmas.List.{length-replicate}
 use Rattle.linx_base.specs.Content.{reason_byte}
 use Rattle.linx_base.specs.Numbers.{inc_of}
 use Rattle.linx_base.specs.declared.identity.Inc.{Inc}
 use Rattle.linx_base.specs.declared.identity.ItemAt.{ItemAt}
-use Rattle.linx_base.specs.declared.identity.LinkNo.{LinkNo}
 use Rattle.linx_base.specs.declared.identity.Peer.TheVariants.{Here}
-use Rattle.linx_base.specs.declared.identity.Side.TheVariants.{First as FirstSide}
 use Rattle.linx_base.specs.declared.name.Path.TheVariants.{Local}
 use Rattle.linx_base.specs.declared.signal.Reason.{Reason}
 use Rattle.linx_base.specs.declared.signal.Reason.TheVariants as reasons
 use Rattle.sigsel.specs.Selection.{first_selected}
 use Rattle.sigsel.specs.declared.sigsel.Sigsel.TheVariants.{Any}
-use Rattle.journal.specs.declared.by.By.TheVariants.{Pump}
 use Rattle.journal.specs.declared.head.Detached.TheVariants.{Pending, None as Neither}
 use Rattle.journal.specs.declared.head.Head.TheVariants.{Open, Close, Send, TakeNone, Waits, Hunt}
-use Rattle.journal.specs.declared.head.Head.TheVariants.{Attach, Detach, Cut, Restart, Tick}
+use Rattle.journal.specs.declared.head.Head.TheVariants.{Attach, Detach, Restart}
 use Rattle.journal.specs.declared.head.SentTo.TheVariants.{Queued, Dead}
 use Rattle.journal.specs.declared.effect.Effect.{Effect}
 use Rattle.journal.specs.declared.effect.Effect.TheVariants.{Opened, Closed, Arrived, Found}
 use Rattle.journal.specs.declared.effect.Effect.TheVariants.{Notified}
 use Rattle.journal.specs.declared.effect.Step.{Step}
-use Rattle.journal.specs.History.{endpoint_by}
 use Rattle.journal.specs.Logs.{effect_bytes}
 use Rattle.journal.specs.Queues.{queued}
-use Rattle.journal.specs.Shapes.{Shape, node_by}
-use Rattle.journal.specs.Laws.{KeepsMakers, KeepsEndpoints, IsBounded, KeepsSends, KeepsReceives}
-use Rattle.journal.specs.Laws.{IsLegal, effects_by, is_on_link}
-use Rattle.journal.proofs.Playing.{acts, at_rest, made_by, endpoint_kept, ◌▸◌, one_actor}
+use Rattle.journal.proofs.Playing.{at_rest, made_by, endpoint_kept, one_actor}
 use Rattle.journal.proofs.Playing.{two_actors, three_actors, first, second, third, made, note, at}
 use Rattle.journal.proofs.Playing.{ref, opens, closes, sends, takes, ends}
-use Rattle.journal.proofs.Worked.{told_dead, told_dead_is_legal, two_holders, two_holders_is_legal}
-
--- the laws of a step
-data Law : Type 0 where
-  makers : Law
-  endpoints : Law
-  bounds : Law
-  effects : Law
-  sending : Law
-  receiving : Law
-  unlinked : Law
-
-abbrev law_number : Law → ℕ
-law_number makers = 1
-law_number endpoints = 2
-law_number bounds = 3
-law_number effects = 4
-law_number sending = 5
-law_number receiving = 6
-law_number unlinked = 7
-
--- a step after P keeps a law
-abbrev Keeps : Shape → List Step → Step → Law → Type 0
-Keeps shape P s makers = KeepsMakers shape P s.by s.head
-Keeps shape P s endpoints = KeepsEndpoints (endpoint_by P s.by) s.head
-Keeps shape P s bounds = IsBounded s.head
-Keeps shape P s effects =
-    s.effects ≡ effects_by P (node_by shape s.by) (endpoint_by P s.by) s.head
-Keeps shape P s sending = KeepsSends P (node_by shape s.by) s.head
-Keeps shape P s receiving =
-    KeepsReceives shape P (node_by shape s.by) s.by (endpoint_by P s.by) s.head
-Keeps shape P s unlinked = is_on_link s.head ≡ false
-
--- this holds, or is left out
-abbrev Unless : Bool → Type 0 → Type 0
-Unless true A = Unit {0}
-Unless false A = A
-
--- it keeps a law, if it isn't this one
-abbrev KeepsOther : Shape → List Step → Step → Law → Law → Type 0
-KeepsOther shape P s law other =
-    Unless (law_number law == law_number other) (Keeps shape P s other)
-
--- it keeps all laws but this one
-abbrev KeepsAllBut : Shape → List Step → Step → Law → Type 0
-KeepsAllBut shape P s law =
-    KeepsOther shape P s law makers × KeepsOther shape P s law endpoints
-    × KeepsOther shape P s law bounds × KeepsOther shape P s law effects
-    × KeepsOther shape P s law sending × KeepsOther shape P s law receiving
-    × KeepsOther shape P s law unlinked
-
--- after a legal history stands a step that breaks one law, and no other
-record Breaks (shape : Shape) (P : List Step) (s : Step) (law : Law) : Type 0 where
-  before : IsLegal shape P
-  broken : ¬ (Keeps shape P s law)
-  others : KeepsAllBut shape P s law
-
--- what differs by a number, differs
-differ : {X : Type 0} {x y : X} (f : X → ℕ) → (f x == f y) ≡ false → ¬ (x ≡ y)
-differ {X} {x} {y} f apart same = eqb-false (f x) (f y) apart (ap f same)
+use Rattle.link_laws.specs.Laws.{IsLegal}
+use Rattle.link_laws.proofs.Playing.{acts, finds_none, no_links, pump, two_ends, ◌▸◌}
+use Rattle.link_laws.proofs.Refusing.{Breaks, bounds, differ, effects, endpoints, makers}
+use Rattle.link_laws.proofs.Refusing.{receiving, sending}
+use Rattle.link_laws.proofs.WorkedNodes.{told_dead, told_dead_is_legal, two_holders}
+use Rattle.link_laws.proofs.WorkedNodes.{two_holders_is_legal}
 
 -- the numbers of the hunts that effects answer, and the bytes of the reasons that they tell, in sum
 abbrev hunt_answered : Effect → ℕ
@@ -140,33 +78,12 @@ two_open = opens 2 (codes "b") second ∷ one_open
 two_open_is_legal : IsLegal two_actors two_open
 two_open_is_legal = tt ▸ acts refl refl refl tt tt ▸ acts refl refl refl tt tt
 
--- a link between nodes 1 and 2, and one actor
-abbrev link : LinkNo
-link = record { 0 = 1 }
-
-abbrev one_link : Shape
-one_link = record {
-  links = record {
-    first = record { 0 = 1 };
-    second = record { 0 = 2 };
-    window = 1;
-    piece = 64;
-  } ∷ [];
-  actors = record { 0 = 1 } ∷ [];
-}
-
 -- MAKERS. A pump opens an endpoint
-pump_opens : Breaks one_link []
-    (record {
-      by = Pump link;
-      head = Open (codes "a");
-      effects = Opened (inc_of 0 1) ∷ [];
-    })
-    makers
+pump_opens : Breaks two_ends [] (pump (Open (codes "a")) (Opened (inc_of 0 1) ∷ [])) makers
 pump_opens = record {
   before = tt;
   broken = λ kept. let wrong : false ≡ true = kept.may in cc;
-  others = (tt, endpoint_kept refl, refl, refl, tt, tt, refl);
+  others = (tt, endpoint_kept refl, refl, refl, tt, tt, tt, tt, tt, tt);
 }
 
 -- an actor opens an endpoint after its end
@@ -174,7 +91,7 @@ ended_actor_opens : Breaks one_actor (ends 1 [] ∷ []) (opens 1 (codes "a") fir
 ended_actor_opens = record {
   before = tt ▸ acts refl tt refl tt tt;
   broken = λ kept. let wrong : true ≡ false = kept.maker.2 in cc;
-  others = (tt, endpoint_kept refl, refl, refl, tt, tt, refl);
+  others = (tt, endpoint_kept refl, refl, refl, tt, tt, tt, tt, tt, tt);
 }
 
 -- an actor acts that the shape doesn't have
@@ -182,7 +99,7 @@ stranger_opens : Breaks one_actor [] (opens 2 (codes "a") (inc_of 0 1)) makers
 stranger_opens = record {
   before = tt;
   broken = λ kept. let within : 2 ≤ 1 = kept.maker.1 in omega arith;
-  others = (tt, endpoint_kept refl, refl, refl, tt, tt, refl);
+  others = (tt, endpoint_kept refl, refl, refl, tt, tt, tt, tt, tt, tt);
 }
 
 -- ENDPOINTS. An actor opens a second endpoint
@@ -190,7 +107,7 @@ opens_a_second : Breaks one_actor one_open (opens 1 (codes "b") second) endpoint
 opens_a_second = record {
   before = one_open_is_legal;
   broken = λ kept. let wrong : false ≡ true = kept.opens refl in cc;
-  others = (made_by refl, tt, refl, refl, tt, tt, refl);
+  others = (made_by refl, tt, refl, refl, tt, tt, tt, tt, tt, tt);
 }
 
 -- one that has none closes it
@@ -198,7 +115,7 @@ closes_none : Breaks one_actor [] (made 1 Close []) endpoints
 closes_none = record {
   before = tt;
   broken = λ kept. let wrong : false ≡ true = kept.needs refl in cc;
-  others = (made_by refl, tt, tt, refl, tt, tt, refl);
+  others = (made_by refl, tt, tt, refl, tt, tt, tt, tt, tt, tt);
 }
 
 -- BOUNDS. An endpoint is opened with what is no name
@@ -206,7 +123,7 @@ opens_no_name : Breaks one_actor [] (opens 1 (codes "a b") first) bounds
 opens_no_name = record {
   before = tt;
   broken = λ named. let wrong : false ≡ true = named in cc;
-  others = (made_by refl, endpoint_kept refl, tt, refl, tt, tt, refl);
+  others = (made_by refl, endpoint_kept refl, tt, refl, tt, tt, tt, tt, tt, tt);
 }
 
 -- the signal of an attach leaves no byte for the reason
@@ -216,7 +133,7 @@ attaches_too_much : Breaks one_actor one_open
 attaches_too_much = record {
   before = one_open_is_legal;
   broken = λ fits. omega (arith, length-replicate {A = ℕ} 65532 0);
-  others = (made_by refl, endpoint_kept refl, tt, refl, tt, tt, refl);
+  others = (made_by refl, endpoint_kept refl, tt, refl, tt, tt, tt, tt, tt, tt);
 }
 
 -- EFFECTS. An incarnation is opened again
@@ -225,7 +142,7 @@ incarnation_used_again = record {
   before = one_closed_is_legal;
   broken = λ same. let wrong : first ≡ second = cc in
       let number : first.0 ≡ second.0 = ap (λ (i : Inc). i.0) wrong in omega arith;
-  others = (made_by refl, endpoint_kept refl, refl, tt, tt, tt, refl);
+  others = (made_by refl, endpoint_kept refl, refl, tt, tt, tt, tt, tt, tt, tt);
 }
 
 -- a signal is sent to a living endpoint, and doesn't arrive
@@ -234,7 +151,7 @@ signal_never_arrives : Breaks one_actor one_open (made 1 (Send (Here first) (not
 signal_never_arrives = record {
   before = one_open_is_legal;
   broken = differ length refl;
-  others = (made_by refl, endpoint_kept refl, omega arith, tt, refl, tt, refl);
+  others = (made_by refl, endpoint_kept refl, omega arith, tt, refl, tt, tt, tt, tt, tt);
 }
 
 -- two hunters wait for a name
@@ -259,7 +176,7 @@ later_hunt_first = record {
   before = two_hunts_is_legal;
   broken = λ same. let wrong : second ≡ first = cc in
       let number : second.0 ≡ first.0 = ap (λ (i : Inc). i.0) wrong in omega arith;
-  others = (made_by refl, endpoint_kept refl, refl, tt, tt, tt, refl);
+  others = (made_by refl, endpoint_kept refl, refl, tt, tt, tt, tt, tt, tt, tt);
 }
 
 -- one answer names another hunt
@@ -268,7 +185,7 @@ another_hunt_named : Breaks three_actors two_hunts
 another_hunt_named = record {
   before = two_hunts_is_legal;
   broken = differ hunts_answered refl;
-  others = (made_by refl, endpoint_kept refl, refl, tt, tt, tt, refl);
+  others = (made_by refl, endpoint_kept refl, refl, tt, tt, tt, tt, tt, tt, tt);
 }
 
 -- the answers stand before the opening
@@ -277,7 +194,7 @@ answers_before_opening : Breaks three_actors two_hunts
 answers_before_opening = record {
   before = two_hunts_is_legal;
   broken = λ same. cc;
-  others = (made_by refl, endpoint_kept refl, refl, tt, tt, tt, refl);
+  others = (made_by refl, endpoint_kept refl, refl, tt, tt, tt, tt, tt, tt, tt);
 }
 
 -- of two holders the first alone is told of a close
@@ -288,7 +205,7 @@ one_holder_told : Breaks three_actors two_holders
 one_holder_told = record {
   before = two_holders_is_legal;
   broken = differ length refl;
-  others = (made_by refl, endpoint_kept refl, tt, tt, tt, tt, refl);
+  others = (made_by refl, endpoint_kept refl, tt, tt, tt, tt, tt, tt, tt, tt);
 }
 
 -- a holder waits for the end of the second endpoint
@@ -308,7 +225,7 @@ reason_without_byte : Breaks two_actors one_holder (tells [] reasons.Closed) eff
 reason_without_byte = record {
   before = one_holder_is_legal;
   broken = differ bytes_told refl;
-  others = (made_by refl, endpoint_kept refl, tt, tt, tt, tt, refl);
+  others = (made_by refl, endpoint_kept refl, tt, tt, tt, tt, tt, tt, tt, tt);
 }
 
 -- it is told of a close as of a loss
@@ -316,7 +233,7 @@ close_told_as_lost : Breaks two_actors one_holder (tells (1 ∷ []) reasons.Lost
 close_told_as_lost = record {
   before = one_holder_is_legal;
   broken = differ reasons_told refl;
-  others = (made_by refl, endpoint_kept refl, tt, tt, tt, tt, refl);
+  others = (made_by refl, endpoint_kept refl, tt, tt, tt, tt, tt, tt, tt, tt);
 }
 
 -- a restart leaves an endpoint of its node open
@@ -325,7 +242,7 @@ restart_leaves_one : Breaks two_actors two_open
 restart_leaves_one = record {
   before = two_open_is_legal;
   broken = differ length refl;
-  others = (made_by refl, endpoint_kept refl, tt, tt, tt, tt, refl);
+  others = (made_by refl, endpoint_kept refl, tt, tt, tt, tt, tt, tt, tt, tt);
 }
 
 -- SENDS. A signal arrives, and its sender is told that the peer was dead
@@ -336,7 +253,7 @@ living_said_dead : Breaks one_actor one_open
 living_said_dead = record {
   before = one_open_is_legal;
   broken = λ same. cc;
-  others = (made_by refl, endpoint_kept refl, omega arith, refl, tt, tt, refl);
+  others = (made_by refl, endpoint_kept refl, omega arith, refl, tt, tt, tt, tt, tt, tt);
 }
 
 -- a signal to a dead peer is said to be queued
@@ -345,7 +262,7 @@ dead_said_queued : Breaks one_actor one_open
 dead_said_queued = record {
   before = one_open_is_legal;
   broken = λ same. cc;
-  others = (made_by refl, endpoint_kept refl, omega arith, refl, tt, tt, refl);
+  others = (made_by refl, endpoint_kept refl, omega arith, refl, tt, tt, tt, tt, tt, tt);
 }
 
 -- RECEIVES. Of two selected items the later is taken
@@ -353,7 +270,7 @@ later_item_taken : Breaks one_actor two_sent (takes 1 Any (at 3 1)) receiving
 later_item_taken = record {
   before = two_sent_is_legal;
   broken = λ same. let steps : 2 ≡ 3 = ap (λ (p : ItemAt). p.step) same in omega arith;
-  others = (made_by refl, endpoint_kept refl, tt, refl, tt, tt, refl);
+  others = (made_by refl, endpoint_kept refl, tt, refl, tt, tt, tt, tt, tt, tt);
 }
 
 -- none is found where an item is selected
@@ -361,7 +278,7 @@ selected_item_not_found : Breaks one_actor two_sent (made 1 (TakeNone Any) []) r
 selected_item_not_found = record {
   before = two_sent_is_legal;
   broken = λ none. let wrong : first_selected Any (queued two_sent first) ≡ None = none.0 in cc;
-  others = (made_by refl, endpoint_kept refl, tt, refl, tt, tt, refl);
+  others = (made_by refl, endpoint_kept refl, tt, refl, tt, tt, no_links, tt, tt, tt);
 }
 
 -- none is found while another actor is busy
@@ -371,7 +288,7 @@ none_while_another_acts = record {
   broken = λ none.
       let wrong : false ≡ true =
       none.1.others 2 (omega arith) (omega arith) (λ same. omega arith) in cc;
-  others = (made_by refl, endpoint_kept refl, tt, refl, tt, tt, refl);
+  others = (made_by refl, endpoint_kept refl, tt, refl, tt, tt, no_links, tt, tt, tt);
 }
 
 -- of two that wait in vain the second is told so first
@@ -388,19 +305,19 @@ greater_number_first = record {
   broken = λ none.
       let wrong : false ≡ true =
       none.1.others 1 (omega arith) (omega arith) (λ same. omega arith) in cc;
-  others = (made_by refl, endpoint_kept refl, tt, refl, tt, tt, refl);
+  others = (made_by refl, endpoint_kept refl, tt, refl, tt, tt, no_links, tt, tt, tt);
 }
 
 -- the lesser may
 lesser_number_first : IsLegal two_actors (made 1 (TakeNone Any) [] ∷ two_wait)
-lesser_number_first = two_wait_is_legal ▸ acts refl tt refl tt (refl, at_rest refl)
+lesser_number_first = two_wait_is_legal ▸ finds_none refl (refl, at_rest refl) no_links
 
 -- an actor says twice in a row that it waits
 waits_twice : Breaks two_actors two_wait (made 2 (Waits Any) []) receiving
 waits_twice = record {
   before = two_wait_is_legal;
   broken = λ waits. let wrong : Some Any ≡ None = waits.1 in cc;
-  others = (made_by refl, endpoint_kept refl, tt, refl, tt, tt, refl);
+  others = (made_by refl, endpoint_kept refl, tt, refl, tt, tt, tt, tt, tt, tt);
 }
 
 -- it waits where an item is selected
@@ -408,7 +325,7 @@ waits_at_an_item : Breaks one_actor two_sent (made 1 (Waits Any) []) receiving
 waits_at_an_item = record {
   before = two_sent_is_legal;
   broken = λ waits. let wrong : first_selected Any (queued two_sent first) ≡ None = waits.0 in cc;
-  others = (made_by refl, endpoint_kept refl, tt, refl, tt, tt, refl);
+  others = (made_by refl, endpoint_kept refl, tt, refl, tt, tt, tt, tt, tt, tt);
 }
 
 -- a detach of what is owed is answered that there was none
@@ -416,7 +333,7 @@ owed_said_none : Breaks two_actors one_holder (made 1 (Detach (ref 3) Neither) [
 owed_said_none = record {
   before = one_holder_is_legal;
   broken = λ same. cc;
-  others = (made_by refl, endpoint_kept refl, tt, refl, tt, tt, refl);
+  others = (made_by refl, endpoint_kept refl, tt, refl, tt, tt, tt, tt, tt, tt);
 }
 
 -- a detach of what is queued is answered that it was owed
@@ -424,29 +341,5 @@ queued_said_pending : Breaks two_actors told_dead (made 1 (Detach (ref 15) Pendi
 queued_said_pending = record {
   before = told_dead_is_legal;
   broken = λ same. cc;
-  others = (made_by refl, endpoint_kept refl, tt, refl, tt, tt, refl);
-}
-
--- UNLINKED. As yet no step is made on a link: by an actor, or by its pump
-actor_cuts : Breaks one_link [] (made 1 (Cut link) []) unlinked
-actor_cuts = record {
-  before = tt;
-  broken = λ same. let wrong : true ≡ false = same in cc;
-  others = (made_by refl, endpoint_kept refl, tt, refl, tt, tt, tt);
-}
-
-pump_ticks : Breaks one_link []
-    (record { by = Pump link; head = Tick link FirstSide; effects = [] }) unlinked
-pump_ticks = record {
-  before = tt;
-  broken = λ same. let wrong : true ≡ false = same in cc;
-  others = (
-    record { maker = (omega arith, omega arith); may = refl },
-    endpoint_kept refl,
-    tt,
-    refl,
-    tt,
-    tt,
-    tt,
-  );
+  others = (made_by refl, endpoint_kept refl, tt, refl, tt, tt, tt, tt, tt, tt);
 }
