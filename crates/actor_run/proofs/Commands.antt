@@ -15,8 +15,9 @@ use Rattle.script_words.specs.Filling.{data_of}
 use Rattle.node_kernel.specs.Answers.{is_pump_event, is_end_event}
 use Rattle.node_kernel.specs.declared.ask.Ask.{Ask}
 use Rattle.actor_run.specs.Knowing.{Knows, stopped_with}
-use Rattle.actor_run.specs.Asking.{ask_of, ask_send, ask_forward, ask_attach, ask_detach, peer_of}
-use Rattle.actor_run.specs.Asking.{signal_of, is_sending, is_forward, asked_by, lends, handed}
+use Rattle.actor_run.specs.Asking.{ask_of, ask_send, ask_forward, ask_attach, ask_detach}
+use Rattle.actor_run.specs.Asking.{peer_named, signal_of, is_sending, is_forward, asked_by, lends}
+use Rattle.actor_run.specs.Asking.{handed}
 use Rattle.actor_run.specs.Bindings.{lookup}
 
 -- what holds of the ask of every command, by what was held
@@ -68,8 +69,8 @@ asks_well k me (Some Close) =
     no_forward k.held (Some Close) (ask_of k me (Some Close)) refl refl
 asks_well k me (Some (Send to number bytes)) =
     no_forward k.held (Some (Send to number bytes)) (ask_of k me (Some (Send to number bytes))) refl
-    (send_unpumped (peer_of k me to) (signal_of number (data_of bytes)))
-asks_well k me (Some (Forward to)) = forwards k.held (peer_of k me to) (Some (Forward to))
+    (send_unpumped (peer_named k me to) (signal_of number (data_of bytes)))
+asks_well k me (Some (Forward to)) = forwards k.held (peer_named k me to) (Some (Forward to))
 asks_well k me (Some (Recv filter)) =
     no_forward k.held (Some (Recv filter)) (ask_of k me (Some (Recv filter))) refl refl
 asks_well k me (Some (Hunt path number bytes)) =
@@ -78,7 +79,7 @@ asks_well k me (Some (Hunt path number bytes)) =
 asks_well k me (Some (Attach to r number bytes)) =
     no_forward k.held (Some (Attach to r number bytes))
     (ask_of k me (Some (Attach to r number bytes))) refl
-    (attach_unpumped (peer_of k me to) (signal_of number (data_of bytes)))
+    (attach_unpumped (peer_named k me to) (signal_of number (data_of bytes)))
 asks_well k me (Some (Detach r)) =
     no_forward k.held (Some (Detach r)) (ask_of k me (Some (Detach r))) refl
     (detach_unpumped (lookup k.refs r))

@@ -16,7 +16,7 @@ use Rattle.journal.specs.Rest.{waits_in}
 use Rattle.journal.specs.History.{is_end, last_opened}
 use Rattle.node_kernel.specs.Answers.{event_of, granted_by, is_pump_event, is_pumped, is_end_event}
 use Rattle.node_kernel.specs.Answers.{is_waits, is_not_yet, answer_of, opened_as, needs_endpoint}
-use Rattle.node_kernel.specs.Answers.{is_opening, refused}
+use Rattle.node_kernel.specs.Answers.{asks_to_open, refused}
 use Rattle.node_kernel.specs.declared.ask.Ask.{Ask}
 use Rattle.actor_run.specs.Asking.{is_sending}
 
@@ -48,8 +48,8 @@ end_only (asks.Refuse reason) h = cc
 end_only (asks.Wire link from verdict) h = cc
 end_only (asks.Tick link side) h = cc
 
-opening_no_end : (e : Event) → is_opening e ≡ true → is_end_event e ≡ false
-opening_no_end e = never (is_opening e) (is_end_event e) (λ end. ap is_opening (end_only e end))
+opening_no_end : (e : Event) → asks_to_open e ≡ true → is_end_event e ≡ false
+opening_no_end e = never (asks_to_open e) (is_end_event e) (λ end. ap asks_to_open (end_only e end))
 
 needs_no_end : (e : Event) → needs_endpoint e ≡ true → is_end_event e ≡ false
 needs_no_end e =
@@ -93,7 +93,8 @@ if_refused true reason ask no_end =
 
 grants : (me : Option Inc) (at : ℕ) (ask : Ask)
     → (granted_by me at ask ≡ ask) ⊎ IsRefusal ask (granted_by me at ask)
-grants (Some i) at ask = if_refused (is_opening ask.event) (IsOpen i) ask (opening_no_end ask.event)
+grants (Some i) at ask =
+    if_refused (asks_to_open ask.event) (IsOpen i) ask (opening_no_end ask.event)
 grants None at ask = if_refused (needs_endpoint ask.event) (NotOpen at) ask (needs_no_end ask.event)
 
 -- an end is granted, and nothing else is made an end

@@ -17,7 +17,7 @@ use Rattle.node_kernel.specs.declared.ask.Ask.{Ask}
 use Rattle.actor_run.specs.Knowing.{Knows, told, learned, moved_on, knows_nothing, stopped_with}
 use Rattle.actor_run.specs.Asking.{asked_by, handed, is_sending}
 use Rattle.actor_run.specs.Following.{is_own, knows, endpoint_after, Follows, FollowsWhole, Playing}
-use Rattle.actor_run.specs.Following.{IsMade, MakesAsked, IsTurned}
+use Rattle.actor_run.specs.Following.{IsMadeFor, MakesAsked, IsTurned}
 use Rattle.actor_run.proofs.Keeps.{past}
 use Rattle.actor_run.proofs.Heads.{is_look, granted_end, granted_pump, granted_look}
 use Rattle.actor_run.proofs.Heads.{is_end_by_event, waits_look, waits_by_answer, waits_by_filter}
@@ -30,7 +30,7 @@ by_itself by k is = ap (λ b. is_by b k) is ∙ eq-eqb k k refl
 -- a step that was made of what the actor asked is its own
 own_step : (commands : List Command) (k : ℕ) (P : List Step) (mind : Knows) (me : Option Inc)
     (answer : StepAnswer) (s : Step)
-    → IsMade P k (asked_by commands mind me) answer s → is_own s k ≡ true
+    → IsMadeFor P k (asked_by commands mind me) answer s → is_own s k ≡ true
 own_step commands k P mind me answer s made =
     let unpumped : is_pumped s.head ≡ false =
     ap (λ (a : Ask). is_pump_event a.event) made.names
@@ -42,7 +42,7 @@ own_step commands k P mind me answer s made =
 -- A STEP MADE OF WHAT WAS ASKED follows the commands
 pub follows_more : (commands : List Command) (k : ℕ) (P : List Step) (mind : Knows)
     (me : Option Inc) (answer : StepAnswer) (s : Step)
-    → Playing commands k P mind me → IsMade P k (asked_by commands mind me) answer s
+    → Playing commands k P mind me → IsMadeFor P k (asked_by commands mind me) answer s
     → Follows commands k (s ∷ P)
 follows_more commands k P mind me answer s playing made = (
   playing.follows,
@@ -57,7 +57,7 @@ follows_more commands k P mind me answer s playing made = (
 -- what the actor knows after it
 knows_more : (commands : List Command) (k : ℕ) (P : List Step) (mind : Knows) (me : Option Inc)
     (answer : StepAnswer) (s : Step)
-    → Playing commands k P mind me → IsMade P k (asked_by commands mind me) answer s
+    → Playing commands k P mind me → IsMadeFor P k (asked_by commands mind me) answer s
     → told commands (handed commands mind me) answer ≡ knows commands k (s ∷ P)
 knows_more commands k P mind me answer s playing made =
     let own = own_step commands k P mind me answer s made in
@@ -103,7 +103,7 @@ told_within commands mind me answer goes_on =
 
 -- the step ends the actor where it asked for its end
 ends_by_ask : (P : List Step) (k : ℕ) (ask : Ask) (answer : StepAnswer) (s : Step)
-    → IsMade P k ask answer s → is_end s.head ≡ is_end_event ask.event
+    → IsMadeFor P k ask answer s → is_end s.head ≡ is_end_event ask.event
 ends_by_ask P k ask answer s made =
     is_end_by_event s.head
     ∙ (ap (λ (a : Ask). is_end_event a.event) made.names
@@ -111,7 +111,7 @@ ends_by_ask P k ask answer s made =
 
 -- a step that waits was asked for by no send
 waits_unsent : (P : List Step) (k : ℕ) (ask : Ask) (answer : StepAnswer) (s : Step)
-    → IsMade P k ask answer s → is_waits s.head ≡ true → is_sending ask.event ≡ false
+    → IsMadeFor P k ask answer s → is_waits s.head ≡ true → is_sending ask.event ≡ false
 waits_unsent P k ask answer s made w =
     granted_look (endpoint_of P k) (closed_step P k) ask
     (sym (ap (λ (a : Ask). is_look a.event) made.names) ∙ waits_look s.head w)
@@ -120,7 +120,7 @@ waits_unsent P k ask answer s made w =
 pub playing_after : (commands : List Command) (k : ℕ) (P : List Step) (mind : Knows)
     (me : Option Inc) (answer : StepAnswer) (s : Step)
     → Playing commands k P mind me → is_end_event (asked_by commands mind me).event ≡ false
-    → IsMade P k (asked_by commands mind me) answer s
+    → IsMadeFor P k (asked_by commands mind me) answer s
     → Playing commands k (s ∷ P) (told commands (handed commands mind me) answer)
     (endpoint_after me answer)
 playing_after commands k P mind me answer s playing goes_on made =
@@ -147,7 +147,7 @@ playing_after commands k P mind me answer s playing goes_on made =
 pub whole_after : (commands : List Command) (k : ℕ) (P : List Step) (mind : Knows)
     (me : Option Inc) (answer : StepAnswer) (s : Step)
     → Playing commands k P mind me → is_end_event (asked_by commands mind me).event ≡ true
-    → IsMade P k (asked_by commands mind me) answer s → FollowsWhole commands k (s ∷ P)
+    → IsMadeFor P k (asked_by commands mind me) answer s → FollowsWhole commands k (s ∷ P)
 whole_after commands k P mind me answer s playing over made = (
   follows_more commands k P mind me answer s playing made,
   rw (
@@ -199,7 +199,7 @@ playing_first commands k = record {
 turned_by_step : (commands : List Command) (k : ℕ) (P : List Step) (mind : Knows)
     (me : Option Inc) (answer : StepAnswer) (s : Step) (over : Bool)
     → Playing commands k P mind me → is_end_event (asked_by commands mind me).event ≡ over
-    → IsMade P k (asked_by commands mind me) answer s
+    → IsMadeFor P k (asked_by commands mind me) answer s
     → IsTurned commands k (s ∷ P) (told commands (handed commands mind me) answer)
     (endpoint_after me answer) over
 turned_by_step commands k P mind me answer s true playing e made =

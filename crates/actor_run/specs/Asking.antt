@@ -24,10 +24,10 @@ use Rattle.actor_run.specs.Bindings.{lookup}
 use Rattle.actor_run.specs.Knowing.{Knows}
 
 -- the peer that a target names, for an actor that opened this endpoint last
-abbrev pub peer_of : Knows → Option Inc → Target → Option Peer
-peer_of k me Me = here me
-peer_of k me Last = k.last
-peer_of k me (Kept name) = lookup k.kept name
+abbrev pub peer_named : Knows → Option Inc → Target → Option Peer
+peer_named k me Me = here me
+peer_named k me Last = k.last
+peer_named k me (Kept name) = lookup k.kept name
 
 -- a signal
 abbrev pub signal_of : ℕ → List ℕ → SigNote
@@ -67,13 +67,13 @@ ask_of k me None = bare asks.End
 ask_of k me (Some (Open name)) = bare (asks.Open name)
 ask_of k me (Some Close) = bare asks.Close
 ask_of k me (Some (Send to number bytes)) =
-    ask_send (peer_of k me to) (signal_of number (data_of bytes))
-ask_of k me (Some (Forward to)) = ask_forward k.held (peer_of k me to)
+    ask_send (peer_named k me to) (signal_of number (data_of bytes))
+ask_of k me (Some (Forward to)) = ask_forward k.held (peer_named k me to)
 ask_of k me (Some (Recv filter)) = bare (asks.Look filter)
 ask_of k me (Some (Hunt path number bytes)) =
     with_hand (asks.Hunt path) (signal_of number (data_of bytes))
 ask_of k me (Some (Attach to r number bytes)) =
-    ask_attach (peer_of k me to) (signal_of number (data_of bytes))
+    ask_attach (peer_named k me to) (signal_of number (data_of bytes))
 ask_of k me (Some (Detach r)) = ask_detach (lookup k.refs r)
 ask_of k me (Some (Keep name)) = refused NoPeer
 ask_of k me (Some (Cut link)) = bare (asks.Cut link)

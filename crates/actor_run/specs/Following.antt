@@ -70,7 +70,7 @@ endpoint_after me (Opened i) = Some i
 endpoint_after me _ = me
 
 -- the step was made after P for what actor k asked, and was answered so
-pub record IsMade (P : List Step) (k : ℕ) (ask : Ask) (answer : StepAnswer) (s : Step)
+pub record IsMadeFor (P : List Step) (k : ℕ) (ask : Ask) (answer : StepAnswer) (s : Step)
     : Type 0 where
   pub maker : s.by ≡ Actor k
   pub names : named s.head ≡ granted P k ask
@@ -90,7 +90,7 @@ pub record MakesNone (P : List Step) (k : ℕ) (ask : Ask) (answer : StepAnswer)
 -- what an ask makes of the history P: one step more, or none
 abbrev pub MakesAsked : List Step → ℕ → Ask → StepAnswer → List Step → Type 0
 MakesAsked P k ask answer new =
-    ((s : Step) × (new ≡ s ∷ P) × IsMade P k ask answer s) ⊎ MakesNone P k ask answer new
+    ((s : Step) × (new ≡ s ∷ P) × IsMadeFor P k ask answer s) ⊎ MakesNone P k ask answer new
 
 -- after a turn of actor k, by whether it asked for its end
 abbrev pub IsTurned : List Command → ℕ → List Step → Knows → Option Inc → Bool → Type 0

@@ -92,9 +92,9 @@ last_after (answers.Took item) last = Some item.from
 last_after _ last = last
 
 -- its buffer
-abbrev pub held_after : StepAnswer → Option SigNote → Option SigNote
-held_after (answers.Took item) held = Some item.signal
-held_after _ held = held
+abbrev pub buffer_after : StepAnswer → Option SigNote → Option SigNote
+buffer_after (answers.Took item) held = Some item.signal
+buffer_after _ held = held
 
 -- a reference is remembered under the name that the attach gives it
 abbrev pub with_reference : Option Command → AttRef → List (Binding AttRef) → List (Binding AttRef)
@@ -110,7 +110,7 @@ refs_after command _ refs = refs
 abbrev pub learned : Option Command → StepAnswer → Knows → Knows
 learned command answer k = record k {
   last = last_after answer k.last;
-  held = held_after answer k.held;
+  held = buffer_after answer k.held;
   refs = refs_after command answer k.refs;
 }
 

@@ -1,7 +1,7 @@
 ghost use Rattle.std.specs.Prelude.{◌≡◌, ◌≤◌, IfOk, OnOk, OnErr, None, Some, true, false, length};
 ghost use Rattle.std.specs.Prelude.{if◌then◌else◌};
 ghost use Rattle.std.specs.Option.{option_copied};
-ghost use Rattle.actor_run.specs.Asking.{ask_of, peer_of, ask_forward, asked_by, handed};
+ghost use Rattle.actor_run.specs.Asking.{ask_of, peer_named, ask_forward, asked_by, handed};
 ghost use Rattle.actor_run.specs.Asking.{is_forward, is_sending, fits_signal, AreRunnable};
 ghost use Rattle.actor_run.specs.Knowing.{knows_nothing, told, stopped_with, learned, passed};
 ghost use Rattle.actor_run.specs.Following.{endpoint_after};
@@ -79,7 +79,7 @@ impl Mind {
 
     /// The peer that a target names.
     fn peer_of(&self, to: &Target, me: Option<Inc>) -> Option<Peer>
-        ensures { result ≡ peer_of self.now me to.now }
+        ensures { result ≡ peer_named self.now me to.now }
     {
         match to {
             Target::Me => match me {
@@ -93,7 +93,7 @@ impl Mind {
 
     /// A forward hands over the buffer that is held.
     fn forward(&mut self, to: &Target, me: Option<Inc>) -> Ask
-        ensures ask { result ≡ ask_forward self.old.held (peer_of self.old me to.now) }
+        ensures ask { result ≡ ask_forward self.old.held (peer_named self.old me to.now) }
         ensures left { self.new ≡ (if is_sending result.event
             then record self.old { held = None; lent = true } else self.old) }
     {

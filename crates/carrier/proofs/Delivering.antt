@@ -16,8 +16,8 @@ use Rattle.ethcm_end.specs.Rules.{input_of, offer_of}
 use Rattle.carrier.specs.declared.handed.Handed.{Handed}
 use Rattle.carrier.specs.Records.{HalfState}
 use Rattle.carrier.specs.Events.{LinkState, delivered, drained, flight_from, half_of, handed_as}
-use Rattle.carrier.specs.Events.{handed_by, is_quiet, left_after, near_handed, near_took}
-use Rattle.carrier.specs.Events.{offered_to, recorded, restarted_at, ticked_at, told_by, turned}
+use Rattle.carrier.specs.Events.{handed_by, is_quiet, left_after, link_told_by, near_handed}
+use Rattle.carrier.specs.Events.{near_took, offered_to, recorded, restarted_at, ticked_at, turned}
 use Rattle.carrier.specs.Keeping.{IsFlying, KeepsLink}
 use Rattle.carrier.specs.Laws.{BeginsBoot, DownForGreater, EventsTell, IsComplete, Offers}
 use Rattle.carrier.specs.Laws.{TellsRightly, handed_of}
@@ -151,7 +151,7 @@ deliver_sender v n keep Second = near_sender v n keep (slice_get v.back n)
 
 pub tick_tells : (v : LinkState) (side : Side)
     → TellsRightly (half_of side v) (half_of side (ticked_at side v)) (half_of (other_of side) v)
-    (handed_of (told_by side v))
+    (handed_of (link_told_by side v))
 tick_tells v First = tells_tick v.first v.second
 tick_tells v Second = tells_tick v.second v.first
 

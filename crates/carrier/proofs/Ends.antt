@@ -16,7 +16,7 @@ use Rattle.ethcm_session.specs.declared.standing.Standing.{Standing}
 use Rattle.ethcm_session.specs.declared.standing.Standing.TheVariants.{Connecting, Up}
 use Rattle.ethcm_session.specs.Table.{is_confirmed_in}
 use Rattle.ethcm_window.specs.Sending.{Sender, after_ack, coming_in, from_number, numbered_from}
-use Rattle.ethcm_window.specs.Sending.{sent_again, sent_end, unacknowledged, with_offered}
+use Rattle.ethcm_window.specs.Sending.{sent_again, sent_end, unacknowledged, with_frames}
 use Rattle.fragmenter.specs.declared.joiner.Joined.{Joined}
 use Rattle.fragmenter.specs.declared.joiner.Joined.TheVariants.{More, Whole, Broken}
 use Rattle.fragmenter.specs.Pieces.{pieces_of}
@@ -29,7 +29,7 @@ use Rattle.ethcm_end.specs.Rules.{input_of, offer_in, offer_of, piece_packet, ta
 use Rattle.ethcm_end.specs.Rows.{IsBetween}
 use Rattle.ethcm_end.specs.Answers.{IsGreater, IsReset, TakesTo}
 use Rattle.ethcm_end.specs.Sessions.{Confirms, GoesBy, GoesByTick, GoesOn, KeepsSizes}
-use Rattle.ethcm_end.specs.Windows.{Acknowledges, Sends, acknowledged_in, partner}
+use Rattle.ethcm_end.specs.Windows.{Acknowledges, Sends, acknowledged_in, peer_or_unknown}
 use Rattle.ethcm_end.specs.Taking.{KeepsEarly, ReceivesNothing, TakesPiece}
 use Rattle.ethcm_end.proofs.Answering.{answers_exactly}
 use Rattle.ethcm_end.proofs.ByRule.{by_rules, by_tick_rules}
@@ -96,7 +96,7 @@ acked_base tx next =
     (λ from to. inr refl)
 
 pub offered_end : (tx : Sender) (frames : List Frame)
-    → sent_end tx ≤ sent_end (with_offered tx frames)
+    → sent_end tx ≤ sent_end (with_frames tx frames)
 offered_end tx frames = omega (arith, length-append tx.frames frames)
 
 -- ---- what is taken
@@ -347,7 +347,7 @@ pub record Beat (s new : EndState) (answer : Ticked) : Type 0 where
   pub confirms : is_confirmed_in new.talk.standing ≡ true → new.talk ≡ s.talk
   pub sizes : KeepsSizes s new
   pub stays : BeatsBy s new answer
-  pub sends : Sends s.tx s new (partner (peer_of s))
+  pub sends : Sends s.tx s new (peer_or_unknown (peer_of s))
 
 pub beat : (s : EndState) → Beat s (tick_of s).state (tick_of s).answer
 beat s =
@@ -366,17 +366,17 @@ pub record Offered (s : EndState) (m : Message) (new : EndState) : Type 0 where
   pub goes : GoesOn s new
   pub talk : new.talk ≡ s.talk
   pub sizes : KeepsSizes s new
-  pub window : new.tx ≡ with_offered s.tx (pieces_of m s.piece)
+  pub window : new.tx ≡ with_frames s.tx (pieces_of m s.piece)
   pub receives : ReceivesNothing s new
   pub below : All (IsBelow (sent_end new.tx)) s.out → All (IsBelow (sent_end new.tx)) new.out
-  pub sends : Sends new.tx s new (partner (peer_of s))
+  pub sends : Sends new.tx s new (peer_or_unknown (peer_of s))
 
 offer_in_below : (s : EndState) (standing : Standing) (m : Message)
     → All (IsBelow (sent_end (offer_in s standing m).tx)) s.out
     → All (IsBelow (sent_end (offer_in s standing m).tx)) (offer_in s standing m).out
 offer_in_below s Connecting m h = h
 offer_in_below s (Up peer confirmed) m h =
-    some _ s.out h s peer _ (coming_below (with_offered s.tx (pieces_of m s.piece)) s.tx)
+    some _ s.out h s peer _ (coming_below (with_frames s.tx (pieces_of m s.piece)) s.tx)
 
 offer_below : (s : EndState) (m : Message)
     → All (IsBelow (sent_end (offer_of s m).tx)) s.out

@@ -15,7 +15,7 @@ use Rattle.fragmenter.specs.Streams.{frames_of}
 use Rattle.ethcm_end.specs.States.{EndState, peer_of}
 use Rattle.ethcm_end.specs.Rules.{kind_in}
 use Rattle.ethcm_end.specs.Rows.{IsBetween}
-use Rattle.ethcm_end.specs.Windows.{IsExpected, IsSent, Says, acknowledged_in, partner}
+use Rattle.ethcm_end.specs.Windows.{IsExpected, IsSent, PartSays, acknowledged_in, peer_or_unknown}
 use Rattle.ethcm_end.proofs.Naming.{window_frame}
 use Rattle.carrier.specs.Records.{HalfState, entries, has_session, is_pair, mine_of, offered_at}
 use Rattle.carrier.specs.Records.{source}
@@ -70,7 +70,7 @@ module _ (piece : ℕ) (a b c : HalfState) (tx : Sender) (new : EndState)
             ]
       ]
 
-  says_sent : (to : Session) (part : Part) → Says tx a.end new to part
+  says_sent : (to : Session) (part : Part) → PartSays tx a.end new to part
       → (mine_of a ≡ mine_of c → IsBelow (sent_end c.end.tx)
       (record { src = a.end.talk.mine; dst = to.0; part = part }))
       → IsSaid piece c (mine_of a) to.0 part
@@ -123,7 +123,7 @@ module _ (piece : ℕ) (a b c : HalfState) (tx : Sender) (new : EndState)
 -- a session that a side sends to of its own accord is no later than the other side's
 pub partner_upto : (a b : HalfState) (peer : Option Session) → FallsBelow (mine_of b) b.past
     → ((y : Session) → peer ≡ Some y → has_session y.0 (entries b) ≡ true)
-    → (partner peer).0 ≤ mine_of b
+    → (peer_or_unknown peer).0 ≤ mine_of b
 partner_upto a b None falls held = omega arith
 partner_upto a b (Some y) falls held = session_upto y.0 b falls (held y refl)
 

@@ -15,8 +15,8 @@ use Rattle.ethcm_window.specs.Sending.{sent_end}
 use Rattle.ethcm_end.specs.States.{EndState, peer_of}
 use Rattle.carrier.specs.Records.{Entry, HalfState, current, entries, has_session, is_pair}
 use Rattle.carrier.specs.Records.{mine_of, names, source}
-use Rattle.carrier.specs.Keeping.{AcksTaken, Book, Bound, FallsBelow, IsFlying, IsSaid, Keeps}
-use Rattle.carrier.specs.Keeping.{KeptBelow, PeersUpTo, Receives, WasSent}
+use Rattle.carrier.specs.Keeping.{AcksTaken, Bound, FallsBelow, IsFlying, IsSaid, KeepsHalf}
+use Rattle.carrier.specs.Keeping.{KeepsSessions, KeptBelow, PeersUpTo, Receives, WasSent}
 use Rattle.carrier.proofs.Fronts.{either, found_in_front, front_frames}
 use Rattle.carrier.proofs.Joining.{receives_grow, takes_nothing}
 use Rattle.carrier.proofs.Lookups.{Grows, fronts_grow, grows_new, grows_on, held_grows}
@@ -164,8 +164,9 @@ module _ (piece : ℕ) (a b : HalfState) (l : IsLater a b) where
 -- ---- what holds of a side as the other goes on
 
 book_grows : (mine : ℕ) (peer : Option Session) (offered : List Message)
-    (past others later : List Entry) → Grows others later → Book mine peer offered past others
-    → Book mine peer offered past later
+    (past others later : List Entry) → Grows others later
+    → KeepsSessions mine peer offered past others
+    → KeepsSessions mine peer offered past later
 book_grows mine peer offered past others later g k =
     record {
       known = k.known;
@@ -240,7 +241,7 @@ module _ (piece mine : ℕ) (peer : Option Session) (handed : List Message) (end
 
 -- what holds of a side stays as the other side goes on
 pub keeps_later : (piece : ℕ) (a b c : HalfState) (wire : List Packet) → IsLater b c
-    → Keeps piece a b wire → Keeps piece a c wire
+    → KeepsHalf piece a b wire → KeepsHalf piece a c wire
 keeps_later piece a b c wire l k =
     record {
       book = book_grows (mine_of a) (peer_of a.end) a.offered a.past (entries b) (entries c) l.grows

@@ -19,7 +19,7 @@ use Rattle.carrier.specs.Events.{near_changed, near_lost, near_offered, new_link
 use Rattle.carrier.specs.Events.{near_restarted, near_swapped, near_ticked, near_took, offered_to}
 use Rattle.carrier.specs.Events.{restarted_at, seen_from, swapped_from, ticked_at, turned}
 use Rattle.carrier.specs.Events.{with_next}
-use Rattle.carrier.specs.Keeping.{IsFlying, Keeps, KeepsLink}
+use Rattle.carrier.specs.Keeping.{IsFlying, KeepsHalf, KeepsLink}
 use Rattle.carrier.specs.Laws.{EventsKeep}
 use Rattle.carrier.proofs.Ends.{beat, came, offered}
 use Rattle.carrier.proofs.Fronts.{all_at}
@@ -31,8 +31,8 @@ use Rattle.carrier.proofs.Reacting.{Steps, steps_beat, steps_came, steps_offered
 use Rattle.carrier.proofs.Stepping.{keeps_alone}
 
 -- with these packets in flight
-keeps_with : (piece : ℕ) (a b : HalfState) (there left : List Packet) → Keeps piece a b there
-    → All (IsFlying piece a b) left → Keeps piece a b left
+keeps_with : (piece : ℕ) (a b : HalfState) (there left : List Packet) → KeepsHalf piece a b there
+    → All (IsFlying piece a b) left → KeepsHalf piece a b left
 keeps_with piece a b there left k all =
     record {
       book = k.book;
@@ -57,7 +57,7 @@ seen_keeps Second v k = turned_keeps v k
 -- ---- the events of the first side
 
 module _ (v : LinkState) (k : KeepsLink v) where
-  far_alone : Keeps k.piece v.second v.first []
+  far_alone : KeepsHalf k.piece v.second v.first []
   far_alone = keeps_alone k.piece v.second v.first v.back k.far
 
   changed_keeps : (c : HalfState) (out : List Packet) → Steps k.piece v.first c v.second v.there out
@@ -161,7 +161,7 @@ offered_to_peer v k m None e some is = absurd (grind arith)
 offered_to_peer v k m (Some peer) e some is = offered_keeps v k m peer e is
 
 begins_keeps : (window piece : ℕ) → 1 ≤ window
-    → Keeps piece (new_half window piece) (new_half window piece) []
+    → KeepsHalf piece (new_half window piece) (new_half window piece) []
 begins_keeps window piece h =
     record {
       book = record {

@@ -14,16 +14,16 @@ use Rattle.linx_base.specs.declared.frame.Message.{Message}
 use Rattle.ethcm_headers.specs.declared.packets.Packet.{Packet}
 use Rattle.ethcm_session.specs.declared.standing.Standing.{Standing}
 use Rattle.ethcm_session.specs.declared.standing.Standing.TheVariants.{Connecting, Up}
-use Rattle.ethcm_session.specs.Table.{is_confirmed_in, peer_in}
+use Rattle.ethcm_session.specs.Table.{is_confirmed_in, standing_peer}
 use Rattle.fragmenter.specs.Pieces.{pieces_of}
 use Rattle.fragmenter.specs.Streams.{BeginsNext, frames_of}
 use Rattle.ethcm_end.specs.States.{EndState, has_work_in, peer_of}
 use Rattle.carrier.specs.Records.{Entry, HalfState, entries, handed_at, has_session}
 use Rattle.carrier.specs.Records.{is_pair, mine_of, names, offered_at, peer_at, source}
 use Rattle.carrier.specs.Events.{LinkState}
-use Rattle.carrier.specs.Keeping.{HandedFronts, IsFlying, Keeps, KeepsLink, OfferedMessages}
+use Rattle.carrier.specs.Keeping.{HandedFronts, IsFlying, KeepsHalf, KeepsLink, OfferedMessages}
 use Rattle.carrier.specs.Keeping.{PeersUpTo, Receives}
-use Rattle.carrier.specs.Laws.{ArePaired, IsComplete, Promises, SidePromises}
+use Rattle.carrier.specs.Laws.{ArePaired, CarrierPromises, HalfPromises, IsComplete}
 use Rattle.carrier.proofs.Fronts.{either, frames-append, front_of_nil}
 use Rattle.carrier.proofs.Joining.{handed_front, joins_taken}
 use Rattle.carrier.proofs.Lookups.{own_offered, own_pair, session_upto, source_messages}
@@ -88,12 +88,12 @@ not_twice x w y others es h p q apart =
 
 -- ---- a side
 
-messages_of : (piece : ℕ) (a b : HalfState) (there : List Packet) → Keeps piece a b there
+messages_of : (piece : ℕ) (a b : HalfState) (there : List Packet) → KeepsHalf piece a b there
     → OfferedMessages (entries a)
 messages_of piece a b there k = (k.book.messages, k.book.past_messages)
 
 pub side_promises : (piece : ℕ) (a b : HalfState) (there back : List Packet) → 1 ≤ piece
-    → Keeps piece a b there → Keeps piece b a back → SidePromises a b there
+    → KeepsHalf piece a b there → KeepsHalf piece b a back → HalfPromises a b there
 side_promises piece a b there back sized near far =
     let front : IsFront a.handed (source (entries b) (mine_of a) (peer_of a.end)) =
     handed_front piece (source (entries b) (mine_of a) (peer_of a.end)) a.handed a.end.rx
@@ -112,7 +112,7 @@ side_promises piece a b there back sized near far =
           (λ p f. f.from) there near.packets;
     }
 
-pub promises : (v : LinkState) → KeepsLink v → Promises v
+pub promises : (v : LinkState) → KeepsLink v → CarrierPromises v
 promises v k =
     let sized = k.sized in
     record {
@@ -161,7 +161,7 @@ past_pair a x y h e =
 
 -- two sides that are up, each paired with its peer, are up with each other
 up_with_each_other : (piece : ℕ) (a b : HalfState) (there back : List Packet) (y x : Session)
-    → Keeps piece a b there → Keeps piece b a back → peer_of a.end ≡ Some y
+    → KeepsHalf piece a b there → KeepsHalf piece b a back → peer_of a.end ≡ Some y
     → peer_of b.end ≡ Some x → is_pair (mine_of a) y.0 (entries b) ≡ true
     → is_pair (mine_of b) x.0 (entries a) ≡ true
     → (y.0 ≡ mine_of b) × (x.0 ≡ mine_of a)
@@ -208,7 +208,7 @@ none_later piece all whole (m ∷ later) part is enough begins =
 
 -- what is acknowledged whole was handed up
 handed_all : (piece : ℕ) (a b : HalfState) (there back : List Packet) (y x : Session)
-    → 1 ≤ piece → Keeps piece a b there → Keeps piece b a back → peer_of a.end ≡ Some y
+    → 1 ≤ piece → KeepsHalf piece a b there → KeepsHalf piece b a back → peer_of a.end ≡ Some y
     → peer_of b.end ≡ Some x → y.0 ≡ mine_of b → x.0 ≡ mine_of a → a.end.tx.frames ≡ []
     → b.handed ≡ a.offered
 handed_all piece a b there back y x sized near far p q n m none =
@@ -241,7 +241,7 @@ handed_all piece a b there back y x sized near far p q n m none =
 -- ---- quiet
 
 confirmed_up : (standing : Standing) → is_confirmed_in standing ≡ true
-    → (y : Session) × (peer_in standing ≡ Some y)
+    → (y : Session) × (standing_peer standing ≡ Some y)
 confirmed_up Connecting e = absurd (grind arith)
 confirmed_up (Up y confirmed) e = (y, refl)
 

@@ -12,8 +12,8 @@ use Rattle.linx_base.specs.Frames.{IsMessage}
 use Rattle.linx_base.specs.Numbers.{boot_of}
 use Rattle.ethcm_headers.specs.declared.packets.Packet.{Packet}
 use Rattle.ethcm_session.specs.declared.standing.TalkState.{TalkState}
-use Rattle.ethcm_session.specs.Table.{is_confirmed_in, peer_in}
-use Rattle.ethcm_window.specs.Sending.{Sender, sent_end, with_offered as with_frames}
+use Rattle.ethcm_session.specs.Table.{is_confirmed_in, standing_peer}
+use Rattle.ethcm_window.specs.Sending.{Sender, sent_end, with_frames}
 use Rattle.ethcm_window.specs.Receiving.{kept_early}
 use Rattle.fragmenter.specs.declared.joiner.Joined.{Joined}
 use Rattle.fragmenter.specs.declared.joiner.Joined.TheVariants.{More, Whole}
@@ -26,13 +26,14 @@ use Rattle.ethcm_end.specs.declared.answers.Ticked.TheVariants as ticks
 use Rattle.ethcm_end.specs.States.{EndState, peer_of}
 use Rattle.ethcm_end.specs.Rules.{restart_of, take_frames}
 use Rattle.ethcm_end.specs.Sessions.{Confirms, GoesDown, GoesOn}
-use Rattle.ethcm_end.specs.Windows.{Acknowledges, IsSent, Sends, partner}
+use Rattle.ethcm_end.specs.Windows.{Acknowledges, IsSent, Sends, peer_or_unknown}
 use Rattle.ethcm_end.specs.Taking.{KeepsEarly, ReceivesNothing}
 use Rattle.ethcm_end.proofs.Naming.{acked_rest, offered_rest}
 use Rattle.ethcm_end.proofs.Rising.{sessions_rise}
 use Rattle.carrier.specs.Records.{HalfState, entries, is_pair, mine_of, offered_at, source}
 use Rattle.carrier.specs.Events.{drained, recorded, recorded_tick, with_next, with_offered}
-use Rattle.carrier.specs.Keeping.{HoldsRest, IsFlying, Keeps, OfferedMessages, Receives, WasSent}
+use Rattle.carrier.specs.Keeping.{HoldsRest, IsFlying, KeepsHalf, OfferedMessages, Receives}
+use Rattle.carrier.specs.Keeping.{WasSent}
 use Rattle.carrier.proofs.Ends.{Beat, Came, IsBelow, Offered, Takes, acked_base, acked_end}
 use Rattle.carrier.proofs.Ends.{offered_end}
 use Rattle.carrier.proofs.Flying.{acks_pair, acks_said, all_fly, pair_said, partner_upto}
@@ -63,7 +64,7 @@ record ReceivesAs (piece : ℕ) (a : HalfState) (new : EndState) (b : HalfState)
   pub was_sent :
       ForSome (peer_of a.end) (λ y. y.0 ≡ mine_of b → WasSent new.rx b.end.tx)
 
-module _ (piece : ℕ) (a b : HalfState) (there : List Packet) (k : Keeps piece a b there)
+module _ (piece : ℕ) (a b : HalfState) (there : List Packet) (k : KeepsHalf piece a b there)
     (new : EndState) where
   same_window : new.tx ≡ a.end.tx → WindowAs piece a new b
   same_window same =
@@ -193,7 +194,7 @@ module _ (piece : ℕ) (a b : HalfState) (there : List Packet) (k : Keeps piece 
               });
         }
 
-    module _ (far : Keeps piece b a []) (sized : 1 ≤ piece) where
+    module _ (far : KeepsHalf piece b a []) (sized : 1 ≤ piece) where
       taken_received : (made : Joined) → Takes a.end p new made
           → ReceivesAs piece a new b (a.handed ++ made_whole made)
       taken_received made t =
@@ -240,7 +241,7 @@ module _ (piece : ℕ) (a b : HalfState) (there : List Packet) (k : Keeps piece 
 
 -- the session in which something is sent goes on, or is over
 module _ (piece : ℕ) (a b c : HalfState) (there : List Packet) (turn : Turns piece a c b there)
-    (near : Keeps piece a b there) (far : Keeps piece b a []) (tx : Sender) (new : EndState)
+    (near : KeepsHalf piece a b there) (far : KeepsHalf piece b a []) (tx : Sender) (new : EndState)
     (end : c.end ≡ drained new) (to : Session) (upto : to.0 ≤ mine_of b)
     (sends : Sends tx a.end new to) where
   -- all that is out is what was sent
@@ -253,7 +254,7 @@ module _ (piece : ℕ) (a b c : HalfState) (there : List Packet) (turn : Turns p
   out_flies : ((y : Session) → peer_of new ≡ Some y → mine_of c ≡ mine_of a)
       → HoldsRest (frames_of piece (offered_at (mine_of a) (entries c))) tx
       → (mine_of a ≡ mine_of c → All (IsBelow (sent_end c.end.tx)) new.out)
-      → Keeps piece c b (there ++ new.out)
+      → KeepsHalf piece c b (there ++ new.out)
   out_flies same holds below =
       keeps_put piece c b there new.out turn.keeps
       (all_fly piece a b c tx new (record {
@@ -284,10 +285,10 @@ offered_next a new h =
 -- side a became c, and sent these packets
 pub record Steps (piece : ℕ) (a c b : HalfState) (there out : List Packet) : Type 0 where
   pub later : IsLater a c
-  pub keeps : Keeps piece c b (there ++ out)
+  pub keeps : KeepsHalf piece c b (there ++ out)
 
-module _ (piece : ℕ) (a b : HalfState) (there : List Packet) (near : Keeps piece a b there)
-    (far : Keeps piece b a []) (sized : 1 ≤ piece) (new : EndState) (to : Session)
+module _ (piece : ℕ) (a b : HalfState) (there : List Packet) (near : KeepsHalf piece a b there)
+    (far : KeepsHalf piece b a []) (sized : 1 ≤ piece) (new : EndState) (to : Session)
     (upto : to.0 ≤ mine_of b) where
   -- the session goes on or up
   steps_on : (tx : Sender) (offered handed : List Message)
@@ -325,8 +326,8 @@ module _ (piece : ℕ) (a b : HalfState) (there : List Packet) (near : Keeps pie
 
 -- ---- a packet
 
-module _ (piece : ℕ) (a b : HalfState) (there : List Packet) (near : Keeps piece a b there)
-    (far : Keeps piece b a []) (sized : 1 ≤ piece) where
+module _ (piece : ℕ) (a b : HalfState) (there : List Packet) (near : KeepsHalf piece a b there)
+    (far : KeepsHalf piece b a []) (sized : 1 ≤ piece) where
   messages : OfferedMessages (entries b)
   messages = (far.book.messages, far.book.past_messages)
 
@@ -376,7 +377,7 @@ module _ (piece : ℕ) (a b : HalfState) (there : List Packet) (near : Keeps pie
               elim (came.confirms c) [
                 | inl same ↦
                     let none : peer_of new ≡ None =
-                    ap (λ (t : TalkState). peer_in t.standing) same ∙ goes.was_connecting in
+                    ap (λ (t : TalkState). standing_peer t.standing) same ∙ goes.was_connecting in
                     let some = goes.peer in
                     absurd (grind arith)
                 | inr now ↦
@@ -405,8 +406,8 @@ module _ (piece : ℕ) (a b : HalfState) (there : List Packet) (near : Keeps pie
       let stays = beat.stays in
       let to = partner_upto a b (peer_of a.end) far.book.falls near.book.peer_held in
       let same : sent_end new.tx ≡ sent_end a.end.tx = ap sent_end stays.window in
-      steps_on piece a b there near far sized new (partner (peer_of a.end)) to a.end.tx a.offered
-      a.handed
+      steps_on piece a b there near far sized new (peer_or_unknown (peer_of a.end)) to a.end.tx
+      a.offered a.handed
       (goes_as piece a b there near new a.handed beat.goes
       (same_window piece a b there near new stays.window)
       (same_received piece a b there near new stays.receives) (λ c. inl (beat.confirms c))
@@ -414,8 +415,8 @@ module _ (piece : ℕ) (a b : HalfState) (there : List Packet) (near : Keeps pie
       (subst (λ n. All (IsBelow n) a.end.out → All (IsBelow n) new.out) (sym same) stays.below)
   steps_beat new ticks.WentDown beat =
       let to = partner_upto a b (peer_of a.end) far.book.falls near.book.peer_held in
-      goes_down new (partner (peer_of a.end)) to beat.goes beat.sizes.window beat.sizes.piece
-      beat.sends
+      goes_down new (peer_or_unknown (peer_of a.end)) to beat.goes beat.sizes.window
+      beat.sizes.piece beat.sends
 
   -- ---- an offer
 
@@ -434,7 +435,7 @@ module _ (piece : ℕ) (a b : HalfState) (there : List Packet) (near : Keeps pie
       (offered_rest (frames_of piece a.offered) a.end.tx near.sends (pieces_of m a.end.piece))) in
       let base : new.tx.base ≡ a.end.tx.base = ap (λ (t : Sender). t.base) offered.window in
       let received = same_received piece a b there near new offered.receives in
-      steps_on piece a b there near far sized new (partner (peer_of a.end)) to new.tx
+      steps_on piece a b there near far sized new (peer_or_unknown (peer_of a.end)) to new.tx
       (a.offered ++ m ∷ []) a.handed
       (turns_on piece a b there near new (a.offered ++ m ∷ []) a.handed (record {
         goes = offered.goes;

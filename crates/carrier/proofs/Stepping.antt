@@ -26,7 +26,7 @@ use Rattle.ethcm_end.proofs.Taking.{takes_in_turn}
 use Rattle.carrier.specs.Records.{HalfState, entries, has_session, is_pair, mine_of, names}
 use Rattle.carrier.specs.Records.{source}
 use Rattle.carrier.specs.Events.{drained}
-use Rattle.carrier.specs.Keeping.{Bound, HoldsRest, IsFlying, Keeps, KeptBelow, OfferedMessages}
+use Rattle.carrier.specs.Keeping.{Bound, HoldsRest, IsFlying, KeepsHalf, KeptBelow, OfferedMessages}
 use Rattle.carrier.specs.Keeping.{PeersUpTo, Receives, WasSent}
 use Rattle.carrier.proofs.Fronts.{front_refl}
 use Rattle.carrier.proofs.Growing.{IsLater, later_next, later_on, packets_sender}
@@ -88,11 +88,11 @@ taken_sent rx held frame tx was here =
 -- side a became c
 pub record Turns (piece : ℕ) (a c b : HalfState) (there : List Packet) : Type 0 where
   pub later : IsLater a c
-  pub keeps : Keeps piece c b there
+  pub keeps : KeepsHalf piece c b there
 
 -- these packets are in flight behind the others
-pub keeps_put : (piece : ℕ) (a b : HalfState) (there out : List Packet) → Keeps piece a b there
-    → All (IsFlying piece a b) out → Keeps piece a b (there ++ out)
+pub keeps_put : (piece : ℕ) (a b : HalfState) (there out : List Packet) → KeepsHalf piece a b there
+    → All (IsFlying piece a b) out → KeepsHalf piece a b (there ++ out)
 keeps_put piece a b there out k h =
     record {
       book = k.book;
@@ -106,8 +106,8 @@ keeps_put piece a b there out k h =
     }
 
 -- with no packets in flight
-pub keeps_alone : (piece : ℕ) (a b : HalfState) (there : List Packet) → Keeps piece a b there
-    → Keeps piece a b []
+pub keeps_alone : (piece : ℕ) (a b : HalfState) (there : List Packet) → KeepsHalf piece a b there
+    → KeepsHalf piece a b []
 keeps_alone piece a b there k =
     record {
       book = k.book;
@@ -145,7 +145,7 @@ pub record GoesAs (piece : ℕ) (a : HalfState) (new : EndState) (b : HalfState)
   pub bound : BoundAs a new b
   pub sent : sent_end a.end.tx ≤ sent_end new.tx
 
-module _ (piece : ℕ) (a b : HalfState) (there : List Packet) (k : Keeps piece a b there)
+module _ (piece : ℕ) (a b : HalfState) (there : List Packet) (k : KeepsHalf piece a b there)
     (new : EndState) where
   pub turns_on : (offered handed : List Message) → GoesAs piece a new b offered handed
       → Turns piece a (going a new offered handed) b there
@@ -210,7 +210,7 @@ pub record GoesUpAs (a : HalfState) (new : EndState) (b : HalfState) (y : Sessio
   pub pair : is_confirmed_in new.talk.standing ≡ true
       → is_pair (mine_of a) y.0 (entries b) ≡ true
 
-pub turns_up : (piece : ℕ) (a b : HalfState) (there : List Packet) → Keeps piece a b there
+pub turns_up : (piece : ℕ) (a b : HalfState) (there : List Packet) → KeepsHalf piece a b there
     → (new : EndState) (y : Session) → GoesUpAs a new b y
     → Turns piece a (going a new a.offered a.handed) b there
 turns_up piece a b there k new y g =
@@ -289,7 +289,7 @@ pub record GoesNextAs (a : HalfState) (new : EndState) : Type 0 where
 abbrev pub next : HalfState → EndState → HalfState
 next a new = record { end = drained new; offered = []; handed = []; past = entries a }
 
-pub turns_next : (piece : ℕ) (a b : HalfState) (there : List Packet) → Keeps piece a b there
+pub turns_next : (piece : ℕ) (a b : HalfState) (there : List Packet) → KeepsHalf piece a b there
     → 1 ≤ piece → OfferedMessages (entries b) → (new : EndState) → GoesNextAs a new
     → Turns piece a (next a new) b there
 turns_next piece a b there k sized messages new g =

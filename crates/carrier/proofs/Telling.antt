@@ -25,7 +25,7 @@ use Rattle.ethcm_end.proofs.Rising.{sessions_rise}
 use Rattle.carrier.specs.Records.{HalfState, entries, mine_of, source}
 use Rattle.carrier.specs.Events.{drained, handed_as, recorded, recorded_tick, ticked_as, with_next}
 use Rattle.carrier.specs.Events.{with_offered}
-use Rattle.carrier.specs.Keeping.{IsFlying, IsSaid, Keeps}
+use Rattle.carrier.specs.Keeping.{IsFlying, IsSaid, KeepsHalf}
 use Rattle.carrier.specs.Laws.{BeginsBoot, DownForGreater, GoesDownFrom, HandsUp, Offers}
 use Rattle.carrier.specs.Laws.{TellsRightly, handed_of}
 use Rattle.carrier.proofs.Ends.{Beat, Came, Offered, beat, came}
@@ -90,8 +90,9 @@ module _ (piece : ℕ) (a b : HalfState) (p : Packet) (f : IsFlying piece b a p)
 
 -- ---- a packet takes a side down for a greater session alone
 
-module _ (piece : ℕ) (a b : HalfState) (there back : List Packet) (near : Keeps piece a b there)
-    (far : Keeps piece b a back) (sized : 1 ≤ piece) (p : Packet) (f : IsFlying piece b a p) where
+module _ (piece : ℕ) (a b : HalfState) (there back : List Packet) (near : KeepsHalf piece a b there)
+    (far : KeepsHalf piece b a back) (sized : 1 ≤ piece) (p : Packet)
+    (f : IsFlying piece b a p) where
   -- no taken frame is broken
   unbroken : TakesTo a.end p Broken → ⊥
   unbroken t =

@@ -174,8 +174,8 @@ abbrev pub ticked_at : Side → LinkState → LinkState
 ticked_at side v = seen_from side (near_ticked (seen_from side v))
 
 -- what is handed up of it
-abbrev pub told_by : Side → LinkState → TickedSide
-told_by side v =
+abbrev pub link_told_by : Side → LinkState → TickedSide
+link_told_by side v =
     let end : EndState = (half_of side v).end in
     ticked_as end.talk.mine (tick_of end).answer
 

@@ -60,7 +60,7 @@ OfferedMessages [] = Unit {0}
 OfferedMessages (e ∷ es) = All IsMessage e.offered × OfferedMessages es
 
 -- the sessions of a side, the last of which has number `mine`, against those of the other side
-pub record Book (mine : ℕ) (peer : Option Session) (offered : List Message)
+pub record KeepsSessions (mine : ℕ) (peer : Option Session) (offered : List Message)
     (past others : List Entry) : Type 0 where
   pub known : 0 < mine
   pub falls : FallsBelow mine past
@@ -153,8 +153,8 @@ pub record IsFlying (piece : ℕ) (near other : HalfState) (p : Packet) : Type 0
 -- ---- both sides
 
 -- the near side, and the packets in flight from it, where pieces have this size
-pub record Keeps (piece : ℕ) (near other : HalfState) (there : List Packet) : Type 0 where
-  pub book : Book (mine_of near) (peer_of near.end) near.offered near.past (entries other)
+pub record KeepsHalf (piece : ℕ) (near other : HalfState) (there : List Packet) : Type 0 where
+  pub book : KeepsSessions (mine_of near) (peer_of near.end) near.offered near.past (entries other)
   pub cut : near.end.piece ≡ piece
   pub window : 1 ≤ near.end.tx.window
   pub sends : HoldsRest (frames_of piece near.offered) near.end.tx
@@ -170,5 +170,5 @@ pub record Keeps (piece : ℕ) (near other : HalfState) (there : List Packet) : 
 pub record KeepsLink (v : LinkState) : Type 0 where
   pub piece : ℕ
   pub sized : 64 ≤ piece
-  pub near : Keeps piece v.first v.second v.there
-  pub far : Keeps piece v.second v.first v.back
+  pub near : KeepsHalf piece v.first v.second v.there
+  pub far : KeepsHalf piece v.second v.first v.back

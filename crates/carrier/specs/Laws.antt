@@ -16,9 +16,9 @@ use Rattle.carrier.specs.declared.handed.TickedSide.{TickedSide}
 use Rattle.carrier.specs.declared.handed.TickedSide.TheVariants as ticked
 use Rattle.carrier.specs.Records.{Entry, HalfState, entries, handed_at, has_session, is_pair}
 use Rattle.carrier.specs.Records.{mine_of, peer_at}
-use Rattle.carrier.specs.Events.{LinkState, delivered, flight_from, half_of, handed_by, lost_from}
-use Rattle.carrier.specs.Events.{new_link, offered_to, restarted_at, swapped_from, ticked_at}
-use Rattle.carrier.specs.Events.{told_by}
+use Rattle.carrier.specs.Events.{LinkState, delivered, flight_from, half_of, handed_by}
+use Rattle.carrier.specs.Events.{link_told_by, lost_from, new_link, offered_to, restarted_at}
+use Rattle.carrier.specs.Events.{swapped_from, ticked_at}
 use Rattle.carrier.specs.Keeping.{FallsBelow, HandedFronts, KeepsLink, PeersHeld, PeersRise}
 
 -- ---- what holds at each moment
@@ -28,7 +28,7 @@ abbrev pub ArePaired : ℕ → Session → List Entry → List Entry → Type 0
 ArePaired x y es others = (peer_at x es ≡ Some y) × (is_pair x y.0 others ≡ true)
 
 -- what is promised of the near side, and of the packets in flight from it
-pub record SidePromises (near other : HalfState) (there : List Packet) : Type 0 where
+pub record HalfPromises (near other : HalfState) (there : List Packet) : Type 0 where
   -- what was handed up in each session is a front of what the other side offered in the session
   -- that is its peer, in order and each once; nothing where that one has another peer or none
   pub fronts : HandedFronts (entries other) (entries near)
@@ -51,9 +51,9 @@ pub record SidePromises (near other : HalfState) (there : List Packet) : Type 0 
   pub recorded : All (λ p. has_session p.src.0 (entries near) ≡ true) there
 
 -- what is promised of a link
-pub record Promises (v : LinkState) : Type 0 where
-  pub first : SidePromises v.first v.second v.there
-  pub second : SidePromises v.second v.first v.back
+pub record CarrierPromises (v : LinkState) : Type 0 where
+  pub first : HalfPromises v.first v.second v.there
+  pub second : HalfPromises v.second v.first v.back
 
 -- both sides are up with each other, and all that was offered was handed up
 pub record IsComplete (v : LinkState) : Type 0 where
@@ -184,7 +184,7 @@ pub record EventsTell : Type 0 where
   pub tick :
       (side : Side) (v : LinkState)
       → TellsRightly (half_of side v) (half_of side (ticked_at side v))
-      (half_of (other_of side) v) (handed_of (told_by side v))
+      (half_of (other_of side) v) (handed_of (link_told_by side v))
   pub tick_other :
       (side : Side) (v : LinkState)
       → half_of (other_of side) (ticked_at side v) ≡ half_of (other_of side) v

@@ -9,11 +9,11 @@ ghost use Rattle.ethcm_end.specs.Sound.{IsPiece};
 ghost use Rattle.ethcm_end.specs.States.{peer_of};
 ghost use Rattle.carrier.specs.Events.{delivered, flight_from, half_of, handed_by, is_quiet};
 ghost use Rattle.carrier.specs.Events.{lost_from, new_link, offered_to, restarted_at, HasNextAt};
-ghost use Rattle.carrier.specs.Events.{swapped_from, ticked_at, told_by};
+ghost use Rattle.carrier.specs.Events.{link_told_by, swapped_from, ticked_at};
 ghost use Rattle.carrier.specs.Spelling.{HasOnlyGrownFrom};
 ghost use Rattle.carrier.specs.Keeping.{KeepsLink};
-ghost use Rattle.carrier.specs.Laws.{BeginsBoot, DownForGreater, IsComplete, Offers, Promises};
-ghost use Rattle.carrier.specs.Laws.{TellsRightly, handed_of};
+ghost use Rattle.carrier.specs.Laws.{BeginsBoot, CarrierPromises, DownForGreater, IsComplete};
+ghost use Rattle.carrier.specs.Laws.{Offers, TellsRightly, handed_of};
 
 use crate::handed::{Handed, TickedSide};
 use crate::link::Link;
@@ -68,7 +68,7 @@ fn beat(link: &mut Link, side: Side) -> Result<TickedSide, NoMemory>
     requires keeps { KeepsLink link.old.is }
     ensures is { OnOk result (link.new.is ≡ ticked_at side link.old.is) }
     ensures was { link.new.was ≡ link.old.was }
-    ensures ticked { IfOk result (λ ticked. ticked ≡ told_by side link.old.is) }
+    ensures ticked { IfOk result (λ ticked. ticked ≡ link_told_by side link.old.is) }
     ensures keeps { OnOk result (KeepsLink link.new.is) }
     ensures told { IfOk result (λ ticked. TellsRightly (half_of side link.old.is)
         (half_of side link.new.is) (half_of (other_of side) link.old.is) (handed_of ticked)) }
@@ -160,7 +160,7 @@ impl Carrier {
         requires counted { HasNextAt side self.old.is }
         ensures is { OnOk result (self.new.is ≡ ticked_at side self.old.is) }
         ensures was { self.new.was ≡ self.old.was }
-        ensures ticked { IfOk result (λ ticked. ticked ≡ told_by side self.old.is) }
+        ensures ticked { IfOk result (λ ticked. ticked ≡ link_told_by side self.old.is) }
         ensures err { OnErr result (self.new ≡ still self.old.was) }
         // What the tick means says what became of the side; the other one stays as it is.
         ensures told { IfOk result (λ ticked. TellsRightly (half_of side self.old.is)
@@ -287,8 +287,8 @@ impl Carrier {
     pub fn promises(&self)
         ensures keeps { KeepsLink self.now.is }
         ensures kept { KeepsLink self.now.was }
-        ensures promises { Promises self.now.is }
-        ensures promised { Promises self.now.was }
+        ensures promises { CarrierPromises self.now.is }
+        ensures promised { CarrierPromises self.now.was }
     {
         let _ = &self.link;
     }

@@ -4,7 +4,7 @@
 ghost use Rattle.std.specs.Prelude.{◌≡◌, true};
 ghost use Rattle.carrier.specs.Events.{LinkState, is_quiet};
 ghost use Rattle.carrier.specs.Keeping.{KeepsLink};
-ghost use Rattle.carrier.specs.Laws.{EventsKeep, EventsTell, IsComplete, Promises};
+ghost use Rattle.carrier.specs.Laws.{CarrierPromises, EventsKeep, EventsTell, IsComplete};
 
 /// What holds of every link holds at its beginning, and after each event: a packet that comes, from
 /// any place, again and again, a tick, an offered message, a restart, a lost packet and two that
@@ -18,7 +18,7 @@ pub fn events_keep()
 /// up and its peer have each other as their peers; nothing is handed up twice; and each packet in
 /// flight was put in a session that is recorded.
 pub fn links_keep_promises()
-    ensures { (v : LinkState) → KeepsLink v → Promises v }
+    ensures { (v : LinkState) → KeepsLink v → CarrierPromises v }
 {}
 
 /// And where nothing is in flight and neither end has work, both sides are up with each other, and

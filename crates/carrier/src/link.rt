@@ -12,7 +12,7 @@ ghost use Rattle.ethcm_end.specs.States.{peer_of};
 ghost use Rattle.carrier.specs.Events.{delivered, drained, flight_from, half_of, handed_as};
 ghost use Rattle.carrier.specs.Events.{handed_by, is_quiet, left_after, lost_from, new_link};
 ghost use Rattle.carrier.specs.Events.{offered_to, recorded, restarted_at, swapped_from, HasNextAt};
-ghost use Rattle.carrier.specs.Events.{ticked_at, told_by};
+ghost use Rattle.carrier.specs.Events.{link_told_by, ticked_at};
 ghost use Rattle.lossy_wire.specs.Flight.{HasOnlyGrown};
 ghost use Rattle.carrier.specs.Spelling.{HasOnlyGrownFrom};
 
@@ -157,7 +157,7 @@ impl Link {
         requires counted { HasNextAt side self.old.is }
         ensures is { OnOk result (self.new.is ≡ ticked_at side self.old.is) }
         ensures was { self.new.was ≡ self.old.was }
-        ensures ticked { IfOk result (λ ticked. ticked ≡ told_by side self.old.is) }
+        ensures ticked { IfOk result (λ ticked. ticked ≡ link_told_by side self.old.is) }
     {
         match side {
             Side::First => {

@@ -22,7 +22,7 @@ use Rattle.linx_base.specs.declared.item.Kind.TheVariants.{Plain, Found, Notice}
 use Rattle.linx_base.specs.declared.identity.AttRef.{AttRef}
 use Rattle.linx_base.proofs.FirstMatches.{position_at, position_none}
 use Rattle.endpoint_queue.specs.declared.place.Place.{Place}
-use Rattle.sigsel.specs.Selection.{notifies, is_notice_of}
+use Rattle.sigsel.specs.Selection.{is_notice_kind, is_notice_of}
 use Rattle.endpoint_queue.specs.Places.{number_key, attach_of, notice_key, count_notices, placed}
 use Rattle.endpoint_queue.specs.Places.{places_by, IsBefore, IsIndex, IsIndexed, IsLeastTicket}
 use Rattle.endpoint_queue.specs.IndexContent.{IndexContent}
@@ -374,7 +374,7 @@ notice_alike r item = by_kind item.kind
     turned : (a b : ℕ) → (a == b) ≡ (b == a)
     turned a b = grind (arith, nat_tests)
 
-    by_kind : (kind : Kind) → notifies r kind ≡ key_passes (λ n. r.0 == n) (attach_of kind)
+    by_kind : (kind : Kind) → is_notice_kind r kind ≡ key_passes (λ n. r.0 == n) (attach_of kind)
     by_kind Plain = refl
     by_kind (Found hunt) = refl
     by_kind (Notice attach) = turned attach.0 r.0

@@ -12,7 +12,7 @@ use Rattle.ethcm_headers.specs.declared.packets.Part.{Part}
 use Rattle.ethcm_headers.specs.declared.packets.Part.TheVariants.{Conn, Ack, Nack, Piece}
 use Rattle.ethcm_session.specs.declared.standing.Standing.{Standing}
 use Rattle.ethcm_session.specs.declared.standing.Standing.TheVariants.{Connecting, Up}
-use Rattle.ethcm_session.specs.Table.{peer_in}
+use Rattle.ethcm_session.specs.Table.{standing_peer}
 use Rattle.ethcm_session.proofs.Rows.{by_rows}
 use Rattle.ethcm_window.specs.Sending.{sent_frame, unacknowledged}
 use Rattle.ethcm_window.specs.Receiving.{missing_count}
@@ -149,8 +149,8 @@ module _ (P : Reaction Ticked → Type 0) (s : EndState) (rows : TickRules P s) 
 
 tick_row : (P : Reaction Ticked → Type 0) (s : EndState) (standing : Standing)
     → s.talk.standing ≡ standing → TickRules P s → P (tick_in s standing)
-tick_row P s Connecting e rows = rows.connecting (ap peer_in e)
-tick_row P s (Up peer confirmed) e rows = up_row P s rows peer (ap peer_in e)
+tick_row P s Connecting e rows = rows.connecting (ap standing_peer e)
+tick_row P s (Up peer confirmed) e rows = up_row P s rows peer (ap standing_peer e)
 
 pub by_tick_rules : (P : Reaction Ticked → Type 0) (s : EndState) → TickRules P s → P (tick_of s)
 unfolding tick_of

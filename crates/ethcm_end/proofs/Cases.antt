@@ -11,7 +11,7 @@ use Rattle.ethcm_headers.specs.declared.packets.Packet.{Packet}
 use Rattle.ethcm_headers.specs.declared.packets.Part.{Part}
 use Rattle.ethcm_headers.specs.declared.packets.Part.TheVariants.{Conn, Ack, Nack, Piece}
 use Rattle.ethcm_session.specs.declared.standing.Standing.TheVariants.{Connecting, Up}
-use Rattle.ethcm_session.specs.Table.{peer_in}
+use Rattle.ethcm_session.specs.Table.{standing_peer}
 use Rattle.ethcm_session.proofs.Rows.{by_rows as by_table}
 use Rattle.ethcm_end.specs.declared.answers.Input.{Input}
 use Rattle.ethcm_end.specs.declared.answers.Input.TheVariants.{Nothing, WentUp, WentDown}
@@ -32,11 +32,11 @@ pub kind_is : (p : Packet) (kind : ConnKind) → kind_in p.part ≡ Some kind �
 kind_is p kind e = part_of p.part kind e
 
 pub unpeered : (s : EndState) → s.talk.standing ≡ Connecting → peer_of s ≡ None
-unpeered s e = ap peer_in e
+unpeered s e = ap standing_peer e
 
 pub peered : (s : EndState) (peer : Session) (confirmed : Bool)
     → s.talk.standing ≡ Up peer confirmed → peer_of s ≡ Some peer
-peered s peer confirmed e = ap peer_in e
+peered s peer confirmed e = ap standing_peer e
 
 pub is_between : (s : EndState) (p : Packet) (confirmed : Bool)
     → s.talk.standing ≡ Up p.src confirmed → p.dst ≡ s.talk.mine.0 → IsBetween s p

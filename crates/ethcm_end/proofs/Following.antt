@@ -11,7 +11,7 @@ use Rattle.ethcm_headers.specs.declared.packets.Part.{Part}
 use Rattle.ethcm_headers.specs.declared.packets.Part.TheVariants.{Conn, Ack, Nack, Piece}
 use Rattle.ethcm_session.specs.declared.standing.Standing.{Standing}
 use Rattle.ethcm_session.specs.declared.standing.Standing.TheVariants.{Connecting, Up}
-use Rattle.ethcm_session.specs.Table.{from_peer, peer_in, while_connecting}
+use Rattle.ethcm_session.specs.Table.{from_peer, standing_peer, while_connecting}
 use Rattle.ethcm_window.specs.Sending.{sent_frame, unacknowledged}
 use Rattle.fragmenter.specs.declared.joiner.Joined.{Joined}
 use Rattle.fragmenter.specs.declared.joiner.Joined.TheVariants.{More, Whole, Broken}
@@ -27,11 +27,11 @@ use Rattle.ethcm_end.specs.Rows.{OfferFollowsRules}
 
 -- ---- where an end stands
 
-is_connecting : (standing : Standing) → peer_in standing ≡ None → standing ≡ Connecting
+is_connecting : (standing : Standing) → standing_peer standing ≡ None → standing ≡ Connecting
 is_connecting Connecting e = refl
 is_connecting (Up peer confirmed) e = absurd (grind arith)
 
-is_up : (standing : Standing) (peer : Session) → peer_in standing ≡ Some peer
+is_up : (standing : Standing) (peer : Session) → standing_peer standing ≡ Some peer
     → (confirmed : Bool) × (standing ≡ Up peer confirmed)
 is_up Connecting peer e = absurd (grind arith)
 is_up (Up y confirmed) peer e =

@@ -8,7 +8,7 @@ use Rattle.ethcm_window.specs.Receiving.{Receiver, KeepsInOrder, kept_at, kept_a
 use Rattle.ethcm_window.proofs.Keeping.{front_kept, front_missing, rises_from_expected}
 use Rattle.fragmenter.specs.declared.joiner.Joined.{Joined}
 use Rattle.fragmenter.specs.declared.joiner.Joined.TheVariants.{More, Whole, Broken}
-use Rattle.fragmenter.specs.Joining.{Begun, answer_of, held_after}
+use Rattle.fragmenter.specs.Joining.{Begun, held_after, joiner_answer}
 use Rattle.ethcm_end.specs.Rules.{Taken, take_kept}
 
 -- what stands where no more is taken
@@ -20,7 +20,7 @@ stops n kept held made =
 take_first : (n : ℕ) (kept : List SentFrame) (held : Option Begun) (f : Frame)
     → KeepsInOrder n kept → Some f ≡ kept_at n kept
     → take_kept n kept held More
-    ≡ take_kept (n + 1) (kept_above n kept) (held_after held f) (answer_of held f)
+    ≡ take_kept (n + 1) (kept_above n kept) (held_after held f) (joiner_answer held f)
 unfolding take_kept
 take_first n [] held f r e = absurd (grind arith)
 take_first n (s ∷ kept) held f r e =
@@ -66,7 +66,7 @@ module _ (rx new : Receiver) (held : Option Begun) (made : Joined) (all : Taken)
   -- one more is taken
   pub took_one : (after : Option Begun) (f : Frame) (now : Joined)
       → Some f ≡ kept_at rx.expected rx.kept → new ≡ after_taking rx → after ≡ held_after held f
-      → now ≡ answer_of held f → made ≡ More → take_kept new.expected new.kept after now ≡ all
+      → now ≡ joiner_answer held f → made ≡ More → take_kept new.expected new.kept after now ≡ all
   took_one after f now e n h a m =
       let more : take_kept rx.expected rx.kept held More ≡ all = rw m at i in
       rw (n, h, a) (sym (take_first rx.expected rx.kept held f k e) ∙ more)

@@ -6,8 +6,8 @@ use Rattle.ethcm_headers.specs.declared.packets.Packet.{Packet}
 use Rattle.ethcm_headers.specs.declared.packets.Part.{Part}
 use Rattle.ethcm_session.specs.declared.standing.Standing.{Standing}
 use Rattle.ethcm_session.specs.declared.standing.Standing.TheVariants.{Connecting, Up}
-use Rattle.ethcm_session.specs.Table.{peer_in}
-use Rattle.ethcm_window.specs.Sending.{after_ack, with_offered}
+use Rattle.ethcm_session.specs.Table.{standing_peer}
+use Rattle.ethcm_window.specs.Sending.{after_ack, with_frames}
 use Rattle.fragmenter.specs.Pieces.{pieces_of}
 use Rattle.ethcm_end.specs.States.{EndState, peer_of}
 use Rattle.ethcm_end.specs.Rules.{input_of, offer_in, offer_of, tick_of}
@@ -66,17 +66,17 @@ tick_moves s =
     })
 
 offer_in_moves : (s : EndState) (standing : Standing) (m : Message) (peer : Session)
-    → peer_in standing ≡ Some peer
-    → (offer_in s standing m).tx ≡ with_offered s.tx (pieces_of m s.piece)
+    → standing_peer standing ≡ Some peer
+    → (offer_in s standing m).tx ≡ with_frames s.tx (pieces_of m s.piece)
 offer_in_moves s Connecting m peer e = absurd (grind arith)
 offer_in_moves s (Up other confirmed) m peer e = refl
 
 offer_moves : (s : EndState) (m : Message) (peer : Session) → peer_of s ≡ Some peer
-    → (offer_of s m).tx ≡ with_offered s.tx (pieces_of m s.piece)
+    → (offer_of s m).tx ≡ with_frames s.tx (pieces_of m s.piece)
 unfolding offer_of
 offer_moves s m peer e = offer_in_moves s s.talk.standing m peer e
 
-offer_in_stays : (s : EndState) (standing : Standing) (m : Message) → peer_in standing ≡ None
+offer_in_stays : (s : EndState) (standing : Standing) (m : Message) → standing_peer standing ≡ None
     → offer_in s standing m ≡ s
 offer_in_stays s Connecting m e = refl
 offer_in_stays s (Up peer confirmed) m e = absurd (grind arith)

@@ -8,7 +8,7 @@ use Rattle.std.proofs.lemmas.List.{drop-append-le, drop-drop, length-append, len
 use Rattle.std.proofs.lemmas.List.Elements.{All-append, All-cons, All-filter}
 use Rattle.linx_base.specs.declared.frame.Frame.{Frame}
 use Rattle.linx_base.specs.declared.frame.SentFrame.{SentFrame}
-use Rattle.ethcm_window.specs.Sending.{Sender, after_ack, with_offered}
+use Rattle.ethcm_window.specs.Sending.{Sender, after_ack, with_frames}
 use Rattle.ethcm_window.specs.Receiving.{Receiver, after_taking, early_limit, keeps_number}
 use Rattle.ethcm_window.specs.Receiving.{kept_above, kept_below, kept_early}
 use Rattle.fragmenter.specs.Joining.{Begun}
@@ -41,7 +41,7 @@ module _ (all : List Frame) (tx : Sender) (has : HasRest all tx) where
       ∙ at_later tx.base (n - tx.base) n all (omega arith)) ∙ h.1
 
   -- an offer puts its pieces behind them
-  pub offered_rest : (frames : List Frame) → HasRest (all ++ frames) (with_offered tx frames)
+  pub offered_rest : (frames : List Frame) → HasRest (all ++ frames) (with_frames tx frames)
   offered_rest frames =
       let within = has.0 in (
         omega (arith, length-append all frames),

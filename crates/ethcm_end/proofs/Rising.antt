@@ -13,12 +13,12 @@ use Rattle.ethcm_headers.specs.declared.packets.Packet.{Packet}
 use Rattle.ethcm_session.specs.declared.standing.Standing.{Standing}
 use Rattle.ethcm_session.specs.declared.standing.Standing.TheVariants.{Connecting, Up}
 use Rattle.ethcm_session.specs.declared.standing.TalkState.{TalkState}
-use Rattle.ethcm_session.specs.Table.{peer_in, up_with}
+use Rattle.ethcm_session.specs.Table.{standing_peer, up_with}
 use Rattle.ethcm_window.specs.Sending.{Sender, after_ack, empty_sender, sent_end}
 use Rattle.ethcm_window.specs.Receiving.{empty_receiver}
 use Rattle.fragmenter.specs.declared.joiner.Joined.{Joined}
 use Rattle.fragmenter.specs.declared.joiner.Joined.TheVariants.{More, Whole, Broken}
-use Rattle.fragmenter.specs.Joining.{Begun, answer_of, held_after}
+use Rattle.fragmenter.specs.Joining.{Begun, held_after, joiner_answer}
 use Rattle.ethcm_end.specs.declared.answers.Input.{Input}
 use Rattle.ethcm_end.specs.declared.answers.Input.TheVariants.{Nothing, WentUp, WentDown, Got}
 use Rattle.ethcm_end.specs.declared.answers.Ticked.{Ticked}
@@ -48,7 +48,7 @@ taken_expected n (s ∷ kept) held More =
     elim (eqb_tells s.number n) [
       | inl same ↦
           let more =
-          taken_expected (n + 1) kept (held_after held s.frame) (answer_of held s.frame) in
+          taken_expected (n + 1) kept (held_after held s.frame) (joiner_answer held s.frame) in
           rw same.0 (omega arith)
       | inr other ↦ rw other.0 (same_number n)
     ]
@@ -58,7 +58,7 @@ pub frames_expected : (s : EndState) (frame : Frame)
 frames_expected s frame =
     let taken : Taken = take_frames s frame in
     let more : s.rx.expected + 1 ≤ taken.rx.expected =
-    taken_expected (s.rx.expected + 1) _ (held_after s.held frame) (answer_of s.held frame) in
+    taken_expected (s.rx.expected + 1) _ (held_after s.held frame) (joiner_answer s.held frame) in
     omega arith
 
 -- ---- where the session goes
@@ -88,7 +88,7 @@ hears : (s new : EndState) (p : Packet) → IsBetween s p → new.talk ≡ up_wi
     → s.rx.expected ≤ new.rx.expected → GoesOn s new
 hears s new p between talk expected =
     on s new (ap (λ (t : TalkState). t.mine) talk)
-    (ap (λ (t : TalkState). peer_in t.standing) talk ∙ sym between.from) expected
+    (ap (λ (t : TalkState). standing_peer t.standing) talk ∙ sym between.from) expected
 
 pub input_goes : (s : EndState) (p : Packet)
     → GoesBy s (input_of s p).state p.src (input_of s p).answer

@@ -17,13 +17,14 @@ use Rattle.ethcm_headers.specs.declared.packets.Part.{Part}
 use Rattle.ethcm_headers.specs.declared.packets.Part.TheVariants.{Conn, Ack, Nack, Piece}
 use Rattle.ethcm_session.specs.declared.standing.Standing.{Standing}
 use Rattle.ethcm_session.specs.declared.standing.Standing.TheVariants.{Connecting, Up}
-use Rattle.ethcm_session.specs.Table.{peer_in}
+use Rattle.ethcm_session.specs.Table.{standing_peer}
 use Rattle.ethcm_window.specs.Sending.{Sender, after_ack, coming_in, from_number, numbered_from}
 use Rattle.ethcm_window.specs.Sending.{sent_again, sent_end, sent_frame, unacknowledged}
 use Rattle.ethcm_end.specs.States.{EndState, peer_of}
 use Rattle.ethcm_end.specs.Rules.{input_of, offer_in, offer_of, packet_of, piece_packet, tick_of}
 use Rattle.ethcm_end.proofs.ByRule.{by_rules, by_tick_rules}
-use Rattle.ethcm_end.specs.Windows.{HasFrame, IsSent, PacketsNameSessions, Says, Sends, partner}
+use Rattle.ethcm_end.specs.Windows.{HasFrame, IsSent, PacketsNameSessions, PartSays, Sends}
+use Rattle.ethcm_end.specs.Windows.{peer_or_unknown}
 use Rattle.ethcm_end.proofs.Rising.{begins, by_ack, down}
 
 -- ---- the frames of a window
@@ -93,18 +94,18 @@ module _ (tx : Sender) (old new : EndState) (to : Session) where
   none e = sends [] (e ∙ sym (append-nil old.out)) (All-nil (IsSent tx old new to))
 
   -- a packet of this session
-  is : (mid : EndState) (part : Part) → mid.talk.mine ≡ old.talk.mine → Says tx old new to part
+  is : (mid : EndState) (part : Part) → mid.talk.mine ≡ old.talk.mine → PartSays tx old new to part
       → IsSent tx old new to (packet_of mid to part)
   is mid part mine says = record { src = mine; dst = refl; says = says }
 
   all_one : (mid : EndState) (part : Part) → mid.talk.mine ≡ old.talk.mine
-      → Says tx old new to part → All (IsSent tx old new to) (packet_of mid to part ∷ [])
+      → PartSays tx old new to part → All (IsSent tx old new to) (packet_of mid to part ∷ [])
   all_one mid part mine says =
       All-cons (IsSent tx old new to) (packet_of mid to part) [] (is mid part mine says)
       (All-nil (IsSent tx old new to))
 
   -- one packet
-  one : (mid : EndState) (part : Part) → mid.talk.mine ≡ old.talk.mine → Says tx old new to part
+  one : (mid : EndState) (part : Part) → mid.talk.mine ≡ old.talk.mine → PartSays tx old new to part
       → new.out ≡ old.out ++ packet_of mid to part ∷ [] → Sends tx old new to
   one mid part mine says added =
       sends (packet_of mid to part ∷ []) added (all_one mid part mine says)
@@ -180,12 +181,12 @@ input_sends s p =
 
 -- where the peer is known
 to_partner : (s new : EndState) (tx : Sender) (standing : Option Session) → peer_of s ≡ standing
-    → Sends tx s new (partner standing) → Sends tx s new (partner (peer_of s))
-to_partner s new tx standing e h = subst (λ q. Sends tx s new (partner q)) (sym e) h
+    → Sends tx s new (peer_or_unknown standing) → Sends tx s new (peer_or_unknown (peer_of s))
+to_partner s new tx standing e h = subst (λ q. Sends tx s new (peer_or_unknown q)) (sym e) h
 
-tick_sends : (s : EndState) → Sends s.tx s (tick_of s).state (partner (peer_of s))
+tick_sends : (s : EndState) → Sends s.tx s (tick_of s).state (peer_or_unknown (peer_of s))
 tick_sends s =
-    by_tick_rules (λ r. Sends s.tx s r.state (partner (peer_of s))) s (record {
+    by_tick_rules (λ r. Sends s.tx s r.state (peer_or_unknown (peer_of s))) s (record {
       connecting = λ e.
           to_partner s _ s.tx None e
           (one s.tx s _ (record { 0 = 0 }) s (Conn kinds.Connect) refl (e, refl) refl);
@@ -203,10 +204,10 @@ tick_sends s =
 -- ---- an offer
 
 offer_in_sends : (s : EndState) (standing : Standing) (m : Message) → s.talk.standing ≡ standing
-    → Sends (offer_in s standing m).tx s (offer_in s standing m) (partner (peer_of s))
-offer_in_sends s Connecting m e = none s.tx s s (partner (peer_of s)) refl
+    → Sends (offer_in s standing m).tx s (offer_in s standing m) (peer_or_unknown (peer_of s))
+offer_in_sends s Connecting m e = none s.tx s s (peer_or_unknown (peer_of s)) refl
 offer_in_sends s (Up peer confirmed) m e =
-    let up : peer_of s ≡ Some peer = ap peer_in e in
+    let up : peer_of s ≡ Some peer = ap standing_peer e in
     let new : EndState = offer_in s (Up peer confirmed) m in
     to_partner s new new.tx (Some peer) up
     (pieces new.tx s new peer up s _ refl refl
@@ -214,7 +215,7 @@ offer_in_sends s (Up peer confirmed) m e =
     (window_has new.tx)) refl)
 
 offer_sends : (s : EndState) (m : Message)
-    → Sends (offer_of s m).tx s (offer_of s m) (partner (peer_of s))
+    → Sends (offer_of s m).tx s (offer_of s m) (peer_or_unknown (peer_of s))
 unfolding offer_of
 offer_sends s m = offer_in_sends s s.talk.standing m refl
 

@@ -21,23 +21,23 @@ use Rattle.ethcm_headers.specs.Packets.{FitsPart, IsPacket, IsPart}
 use Rattle.ethcm_session.specs.declared.standing.Standing.{Standing}
 use Rattle.ethcm_session.specs.declared.standing.Standing.TheVariants.{Connecting, Up}
 use Rattle.ethcm_session.specs.declared.standing.TalkState.{TalkState}
-use Rattle.ethcm_session.specs.Table.{HasNext, after_down, peer_in, up_with}
+use Rattle.ethcm_session.specs.Table.{HasNext, after_down, standing_peer, up_with}
 use Rattle.ethcm_session.proofs.Rows.{by_rows, next_numbered}
 use Rattle.ethcm_window.specs.Sending.{Sender, after_ack, coming_in, from_number, left_of}
 use Rattle.ethcm_window.specs.Sending.{number_limit, numbered_from, sent_again, sent_end}
-use Rattle.ethcm_window.specs.Sending.{unacknowledged, with_offered}
+use Rattle.ethcm_window.specs.Sending.{unacknowledged, with_frames}
 use Rattle.ethcm_window.specs.Receiving.{KeepsInOrder, Receiver, early_limit, kept_above}
 use Rattle.ethcm_window.specs.Receiving.{kept_early, kept_with, missing_count}
 use Rattle.ethcm_window.proofs.Keeping.{counts_missing, front_kept, rises_early}
 use Rattle.ethcm_window.proofs.Keeping.{rises_from_expected, rises_taken}
 use Rattle.fragmenter.specs.declared.joiner.Joined.{Joined}
 use Rattle.fragmenter.specs.declared.joiner.Joined.TheVariants.{More, Whole, Broken}
-use Rattle.fragmenter.specs.Joining.{Begun, answer_of, held_after}
+use Rattle.fragmenter.specs.Joining.{Begun, held_after, joiner_answer}
 use Rattle.fragmenter.specs.Pieces.{cut, followers, framed, pieces_of}
 use Rattle.fragmenter.proofs.Cuts.{few_pieces, pieces_fit}
 use Rattle.link_supervisor.specs.Loss.{lost_at}
 use Rattle.ethcm_end.specs.States.{EndState, Reaction, gives}
-use Rattle.ethcm_end.specs.Sound.{FitsMessage, IsKnown, IsSound, IsSoundReceiver, IsSoundSender}
+use Rattle.ethcm_end.specs.Sound.{FitsMessage, IsKnown, IsSoundEnd, IsSoundReceiver, IsSoundSender}
 use Rattle.ethcm_end.specs.Sound.{IsSoundTalk}
 use Rattle.ethcm_end.specs.Rules.{acked, after_out, anew, data_in, finished, framed_in}
 use Rattle.ethcm_end.specs.Rules.{gone_down, heard, input_of, kind_in, nacked, offer_in, offer_of}
@@ -53,8 +53,8 @@ record IsSent (sent : SentFrame) : Type 0 where
   pub frame : IsFrame sent.frame
   pub fits : FitsFrame sent.frame
 
-with_out : (s : EndState) (out : List Packet) → IsSound s → All IsPacket out
-    → IsSound (record s { out = out })
+with_out : (s : EndState) (out : List Packet) → IsSoundEnd s → All IsPacket out
+    → IsSoundEnd (record s { out = out })
 with_out s out k all =
     record { talk = k.talk; tx = k.tx; rx = k.rx; ticks = k.ticks; piece = k.piece; out = all }
 
@@ -75,19 +75,19 @@ module _ (s : EndState) (dst : Session) (part : Part) where
         part_fits = fits;
       }
 
-  put_sound : IsSound s → IsPacket (packet_of s dst part) → IsSound (put s dst part)
+  put_sound : IsSoundEnd s → IsPacket (packet_of s dst part) → IsSoundEnd (put s dst part)
   put_sound k packet =
       with_out s (s.out ++ packet_of s dst part ∷ []) k
       (All-append IsPacket s.out (packet_of s dst part ∷ []) k.out
       (All-cons IsPacket (packet_of s dst part) [] packet (All-nil IsPacket)))
 
-  put_known : IsSound s → IsKnown dst → part ≢ Conn kinds.Connect → IsPart part → FitsPart part
-      → IsSound (put s dst part)
+  put_known : IsSoundEnd s → IsKnown dst → part ≢ Conn kinds.Connect → IsPart part → FitsPart part
+      → IsSoundEnd (put s dst part)
   put_known k known other within fits =
       put_sound k (is_packet k.talk known other within fits)
 
-put_ack_sound : (s : EndState) (peer : Session) → IsSound s → IsKnown peer
-    → IsSound (put_ack s peer)
+put_ack_sound : (s : EndState) (peer : Session) → IsSoundEnd s → IsKnown peer
+    → IsSoundEnd (put_ack s peer)
 put_ack_sound s peer k known =
     let expected = k.rx.expected in
     put_known s peer (Ack s.rx.expected) k known (λ e. cc) tt (omega arith)
@@ -103,8 +103,8 @@ packets_of s dst (f ∷ fs) talk expected known all =
     (first.numbered, first.frame) (omega arith, first.fits) in
     All-cons (λ f. IsPacket (piece_packet s dst f)) f fs is rest
 
-put_pieces_sound : (s : EndState) (dst : Session) (sent : List SentFrame) → IsSound s
-    → IsKnown dst → All IsSent sent → IsSound (put_pieces s dst sent)
+put_pieces_sound : (s : EndState) (dst : Session) (sent : List SentFrame) → IsSoundEnd s
+    → IsKnown dst → All IsSent sent → IsSoundEnd (put_pieces s dst sent)
 put_pieces_sound s dst sent k known all =
     with_out s (s.out ++ map (piece_packet s dst) sent) k
     (All-append IsPacket s.out (map (piece_packet s dst) sent) k.out
@@ -171,22 +171,22 @@ after_ack_sound tx next k =
 
 -- ---- changes of one part
 
-with_talk : (s : EndState) (talk : TalkState) → IsSound s → IsSoundTalk talk
-    → IsSound (record s { talk = talk })
+with_talk : (s : EndState) (talk : TalkState) → IsSoundEnd s → IsSoundTalk talk
+    → IsSoundEnd (record s { talk = talk })
 with_talk s talk k sound =
     record { talk = sound; tx = k.tx; rx = k.rx; ticks = k.ticks; piece = k.piece; out = k.out }
 
-with_tx : (s : EndState) (tx : Sender) → IsSound s → IsSoundSender tx
-    → IsSound (record s { tx = tx })
+with_tx : (s : EndState) (tx : Sender) → IsSoundEnd s → IsSoundSender tx
+    → IsSoundEnd (record s { tx = tx })
 with_tx s tx k sound =
     record { talk = k.talk; tx = sound; rx = k.rx; ticks = k.ticks; piece = k.piece; out = k.out }
 
-with_rx : (s : EndState) (rx : Receiver) (held : Option Begun) (asked : Bool) → IsSound s
-    → IsSoundReceiver rx → IsSound (record s { rx = rx; held = held; asked = asked })
+with_rx : (s : EndState) (rx : Receiver) (held : Option Begun) (asked : Bool) → IsSoundEnd s
+    → IsSoundReceiver rx → IsSoundEnd (record s { rx = rx; held = held; asked = asked })
 with_rx s rx held asked k sound =
     record { talk = k.talk; tx = k.tx; rx = sound; ticks = k.ticks; piece = k.piece; out = k.out }
 
-heard_sound : (s : EndState) → IsSound s → IsSound (heard s)
+heard_sound : (s : EndState) → IsSoundEnd s → IsSoundEnd (heard s)
 heard_sound s k =
     record {
       talk = k.talk;
@@ -197,7 +197,7 @@ heard_sound s k =
       out = k.out;
     }
 
-anew_sound : (s : EndState) → IsSound s → IsSound (anew s)
+anew_sound : (s : EndState) → IsSoundEnd s → IsSoundEnd (anew s)
 anew_sound s k =
     record {
       talk = k.talk;
@@ -234,7 +234,7 @@ up_sound talk peer confirmed k known =
       peer = λ y e. let same : peer ≡ y = grind arith in subst IsKnown same known;
     }
 
-gone_down_sound : (s : EndState) → IsSound s → HasNext s.talk.mine → IsSound (gone_down s)
+gone_down_sound : (s : EndState) → IsSoundEnd s → HasNext s.talk.mine → IsSoundEnd (gone_down s)
 gone_down_sound s k n =
     anew_sound (record s { talk = after_down s.talk })
     (with_talk s (after_down s.talk) k (down_sound s.talk k.talk n))
@@ -258,7 +258,7 @@ taken_sound n (s ∷ kept) held More h r =
           let above : kept ≡ kept_above n (s ∷ kept) = found.0 in
           let order : KeepsInOrder (n + 1) kept =
           subst (KeepsInOrder (n + 1)) (sym above) (rises_taken n (s ∷ kept) r) in
-          rw same.0 (taken_sound (n + 1) kept (held_after held s.frame) (answer_of held s.frame)
+          rw same.0 (taken_sound (n + 1) kept (held_after held s.frame) (joiner_answer held s.frame)
           (omega arith) order)
       | inr other ↦ rw other.0 (record { expected = h; in_order = r })
     ]
@@ -282,15 +282,15 @@ early_sound rx sent k early numbered =
 
 -- ---- the data rules
 
-module _ (s : EndState) (peer : Session) (k : IsSound s) (known : IsKnown peer) where
-  acked_sound : (next : ℕ) → IsSound (acked s peer next)
+module _ (s : EndState) (peer : Session) (k : IsSoundEnd s) (known : IsKnown peer) where
+  acked_sound : (next : ℕ) → IsSoundEnd (acked s peer next)
   acked_sound next =
       let tx : Sender = after_ack s.tx next in
       let sound = after_ack_sound s.tx next k.tx in
       put_pieces_sound (record s { tx = tx }) peer (coming_in s.tx tx) (with_tx s tx k sound) known
       (sent_from tx sound (sent_end s.tx))
 
-  ask_sound : IsSound (ask s peer)
+  ask_sound : IsSoundEnd (ask s peer)
   ask_sound =
       let counts = counts_missing s.rx.expected s.rx.kept k.rx.in_order in
       let expected = k.rx.expected in
@@ -298,37 +298,38 @@ module _ (s : EndState) (peer : Session) (k : IsSound s) (known : IsKnown peer) 
       let sent = put_known s peer missing k known (λ e. cc) (counts.at_least, counts.at_most)
       (omega arith) in
       let asking : EndState = record (put s peer missing) { asked = true } in
-      elim s.asked as (λ b. IsSound (if b then s else asking)) [
+      elim s.asked as (λ b. IsSoundEnd (if b then s else asking)) [
         | true ↦ k
         | false ↦ with_rx (put s peer missing) s.rx s.held true sent k.rx
       ]
 
-nacked_sound : (s : EndState) (peer : Session) (next count : ℕ) → IsSound s → IsKnown peer
-    → IsSound (nacked s peer next count)
+nacked_sound : (s : EndState) (peer : Session) (next count : ℕ) → IsSoundEnd s → IsKnown peer
+    → IsSoundEnd (nacked s peer next count)
 nacked_sound s peer next count k known =
     let sound = acked_sound s peer k known next in
     put_pieces_sound (acked s peer next) peer (sent_again (acked s peer next).tx next count) sound
     known (sent_again_sent (acked s peer next).tx sound.tx next count)
 
-finished_sound : (s : EndState) (peer : Session) (made : Joined) → IsSound s → IsKnown peer
-    → HasNext s.talk.mine → IsSound (finished s peer made).state
+finished_sound : (s : EndState) (peer : Session) (made : Joined) → IsSoundEnd s → IsKnown peer
+    → HasNext s.talk.mine → IsSoundEnd (finished s peer made).state
 finished_sound s peer More k known n = put_ack_sound s peer k known
 finished_sound s peer (Whole m) k known n = put_ack_sound s peer k known
 finished_sound s peer Broken k known n = gone_down_sound s k n
 
-took_sound : (s : EndState) (peer : Session) (frame : Frame) → IsSound s → IsKnown peer
+took_sound : (s : EndState) (peer : Session) (frame : Frame) → IsSoundEnd s → IsKnown peer
     → HasNext s.talk.mine → s.rx.expected < number_limit
-    → IsSound (finished (with_taken s (take_frames s frame)) peer (take_frames s frame).made).state
+    → IsSoundEnd
+    (finished (with_taken s (take_frames s frame)) peer (take_frames s frame).made).state
 took_sound s peer frame k known n below =
     let taken = take_frames s frame in
     let rx = taken_sound (s.rx.expected + 1) (kept_above s.rx.expected s.rx.kept)
-    (held_after s.held frame) (answer_of s.held frame) (omega arith)
+    (held_after s.held frame) (joiner_answer s.held frame) (omega arith)
     (rises_taken s.rx.expected s.rx.kept k.rx.in_order) in
     finished_sound (with_taken s taken) peer taken.made
     (with_rx s taken.rx taken.held false k rx) known n
 
-framed_sound : (s : EndState) (peer : Session) (sent : SentFrame) → IsSound s → IsKnown peer
-    → HasNext s.talk.mine → sent.number < number_limit → IsSound (framed_in s peer sent).state
+framed_sound : (s : EndState) (peer : Session) (sent : SentFrame) → IsSoundEnd s → IsKnown peer
+    → HasNext s.talk.mine → sent.number < number_limit → IsSoundEnd (framed_in s peer sent).state
 framed_sound s peer sent k known n numbered =
     elim (eqb_tells sent.number s.rx.expected) [
       | inl same ↦
@@ -345,8 +346,8 @@ framed_sound s peer sent k known n numbered =
     ]
 
 -- a part within its bounds, whose numbers fit their fields
-data_sound : (s : EndState) (peer : Session) (part : Part) → IsSound s → IsKnown peer
-    → HasNext s.talk.mine → IsPart part → IsSound (data_in s peer part).state
+data_sound : (s : EndState) (peer : Session) (part : Part) → IsSoundEnd s → IsKnown peer
+    → HasNext s.talk.mine → IsPart part → IsSoundEnd (data_in s peer part).state
 unfolding data_in
 data_sound s peer (Conn kind) k known n within = k
 data_sound s peer (Ack next) k known n within = acked_sound s peer k known next
@@ -357,21 +358,21 @@ data_sound s peer (Piece next seq frame) k known n within =
 
 -- ---- a packet
 
-replied_sound : (s : EndState) (src : Session) (kind : ConnKind) → IsSound s → IsKnown src
-    → kind ≢ kinds.Connect → IsSound (put s src (Conn kind))
+replied_sound : (s : EndState) (src : Session) (kind : ConnKind) → IsSoundEnd s → IsKnown src
+    → kind ≢ kinds.Connect → IsSoundEnd (put s src (Conn kind))
 replied_sound s src kind k known other =
     put_known s src (Conn kind) k known (λ e. other (grind arith)) tt tt
 
-pub input_sound : (s : EndState) (p : Packet) → IsSound s → IsPacket p → HasNext s.talk.mine
-    → IsSound (input_of s p).state
+pub input_sound : (s : EndState) (p : Packet) → IsSoundEnd s → IsPacket p → HasNext s.talk.mine
+    → IsSoundEnd (input_of s p).state
 unfolding input_of
 input_sound s p k is n =
     let known : IsKnown p.src = (is.bounds.sender_known, is.sender_fits) in
-    let up : (confirmed : Bool) → IsSound (record s { talk = up_with s.talk p.src confirmed }) =
+    let up : (confirmed : Bool) → IsSoundEnd (record s { talk = up_with s.talk p.src confirmed }) =
     λ c. with_talk s (up_with s.talk p.src c) k (up_sound s.talk p.src c k.talk known) in
     let down = gone_down_sound s k n in
     let same = heard_sound s k in
-    by_rows (λ outcome. IsSound (reacts s p.src p.part outcome).state) s.talk p.src p.dst
+    by_rows (λ outcome. IsSoundEnd (reacts s p.src p.part outcome).state) s.talk p.src p.dst
     (kind_in p.part) (record {
       connecting_connect = λ e q. replied_sound s p.src kinds.ConnectAck k known (λ x. cc);
       connecting_connect_ack = λ e q d.
@@ -395,7 +396,8 @@ input_sound s p k is n =
 
 -- ---- a tick
 
-connect_sound : (s : EndState) → IsSound s → IsSound (put s (record { 0 = 0 }) (Conn kinds.Connect))
+connect_sound : (s : EndState) → IsSoundEnd s
+    → IsSoundEnd (put s (record { 0 = 0 }) (Conn kinds.Connect))
 connect_sound s k =
     put_sound s (record { 0 = 0 }) (Conn kinds.Connect) k (record {
       bounds = record {
@@ -408,18 +410,18 @@ connect_sound s k =
       part_fits = tt;
     })
 
-again_sound : (s : EndState) (peer : Session) (sent : List SentFrame) → IsSound s → IsKnown peer
-    → All IsSent sent → IsSound (sent_or_ack s peer sent)
+again_sound : (s : EndState) (peer : Session) (sent : List SentFrame) → IsSoundEnd s → IsKnown peer
+    → All IsSent sent → IsSoundEnd (sent_or_ack s peer sent)
 again_sound s peer [] k known all = replied_sound s peer kinds.Ack k known (λ e. cc)
 again_sound s peer (f ∷ fs) k known all = put_pieces_sound s peer (f ∷ fs) k known all
 
-ticked_sound : (s : EndState) → IsSound s → s.ticks + 1 < lost_at
-    → IsSound (record s { ticks = s.ticks + 1; asked = false })
+ticked_sound : (s : EndState) → IsSoundEnd s → s.ticks + 1 < lost_at
+    → IsSoundEnd (record s { ticks = s.ticks + 1; asked = false })
 ticked_sound s k h =
     record { talk = k.talk; tx = k.tx; rx = k.rx; ticks = h; piece = k.piece; out = k.out }
 
-tick_up_sound : (s : EndState) (peer : Session) → IsSound s → IsKnown peer → HasNext s.talk.mine
-    → IsSound (tick_up s peer).state
+tick_up_sound : (s : EndState) (peer : Session) → IsSoundEnd s → IsKnown peer → HasNext s.talk.mine
+    → IsSoundEnd (tick_up s peer).state
 tick_up_sound s peer k known n =
     elim (cases_lt (s.ticks + 1) lost_at) [
       | inl before ↦
@@ -431,13 +433,13 @@ tick_up_sound s peer k known n =
           (replied_sound s peer kinds.Reset k known (λ e. cc)) n)
     ]
 
-tick_in_sound : (s : EndState) (standing : Standing) → s.talk.standing ≡ standing → IsSound s
-    → HasNext s.talk.mine → IsSound (tick_in s standing).state
+tick_in_sound : (s : EndState) (standing : Standing) → s.talk.standing ≡ standing → IsSoundEnd s
+    → HasNext s.talk.mine → IsSoundEnd (tick_in s standing).state
 tick_in_sound s Connecting e k n = connect_sound s k
 tick_in_sound s (Up peer confirmed) e k n =
-    tick_up_sound s peer k (k.talk.peer peer (ap peer_in e)) n
+    tick_up_sound s peer k (k.talk.peer peer (ap standing_peer e)) n
 
-pub tick_sound : (s : EndState) → IsSound s → HasNext s.talk.mine → IsSound (tick_of s).state
+pub tick_sound : (s : EndState) → IsSoundEnd s → HasNext s.talk.mine → IsSoundEnd (tick_of s).state
 unfolding tick_of
 tick_sound s k n = tick_in_sound s s.talk.standing refl k n
 
@@ -458,14 +460,14 @@ pieces_fitting : (m : Message) (p : ℕ) → FitsMessage m → All FitsFrame (pi
 unfolding pieces_of
 pieces_fitting m p fits = framed_fit m (cut (length m.body) p m.body) fits.0 fits.1
 
-offered_sound : (s : EndState) (peer : Session) (m : Message) → IsSound s → IsKnown peer
-    → IsMessage m → FitsMessage m → 1024 ≤ left_of s.tx → IsSound (offered s peer m)
+offered_sound : (s : EndState) (peer : Session) (m : Message) → IsSoundEnd s → IsKnown peer
+    → IsMessage m → FitsMessage m → 1024 ≤ left_of s.tx → IsSoundEnd (offered s peer m)
 offered_sound s peer m k known is fits left =
     let piece = k.piece.0 in
     let given = k.tx.given in
     let few = few_pieces m s.piece piece is in
     let frames = pieces_of m s.piece in
-    let tx : Sender = with_offered s.tx frames in
+    let tx : Sender = with_frames s.tx frames in
     let sound : IsSoundSender tx = record {
       frames = All-append IsFrame s.tx.frames frames k.tx.frames
           (pieces_fit m s.piece (omega arith) k.piece.1 is);
@@ -477,24 +479,24 @@ offered_sound s peer m k known is fits left =
     (sent_from tx sound (sent_end s.tx))
 
 offer_in_sound : (s : EndState) (standing : Standing) (m : Message) → s.talk.standing ≡ standing
-    → IsSound s → IsMessage m → FitsMessage m → 1024 ≤ left_of s.tx
-    → IsSound (offer_in s standing m)
+    → IsSoundEnd s → IsMessage m → FitsMessage m → 1024 ≤ left_of s.tx
+    → IsSoundEnd (offer_in s standing m)
 offer_in_sound s Connecting m e k is fits left = k
 offer_in_sound s (Up peer confirmed) m e k is fits left =
-    offered_sound s peer m k (k.talk.peer peer (ap peer_in e)) is fits left
+    offered_sound s peer m k (k.talk.peer peer (ap standing_peer e)) is fits left
 
-pub offer_sound : (s : EndState) (m : Message) → IsSound s → IsMessage m → FitsMessage m
-    → 1024 ≤ left_of s.tx → IsSound (offer_of s m)
+pub offer_sound : (s : EndState) (m : Message) → IsSoundEnd s → IsMessage m → FitsMessage m
+    → 1024 ≤ left_of s.tx → IsSoundEnd (offer_of s m)
 unfolding offer_of
 offer_sound s m k is fits left = offer_in_sound s s.talk.standing m refl k is fits left
 
 -- ---- what goes out
 
-pub after_out_sound : (s new : EndState) → IsSound s → new ≡ after_out s → IsSound new
+pub after_out_sound : (s new : EndState) → IsSoundEnd s → new ≡ after_out s → IsSoundEnd new
 after_out_sound s new k e = rw e (with_out s (drop 1 s.out) k (All-drop IsPacket 1 s.out k.out))
 
 -- ---- by the answer of an event
 
 pub sound_after : {A : Type 0} (r : Reaction A) (new : EndState) (answer : A)
-    → gives new answer ≡ r → IsSound r.state → IsSound new
-sound_after r new answer e k = subst IsSound (sym (ap (λ q. q.state) e)) k
+    → gives new answer ≡ r → IsSoundEnd r.state → IsSoundEnd new
+sound_after r new answer e k = subst IsSoundEnd (sym (ap (λ q. q.state) e)) k

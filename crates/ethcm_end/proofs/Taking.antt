@@ -17,7 +17,7 @@ use Rattle.ethcm_window.specs.Sending.{numbered_from, sent_frame}
 use Rattle.ethcm_window.specs.Receiving.{Receiver, after_taking, kept_above, kept_early}
 use Rattle.fragmenter.specs.declared.joiner.Joined.{Joined}
 use Rattle.fragmenter.specs.declared.joiner.Joined.TheVariants.{More, Whole, Broken}
-use Rattle.fragmenter.specs.Joining.{Begun, answer_of, answers_to, held_after, held_after_all}
+use Rattle.fragmenter.specs.Joining.{Begun, answers_to, held_after, held_after_all, joiner_answer}
 use Rattle.ethcm_end.specs.States.{EndState}
 use Rattle.ethcm_end.specs.Rules.{Taken, input_of, offer_in, offer_of, take_behind, take_frames}
 use Rattle.ethcm_end.specs.Rules.{take_kept, tick_of}
@@ -64,7 +64,7 @@ none_turns n kept held made stops =
 -- one is taken, and then those behind it
 one_turns : (n : ℕ) (s : SentFrame) (kept : List SentFrame) (held : Option Begun) (taken : Taken)
     → s.number ≡ n
-    → TurnsFrom (n + 1) kept (held_after held s.frame) (answer_of held s.frame) taken
+    → TurnsFrom (n + 1) kept (held_after held s.frame) (joiner_answer held s.frame) taken
     → TurnsFrom n (s ∷ kept) held More taken
 unfolding numbered_from held_after_all answers_to made_at_the_last
 one_turns n s kept held taken e more =
@@ -94,7 +94,7 @@ kept_turns n (s ∷ kept) held More =
     elim (eqb_tells s.number n) [
       | inl same ↦
           rw same.0 (one_turns n s kept held _ same.1
-          (kept_turns (n + 1) kept (held_after held s.frame) (answer_of held s.frame)))
+          (kept_turns (n + 1) kept (held_after held s.frame) (joiner_answer held s.frame)))
       | inr other ↦
           rw other.0 (none_turns n (s ∷ kept) held More (λ m t rest q.
           let same : s ≡ t = grind arith in
@@ -136,10 +136,10 @@ in_order all n (f ∷ fs) are =
 
 module _ (rx : Receiver) (held : Option Begun) (frame : Frame) where
   behind_turns : TurnsFrom (rx.expected + 1) (kept_above rx.expected rx.kept)
-      (held_after held frame) (answer_of held frame) (take_behind (after_taking rx) held frame)
+      (held_after held frame) (joiner_answer held frame) (take_behind (after_taking rx) held frame)
   behind_turns =
       kept_turns (rx.expected + 1) (kept_above rx.expected rx.kept) (held_after held frame)
-      (answer_of held frame)
+      (joiner_answer held frame)
 
   named : (f : ℕ → Option Frame) → AreFrames f rx.kept → f rx.expected ≡ Some frame
       → AreFrames f (numbered_from rx.expected (frame ∷ behind_turns.behind))

@@ -6,7 +6,7 @@ use Rattle.linx_base.specs.declared.frame.Frame.TheVariants.{First, Next}
 use Rattle.ethcm_headers.specs.declared.packets.Part.TheVariants.{Nack}
 use Rattle.ethcm_window.specs.Sending.{Sender}
 use Rattle.fragmenter.specs.declared.joiner.Joined.TheVariants.{More, Broken}
-use Rattle.ethcm_end.specs.Windows.{HasFrame, acknowledged_in, partner}
+use Rattle.ethcm_end.specs.Windows.{HasFrame, acknowledged_in, peer_or_unknown}
 use Rattle.ethcm_end.specs.Taking.{made_at_the_last}
 
 -- three frames, the first of which is number 5
@@ -32,8 +32,8 @@ made = refl
 nack_acknowledges : acknowledged_in (Nack 4 2) ≡ Some 4
 nack_acknowledges = refl
 
-to_unknown : (partner None).0 ≡ 0
+to_unknown : (peer_or_unknown None).0 ≡ 0
 to_unknown = refl
 
-to_peer : partner (Some (first_session 3)) ≡ first_session 3
+to_peer : peer_or_unknown (Some (first_session 3)) ≡ first_session 3
 to_peer = refl

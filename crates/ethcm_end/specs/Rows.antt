@@ -7,8 +7,7 @@ use Rattle.linx_base.specs.declared.frame.Message.{Message}
 use Rattle.ethcm_headers.specs.declared.packets.Packet.{Packet}
 use Rattle.ethcm_headers.specs.declared.packets.Part.TheVariants.{Conn, Ack, Nack, Piece}
 use Rattle.ethcm_session.specs.Table.{up_with}
-use Rattle.ethcm_window.specs.Sending.{Sender, coming_in, sent_frame, unacknowledged}
-use Rattle.ethcm_window.specs.Sending.{with_offered}
+use Rattle.ethcm_window.specs.Sending.{Sender, coming_in, sent_frame, unacknowledged, with_frames}
 use Rattle.ethcm_window.specs.Receiving.{missing_count}
 use Rattle.fragmenter.specs.declared.joiner.Joined.TheVariants.{More, Whole, Broken}
 use Rattle.fragmenter.specs.Pieces.{pieces_of}
@@ -152,7 +151,7 @@ pub record OfferRules (P : EndState → Type 0) (s : EndState) (m : Message) : T
   -- into it are sent
   pub up :
       (peer : Session) → peer_of s ≡ Some peer
-      → (let tx : Sender = with_offered s.tx (pieces_of m s.piece) in
+      → (let tx : Sender = with_frames s.tx (pieces_of m s.piece) in
       P (put_pieces (record s { tx = tx }) peer (coming_in s.tx tx)))
 
 -- what a packet, a tick and an offered message make of an end is what their rules say

@@ -18,12 +18,12 @@ use Rattle.ethcm_session.specs.declared.standing.Change.{Change}
 use Rattle.ethcm_session.specs.declared.standing.Change.TheVariants as changes
 use Rattle.ethcm_session.specs.Table.{Outcome, after_down, outcome_of}
 use Rattle.ethcm_window.specs.Sending.{Sender, after_ack, coming_in, empty_sender, sent_again}
-use Rattle.ethcm_window.specs.Sending.{sent_frame, unacknowledged, with_offered}
+use Rattle.ethcm_window.specs.Sending.{sent_frame, unacknowledged, with_frames}
 use Rattle.ethcm_window.specs.Receiving.{Receiver, after_taking, empty_receiver, kept_early}
 use Rattle.ethcm_window.specs.Receiving.{missing_count}
 use Rattle.fragmenter.specs.declared.joiner.Joined.{Joined}
 use Rattle.fragmenter.specs.declared.joiner.Joined.TheVariants.{More, Whole, Broken}
-use Rattle.fragmenter.specs.Joining.{Begun, answer_of, held_after}
+use Rattle.fragmenter.specs.Joining.{Begun, held_after, joiner_answer}
 use Rattle.fragmenter.specs.Pieces.{pieces_of}
 use Rattle.link_supervisor.specs.Loss.{lost_at}
 use Rattle.ethcm_end.specs.declared.answers.Input.{Input}
@@ -102,7 +102,7 @@ pub record Taken : Type 0 where
 unfoldable pub take_kept : ℕ → List SentFrame → Option Begun → Joined → Taken
 take_kept expected (s ∷ kept) held More =
     if s.number == expected
-    then take_kept (expected + 1) kept (held_after held s.frame) (answer_of held s.frame)
+    then take_kept (expected + 1) kept (held_after held s.frame) (joiner_answer held s.frame)
     else record { rx = record { expected = expected; kept = s ∷ kept }; held = held; made = More }
 take_kept expected kept held made =
     record { rx = record { expected = expected; kept = kept }; held = held; made = made }
@@ -110,7 +110,7 @@ take_kept expected kept held made =
 -- a frame is joined, and then those that are kept from the expected number on
 abbrev pub take_behind : Receiver → Option Begun → Frame → Taken
 take_behind rx held frame =
-    take_kept rx.expected rx.kept (held_after held frame) (answer_of held frame)
+    take_kept rx.expected rx.kept (held_after held frame) (joiner_answer held frame)
 
 -- a frame of the expected number is taken, and then those that are kept behind it
 abbrev pub take_frames : EndState → Frame → Taken
@@ -240,7 +240,7 @@ tick_of s = tick_in s s.talk.standing
 -- the message's pieces get the next numbers, and those inside the window are sent
 abbrev pub offered : EndState → Session → Message → EndState
 offered s peer message =
-    let tx : Sender = with_offered s.tx (pieces_of message s.piece) in
+    let tx : Sender = with_frames s.tx (pieces_of message s.piece) in
     put_pieces (record s { tx = tx }) peer (coming_in s.tx tx)
 
 abbrev pub offer_in : EndState → Standing → Message → EndState

@@ -7,7 +7,7 @@ use Rattle.linx_base.specs.Frames.{FitsFrame, IsFrame, payload_limit}
 use Rattle.linx_base.specs.Numbers.{IsNumbered}
 use Rattle.ethcm_headers.specs.Packets.{IsPacket}
 use Rattle.ethcm_session.specs.declared.standing.TalkState.{TalkState}
-use Rattle.ethcm_session.specs.Table.{peer_in}
+use Rattle.ethcm_session.specs.Table.{standing_peer}
 use Rattle.ethcm_window.specs.Sending.{HasNumbers, Sender, number_limit}
 use Rattle.ethcm_window.specs.Receiving.{KeepsInOrder, Receiver}
 use Rattle.link_supervisor.specs.Loss.{lost_at}
@@ -29,7 +29,7 @@ FitsMessage m = (m.from < 2 ^ 32) × (m.to < 2 ^ 32)
 pub record IsSoundTalk (talk : TalkState) : Type 0 where
   pub numbered : IsNumbered talk.mine
   pub mine : IsKnown talk.mine
-  pub peer : ForSome (peer_in talk.standing) IsKnown
+  pub peer : ForSome (standing_peer talk.standing) IsKnown
 
 -- the frames that a sender has are pieces of messages, whose numbers fit their fields, and each has
 -- a number
@@ -44,7 +44,7 @@ pub record IsSoundReceiver (rx : Receiver) : Type 0 where
   pub in_order : KeepsInOrder rx.expected rx.kept
 
 -- an end whose numbers are within their bounds
-pub record IsSound (s : EndState) : Type 0 where
+pub record IsSoundEnd (s : EndState) : Type 0 where
   pub talk : IsSoundTalk s.talk
   pub tx : IsSoundSender s.tx
   pub rx : IsSoundReceiver s.rx

@@ -3,7 +3,7 @@ use Rattle.std.specs.Prelude.{ℕ, Bool, false, not, ◌==◌, ◌||◌, Option,
 use Rattle.linx_base.specs.declared.identity.Session.{Session}
 use Rattle.ethcm_headers.specs.declared.packets.Packet.{Packet}
 use Rattle.ethcm_session.specs.declared.standing.TalkState.{TalkState}
-use Rattle.ethcm_session.specs.Table.{boot_state, is_confirmed_in, peer_in}
+use Rattle.ethcm_session.specs.Table.{boot_state, is_confirmed_in, standing_peer}
 use Rattle.ethcm_window.specs.Sending.{Sender, empty_sender}
 use Rattle.ethcm_window.specs.Receiving.{Receiver, empty_receiver}
 use Rattle.fragmenter.specs.Joining.{Begun}
@@ -44,7 +44,7 @@ new_end boot window piece =
 
 -- the session of the peer, none while connecting
 abbrev pub peer_of : EndState → Option Session
-peer_of s = peer_in s.talk.standing
+peer_of s = standing_peer s.talk.standing
 
 -- an end has work while it isn't up, isn't confirmed, or has a frame that isn't acknowledged
 abbrev pub has_work_in : EndState → Bool

@@ -7,7 +7,7 @@ use Rattle.linx_base.specs.declared.frame.Message.{Message}
 use Rattle.ethcm_headers.specs.declared.packets.Packet.{Packet}
 use Rattle.ethcm_headers.specs.declared.packets.Part.{Part}
 use Rattle.ethcm_headers.specs.declared.packets.Part.TheVariants.{Conn, Ack, Nack, Piece}
-use Rattle.ethcm_window.specs.Sending.{Sender, after_ack, with_offered}
+use Rattle.ethcm_window.specs.Sending.{Sender, after_ack, with_frames}
 use Rattle.fragmenter.specs.Pieces.{pieces_of}
 use Rattle.ethcm_end.specs.States.{EndState, peer_of}
 use Rattle.ethcm_end.specs.Rules.{input_of, offer_of, tick_of}
@@ -40,7 +40,7 @@ pub record WindowsMove : Type 0 where
   pub tick : (s : EndState) → ((tick_of s).state.tx ≡ s.tx) ⊎ IsAnew (tick_of s).state
   pub offer :
       (s : EndState) (m : Message) (peer : Session) → peer_of s ≡ Some peer
-      → (offer_of s m).tx ≡ with_offered s.tx (pieces_of m s.piece)
+      → (offer_of s m).tx ≡ with_frames s.tx (pieces_of m s.piece)
   pub offer_connecting : (s : EndState) (m : Message) → peer_of s ≡ None → offer_of s m ≡ s
 
 -- ---- what goes out
@@ -54,25 +54,25 @@ abbrev pub IsExpected : EndState → EndState → ℕ → Type 0
 IsExpected old new next = (next ≡ old.rx.expected) ⊎ (next ≡ new.rx.expected)
 
 -- what a part that an event sends to this session says
-abbrev pub Says : Sender → EndState → EndState → Session → Part → Type 0
+abbrev pub PartSays : Sender → EndState → EndState → Session → Part → Type 0
 -- CONNECT is sent to the unknown session while connecting, and CONNECT_ACK while connecting
-Says tx old new to (Conn kinds.Connect) = (peer_of old ≡ None) × (to.0 ≡ 0)
-Says tx old new to (Conn kinds.ConnectAck) = peer_of old ≡ None
+PartSays tx old new to (Conn kinds.Connect) = (peer_of old ≡ None) × (to.0 ≡ 0)
+PartSays tx old new to (Conn kinds.ConnectAck) = peer_of old ≡ None
 -- ACK is sent to the peer of the end afterwards, and RESET to the one that it had, as it goes down
-Says tx old new to (Conn kinds.Ack) = peer_of new ≡ Some to
-Says tx old new to (Conn kinds.Reset) = (peer_of old ≡ Some to) × GoesDown old new
+PartSays tx old new to (Conn kinds.Ack) = peer_of new ≡ Some to
+PartSays tx old new to (Conn kinds.Reset) = (peer_of old ≡ Some to) × GoesDown old new
 -- an ACK or a NACK of frames to the peer names the expected number
-Says tx old new to (Ack next) = (peer_of old ≡ Some to) × IsExpected old new next
-Says tx old new to (Nack next count) = (peer_of old ≡ Some to) × IsExpected old new next
+PartSays tx old new to (Ack next) = (peer_of old ≡ Some to) × IsExpected old new next
+PartSays tx old new to (Nack next count) = (peer_of old ≡ Some to) × IsExpected old new next
 -- a piece to the peer names it too, and is the frame of its number
-Says tx old new to (Piece next n frame) =
+PartSays tx old new to (Piece next n frame) =
     (peer_of old ≡ Some to) × (IsExpected old new next × HasFrame tx n frame)
 
 -- the event sends the packet from the end's session to this one; a piece is a frame of this sender
 pub record IsSent (tx : Sender) (old new : EndState) (to : Session) (p : Packet) : Type 0 where
   pub src : p.src ≡ old.talk.mine
   pub dst : p.dst ≡ to.0
-  pub says : Says tx old new to p.part
+  pub says : PartSays tx old new to p.part
 
 -- the packets that an event adds to those that are still to go out
 pub record Sends (tx : Sender) (old new : EndState) (to : Session) : Type 0 where
@@ -82,15 +82,15 @@ pub record Sends (tx : Sender) (old new : EndState) (to : Session) : Type 0 wher
 
 -- the session that an end sends to of its own accord: its peer, and the unknown one while
 -- connecting
-abbrev pub partner : Option Session → Session
-partner None = record { 0 = 0 }
-partner (Some peer) = peer
+abbrev pub peer_or_unknown : Option Session → Session
+peer_or_unknown None = record { 0 = 0 }
+peer_or_unknown (Some peer) = peer
 
 -- What each event sends. A packet is answered to the session that it came from. A piece is a frame
 -- of the window before the event, or after an offer.
 pub record PacketsNameSessions : Type 0 where
   pub input : (s : EndState) (p : Packet) → Sends s.tx s (input_of s p).state p.src
-  pub tick : (s : EndState) → Sends s.tx s (tick_of s).state (partner (peer_of s))
+  pub tick : (s : EndState) → Sends s.tx s (tick_of s).state (peer_or_unknown (peer_of s))
   pub offer :
       (s : EndState) (m : Message)
-      → Sends (offer_of s m).tx s (offer_of s m) (partner (peer_of s))
+      → Sends (offer_of s m).tx s (offer_of s m) (peer_or_unknown (peer_of s))

@@ -8,7 +8,7 @@ ghost use Rattle.ethcm_headers.specs.declared.packets.Packet.{Packet as AnyPacke
 ghost use Rattle.ethcm_session.specs.Table.{HasNext};
 ghost use Rattle.ethcm_window.specs.Sending.{left_of};
 ghost use Rattle.ethcm_end.specs.States.{gives, has_work_in, new_end, peer_of};
-ghost use Rattle.ethcm_end.specs.Sound.{FitsMessage, IsPiece, IsSound};
+ghost use Rattle.ethcm_end.specs.Sound.{FitsMessage, IsPiece, IsSoundEnd};
 ghost use Rattle.ethcm_end.specs.Rules.{after_out, input_of, next_bytes, offer_of};
 ghost use Rattle.ethcm_end.specs.Rules.{restart_of, tick_of};
 
@@ -31,24 +31,24 @@ pub struct End {
 impl Model for End {
     ghost use Rattle.linx_base.specs.Both.{Both};
     ghost use Rattle.ethcm_end.specs.States.{EndState};
-    ghost use Rattle.ethcm_end.specs.Sound.{IsSound};
+    ghost use Rattle.ethcm_end.specs.Sound.{IsSoundEnd};
 
     ghost Value = { Both EndState };
 
     ghost view = { λ e. e.parts };
 
-    ghost invariant = { λ e. IsSound e.parts.was × IsSound e.parts.is };
+    ghost invariant = { λ e. IsSoundEnd e.parts.was × IsSoundEnd e.parts.is };
 }
 
 /// `take_packet`, which leaves a sound end sound.
 fn react(parts: &mut Parts, packet: Packet) -> Result<Input, NoMemory>
     requires counted { HasNext parts.old.is.talk.mine }
     requires packet { IsPacket packet }
-    requires sound { IsSound parts.old.is }
+    requires sound { IsSoundEnd parts.old.is }
     ensures reaction { let reaction = input_of parts.old.is packet in
         IfOk result (λ handed. gives parts.new.is handed ≡ reaction) }
     ensures was { parts.new.was ≡ parts.old.was }
-    ensures sound { OnOk result (IsSound parts.new.is) }
+    ensures sound { OnOk result (IsSoundEnd parts.new.is) }
 {
     let handed = take_packet(parts, packet)?;
     Ok(handed)
@@ -57,10 +57,10 @@ fn react(parts: &mut Parts, packet: Packet) -> Result<Input, NoMemory>
 /// `take_tick`, which leaves a sound end sound.
 fn beat(parts: &mut Parts) -> Result<Ticked, NoMemory>
     requires counted { HasNext parts.old.is.talk.mine }
-    requires sound { IsSound parts.old.is }
+    requires sound { IsSoundEnd parts.old.is }
     ensures reaction { IfOk result (λ ticked. gives parts.new.is ticked ≡ tick_of parts.old.is) }
     ensures was { parts.new.was ≡ parts.old.was }
-    ensures sound { OnOk result (IsSound parts.new.is) }
+    ensures sound { OnOk result (IsSoundEnd parts.new.is) }
 {
     let ticked = take_tick(parts)?;
     Ok(ticked)
@@ -78,10 +78,10 @@ fn fits(message: &Message)
 fn send(parts: &mut Parts, message: &Message) -> Result<(), NoMemory>
     requires message { IsMessage message.now }
     requires left { 1024 ≤ left_of parts.old.is.tx }
-    requires sound { IsSound parts.old.is }
+    requires sound { IsSoundEnd parts.old.is }
     ensures is { OnOk result (parts.new.is ≡ offer_of parts.old.is message.now) }
     ensures was { parts.new.was ≡ parts.old.was }
-    ensures sound { OnOk result (IsSound parts.new.is) }
+    ensures sound { OnOk result (IsSoundEnd parts.new.is) }
 {
     // The size of the pieces is within bounds, and the message's numbers fit their fields.
     let _ = parts.piece();
@@ -92,13 +92,13 @@ fn send(parts: &mut Parts, message: &Message) -> Result<(), NoMemory>
 
 /// `Parts::out` of a sound end, which stays sound; what goes out is a packet of the wire.
 fn hand_out(parts: &mut Parts) -> Result<Option<Blob>, NoMemory>
-    requires { IsSound parts.old.is }
+    requires { IsSoundEnd parts.old.is }
     ensures bytes { IfOk result (λ bytes. bytes ≡ next_bytes parts.old.is) }
     ensures is { OnOk result (parts.new.is ≡ after_out parts.old.is) }
     ensures was { parts.new.was ≡ parts.old.was }
     ensures err { OnErr result (parts.new ≡ parts.old) }
     ensures packet { ForSome (slice_get parts.old.is.out 0) IsPacket }
-    ensures sound { IsSound parts.new.is }
+    ensures sound { IsSoundEnd parts.new.is }
 {
     let bytes = parts.out()?;
     Ok(bytes)
@@ -219,8 +219,8 @@ impl End {
     pub fn mine(&self) -> Session
         ensures mine { result ≡ self.now.is.talk.mine }
         // The end is sound at every moment.
-        ensures sound { IsSound self.now.is }
-        ensures sound_before { IsSound self.now.was }
+        ensures sound { IsSoundEnd self.now.is }
+        ensures sound_before { IsSoundEnd self.now.was }
     {
         self.parts.talk.mine()
     }

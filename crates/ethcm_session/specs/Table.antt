@@ -29,9 +29,9 @@ abbrev pub after_down : TalkState → TalkState
 after_down s = record { mine = next_session s.mine; standing = Connecting }
 
 -- the session of the peer, none while connecting
-abbrev pub peer_in : Standing → Option Session
-peer_in Connecting = None
-peer_in (Up peer confirmed) = Some peer
+abbrev pub standing_peer : Standing → Option Session
+standing_peer Connecting = None
+standing_peer (Up peer confirmed) = Some peer
 
 -- the peer has confirmed the session
 abbrev pub is_confirmed_in : Standing → Bool

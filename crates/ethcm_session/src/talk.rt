@@ -2,7 +2,7 @@ ghost use Rattle.std.specs.Prelude.{◌≡◌, ◌<◌, ◌≤◌, ◌↔◌, Is
 ghost use Rattle.linx_base.specs.Both.{still};
 ghost use Rattle.linx_base.specs.Numbers.{boot_of, next_session, IsNumbered};
 ghost use Rattle.ethcm_session.specs.Table.{after_down, boot_state, from_peer, gives};
-ghost use Rattle.ethcm_session.specs.Table.{is_confirmed_in, outcome_of, peer_in, up_with};
+ghost use Rattle.ethcm_session.specs.Table.{is_confirmed_in, outcome_of, standing_peer, up_with};
 ghost use Rattle.ethcm_session.specs.Table.{while_connecting, FollowsTable, HasNext};
 
 use crate::standing::{Change, Standing, TalkState};
@@ -172,7 +172,7 @@ impl Talk {
 
     /// The end goes down: its next session is connecting.
     pub fn lost(&mut self)
-        requires up { IsSome (peer_in self.old.is.standing) }
+        requires up { IsSome (standing_peer self.old.is.standing) }
         requires counted { HasNext self.old.is.mine }
         ensures is { self.new.is ≡ after_down self.old.is }
         ensures was { self.new.was ≡ self.old.was }
@@ -191,7 +191,7 @@ impl Talk {
 
     /// The session of the peer, `None` exactly while connecting.
     pub fn peer(&self) -> Option<Session>
-        ensures { result ≡ peer_in self.now.is.standing }
+        ensures { result ≡ standing_peer self.now.is.standing }
     {
         match self.state.standing {
             Standing::Connecting => None,

@@ -10,9 +10,9 @@ use Rattle.std.proofs.Math.Dec.{lit≤}
 use Rattle.std.proofs.lemmas.Bool.Decides.{nat_tests, eqb_tells}
 use Rattle.linx_base.specs.declared.frame.SentFrame.{SentFrame}
 use Rattle.ethcm_window.specs.Sending.{number_limit}
-use Rattle.ethcm_window.specs.Receiving.{RisesWithin, Rises, KeepsInOrder, early_limit, has_number}
-use Rattle.ethcm_window.specs.Receiving.{keeps_number, kept_at, kept_below, kept_above, kept_with}
-use Rattle.ethcm_window.specs.Receiving.{missing_count, distance_to, CountsMissing}
+use Rattle.ethcm_window.specs.Receiving.{RisesWithin, NumbersRise, KeepsInOrder, early_limit}
+use Rattle.ethcm_window.specs.Receiving.{has_number, keeps_number, kept_at, kept_below, kept_above}
+use Rattle.ethcm_window.specs.Receiving.{kept_with, missing_count, distance_to, CountsMissing}
 use Rattle.ethcm_window.specs.WaysBack.{IsPlaceOf}
 
 -- ---- numbers
@@ -46,7 +46,7 @@ rises_wider low high under over (s ∷ kept) l h r =
     (omega arith, (omega arith, rest))
 
 module _ (expected : ℕ) (kept : List SentFrame) (r : KeepsInOrder expected kept) where
-  pub rises_from_zero : Rises kept
+  pub rises_from_zero : NumbersRise kept
   rises_from_zero =
       rises_wider expected (top expected) 0 number_limit kept (omega arith) (omega arith) r
 
@@ -155,7 +155,7 @@ kept_missing low high n (s ∷ kept) (suc at) r place h other =
     }
 
 module _ (n : ℕ) (kept : List SentFrame) (at : ℕ)
-    (r : Rises kept) (place : IsPlaceOf n kept at) where
+    (r : NumbersRise kept) (place : IsPlaceOf n kept at) where
   split_where : ((d : SentFrame) → at < length kept → (get_or kept at d).number ≢ n)
       → at ≤ length kept → SplitsAt n kept at
   split_where other within = kept_missing 0 number_limit n kept at r place within other
@@ -178,7 +178,7 @@ module _ (n : ℕ) (kept : List SentFrame) (at : ℕ)
   kept_past h = sym (split_where (λ d within. absurd (omega arith)) (omega arith)).missing
 
 -- the frame put in its place
-pub kept_inserted : (s : SentFrame) (kept : List SentFrame) (at : ℕ) → Rises kept
+pub kept_inserted : (s : SentFrame) (kept : List SentFrame) (at : ℕ) → NumbersRise kept
     → IsPlaceOf s.number kept at → at ≤ length kept → keeps_number s.number kept ≡ false
     → insert kept at s ≡ kept_with s kept
 kept_inserted s kept at r place h missing =
@@ -190,7 +190,7 @@ kept_inserted s kept at r place h missing =
 
 -- ---- the search for a place behind those that are gone
 
-module _ (gone n at : ℕ) (kept : List SentFrame) (r : Rises (drop gone kept)) (s : SentFrame)
+module _ (gone n at : ℕ) (kept : List SentFrame) (r : NumbersRise (drop gone kept)) (s : SentFrame)
     (within : gone + at < length kept) (read : s ≡ get_or kept (gone + at) s) where
   number_there : (d : SentFrame) → (get_or (drop gone kept) at d).number ≡ s.number
   number_there d =

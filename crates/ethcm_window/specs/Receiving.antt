@@ -30,8 +30,8 @@ RisesWithin low high (s ∷ kept) =
     (low ≤ s.number) × ((s.number < high) × RisesWithin (suc s.number) high kept)
 
 -- the numbers of these frames rise
-abbrev pub Rises : List SentFrame → Type 0
-Rises kept = RisesWithin 0 number_limit kept
+abbrev pub NumbersRise : List SentFrame → Type 0
+NumbersRise kept = RisesWithin 0 number_limit kept
 
 -- what is kept is in order, not below the expected number, and less than 256 above it
 abbrev pub KeepsInOrder : ℕ → List SentFrame → Type 0

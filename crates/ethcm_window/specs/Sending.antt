@@ -57,8 +57,8 @@ abbrev pub coming_in : Sender → Sender → List SentFrame
 coming_in old new = from_number (sent_end old) (unacknowledged new)
 
 -- a sender with more frames at its end
-abbrev pub with_offered : Sender → List Frame → Sender
-with_offered tx frames = record tx { frames = tx.frames ++ frames }
+abbrev pub with_frames : Sender → List Frame → Sender
+with_frames tx frames = record tx { frames = tx.frames ++ frames }
 
 -- a sender after an acknowledgement of all numbers below `next`, which must be of frames that were
 -- sent

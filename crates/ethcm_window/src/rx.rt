@@ -3,9 +3,9 @@ ghost use Rattle.std.specs.Prelude.{IfOk, IfErr, IfNone, IsSome, OnOk, OnErr, On
 ghost use Rattle.std.specs.Option.{option_copied};
 ghost use Rattle.linx_base.specs.Both.{still};
 ghost use Rattle.ethcm_window.specs.Sending.{number_limit, sent_frame};
-ghost use Rattle.ethcm_window.specs.Receiving.{empty_receiver, RisesWithin, Rises, KeepsInOrder};
-ghost use Rattle.ethcm_window.specs.Receiving.{keeps_number, kept_at, kept_above, kept_with};
-ghost use Rattle.ethcm_window.specs.Receiving.{kept_early, missing_count, after_taking};
+ghost use Rattle.ethcm_window.specs.Receiving.{empty_receiver, RisesWithin, NumbersRise};
+ghost use Rattle.ethcm_window.specs.Receiving.{KeepsInOrder, keeps_number, kept_at, kept_above};
+ghost use Rattle.ethcm_window.specs.Receiving.{kept_with, kept_early, missing_count, after_taking};
 ghost use Rattle.ethcm_window.specs.Receiving.{after_frame, acceptance_of, IsToKeep, CountsIfEarly};
 ghost use Rattle.ethcm_window.specs.WaysBack.{without_put, IsPlaceOf};
 
@@ -65,7 +65,7 @@ impl Model for Rx {
 /// How many of the kept frames have a lower number. The first `gone` are passed over.
 fn count_below(kept: &VecDeque<SentFrame>, gone: usize, number: u32) -> usize
     requires gone { gone ≤ length kept.now.items }
-    requires rising { Rises (drop gone kept.now.items) }
+    requires rising { NumbersRise (drop gone kept.now.items) }
     ensures within { gone + result ≤ length kept.now.items }
     ensures place { IsPlaceOf number (drop gone kept.now.items) result }
 {
@@ -85,7 +85,7 @@ fn count_below(kept: &VecDeque<SentFrame>, gone: usize, number: u32) -> usize
 /// Whether the kept frame behind all that have a lower number has this one.
 fn has(kept: &VecDeque<SentFrame>, gone: usize, below: usize, number: u32) -> bool
     requires within { gone + below ≤ length kept.now.items }
-    requires rising { Rises (drop gone kept.now.items) }
+    requires rising { NumbersRise (drop gone kept.now.items) }
     requires place { IsPlaceOf number (drop gone kept.now.items) below }
     ensures { result ≡ keeps_number number (drop gone kept.now.items) }
 {
@@ -105,7 +105,7 @@ fn keep_frame(
     frame: Frame,
 ) -> Result<(), (NoMemory, Frame)>
     requires gone { gone ≤ length kept.old.items }
-    requires rising { Rises (drop gone kept.old.items) }
+    requires rising { NumbersRise (drop gone kept.old.items) }
     ensures gone { gone ≤ length kept.new.items }
     ensures ok { let kept_before = drop gone kept.old.items in
         OnOk result (drop gone kept.new.items ≡ kept_with (sent_frame number frame) kept_before) }
@@ -135,7 +135,7 @@ fn keep_frame(
 /// How far above the expected number the least kept one above it is; 256 where there is none.
 fn count(kept: &VecDeque<SentFrame>, gone: usize, expected: u32) -> u32
     requires gone { gone ≤ length kept.now.items }
-    requires rising { Rises (drop gone kept.now.items) }
+    requires rising { NumbersRise (drop gone kept.now.items) }
     requires numbered { expected < number_limit }
     ensures { result ≡ missing_count expected (drop gone kept.now.items) }
 {

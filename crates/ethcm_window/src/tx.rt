@@ -3,7 +3,7 @@ ghost use Rattle.std.specs.Prelude.{OnErr};
 ghost use Rattle.linx_base.specs.Both.{still};
 ghost use Rattle.ethcm_window.specs.Sending.{number_limit, empty_sender, HasNumbers, numbered_from};
 ghost use Rattle.ethcm_window.specs.Sending.{left_of, sent_of, unacknowledged, coming_in};
-ghost use Rattle.ethcm_window.specs.Sending.{with_offered, after_ack, sent_again};
+ghost use Rattle.ethcm_window.specs.Sending.{with_frames, after_ack, sent_again};
 
 use crate::queue::drop_first;
 use linx_base::{Frame, Frames, NoMemory, SentFrame, SentFrames, TryCopy};
@@ -120,7 +120,7 @@ impl Tx {
     pub fn offer(&mut self, frames: Frames) -> Result<SentFrames, (NoMemory, Frames)>
         requires { length frames ≤ left_of self.old.is }
         ensures sent { IfOk result (λ sent. sent ≡ coming_in self.old.is self.new.is) }
-        ensures offered { OnOk result (self.new.is ≡ with_offered self.old.is frames) }
+        ensures offered { OnOk result (self.new.is ≡ with_frames self.old.is frames) }
         ensures was { self.new.was ≡ self.old.was }
         ensures err { OnErr result (self.new ≡ self.old) }
         ensures given_back { IfErr result (λ refusal. refusal.1 ≡ frames) }

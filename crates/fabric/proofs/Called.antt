@@ -27,15 +27,14 @@ use Rattle.run_trunks.specs.Laws.{AreTrunksOf}
 use Rattle.run_trunks.specs.States.{trunks_of}
 use Rattle.run_trunks.proofs.Lists.{length-each}
 use Rattle.trunk.specs.Events.{TrunkState, closed_at}
-use Rattle.trunk_moves.specs.Steps.{Hunts, HuntsName, Sends, ending}
+use Rattle.trunk_moves.specs.Steps.{Hunts, HuntsName, Sends, trunks_ending}
 use Rattle.trunk_moves.specs.Trunks.{Become}
 use Rattle.trunk_moves.proofs.Peers.{peer-end}
 use Rattle.fabric.specs.Actings.{HasMade}
 use Rattle.fabric.specs.Asks.{FitsEvent}
 use Rattle.fabric.specs.Fits.{HasSideOn, LeavesBy}
-use Rattle.fabric.specs.Calls.{CallMade, IsBounded, IsCallMade, IsTyped, ask_of}
-use Rattle.fabric.specs.Calls.{call_made}
-use Rattle.fabric.specs.Calls.{event_of_call, hand_of, stands_after}
+use Rattle.fabric.specs.Calls.{CallMade, IsBounded, IsCallMade, IsTyped, ask_of_call, call_made}
+use Rattle.fabric.specs.Calls.{event_of_call, hand_of_call, stands_after}
 use Rattle.fabric.specs.declared.call.Call.{Call}
 use Rattle.fabric.specs.declared.call.Call.TheVariants.{Attach, Close, Detach, End, Hunt, Send}
 use Rattle.fabric.specs.declared.standing.Standing.{Standing}
@@ -89,7 +88,7 @@ module _ {f : Layout} {parts : Parts} {actor place home : ℕ} (acts : Acts f pa
     abbrev IsMadeSo : Call → StepAnswer → Type 0
     IsMadeSo call a =
         IsKept (laid f new (after call)) (with_own acts next then)
-        × HasMade f (laid f new (after call)) actor (ask_of call) a
+        × HasMade f (laid f new (after call)) actor (ask_of_call call) a
 
     counted : (made : CallMade) → MakesIt made → length P + 1 ≡ length new.steps
     counted made c = add-one (length P) ∙ sym (ap (λ (l : Log). length l.steps) c.logged)
@@ -108,10 +107,11 @@ module _ {f : Layout} {parts : Parts} {actor place home : ℕ} (acts : Acts f pa
     -- what the trunks are told is what the step makes of them
     closes : Become f.shape (trunks_of (each_does f.shape.links kernel.node.0
         (λ side. closed_at side j) f.trunks))
-        (ending f.shape n (endpoint_of P actor) (trunks_of f.trunks))
+        (trunks_ending f.shape n (endpoint_of P actor) (trunks_of f.trunks))
     closes =
         subst (λ (e : Option Inc). Become f.shape (trunks_of (each_does f.shape.links kernel.node.0
-        (λ side. closed_at side j) f.trunks)) (ending f.shape n e (trunks_of f.trunks))) (sym mine)
+        (λ side. closed_at side j) f.trunks)) (trunks_ending f.shape n e (trunks_of f.trunks)))
+        (sym mine)
         (told-closes f.shape f.trunks count P node kernel left j open_it)
 
     alive-is : (q : Peer) → is_living kernel q ≡ is_alive P n q
@@ -175,7 +175,7 @@ module _ {f : Layout} {parts : Parts} {actor place home : ℕ} (acts : Acts f pa
     named (Local v) signal typed = tt
     named (Over l v) signal typed = typed
 
-    made-with : (call : Call) → FitsEvent f n (event_of_call call) (signal_in (hand_of call))
+    made-with : (call : Call) → FitsEvent f n (event_of_call call) (signal_in (hand_of_call call))
         → IsTyped call → IsBounded call
         → (let made : CallMade = call_made kernel (length P + 1) j call in
         MakesIt made → then ≡ stands_after (length P + 1) made.answer standing
@@ -202,7 +202,8 @@ module _ {f : Layout} {parts : Parts} {actor place home : ℕ} (acts : Acts f pa
         made-detach acts kernel next is standing then stands new f.trunks count j r mine c.node_is
         then_is c.logged (λ l of_shape. refl)
 
-    pub made-call : (call : Call) → FitsEvent f n (event_of_call call) (signal_in (hand_of call))
+    pub made-call : (call : Call)
+        → FitsEvent f n (event_of_call call) (signal_in (hand_of_call call))
         → IsTyped call → IsBounded call
         → MakesIt (call_made kernel (length P + 1) j call)
         → (step : ℕ) → step ≡ length new.steps → then ≡ stands_after step answer standing

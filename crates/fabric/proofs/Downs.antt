@@ -18,10 +18,10 @@ use Rattle.link_laws.specs.Ends.{IsLinkOf, node_at}
 use Rattle.link_laws.specs.Laws.{down_if, downs_of}
 use Rattle.run_trunks.specs.States.{over, trunks_of}
 use Rattle.trunk.specs.Events.{kept_of}
-use Rattle.trunk_record.specs.Records.{session_if as session_of}
+use Rattle.trunk_record.specs.Records.{session_if}
 use Rattle.trunk_moves.specs.Trunks.{RunTrunks, side_if, side_on}
 use Rattle.trunk_moves.proofs.Peers.{up-of_side}
-use Rattle.fabric.specs.Downs.{downs_on, session_if}
+use Rattle.fabric.specs.Downs.{downs_on, session_at_if}
 use Rattle.fabric.specs.Remains.{IsKept, Parts}
 use Rattle.fabric.specs.Run.{Layout}
 use Rattle.fabric.specs.Standings.{past_effects}
@@ -33,7 +33,7 @@ use Rattle.fabric.proofs.Unlinked.{none-off}
 
 -- a session where a peer is
 session-is : (peer : Option Session) (x : Session)
-    → cond (is_some peer) (Some x) None ≡ session_of peer x
+    → cond (is_some peer) (Some x) None ≡ session_if peer x
 session-is None x = refl
 session-is (Some y) x = refl
 
@@ -46,7 +46,7 @@ module _ {f : Layout} {parts : Parts} (kept : IsKept f parts) (n : ℕ) where
   module _ (l : LinkNo) (of_shape : IsLinkOf shape l) where
     -- the session of a side on the node
     up_at : (side : Side) → (node_at shape l side == n) ≡ true
-        → session_if (Some side) (trunks l.0) ≡ up_session P n l.0
+        → session_at_if (Some side) (trunks l.0) ≡ up_session P n l.0
     up_at side is =
         session-is (kept_of side (trunks l.0)).now.peer (kept_of side (trunks l.0)).now.session
         ∙ sym (up-of_side shape P trunks (whole-run f parts kept) l of_shape side)
@@ -54,7 +54,7 @@ module _ {f : Layout} {parts : Parts} (kept : IsKept f parts) (n : ℕ) where
 
     by_sides : (first second : Bool) → (node_at shape l First == n) ≡ first
         → (node_at shape l Second == n) ≡ second
-        → session_if (side_if first second) (trunks l.0) ≡ up_session P n l.0
+        → session_at_if (side_if first second) (trunks l.0) ≡ up_session P n l.0
     by_sides true second is_first is_second = up_at First is_first
     by_sides false true is_first is_second = up_at Second is_second
     by_sides false false is_first is_second =
@@ -68,10 +68,10 @@ module _ {f : Layout} {parts : Parts} (kept : IsKept f parts) (n : ℕ) where
         off Second = not_on Second is_second
 
     -- is the one that is up at it
-    pub session-there : session_if (side_on (over shape.links) n l) (trunks l.0)
+    pub session-there : session_at_if (side_on (over shape.links) n l) (trunks l.0)
         ≡ up_session P n l.0
     session-there =
-        ap (λ (o : Option Side). session_if o (trunks l.0)) (side-over shape n l)
+        ap (λ (o : Option Side). session_at_if o (trunks l.0)) (side-over shape n l)
         ∙ by_sides (node_at shape l First == n) (node_at shape l Second == n) refl refl
 
   -- THE ENDS of those that are up
@@ -80,7 +80,7 @@ module _ {f : Layout} {parts : Parts} (kept : IsKept f parts) (n : ℕ) where
   downs-first zero within = refl
   downs-first (suc k) within =
       ap (λ (es : List Effect). es ++ down_if n (suc k)
-      (session_if (side_on (over shape.links) n (record { 0 = suc k })) (trunks (suc k))))
+      (session_at_if (side_on (over shape.links) n (record { 0 = suc k })) (trunks (suc k))))
       (downs-first k (omega arith))
       ∙ ap (λ (x : Option Session). downs_of P n k ++ down_if n (suc k) x)
       (session-there (record { 0 = suc k }) (omega arith, within))

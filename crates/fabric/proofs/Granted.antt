@@ -34,7 +34,7 @@ use Rattle.trunk_moves.specs.Trunks.{side_if, side_on}
 use Rattle.trunk_moves.proofs.Peers.{peer-end}
 use Rattle.fabric.specs.Asks.{FitsEvent}
 use Rattle.fabric.specs.Fits.{HasSideOn, LeavesBy}
-use Rattle.fabric.specs.Calls.{event_of_call, hand_of}
+use Rattle.fabric.specs.Calls.{event_of_call, hand_of_call}
 use Rattle.fabric.specs.declared.call.Call.{Call}
 use Rattle.fabric.specs.declared.call.Call.TheVariants.{Attach, Close, Detach, End, Hunt, Send}
 use Rattle.fabric.specs.Machine.{signal_in}
@@ -169,7 +169,7 @@ module _ {f : Layout} {parts : Parts} {actor place home : ℕ} (acts : Acts f pa
   may-hunt (Local v) leaves = tt
   may-hunt (Over l v) leaves = has-side l leaves
 
-  pub may-tell : (call : Call) → FitsEvent f n (event_of_call call) (signal_in (hand_of call))
+  pub may-tell : (call : Call) → FitsEvent f n (event_of_call call) (signal_in (hand_of_call call))
       → MayTell at_rest kernel j call
   may-tell Close fits = tt
   may-tell End fits = tt

@@ -34,7 +34,7 @@ use Rattle.journal.specs.Living.{is_alive}
 use Rattle.journal.specs.Rest.{leaves_at_rest, queue_of, waits_with}
 use Rattle.journal.specs.Shapes.{Shape, node_by}
 use Rattle.node_kernel.specs.declared.ask.Ask.{Ask}
-use Rattle.node_kernel.specs.Answers.{event_of, granted_by, hand_of, is_opening as opens, named}
+use Rattle.node_kernel.specs.Answers.{asks_to_open, event_of, granted_by, hand_of, named}
 use Rattle.node_kernel.specs.Answers.{needs_endpoint, refused}
 use Rattle.fabric.specs.Fits.{FitsRun, MayMeetIn}
 use Rattle.fabric.specs.Links.{is_still}
@@ -151,11 +151,11 @@ fails off on = absurd (true≢false (sym on ∙ off))
 
 -- the event is one for an actor with this endpoint, or none
 pub record IsGranted (me : Option Inc) (event : Event) : Type 0 where
-  pub opening : opens event ≡ true → is_none me ≡ true
+  pub opening : asks_to_open event ≡ true → is_none me ≡ true
   pub needing : needs_endpoint event ≡ true → is_some me ≡ true
 
 -- one that needs no endpoint and opens none is
-pub granted-plain : (me : Option Inc) (event : Event) → opens event ≡ false
+pub granted-plain : (me : Option Inc) (event : Event) → asks_to_open event ≡ false
     → needs_endpoint event ≡ false → IsGranted me event
 granted-plain me event opens_not needs_not = record {
   opening = fails opens_not;
@@ -170,14 +170,14 @@ granted-is None at ask g = go (needs_endpoint ask.event) refl
     go : (b : Bool) → needs_endpoint ask.event ≡ b → cond b (refused (Refusal.NotOpen at)) ask ≡ ask
     go true needs = absurd (true≢false (sym (g.needing needs)))
     go false needs = refl
-granted-is (Some i) at ask g = go (opens ask.event) refl
+granted-is (Some i) at ask g = go (asks_to_open ask.event) refl
   where
-    go : (b : Bool) → opens ask.event ≡ b → cond b (refused (Refusal.IsOpen i)) ask ≡ ask
+    go : (b : Bool) → asks_to_open ask.event ≡ b → cond b (refused (Refusal.IsOpen i)) ask ≡ ask
     go true is = absurd (true≢false (sym (g.opening is)))
     go false is = refl
 
 -- a head opens, and needs an endpoint, exactly where what it names does
-named-alike : (head : Head) → (opens (event_of head) ≡ is_opening head)
+named-alike : (head : Head) → (asks_to_open (event_of head) ≡ is_opening head)
     × (needs_endpoint (event_of head) ≡ is_endpoints head)
 named-alike (heads.Open name) = (refl, refl)
 named-alike _ = (refl, refl)

@@ -36,7 +36,7 @@ use Rattle.fabric.specs.Actings.{HasMade, asking}
 use Rattle.fabric.specs.Machine.{is_at_rest, look, signal_in, vain_look}
 use Rattle.fabric.specs.Remains.{IsKept, Parts, node_left}
 use Rattle.fabric.specs.Run.{IsStepFor, Layout, IsStepOf}
-use Rattle.trunk_moves.specs.Steps.{ending as trunks_ending}
+use Rattle.trunk_moves.specs.Steps.{trunks_ending}
 use Rattle.trunk_moves.specs.Trunks.{Become}
 use Rattle.fabric.proofs.Came.{item-came}
 use Rattle.fabric.proofs.Effects.{only-none}

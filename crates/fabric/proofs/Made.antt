@@ -38,7 +38,7 @@ use Rattle.journal.specs.Rest.{waits_in}
 use Rattle.journal.specs.Shapes.{node_by}
 use Rattle.node_kernel.specs.declared.answers.StepAnswer.{StepAnswer}
 use Rattle.node_kernel.specs.declared.answers.StepAnswer.TheVariants as answers
-use Rattle.node_kernel.specs.Answers.{answer_of, opened_as, is_opening}
+use Rattle.node_kernel.specs.Answers.{answer_of, opened_as, asks_to_open}
 use Rattle.node_kernel.specs.Calls.{after_attach, after_close, after_detach, after_hunt, after_open}
 use Rattle.node_kernel.specs.Calls.{after_send, detached, after_detach_of}
 use Rattle.node_kernel.specs.Nodes.{NodeState, find_at, is_living, next_of}
@@ -214,7 +214,7 @@ module _ {f : Layout} {parts : Parts} {actor place home : ℕ} (acts : Acts f pa
         named short fit
 
     -- an event of the endpoint's is granted where there is one
-    pub granted-own : (event : Event) → is_opening event ≡ false → (j : Inc) → me ≡ Some j
+    pub granted-own : (event : Event) → asks_to_open event ≡ false → (j : Inc) → me ≡ Some j
         → IsGranted me event
     granted-own event opens_not j mine = record
         { opening = λ o. absurd (true≢false (sym o ∙ opens_not)); needing = λ n. ap is_some mine }

@@ -17,7 +17,7 @@ use Rattle.journal.specs.Pending.{attach_in, detaches, hunt_in}
 use Rattle.journal.specs.Laws.{effects_by}
 use Rattle.link_laws.specs.Ends.{IsLinkOf}
 use Rattle.node_kernel.specs.declared.answers.StepAnswer.TheVariants as answers
-use Rattle.node_kernel.specs.Answers.{is_opening, needs_endpoint}
+use Rattle.node_kernel.specs.Answers.{asks_to_open, needs_endpoint}
 use Rattle.trunk_moves.specs.Steps.{IsTrunkStep, Makes}
 use Rattle.fabric.specs.declared.line.Line.{Line}
 use Rattle.fabric.specs.declared.line.Mark.{Mark}
@@ -75,7 +75,7 @@ module _ {f : Layout} {parts : Parts} {actor place home : ℕ} (acts : Acts f pa
       }
 
   -- what is asked for is lawful
-  asked : (event : Event) → is_opening event ≡ false → needs_endpoint event ≡ false
+  asked : (event : Event) → asks_to_open event ≡ false → needs_endpoint event ≡ false
       → IsNamedEvent event → FitsEvent f (node_by shape (Actor actor)) event (signal_in None)
       → LawfulIf (length f.log.names.nodes) shape P trunks actor acts.maker
       (head_of shape P (is_still shape P trunks) actor (node_by shape (Actor actor)) me event

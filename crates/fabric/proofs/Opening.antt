@@ -19,7 +19,7 @@ use Rattle.run_trunks.specs.States.{trunks_of}
 use Rattle.run_trunks.proofs.Lists.{length-each}
 use Rattle.run_trunks.proofs.Numbered.{all-do}
 use Rattle.trunk.specs.Events.{TrunkState, opened_at}
-use Rattle.trunk_moves.specs.Steps.{opening as trunks_opening}
+use Rattle.trunk_moves.specs.Steps.{trunks_opening}
 use Rattle.trunk_moves.specs.Trunks.{Become}
 use Rattle.fabric.specs.Actings.{HasMade, asking}
 use Rattle.fabric.specs.declared.standing.Standing.{Standing}

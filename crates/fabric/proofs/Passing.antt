@@ -33,7 +33,7 @@ use Rattle.node_kernel.specs.Nodes.{NodeState}
 use Rattle.link_laws.specs.Brought.{Brought, MayBring, arrives, brought_at, goes_down}
 use Rattle.link_laws.specs.Brought.{goes_up, meets, nothing, parts as parts_from}
 use Rattle.link_laws.specs.Ends.{IsLinkOf, node_at}
-use Rattle.link_laws.specs.Laws.{IsHandedOver, IsLegalStep, IsPacket, delivers}
+use Rattle.link_laws.specs.Laws.{ArePacketEffects, IsHandedOver, IsLegalStep, delivers}
 use Rattle.run_trunks.specs.Changes.{at_link}
 use Rattle.run_trunks.specs.States.{TrunksState, trunks_of}
 use Rattle.run_trunks.proofs.Numbered.{one-changes}
@@ -250,7 +250,7 @@ module _ {f : Layout} {parts : Parts} (kept : IsKept f parts) (by : By) (l : Lin
         (trunks_of (at_link l (becomes keep heard) f.trunks)) asked.short
         (run-step (brings heard) (becomes keep heard) coming)
 
-    packet : IsPacket P n (node_at shape l from) l (brought_at P n l (brings heard))
+    packet : ArePacketEffects P n (node_at shape l from) l (brought_at P n l (brings heard))
     packet =
         subst (λ (b : Bool). IsHandedOver b P n (node_at shape l from) l
         (brought_at P n l (brings heard))) (comes-handed verdict keep comes) legal_coming.packets

@@ -8,7 +8,7 @@ use Rattle.linx_base.specs.declared.identity.LinkNo.{LinkNo}
 use Rattle.linx_base.specs.declared.identity.NodeNo.{NodeNo}
 use Rattle.linx_base.specs.declared.identity.Session.{Session}
 use Rattle.linx_base.specs.declared.identity.Side.{Side}
-use Rattle.carrier.specs.Events.{told_by as link_told_by}
+use Rattle.carrier.specs.Events.{link_told_by}
 use Rattle.journal.specs.declared.by.By.{By}
 use Rattle.journal.specs.declared.by.By.TheVariants.{Actor, Pump}
 use Rattle.journal.specs.declared.effect.Effect.{Effect}

@@ -30,7 +30,7 @@ use Rattle.run_trunks.specs.Laws.{AreTrunksOf}
 use Rattle.run_trunks.specs.States.{over, trunks_of}
 use Rattle.run_trunks.proofs.Numbered.{all-do, one-changes}
 use Rattle.trunk.specs.Events.{TrunkState, asked_at, closed_at, sent_at}
-use Rattle.trunk_moves.specs.Steps.{AsksThere, Hunts, Sends, SendsThere, ending}
+use Rattle.trunk_moves.specs.Steps.{AsksThere, Hunts, Sends, SendsThere, trunks_ending}
 use Rattle.trunk_moves.specs.Trunks.{Become, does, side_if, side_on, with_trunk}
 use Rattle.fabric.specs.Fits.{HasSideOn}
 use Rattle.fabric.specs.Remains.{endpoint_left, node_left}
@@ -147,7 +147,7 @@ module _ (shape : Shape) (ts : List TrunkState) (count : AreTrunksOf shape ts) (
   -- of a close, and of an end
   pub told-closes : Become shape
       (trunks_of (each_does shape.links k.node.0 (λ side. closed_at side j) ts))
-      (ending shape n (Some j) (trunks_of ts))
+      (trunks_ending shape n (Some j) (trunks_of ts))
   told-closes = rw node-is (all-do shape n (λ side. closed_at side j) ts count)
 
   -- of a send

@@ -35,17 +35,17 @@ event_of_call (Attach q signal) = asks.Attach q
 event_of_call (Detach r) = asks.Detach r
 
 -- the signal that goes with it
-abbrev pub hand_of : Call → Option SigNote
-hand_of Close = None
-hand_of End = None
-hand_of (Send q signal) = Some signal
-hand_of (Hunt path signal) = Some signal
-hand_of (Attach q signal) = Some signal
-hand_of (Detach r) = None
+abbrev pub hand_of_call : Call → Option SigNote
+hand_of_call Close = None
+hand_of_call End = None
+hand_of_call (Send q signal) = Some signal
+hand_of_call (Hunt path signal) = Some signal
+hand_of_call (Attach q signal) = Some signal
+hand_of_call (Detach r) = None
 
 -- what is asked by it
-abbrev pub ask_of : Call → Ask
-ask_of call = record { event = event_of_call call; hand = hand_of call }
+abbrev pub ask_of_call : Call → Ask
+ask_of_call call = record { event = event_of_call call; hand = hand_of_call call }
 
 -- an attach has room for the reason
 abbrev pub HasRoom : Call → Type 0

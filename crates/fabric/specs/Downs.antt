@@ -16,14 +16,14 @@ session_at side t =
     if is_some (kept_of side t).now.peer then Some (kept_of side t).now.session else None
 
 -- of a side, if there is one
-abbrev pub session_if : Option Side → TrunkState → Option Session
-session_if None t = None
-session_if (Some side) t = session_at side t
+abbrev pub session_at_if : Option Side → TrunkState → Option Session
+session_at_if None t = None
+session_at_if (Some side) t = session_at side t
 
 -- the ends of those of node n over the first so many links, by number
 abbrev pub downs_on : List LinkDecl → ℕ → List TrunkState → ℕ → List Effect
 downs_on links n ts zero = []
 downs_on links n ts (suc k) =
     downs_on links n ts k
-    ++ down_if n (suc k) (session_if (side_on (over links) n (record { 0 = suc k }))
+    ++ down_if n (suc k) (session_at_if (side_on (over links) n (record { 0 = suc k }))
     (trunks_of ts (suc k)))

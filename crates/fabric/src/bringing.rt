@@ -4,7 +4,7 @@
 
 ghost use Rattle.std.specs.Prelude.{◌≡◌, ◌+◌, ◌<◌, ◌∷◌, length, None, IfOk, OnErr, OnOk};
 ghost use Rattle.linx_base.specs.Sides.{other_of};
-ghost use Rattle.carrier.specs.Events.{flight_from, handed_by, told_by as link_told_by};
+ghost use Rattle.carrier.specs.Events.{flight_from, handed_by, link_told_by};
 ghost use Rattle.journal.specs.declared.head.Head.TheVariants as heads;
 ghost use Rattle.rlnh_end.specs.declared.heard.Heard.{Heard as AnyHeard};
 ghost use Rattle.run_trunks.specs.Changes.{at_link};

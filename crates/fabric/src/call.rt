@@ -3,7 +3,7 @@
 
 ghost use Rattle.std.specs.Prelude.{◌≡◌, ◌+◌, ◌<◌, length, IfErr, IfOk, OnErr, IsTrue};
 ghost use Rattle.node_kernel.specs.Nodes.{is_open};
-ghost use Rattle.fabric.specs.Calls.{HasRoom, IsBounded, IsCallMade, call_made, hand_of};
+ghost use Rattle.fabric.specs.Calls.{HasRoom, IsBounded, IsCallMade, call_made, hand_of_call};
 ghost use Rattle.fabric.specs.Calls.{refusal_with};
 
 use crate::makings::{make_attach, make_close, make_detach, make_hunt, make_send};
@@ -29,7 +29,7 @@ pub(crate) enum Call {
 impl Call {
     /// The signal that goes with it, if one does.
     pub(crate) fn into_hand(self) -> Option<Signal>
-        ensures { result ≡ hand_of self }
+        ensures { result ≡ hand_of_call self }
     {
         match self {
             Call::Send(_to, signal) => Some(signal),
@@ -57,7 +57,7 @@ pub(crate) fn make_call(
         (call_made kernel.old (length journal.old.log.steps + 1) at call) by
         journal.old.log journal.new.log kernel.new answer) }
     ensures bounded { IsBounded call }
-    ensures stop { IfErr result (λ stop. stop ≡ refusal_with (hand_of call)) }
+    ensures stop { IfErr result (λ stop. stop ≡ refusal_with (hand_of_call call)) }
     ensures err { OnErr result ((journal.new.log ≡ journal.old.log) × (kernel.new ≡ kernel.old)) }
 {
     match call {

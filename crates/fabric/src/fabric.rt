@@ -20,7 +20,7 @@ ghost use Rattle.fabric.specs.Actings.{HasMade, LeavesAll, MayMake, OnlyRuns};
 ghost use Rattle.fabric.specs.Actings.{asking};
 ghost use Rattle.fabric.specs.Asks.{MayAsk};
 ghost use Rattle.trunk_moves.specs.Steps.{HuntsName};
-ghost use Rattle.fabric.specs.Calls.{IsTyped, ask_of, hand_of};
+ghost use Rattle.fabric.specs.Calls.{IsTyped, ask_of_call, hand_of_call};
 ghost use Rattle.fabric.specs.Lines.{fresh_line};
 ghost use Rattle.fabric.specs.Links.{is_still};
 ghost use Rattle.fabric.specs.Machine.{all_have_ended, is_at_rest};
@@ -406,12 +406,12 @@ impl Fabric {
 
     /// A call at an actor's open endpoint.
     fn call(&mut self, actor: u32, call: Call) -> Result<StepAnswer, StepStop>
-        requires asked { MayMake self.old (By.Actor actor) (ask_of call) }
+        requires asked { MayMake self.old (By.Actor actor) (ask_of_call call) }
         requires typed { IsTyped call }
         requires granted { IsSome (endpoint_of self.old.log.steps actor) }
-        ensures ok { IfOk result (HasMade self.old self.new actor (ask_of call)) }
+        ensures ok { IfOk result (HasMade self.old self.new actor (ask_of_call call)) }
         ensures fixed { OnlyRuns self.old self.new }
-        ensures err { IfErr result (LeavesAll self.old self.new (hand_of call)) }
+        ensures err { IfErr result (LeavesAll self.old self.new (hand_of_call call)) }
     {
         let Some(at) = self.endpoint_of(actor) else {
             unreachable!()

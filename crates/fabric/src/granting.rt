@@ -2,8 +2,7 @@
 //! endpoint where it has one.
 ghost use Rattle.std.specs.Prelude.{◌≡◌, Option};
 ghost use Rattle.linx_base.specs.declared.signal.SigNote.{SigNote};
-ghost use Rattle.node_kernel.specs.Answers.{granted_by, needs_endpoint};
-ghost use Rattle.node_kernel.specs.Answers.{is_opening as opens};
+ghost use Rattle.node_kernel.specs.Answers.{asks_to_open, granted_by, needs_endpoint};
 ghost use Rattle.fabric.specs.Standings.{unless_refused};
 
 use crate::standing::Standing;
@@ -11,7 +10,7 @@ use journal::{Event, Refusal};
 
 /// Whether an event opens an endpoint.
 fn is_opening(event: &Event) -> bool
-    ensures { result ≡ opens event.now }
+    ensures { result ≡ asks_to_open event.now }
 {
     matches!(event, Event::Open(_))
 }

@@ -19,7 +19,7 @@ ghost use Rattle.node_kernel.specs.Nodes.{endpoint_limit, find_at, is_living, is
 ghost use Rattle.node_kernel.specs.Nodes.{next_of};
 ghost use Rattle.fabric.specs.Calls.{refusal_with};
 ghost use Rattle.fabric.specs.Standings.{past_effects};
-ghost use Rattle.fabric.specs.Downs.{downs_on, session_if};
+ghost use Rattle.fabric.specs.Downs.{downs_on, session_at_if};
 ghost use Rattle.fabric.specs.Looks.{after_take, looked_at, with_take};
 
 use crate::standing::{Standing, lose_all};
@@ -442,7 +442,7 @@ pub(crate) fn make_detach(
 fn down_over(trunks: &RunTrunks, node: NodeNo, link: LinkNo) -> Option<Effect>
     requires of_run { HasLink trunks.now link }
     ensures { option_to_list result ≡ down_if node.0 link.0
-        (session_if (side_on (over trunks.now.links) node.0 link)
+        (session_at_if (side_on (over trunks.now.links) node.0 link)
         (trunks_of trunks.now.is link.0)) }
 {
     let side = trunks.side_on(link, node)?;

@@ -10,7 +10,7 @@ use Rattle.linx_base.specs.declared.frame.Frame.TheVariants.{First, Next}
 use Rattle.fragmenter.specs.declared.joiner.Joined.{Joined}
 use Rattle.fragmenter.specs.declared.joiner.Joined.TheVariants.{More, Whole, Broken}
 use Rattle.linx_base.specs.Frames.{has_more}
-use Rattle.fragmenter.specs.Joining.{Begun, answer_of, IsBroken, Misfits, message_of, judged}
+use Rattle.fragmenter.specs.Joining.{Begun, joiner_answer, IsBroken, Misfits, message_of, judged}
 
 -- Broken exactly where the frame breaks the message so far, and More exactly where it doesn't and
 -- more is to come
@@ -47,7 +47,7 @@ breaks : (more : Bool) → Answers Broken (Unit {0}) more
 breaks more = ((λ q. tt, λ q. refl), (λ q. cc, λ q. absurd (q.0 tt)))
 
 answers : (begun : Option Begun) (frame : Frame)
-    → Answers (answer_of begun frame) (IsBroken begun frame) (has_more frame)
+    → Answers (joiner_answer begun frame) (IsBroken begun frame) (has_more frame)
 answers None (First more from to size payload) =
     judges (record { from = from; to = to; size = size; bytes = payload }) (length payload) more
     refl
@@ -59,14 +59,14 @@ answers (Some b) (Next more payload) =
 
 -- what an answer by the rule says
 pub broken_exactly : (result : Result Joined NoMemory) (begun : Option Begun) (frame : Frame)
-    → IfOk result (λ answer. answer ≡ answer_of begun frame)
+    → IfOk result (λ answer. answer ≡ joiner_answer begun frame)
     → IfOk result (λ answer. (answer ≡ Broken) ↔ IsBroken begun frame)
 broken_exactly (Ok answer) begun frame e =
     subst (λ a. (a ≡ Broken) ↔ IsBroken begun frame) (sym e) (answers begun frame).0
 broken_exactly (Err e) begun frame h = tt
 
 pub more_exactly : (result : Result Joined NoMemory) (begun : Option Begun) (frame : Frame)
-    → IfOk result (λ answer. answer ≡ answer_of begun frame)
+    → IfOk result (λ answer. answer ≡ joiner_answer begun frame)
     → IfOk result (λ answer. (answer ≡ More) ↔ ((¬ IsBroken begun frame) × (has_more frame ≡ true)))
 more_exactly (Ok answer) begun frame e =
     subst (λ a. (a ≡ More) ↔ ((¬ IsBroken begun frame) × (has_more frame ≡ true))) (sym e)

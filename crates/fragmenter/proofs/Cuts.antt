@@ -18,8 +18,8 @@ use Rattle.linx_base.specs.declared.frame.Frame.{Frame}
 use Rattle.linx_base.specs.declared.frame.Frame.TheVariants.{First, Next}
 use Rattle.linx_base.specs.Frames.{IsMessage, IsFrame, IsPayload, payload_of, has_more}
 use Rattle.fragmenter.specs.Holding.{joined}
-use Rattle.fragmenter.specs.Pieces.{is_more, cut, followers, framed, pieces_of, GoesOn, AllButLast}
-use Rattle.fragmenter.specs.Pieces.{IsMarked, IsCutInto}
+use Rattle.fragmenter.specs.Pieces.{is_more, cut, followers, framed, pieces_of, IsNextFrame}
+use Rattle.fragmenter.specs.Pieces.{AllButLast, IsMarked, IsCutInto}
 
 -- what is left of bytes that aren't none is shorter
 drop-shorter : (p b : ℕ) (bs : List ℕ) (n : ℕ) → 1 ≤ p → length (b ∷ bs) ≤ suc n
@@ -190,10 +190,11 @@ joined-cut (suc n) p (x ∷ xs) h k =
     (joined-cut n p (drop p (x ∷ xs)) h (drop-shorter p x xs n h k))
     ∙ take-append-drop p (x ∷ xs)
 
-goes_on : (ps : List (List ℕ)) → All GoesOn (followers ps)
+goes_on : (ps : List (List ℕ)) → All IsNextFrame (followers ps)
 unfolding followers
-goes_on [] = All-nil GoesOn
-goes_on (payload ∷ ps) = All-cons GoesOn (Next (is_more ps) payload) (followers ps) tt (goes_on ps)
+goes_on [] = All-nil IsNextFrame
+goes_on (payload ∷ ps) =
+    All-cons IsNextFrame (Next (is_more ps) payload) (followers ps) tt (goes_on ps)
 
 marked : (f : Frame) (ps : List (List ℕ)) → has_more f ≡ is_more ps → IsMarked (f ∷ followers ps)
 unfolding followers

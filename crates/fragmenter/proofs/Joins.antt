@@ -9,7 +9,7 @@ use Rattle.linx_base.specs.declared.frame.Frame.{Frame}
 use Rattle.linx_base.specs.declared.frame.Frame.TheVariants.{First, Next}
 use Rattle.fragmenter.specs.declared.joiner.Joined.TheVariants.{More, Whole}
 use Rattle.fragmenter.specs.Pieces.{is_more, cut, followers, framed, pieces_of}
-use Rattle.fragmenter.specs.Joining.{Begun, answer_of, held_after, answers_to, held_after_all}
+use Rattle.fragmenter.specs.Joining.{Begun, joiner_answer, held_after, answers_to, held_after_all}
 use Rattle.fragmenter.specs.Joining.{whole_at_the_last}
 use Rattle.fragmenter.specs.Holding.{joined}
 use Rattle.fragmenter.proofs.Cuts.{cut_first, joined-cut}
@@ -114,7 +114,7 @@ pieces-join m p h k =
 pub answer-at : (m : Message) (begun : Option Begun) (before : List Frame) (f : Frame)
     (after : List Frame) → answers_to begun (before ++ f ∷ after)
     ≡ whole_at_the_last m (before ++ f ∷ after)
-    → answer_of (held_after_all begun before) f ≡ (if is_more after then More else Whole m)
+    → joiner_answer (held_after_all begun before) f ≡ (if is_more after then More else Whole m)
 unfolding answers_to held_after_all whole_at_the_last
 answer-at m begun [] f [] e = cc
 answer-at m begun [] f (g ∷ gs) e = cc
@@ -126,7 +126,7 @@ answer-at m begun (x ∷ y ∷ before) f after e =
 -- the whole message
 pub pieces-answer : (m : Message) (p : ℕ) → 1 ≤ p → 0 < length m.body
     → (before : List Frame) (f : Frame) (after : List Frame) → pieces_of m p ≡ before ++ f ∷ after
-    → answer_of (held_after_all None before) f ≡ (if is_more after then More else Whole m)
+    → joiner_answer (held_after_all None before) f ≡ (if is_more after then More else Whole m)
 pieces-answer m p h k before f after e =
     answer-at m None before f after
     (subst (λ fs. answers_to None fs ≡ whole_at_the_last m fs) e (pieces-join m p h k).0)
@@ -144,4 +144,4 @@ pub answers_to-append : (begun : Option Begun) (xs ys : List Frame)
 unfolding answers_to held_after_all
 answers_to-append begun [] ys = refl
 answers_to-append begun (x ∷ xs) ys =
-    ap (λ answers. answer_of begun x ∷ answers) (answers_to-append (held_after begun x) xs ys)
+    ap (λ answers. joiner_answer begun x ∷ answers) (answers_to-append (held_after begun x) xs ys)

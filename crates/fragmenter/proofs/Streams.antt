@@ -13,7 +13,7 @@ use Rattle.linx_base.specs.Frames.{IsMessage, payload_of, has_more}
 use Rattle.fragmenter.specs.declared.joiner.Joined.{Joined}
 use Rattle.fragmenter.specs.declared.joiner.Joined.TheVariants.{More, Whole, Broken}
 use Rattle.fragmenter.specs.Pieces.{pieces_of}
-use Rattle.fragmenter.specs.Joining.{Begun, extended, judged, staying, answer_of, held_after}
+use Rattle.fragmenter.specs.Joining.{Begun, extended, judged, staying, joiner_answer, held_after}
 use Rattle.fragmenter.specs.Joining.{answers_to, held_after_all, whole_at_the_last}
 use Rattle.fragmenter.specs.Streams.{frames_of, wholes, begun_by, JoinsInOrder, AllJoinInOrder}
 use Rattle.fragmenter.proofs.Cuts.{pieces_of_first}
@@ -56,7 +56,7 @@ stays_where_more None more e = absurd cc
 stays_where_more (Some b) true e = stays_if (nat_lt (length b.bytes) b.size) b e
 stays_where_more (Some b) false e = absurd (never_more (length b.bytes == b.size) _ e)
 
-held_where_more : (begun : Option Begun) (frame : Frame) → answer_of begun frame ≡ More
+held_where_more : (begun : Option Begun) (frame : Frame) → joiner_answer begun frame ≡ More
     → held_after begun frame ≡ extended begun frame
 held_where_more begun frame e = stays_where_more (extended begun frame) (has_more frame) e
 
@@ -85,7 +85,7 @@ unfolding answers_to held_after_all whole_at_the_last
 answers_before m begun [] f after e = refl
 answers_before m begun (x ∷ []) f after e = cc
 answers_before m begun (x ∷ y ∷ before) f after e =
-    let head : answer_of begun x ≡ More = cc in
+    let head : joiner_answer begun x ≡ More = cc in
     let rest : answers_to (held_after begun x) (y ∷ before) ≡ mores (y ∷ before) =
     answers_before m (held_after begun x) (y ∷ before) f after cc in
     rw (head, rest) refl
@@ -139,7 +139,7 @@ module _ (p : ℕ) (m : Message) (ms : List Message) (h : 1 ≤ p) (k : 0 < leng
       let b : Begun =
       record { from = m.from; to = m.to; size = length m.body; bytes = take p m.body } in
       let one : held_after None first ≡ Some b =
-      held_where_more None first (subst (λ g. answer_of None g ≡ More) same cc) in
+      held_where_more None first (subst (λ g. joiner_answer None g ≡ More) same cc) in
       let rest : answers_to (Some b) before ≡ mores before =
       subst (λ begun. answers_to begun before ≡ mores before) (ap (held_after None) same ∙ one)
       cc in

@@ -8,7 +8,7 @@ use Rattle.fragmenter.specs.declared.joiner.Joined.TheVariants.{More, Whole, Bro
 use Rattle.fragmenter.specs.declared.joiner.Progress.{Progress}
 use Rattle.fragmenter.specs.declared.joiner.Fate.{Fate}
 use Rattle.fragmenter.specs.declared.joiner.Fate.TheVariants.{GoesOn, Completes, Breaks}
-use Rattle.fragmenter.specs.Joining.{Begun, answer_of, held_after}
+use Rattle.fragmenter.specs.Joining.{Begun, held_after, joiner_answer}
 
 -- the bytes of some pieces, joined
 abbrev pub joined : List (List ℕ) → List ℕ
@@ -36,11 +36,11 @@ judged_by p false count = if p.came + count == p.size then Completes p else Brea
 abbrev pub IsFate : Fate → List (List ℕ) → Option Begun → Frame → Type 0
 IsFate (GoesOn p) parts begun frame =
     let held : List (List ℕ) = parts ++ payload_of frame ∷ [] in
-    (answer_of begun frame ≡ More) × (held_after begun frame ≡ begun_in (Some p) held)
+    (joiner_answer begun frame ≡ More) × (held_after begun frame ≡ begun_in (Some p) held)
     × Counts (Some p) held
 IsFate (Completes p) parts begun frame =
     let body : List ℕ = joined (parts ++ payload_of frame ∷ []) in
-    (answer_of begun frame ≡ Whole (record { from = p.from; to = p.to; body = body }))
+    (joiner_answer begun frame ≡ Whole (record { from = p.from; to = p.to; body = body }))
     × (held_after begun frame ≡ None)
 IsFate Breaks parts begun frame =
-    (answer_of begun frame ≡ Broken) × (held_after begun frame ≡ None)
+    (joiner_answer begun frame ≡ Broken) × (held_after begun frame ≡ None)

@@ -48,8 +48,8 @@ staying (Some b) true = if nat_lt (length b.bytes) b.size then Some b else None
 staying (Some b) false = None
 
 -- what a joiner answers to a frame
-abbrev pub answer_of : Option Begun → Frame → Joined
-answer_of begun frame = judged (extended begun frame) (has_more frame)
+abbrev pub joiner_answer : Option Begun → Frame → Joined
+joiner_answer begun frame = judged (extended begun frame) (has_more frame)
 
 -- what a joiner holds after a frame
 abbrev pub held_after : Option Begun → Frame → Option Begun
@@ -71,7 +71,7 @@ IsBroken (Some b) (Next more payload) = Misfits b.size (length b.bytes + length 
 -- the answers to frames that come one after the other
 unfoldable pub answers_to : Option Begun → List Frame → List Joined
 answers_to begun [] = []
-answers_to begun (f ∷ fs) = answer_of begun f ∷ answers_to (held_after begun f) fs
+answers_to begun (f ∷ fs) = joiner_answer begun f ∷ answers_to (held_after begun f) fs
 
 -- what a joiner holds after these frames
 unfoldable pub held_after_all : Option Begun → List Frame → Option Begun

@@ -40,14 +40,14 @@ Begins m (First more from to size payload) = (from ≡ m.from) × (to ≡ m.to) 
 Begins m (Next more payload) = ⊥
 
 -- a frame goes on with a message
-abbrev pub GoesOn : Frame → Type 0
-GoesOn (First more from to size payload) = ⊥
-GoesOn (Next more payload) = Unit {0}
+abbrev pub IsNextFrame : Frame → Type 0
+IsNextFrame (First more from to size payload) = ⊥
+IsNextFrame (Next more payload) = Unit {0}
 
 -- the first frame begins the message, and the others go on with it
 abbrev pub IsHeaded : Message → List Frame → Type 0
 IsHeaded m [] = ⊥
-IsHeaded m (f ∷ fs) = Begins m f × All GoesOn fs
+IsHeaded m (f ∷ fs) = Begins m f × All IsNextFrame fs
 
 -- this holds of all frames but the last
 abbrev pub AllButLast : (Frame → Type 0) → List Frame → Type 0

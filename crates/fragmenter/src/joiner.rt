@@ -2,7 +2,7 @@ ghost use Rattle.std.specs.Prelude.{◌≡◌, ◌↔◌, ◌+◌, ◌<◌, ◌�
 ghost use Rattle.std.specs.Prelude.{length, drop, IfOk, OnOk, OnErr, is_some};
 ghost use Rattle.linx_base.specs.Both.{still};
 ghost use Rattle.linx_base.specs.Frames.{has_more, payload_of};
-ghost use Rattle.fragmenter.specs.Joining.{LacksBytes, answer_of, held_after};
+ghost use Rattle.fragmenter.specs.Joining.{LacksBytes, held_after, joiner_answer};
 ghost use Rattle.fragmenter.specs.Holding.{joined, begun_in, Counts, judged_by, IsFate};
 
 use linx_base::{Blob, Bytes, Frame, Message, NoMemory, TryCopy};
@@ -200,7 +200,7 @@ impl Joiner {
     /// a message. A refusal changes nothing.
     #[tactic(auto, using(crate::proofs::Breaks::broken_exactly, crate::proofs::Breaks::more_exactly))]
     pub fn add(&mut self, frame: &Frame) -> Result<Joined, NoMemory>
-        ensures answer { IfOk result (λ answer. answer ≡ answer_of self.old.is frame.now) }
+        ensures answer { IfOk result (λ answer. answer ≡ joiner_answer self.old.is frame.now) }
         ensures held { OnOk result (self.new.is ≡ held_after self.old.is frame.now) }
         ensures broken { IfOk result
             (λ answer. (answer ≡ Joined.Broken) ↔ IsBroken self.old.is frame.now) }

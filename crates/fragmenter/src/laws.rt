@@ -5,7 +5,7 @@ ghost use Rattle.std.specs.Prelude.{◌≡◌, ◌≤◌, ◌∷◌, ◌++◌, L
 ghost use Rattle.linx_base.specs.declared.frame.Frame.{Frame};
 ghost use Rattle.linx_base.specs.Frames.{IsMessage, IsFrame};
 ghost use Rattle.fragmenter.specs.Pieces.{is_more, pieces_of, IsCutInto};
-ghost use Rattle.fragmenter.specs.Joining.{answer_of, answers_to, held_after_all};
+ghost use Rattle.fragmenter.specs.Joining.{answers_to, held_after_all, joiner_answer};
 ghost use Rattle.fragmenter.specs.Joining.{whole_at_the_last};
 ghost use Rattle.fragmenter.specs.Streams.{AllJoinInOrder};
 
@@ -25,7 +25,7 @@ pub fn pieces_join(message: &Message, piece: u32)
     ensures outside { held_after_all None (pieces_of message.now piece) ≡ None }
     ensures at_each { (before : List Frame) (frame : Frame) (after : List Frame)
         → pieces_of message.now piece ≡ before ++ frame ∷ after
-        → answer_of (held_after_all None before) frame
+        → joiner_answer (held_after_all None before) frame
         ≡ (if is_more after then Joined.More else Joined.Whole message.now) }
     ensures cut { IsCutInto message.now piece (pieces_of message.now piece) }
     ensures fit { All IsFrame (pieces_of message.now piece) }

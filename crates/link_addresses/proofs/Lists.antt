@@ -180,8 +180,8 @@ push_changes ms m = record { here = get_or-append_seam ms m [] Free; others = ot
         len_apart : (b : ℕ) → suc b ≢ suc (length ms) → b ≢ length ms
         len_apart b apart e = apart (ap suc e)
 
-abbrev pub count_of : Meaning → ℕ
-count_of m = cond (is_used m) 1 0
+abbrev pub used_count : Meaning → ℕ
+used_count m = cond (is_used m) 1 0
 
 module _ (ms new : List Meaning) (k : ℕ) (m : Meaning) (put : IsPut ms k m new) where
   pub put_changes : ChangesMeaning ms new (suc k) m

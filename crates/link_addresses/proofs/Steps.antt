@@ -13,7 +13,7 @@ use Rattle.link_addresses.specs.Finding.{IsPut}
 use Rattle.link_addresses.specs.WayBack.{change_of, undone, changes_left, CanReturn, CanUndo}
 use Rattle.link_addresses.specs.WayBack.{HasRoom, IsTable}
 use Rattle.link_addresses.proofs.Lists.{in_list, closing_not_free, live_isnt_free, put_changes}
-use Rattle.link_addresses.proofs.Lists.{put_sum, put_length, put_within, put_bound, count_of}
+use Rattle.link_addresses.proofs.Lists.{put_sum, put_length, put_within, put_bound, used_count}
 use Rattle.link_addresses.proofs.Lists.{closing_isnt_live, free_isnt_live, left_used}
 use Rattle.link_addresses.proofs.Undoing.{put_back, can_more, undone_more, can_undo_more}
 use Rattle.link_addresses.proofs.Undoing.{free_returns, slot_is}
@@ -112,8 +112,8 @@ module _ (f : ℕ → Option ℕ) (ms : List Meaning) (full : List Bool) (cs : L
       before = rw was_stays (omega (arith, more, table.room.before));
     }
 
-    count_after : used_in new + count_of (meaning_of ms (suc k)) ≡ used_in ms + count_of m
-    count_after = put_sum ms new k m put count_of refl
+    count_after : used_in new + used_count (meaning_of ms (suc k)) ≡ used_in ms + used_count m
+    count_after = put_sum ms new k m put used_count refl
 
     changed : ChangesMeaning ms new (suc k) m
     changed = put_changes ms new k m put
@@ -140,8 +140,8 @@ module _ (f : ℕ → Option ℕ) (ms : List Meaning) (full : List Bool) (cs : L
             arith,
             table.counted,
             count_after,
-            ap count_of first.free,
-            ap count_of is_live,
+            ap used_count first.free,
+            ap used_count is_live,
           );
           old_counted = old_used_stays;
         }
@@ -173,8 +173,8 @@ module _ (f : ℕ → Option ℕ) (ms : List Meaning) (full : List Bool) (cs : L
           arith,
           table.counted,
           count_after,
-          ap count_of live,
-          ap count_of is_closing,
+          ap used_count live,
+          ap used_count is_closing,
         );
         old_counted = old_used_stays;
       }
@@ -197,8 +197,8 @@ module _ (f : ℕ → Option ℕ) (ms : List Meaning) (full : List Bool) (cs : L
           arith,
           table.counted,
           count_after,
-          ap count_of closing,
-          ap count_of is_free,
+          ap used_count closing,
+          ap used_count is_free,
         );
         old_counted = old_used_stays;
       }

@@ -11,7 +11,7 @@ use Rattle.linx_base.specs.declared.identity.LinkNo.{LinkNo}
 use Rattle.linx_base.specs.declared.identity.Peer.TheVariants.{Here, There}
 use Rattle.linx_base.specs.declared.identity.Session.{Session}
 use Rattle.linx_base.specs.declared.signal.SigNote.{SigNote}
-use Rattle.trunk_record.specs.Changes.{saying, sending}
+use Rattle.trunk_record.specs.Changes.{saying, says_sending}
 use Rattle.trunk_record.specs.Records.{SideRecord, has_session}
 use Rattle.trunk_record.specs.Sayings.{published, signaled, unpublished, is_live, is_signal}
 use Rattle.journal.specs.History.{is_closed, closes, endpoint_by, name_of}
@@ -22,7 +22,7 @@ use Rattle.journal.specs.declared.effect.Step.{Step}
 use Rattle.journal.specs.declared.head.Head.TheVariants.{Send}
 use Rattle.journal.specs.declared.head.SentTo.TheVariants.{Link}
 use Rattle.link_laws.specs.Brought.{was_opened}
-use Rattle.link_laws.specs.Came.{signal_in}
+use Rattle.link_laws.specs.Came.{signal_over}
 use Rattle.link_laws.specs.Linked.{IsLinked, IsTrueOf, IsClosedOn}
 use Rattle.link_laws.specs.Sessions.{restarts}
 use Rattle.trunk_record.proofs.Sayings.{same_inc-is, same_inc-itself}
@@ -40,7 +40,7 @@ cond-nil false = refl
 pub keeps_quiet : (P : List Step) (s : Step) (es items : List Effect) → IsDone s es items
     → (n : ℕ) (l : LinkNo) (A : SideRecord) → IsLinked P n l A → list_any (touches n l.0) es ≡ false
     → restarts n s.head ≡ false → OpensNew P es → ((x : Session)
-    → signal_in n l.0 x (endpoint_by P s.by) s.head ≡ [])
+    → signal_over n l.0 x (endpoint_by P s.by) s.head ≡ [])
     → ((i : Inc) → is_live i A.now.said ≡ true → list_any (closes i) es ≡ false)
     → IsLinked (s ∷ P) n l A
 keeps_quiet P s es items done n l A link away stays new says open_ =
@@ -52,7 +52,7 @@ keeps_quiet P s es items done n l A link away stays new says open_ =
 pub keeps_close : (P : List Step) (s : Step) (j : Inc) (items : List Effect)
     → IsDone s (Closed j ∷ []) items → (n : ℕ) (l : LinkNo) (A : SideRecord) → IsLinked P n l A
     → is_live j A.now.said ≡ true → restarts n s.head ≡ false
-    → ((x : Session) → signal_in n l.0 x (endpoint_by P s.by) s.head ≡ [])
+    → ((x : Session) → signal_over n l.0 x (endpoint_by P s.by) s.head ≡ [])
     → IsLinked (s ∷ P) n l (saying (unpublished j ∷ []) A)
 keeps_close P s j items done n l A link lives stays says =
     keeps_saying P s (Closed j ∷ []) items done n l A (unpublished j ∷ []) link refl stays
@@ -85,7 +85,7 @@ keeps_close P s j items done n l A link lives stays says =
 pub keeps_close_elsewhere : (P : List Step) (s : Step) (j : Inc) (items : List Effect)
     → IsDone s (Closed j ∷ []) items → (n : ℕ) (l : LinkNo) (A : SideRecord) → IsLinked P n l A
     → restarts n s.head ≡ false → ((x : Session)
-    → signal_in n l.0 x (endpoint_by P s.by) s.head ≡ []) → is_live j A.now.said ≡ false
+    → signal_over n l.0 x (endpoint_by P s.by) s.head ≡ []) → is_live j A.now.said ≡ false
     → IsLinked (s ∷ P) n l A
 keeps_close_elsewhere P s j items done n l A link stays says unknown =
     keeps_quiet P s (Closed j ∷ []) items done n l A link refl stays (λ i was. refl) says (λ i is.
@@ -97,9 +97,10 @@ keeps_close_elsewhere P s j items done n l A link stays says unknown =
 pub keeps_send : (P : List Step) (s : Step) (j b : Inc) (note : SigNote) (n : ℕ) (l : LinkNo)
     (A : SideRecord) → s.effects ≡ [] → s.head ≡ Send (There l A.now.session b) note Link
     → endpoint_by P s.by ≡ Some j → is_alive P n (Here j) ≡ true → IsLinked P n l A
-    → IsLinked (s ∷ P) n l (saying (sending j (name_of P j) b note A) A)
+    → IsLinked (s ∷ P) n l (saying (says_sending j (name_of P j) b note A) A)
 keeps_send P s j b note n l A effects head mine open_ link =
-    keeps_saying P s [] [] done n l A (sending j (name_of P j) b note A) link refl (rw head refl)
+    keeps_saying P s [] [] done n l A (says_sending j (name_of P j) b note A) link refl
+    (rw head refl)
     (λ i was. refl) says (tt, truly (is_live j A.now.said)) live
   where
     done : IsDone s [] []
@@ -118,8 +119,8 @@ keeps_send P s j b note n l A effects head mine open_ link =
     signals true false = refl
     signals false u = refl
 
-    says : (x : Session) → signal_in n l.0 x (endpoint_by P s.by) s.head
-        ≡ cond (has_session x A.now) (filter is_signal (sending j (name_of P j) b note A)) []
+    says : (x : Session) → signal_over n l.0 x (endpoint_by P s.by) s.head
+        ≡ cond (has_session x A.now) (filter is_signal (says_sending j (name_of P j) b note A)) []
     says x =
         rw (mine, head) (rw (on, eq-eqb l.0 l.0 refl)
         (signals (has_session x A.now) (is_live j A.now.said)))
@@ -135,7 +136,7 @@ keeps_send P s j b note n l A effects head mine open_ link =
       tt,
     )
 
-    live : (i : Inc) → is_live i (sending j (name_of P j) b note A ++ A.now.said) ≡ true
+    live : (i : Inc) → is_live i (says_sending j (name_of P j) b note A ++ A.now.said) ≡ true
         → is_alive (s ∷ P) n (Here i) ≡ true
     live i is = open-more P s [] [] done n (λ k was. refl) i (was (is_live j A.now.said) is) refl
       where

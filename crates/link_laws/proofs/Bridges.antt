@@ -27,7 +27,7 @@ use Rattle.journal.specs.declared.effect.Step.{Step}
 use Rattle.journal.specs.declared.head.Head.{Head}
 use Rattle.journal.specs.declared.head.Head.TheVariants.{Send}
 use Rattle.link_laws.specs.Brought.{meets_peer, was_met}
-use Rattle.link_laws.specs.Came.{came_after, came_in, signal_in, sent_in}
+use Rattle.link_laws.specs.Came.{came_after, came_in, signal_over, sent_in}
 use Rattle.link_laws.specs.Promises.{parts_peer, has_parted}
 use Rattle.trunk_record.proofs.Sayings.{arrivals_between, same_inc-is, signals-append}
 
@@ -132,7 +132,7 @@ module _ (n : ℕ) (l : LinkNo) (x : Session) (a b : Inc) where
 
   signal-head : is_on n a ≡ true → (me : Option Inc) (head : Head)
       → cond (is_endpoint a me) (sent_by (There l x b) head) []
-      ≡ signals_between a b (signal_in n l.0 x me head)
+      ≡ signals_between a b (signal_over n l.0 x me head)
   signal-head on None head = refl
   signal-head on (Some i) (Send (There k y j) note answer) =
       ap (λ t. cond t (sent_by (There l x b) (Send (There k y j) note answer)) []) (turned i)
@@ -150,7 +150,8 @@ module _ (n : ℕ) (l : LinkNo) (x : Session) (a b : Inc) where
       (sent-signals on P)
       ∙ ap (λ k. signals_between a b (sent_in P n l.0 x) ++ k)
       (signal-head on (endpoint_by P s.by) s.head)
-      ∙ sym (signals-append a b (signal_in n l.0 x (endpoint_by P s.by) s.head) (sent_in P n l.0 x))
+      ∙ sym (signals-append a b (signal_over n l.0 x (endpoint_by P s.by) s.head)
+      (sent_in P n l.0 x))
 
 or-assoc : (t u v : Bool) → ((t || u) || v) ≡ (t || (u || v))
 or-assoc true u v = refl

@@ -16,7 +16,7 @@ use Rattle.linx_base.specs.declared.identity.Session.{Session}
 use Rattle.linx_base.specs.declared.identity.Side.{Side}
 use Rattle.trunk_record.specs.Records.{up_in, SessionRecord, SideRecord, all, given_in, given_of}
 use Rattle.trunk_record.specs.Records.{has_session, peer_in, peer_of, said_in}
-use Rattle.trunk_record.specs.Sayings.{is_live, Given, IsInTurn, IsProper, Said, frees, has_gone}
+use Rattle.trunk_record.specs.Sayings.{is_live, Given, AreInTurn, IsProper, Said, frees, has_gone}
 use Rattle.trunk_record.specs.Sayings.{heard_as, signals_between, was_published, was_unpublished}
 use Rattle.trunk_record.specs.Trunks.{FreesClosed, IsGivenInTurn, IsHalf, IsHeardFrom, heard}
 use Rattle.trunk_record.specs.Trunks.{nothing_heard}
@@ -52,7 +52,7 @@ HeardAll B given a b None = ⊥
 HeardAll B given a b (Some y) = arrivals_between a b given ≡ signals_between a b (said_in B y)
 
 -- in one session
-entry-front : (B : SideRecord) (e : SessionRecord) (a b : Inc) → IsHeardFrom B e → IsInTurn e.given
+entry-front : (B : SideRecord) (e : SessionRecord) (a b : Inc) → IsHeardFrom B e → AreInTurn e.given
     → HeardFront B e.given a b e.peer
 entry-front B e a b (nothing_heard none) turn =
     subst (λ (g : List Given). HeardFront B g a b e.peer) (sym none) (by_peer e.peer)

@@ -15,7 +15,7 @@ use Rattle.journal.specs.declared.effect.Effect.{Effect}
 use Rattle.journal.specs.declared.effect.Step.{Step}
 use Rattle.journal.specs.declared.head.Head.{Head}
 use Rattle.journal.proofs.Openings.{IsShort}
-use Rattle.link_laws.specs.Came.{signal_in}
+use Rattle.link_laws.specs.Came.{signal_over}
 use Rattle.link_laws.specs.Ends.{HasTwoEnds, node_at}
 use Rattle.link_laws.specs.Sides.{AllLinked, AreLinksKept, Links, records_of}
 use Rattle.link_laws.specs.Laws.{IsLegal, IsLegalStep}
@@ -78,7 +78,7 @@ pub record TouchesNone (P : List Step) (s : Step) : Type 0 where
   pub opens_none : filter_map opened_in es ≡ []
   pub closes_none : (i : Inc) → list_any (closes i) es ≡ false
   pub stays : (n : ℕ) → restarts n s.head ≡ false
-  pub says_none : (n h : ℕ) (x : Session) → signal_in n h x (endpoint_by P s.by) s.head ≡ []
+  pub says_none : (n h : ℕ) (x : Session) → signal_over n h x (endpoint_by P s.by) s.head ≡ []
 
 pub linked_untouched : (shape : Shape) (P : List Step) (s : Step) (links : Links)
     → TouchesNone P s → AreLinksKept shape P links → AllLinked shape (s ∷ P) (records_of links)

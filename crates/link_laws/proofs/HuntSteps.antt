@@ -22,7 +22,7 @@ use Rattle.trunk_record.specs.Sayings.{Said, published, asked, met, heard_as}
 use Rattle.trunk_record.specs.Trunks.{IsHalf, IsHeardFrom, nothing_heard, heard}
 use Rattle.journal.specs.Pending.{hunting}
 use Rattle.journal.specs.declared.effect.Step.{Step}
-use Rattle.link_laws.specs.Linked.{IsTalking, asks, offers, Stands, asking, waiting, coming}
+use Rattle.link_laws.specs.Linked.{IsTalking, asks, offers, HuntStands, asking, waiting, coming}
 use Rattle.link_laws.specs.Linked.{AreHunted, HasNone}
 use Rattle.link_laws.specs.Still.{is_hunt_over, is_path_over}
 use Rattle.trunk_record.proofs.Lookups.{said-now}
@@ -85,7 +85,8 @@ hunts_more P Q n m l A B noted wa wb same hunts were = record {
     was v is = same.hunts v is
 
     more : (far near old_far old_near : List Said) (v : List ℕ) → far ≡ wa ++ old_far
-        → near ≡ wb ++ old_near → Stands P m noted v old_far old_near → Stands Q m noted v far near
+        → near ≡ wb ++ old_near → HuntStands P m noted v old_far old_near
+        → HuntStands Q m noted v far near
     more far near old_far old_near v e f (asking is) =
         asking (ap (list_any (asks v)) e ∙ list_any-append (asks v) wa old_far
         ∙ or_right (list_any (asks v) wa) (list_any (asks v) old_far) is)
@@ -122,7 +123,8 @@ hunts_new P Q n m l A B noted v new none_still hunts were = record {
 }
   where
     more : (far near old_far old_near : List Said) (w : List ℕ) → far ≡ asked v ∷ old_far
-        → near ≡ old_near → Stands P m noted w old_far old_near → Stands Q m noted w far near
+        → near ≡ old_near → HuntStands P m noted w old_far old_near
+        → HuntStands Q m noted w far near
     more far near old_far old_near w e f (asking is) =
         asking (ap (list_any (asks w)) e ∙ or_right (bytes_eq w v) (list_any (asks w) old_far) is)
     more far near old_far old_near w e f (waiting is none) = waiting is (none_still w none)
@@ -153,8 +155,8 @@ hunts_met P Q n m l A B noted i v left none_still hunts = record {
 }
   where
     ends : (talk : IsTalking (giving (met i v) A) B) (w : List ℕ) → bytes_eq w v ≡ false
-        → Stands P m noted w talk.to_far (talk.to_near ++ published i v ∷ [])
-        → Stands Q m noted w talk.to_far talk.to_near
+        → HuntStands P m noted w talk.to_far (talk.to_near ++ published i v ∷ [])
+        → HuntStands Q m noted w talk.to_far talk.to_near
     ends talk w apart (asking is) = asking is
     ends talk w apart (waiting is none) = waiting is (none_still w none)
     ends talk w apart (coming is) =
@@ -285,11 +287,11 @@ hunts_opened P Q n m l A B noted noted' i v was none_still noted_still hunts wer
   where
     more : (far near old_far old_near : List Said) (w : List ℕ) → far ≡ old_far
         → near ≡ cond (list_any (bytes_eq v) noted) (published i v ∷ []) [] ++ old_near
-        → Stands P m noted w old_far old_near → Stands Q m noted' w far near
+        → HuntStands P m noted w old_far old_near → HuntStands Q m noted' w far near
     more far near old_far old_near w e f (asking is) = asking (ap (list_any (asks w)) e ∙ is)
     more far near old_far old_near w e f (waiting is none) = by_name (bytes_eq w v) refl
       where
-        by_name : (t : Bool) → bytes_eq w v ≡ t → Stands Q m noted' w far near
+        by_name : (t : Bool) → bytes_eq w v ≡ t → HuntStands Q m noted' w far near
         by_name false apart = waiting (noted_still w apart is) (none_still w apart none)
         by_name true alike =
             let same_name : w ≡ v = bytes_eq-is w v alike in

@@ -30,7 +30,7 @@ use Rattle.journal.proofs.Lists.{list_any-filter}
 use Rattle.journal.proofs.Openings.{same_inc-true}
 use Rattle.link_laws.specs.Ends.{IsLinkOf, node_at}
 use Rattle.link_laws.specs.Sides.{AllHunted, Links, SideState, with_state}
-use Rattle.link_laws.specs.Linked.{AreHunted, HasNone, IsTalking, Stands, asking, asks, coming}
+use Rattle.link_laws.specs.Linked.{AreHunted, HasNone, HuntStands, IsTalking, asking, asks, coming}
 use Rattle.link_laws.specs.Linked.{offers, waiting}
 use Rattle.link_laws.specs.Sessions.{same_side}
 use Rattle.link_laws.specs.Still.{is_hunt_over}
@@ -120,8 +120,8 @@ hunts_stay P Q n m l A B noted same hunts = record {
   stand = λ talk v is. still v talk.to_far talk.to_near (hunts.stand talk v (same.hunts v is));
 }
   where
-    still : (v : List ℕ) (far near : List Said) → Stands P m noted v far near
-        → Stands Q m noted v far near
+    still : (v : List ℕ) (far near : List Said) → HuntStands P m noted v far near
+        → HuntStands Q m noted v far near
     still v far near (asking is) = asking is
     still v far near (waiting is none) = waiting is (same.none v none)
     still v far near (coming is) = coming is
@@ -147,8 +147,8 @@ hunts_given P Q n m l A B noted g offers_none same hunts = record {
     }
 
     ends : (talk : IsTalking (giving g A) B) (w : List ℕ)
-        → Stands P m noted w talk.to_far (talk.to_near ++ heard_as g ∷ [])
-        → Stands Q m noted w talk.to_far talk.to_near
+        → HuntStands P m noted w talk.to_far (talk.to_near ++ heard_as g ∷ [])
+        → HuntStands Q m noted w talk.to_far talk.to_near
     ends talk w (asking is) = asking is
     ends talk w (waiting is none) = waiting is (same.none w none)
     ends talk w (coming is) =
@@ -178,8 +178,8 @@ hunts_heard P Q n m l A B noted g asks_none same hunts = record {
     }
 
     ends : (talk : IsTalking A (giving g B)) (w : List ℕ)
-        → Stands P m noted w (talk.to_far ++ heard_as g ∷ []) talk.to_near
-        → Stands Q m noted w talk.to_far talk.to_near
+        → HuntStands P m noted w (talk.to_far ++ heard_as g ∷ []) talk.to_near
+        → HuntStands Q m noted w talk.to_far talk.to_near
     ends talk w (asking is) =
         elim (end-parts (asks w) talk.to_far (heard_as g) is) [
           | inl e ↦ asking e

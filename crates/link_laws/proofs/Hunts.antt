@@ -19,8 +19,9 @@ use Rattle.journal.specs.History.{name_of}
 use Rattle.journal.specs.Living.{is_alive}
 use Rattle.journal.specs.Pending.{hunting}
 use Rattle.journal.specs.declared.effect.Step.{Step}
-use Rattle.link_laws.specs.Linked.{IsLinked, IsTrueOf, is_session, IsTalking, asks, offers, Stands}
-use Rattle.link_laws.specs.Linked.{asking, waiting, coming, AreHunted, HasNone, IsUnfound}
+use Rattle.link_laws.specs.Linked.{IsLinked, IsTrueOf, is_session, IsTalking, asks, offers}
+use Rattle.link_laws.specs.Linked.{HuntStands, asking, waiting, coming, AreHunted, HasNone}
+use Rattle.link_laws.specs.Linked.{IsUnfound}
 use Rattle.link_laws.specs.Still.{is_hunt_over}
 use Rattle.trunk_record.proofs.Lookups.{given-now}
 use Rattle.trunk_record.proofs.Sayings.{same_inc-is}
@@ -98,8 +99,8 @@ module _ (P Q : List Step) (n m : ℕ) (l : LinkNo) (A B : SideRecord) (noted : 
   }
     where
       stands : (talk : IsTalking A (giving (asked_for v) B)) (w : List ℕ)
-          → Stands P m noted w (talk.to_far ++ asked v ∷ []) talk.to_near
-          → Stands Q m (v ∷ noted) w talk.to_far talk.to_near
+          → HuntStands P m noted w (talk.to_far ++ asked v ∷ []) talk.to_near
+          → HuntStands Q m (v ∷ noted) w talk.to_far talk.to_near
       stands talk w (asking is) =
           elim (end-parts (asks w) talk.to_far (asked v) is) [
             | inl e ↦ asking e
@@ -129,7 +130,7 @@ module _ (P Q : List Step) (n m : ℕ) (l : LinkNo) (A B : SideRecord) (noted : 
 
       -- a name that waits is another one
       waits : (to_far to_near : List Said) (w : List ℕ) → list_any (bytes_eq w) noted ≡ true
-          → HasNone P m w → Stands Q m noted' w to_far to_near
+          → HasNone P m w → HuntStands Q m noted' w to_far to_near
       waits to_far to_near w is none =
           let other_name : bytes_eq w v ≡ false = ap (bytes_eq w) (sym named) ∙ none i open_ in
           waiting (noted_still w other_name is) (same.none w none)
@@ -137,7 +138,7 @@ module _ (P Q : List Step) (n m : ℕ) (l : LinkNo) (A B : SideRecord) (noted : 
       by_life : (t : Bool) → is_live i B.now.said ≡ t
           → (talk : IsTalking A (saying (cond t [] (published i v ∷ [])) (giving (asked_for v) B)))
           (w : List ℕ) → list_any (is_hunt_over l w) (hunting P n) ≡ true
-          → Stands Q m noted' w talk.to_far talk.to_near
+          → HuntStands Q m noted' w talk.to_far talk.to_near
       by_life true live talk w is = stands (hunts.stand
           (before_asked [] talk talk.to_near talk.answered) w is)
         where
@@ -162,8 +163,8 @@ module _ (P Q : List Step) (n m : ℕ) (l : LinkNo) (A B : SideRecord) (noted : 
                   (eq-eqb A.now.session.0 A.now.session.0 refl)
                   ∙ ap (λ given. is_live i (map heard_as given)) (given-now A) ∙ heard
 
-          stands : Stands P m noted w (talk.to_far ++ asked v ∷ []) talk.to_near
-              → Stands Q m noted' w talk.to_far talk.to_near
+          stands : HuntStands P m noted w (talk.to_far ++ asked v ∷ []) talk.to_near
+              → HuntStands Q m noted' w talk.to_far talk.to_near
           stands (asking on_way) =
               elim (end-parts (asks w) talk.to_far (asked v) on_way) [
                 | inl e ↦ asking e
@@ -178,8 +179,8 @@ module _ (P Q : List Step) (n m : ℕ) (l : LinkNo) (A B : SideRecord) (noted : 
           more = append_cancel_right talk.to_near (published i v ∷ near_before)
               (map heard_as A.now.given) (sym talk.answered ∙ ap (λ k. published i v ∷ k) answered)
 
-          stands : Stands P m noted w (talk.to_far ++ asked v ∷ []) near_before
-              → Stands Q m noted' w talk.to_far talk.to_near
+          stands : HuntStands P m noted w (talk.to_far ++ asked v ∷ []) near_before
+              → HuntStands Q m noted' w talk.to_far talk.to_near
           stands (asking on_way) =
               elim (end-parts (asks w) talk.to_far (asked v) on_way) [
                 | inl e ↦ asking e

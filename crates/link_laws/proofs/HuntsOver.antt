@@ -20,8 +20,8 @@ use Rattle.journal.specs.Shapes.{Shape}
 use Rattle.journal.specs.declared.effect.Step.{Step}
 use Rattle.link_laws.specs.Ends.{IsLinkOf, node_at}
 use Rattle.link_laws.specs.Sides.{AllHunted, Links, SideState, with_state}
-use Rattle.link_laws.specs.Linked.{AreHunted, HasNone, IsLinked, IsUnfound, Stands, asking, asks}
-use Rattle.link_laws.specs.Linked.{coming, is_hunted, waiting}
+use Rattle.link_laws.specs.Linked.{AreHunted, HasNone, HuntStands, IsLinked, IsUnfound, asking}
+use Rattle.link_laws.specs.Linked.{asks, coming, is_hunted, waiting}
 use Rattle.link_laws.specs.Moves.{KeepsNotes, NotesName, questions}
 use Rattle.trunk_record.proofs.Lookups.{peer-now}
 use Rattle.link_laws.proofs.Hunted.{IsCalm, calm_here, far, hunts_given, hunts_heard, near, whole}
@@ -38,8 +38,8 @@ hunts_noting P n m l A B noted noted' more hunts = record {
   stand = λ talk w is. stands w talk.to_far talk.to_near (hunts.stand talk w is);
 }
   where
-    stands : (w : List ℕ) (to_far to_near : List Said) → Stands P m noted w to_far to_near
-        → Stands P m noted' w to_far to_near
+    stands : (w : List ℕ) (to_far to_near : List Said) → HuntStands P m noted w to_far to_near
+        → HuntStands P m noted' w to_far to_near
     stands w to_far to_near (asking is) = asking is
     stands w to_far to_near (waiting is none) = waiting (more w is) none
     stands w to_far to_near (coming is) = coming is
@@ -55,8 +55,8 @@ hunts_forgetting P n m l A B noted noted' j open_ kept hunts = record {
   stand = λ talk w is. stands w talk.to_far talk.to_near (hunts.stand talk w is);
 }
   where
-    stands : (w : List ℕ) (to_far to_near : List Said) → Stands P m noted w to_far to_near
-        → Stands P m noted' w to_far to_near
+    stands : (w : List ℕ) (to_far to_near : List Said) → HuntStands P m noted w to_far to_near
+        → HuntStands P m noted' w to_far to_near
     stands w to_far to_near (asking is) = asking is
     stands w to_far to_near (waiting is none) = waiting (kept w (none j open_) is) none
     stands w to_far to_near (coming is) = coming is

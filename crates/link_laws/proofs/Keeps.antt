@@ -29,7 +29,7 @@ use Rattle.journal.specs.declared.effect.Effect.{Effect}
 use Rattle.journal.specs.declared.effect.Effect.TheVariants.{Arrived, Met, Gone}
 use Rattle.journal.specs.declared.effect.Step.{Step}
 use Rattle.journal.proofs.Lists.{all-append, all-impl}
-use Rattle.link_laws.specs.Came.{came_after, came_in, sent_in, signal_in}
+use Rattle.link_laws.specs.Came.{came_after, came_in, sent_in, signal_over}
 use Rattle.link_laws.specs.Linked.{IsLinked, IsTrueOf, is_session, shown_by, IsAt}
 use Rattle.link_laws.specs.Sessions.{paired_session, own_session, had_session, paired_after}
 use Rattle.link_laws.specs.Sessions.{ends_session, restarts}
@@ -48,7 +48,7 @@ had-more P s n l y was = or_right ((own_session (s ∷ P) n l).0 == y.0) (had_se
 pub keeps_saying : (P : List Step) (s : Step) (es items : List Effect) (done : IsDone s es items)
     (n : ℕ) (l : LinkNo) (A : SideRecord) (ws : List Said) → IsLinked P n l A →
     list_any (touches n l.0) es ≡ false → restarts n s.head ≡ false → OpensNew P es →
-    ((x : Session) → signal_in n l.0 x (endpoint_by P s.by) s.head
+    ((x : Session) → signal_over n l.0 x (endpoint_by P s.by) s.head
     ≡ cond (has_session x A.now) (filter is_signal ws) []) →
     AllByRecursion (IsTrueOf (s ∷ P) n) ws →
     ((i : Inc) → is_live i (ws ++ A.now.said) ≡ true → is_alive (s ∷ P) n (Here i) ≡ true) →
@@ -247,7 +247,7 @@ module _ (P : List Step) (s : Step) (n : ℕ) (l : LinkNo) (A : SideRecord) (g :
   same_pair x (gone a) z = refl
 
   pub keeps_giving : restarts n s.head ≡ false → ((x : Session)
-      → signal_in n l.0 x (endpoint_by P s.by) s.head ≡ []) → IsLinked (s ∷ P) n l (giving g A)
+      → signal_over n l.0 x (endpoint_by P s.by) s.head ≡ []) → IsLinked (s ∷ P) n l (giving g A)
   keeps_giving stays says =
       let new : OpensNew P es = λ i was. quiet (opens i) (λ a name. refl) (λ a b note. refl)
       (λ a. refl) g in

@@ -24,7 +24,7 @@ use Rattle.journal.specs.declared.head.Head.{Head}
 use Rattle.journal.specs.declared.head.Head.TheVariants.{Restart, TakeNone, Tick, Wire}
 use Rattle.link_laws.specs.Brought.{Brought, MayBring, brought_at}
 use Rattle.link_laws.specs.Ends.{node_at}
-use Rattle.link_laws.specs.Laws.{HasEffects, IsHandedOver, IsLegalStep, IsPacket, IsTick}
+use Rattle.link_laws.specs.Laws.{ArePacketEffects, HasEffects, IsHandedOver, IsLegalStep, IsTick}
 use Rattle.link_laws.specs.Laws.{KeepsCuts, KeepsPackets, KeepsRest, KeepsTicks, actors_alone}
 use Rattle.link_laws.specs.Laws.{delivers, loses, restarting}
 use Rattle.link_laws.specs.Moves.{KeepsNodeLaws}
@@ -39,11 +39,11 @@ no_endpoint {me} {head} opens needs = record {
 }
 
 -- the head is that of a step of an actor off the links, which doesn't ask for rest
-abbrev pub is_plain : Head → Bool
-is_plain (TakeNone filter) = false
-is_plain (Wire l from verdict) = false
-is_plain (Tick l side) = false
-is_plain _ = true
+abbrev pub is_plain_head : Head → Bool
+is_plain_head (TakeNone filter) = false
+is_plain_head (Wire l from verdict) = false
+is_plain_head (Tick l side) = false
+is_plain_head _ = true
 
 -- so the laws of rest, packets, cuts and ticks ask nothing of it
 pub record AsksNothing (shape : Shape) (P : List Step) (head : Head) (effects : List Effect)
@@ -54,7 +54,7 @@ pub record AsksNothing (shape : Shape) (P : List Step) (head : Head) (effects : 
   pub ticks : KeepsTicks shape P head effects
 
 pub asks-nothing : (shape : Shape) (P : List Step) (head : Head) (effects : List Effect)
-    → is_plain head ≡ true → AsksNothing shape P head effects
+    → is_plain_head head ≡ true → AsksNothing shape P head effects
 asks-nothing shape P (TakeNone filter) effects plain = absurd (true≢false (sym plain))
 asks-nothing shape P (Wire k from verdict) effects plain = absurd (true≢false (sym plain))
 asks-nothing shape P (Tick k side) effects plain = absurd (true≢false (sym plain))
@@ -120,7 +120,7 @@ pub legal_wire : (shape : Shape) (P : List Step) (by : By) (l : LinkNo) (from : 
 legal_wire shape P by l from verdict what maker hands whole may =
     let n : ℕ = node_at shape l (other_of from) in
     let m : ℕ = node_at shape l from in
-    let packet : IsPacket P n m l (brought_at P n l what) =
+    let packet : ArePacketEffects P n m l (brought_at P n l what) =
     record { what = what; effects = refl; may = may } in
     legal_passing shape P by l from verdict (brought_at P n l what) maker
     (λ cut. absurd (true≢false (sym cut ∙ whole)))

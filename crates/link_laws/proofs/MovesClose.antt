@@ -26,7 +26,7 @@ use Rattle.journal.specs.declared.effect.Effect.TheVariants.{Closed}
 use Rattle.journal.specs.declared.effect.Step.{Step}
 use Rattle.journal.specs.declared.head.Head.{Head}
 use Rattle.journal.specs.declared.head.Head.TheVariants.{Close, Ended}
-use Rattle.link_laws.specs.Came.{signal_in}
+use Rattle.link_laws.specs.Came.{signal_over}
 use Rattle.link_laws.specs.Ends.{IsLinkOf, node_at}
 use Rattle.link_laws.specs.Sides.{Links, records_of}
 use Rattle.link_laws.specs.Moves.{AllLeft, Closes, Ends, KeepsNodeLaws}
@@ -38,7 +38,7 @@ use Rattle.link_laws.proofs.Done.{IsDone, opened-items}
 use Rattle.link_laws.proofs.Good.{IsGood, IsKnown, left_kept, short, step_of}
 use Rattle.link_laws.proofs.Hunted.{IsCalm, calm_here}
 use Rattle.link_laws.proofs.HuntsAll.{hunted_sayings}
-use Rattle.link_laws.proofs.Legal.{asks-nothing, is_plain, legal_with}
+use Rattle.link_laws.proofs.Legal.{asks-nothing, is_plain_head, legal_with}
 use Rattle.link_laws.proofs.MovesSay.{SaysWell}
 use Rattle.link_laws.proofs.MovesSayAll.{opened-say, trunks-say}
 use Rattle.link_laws.proofs.OneSide.{raises-none, silence-side, tells-none}
@@ -50,9 +50,9 @@ use Rattle.link_laws.proofs.Unfound.{maker-home}
 
 -- the head closes its maker's endpoint
 pub record IsCloseHead (shape : Shape) (P : List Step) (head : Head) : Type 0 where
-  pub plain : is_plain head ≡ true
+  pub plain : is_plain_head head ≡ true
   pub stays : (n : ℕ) → restarts n head ≡ false
-  pub says : (n h : ℕ) (x : Session) (me : Option Inc) → signal_in n h x me head ≡ []
+  pub says : (n h : ℕ) (x : Session) (me : Option Inc) → signal_over n h x me head ≡ []
   pub hunts : (n k : ℕ) (me : Option Inc) → hunt_in n k me head ≡ []
   pub promised : (es : List Effect) → PromisesOf shape P head es
 

@@ -35,8 +35,8 @@ use Rattle.link_laws.specs.Sides.{AllHunted, AllLinked, AllPublishedOpen, Links,
 use Rattle.link_laws.specs.Sides.{records_of, with_side, with_state}
 use Rattle.link_laws.specs.Laws.{IsLegalStep, delivers}
 use Rattle.link_laws.specs.Linked.{HasNone, IsLinked, asks, is_session, offers, shown_by}
-use Rattle.link_laws.specs.Moves.{Gives, IsRecorded, IsTold, KeepsNotes, NotesName}
-use Rattle.link_laws.specs.Moves.{OthersLeft, Receives, brought_of, notes, publishes}
+use Rattle.link_laws.specs.Moves.{IsRecorded, IsTold, KeepsNotes, NotesName, OthersLeft}
+use Rattle.link_laws.specs.Moves.{PacketGives, Receives, brought_of, notes, publishes}
 use Rattle.link_laws.specs.Promises.{ups}
 use Rattle.link_laws.specs.Sessions.{is_cut, silent_ticks, tells_heard}
 use Rattle.link_laws.proofs.Answers.{offers_linked, offers_opened}
@@ -328,7 +328,7 @@ module _ (shape : Shape) (P : List Step) (before after : Links) (known : IsKnown
       recorded (gone a) told fits it (hunts_same (gone a) told fits (λ w. refl) (λ w. refl) it)
       heard
 
-  pub giving_good : (brought : List Effect) → Gives P n l C (after l.0 (other_of from))
+  pub giving_good : (brought : List Effect) → PacketGives P n l C (after l.0 (other_of from))
       (before l.0 from) brought
       → IsGood shape P (step_of by (Wire l from verdict) brought) after
   giving_good brought gives =

@@ -28,7 +28,7 @@ use Rattle.journal.specs.declared.head.Head.{Head}
 use Rattle.journal.specs.declared.head.Head.TheVariants.{Attach, Cut, Detach, Hunt}
 use Rattle.journal.specs.declared.head.Head.TheVariants.{Mend, Refused, Restart, Send, Settle}
 use Rattle.journal.specs.declared.head.Head.TheVariants.{Take, TakeNone, Waits, Wire}
-use Rattle.link_laws.specs.Came.{signal_in}
+use Rattle.link_laws.specs.Came.{signal_over}
 use Rattle.link_laws.specs.Ends.{node_at}
 use Rattle.link_laws.specs.Sides.{AreLinksKept, Links}
 use Rattle.link_laws.specs.Laws.{HasEffects}
@@ -63,7 +63,7 @@ quiet-stays (Restart k) is n = absurd (true≢false (sym is))
 quiet-stays head is n = refl
 
 quiet-says : (head : Head) → is_quiet_head head ≡ true → (n h : ℕ) (x : Session) (me : Option Inc)
-    → signal_in n h x me head ≡ []
+    → signal_over n h x me head ≡ []
 quiet-says (Send q note answer) is n h x me = absurd (true≢false (sym is))
 quiet-says head is n h x me = no_signal n h x me head (λ j. refl)
 

@@ -12,13 +12,13 @@ use Rattle.linx_base.specs.declared.identity.Peer.{Peer}
 use Rattle.linx_base.specs.declared.identity.Peer.TheVariants.{Here, There}
 use Rattle.linx_base.specs.declared.identity.Session.{Session}
 use Rattle.linx_base.specs.declared.signal.SigNote.{SigNote}
-use Rattle.trunk_record.specs.Changes.{saying, sending}
+use Rattle.trunk_record.specs.Changes.{saying, says_sending}
 use Rattle.trunk_record.specs.Records.{SideRecord}
 use Rattle.trunk_record.specs.Sayings.{Said, is_live, published, signaled}
 use Rattle.trunk_record.proofs.Changes.{proper_sending}
 use Rattle.journal.specs.Effects.{arrivals_of, send_answer}
 use Rattle.journal.specs.History.{closes, endpoint_by, is_closed, name_of, opened_in}
-use Rattle.journal.specs.Laws.{sending as sending_by}
+use Rattle.journal.specs.Laws.{sending}
 use Rattle.journal.specs.Living.{is_alive}
 use Rattle.journal.specs.Shapes.{Shape, node_by}
 use Rattle.journal.specs.declared.by.By.{By}
@@ -28,7 +28,7 @@ use Rattle.journal.specs.declared.effect.Step.{Step}
 use Rattle.journal.specs.declared.head.Head.TheVariants.{Send}
 use Rattle.journal.specs.declared.head.SentTo.{SentTo}
 use Rattle.journal.specs.declared.head.SentTo.TheVariants.{Dead, Link, Queued}
-use Rattle.link_laws.specs.Came.{signal_in}
+use Rattle.link_laws.specs.Came.{signal_over}
 use Rattle.link_laws.specs.Ends.{node_at}
 use Rattle.link_laws.specs.Sides.{AllLinked, Links, records_of, with_side}
 use Rattle.link_laws.specs.Fits.{CanSend}
@@ -84,7 +84,7 @@ over-alive l x b false same = absurd cc
 -- what is sent over a link is said at that side alone
 says-elsewhere : (n k h : ℕ) (l : LinkNo) (x z : Session) (j b : Inc) (note : SigNote)
     → is_on n j ≡ true → ((n == k) && (l.0 == h)) ≡ false
-    → signal_in k h z (Some j) (Send (There l x b) note Link) ≡ []
+    → signal_over k h z (Some j) (Send (There l x b) note Link) ≡ []
 says-elsewhere n k h l x z j b note here apart =
     ap (λ t. cond ((t && l.0 == h) && x.0 == z.0) (signaled j b note ∷ []) [])
     (ap (λ m. m == k) (eqb-true (node_of j) n here))
@@ -100,13 +100,13 @@ module _ (shape : Shape) (P : List Step) (before after : Links) (known : IsKnown
 
   has : (q : Peer) (answer : SentTo) → KeepsNodeLaws shape P (sent q answer)
       → es ≡ arrivals_of j note (is_alive P node q) q
-  has q answer laws = laws.effects ∙ ap (λ (m : Option Inc). sending_by P node m q note) mine
+  has q answer laws = laws.effects ∙ ap (λ (m : Option Inc). sending P node m q note) mine
 
   -- A SEND THAT LEAVES ALL SIDES
   left_good : (q : Peer) (answer : SentTo) → KeepsNodeLaws shape P (sent q answer)
       → ((n l : ℕ) → list_any (touches n l) es ≡ false) → filter_map opened_in es ≡ []
       → ((i : Inc) → list_any (closes i) es ≡ false)
-      → ((n h : ℕ) (x : Session) → signal_in n h x (Some j) (Send q note answer) ≡ [])
+      → ((n h : ℕ) (x : Session) → signal_over n h x (Some j) (Send q note answer) ≡ [])
       → AllLeft shape before after → IsGood shape P (sent q answer) after
   left_good q answer laws touches_none opens_none closes_none says_none left = record {
     legal = legal_with shape P (sent q answer) laws
@@ -119,7 +119,7 @@ module _ (shape : Shape) (P : List Step) (before after : Links) (known : IsKnown
       opens_none = opens_none;
       closes_none = closes_none;
       stays = λ n. refl;
-      says_none = λ n h x. ap (λ (m : Option Inc). signal_in n h x m (Send q note answer)) mine
+      says_none = λ n h x. ap (λ (m : Option Inc). signal_over n h x m (Send q note answer)) mine
           ∙ says_none n h x;
     }) (λ n m l. calm_here P (sent q answer)
         (record { begins_none = λ k h w. refl; opens_none = opens_none }) n m l) left known.kept;
@@ -165,7 +165,7 @@ module _ (shape : Shape) (P : List Step) (before after : Links) (known : IsKnown
     A = (before l.0 over.at).side
 
     abbrev ws : List Said
-    ws = sending j (name_of P j) b note A
+    ws = says_sending j (name_of P j) b note A
 
     none : es ≡ []
     none = none_over l x b Link laws
@@ -200,7 +200,7 @@ module _ (shape : Shape) (P : List Step) (before after : Links) (known : IsKnown
         (λ h side of_h apart.
         keeps_quiet P s [] [] done (node_at shape h side) h (records_of before h.0 side)
         (known.kept.linked h of_h side) refl refl (opens-nothing P [] refl)
-        (λ z. ap (λ (m : Option Inc). signal_in (node_at shape h side) h.0 z m
+        (λ z. ap (λ (m : Option Inc). signal_over (node_at shape h side) h.0 z m
         (Send (There l x b) note Link)) mine
         ∙ says-elsewhere n (node_at shape h side) h.0 l x z j b note on apart) (λ i live. refl))
 

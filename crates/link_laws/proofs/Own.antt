@@ -12,7 +12,7 @@ use Rattle.linx_base.specs.declared.identity.Session.{Session}
 use Rattle.linx_base.specs.declared.identity.Side.{Side}
 use Rattle.linx_base.specs.declared.pending.PendingAttach.{PendingAttach}
 use Rattle.linx_base.specs.declared.signal.SigNote.{SigNote}
-use Rattle.trunk_record.specs.Changes.{saying, sending}
+use Rattle.trunk_record.specs.Changes.{saying, says_sending}
 use Rattle.trunk_record.specs.Records.{SideRecord}
 use Rattle.trunk_record.specs.Sayings.{is_live, signaled, unpublished}
 use Rattle.journal.specs.Effects.{notices, held_elsewhere, closing}
@@ -25,7 +25,7 @@ use Rattle.journal.specs.declared.effect.Effect.TheVariants.{Closed}
 use Rattle.journal.specs.declared.effect.Step.{Step}
 use Rattle.journal.specs.declared.head.Head.TheVariants.{Send}
 use Rattle.journal.specs.declared.head.SentTo.TheVariants.{Link}
-use Rattle.link_laws.specs.Came.{signal_in}
+use Rattle.link_laws.specs.Came.{signal_over}
 use Rattle.link_laws.specs.Ends.{node_at, IsLinkOf, HasTwoEnds}
 use Rattle.link_laws.specs.Sides.{Trunks, with_side, AllLinked}
 use Rattle.link_laws.specs.Linked.{IsLinked}
@@ -46,7 +46,7 @@ closed_on shape trunks n j k at = closing_side n (node_at shape (record { 0 = k 
 module _ (shape : Shape) (P : List Step) (trunks : Trunks) (s : Step) (n : ℕ) (j : Inc)
     (linked : AllLinked shape P trunks) (attaches : List PendingAttach) (effects : s.effects
     ≡ closing j attaches) (stays : (k : ℕ) → restarts k s.head ≡ false)
-    (says : (k h : ℕ) (x : Session) → signal_in k h x (endpoint_by P s.by) s.head ≡ []) where
+    (says : (k h : ℕ) (x : Session) → signal_over k h x (endpoint_by P s.by) s.head ≡ []) where
   done : IsDone s (Closed j ∷ []) (notices reasons.Closed (same_peer (Here j))
       (held_elsewhere j attaches))
   done = record {
@@ -101,7 +101,7 @@ module _ (shape : Shape) (P : List Step) (trunks : Trunks) (a : ℕ) (j b : Inc)
 
   says_there : (k h : ℕ) (x : Session) (me : Option Inc) → me ≡ Some j
       → ((node_at shape l at == k) && (l.0 == h)) ≡ false
-      → signal_in k h x me (Send (There l A.now.session b) note Link) ≡ []
+      → signal_over k h x me (Send (There l A.now.session b) note Link) ≡ []
   says_there k h x None is apart = refl
   says_there k h x (Some i) is apart =
       let same : i ≡ j = cc in
@@ -113,13 +113,13 @@ module _ (shape : Shape) (P : List Step) (trunks : Trunks) (a : ℕ) (j b : Inc)
       ∙ ap (λ t. cond (t && A.now.session.0 == x.0) (signaled i b note ∷ []) []) apart
 
   pub whole_send : AllLinked shape (sent ∷ P) (with_side trunks l.0 at
-      (saying (sending j (name_of P j) b note A) A))
+      (saying (says_sending j (name_of P j) b note A) A))
   whole_send =
       let here : IsLinked (sent ∷ P) (node_at shape l at) l
-      (saying (sending j (name_of P j) b note A) A) =
+      (saying (says_sending j (name_of P j) b note A) A) =
       keeps_send P sent j b note (node_at shape l at) l A refl refl mine
       (ap (λ k. is_alive P k (Here j)) node ∙ open_) (linked l of_shape at) in
-      one_side shape (sent ∷ P) trunks l at (saying (sending j (name_of P j) b note A) A) two
+      one_side shape (sent ∷ P) trunks l at (saying (says_sending j (name_of P j) b note A) A) two
       of_shape here
       (λ h side of_h apart.
       keeps_quiet P sent [] [] (record { effects = refl; items_only = tt }) (node_at shape h side)

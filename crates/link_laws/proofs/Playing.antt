@@ -33,8 +33,8 @@ use Rattle.link_laws.specs.Laws.{actors_alone, delivers}
 use Rattle.link_laws.specs.Moves.{KeepsNodeLaws}
 use Rattle.link_laws.specs.Sessions.{is_cut}
 use Rattle.link_laws.specs.Still.{AllStill, IsStill}
-use Rattle.link_laws.proofs.Legal.{asks-nothing, is_plain, legal_passing, legal_tick, legal_with}
-use Rattle.link_laws.proofs.Legal.{node_laws}
+use Rattle.link_laws.proofs.Legal.{asks-nothing, is_plain_head, legal_passing, legal_tick}
+use Rattle.link_laws.proofs.Legal.{legal_with, node_laws}
 
 -- the test of a head for an actor: it may act, and its endpoint is as the head needs
 abbrev may_act : Shape → List Step → ℕ → Head → Bool
@@ -61,14 +61,14 @@ keeps_laws {shape} {P} {k} {head} {effects} may bounds same sends receives =
 
 -- it is legal where its head is plain, too
 pub acts : {shape : Shape} {P : List Step} {k : ℕ} {head : Head} {effects : List Effect}
-    → (may_act shape P k head && is_plain head) ≡ true → IsBounded head
+    → (may_act shape P k head && is_plain_head head) ≡ true → IsBounded head
     → HasEffects shape P (node_by shape (Actor k)) (endpoint_of P k) head effects
     → KeepsSends P (node_by shape (Actor k)) head
     → KeepsReceives (actors_alone shape) P (node_by shape (Actor k)) (Actor k) (endpoint_of P k)
     head
     → IsLegalStep shape P (record { by = Actor k; head = head; effects = effects })
 acts {shape} {P} {k} {head} {effects} may bounds same sends receives =
-    let parts = and_parts (may_act shape P k head) (is_plain head) may in
+    let parts = and_parts (may_act shape P k head) (is_plain_head head) may in
     legal_with shape P (made k head effects) (keeps_laws parts.0 bounds same sends receives)
     (asks-nothing shape P head effects parts.1)
 

@@ -30,7 +30,7 @@ use Rattle.journal.specs.declared.effect.Effect.TheVariants.{Opened, Down}
 use Rattle.journal.specs.declared.effect.Step.{Step}
 use Rattle.journal.specs.declared.head.Head.TheVariants.{Open, Tick}
 use Rattle.link_laws.specs.Brought.{was_opened}
-use Rattle.link_laws.specs.Came.{signal_in}
+use Rattle.link_laws.specs.Came.{signal_over}
 use Rattle.link_laws.specs.Ends.{node_at, IsLinkOf, HasTwoEnds}
 use Rattle.link_laws.specs.Sides.{Trunks, with_side, AllLinked}
 use Rattle.link_laws.specs.Laws.{IsLegalStep}
@@ -51,7 +51,7 @@ use Rattle.linx_base.specs.declared.signal.Reason.TheVariants as reasons
 -- a wait, a detach, a hunt, an attach, a cut, a mend, a settling, a refusal, a tick, a lost packet
 pub whole_quiet : (shape : Shape) (P : List Step) (trunks : Trunks) (s : Step)
     → AllLinked shape P trunks → AreItems s.effects → ((n : ℕ) → restarts n s.head ≡ false)
-    → ((n h : ℕ) (x : Session) → signal_in n h x (endpoint_by P s.by) s.head ≡ [])
+    → ((n h : ℕ) (x : Session) → signal_over n h x (endpoint_by P s.by) s.head ≡ [])
     → AllLinked shape (s ∷ P) trunks
 whole_quiet shape P trunks s linked items stays says h of_h side =
     keeps_quiet P s [] s.effects (record { effects = refl; items_only = items })

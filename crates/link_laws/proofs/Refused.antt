@@ -19,7 +19,7 @@ use Rattle.journal.specs.declared.head.Head.TheVariants.{Restart, TakeNone, Tick
 use Rattle.journal.proofs.Playing.{at_rest, closes, endpoint_kept, made, made_by, note, ref}
 use Rattle.link_laws.specs.Brought.{IsArrival, IsGoingDown, IsGoingUp, IsMeeting, IsParting}
 use Rattle.link_laws.specs.Brought.{arrives, meets, nothing}
-use Rattle.link_laws.specs.Laws.{IsLegal, IsPacket, IsTick, loses, stays}
+use Rattle.link_laws.specs.Laws.{ArePacketEffects, IsLegal, IsTick, loses, stays}
 use Rattle.link_laws.specs.Sessions.{is_cut}
 use Rattle.link_laws.specs.Still.{IsStill, cut, whole as whole_link}
 use Rattle.link_laws.proofs.Playing.{acts, a, b, brings, down, gone_at, l, met_at, posts, pump}
@@ -32,7 +32,7 @@ use Rattle.link_laws.proofs.Worked.{found_over_is_legal, one_answered, one_answe
 
 -- a packet to node 2, over a whole link, may break the law of packets alone
 brings_wrong : {P : List Step} {es : List Effect} → IsLegal two_ends P → is_cut P 1 ≡ false
-    → ¬ (IsPacket P 2 1 l es) → Breaks two_ends P (there es) packets
+    → ¬ (ArePacketEffects P 2 1 l es) → Breaks two_ends P (there es) packets
 brings_wrong {P} {es} before uncut broken = record {
   before = before;
   broken = broken;

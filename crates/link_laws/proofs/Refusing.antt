@@ -35,19 +35,19 @@ law_number cutting = 9
 law_number ticking = 10
 
 -- a step after P keeps a law
-abbrev pub Keeps : Shape → List Step → Step → Law → Type 0
-Keeps shape P s makers = KeepsMakers shape P s.by s.head
-Keeps shape P s endpoints = KeepsEndpoints (endpoint_by P s.by) s.head
-Keeps shape P s bounds = IsBounded s.head
-Keeps shape P s effects =
+abbrev pub KeepsLaw : Shape → List Step → Step → Law → Type 0
+KeepsLaw shape P s makers = KeepsMakers shape P s.by s.head
+KeepsLaw shape P s endpoints = KeepsEndpoints (endpoint_by P s.by) s.head
+KeepsLaw shape P s bounds = IsBounded s.head
+KeepsLaw shape P s effects =
     HasEffects shape P (node_by shape s.by) (endpoint_by P s.by) s.head s.effects
-Keeps shape P s sending = KeepsSends P (node_by shape s.by) s.head
-Keeps shape P s receiving =
+KeepsLaw shape P s sending = KeepsSends P (node_by shape s.by) s.head
+KeepsLaw shape P s receiving =
     KeepsReceives (actors_alone shape) P (node_by shape s.by) s.by (endpoint_by P s.by) s.head
-Keeps shape P s resting = KeepsRest shape P s.head
-Keeps shape P s packets = KeepsPackets shape P s.head s.effects
-Keeps shape P s cutting = KeepsCuts P s.head
-Keeps shape P s ticking = KeepsTicks shape P s.head s.effects
+KeepsLaw shape P s resting = KeepsRest shape P s.head
+KeepsLaw shape P s packets = KeepsPackets shape P s.head s.effects
+KeepsLaw shape P s cutting = KeepsCuts P s.head
+KeepsLaw shape P s ticking = KeepsTicks shape P s.head s.effects
 
 -- this is asked for, or not
 abbrev pub IsAsked : Bool → Type 0 → Type 0
@@ -57,7 +57,7 @@ IsAsked false A = Unit {0}
 -- a step keeps a law, if it isn't this one
 abbrev pub KeepsOther : Shape → List Step → Step → Law → Law → Type 0
 KeepsOther shape P s law other =
-    IsAsked (not (law_number law == law_number other)) (Keeps shape P s other)
+    IsAsked (not (law_number law == law_number other)) (KeepsLaw shape P s other)
 
 -- it keeps all laws but this one
 abbrev pub KeepsAllBut : Shape → List Step → Step → Law → Type 0
@@ -71,7 +71,7 @@ KeepsAllBut shape P s law =
 -- after a legal history stands a step that breaks one law, and no other
 pub record Breaks (shape : Shape) (P : List Step) (s : Step) (law : Law) : Type 0 where
   pub before : IsLegal shape P
-  pub broken : ¬ (Keeps shape P s law)
+  pub broken : ¬ (KeepsLaw shape P s law)
   pub others : KeepsAllBut shape P s law
 
 -- numbers that a test tells apart

@@ -29,7 +29,7 @@ use Rattle.journal.specs.declared.effect.Effect.{Effect}
 use Rattle.journal.specs.declared.effect.Effect.TheVariants.{Closed, Down}
 use Rattle.journal.specs.declared.effect.Step.{Step}
 use Rattle.journal.specs.declared.head.Head.TheVariants.{Restart}
-use Rattle.link_laws.specs.Came.{signal_in}
+use Rattle.link_laws.specs.Came.{signal_over}
 use Rattle.link_laws.specs.Ends.{node_at, IsLinkOf}
 use Rattle.link_laws.specs.Sides.{Trunks, AllLinked}
 use Rattle.link_laws.specs.Laws.{down_if, downs_of}
@@ -59,7 +59,7 @@ module _ (shape : Shape) (P : List Step) (trunks : Trunks) (by : By) (n : ℕ)
   fresh_session = first_session (2 + boots P n)
 
   no_signal_here : (k h : ℕ) (x : Session) (me : Option Inc)
-      → signal_in k h x me (Restart (record { 0 = n })) ≡ []
+      → signal_over k h x me (Restart (record { 0 = n })) ≡ []
   no_signal_here k h x me = no_signal k h x me (Restart (record { 0 = n })) (λ j. refl)
 
   -- the effects are this node's

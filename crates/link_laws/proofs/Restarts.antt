@@ -25,7 +25,7 @@ use Rattle.journal.specs.declared.effect.Effect.{Effect}
 use Rattle.journal.specs.declared.effect.Effect.TheVariants.{Closed, Down}
 use Rattle.journal.specs.declared.effect.Step.{Step}
 use Rattle.journal.proofs.Lists.{all-append, list_any-filter}
-use Rattle.link_laws.specs.Came.{came_in, sent_in, signal_in, came_after}
+use Rattle.link_laws.specs.Came.{came_in, sent_in, signal_over, came_after}
 use Rattle.link_laws.specs.Laws.{down_if, downs_of}
 use Rattle.link_laws.specs.Linked.{IsLinked, is_session}
 use Rattle.link_laws.specs.Sessions.{paired_session, boots, paired_after, restarts}
@@ -203,7 +203,7 @@ restart-dead P n l x a (suc k) above within up z =
 pub keeps_restart : (P : List Step) (s : Step) (n : ℕ) (l : LinkNo) (A : SideRecord) (L : ℕ)
     → s.effects ≡ downs_of P n L ++ closings (open_endpoints P n) → 0 < l.0 → l.0 ≤ L
     → IsLinked P n l A → restarts n s.head ≡ true
-    → ((x : Session) → signal_in n l.0 x (endpoint_by P s.by) s.head ≡ [])
+    → ((x : Session) → signal_over n l.0 x (endpoint_by P s.by) s.head ≡ [])
     → IsEnded P (s ∷ P) n l (first_session (2 + boots P n))
 keeps_restart P s n l A L effects above within link restart says = record {
   own = rw restart (ap (λ (k : ℕ). let z : Session = record { 0 = k } in z) (omega arith));

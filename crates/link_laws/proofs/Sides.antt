@@ -23,7 +23,7 @@ use Rattle.journal.specs.Effects.{founds, notices, notice, found}
 use Rattle.journal.specs.Shapes.{Shape}
 use Rattle.journal.specs.declared.effect.Step.{Step}
 use Rattle.journal.specs.declared.head.Head.{Head}
-use Rattle.link_laws.specs.Came.{signal_in}
+use Rattle.link_laws.specs.Came.{signal_over}
 use Rattle.link_laws.specs.Ends.{node_at, IsLinkOf, HasTwoEnds}
 use Rattle.link_laws.specs.Sides.{Trunks, with_side, AllLinked}
 use Rattle.link_laws.specs.Linked.{IsLinked, shown_by, IsAt}
@@ -51,7 +51,7 @@ notices-items reason ended attaches = each _
 
 -- no signal goes over a link by a head that is no send
 pub no_signal : (n l : ℕ) (x : Session) (me : Option Inc) (head : Head)
-    → ((j : Inc) → signal_in n l x (Some j) head ≡ []) → signal_in n l x me head ≡ []
+    → ((j : Inc) → signal_over n l x (Some j) head ≡ []) → signal_over n l x me head ≡ []
 no_signal n l x None head none = refl
 no_signal n l x (Some j) head none = none j
 

@@ -22,8 +22,8 @@ use Rattle.journal.specs.Living.{living, is_alive}
 use Rattle.journal.specs.Pending.{hunting}
 use Rattle.journal.specs.Traffic.{sent_to, arrived_from}
 use Rattle.journal.specs.declared.effect.Step.{Step}
-use Rattle.link_laws.specs.Linked.{IsLinked, is_session, IsTalking, Stands, asking, waiting, coming}
-use Rattle.link_laws.specs.Linked.{AreHunted}
+use Rattle.link_laws.specs.Linked.{IsLinked, is_session, IsTalking, HuntStands, asking, waiting}
+use Rattle.link_laws.specs.Linked.{coming, AreHunted}
 use Rattle.link_laws.specs.Still.{IsStillHalf, is_hunt_over, is_open_there}
 use Rattle.trunk_record.proofs.Lookups.{given-now, peer-now, said-now}
 use Rattle.link_laws.proofs.Brings.{all-members, got-heard, sent-said}
@@ -59,7 +59,7 @@ module _ (P : List Step) (n m : ℕ) (l : LinkNo) (A B : SideRecord) (noted : Li
   }
 
   none_hunts : (v : List ℕ) (i : Inc) → is_alive P m (Here i) ≡ true
-      → bytes_eq v (name_of P i) ≡ true → Stands P m noted v [] [] → ⊥
+      → bytes_eq v (name_of P i) ≡ true → HuntStands P m noted v [] [] → ⊥
   none_hunts v i open_ named (asking is) = true≢false (sym is)
   none_hunts v i open_ named (waiting is none) = true≢false (sym named ∙ none i open_)
   none_hunts v i open_ named (coming is) = true≢false (sym is)

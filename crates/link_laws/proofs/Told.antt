@@ -5,7 +5,7 @@ use Rattle.journal.specs.declared.effect.Effect.{Effect}
 use Rattle.journal.specs.declared.effect.Step.{Step}
 use Rattle.link_laws.specs.Brought.{Brought, MayBring, arrives, brought_at, brought_by, goes_down}
 use Rattle.link_laws.specs.Brought.{goes_up, meets, nothing, parts}
-use Rattle.link_laws.specs.Laws.{IsPacket}
+use Rattle.link_laws.specs.Laws.{ArePacketEffects}
 
 -- what was brought is told by its effects
 pub told_back : (P : List Step) (n : ℕ) (l : LinkNo) (what : Brought)
@@ -18,7 +18,8 @@ told_back P n l (meets x a name) = refl
 told_back P n l (parts x a) = refl
 
 -- so the law of what it brought is that of what is told
-module _ {P : List Step} {n m : ℕ} {l : LinkNo} {es : List Effect} (packet : IsPacket P n m l es)
+module _ {P : List Step} {n m : ℕ} {l : LinkNo} {es : List Effect}
+    (packet : ArePacketEffects P n m l es)
   where
     pub tells : packet.what ≡ brought_by es
     tells = sym (ap brought_by packet.effects ∙ told_back P n l packet.what)

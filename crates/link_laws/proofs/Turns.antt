@@ -25,7 +25,7 @@ use Rattle.journal.specs.declared.effect.Effect.{Effect}
 use Rattle.journal.specs.declared.effect.Effect.TheVariants.{Up, Down}
 use Rattle.journal.specs.declared.effect.Step.{Step}
 use Rattle.journal.proofs.Lists.{all-impl}
-use Rattle.link_laws.specs.Came.{came_in, sent_in, signal_in}
+use Rattle.link_laws.specs.Came.{came_in, sent_in, signal_over}
 use Rattle.link_laws.specs.Linked.{IsLinked, IsTrueOf, is_session}
 use Rattle.link_laws.specs.Sessions.{paired_session, own_session, had_session, restarts}
 use Rattle.trunk_record.proofs.Lookups.{given-now, none_such}
@@ -90,7 +90,7 @@ module _ (P : List Step) (s : Step) (n : ℕ) (l : LinkNo) (A : SideRecord) (y :
           ap (λ k. is_live a (map heard_as k)) (ap (given_in A) same ∙ given-now A ∙ none)
 
   pub keeps_up : restarts n s.head ≡ false → ((x : Session)
-      → signal_in n l.0 x (endpoint_by P s.by) s.head ≡ []) → IsLinked (s ∷ P) n l (going_up y A)
+      → signal_over n l.0 x (endpoint_by P s.by) s.head ≡ []) → IsLinked (s ∷ P) n l (going_up y A)
   keeps_up stays says =
       let new : OpensNew P es = λ i was. refl in
       let more : (said : List Said) → AllByRecursion (IsTrueOf P n) said
@@ -178,7 +178,7 @@ keeps_beginning P s n l A x link ended below = record {
 pub keeps_down : (P : List Step) (s : Step) (n : ℕ) (l : LinkNo) (A : SideRecord) (y : Session)
     (items : List Effect) → IsDone s (Down (record { 0 = n }) l A.now.session ∷ []) items
     → IsLinked P n l A → A.now.peer ≡ Some y → restarts n s.head ≡ false
-    → ((x : Session) → signal_in n l.0 x (endpoint_by P s.by) s.head ≡ [])
+    → ((x : Session) → signal_over n l.0 x (endpoint_by P s.by) s.head ≡ [])
     → IsEnded P (s ∷ P) n l (next_session A.now.session)
 keeps_down P s n l A y items done link pair stays says = record {
   own = down-done P s es items done n l.0 stays (rw (nn, ll) refl)

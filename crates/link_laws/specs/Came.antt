@@ -30,15 +30,15 @@ came_in [] node link x = []
 came_in (s ∷ P) node link x = fold (came_after node link x) (came_in P node link x) s.effects
 
 -- the signal that an endpoint of the node sends by this head in the session
-abbrev pub signal_in : ℕ → ℕ → Session → Option Inc → Head → List Said
-signal_in node link x None head = []
-signal_in node link x (Some j) (Send (There l y b) note answer) =
+abbrev pub signal_over : ℕ → ℕ → Session → Option Inc → Head → List Said
+signal_over node link x None head = []
+signal_over node link x (Some j) (Send (There l y b) note answer) =
     if was_sent answer && is_on node j && l.0 == link && y.0 == x.0 then signaled j b note ∷ []
     else []
-signal_in node link x (Some j) _ = []
+signal_over node link x (Some j) _ = []
 
 -- what was sent in all steps so far
 abbrev pub sent_in : List Step → ℕ → ℕ → Session → List Said
 sent_in [] node link x = []
 sent_in (s ∷ P) node link x =
-    signal_in node link x (endpoint_by P s.by) s.head ++ sent_in P node link x
+    signal_over node link x (endpoint_by P s.by) s.head ++ sent_in P node link x

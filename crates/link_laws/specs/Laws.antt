@@ -62,14 +62,14 @@ delivers (Swap k) = false
 
 -- LAW OF PACKETS. A packet that is handed over to node n from node m brings one thing, with exactly
 -- its effects, and what it brings may come
-pub record IsPacket (P : List Step) (n m : ℕ) (l : LinkNo) (es : List Effect) : Type 0 where
+pub record ArePacketEffects (P : List Step) (n m : ℕ) (l : LinkNo) (es : List Effect) : Type 0 where
   pub what : Brought
   pub effects : es ≡ brought_at P n l what
   pub may : MayBring P n m l what
 
 -- one that isn't handed over brings nothing
 abbrev pub IsHandedOver : Bool → List Step → (n m : ℕ) → LinkNo → List Effect → Type 0
-IsHandedOver true P n m l es = IsPacket P n m l es
+IsHandedOver true P n m l es = ArePacketEffects P n m l es
 IsHandedOver false P n m l es = es ≡ []
 
 -- a packet that meets a verdict keeps it

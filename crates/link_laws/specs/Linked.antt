@@ -105,12 +105,12 @@ HasNone P node v =
 
 -- WHERE A PENDING HUNT STANDS: its question is on its way, or node m has noted the name and has no
 -- endpoint of it, or a publishing of the name is on its way back
-pub data Stands (P : List Step) (m : ℕ) (noted : List (List ℕ)) (v : List ℕ)
+pub data HuntStands (P : List Step) (m : ℕ) (noted : List (List ℕ)) (v : List ℕ)
     (to_far to_near : List Said) : Type 0 where
-  asking : list_any (asks v) to_far ≡ true → Stands P m noted v to_far to_near
+  asking : list_any (asks v) to_far ≡ true → HuntStands P m noted v to_far to_near
   waiting : list_any (bytes_eq v) noted ≡ true → HasNone P m v
-      → Stands P m noted v to_far to_near
-  coming : list_any (offers v) to_near ≡ true → Stands P m noted v to_far to_near
+      → HuntStands P m noted v to_far to_near
+  coming : list_any (offers v) to_near ≡ true → HuntStands P m noted v to_far to_near
 
 -- a hunt of node n over the link is pending for the name
 abbrev pub is_hunted : List Step → ℕ → LinkNo → List ℕ → Bool
@@ -123,7 +123,7 @@ pub record AreHunted (P : List Step) (n m : ℕ) (l : LinkNo) (A B : SideRecord)
   pub asked_all : (v : List ℕ) → A.now.peer ≢ None → is_hunted P n l v ≡ true
       → list_any (asks v) A.now.said ≡ true
   pub stand : (talk : IsTalking A B) (v : List ℕ) → is_hunted P n l v ≡ true
-      → Stands P m noted v talk.to_far talk.to_near
+      → HuntStands P m noted v talk.to_far talk.to_near
 
 -- a name for which a hunt of node n is pending is that of no living peer: else it had been found
 abbrev pub IsUnfound : List Step → ℕ → LinkNo → List ℕ → Type 0

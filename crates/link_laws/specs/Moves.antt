@@ -18,7 +18,7 @@ use Rattle.linx_base.specs.declared.identity.Side.TheVariants.{First, Second}
 use Rattle.linx_base.specs.declared.name.Path.{Path}
 use Rattle.linx_base.specs.declared.name.Path.TheVariants.{Over}
 use Rattle.linx_base.specs.declared.signal.SigNote.{SigNote}
-use Rattle.trunk_record.specs.Changes.{beginning, giving, going_up, saying, sending}
+use Rattle.trunk_record.specs.Changes.{beginning, giving, going_up, saying, says_sending}
 use Rattle.trunk_record.specs.Records.{SessionRecord, SideRecord, all, has_session, peer_in}
 use Rattle.trunk_record.specs.Records.{said_in}
 use Rattle.trunk_record.specs.Sayings.{Given, Said, arrived, asked, asked_for, freed, gone}
@@ -147,7 +147,7 @@ pub record SendsOver (shape : Shape) (P : List Step) (before after : Links) (n :
   pub of_shape : IsLinkOf shape l
   pub node : node_at shape l at ≡ n
   pub side : (after l.0 at).side
-      ≡ saying (sending j (name_of P j) b note (before l.0 at).side) (before l.0 at).side
+      ≡ saying (says_sending j (name_of P j) b note (before l.0 at).side) (before l.0 at).side
   pub noted : KeepsNotes (name_of P j) (before l.0 at) (after l.0 at)
   pub silent : (after l.0 at).silent ≤ (before l.0 at).silent
   pub others : OthersLeft shape before after l at
@@ -211,13 +211,14 @@ brought_of A (gone a) = parts A.now.session a
 
 -- A QUESTION is noted where nobody has the name, and else an open endpoint of that name is
 -- published, unless it is live
-pub data IsAnswered (P : List Step) (n : ℕ) (v : List ℕ) (before after : SideState) : Type 0 where
+pub data IsQuestionAnswered (P : List Step) (n : ℕ) (v : List ℕ) (before after : SideState)
+    : Type 0 where
   notes : HasNone P n v → after.side ≡ giving (asked_for v) before.side
-      → NotesName v before after → IsAnswered P n v before after
+      → NotesName v before after → IsQuestionAnswered P n v before after
   publishes : (i : Inc) → is_alive P n (Here i) ≡ true → name_of P i ≡ v
       → after.side ≡ saying (if is_live i before.side.now.said then [] else published i v ∷ [])
       (giving (asked_for v) before.side) → KeepsNotes v before after
-      → IsAnswered P n v before after
+      → IsQuestionAnswered P n v before after
 
 -- anything else that is given changes the record alone
 pub record IsRecorded (g : Given) (before after : SideState) : Type 0 where
@@ -226,11 +227,11 @@ pub record IsRecorded (g : Given) (before after : SideState) : Type 0 where
 
 -- what a side makes of what it is given
 abbrev pub Receives : List Step → ℕ → Given → SideState → SideState → Type 0
-Receives P n (asked_for v) before after = IsAnswered P n v before after
+Receives P n (asked_for v) before after = IsQuestionAnswered P n v before after
 Receives P n g before after = IsRecorded g before after
 
 -- a packet gives something to node n
-pub record Gives (P : List Step) (n : ℕ) (l : LinkNo) (before after far : SideState)
+pub record PacketGives (P : List Step) (n : ℕ) (l : LinkNo) (before after far : SideState)
     (es : List Effect) : Type 0 where
   pub g : Given
   pub told : IsTold before.side far.side g
@@ -277,7 +278,7 @@ pub data Delivers (P : List Step) (n : ℕ) (l : LinkNo) (before after far : Sid
   brings_nothing : es ≡ [] → IsLeft before after → Delivers P n l before after far es
   brings_up : GoesUp P n l before after far es → Delivers P n l before after far es
   brings_down : GoesDown P n l before after far es → Delivers P n l before after far es
-  gives : Gives P n l before after far es → Delivers P n l before after far es
+  gives : PacketGives P n l before after far es → Delivers P n l before after far es
 
 -- the other sides are left; a packet that isn't handed over does nothing
 abbrev pub HandsOver : Bool → Shape → List Step → Links → Links → LinkNo → Side → List Effect

@@ -49,14 +49,14 @@ pub record IsBoundedRun (shape : Shape) (P : List Step) (links : Links) : Type 0
   pub run : IsRun shape P links
 
 -- a run is legal, by the laws of nodes and links, and its links are what its history tells
-pub record IsSound (shape : Shape) (P : List Step) (links : Links) : Type 0 where
+pub record IsSoundRun (shape : Shape) (P : List Step) (links : Links) : Type 0 where
   pub legal : IsLegal shape P
   pub linked : AreLinksKept shape P links
 
 -- EVERY RUN IS
 abbrev pub RunsAreLegal : Type 0
 RunsAreLegal = (shape : Shape) (P : List Step) (links : Links) → IsBoundedRun shape P links
-    → IsSound shape P links
+    → IsSoundRun shape P links
 
 -- NOTHING VANISHES. Where the trunk of a link is quiet, an open endpoint has got all that anybody
 -- of the other side ever sent it in the session

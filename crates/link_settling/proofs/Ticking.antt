@@ -9,12 +9,12 @@ use Rattle.linx_base.specs.declared.identity.Session.{Session}
 use Rattle.ethcm_headers.specs.declared.packets.Packet.{Packet}
 use Rattle.ethcm_headers.specs.declared.packets.Part.TheVariants.{Conn}
 use Rattle.ethcm_session.specs.declared.standing.TalkState.{TalkState}
-use Rattle.ethcm_session.specs.Table.{is_confirmed_in, peer_in}
+use Rattle.ethcm_session.specs.Table.{is_confirmed_in, standing_peer}
 use Rattle.ethcm_window.specs.Sending.{sent_end, unacknowledged}
 use Rattle.ethcm_end.specs.declared.answers.Ticked.{Ticked}
 use Rattle.ethcm_end.specs.States.{EndState, Reaction, peer_of}
 use Rattle.ethcm_end.specs.Rules.{gone_down, kind_in, piece_packet, tick_of, ticked}
-use Rattle.ethcm_end.specs.Windows.{IsSent, partner}
+use Rattle.ethcm_end.specs.Windows.{IsSent, peer_or_unknown}
 use Rattle.ethcm_end.proofs.ByRule.{by_tick_rules}
 use Rattle.carrier.specs.Records.{HalfState, mine_of}
 use Rattle.carrier.specs.Events.{drained}
@@ -202,7 +202,7 @@ module _ (a b : HalfState) (k : Holds a b [] []) (up : peer_of a.end ≡ Some b.
       let half : (c : HalfState) (out : List Packet) → c.end.talk ≡ a.end.talk
       → AreFrom a.end.talk.mine out → HalfOpen c b out [] =
       λ c out talk from. record {
-        is_up = ap (λ (t : TalkState). peer_in t.standing) talk ∙ up;
+        is_up = ap (λ (t : TalkState). standing_peer t.standing) talk ∙ up;
         asks = none;
         from_up = subst (λ (t : TalkState). AreFrom t.mine out) (sym talk) from;
         from_down = none_from b.end.talk.mine;
@@ -314,9 +314,9 @@ module _ (a b : HalfState) (k : Holds a b [] []) (y : Session) (up : peer_of a.e
   sent_hushed : All (IsHushed b.end.talk) (beaten_out a)
   sent_hushed =
       let to : Option Session → Type 0 =
-      λ q. All (IsSent a.end.tx a.end (tick_of a.end).state (partner q)) (beaten_out a) in
+      λ q. All (IsSent a.end.tx a.end (tick_of a.end).state (peer_or_unknown q)) (beaten_out a) in
       all_sent_hushed a.end b.end.talk near a.end.tx (tick_of a.end).state y up (beaten_out a)
-      (subst to up (sent_all a.end.tx a.end (tick_of a.end).state (partner (peer_of a.end))
+      (subst to up (sent_all a.end.tx a.end (tick_of a.end).state (peer_or_unknown (peer_of a.end))
       k.near.out (beat a.end).sends))
 
   ticks_apart : Apart b (beaten a) [] (beaten_out a)
@@ -354,7 +354,7 @@ module _ (a b : HalfState) (k : Holds a b [] []) (y : Session) (up : peer_of a.e
             elim goes [
               | inl same ↦
                   let is : peer_of a.end ≡ Some z =
-                  sym (ap (λ (t : TalkState). peer_in t.standing) same) ∙ e in
+                  sym (ap (λ (t : TalkState). standing_peer t.standing) same) ∙ e in
                   let n = ap (λ (x : Session). x.0) (same_Some y z (sym up ∙ is)) in
                   omega arith
               | inr down ↦ absurd (let none = down.connecting in grind arith)

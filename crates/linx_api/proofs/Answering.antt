@@ -23,8 +23,8 @@ use Rattle.link_laws.specs.Ends.{IsLinkOf}
 use Rattle.link_laws.specs.Laws.{IsLegal}
 use Rattle.node_kernel.specs.declared.answers.StepAnswer.{StepAnswer}
 use Rattle.node_kernel.specs.declared.ask.Ask.{Ask}
-use Rattle.node_kernel.specs.Answers.{granted, granted_by, is_end_event, is_opening, needs_endpoint}
-use Rattle.node_kernel.specs.Answers.{is_pump_event, refused}
+use Rattle.node_kernel.specs.Answers.{granted, granted_by, is_end_event, asks_to_open}
+use Rattle.node_kernel.specs.Answers.{needs_endpoint, is_pump_event, refused}
 use Rattle.run_trunks.specs.States.{trunks_of}
 use Rattle.fabric.specs.declared.stop.StepStop.{StepStop}
 use Rattle.fabric.specs.declared.stop.StopCause.TheVariants.{JournalFull}
@@ -105,7 +105,7 @@ module _ (shape : Shape) (P : List Step) (still : Bool) (k : ℕ) (node : ℕ) (
   granted-vain : (e : Option Inc) (at : ℕ) (ask : Ask) → (given : Ask) → given ≡ granted_by e at ask
       → head_of shape P still k node me given.event (signal_in given.hand) ≡ None
       → LooksInVain shape P still k me ask.event
-  granted-vain (Some i) at ask given is none = go (is_opening ask.event) is
+  granted-vain (Some i) at ask given is none = go (asks_to_open ask.event) is
     where
       go : (b : Bool) → given ≡ cond b (refused (Refusal.IsOpen i)) ask
           → LooksInVain shape P still k me ask.event
@@ -152,7 +152,7 @@ module _ (shape : Shape) (P : List Step) (still : Bool) (k : ℕ) (node : ℕ) (
 -- what is granted of an event that is no end is no end
 granted-runs : (e : Option Inc) (at : ℕ) (ask : Ask) → is_end_event ask.event ≡ false
     → is_end_event (granted_by e at ask).event ≡ false
-granted-runs (Some i) at ask runs = go (is_opening ask.event)
+granted-runs (Some i) at ask runs = go (asks_to_open ask.event)
   where
     go : (b : Bool) → is_end_event (cond b (refused (Refusal.IsOpen i)) ask).event ≡ false
     go true = refl

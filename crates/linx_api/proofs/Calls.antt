@@ -23,8 +23,8 @@ use Rattle.turn_lock.specs.Passes.{PassView, own_steps}
 use Rattle.turn_lock.specs.Stories.{IsAddedBy, RestsFor, made_by}
 use Rattle.linx_api.specs.Asked.{CanAsk, Gives, IsAnswered, IsAsked, IsLawful, IsRunning}
 use Rattle.linx_api.specs.Asked.{own_layout}
-use Rattle.linx_api.specs.Telling.{PlanParts, number_of, numbered, plan_of, steps_in, story_of}
-use Rattle.linx_api.specs.Telling.{told_by}
+use Rattle.linx_api.specs.Telling.{PlanParts, made_steps, maker_number, numbered, plan_of, steps_in}
+use Rattle.linx_api.specs.Telling.{story_of}
 use Rattle.linx_api.proofs.Answering.{fits-there, head-runs}
 use Rattle.linx_api.proofs.Own.{own-ended}
 
@@ -40,17 +40,17 @@ module _ (x y : Layout) (only : OnlyRuns x y) where
   -- the story with one step more
   pub story-one : (s : Step) → y.log.steps ≡ s ∷ x.log.steps
       → story_of y ≡ numbered x.shape s ∷ story_of x
-  story-one s added = ap (λ shape. told_by shape y.log.steps) shape-stays
-      ∙ ap (told_by x.shape) added
+  story-one s added = ap (λ shape. made_steps shape y.log.steps) shape-stays
+      ∙ ap (made_steps x.shape) added
 
   -- WHAT ONE EVENT ADDS is of its maker
   pub gives-added : (by : By) (n : ℕ) (ask : Ask) (result : Result StepAnswer StepStop)
-      → number_of x.shape by ≡ n → Gives x y by ask result
+      → maker_number x.shape by ≡ n → Gives x y by ask result
       → IsAddedBy n (story_of y) (story_of x)
   gives-added by n ask (Err stop) number stopped =
       ([], ap story_of stopped.same, All-nil (λ (m : Made Step). m.maker ≡ n))
   gives-added by n ask (Ok answer) number (inl made) =
-      let maker = ap (λ b. number_of x.shape b) made.made_by ∙ number in (
+      let maker = ap (λ b. maker_number x.shape b) made.made_by ∙ number in (
         numbered x.shape made.step ∷ [],
         story-one made.step made.added,
         All-cons (λ (m : Made Step). m.maker ≡ n) (numbered x.shape made.step) [] maker

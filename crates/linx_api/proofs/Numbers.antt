@@ -13,17 +13,17 @@ use Rattle.journal.specs.Logs.{step_at}
 use Rattle.journal.specs.Shapes.{Shape}
 use Rattle.link_laws.specs.Laws.{IsLegal}
 use Rattle.turn_lock.specs.declared.story.Made.{Made}
-use Rattle.linx_api.specs.Telling.{HasFewMakers, maker_limit, number_of, told_by}
+use Rattle.linx_api.specs.Telling.{HasFewMakers, made_steps, maker_limit, maker_number}
 
 -- the numbers of the makers that a history tells
 abbrev pub numbers : Shape → List Step → List ℕ
-numbers shape P = map (λ (m : Made Step). m.maker) (told_by shape P)
+numbers shape P = map (λ (m : Made Step). m.maker) (made_steps shape P)
 
 -- a step that was made, at its position and in the story
 pub record IsThere (shape : Shape) (P : List Step) (k : ℕ) : Type 0 where
   pub step : Step
   pub stands : step_at P k ≡ Some step
-  pub told : slice_get (numbers shape P) (length P - k) ≡ Some (number_of shape step.by)
+  pub told : slice_get (numbers shape P) (length P - k) ≡ Some (maker_number shape step.by)
 
 at_top : (s : Step) (P : List Step) (k : ℕ) → k ≡ suc (length P) → step_at (s ∷ P) k ≡ Some s
 at_top s P k e = ap (λ b. cond b (Some s) (step_at P k)) (eq-eqb k (suc (length P)) e)
@@ -54,11 +54,11 @@ stands-told shape (s ∷ P) k low high = dite (ℕ_discrete k (suc (length P)))
 -- the step that stands there is the one that is found there
 pub there-found : (shape : Shape) (P : List Step) (k : ℕ) (s : Step) → IsThere shape P k
     → step_at P k ≡ Some s
-    → slice_get (numbers shape P) (length P - k) ≡ Some (number_of shape s.by)
+    → slice_get (numbers shape P) (length P - k) ≡ Some (maker_number shape s.by)
 there-found shape P k s there is =
     let both : Some there.step ≡ Some s = sym there.stands ∙ is in
     let same : there.step ≡ s = cc in
-    there.told ∙ ap (λ (x : Step). Some (number_of shape x.by)) same
+    there.told ∙ ap (λ (x : Step). Some (maker_number shape x.by)) same
 
 pub there-none : (shape : Shape) (P : List Step) (k : ℕ) → IsThere shape P k
     → step_at P k ≡ None → ⊥
@@ -67,16 +67,16 @@ there-none shape P k there none =
 
 -- the number of a maker is small
 few : (shape : Shape) (P : List Step) → HasFewMakers shape → (by : By) → IsMaker shape P by
-    → number_of shape by ≤ maker_limit
+    → maker_number shape by ≤ maker_limit
 few shape P most (Actor a) maker = let within = maker.1 in omega arith
 few shape P most (Pump link) maker = let within = maker.1 in omega arith
 
 pub number-small : (shape : Shape) (P : List Step) (k : ℕ) (s : Step) → HasFewMakers shape
-    → IsLegal shape P → step_at P k ≡ Some s → number_of shape s.by ≤ maker_limit
+    → IsLegal shape P → step_at P k ≡ Some s → maker_number shape s.by ≤ maker_limit
 number-small shape [] k s most legal is = let bad : None ≡ Some s = is in cc
 number-small shape (x ∷ P) k s most legal is = dite (ℕ_discrete k (suc (length P)))
     (λ e. let both : Some x ≡ Some s = sym (at_top x P k e) ∙ is in
     let same : x ≡ s = cc in
-    subst (λ (y : Step). number_of shape y.by ≤ maker_limit) same
+    subst (λ (y : Step). maker_number shape y.by ≤ maker_limit) same
     (few shape P most x.by legal.1.makers.maker))
     (λ ne. number-small shape P k s most legal.0 (sym (below_top x P k ne) ∙ is))

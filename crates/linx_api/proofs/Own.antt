@@ -9,15 +9,15 @@ use Rattle.journal.specs.History.{has_ended, is_by, is_end}
 use Rattle.journal.specs.Shapes.{Shape}
 use Rattle.turn_lock.specs.declared.story.Made.{Made}
 use Rattle.turn_lock.specs.Stories.{made_by}
-use Rattle.linx_api.specs.Telling.{number_of, numbered, steps_in, told_by}
+use Rattle.linx_api.specs.Telling.{made_steps, maker_number, numbered, steps_in}
 
 -- the steps of the story that a history tells are the history
-pub steps_in-told : (shape : Shape) (P : List Step) → steps_in (told_by shape P) ≡ P
+pub steps_in-told : (shape : Shape) (P : List Step) → steps_in (made_steps shape P) ≡ P
 steps_in-told shape [] = refl
 steps_in-told shape (s ∷ P) = ap (λ l. s ∷ l) (steps_in-told shape P)
 
 -- a step of actor k has the number k
-apart : (shape : Shape) (k : ℕ) (by : By) → (number_of shape by == k) ≡ false
+apart : (shape : Shape) (k : ℕ) (by : By) → (maker_number shape by == k) ≡ false
     → is_by by k ≡ false
 apart shape k (Actor a) e = e
 apart shape k (Pump link) e = refl
@@ -32,9 +32,9 @@ kept k false m rest h = rw (h refl) refl
 
 -- WHETHER AN ACTOR HAS ENDED is told by its own steps
 pub own-ended : (shape : Shape) (k : ℕ) (P : List Step)
-    → has_ended (steps_in (made_by k (told_by shape P))) k ≡ has_ended P k
+    → has_ended (steps_in (made_by k (made_steps shape P))) k ≡ has_ended P k
 own-ended shape k [] = refl
 own-ended shape k (s ∷ P) =
-    kept k (number_of shape s.by == k) (numbered shape s) (made_by k (told_by shape P))
+    kept k (maker_number shape s.by == k) (numbered shape s) (made_by k (made_steps shape P))
     (apart shape k s.by)
     ∙ ap (λ b. (is_by s.by k && is_end s.head) || b) (own-ended shape k P)

@@ -35,21 +35,21 @@ HasFewMakers shape = length shape.actors + length shape.links ≤ maker_limit
 
 -- THE NUMBER OF A MAKER: an actor's own, and for the pump of a link the link's, behind those of all
 -- actors
-abbrev pub number_of : Shape → By → ℕ
-number_of shape (Actor k) = k
-number_of shape (Pump link) = length shape.actors + link.0
+abbrev pub maker_number : Shape → By → ℕ
+maker_number shape (Actor k) = k
+maker_number shape (Pump link) = length shape.actors + link.0
 
 -- a step with its maker's number
 abbrev pub numbered : Shape → Step → Made Step
-numbered shape s = made (number_of shape s.by) s
+numbered shape s = made (maker_number shape s.by) s
 
 -- the story that a history tells, the newest step first
-abbrev pub told_by : Shape → List Step → List (Made Step)
-told_by shape P = map (numbered shape) P
+abbrev pub made_steps : Shape → List Step → List (Made Step)
+made_steps shape P = map (numbered shape) P
 
 -- that of a fabric
 abbrev pub story_of : Layout → List (Made Step)
-story_of f = told_by f.shape f.log.steps
+story_of f = made_steps f.shape f.log.steps
 
 -- the steps of a story
 abbrev pub steps_in : List (Made Step) → List Step

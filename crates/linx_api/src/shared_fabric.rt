@@ -6,7 +6,7 @@ ghost use Rattle.fabric.specs.Actings.{OnlyRuns, asking};
 ghost use Rattle.fabric.specs.Asks.{MayAsk};
 ghost use Rattle.fabric.specs.Remains.{IsLaidOut};
 ghost use Rattle.linx_api.specs.Asked.{IsAnswered, IsLawful};
-ghost use Rattle.linx_api.specs.Telling.{number_of};
+ghost use Rattle.linx_api.specs.Telling.{maker_number};
 
 use crate::plan::Plan;
 use fabric::{Fabric, StepStop};
@@ -106,8 +106,8 @@ impl SharedFabric {
     /// The number of a maker: an actor's own, and for the pump of a link the link's, behind those
     /// of all actors.
     fn number_of(&self, by: By) -> u32
-        requires { number_of self.now.shape by ≤ 96 }
-        ensures { result ≡ number_of self.now.shape by }
+        requires { maker_number self.now.shape by ≤ 96 }
+        ensures { result ≡ maker_number self.now.shape by }
     {
         match by {
             By::Actor(actor) => actor,

@@ -10,7 +10,7 @@ pub record AppendsFront (old new : Option (List ℕ)) (bytes : List ℕ) : Type 
   pub front : Appends old new (take count bytes)
 
 -- a buffer gained at its end just the bytes that a source lost at its front
-pub record Moves (filled grown : List ℕ) (left rest : Option (List ℕ)) : Type 0 where
+pub record MovesBytes (filled grown : List ℕ) (left rest : Option (List ℕ)) : Type 0 where
   pub bytes : List ℕ
   pub gained : grown ≡ filled ++ bytes
   pub lost : Consumes left rest bytes

@@ -3,7 +3,7 @@ ghost use Rattle.std.specs.Prelude.{OnOk, IfSome, Some, length, take, drop};
 ghost use Rattle.std.specs.Prelude.{vec_len, vec_capacity};
 ghost use Rattle.linx_outside.specs.Counts.{HasFaulted, NeverFalls};
 ghost use Rattle.std.specs.Io.KnownBytes.{IsAtEnd};
-ghost use Rattle.linx_outside.specs.Told.{Moves};
+ghost use Rattle.linx_outside.specs.Told.{MovesBytes};
 ghost use Rattle.linx_outside.specs.Reading.{IfGot, IsGot, IfReadFailed};
 
 use crate::mem_sink::append_within;
@@ -69,7 +69,7 @@ pub fn read_up_to<S: Source>(
     most: usize,
 ) -> Result<Reached, ReadStop>
     // Whatever the answer.
-    ensures moved { Moves buffer.old.items buffer.new.items
+    ensures moved { MovesBytes buffer.old.items buffer.new.items
         (S.left source.old) (S.left source.new) }
     ensures within { vec_len buffer.new ≤ vec_len buffer.old + most }
     ensures never_falls { NeverFalls S.last_count (S.faults source.old) (S.faults source.new) }
@@ -121,7 +121,7 @@ fn read_chunk<S: Source>(
     requires room { vec_len buffer.old + most ≤ vec_capacity buffer.old }
     requires some { 0 < most }
     requires chunk { 0 < length chunk.old }
-    ensures moved { Moves buffer.old.items buffer.new.items
+    ensures moved { MovesBytes buffer.old.items buffer.new.items
         (S.left source.old) (S.left source.new) }
     ensures got { IfGot result (λ n. (n ≤ most) × (vec_len buffer.new ≡ vec_len buffer.old + n)
         × (S.faults source.new ≡ S.faults source.old)) }

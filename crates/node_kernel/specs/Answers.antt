@@ -87,9 +87,9 @@ needs_endpoint (asks.Detach r) = true
 needs_endpoint _ = false
 
 -- the event needs that there is none
-abbrev pub is_opening : Event → Bool
-is_opening (asks.Open name) = true
-is_opening _ = false
+abbrev pub asks_to_open : Event → Bool
+asks_to_open (asks.Open name) = true
+asks_to_open _ = false
 
 -- a refusal, in place of what was asked
 abbrev pub refused : Refusal → Ask
@@ -97,7 +97,7 @@ refused reason = record { event = asks.Refuse reason; hand = None }
 
 -- what is done of what is asked, by the endpoint of the actor and the step that closed its last one
 abbrev pub granted_by : Option Inc → ℕ → Ask → Ask
-granted_by (Some i) at ask = if is_opening ask.event then refused (IsOpen i) else ask
+granted_by (Some i) at ask = if asks_to_open ask.event then refused (IsOpen i) else ask
 granted_by None at ask = if needs_endpoint ask.event then refused (NotOpen at) else ask
 
 -- what is done of what actor k asks after P

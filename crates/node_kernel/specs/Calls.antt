@@ -65,11 +65,11 @@ after_send k from to signal step = record k {
 }
 
 -- what became of a signal to a peer, which is alive or not
-abbrev pub IsSent : Bool → Peer → SigNote → Sent → Type 0
-IsSent false to signal Dead = Unit {0}
-IsSent true (Here i) signal Queued = Unit {0}
-IsSent true (There link session i) signal (Link back) = back ≡ signal
-IsSent _ to signal _ = ⊥
+abbrev pub IsSentAs : Bool → Peer → SigNote → Sent → Type 0
+IsSentAs false to signal Dead = Unit {0}
+IsSentAs true (Here i) signal Queued = Unit {0}
+IsSentAs true (There link session i) signal (Link back) = back ≡ signal
+IsSentAs _ to signal _ = ⊥
 
 -- HUNTING. The hunts with one more, unless it found a peer at once
 abbrev pub with_hunt : Option Peer → PendingHunt → List PendingHunt → List PendingHunt

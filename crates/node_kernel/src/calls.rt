@@ -7,7 +7,7 @@ ghost use Rattle.linx_base.specs.declared.signal.Reason.TheVariants.{Dead};
 ghost use Rattle.journal.specs.declared.effect.Effect.TheVariants.{Arrived, Found};
 ghost use Rattle.journal.specs.Effects.{arrivals_of, notice};
 ghost use Rattle.node_kernel.specs.Nodes.{is_open, put_all};
-ghost use Rattle.node_kernel.specs.Calls.{IsSent};
+ghost use Rattle.node_kernel.specs.Calls.{IsSentAs};
 
 use crate::answers::Sent;
 use crate::roster::Roster;
@@ -46,7 +46,7 @@ pub(crate) fn send_here(
     signal: Signal,
     step: u64,
 ) -> Result<Sent, (NoMemory, Signal)>
-    ensures sent { IfOk result (IsSent (is_open roster.old.endpoints to) (Here to) signal) }
+    ensures sent { IfOk result (IsSentAs (is_open roster.old.endpoints to) (Here to) signal) }
     ensures ok { OnOk result (roster.new ≡ record roster.old {
       endpoints = put_all step (arrivals_of from signal (is_open roster.old.endpoints to)
           (Here to)) roster.old.endpoints;

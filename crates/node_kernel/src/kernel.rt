@@ -54,7 +54,7 @@ impl Kernel {
     ghost use Rattle.node_kernel.specs.Nodes.{endpoint_limit, next_of, first_named, name_at};
     ghost use Rattle.node_kernel.specs.Nodes.{find_at};
     ghost use Rattle.node_kernel.specs.Calls.{after_open, RefusesOpening, after_close, after_send};
-    ghost use Rattle.node_kernel.specs.Calls.{IsSent, after_arrival, after_hunt, after_attach};
+    ghost use Rattle.node_kernel.specs.Calls.{IsSentAs, after_arrival, after_hunt, after_attach};
     ghost use Rattle.node_kernel.specs.Calls.{detached, after_detach, after_restart, after_met};
     ghost use Rattle.node_kernel.specs.Calls.{after_gone, after_down};
 
@@ -187,7 +187,7 @@ impl Kernel {
         step: u64,
     ) -> Result<Sent, (NoMemory, Signal)>
         requires { IsTrue (is_open self.old.endpoints from) }
-        ensures sent { IfOk result (IsSent (is_living self.old to) to signal) }
+        ensures sent { IfOk result (IsSentAs (is_living self.old to) to signal) }
         ensures ok { OnOk result (self.new ≡ after_send self.old from to signal step) }
         ensures err { IfErr result (λ back. (back.1 ≡ signal) × (self.new ≡ self.old)) }
     {

@@ -14,7 +14,7 @@ use Rattle.rlnh_end.specs.declared.heard.Heard.{Heard}
 use Rattle.rlnh_end.specs.declared.heard.Heard.TheVariants.{Control, Signal, Garbage}
 use Rattle.rlnh_end.specs.declared.up.Up.TheVariants.{Met, Bad}
 use Rattle.rlnh_end.specs.States.{RlnhTables, inc_met, addr_met, with_met}
-use Rattle.rlnh_end.specs.Calls.{saying}
+use Rattle.rlnh_end.specs.Calls.{end_saying}
 use Rattle.rlnh_end.specs.Hearing.{only, hears, heard_publish, heard_unpublish, heard_ack}
 use Rattle.rlnh_end.specs.Hearing.{heard_signal}
 use Rattle.rlnh_end.specs.Rows.{CallsFollowRules, HearingFollowsRules}
@@ -62,7 +62,7 @@ calls_follow_rules t = record {
 -- what is bad changes nothing
 bad_publish : (t : RlnhTables) (addr : ℕ) (inc : Inc) (name : List ℕ)
     → (heard_publish t addr inc name).up ≡ Bad
-    → (heard_publish t addr inc name).made ≡ saying t []
+    → (heard_publish t addr inc name).made ≡ end_saying t []
 bad_publish t addr inc name is =
     by (is_some (inc_met t.met addr) || is_some (addr_met t.met inc)) is
   where
@@ -70,30 +70,30 @@ bad_publish t addr inc name is =
         → (cond b (only t Bad)
         (only (record t { met = with_met t.met addr inc }) (Met inc name))).up ≡ Bad
         → (cond b (only t Bad)
-        (only (record t { met = with_met t.met addr inc }) (Met inc name))).made ≡ saying t []
+        (only (record t { met = with_met t.met addr inc }) (Met inc name))).made ≡ end_saying t []
     by true is = refl
     by false is = cc
 
 bad_unpublish : (t : RlnhTables) (addr : ℕ) (met : Option Inc)
-    → (heard_unpublish t addr met).up ≡ Bad → (heard_unpublish t addr met).made ≡ saying t []
+    → (heard_unpublish t addr met).up ≡ Bad → (heard_unpublish t addr met).made ≡ end_saying t []
 bad_unpublish t addr None is = refl
 bad_unpublish t addr (Some inc) is = cc
 
 bad_ack : (t : RlnhTables) (addr : ℕ) (means : Meaning) → (heard_ack t addr means).up ≡ Bad
-    → (heard_ack t addr means).made ≡ saying t []
+    → (heard_ack t addr means).made ≡ end_saying t []
 bad_ack t addr Free is = refl
 bad_ack t addr (Live inc) is = refl
 bad_ack t addr (Closing inc) is = cc
 
 bad_signal : (t : RlnhTables) (note : SigNote) (met : Option Inc) (means : Meaning)
-    → (heard_signal t note met means).made ≡ saying t []
+    → (heard_signal t note met means).made ≡ end_saying t []
 bad_signal t note None means = refl
 bad_signal t note (Some inc) Free = refl
 bad_signal t note (Some inc) (Live to) = refl
 bad_signal t note (Some inc) (Closing to) = refl
 
 bad_stays : (t : RlnhTables) (heard : Heard) → (hears t heard).up ≡ Bad
-    → (hears t heard).made ≡ saying t []
+    → (hears t heard).made ≡ end_saying t []
 unfolding hears
 bad_stays t (Control Init) is = cc
 bad_stays t (Control InitReply) is = cc

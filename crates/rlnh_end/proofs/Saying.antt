@@ -12,7 +12,7 @@ use Rattle.rlnh_end.specs.declared.heard.Heard.TheVariants.{Control, Signal, Gar
 use Rattle.rlnh_end.specs.declared.up.Up.TheVariants.{Bad}
 use Rattle.rlnh_end.specs.States.{RlnhState, RlnhTables, addr_met}
 use Rattle.rlnh_end.specs.Words.{Word, message_of}
-use Rattle.rlnh_end.specs.Calls.{Saying, after, saying, signal_of, told, with_words}
+use Rattle.rlnh_end.specs.Calls.{Saying, after, end_saying, then_signals, told, with_words}
 use Rattle.rlnh_end.specs.Hearing.{HasReadAddress, IsRead, heard_ack, only}
 
 -- words that are said behind others
@@ -36,8 +36,8 @@ not_closing_bad t addr (Closing inc) apart = absurd (apart inc refl)
 
 -- a signal that is sent behind other words
 pub said_then : (s : RlnhState) (made : Saying) (from to : Inc) (signal : SigNote)
-    → after (after s made) (signal_of (saying (after s made).tables []) from to signal)
-    ≡ after s (signal_of made from to signal)
+    → after (after s made) (then_signals (end_saying (after s made).tables []) from to signal)
+    ≡ after s (then_signals made from to signal)
 said_then s made from to signal =
     ap (λ (out : List Message). record { tables = made.tables; out = out })
     (words_then s.out made.says (told (address_of made.tables.own from) from

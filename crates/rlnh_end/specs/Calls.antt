@@ -15,8 +15,8 @@ pub record Saying : Type 0 where
   pub tables : RlnhTables
   pub says : List Word
 
-abbrev pub saying : RlnhTables → List Word → Saying
-saying t words = record { tables = t; says = words }
+abbrev pub end_saying : RlnhTables → List Word → Saying
+end_saying t words = record { tables = t; says = words }
 
 -- the messages of words go out behind others, one after the other
 abbrev pub with_words : List Message → List Word → List Message
@@ -29,18 +29,18 @@ after s made = record { tables = made.tables; out = with_words s.out made.says }
 
 -- the connection goes up: the tables are empty, and INIT is said
 abbrev pub begin_of : Saying
-begin_of = saying no_tables (hello ∷ [])
+begin_of = end_saying no_tables (hello ∷ [])
 
 -- a name is asked for
 abbrev pub query_of : RlnhTables → List ℕ → Saying
-query_of t name = saying t (question name ∷ [])
+query_of t name = end_saying t (question name ∷ [])
 
 -- an incarnation that is live at an address isn't published again; another one gets the lowest free
 -- address, which is said
 abbrev pub announced : RlnhTables → Inc → List ℕ → Option ℕ → Saying
-announced t inc name (Some addr) = saying t []
+announced t inc name (Some addr) = end_saying t []
 announced t inc name None =
-    saying (record t { own = with_lowest t.own (Live inc) })
+    end_saying (record t { own = with_lowest t.own (Live inc) })
     (announce (lowest_free t.own) inc name ∷ [])
 
 -- an endpoint is published: the note of its name goes away
@@ -50,20 +50,20 @@ publish_of t inc name =
 
 -- an endpoint opened: it is published where its name is noted
 abbrev pub opened_of : RlnhTables → Inc → List ℕ → Saying
-opened_of t inc name = if is_noted t.noted name then publish_of t inc name else saying t []
+opened_of t inc name = if is_noted t.noted name then publish_of t inc name else end_saying t []
 
 -- an endpoint closes: where it is live, that is said, and its address is closing
 abbrev pub closed : RlnhTables → Inc → Option ℕ → Saying
-closed t inc None = saying t []
+closed t inc None = end_saying t []
 closed t inc (Some addr) =
-    saying (record t { own = with_meaning t.own addr (Closing inc) }) (withdraw addr inc ∷ [])
+    end_saying (record t { own = with_meaning t.own addr (Closing inc) }) (withdraw addr inc ∷ [])
 
 abbrev pub close_of : RlnhTables → Inc → Saying
 close_of t inc = closed t inc (address_of t.own inc)
 
 -- a sender is published before its first signal
 abbrev pub publish_sender_of : RlnhTables → Inc → List ℕ → Option ℕ → Saying
-publish_sender_of t inc name (Some addr) = saying t []
+publish_sender_of t inc name (Some addr) = end_saying t []
 publish_sender_of t inc name None = publish_of t inc name
 
 -- a signal goes from the address of its sender to that of a peer that was met
@@ -73,14 +73,14 @@ told _ sender _ receiver signal = []
 
 -- words are said behind others
 abbrev pub then_says : Saying → List Word → Saying
-then_says made words = saying made.tables (made.says ++ words)
+then_says made words = end_saying made.tables (made.says ++ words)
 
-abbrev pub signal_of : Saying → Inc → Inc → SigNote → Saying
-signal_of made from to signal =
+abbrev pub then_signals : Saying → Inc → Inc → SigNote → Saying
+then_signals made from to signal =
     then_says made
     (told (address_of made.tables.own from) from (addr_met made.tables.met to) to signal)
 
 -- a signal is sent
 abbrev pub send_of : RlnhTables → Inc → List ℕ → Inc → SigNote → Saying
 send_of t from name to signal =
-    signal_of (publish_sender_of t from name (address_of t.own from)) from to signal
+    then_signals (publish_sender_of t from name (address_of t.own from)) from to signal

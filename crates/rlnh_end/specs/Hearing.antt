@@ -20,7 +20,7 @@ use Rattle.rlnh_end.specs.declared.up.Up.TheVariants.{Nothing, Arrived, Freed, M
 use Rattle.rlnh_end.specs.declared.up.Up.TheVariants.{Asked, Bad}
 use Rattle.rlnh_end.specs.States.{RlnhTables, inc_met, addr_met, with_met, without_met, with_note}
 use Rattle.rlnh_end.specs.Words.{Word, hello_back, confirm}
-use Rattle.rlnh_end.specs.Calls.{Saying, saying}
+use Rattle.rlnh_end.specs.Calls.{Saying, end_saying}
 
 -- a message with both addresses 0 is one of RLNH, and one with neither 0 is a signal
 pub record IsControl (m : Message) (message : Rlnh) : Type 0 where
@@ -65,7 +65,7 @@ pub record Hearing : Type 0 where
 
 -- an answer is said, or nothing is
 abbrev pub answers : RlnhTables → List Word → Up → Hearing
-answers t words up = record { made = saying t words; up = up }
+answers t words up = record { made = end_saying t words; up = up }
 
 abbrev pub only : RlnhTables → Up → Hearing
 only t up = answers t [] up

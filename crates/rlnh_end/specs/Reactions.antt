@@ -17,5 +17,5 @@ abbrev pub reacts : RlnhState → Hearing → Reaction
 reacts s heard = gives (after s heard.made) heard.up
 
 -- a message comes that is read so
-abbrev pub input_of : RlnhState → Heard → Reaction
-input_of s heard = reacts s (hears s.tables heard)
+abbrev pub rlnh_input_of : RlnhState → Heard → Reaction
+rlnh_input_of s heard = reacts s (hears s.tables heard)

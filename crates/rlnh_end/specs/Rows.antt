@@ -14,25 +14,25 @@ use Rattle.rlnh_end.specs.declared.up.Up.TheVariants.{Asked, Bad}
 use Rattle.rlnh_end.specs.States.{RlnhTables, inc_met, addr_met, no_tables, with_met, without_met}
 use Rattle.rlnh_end.specs.States.{is_noted, with_note, without_note}
 use Rattle.rlnh_end.specs.Words.{hello, hello_back, question, announce, tell, withdraw, confirm}
-use Rattle.rlnh_end.specs.Calls.{saying, begin_of, query_of, publish_of, opened_of, close_of}
+use Rattle.rlnh_end.specs.Calls.{end_saying, begin_of, query_of, publish_of, opened_of, close_of}
 use Rattle.rlnh_end.specs.Calls.{send_of}
 use Rattle.rlnh_end.specs.Hearing.{answers, only, hears}
 
 -- the rules for what an end says by itself
 pub record CallRules (t : RlnhTables) : Type 0 where
   -- the connection goes up: all tables are empty, and INIT is said
-  pub begins : begin_of ≡ saying no_tables (hello ∷ [])
+  pub begins : begin_of ≡ end_saying no_tables (hello ∷ [])
   -- a name is asked for
-  pub asks : (name : List ℕ) → query_of t name ≡ saying t (question name ∷ [])
+  pub asks : (name : List ℕ) → query_of t name ≡ end_saying t (question name ∷ [])
   -- an endpoint that is live at an address isn't published again; the note of its name goes away
   pub is_live :
       (inc : Inc) (name : List ℕ) (addr : ℕ) → address_of t.own inc ≡ Some addr
-      → publish_of t inc name ≡ saying (record t { noted = without_note t.noted name }) []
+      → publish_of t inc name ≡ end_saying (record t { noted = without_note t.noted name }) []
   -- another one gets the lowest free address; the note goes away
   pub publishes :
       (inc : Inc) (name : List ℕ) → address_of t.own inc ≡ None
       → publish_of t inc name
-      ≡ saying
+      ≡ end_saying
       (record t { own = with_lowest t.own (Live inc); noted = without_note t.noted name })
       (announce (lowest_free t.own) inc name ∷ [])
   -- an endpoint that opened is published where its name is noted, and only there
@@ -41,26 +41,27 @@ pub record CallRules (t : RlnhTables) : Type 0 where
       → opened_of t inc name ≡ publish_of t inc name
   pub opens_unasked :
       (inc : Inc) (name : List ℕ) → is_noted t.noted name ≡ false
-      → opened_of t inc name ≡ saying t []
+      → opened_of t inc name ≡ end_saying t []
   -- an endpoint that is live at an address is closed: that is said, and the address isn't free
   pub closes :
       (inc : Inc) (addr : ℕ) → address_of t.own inc ≡ Some addr
       → close_of t inc
-      ≡ saying (record t { own = with_meaning t.own addr (Closing inc) }) (withdraw addr inc ∷ [])
+      ≡ end_saying (record t { own = with_meaning t.own addr (Closing inc) })
+      (withdraw addr inc ∷ [])
   -- nothing is said of one that isn't live at an address
   pub closes_unknown :
-      (inc : Inc) → address_of t.own inc ≡ None → close_of t inc ≡ saying t []
+      (inc : Inc) → address_of t.own inc ≡ None → close_of t inc ≡ end_saying t []
   -- a signal goes from the address of its sender, where it is live at one, to that of its receiver
   pub sends :
       (from : Inc) (name : List ℕ) (addr : ℕ) (to : Inc) (other : ℕ) (signal : SigNote)
       → address_of t.own from ≡ Some addr → addr_met t.met to ≡ Some other
-      → send_of t from name to signal ≡ saying t (tell addr from other to signal ∷ [])
+      → send_of t from name to signal ≡ end_saying t (tell addr from other to signal ∷ [])
   -- a sender that isn't live at an address is published first, and the signal goes from its new one
   pub sends_first :
       (from : Inc) (name : List ℕ) (to : Inc) (other : ℕ) (signal : SigNote)
       → address_of t.own from ≡ None → addr_met t.met to ≡ Some other
       → send_of t from name to signal
-      ≡ saying
+      ≡ end_saying
       (record t { own = with_lowest t.own (Live from); noted = without_note t.noted name })
       (announce (lowest_free t.own) from name
       ∷ tell (lowest_free t.own) from other to signal ∷ [])
@@ -101,7 +102,7 @@ pub record HearingRules (t : RlnhTables) : Type 0 where
       → meaning_of t.own to ≡ Closing receiver
       → hears t (Signal from to note) ≡ only t (Freed sender receiver note)
   -- what is bad changes nothing, and nothing is said to it
-  pub bad : (heard : Heard) → (hears t heard).up ≡ Bad → (hears t heard).made ≡ saying t []
+  pub bad : (heard : Heard) → (hears t heard).up ≡ Bad → (hears t heard).made ≡ end_saying t []
 
 -- an end follows the rules
 abbrev pub CallsFollowRules : Type 0

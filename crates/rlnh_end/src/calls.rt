@@ -2,7 +2,8 @@
 ghost use Rattle.std.specs.Prelude.{◌≡◌, [], OnOk, None};
 ghost use Rattle.link_addresses.specs.Meanings.{address_of, IsLive, HasAddressLeft};
 ghost use Rattle.rlnh_end.specs.Calls.{after, begin_of, query_of, publish_of, announced, opened_of};
-ghost use Rattle.rlnh_end.specs.Calls.{close_of, publish_sender_of, send_of, signal_of, saying};
+ghost use Rattle.rlnh_end.specs.Calls.{close_of, end_saying, publish_sender_of, send_of};
+ghost use Rattle.rlnh_end.specs.Calls.{then_signals};
 
 use crate::parts::Parts;
 use linx_base::{Inc, Message, Name, NoMemory, Signal, TryCopy};
@@ -98,7 +99,7 @@ fn publish_sender(parts: &mut Parts, inc: Inc, name: &Name) -> Result<(), NoMemo
 
 /// A signal goes from the address of a live endpoint to that of a peer that was met.
 fn tell(parts: &mut Parts, from: Inc, to: Inc, signal: &Signal) -> Result<(), NoMemory>
-    ensures is { let made = signal_of (saying parts.old.is.tables []) from to signal.now in
+    ensures is { let made = then_signals (end_saying parts.old.is.tables []) from to signal.now in
         OnOk result (parts.new.is ≡ after parts.old.is made) }
     ensures was { parts.new.was ≡ parts.old.was }
 {

@@ -8,7 +8,7 @@ ghost use Rattle.rlnh_end.specs.States.{is_noted};
 ghost use Rattle.rlnh_end.specs.Calls.{after, begin_of, query_of, publish_of, opened_of, close_of};
 ghost use Rattle.rlnh_end.specs.Calls.{send_of};
 ghost use Rattle.rlnh_end.specs.Hearing.{IsRead};
-ghost use Rattle.rlnh_end.specs.Reactions.{gives, input_of};
+ghost use Rattle.rlnh_end.specs.Reactions.{gives, rlnh_input_of};
 ghost use Rattle.rlnh_end.specs.BadList.{IsBad};
 ghost use Rattle.rlnh_end.specs.Outgoing.{AreMessages};
 
@@ -169,7 +169,7 @@ impl RlnhEnd {
         // A message is read as one thing.
         ensures is_read { OnOk result ((heard : AnyHeard) × IsRead m.now heard) }
         ensures reaction { IfOk result (λ up. (heard : AnyHeard) → IsRead m.now heard
-            → gives self.new.is up ≡ input_of self.old.is heard) }
+            → gives self.new.is up ≡ rlnh_input_of self.old.is heard) }
         ensures bad { IfOk result (λ up. IsBad self.old.is.tables m.now → up ≡ Up.Bad) }
         ensures bad_only { IfOk result (λ up. up ≡ Up.Bad → IsBad self.old.is.tables m.now) }
         ensures bad_changes_nothing { IfOk result (λ up. up ≡ Up.Bad
@@ -250,7 +250,7 @@ impl RlnhEnd {
 fn react(parts: &mut Parts, m: &Message) -> Result<Up, NoMemory>
     ensures is_read { OnOk result ((heard : AnyHeard) × IsRead m.now heard) }
     ensures reaction { IfOk result (λ up. (heard : AnyHeard) → IsRead m.now heard
-        → gives parts.new.is up ≡ input_of parts.old.is heard) }
+        → gives parts.new.is up ≡ rlnh_input_of parts.old.is heard) }
     ensures bad { IfOk result (λ up. IsBad parts.old.is.tables m.now → up ≡ Up.Bad) }
     ensures bad_only { IfOk result (λ up. up ≡ Up.Bad → IsBad parts.old.is.tables m.now) }
     ensures bad_changes_nothing { IfOk result (λ up. up ≡ Up.Bad

@@ -6,7 +6,7 @@ ghost use Rattle.rlnh_messages.specs.Messages.{HasAddress};
 ghost use Rattle.rlnh_end.specs.States.{inc_met};
 ghost use Rattle.rlnh_end.specs.Hearing.{heard_publish, heard_unpublish, heard_ack, hears_control};
 ghost use Rattle.rlnh_end.specs.Hearing.{hears_signal, HasReadAddress};
-ghost use Rattle.rlnh_end.specs.Reactions.{gives, reacts, input_of};
+ghost use Rattle.rlnh_end.specs.Reactions.{gives, reacts, rlnh_input_of};
 
 use crate::heard::Heard;
 use crate::parts::Parts;
@@ -122,7 +122,7 @@ fn hear_control(parts: &mut Parts, message: Rlnh) -> Result<Up, NoMemory>
 #[tactic(auto, unfolding(crate::specs::Hearing::hears))]
 pub(crate) fn hear(parts: &mut Parts, heard: Heard) -> Result<Up, NoMemory>
     requires { HasReadAddress heard }
-    ensures reaction { let reaction = input_of parts.old.is heard in
+    ensures reaction { let reaction = rlnh_input_of parts.old.is heard in
         IfOk result (λ up. gives parts.new.is up ≡ reaction) }
     ensures was { parts.new.was ≡ parts.old.was }
 {

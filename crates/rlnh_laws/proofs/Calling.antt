@@ -12,7 +12,7 @@ use Rattle.rlnh_laws.proofs.Addresses.{address_found, address_missing}
 use Rattle.rlnh_end.specs.States.{RlnhTables, addr_met, is_noted, without_note}
 use Rattle.rlnh_end.specs.Words.{question, announce, tell, withdraw}
 use Rattle.rlnh_end.specs.Calls.{close_of, publish_sender_of, opened_of, publish_of, query_of}
-use Rattle.rlnh_end.specs.Calls.{send_of, signal_of, told}
+use Rattle.rlnh_end.specs.Calls.{send_of, then_signals, told}
 use Rattle.rlnh_laws.specs.Meanings.{saids}
 use Rattle.trunk_record.specs.Sayings.{was_unpublished}
 use Rattle.rlnh_laws.specs.Ties.{Talk, Alone}
@@ -95,15 +95,15 @@ pub send_grows : (e : Talk) (i j : Inc) (v : List ℕ) (note : SigNote) → Alon
 send_grows e i j v note k un b at =
     elim (option_cases (address_of e.end.own i)) [
       | inr some ↦ subst (λ o. Grows e (said_more e
-          (signal_of (publish_sender_of e.end i v o) i j note)))
+          (then_signals (publish_sender_of e.end i v o) i j note)))
           (sym some.1) (tell_grows e i j note k some.0 b some.1 at)
       | inl none ↦ subst (λ o. Grows e (said_more e
-          (signal_of (publish_sender_of e.end i v o) i j note)))
+          (then_signals (publish_sender_of e.end i v o) i j note)))
           (sym none) (by_none none)
     ]
   where
     by_none : address_of e.end.own i ≡ None → Grows e
-        (said_more e (signal_of (publish_of e.end i v) i j note))
+        (said_more e (then_signals (publish_of e.end i v) i j note))
     by_none none =
         let p = publish_of e.end i v in
         let g = said_more e p in

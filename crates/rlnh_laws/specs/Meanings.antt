@@ -4,7 +4,7 @@ use Rattle.rlnh_end.specs.Words.{Word, hello, hello_back, question, announce, te
 use Rattle.rlnh_end.specs.Words.{confirm}
 use Rattle.rlnh_messages.specs.declared.rlnh.Rlnh.TheVariants.{Init, InitReply, QueryName}
 use Rattle.rlnh_messages.specs.declared.rlnh.Rlnh.TheVariants.{Publish, Unpublish, UnpublishAck}
-use Rattle.rlnh_messages.specs.Messages.{IsMessage}
+use Rattle.rlnh_messages.specs.Messages.{IsRlnh}
 use Rattle.rlnh_messages.specs.Signals.{IsSignal}
 use Rattle.rlnh_end.specs.declared.heard.Heard.{Heard}
 use Rattle.rlnh_end.specs.declared.heard.Heard.TheVariants.{Control, Garbage, Signal}
@@ -24,10 +24,10 @@ heard_of (withdraw addr inc) = Control (Unpublish addr)
 heard_of (confirm addr) = Control (UnpublishAck addr)
 
 -- what is heard goes by a message: its numbers fit their fields, and its name is a name
-abbrev pub FitsMessage : Heard → Type 0
-FitsMessage (Control message) = IsMessage message
-FitsMessage (Signal from to note) = (0 < from) × (0 < to) × IsSignal note
-FitsMessage Garbage = ⊥
+abbrev pub FitsHeard : Heard → Type 0
+FitsHeard (Control message) = IsRlnh message
+FitsHeard (Signal from to note) = (0 < from) × (0 < to) × IsSignal note
+FitsHeard Garbage = ⊥
 
 -- what a word says
 abbrev pub said_by : Word → List Said

@@ -12,7 +12,7 @@ use Rattle.rlnh_messages.specs.declared.rlnh.Rlnh.TheVariants.{Init, InitReply, 
 use Rattle.rlnh_messages.specs.declared.rlnh.Rlnh.TheVariants.{Unpublish, UnpublishAck}
 use Rattle.rlnh_messages.specs.declared.reading.RlnhError.{RlnhError}
 use Rattle.rlnh_messages.specs.declared.reading.RlnhError.TheVariants.{Bad, NoMemory}
-use Rattle.rlnh_messages.specs.Readings.{IsNameReading, IsReading}
+use Rattle.rlnh_messages.specs.Readings.{IsNameReading, IsRlnhReading}
 use Rattle.rlnh_messages.specs.Messages.{typed, spelling_of, IsAddress, Spells}
 
 -- an address, spelled
@@ -238,7 +238,7 @@ unique a b bytes s t = same_Some a b (sym (message_again a bytes s) ∙ message_
 -- ---- refusals
 
 pub query_refused : (e : RlnhError) (rest : List ℕ) → IsNameReading (Err e) rest
-    → IsReading (Err e) (typed 3 rest)
+    → IsRlnhReading (Err e) (typed 3 rest)
 query_refused Bad rest h = λ message s.
     let is = (behind message 3 rest s).name refl in
     absurd cc
@@ -246,7 +246,7 @@ query_refused NoMemory rest h = (QueryName rest, query_found rest rest refl h)
 
 pub publish_refused : (e : RlnhError) (addr inc : ℕ) (name rest : List ℕ) → IsAddress addr
     → inc < 2 ^ 64 → rest ≡ big_bytes 4 addr ++ (big_bytes 8 inc ++ name)
-    → IsNameReading (Err e) name → IsReading (Err e) (typed 4 rest)
+    → IsNameReading (Err e) name → IsRlnhReading (Err e) (typed 4 rest)
 publish_refused Bad addr inc name rest address fits parts h = λ message s.
     let found = (behind message 4 rest s).fields refl in
     let same : name ≡ found.name = ap (drop 12) (sym parts ∙ found.spelled) in
@@ -256,7 +256,7 @@ publish_refused NoMemory addr inc name rest address fits parts h =
     (Publish addr (record { 0 = inc }) name, publish_found addr inc name rest address fits h parts)
 
 -- what was read is the only message
-pub read_only : (r : Result Rlnh RlnhError) (bytes : List ℕ) → IsReading r bytes
+pub read_only : (r : Result Rlnh RlnhError) (bytes : List ℕ) → IsRlnhReading r bytes
     → IfOk r (λ message. (other : Rlnh) → Spells other bytes → message ≡ other)
 read_only (Ok message) bytes s = λ other t. unique message other bytes s t
 read_only (Err e) bytes s = tt

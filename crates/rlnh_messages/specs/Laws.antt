@@ -2,12 +2,12 @@
 use Rattle.std.specs.Prelude.{◌≡◌, List, ℕ}
 use Rattle.rlnh_messages.specs.declared.rlnh.Rlnh.{Rlnh}
 use Rattle.linx_base.specs.declared.signal.SigNote.{SigNote}
-use Rattle.rlnh_messages.specs.Messages.{IsMessage, Spells, spelling_of}
+use Rattle.rlnh_messages.specs.Messages.{IsRlnh, Spells, spelling_of}
 use Rattle.rlnh_messages.specs.Signals.{IsSignal, IsSignalBody, SpellsSignal, signal_body}
 
 -- every message has a spelling
 abbrev pub EachIsSpelled : Type 0
-EachIsSpelled = (message : Rlnh) → IsMessage message → Spells message (spelling_of message)
+EachIsSpelled = (message : Rlnh) → IsRlnh message → Spells message (spelling_of message)
 
 -- no message has two spellings
 abbrev pub HasOneSpelling : Type 0

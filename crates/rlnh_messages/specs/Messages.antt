@@ -43,11 +43,11 @@ FitsFields (Unpublish addr) = addr < 2 ^ 32
 FitsFields (UnpublishAck addr) = addr < 2 ^ 32
 
 -- a message
-pub record IsMessage (message : Rlnh) : Type 0 where
+pub record IsRlnh (message : Rlnh) : Type 0 where
   pub has_address : HasAddress message
   pub fits_fields : FitsFields message
 
 -- the bytes are the message's
 pub record Spells (message : Rlnh) (bytes : List ℕ) : Type 0 where
-  pub is_message : IsMessage message
+  pub is_message : IsRlnh message
   pub spelled : bytes ≡ spelling_of message

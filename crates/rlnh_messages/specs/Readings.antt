@@ -14,7 +14,7 @@ IsNameReading (Err NoMemory) bytes = IsTrue (is_name bytes)
 
 -- the message that the bytes spell, or Bad where they spell none: where memory is refused, they
 -- spell one
-abbrev pub IsReading : Result Rlnh RlnhError → List ℕ → Type 0
-IsReading (Ok message) bytes = Spells message bytes
-IsReading (Err Bad) bytes = (message : Rlnh) → ¬ (Spells message bytes)
-IsReading (Err NoMemory) bytes = (message : Rlnh) × Spells message bytes
+abbrev pub IsRlnhReading : Result Rlnh RlnhError → List ℕ → Type 0
+IsRlnhReading (Ok message) bytes = Spells message bytes
+IsRlnhReading (Err Bad) bytes = (message : Rlnh) → ¬ (Spells message bytes)
+IsRlnhReading (Err NoMemory) bytes = (message : Rlnh) × Spells message bytes

@@ -3,7 +3,7 @@ ghost use Rattle.std.specs.Prelude.{IfOk, IfErr};
 ghost use Rattle.byteorder.specs.Endian.{big_bytes};
 ghost use Rattle.rlnh_messages.specs.declared.rlnh.Rlnh.{Rlnh as AnyMessage};
 ghost use Rattle.rlnh_messages.specs.Messages.{typed, IsAddress, Spells};
-ghost use Rattle.rlnh_messages.specs.Readings.{IsNameReading, IsReading};
+ghost use Rattle.rlnh_messages.specs.Readings.{IsNameReading, IsRlnhReading};
 
 use crate::fields::{address_in, type_in, u64_in};
 use crate::rlnh::{INIT, INIT_REPLY, PUBLISH, QUERY_NAME, Rlnh, UNPUBLISH, UNPUBLISH_ACK};
@@ -88,7 +88,7 @@ fn publish_fields(bytes: &[u8]) -> Option<(u32, u64, &[u8])>
 /// What stands behind the type of INIT or of its reply.
 fn init_in(kind: u8, rest: &[u8]) -> Result<Rlnh, RlnhError>
     requires { (1 ≤ kind) × (kind ≤ 2) }
-    ensures { IsReading result (typed kind rest.now) }
+    ensures { IsRlnhReading result (typed kind rest.now) }
 {
     if !is_version(rest) {
         return Err(RlnhError::Bad);
@@ -100,7 +100,7 @@ fn init_in(kind: u8, rest: &[u8]) -> Result<Rlnh, RlnhError>
 }
 
 fn query_in(alloc: Global, rest: &[u8]) -> Result<Rlnh, RlnhError>
-    ensures { IsReading result (typed 3 rest.now) }
+    ensures { IsRlnhReading result (typed 3 rest.now) }
 {
     match name_in(alloc, rest) {
         Ok(name) => Ok(Rlnh::QueryName(name)),
@@ -109,7 +109,7 @@ fn query_in(alloc: Global, rest: &[u8]) -> Result<Rlnh, RlnhError>
 }
 
 fn publish_in(alloc: Global, rest: &[u8]) -> Result<Rlnh, RlnhError>
-    ensures { IsReading result (typed 4 rest.now) }
+    ensures { IsRlnhReading result (typed 4 rest.now) }
 {
     let Some((addr, inc, name)) = publish_fields(rest) else {
         return Err(RlnhError::Bad);
@@ -127,7 +127,7 @@ fn publish_in(alloc: Global, rest: &[u8]) -> Result<Rlnh, RlnhError>
 /// What stands behind the type of UNPUBLISH or of its answer.
 fn unpublish_in(kind: u8, rest: &[u8]) -> Result<Rlnh, RlnhError>
     requires { (5 ≤ kind) × (kind ≤ 6) }
-    ensures { IsReading result (typed kind rest.now) }
+    ensures { IsRlnhReading result (typed kind rest.now) }
 {
     let Some(addr) = whole_address(rest) else {
         return Err(RlnhError::Bad);
@@ -139,7 +139,7 @@ fn unpublish_in(kind: u8, rest: &[u8]) -> Result<Rlnh, RlnhError>
 }
 
 fn message_in(alloc: Global, bytes: &[u8]) -> Result<Rlnh, RlnhError>
-    ensures { IsReading result bytes.now }
+    ensures { IsRlnhReading result bytes.now }
 {
     let Some((kind, rest)) = type_in(bytes) else {
         return Err(RlnhError::Bad);

@@ -1,5 +1,5 @@
 ghost use Rattle.std.specs.Prelude.{◌≡◌, ◌++◌, IfOk};
-ghost use Rattle.rlnh_messages.specs.Messages.{HasAddress, IsMessage, spelling_of, typed};
+ghost use Rattle.rlnh_messages.specs.Messages.{HasAddress, IsRlnh, spelling_of, typed};
 ghost use Rattle.byteorder.specs.Endian.{big_bytes};
 
 use crate::rlnh::{INIT, INIT_REPLY, PUBLISH, QUERY_NAME, Rlnh, UNPUBLISH, UNPUBLISH_ACK};
@@ -47,7 +47,7 @@ pub fn write(alloc: Global, m: &Rlnh) -> Result<Blob, NoMemory>
     requires { HasAddress m.now }
     ensures ok { IfOk result (λ bytes. bytes ≡ spelling_of m.now) }
     // So what is written is read again.
-    ensures is_message { IsMessage m.now }
+    ensures is_message { IsRlnh m.now }
 {
     match m {
         Rlnh::Init => Blob::of(alloc, &numbered(INIT, VERSION)),

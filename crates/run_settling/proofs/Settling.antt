@@ -24,7 +24,7 @@ use Rattle.trunk_moves.specs.Steps.{IsBoundedTrunkRun, Makes, Passes, Ticks}
 use Rattle.trunk_moves.specs.Trunks.{RunTrunks}
 use Rattle.trunk_moves.proofs.Runs.{trunk_runs_are_runs, trunk_runs_grant}
 use Rattle.trunk_moves.proofs.Sides.{is_trunk}
-use Rattle.run_settling.specs.Laws.{GoesOn, LinkSettlesIn, NoneFlies, RunsSettle}
+use Rattle.run_settling.specs.Laws.{LinkSettlesIn, NoneFlies, RunGoesOn, RunsSettle}
 use Rattle.run_settling.proofs.Coming.{comes_settles}
 
 begins : (shape : Shape) (P : List Step) (trunks : RunTrunks) → IsBoundedTrunkRun shape P trunks
@@ -52,7 +52,7 @@ ticked_link Second t =
 -- ---- a step
 
 module _ (shape : Shape) (P : List Step) (before : RunTrunks) (s : Step) (after : RunTrunks)
-    (goes : GoesOn shape P before s after) (l : LinkNo) where
+    (goes : RunGoesOn shape P before s after) (l : LinkNo) where
   -- what it makes, by its head
   makes : (head : Head) → s.head ≡ head
       → Makes shape P before after (node_by shape s.by) (endpoint_by P s.by) head s.effects

@@ -26,7 +26,7 @@ abbrev pub NoneFlies : LinkNo → RunTrunks → Type 0
 NoneFlies l trunks = IsEmpty (trunks l.0).link
 
 -- a run that has room for a step, whatever the maker of the step is
-pub record GoesOn (shape : Shape) (P : List Step) (before : RunTrunks) (s : Step)
+pub record RunGoesOn (shape : Shape) (P : List Step) (before : RunTrunks) (s : Step)
     (after : RunTrunks) : Type 0 where
   pub run : IsBoundedTrunkRun shape P before
   pub room : length P < step_limit
@@ -40,13 +40,13 @@ pub record RunsSettle : Type 0 where
   -- the first packet from a side comes, and its node answers
   pub comes :
       (shape : Shape) (P : List Step) (before : RunTrunks) (s : Step) (after : RunTrunks)
-      → GoesOn shape P before s after → (l : LinkNo) (from : Side)
+      → RunGoesOn shape P before s after → (l : LinkNo) (from : Side)
       → s.head ≡ Wire l from Deliver → (n : ℕ) (side : Side) → LinkSettlesIn n side l before
       → LinkSettlesIn n side l after
   -- once nothing is in flight a tick is one less, and the next is of the other side
   pub ticked :
       (shape : Shape) (P : List Step) (before : RunTrunks) (s : Step) (after : RunTrunks)
-      → GoesOn shape P before s after → (l : LinkNo) (side : Side) → s.head ≡ Tick l side
+      → RunGoesOn shape P before s after → (l : LinkNo) (side : Side) → s.head ≡ Tick l side
       → NoneFlies l before → (n : ℕ) → LinkSettlesIn (suc n) side l before
       → LinkSettlesIn n (other_of side) l after
   -- and after the last of them the link is quiet

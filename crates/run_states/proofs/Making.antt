@@ -42,8 +42,7 @@ use Rattle.trunk.specs.Events.{told_by, told_of, told_up, turned, with_link}
 use Rattle.trunk.specs.declared.up.TrunkUp.{TrunkUp}
 use Rattle.trunk.proofs.Reading.{reads_once}
 use Rattle.trunk_moves.specs.Packets.{Comes, Meets, answered}
-use Rattle.trunk_moves.specs.Steps.{Hunts, Makes, Passes, Sends}
-use Rattle.trunk_moves.specs.Steps.{Ticks, ending}
+use Rattle.trunk_moves.specs.Steps.{Hunts, Makes, Passes, Sends, Ticks, trunks_ending}
 use Rattle.trunk_moves.specs.Trunks.{Become, RunTrunks, all_do, does, side_on, with_trunk}
 use Rattle.trunk_moves.proofs.Sides.{one_trunk, trunks_stay}
 use Rattle.run_states.specs.Runs.{AllKeepSizes}
@@ -156,8 +155,10 @@ module _ (shape : Shape) (ends : HasTwoEnds shape) (P : List Step)
       both true = is
       both false = same h of_shape
 
-  ending_same : (n : ℕ) (me : Option Inc) → Become shape after_one (ending shape n me before_one)
-      → Become shape after_two (ending shape n me before_two) → Become shape after_one after_two
+  ending_same : (n : ℕ) (me : Option Inc)
+      → Become shape after_one (trunks_ending shape n me before_one)
+      → Become shape after_two (trunks_ending shape n me before_two)
+      → Become shape after_one after_two
   ending_same n None one two = stays_same one two
   ending_same n (Some j) one two = all_same n (λ side. closed_at side j) one two
 
@@ -246,7 +247,7 @@ module _ (shape : Shape) (P : List Step) (before after : RunTrunks) where
   one_sizes l of_shape t kept made =
       one_trunk shape before after l of_shape t made SizesAt kept all_before
 
-  ending_sizes : (n : ℕ) (me : Option Inc) → Become shape after (ending shape n me before)
+  ending_sizes : (n : ℕ) (me : Option Inc) → Become shape after (trunks_ending shape n me before)
       → AllKeepSizes shape before after
   ending_sizes n None made = stays_sizes made
   ending_sizes n (Some j) made =

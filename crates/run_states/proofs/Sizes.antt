@@ -26,7 +26,7 @@ use Rattle.carrier.specs.declared.handed.Handed.TheVariants as handed
 use Rattle.carrier.specs.declared.handed.TickedSide.{TickedSide}
 use Rattle.carrier.specs.declared.handed.TickedSide.TheVariants as ticked
 use Rattle.rlnh_end.specs.Calls.{Saying, after, begin_of, publish_of, query_of}
-use Rattle.rlnh_end.specs.Reactions.{input_of as rlnh_input_of}
+use Rattle.rlnh_end.specs.Reactions.{rlnh_input_of}
 use Rattle.rlnh_end.specs.States.{RlnhTables}
 use Rattle.rlnh_end.specs.declared.heard.Heard.{Heard}
 use Rattle.journal.specs.declared.effect.Step.{Step}

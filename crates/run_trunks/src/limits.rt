@@ -2,8 +2,7 @@
 //! sessions with 32 bits, and what would go beyond is refused.
 ghost use Rattle.std.specs.Prelude.{◌≡◌, ◌<◌, Some, true, length, IfOk, OnOk};
 ghost use Rattle.linx_base.specs.declared.identity.Side.{Side as AnySide};
-ghost use Rattle.carrier.specs.Events.{flight_from, handed_by, HasNextAt};
-ghost use Rattle.carrier.specs.Events.{told_by as link_told_by};
+ghost use Rattle.carrier.specs.Events.{HasNextAt, flight_from, handed_by, link_told_by};
 ghost use Rattle.rlnh_end.specs.declared.heard.Heard.{Heard as AnyHeard};
 ghost use Rattle.trunk.specs.Events.{IsReading, delivered, swapped_from, ticked_at};
 ghost use Rattle.trunk.specs.Events.{told_by, HasNumbersLeft};

@@ -5,8 +5,7 @@ ghost use Rattle.linx_base.specs.Both.{still};
 ghost use Rattle.linx_base.specs.Numbers.{boot_of};
 ghost use Rattle.link_addresses.specs.Meanings.{used_in};
 ghost use Rattle.ethcm_end.specs.States.{peer_of};
-ghost use Rattle.carrier.specs.Events.{flight_from, half_of, handed_by, is_quiet};
-ghost use Rattle.carrier.specs.Events.{told_by as link_told_by};
+ghost use Rattle.carrier.specs.Events.{flight_from, half_of, handed_by, is_quiet, link_told_by};
 ghost use Rattle.rlnh_end.specs.declared.heard.Heard.{Heard as AnyHeard};
 ghost use Rattle.trunk.specs.Events.{IsReading, asked_at, closed_at, delivered, kept_of, lost_from};
 ghost use Rattle.trunk.specs.Events.{new_trunk, opened_at, published_at, restarted_at, sent_at};
@@ -14,7 +13,7 @@ ghost use Rattle.trunk.specs.Events.{side_of, swapped_from, tables_of, ticked_at
 ghost use Rattle.trunk.specs.Keeping.{KeepsTrunk};
 ghost use Rattle.trunk.specs.Laws.{MayPublish, MaySend};
 ghost use Rattle.trunk.specs.Parts.{HasOnlyGrownAt};
-ghost use Rattle.trunk.specs.Promises.{Promises};
+ghost use Rattle.trunk.specs.Promises.{TrunkPromises};
 ghost use Rattle.trunk_record.specs.Trunks.{IsTrunk};
 ghost use Rattle.link_laws.specs.Ends.{node_at};
 ghost use Rattle.trunk_moves.specs.Packets.{place_of};
@@ -385,7 +384,7 @@ impl RunTrunks {
         ensures kept { KeepsTrunk (trunks_of self.now.was link.0) }
         ensures records { IsTrunk (trunks_of self.now.is link.0).first.kept
             (trunks_of self.now.is link.0).second.kept }
-        ensures promises { Promises (trunks_of self.now.is link.0) }
+        ensures promises { TrunkPromises (trunks_of self.now.is link.0) }
     {
         self.trunk(link).promises();
     }

@@ -1,7 +1,7 @@
 //! The trunks by the places of their links: what happens to one of them, or to those of a node,
 //! and what a refusal leaves, which is what all were when the event began.
 ghost use Rattle.std.specs.Prelude.{◌≡◌, ◌<◌, length, slice_set, IfOk, OnErr, OnOk};
-ghost use Rattle.carrier.specs.Events.{flight_from, handed_by, told_by as link_told_by};
+ghost use Rattle.carrier.specs.Events.{flight_from, handed_by, link_told_by};
 ghost use Rattle.rlnh_end.specs.declared.heard.Heard.{Heard as AnyHeard};
 ghost use Rattle.trunk.specs.Events.{IsReading, delivered, lost_from, swapped_from, ticked_at};
 ghost use Rattle.trunk.specs.Events.{told_by};

@@ -28,7 +28,7 @@ use Rattle.script_lang.specs.Parts.{with_verdict}
 use Rattle.script_lang.specs.Parts.{with_actor, planned_at}
 use Rattle.script_lang.specs.declared.plans.Plans.{Plans}
 use Rattle.script_lang.specs.Fits.{is_numbered, is_node, joins, has_end, fits_link, fits_plans}
-use Rattle.script_lang.specs.Fits.{fits_path, fits_command, fits_actor, commands_of, is_among}
+use Rattle.script_lang.specs.Fits.{fits_path, fits_command, fits_actor, command_count, is_among}
 use Rattle.script_lang.specs.Fits.{are_distinct, IsScript}
 use Rattle.script_lang.proofs.Lists.{list_all_weaken, list_any_push}
 use Rattle.script_lang.proofs.Verdicts.{length-planned_at, planned_at_fits}
@@ -187,7 +187,7 @@ module _ (s : ScriptParts) (plans : List Plans) (actors : List ActorScript) wher
 
   others_kept : IsScript s → length plans ≡ length s.links → list_all fits_plans plans ≡ true
       → length actors ≤ actor_limit → list_all (fits_actor with_others) actors ≡ true
-      → commands_of actors ≤ all_commands_limit → IsScript with_others
+      → command_count actors ≤ all_commands_limit → IsScript with_others
   unfolding with_others
   others_kept h each_plan all_plans few each_actor commands = record {
     nodes = h.nodes;
@@ -230,7 +230,7 @@ module _ (s : ScriptParts) (node : NodeNo) (commands : List Command) where
 
   pub actor_kept : IsScript s → length s.actors < actor_limit → is_node s node ≡ true
       → length commands ≤ command_limit → list_all (fits_command s node) commands ≡ true
-      → commands_of s.actors + length commands ≤ all_commands_limit
+      → command_count s.actors + length commands ≤ all_commands_limit
       → IsScript (with_actor s node commands)
   unfolding added with_others
   actor_kept h room declared few fits all =

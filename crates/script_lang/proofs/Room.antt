@@ -11,7 +11,7 @@ use Rattle.script_words.proofs.Lists.{list_all_push}
 use Rattle.script_lang.specs.Limits.{command_limit, all_commands_limit}
 use Rattle.script_lang.specs.declared.actor_script.ActorScript.{ActorScript}
 use Rattle.script_lang.specs.Parts.{ScriptParts}
-use Rattle.script_lang.specs.Fits.{commands_of, fits_command}
+use Rattle.script_lang.specs.Fits.{command_count, fits_command}
 use Rattle.script_lang.specs.Copies.{copies}
 use Rattle.script_lang.specs.Block.{CanEnd, has_room}
 use Rattle.script_lang.proofs.Copies.{length-copies, list_all-copies}
@@ -19,10 +19,10 @@ use Rattle.script_lang.proofs.Copies.{length-copies, list_all-copies}
 module _ (s : ScriptParts) (commands : List Command) where
   room_few : (more : ℕ) → has_room s commands more ≡ true
       → (length commands + more ≤ command_limit)
-      × (commands_of s.actors + (length commands + more) ≤ all_commands_limit)
+      × (command_count s.actors + (length commands + more) ≤ all_commands_limit)
   room_few more h =
       let few = length commands + more in
-      let all = commands_of s.actors + few in
+      let all = command_count s.actors + few in
       let both = and_parts (nat_le few command_limit) (nat_le all all_commands_limit) h in
       (leb-true few command_limit both.0, leb-true all all_commands_limit both.1)
 

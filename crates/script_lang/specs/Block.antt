@@ -16,7 +16,7 @@ use Rattle.script_lang.specs.declared.reading.Place.{Place}
 use Rattle.script_lang.specs.declared.reading.Place.TheVariants.{Outside, InActor, InRepeat}
 use Rattle.script_lang.specs.declared.reading.Reading.{Reading}
 use Rattle.script_lang.specs.Parts.{ScriptParts, with_actor}
-use Rattle.script_lang.specs.Fits.{is_node, commands_of, fits_command}
+use Rattle.script_lang.specs.Fits.{is_node, command_count, fits_command}
 use Rattle.script_lang.specs.Resolving.{resolved}
 use Rattle.script_lang.specs.Copies.{copies}
 
@@ -25,7 +25,7 @@ pub record CanEnd (s : ScriptParts) (a : ActorScript) : Type 0 where
   pub node : is_node s a.node ≡ true
   pub room : length s.actors < actor_limit
   pub few : length a.commands ≤ command_limit
-  pub all_few : commands_of s.actors + length a.commands ≤ all_commands_limit
+  pub all_few : command_count s.actors + length a.commands ≤ all_commands_limit
   pub fits : list_all (fits_command s a.node) a.commands ≡ true
 
 -- the actor of an open block can be added, and the commands of a repeated block fit it
@@ -36,14 +36,14 @@ HasFit s (InRepeat a times commands) =
     CanEnd s a × (list_all (fits_command s a.node) commands ≡ true)
 
 -- what is read so far can go on: the actor of an open block fits its script
-abbrev pub IsReading : Reading → Type 0
-IsReading r = HasFit r.script r.place
+abbrev pub CanGoOn : Reading → Type 0
+CanGoOn r = HasFit r.script r.place
 
 -- so many commands more stay within the limits of the actor and of all
 abbrev pub has_room : ScriptParts → List Command → ℕ → Bool
 has_room s commands more =
     nat_le (length commands + more) command_limit
-    && nat_le (commands_of s.actors + (length commands + more)) all_commands_limit
+    && nat_le (command_count s.actors + (length commands + more)) all_commands_limit
 
 -- the actor with these commands more, so many
 abbrev pub with_commands : ScriptParts → ActorScript → ℕ → List Command → Result ActorScript BadKind

@@ -93,8 +93,8 @@ fits_actor s actor =
     && list_all (fits_command s actor.node) actor.commands
 
 -- the commands of all actors
-abbrev pub commands_of : List ActorScript → ℕ
-commands_of actors = sum_by (λ a. length a.commands) actors
+abbrev pub command_count : List ActorScript → ℕ
+command_count actors = sum_by (λ a. length a.commands) actors
 
 -- a name is among these
 abbrev pub is_among : List (List ℕ) → List ℕ → Bool
@@ -117,4 +117,4 @@ pub record IsScript (s : ScriptParts) : Type 0 where
   pub plans : list_all fits_plans s.plans ≡ true
   pub actors : length s.actors ≤ actor_limit
   pub each_actor : list_all (fits_actor s) s.actors ≡ true
-  pub commands : commands_of s.actors ≤ all_commands_limit
+  pub commands : command_count s.actors ≤ all_commands_limit

@@ -5,8 +5,8 @@ ghost use Rattle.std.specs.List.{list_all};
 ghost use Rattle.script_lang.specs.Limits.{all_commands_limit, command_limit};
 ghost use Rattle.script_words.specs.Gives.{Gives};
 ghost use Rattle.script_words.specs.BlockLine.{is_sized_in_actor, is_sized_in_repeat};
-ghost use Rattle.script_lang.specs.Fits.{commands_of, fits_command};
-ghost use Rattle.script_lang.specs.Block.{CanEnd, IsReading, has_room as room_for, command_added};
+ghost use Rattle.script_lang.specs.Fits.{command_count, fits_command};
+ghost use Rattle.script_lang.specs.Block.{CanEnd, CanGoOn, has_room as room_for, command_added};
 ghost use Rattle.script_lang.specs.Block.{written_out, in_actor, in_repeat};
 
 use crate::actor_script::{ActorScript, Commands};
@@ -28,8 +28,8 @@ const ALL_COMMANDS_MOST: usize = 400_000;
 /// The commands of all actors.
 #[tactic(auto, using(crate::proofs::Room::counted))]
 fn commands_in_all(actors: &[ActorScript]) -> usize
-    requires { commands_of actors.now ≤ all_commands_limit }
-    ensures { result ≡ commands_of actors.now }
+    requires { command_count actors.now ≤ all_commands_limit }
+    ensures { result ≡ command_count actors.now }
 {
     let mut all = 0;
     for actor in actors {
@@ -107,7 +107,7 @@ pub(crate) fn take_actor_line(
     requires fits { CanEnd script actor }
     requires sized { is_sized_in_actor line ≡ true }
     ensures gives { Gives (λ r. r) result (in_actor script actors actor line) }
-    ensures fits { IfOk result (λ r. IsReading r) }
+    ensures fits { IfOk result (λ r. CanGoOn r) }
 {
     match line {
         ActorLine::Command(command) => {
@@ -154,7 +154,7 @@ pub(crate) fn take_repeat_line(
     requires repeated { list_all (fits_command script actor.node) commands ≡ true }
     requires sized { is_sized_in_repeat line ≡ true }
     ensures gives { Gives (λ r. r) result (in_repeat script actors actor times commands line) }
-    ensures fits { IfOk result (λ r. IsReading r) }
+    ensures fits { IfOk result (λ r. CanGoOn r) }
 {
     match line {
         RepeatLine::Command(command) => {

@@ -8,7 +8,7 @@ ghost use Rattle.script_words.specs.Verdicts.{fits_verdict};
 ghost use Rattle.script_words.specs.Declaration.{has_link_size, is_in_range};
 ghost use Rattle.script_lang.specs.Parts.{planned_verdicts, with_verdicts};
 ghost use Rattle.script_lang.specs.Fits.{is_link};
-ghost use Rattle.script_lang.specs.Block.{IsReading};
+ghost use Rattle.script_lang.specs.Block.{CanGoOn};
 ghost use Rattle.script_lang.specs.Declaring.{node_added, link_added, plan_added};
 ghost use Rattle.script_lang.specs.Declaring.{actor_begun, declared};
 
@@ -140,7 +140,7 @@ fn begin_actor(
     node: &Name,
 ) -> Result<Reading, LineError>
     ensures gives { Gives (λ r. r) result (actor_begun script actors name node.now) }
-    ensures fits { IfOk result (λ r. IsReading r) }
+    ensures fits { IfOk result (λ r. CanGoOn r) }
 {
     let mut actors = actors;
     let node = node_of_name(&script, node)?;
@@ -171,7 +171,7 @@ pub(crate) fn declare(
 ) -> Result<Reading, LineError>
     requires { is_in_range declaration ≡ true }
     ensures gives { Gives (λ r. r) result (declared script actors declaration) }
-    ensures fits { IfOk result (λ r. IsReading r) }
+    ensures fits { IfOk result (λ r. CanGoOn r) }
 {
     let script = match declaration {
         Declaration::Node(name) => add_node(script, name)?,

@@ -3,7 +3,7 @@
 ghost use Rattle.std.specs.Prelude.{◌≡◌, ◌+◌, ◌≤◌, length, map, IfOk, IfErr, IsOk};
 ghost use Rattle.script_lang.specs.Limits.{script_limit};
 ghost use Rattle.script_words.specs.Gives.{Gives};
-ghost use Rattle.script_lang.specs.Block.{IsReading};
+ghost use Rattle.script_lang.specs.Block.{CanGoOn};
 ghost use Rattle.script_lang.specs.Reading.{nothing_read, worded, lined, finished, IsBadOf};
 
 use crate::actor_script::{ActorScript, Commands};
@@ -55,9 +55,9 @@ impl Reading {
     /// The words of a line more. A line without words means nothing.
     #[tactic(auto, unfolding(crate::specs::Reading::worded))]
     fn take_words(self, alloc: Global, words: &[&[u8]]) -> Result<Reading, LineError>
-        requires { IsReading self }
+        requires { CanGoOn self }
         ensures gives { Gives (λ r. r) result (worded self (map (λ w. w.now) words.now)) }
-        ensures fits { IfOk result (λ r. IsReading r) }
+        ensures fits { IfOk result (λ r. CanGoOn r) }
     {
         let [first, rest @ ..] = words else {
             return Ok(self);
@@ -95,10 +95,10 @@ impl Reading {
         before: usize,
         line: &[u8],
     ) -> Result<Reading, LineError>
-        requires fits { IsReading self }
+        requires fits { CanGoOn self }
         requires before { before ≤ script_limit }
         ensures gives { Gives (λ r. r) result (lined self before line.now) }
-        ensures fits { IfOk result (λ r. IsReading r) }
+        ensures fits { IfOk result (λ r. CanGoOn r) }
         ensures short { IsOk result → before + length line.now ≤ script_limit }
     {
         if line.len() > SCRIPT_MOST - before {

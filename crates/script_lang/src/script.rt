@@ -6,7 +6,7 @@ ghost use Rattle.script_words.specs.Verdicts.{fits_verdict};
 ghost use Rattle.script_lang.specs.Parts.{empty_script, planned_verdicts, with_node, with_link};
 ghost use Rattle.script_lang.specs.Parts.{with_verdict, with_actor};
 ghost use Rattle.script_lang.specs.Fits.{is_node, is_link, is_among, fits_link, fits_command};
-ghost use Rattle.script_lang.specs.Fits.{commands_of, IsScript};
+ghost use Rattle.script_lang.specs.Fits.{command_count, IsScript};
 
 use crate::actor_script::{ActorScript, Commands};
 use crate::plans::{Plans, plan_at, plan_more};
@@ -139,7 +139,7 @@ impl Script {
         requires room { length self.old.actors < actor_limit }
         requires node { IsTrue (is_node self.old node) }
         requires few { length commands ≤ command_limit }
-        requires all_few { commands_of self.old.actors + length commands ≤ all_commands_limit }
+        requires all_few { command_count self.old.actors + length commands ≤ all_commands_limit }
         requires fits { IsTrue (list_all (fits_command self.old node) commands) }
         ensures ok { OnOk result (self.new ≡ with_actor self.old node commands) }
         ensures err { OnErr result (self.new ≡ self.old) }

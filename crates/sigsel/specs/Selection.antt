@@ -12,14 +12,14 @@ abbrev pub is_selected : Sigsel → Item → Bool
 is_selected sel item = selects sel item.signal.number
 
 -- items of this kind are the notice of this attach
-abbrev pub notifies : AttRef → Kind → Bool
-notifies r Plain = false
-notifies r (Found hunt) = false
-notifies r (Notice attach) = attach.0 == r.0
+abbrev pub is_notice_kind : AttRef → Kind → Bool
+is_notice_kind r Plain = false
+is_notice_kind r (Found hunt) = false
+is_notice_kind r (Notice attach) = attach.0 == r.0
 
 -- the item is the notice of this attach
 abbrev pub is_notice_of : AttRef → Item → Bool
-is_notice_of r item = notifies r item.kind
+is_notice_of r item = is_notice_kind r item.kind
 
 -- the first item that a filter selects
 abbrev pub first_selected : Sigsel → List Item → Option Item

@@ -37,8 +37,8 @@ use Rattle.script_lang.specs.Fits.{IsScript}
 use Rattle.script_lang.specs.Parts.{ScriptParts}
 use Rattle.node_kernel.specs.declared.ask.Ask.{Ask}
 use Rattle.node_kernel.specs.Answers.{is_pump_event}
-use Rattle.actor_run.specs.Asking.{ask_attach, ask_detach, ask_forward, ask_of, ask_send, peer_of}
-use Rattle.actor_run.specs.Asking.{signal_of}
+use Rattle.actor_run.specs.Asking.{ask_attach, ask_detach, ask_forward, ask_of, ask_send}
+use Rattle.actor_run.specs.Asking.{peer_named, signal_of}
 use Rattle.actor_run.specs.Bindings.{lookup}
 use Rattle.actor_run.specs.Following.{knows, next_ask}
 use Rattle.actor_run.specs.Knowing.{Knows}
@@ -72,10 +72,10 @@ actors-detach (Some r) = record { handed = refl; unpumped = refl }
 
 asks-actors : (k : Knows) (me : Option Inc) (c : Option Command) â†’ IsActors (ask_of k me c)
 asks-actors k me (Some (Send to number bytes)) =
-    actors-send (peer_of k me to) (signal_of number (data_of bytes))
-asks-actors k me (Some (Forward to)) = actors-forward k.held (peer_of k me to)
+    actors-send (peer_named k me to) (signal_of number (data_of bytes))
+asks-actors k me (Some (Forward to)) = actors-forward k.held (peer_named k me to)
 asks-actors k me (Some (Attach to r number bytes)) =
-    actors-attach (peer_of k me to) (signal_of number (data_of bytes))
+    actors-attach (peer_named k me to) (signal_of number (data_of bytes))
 asks-actors k me (Some (Detach r)) = actors-detach (lookup k.refs r)
 asks-actors k me c = record { handed = refl; unpumped = refl }
 
@@ -184,13 +184,13 @@ module _ (s : ScriptParts) (script : IsScript s) (f : Layout) (shape : f.shape â
   asks-fit (Some (Open name)) fits = tt
   asks-fit (Some Close) fits = tt
   asks-fit (Some (Send to number bytes)) fits =
-      fit-send (peer_of k me to) (signal_of number (data_of bytes))
-  asks-fit (Some (Forward to)) fits = fit-forward k.held (peer_of k me to)
+      fit-send (peer_named k me to) (signal_of number (data_of bytes))
+  asks-fit (Some (Forward to)) fits = fit-forward k.held (peer_named k me to)
   asks-fit (Some (Recv filter)) fits = tt
   asks-fit (Some (Hunt path number bytes)) fits =
       path-leaves path (and_parts (fits_path s node path) (fits_data 65532 bytes) fits).0
   asks-fit (Some (Attach to r number bytes)) fits =
-      fit-attach (peer_of k me to) (signal_of number (data_of bytes))
+      fit-attach (peer_named k me to) (signal_of number (data_of bytes))
       (below_one (length (data_of bytes)) 65531 fits)
   asks-fit (Some (Detach r)) fits = fit-detach (lookup k.refs r)
   asks-fit (Some (Keep name)) fits = tt

@@ -32,8 +32,8 @@ use Rattle.link_laws.specs.Laws.{HasEffects}
 use Rattle.link_laws.proofs.Fresh.{brought-opens_none, restarting-opens_none}
 use Rattle.node_kernel.specs.declared.answers.StepAnswer.{StepAnswer}
 use Rattle.node_kernel.specs.declared.ask.Ask.{Ask}
-use Rattle.node_kernel.specs.Answers.{answer_of, event_of, granted, granted_by, is_end_event}
-use Rattle.node_kernel.specs.Answers.{is_opening, is_pump_event, is_pumped, is_waits, named}
+use Rattle.node_kernel.specs.Answers.{answer_of, asks_to_open, event_of, granted, granted_by}
+use Rattle.node_kernel.specs.Answers.{is_end_event, is_pump_event, is_pumped, is_waits, named}
 use Rattle.node_kernel.specs.Answers.{needs_endpoint, opened_as, refused}
 use Rattle.script_words.specs.declared.command.Command.{Command}
 use Rattle.actor_run.specs.Asking.{is_sending}
@@ -44,7 +44,7 @@ use Rattle.trunk.specs.Tells.{up_of_tick}
 use Rattle.trunk_moves.specs.Packets.{Meets, told_brings}
 use Rattle.trunk_moves.specs.Steps.{Makes as MakesOfTrunks}
 use Rattle.trunk_moves.specs.Trunks.{RunTrunks}
-use Rattle.carrier.specs.Events.{told_by as link_told_by}
+use Rattle.carrier.specs.Events.{link_told_by}
 use Rattle.fabric.specs.Links.{is_still}
 use Rattle.fabric.specs.Machine.{hands_over, head_for, head_of, is_at_rest, look, signal_in}
 use Rattle.fabric.specs.Machine.{vain_look}
@@ -208,7 +208,7 @@ module _ (P : List Step) (node : ℕ) (es : List Effect) where
 -- WHAT IS GRANTED. A look that is granted was asked for, by an actor with an endpoint
 pub granted_look : (e : Option Inc) (at : ℕ) (ask : Ask) (f : Sigsel)
     → (granted_by e at ask).event ≡ asks.Look f → ask.event ≡ asks.Look f
-granted_look (Some i) at ask f = go (is_opening ask.event)
+granted_look (Some i) at ask f = go (asks_to_open ask.event)
   where
     go : (b : Bool) → (cond b (refused (Refusal.IsOpen i)) ask).event ≡ asks.Look f
         → ask.event ≡ asks.Look f
@@ -239,7 +239,7 @@ granted_endpoint None at ask f is = go (needs_endpoint ask.event) refl is
 -- what holds of a refusal and of what was asked holds of what is granted
 granted-holds : (Q : Ask → Type 0) → ((reason : Refusal) → Q (refused reason)) → (e : Option Inc)
     (at : ℕ) (ask : Ask) → Q ask → Q (granted_by e at ask)
-granted-holds Q refuses (Some i) at ask holds = go (is_opening ask.event)
+granted-holds Q refuses (Some i) at ask holds = go (asks_to_open ask.event)
   where
     go : (b : Bool) → Q (cond b (refused (Refusal.IsOpen i)) ask)
     go true = refuses (Refusal.IsOpen i)

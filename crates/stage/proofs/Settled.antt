@@ -23,7 +23,7 @@ use Rattle.carrier.specs.Events.{is_quiet}
 use Rattle.link_laws.specs.Ends.{IsLinkOf}
 use Rattle.link_laws.specs.Sessions.{is_cut}
 use Rattle.link_settling.specs.Runs.{IsEmpty}
-use Rattle.run_settling.specs.Laws.{GoesOn, LinkSettlesIn, RunsSettle}
+use Rattle.run_settling.specs.Laws.{LinkSettlesIn, RunGoesOn, RunsSettle}
 use Rattle.node_kernel.specs.declared.answers.StepAnswer.{StepAnswer}
 use Rattle.run_trunks.specs.States.{trunks_of}
 use Rattle.trunk.specs.Events.{TrunkState}
@@ -94,7 +94,7 @@ module _ (law : RunsSettle) (old new : Layout) (by : By) (l : LinkNo) (ticks_so_
     (run : IsBoundedTrunkRun old.shape old.log.steps (trunks_of old.trunks))
     (room : length old.log.steps < 200000) (left : IsLeft l old ticks_so_far) where
   on-with : (head : Head) (answer : StepAnswer) (step : IsStepOf old new by head answer)
-      → GoesOn old.shape old.log.steps (trunks_of old.trunks)
+      → RunGoesOn old.shape old.log.steps (trunks_of old.trunks)
       (record { by = by; head = head; effects = step.effects }) (trunks_of new.trunks)
   on-with head answer step = record { run = run; room = room; step = step.makes }
 

@@ -22,7 +22,7 @@ use Rattle.script_words.specs.Filling.{data_of}
 use Rattle.node_kernel.specs.declared.ask.Ask.{Ask}
 use Rattle.node_kernel.specs.Answers.{answer_of, event_of, granted, is_pumped}
 use Rattle.actor_run.specs.Asking.{ask_attach, ask_detach, ask_forward, ask_of, ask_send, handed}
-use Rattle.actor_run.specs.Asking.{lends, peer_of, signal_of}
+use Rattle.actor_run.specs.Asking.{lends, peer_named, signal_of}
 use Rattle.actor_run.specs.Bindings.{lookup}
 use Rattle.actor_run.specs.Following.{is_own, knows, next_ask, Follows}
 use Rattle.actor_run.specs.Knowing.{Knows, told}
@@ -80,12 +80,12 @@ asks_look k me None f is = cc
 asks_look k me (Some (Open name)) f is = cc
 asks_look k me (Some Close) f is = cc
 asks_look k me (Some (Send to number bytes)) f is =
-    absurd (send_looks (peer_of k me to) (signal_of number (data_of bytes)) f is)
-asks_look k me (Some (Forward to)) f is = absurd (forward_looks k.held (peer_of k me to) f is)
+    absurd (send_looks (peer_named k me to) (signal_of number (data_of bytes)) f is)
+asks_look k me (Some (Forward to)) f is = absurd (forward_looks k.held (peer_named k me to) f is)
 asks_look k me (Some (Recv filter)) f is = ap (λ g. Some (Recv g)) (look_filter is)
 asks_look k me (Some (Hunt path number bytes)) f is = cc
 asks_look k me (Some (Attach to r number bytes)) f is =
-    absurd (attach_looks (peer_of k me to) (signal_of number (data_of bytes)) f is)
+    absurd (attach_looks (peer_named k me to) (signal_of number (data_of bytes)) f is)
 asks_look k me (Some (Detach r)) f is = absurd (detach_looks (lookup k.refs r) f is)
 asks_look k me (Some (Keep name)) f is = cc
 asks_look k me (Some (Cut link)) f is = cc

@@ -11,8 +11,7 @@ use Rattle.trunk_record.specs.Sayings.{heard_as, is_live, was_unpublished}
 use Rattle.rlnh_end.specs.States.{RlnhTables, addr_met, is_noted, without_note}
 use Rattle.rlnh_end.specs.Words.{hello}
 use Rattle.rlnh_end.specs.Calls.{Saying, announced, begin_of, close_of, closed, publish_sender_of}
-use Rattle.rlnh_end.specs.Calls.{opened_of}
-use Rattle.rlnh_end.specs.Calls.{publish_of, query_of, saying, send_of, told}
+use Rattle.rlnh_end.specs.Calls.{end_saying, opened_of, publish_of, query_of, send_of, told}
 use Rattle.rlnh_laws.specs.Meanings.{saids}
 use Rattle.rlnh_laws.specs.Ties.{Talk}
 use Rattle.rlnh_laws.proofs.Calling.{close_grows, opened_grows, publish_grows, query_grows}
@@ -42,7 +41,7 @@ opened_few : (t : RlnhTables) (inc : Inc) (name : List ℕ)
     → length (opened_of t inc name).says ≤ 1
 opened_few t inc name =
     elim (is_noted t.noted name)
-    as (λ b. length (if b then publish_of t inc name else saying t []).says ≤ 1)
+    as (λ b. length (if b then publish_of t inc name else end_saying t []).says ≤ 1)
     [ true ↦ publish_few t inc name | false ↦ omega arith ]
 
 close_few : (t : RlnhTables) (inc : Inc) → length (close_of t inc).says ≤ 1

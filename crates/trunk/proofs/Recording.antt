@@ -17,9 +17,8 @@ use Rattle.trunk_record.proofs.Lists.{all-impl}
 use Rattle.rlnh_laws.specs.Meanings.{saids}
 use Rattle.rlnh_laws.specs.Ties.{Pair, Talk}
 use Rattle.rlnh_laws.proofs.Speaking.{saids-append}
-use Rattle.trunk.specs.Talks.{KeepBothTalks, FallBelow, KeepsTalks, HoldAll, Holds, IsSound, Talks}
-use Rattle.trunk.specs.Talks.{all_talks}
-use Rattle.trunk.specs.Talks.{partner, record_of, side_record}
+use Rattle.trunk.specs.Talks.{KeepBothTalks, FallBelow, KeepsTalks, HoldAll, Holds, IsSoundSession}
+use Rattle.trunk.specs.Talks.{Talks, all_talks, partner, record_of, side_record}
 use Rattle.trunk.proofs.Mirroring.{eq_turned}
 use Rattle.trunk.proofs.Partners.{down_partner, named, no_partner, nothing}
 
@@ -114,12 +113,12 @@ module _ (A B : Talks) (far : KeepsTalks B A) where
     all_empty es h.1,
   )
 
-all_in_turn : (es : List Talk) → AllByRecursion IsSound es
+all_in_turn : (es : List Talk) → AllByRecursion IsSoundSession es
     → AllByRecursion IsGivenInTurn (map record_of es)
 all_in_turn [] h = tt
 all_in_turn (e ∷ es) h = (h.0.in_turn, all_in_turn es h.1)
 
-pub half_record : (A B : Talks) → KeepBothTalks A B → AllByRecursion IsSound (all_talks A)
+pub half_record : (A B : Talks) → KeepBothTalks A B → AllByRecursion IsSoundSession (all_talks A)
     → IsHalf (side_record A) (side_record B)
 half_record A B k sound =
     record {

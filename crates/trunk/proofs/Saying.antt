@@ -11,11 +11,10 @@ use Rattle.link_addresses.proofs.Indexing.{address_found, address_missing}
 use Rattle.ethcm_end.specs.States.{peer_of}
 use Rattle.trunk_record.specs.Sayings.{Said, asked, heard_as, is_live, published, signaled}
 use Rattle.trunk_record.specs.Sayings.{unpublished}
-use Rattle.trunk_record.specs.Changes.{saying, sending}
+use Rattle.trunk_record.specs.Changes.{saying, says_sending}
 use Rattle.rlnh_end.specs.States.{RlnhTables, addr_met, is_noted, without_note}
 use Rattle.rlnh_end.specs.Calls.{Saying, announced, close_of, closed, publish_sender_of, opened_of}
-use Rattle.rlnh_end.specs.Calls.{publish_of, query_of, saying as end_saying, send_of, signal_of}
-use Rattle.rlnh_end.specs.Calls.{told}
+use Rattle.rlnh_end.specs.Calls.{end_saying, publish_of, query_of, send_of, then_signals, told}
 use Rattle.rlnh_laws.specs.Meanings.{saids}
 use Rattle.rlnh_laws.specs.Ties.{Talk}
 use Rattle.rlnh_laws.proofs.Calling.{live_now, met_stays}
@@ -23,7 +22,7 @@ use Rattle.rlnh_laws.proofs.Meeting.{option_cases}
 use Rattle.rlnh_laws.proofs.Speaking.{saids-append}
 use Rattle.trunk.specs.Events.{TrunkState, near_said, near_says}
 use Rattle.trunk.specs.Keeping.{KeepsTrunk}
-use Rattle.trunk.specs.Tells.{closing, notes_sending, opening, publishing}
+use Rattle.trunk.specs.Tells.{notes_sending, publishing, says_closing, says_opening}
 use Rattle.trunk.proofs.Calling.{is_found}
 use Rattle.trunk.proofs.Telling.{own_peer}
 
@@ -108,10 +107,10 @@ module _ (t : TrunkState) (k : KeepsTrunk t) where
 
   pub opened_says : (inc : Inc) (name : List ℕ) → t.first.kept.now.peer ≢ None
       → NearSays t (near_said t (opened_of tables inc name))
-      (opening inc name tables.noted t.first.kept)
+      (says_opening inc name tables.noted t.first.kept)
       (if is_noted tables.noted name then without_note tables.noted name else tables.noted)
   opened_says inc name up =
-      says_told t k (opened_of tables inc name) (opening inc name tables.noted t.first.kept)
+      says_told t k (opened_of tables inc name) (says_opening inc name tables.noted t.first.kept)
       (if is_noted tables.noted name then without_note tables.noted name else tables.noted) up
       (elim (is_noted tables.noted name)
       as (λ b. saids (if b then publish_of tables inc name else end_saying tables []).says
@@ -123,9 +122,9 @@ module _ (t : TrunkState) (k : KeepsTrunk t) where
       [ true ↦ publish_notes inc name | false ↦ refl ])
 
   pub close_says : (inc : Inc) → t.first.kept.now.peer ≢ None
-      → NearSays t (near_said t (close_of tables inc)) (closing inc t.first.kept) tables.noted
+      → NearSays t (near_said t (close_of tables inc)) (says_closing inc t.first.kept) tables.noted
   close_says inc up =
-      says_told t k (close_of tables inc) (closing inc t.first.kept) tables.noted up
+      says_told t k (close_of tables inc) (says_closing inc t.first.kept) tables.noted up
       (by_address (address_of tables.own inc)
       ∙ ap (λ b. if b then unpublished inc ∷ [] else []) (address_live inc))
       (by_notes (address_of tables.own inc))
@@ -149,7 +148,7 @@ module _ (t : TrunkState) (k : KeepsTrunk t) where
 -- a signal behind what was said, where its sender is live and its receiver met
 told_words : (made : Saying) (from to : Inc) (signal : SigNote) (a b : ℕ)
     → address_of made.tables.own from ≡ Some a → addr_met made.tables.met to ≡ Some b
-    → saids (signal_of made from to signal).says ≡ signaled from to signal ∷ saids made.says
+    → saids (then_signals made from to signal).says ≡ signaled from to signal ∷ saids made.says
 told_words made from to signal a b one two =
     saids-append made.says
     (told (address_of made.tables.own from) from (addr_met made.tables.met to) to signal)
@@ -160,7 +159,7 @@ told_words made from to signal a b one two =
 -- what is said before it, and the notes
 pub send_words : (e : Talk) (from to : Inc) (name : List ℕ) (signal : SigNote) (b : ℕ)
     → addr_met e.end.met to ≡ Some b → (o : Option ℕ) → address_of e.end.own from ≡ o
-    → saids (signal_of (publish_sender_of e.end from name o) from to signal).says
+    → saids (then_signals (publish_sender_of e.end from name o) from to signal).says
     ≡ signaled from to signal ∷ (if is_some o then [] else published from name ∷ [])
 send_words e from to name signal b met (Some a) is =
     told_words (end_saying e.end []) from to signal a b is met
@@ -173,7 +172,7 @@ send_words e from to name signal b met None is =
     { noted = without_note e.end.noted name }) from name o).says) is)
 
 send_notes : (s : RlnhTables) (from to : Inc) (name : List ℕ) (signal : SigNote) (o : Option ℕ)
-    → (signal_of (publish_sender_of s from name o) from to signal).tables.noted
+    → (then_signals (publish_sender_of s from name o) from to signal).tables.noted
     ≡ (if is_some o then s.noted else without_note s.noted name)
 send_notes s from to name signal (Some a) = refl
 send_notes s from to name signal None = by_address (address_of s.own from)
@@ -188,12 +187,12 @@ pub send_says : (t : TrunkState) (k : KeepsTrunk t) (from : Inc) (name : List �
     (signal : SigNote) → t.first.kept.now.peer ≢ None
     → is_live to (map heard_as t.first.kept.now.given) ≡ true
     → NearSays t (near_said t (send_of t.first.end.tables from name to signal))
-    (sending from name to signal t.first.kept)
+    (says_sending from name to signal t.first.kept)
     (notes_sending from name t.first.kept t.first.end.tables.noted)
 send_says t k from name to signal up is =
     let s = t.first.end.tables in
     let found = is_found t k to is in
-    says_told t k (send_of s from name to signal) (sending from name to signal t.first.kept)
+    says_told t k (send_of s from name to signal) (says_sending from name to signal t.first.kept)
     (notes_sending from name t.first.kept s.noted) up
     (subst (λ (x : RlnhTables). saids (send_of x from name to signal).says
     ≡ signaled from to signal ∷ (if is_some (address_of x.own from) then []

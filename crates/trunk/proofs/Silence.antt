@@ -44,7 +44,7 @@ use Rattle.rlnh_end.specs.declared.up.Up.{Up}
 use Rattle.rlnh_end.specs.declared.up.Up.TheVariants as ups
 use Rattle.rlnh_end.specs.Calls.{Saying, after, begin_of}
 use Rattle.rlnh_end.specs.Hearing.{hears}
-use Rattle.rlnh_end.specs.Reactions.{input_of as rlnh_input_of}
+use Rattle.rlnh_end.specs.Reactions.{rlnh_input_of}
 use Rattle.rlnh_end.specs.States.{RlnhTables}
 use Rattle.trunk.specs.Events.{TrunkState, delivered, lost_from, near_beat, near_delivered}
 use Rattle.trunk.specs.Events.{near_offers, swapped_from, near_said, near_says, near_ticked}
@@ -374,7 +374,7 @@ silence_tells =
     tick Second t = near_tick_ticks (turned t)
 
     tick_down : (side : Side) (t : TrunkState) (session : Session)
-        → links.told_by side t.link ≡ ticked.WentDown session → 2 ≤ silent_of side t
+        → links.link_told_by side t.link ≡ ticked.WentDown session → 2 ≤ silent_of side t
     tick_down First t session is = near_tick_down t.link session is
     tick_down Second t session is = near_tick_down (links.turned t.link) session is
 

@@ -20,7 +20,7 @@ use Rattle.link_addresses.proofs.Indexing.{address_found}
 use Rattle.link_addresses.proofs.Lists.{changes_at, closing_taken, live_taken}
 use Rattle.rlnh_messages.specs.Messages.{IsAddress}
 use Rattle.rlnh_messages.specs.Signals.{IsSignal}
-use Rattle.trunk_record.specs.Sayings.{IsInTurn, Said, frees, is_live, published, signaled}
+use Rattle.trunk_record.specs.Sayings.{AreInTurn, Said, frees, is_live, published, signaled}
 use Rattle.trunk_record.specs.Sayings.{unpublished}
 use Rattle.trunk_record.proofs.Sayings.{live-not_unpublished}
 use Rattle.rlnh_end.specs.declared.up.Up.{Up}
@@ -31,7 +31,7 @@ use Rattle.rlnh_end.specs.States.{with_note, without_met, without_note}
 use Rattle.rlnh_end.specs.Words.{Word, hello, hello_back, question, announce, tell, withdraw}
 use Rattle.rlnh_end.specs.Words.{confirm}
 use Rattle.rlnh_end.specs.Calls.{Saying, announced, close_of, closed, publish_sender_of, opened_of}
-use Rattle.rlnh_end.specs.Calls.{publish_of, query_of, saying, send_of, signal_of, told}
+use Rattle.rlnh_end.specs.Calls.{end_saying, publish_of, query_of, send_of, then_signals, told}
 use Rattle.rlnh_end.specs.Hearing.{Hearing, heard_ack, heard_signal, heard_unpublish, hears, only}
 use Rattle.rlnh_laws.specs.Meanings.{Understands, given_for, heard_of, said_by, saids}
 use Rattle.rlnh_laws.specs.Ties.{Alone, AreApart, Talk}
@@ -39,7 +39,7 @@ use Rattle.rlnh_laws.specs.Talks.{Right, heard_word, said_more}
 use Rattle.rlnh_laws.proofs.Meeting.{met_both, option_cases, with_other, without_here}
 use Rattle.rlnh_laws.proofs.Meeting.{without_other}
 use Rattle.rlnh_laws.proofs.Speaking.{lowest_changes, saids-append}
-use Rattle.trunk.specs.Talks.{FitsTables, FitsWord, IsSound, MeetsLive, fresh_talk}
+use Rattle.trunk.specs.Talks.{FitsTables, FitsWord, IsSoundSession, MeetsLive, fresh_talk}
 use Rattle.trunk.proofs.Meeting.{meets_less, meets_more, meets_none, none_some}
 
 -- ---- addresses that fit
@@ -129,7 +129,7 @@ publish_sound t i v fits few inc name = by_address (address_of t.own i)
           met = refl;
         }
 
-says_nothing : (t : RlnhTables) → FitsTables t → SaysSoundly t (saying t [])
+says_nothing : (t : RlnhTables) → FitsTables t → SaysSoundly t (end_saying t [])
 says_nothing t fits = record { says = tt; tables = fits; met = refl }
 
 pub opened_sound : (t : RlnhTables) (i : Inc) (v : List ℕ) → FitsTables t
@@ -137,7 +137,7 @@ pub opened_sound : (t : RlnhTables) (i : Inc) (v : List ℕ) → FitsTables t
     → SaysSoundly t (opened_of t i v)
 opened_sound t i v fits few inc name =
     elim (is_noted t.noted v)
-    as (λ k. SaysSoundly t (if k then publish_of t i v else saying t []))
+    as (λ k. SaysSoundly t (if k then publish_of t i v else end_saying t []))
     [ true ↦ publish_sound t i v fits few inc name | false ↦ says_nothing t fits ]
 
 pub query_sound : (t : RlnhTables) (v : List ℕ) → FitsTables t → IsTrue (is_name v)
@@ -168,7 +168,7 @@ close_sound t i fits = by_address (address_of t.own i) refl
 
 -- a signal behind what was said
 tell_sound : (t : RlnhTables) (made : Saying) (i j : Inc) (note : SigNote) → SaysSoundly t made
-    → AreApart t.met → IsSignal note → SaysSoundly t (signal_of made i j note)
+    → AreApart t.met → IsSignal note → SaysSoundly t (then_signals made i j note)
 tell_sound t made i j note s apart is =
     record {
       says = all_words made.says
@@ -200,8 +200,8 @@ send_sound t i j v note fits apart few inc name is =
     by_address None = publish_sound t i v fits few inc name
 
 -- a session that says so is sound
-pub said_sound : (e : Talk) (made : Saying) → IsSound e → SaysSoundly e.end made
-    → IsSound (said_more e made)
+pub said_sound : (e : Talk) (made : Saying) → IsSoundSession e → SaysSoundly e.end made
+    → IsSoundSession (said_more e made)
 said_sound e made s m =
     record {
       words = all_words e.words made.says s.words m.says;
@@ -219,7 +219,7 @@ no_live (suc k) i e = absurd cc
 pub fits_none : FitsTables no_tables
 fits_none = record { own = λ a i e. absurd (no_live a i e); met = λ a i e. absurd cc }
 
-pub fresh_sound : (x : Session) → IsSound (fresh_talk x)
+pub fresh_sound : (x : Session) → IsSoundSession (fresh_talk x)
 fresh_sound x =
     record { words = tt; tables = fits_none; meets = meets_none; in_turn = tt }
 
@@ -365,7 +365,7 @@ hears_word t heard (confirm a) fits meets apart is u =
 -- what is given for a word comes in turn
 turns : (f : Talk) (w : Word) (u : Up) → Alone f → Understands w u
     → ((x y : Inc) (note : SigNote) → u ≡ Arrived x y note → is_live y (saids f.words) ≡ true)
-    → IsInTurn f.given → IsInTurn (given_for w u ++ f.given)
+    → AreInTurn f.given → AreInTurn (given_for w u ++ f.given)
 turns f hello u k is lives turn = turn
 turns f hello_back u k is lives turn = turn
 turns f (question v) u k is lives turn = turn
@@ -386,8 +386,8 @@ turns f (withdraw a i) u k is lives turn = turn
 turns f (confirm a) u k is lives turn = turn
 
 -- a session that heard a word is sound
-pub heard_sound : (e f : Talk) (w : Word) → IsSound f → Alone f → FitsWord w
-    → Right e f w (hears f.end (heard_of w)) → IsSound (heard_word f w)
+pub heard_sound : (e f : Talk) (w : Word) → IsSoundSession f → Alone f → FitsWord w
+    → Right e f w (hears f.end (heard_of w)) → IsSoundSession (heard_word f w)
 heard_sound e f w s k is right =
     let r = hears f.end (heard_of w) in
     let h = hears_word f.end (saids f.heard) w s.tables s.meets k.apart is right.understands in

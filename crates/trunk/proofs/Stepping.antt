@@ -29,13 +29,13 @@ use Rattle.rlnh_laws.specs.Meanings.{given_for, heard_of, saids}
 use Rattle.rlnh_laws.specs.Ties.{Talk}
 use Rattle.rlnh_laws.specs.Talks.{Grows, Right, heard_word, said_more}
 use Rattle.rlnh_laws.proofs.Speaking.{saids-append}
-use Rattle.trunk.specs.Events.{IsReading, TrunkSide, TrunkState, given_of, giving_all, near_down}
-use Rattle.trunk.specs.Events.{near_heard, near_offers, near_pumped, near_said, near_says}
-use Rattle.trunk.specs.Events.{near_took, near_up, with_link}
+use Rattle.trunk.specs.Events.{IsReading, TrunkSide, TrunkState, given_for_heard, giving_all}
+use Rattle.trunk.specs.Events.{near_down, near_heard, near_offers, near_pumped, near_said}
+use Rattle.trunk.specs.Events.{near_says, near_took, near_up, with_link}
 use Rattle.trunk.specs.Keeping.{AllMirror, KeepsSide, KeepsTrunk, messages_of}
-use Rattle.trunk.specs.Talks.{KeepBothTalks, FitsWord, KeepsTalks, IsSound, MeetsLive, Talks}
-use Rattle.trunk.specs.Talks.{all_talks, is_peer}
-use Rattle.trunk.specs.Talks.{next_talks, partner, record_of, side_record, up_with, with_now}
+use Rattle.trunk.specs.Talks.{KeepBothTalks, FitsWord, KeepsTalks, IsSoundSession, MeetsLive, Talks}
+use Rattle.trunk.specs.Talks.{all_talks, is_peer, next_talks, partner, record_of, side_record}
+use Rattle.trunk.specs.Talks.{up_with, with_now}
 use Rattle.trunk.proofs.Growing.{both_hears, both_says, next_right}
 use Rattle.trunk.proofs.Meeting.{meets_none}
 use Rattle.trunk.proofs.Mirroring.{got_word, messages-append}
@@ -68,7 +68,7 @@ far_side s h A B C k half =
 -- a half of a link to which the words are still to be offered, and the talk that it comes to
 pub record ComesTo (c : HalfState) (A B : Talks) (g : Talk) (says : List Word) : Type 0 where
   pub both : KeepBothTalks (with_now A g) B
-  pub sound : IsSound g
+  pub sound : IsSoundSession g
   pub fits : AllByRecursion FitsWord says
   pub number : c.end.talk.mine ≡ g.number
   pub peer : peer_of c.end ≡ g.peer
@@ -257,7 +257,7 @@ said_fits (x ∷ xs) ys [] w e fits = absurd cc
 said_fits (x ∷ xs) ys (z ∷ zs) w e fits =
     said_fits xs ys zs w (let t : zs ≡ xs ++ w ∷ ys = cc in t) fits.1
 
-partner_fits : (e : Talk) (fs : List Talk) → AllByRecursion IsSound fs
+partner_fits : (e : Talk) (fs : List Talk) → AllByRecursion IsSoundSession fs
     → AllByRecursion FitsWord (partner e fs).words
 partner_fits e [] sound = tt
 partner_fits e (f ∷ fs) sound =
@@ -276,7 +276,7 @@ pub record Comes (t : TrunkState) (k : KeepsTrunk t) (m : Message) : Type 0 wher
   pub right : Right (partner k.near.now (all_talks k.far)) k.near.now word
       (hears k.near.now.end (heard_of word))
   pub given : given_for word
-      (hears k.near.now.end (heard_of word)).up ≡ given_of k.near.now.end (heard_of word)
+      (hears k.near.now.end (heard_of word)).up ≡ given_for_heard k.near.now.end (heard_of word)
 
 -- the front of what its peer offered
 front_now : (t : TrunkState) (v : LinkState) (m : Message) → KeepsLink v
@@ -336,10 +336,10 @@ heard_keeps t k v m heard kv same h read =
     saids-append A.now.words r.made.says
     ∙ ap (λ s. s ++ saids A.now.words) (reply_silent A.now.end (heard_of w)) in
     let goes : KeepsTrunk (near_pumped (with_link t v) (after t.first.end r.made)
-    (giving_all (given_of A.now.end (heard_of w)) t.first.kept)) =
+    (giving_all (given_for_heard A.now.end (heard_of w)) t.first.kept)) =
     pumped_keeps t k v (after t.first.end r.made)
-    (giving_all (given_of A.now.end (heard_of w)) t.first.kept) (heard_word A.now w) r.made.says
-    kv same (subst (λ p. IsSome p) (sym h.stays.peer) up)
+    (giving_all (given_for_heard A.now.end (heard_of w)) t.first.kept) (heard_word A.now w)
+    r.made.says kv same (subst (λ p. IsSome p) (sym h.stays.peer) up)
     (record {
       both = both_hears A k.far w c.later (both_of t k)
           (some_peer (peer_of t.link.first.end) A.now.peer mirror.peer up) c.next;
@@ -360,18 +360,18 @@ heard_keeps t k v m heard kv same h read =
       out = out_words t.first.end.out r.made.says
           ∙ ap (λ ms. ms ++ messages_of r.made.says) k.first.out;
     })
-    (ap (λ x. giving_all (given_of A.now.end (heard_of w)) x) k.first.kept
+    (ap (λ x. giving_all (given_for_heard A.now.end (heard_of w)) x) k.first.kept
     ∙ ap (λ s. with_present A A.now.peer s
-    (given_of A.now.end (heard_of w) ++ A.now.given)) (sym silent)
+    (given_for_heard A.now.end (heard_of w) ++ A.now.given)) (sym silent)
     ∙ ap (λ g. with_present A A.now.peer (saids (A.now.words ++ r.made.says)) (g ++ A.now.given))
     (sym c.given))
     in
     subst (λ (x : RlnhTables). KeepsTrunk (near_pumped (with_link t v)
-    (after t.first.end (hears x heard).made) (giving_all (given_of x heard) t.first.kept)))
+    (after t.first.end (hears x heard).made) (giving_all (given_for_heard x heard) t.first.kept)))
     (sym k.first.tables)
     (subst (λ x. KeepsTrunk (near_pumped (with_link t v)
     (after t.first.end (hears A.now.end x).made)
-    (giving_all (given_of A.now.end x) t.first.kept)))
+    (giving_all (given_for_heard A.now.end x) t.first.kept)))
     (sym (c.read heard read)) goes)
 
 -- ---- it stays in its session

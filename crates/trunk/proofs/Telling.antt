@@ -35,7 +35,7 @@ use Rattle.rlnh_end.specs.declared.up.Up.TheVariants as ups
 use Rattle.rlnh_end.specs.States.{RlnhTables}
 use Rattle.rlnh_end.specs.Hearing.{IsRead, hears}
 use Rattle.rlnh_laws.specs.Meanings.{given_for, heard_of}
-use Rattle.trunk.specs.Events.{IsReading, TrunkState, given_of, giving_all, near_beat}
+use Rattle.trunk.specs.Events.{IsReading, TrunkState, given_for_heard, giving_all, near_beat}
 use Rattle.trunk.specs.Events.{near_delivered, near_down, near_heard, near_ticked, near_took}
 use Rattle.trunk.specs.Events.{near_up, told_of, told_up, with_link}
 use Rattle.trunk.specs.Keeping.{KeepsTrunk}
@@ -146,9 +146,9 @@ heard_tells t k v m heard kv same h read =
     let u = (hears k.near.now.end (heard_of w)).up in
     let half = near_half (near_heard (with_link t v) heard)
     (heard_keeps t k v m heard kv same h read) in
-    let given : given_of t.first.end.tables heard ≡ given_for w u =
-    ap (λ x. given_of x heard) k.first.tables
-    ∙ ap (λ x. given_of k.near.now.end x) (c.read heard read)
+    let given : given_for_heard t.first.end.tables heard ≡ given_for w u =
+    ap (λ x. given_for_heard x heard) k.first.tables
+    ∙ ap (λ x. given_for_heard k.near.now.end x) (c.read heard read)
     ∙ sym c.given in
     let is : (hears t.first.end.tables heard).up ≡ u =
     ap (λ (x : RlnhTables). (hears x heard).up) k.first.tables

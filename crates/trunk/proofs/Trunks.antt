@@ -40,10 +40,10 @@ use Rattle.trunk.specs.Events.{side_of, ticked_at, told_by, turned, with_link}
 use Rattle.trunk.specs.Keeping.{KeepsTrunk}
 use Rattle.trunk.specs.Laws.{IsOffered, IsUnderstood, MessagesUnderstood, SideAgrees, SidesAgree}
 use Rattle.trunk.specs.Laws.{SidesOffer}
-use Rattle.trunk.specs.Promises.{IsPeerHeld, PeersRise, Promises, SidePromises}
+use Rattle.trunk.specs.Promises.{IsPeerHeld, PeersRise, SidePromises, TrunkPromises}
 use Rattle.trunk.specs.Talks.{side_record, FitsWord}
-use Rattle.trunk.specs.Tells.{CallsTell, DownForLater, EventsTell, PacketsTell, Says, TellsNotes}
-use Rattle.trunk.specs.Tells.{TellsSide, TurnsTell, noted_of, up_of_tick}
+use Rattle.trunk.specs.Tells.{CallsTell, DownForLater, EventsTell, PacketsTell, SideSays}
+use Rattle.trunk.specs.Tells.{TellsNotes, TellsSide, TurnsTell, noted_of, up_of_tick}
 use Rattle.trunk.proofs.Calling.{calls_offer}
 use Rattle.trunk.proofs.Events.{near_tells, seen_keeps, turned_keeps}
 use Rattle.trunk.proofs.Meeting.{is_met}
@@ -86,7 +86,7 @@ side_promises t k =
           (side_peers_rise t.link.first k.near k.first.mirrors p.peers_rise);
     }
 
-pub promises : (t : TrunkState) → KeepsTrunk t → Promises t
+pub promises : (t : TrunkState) → KeepsTrunk t → TrunkPromises t
 promises t k =
     record { first = side_promises t k; second = side_promises (turned t) (turned_keeps t k) }
 
@@ -250,13 +250,13 @@ turns_tell =
   where
     tick : (side : Side) (t : TrunkState) → KeepsTrunk t
         → TellsSide (kept_of side t) (kept_of side (ticked_at side t))
-        (kept_of (other_of side) t) (up_of_tick (links.told_by side t.link))
+        (kept_of (other_of side) t) (up_of_tick (links.link_told_by side t.link))
     tick First t k = near_tick_tells t k
     tick Second t k = near_tick_tells (turned t) (turned_keeps t k)
 
     tick_notes : (side : Side) (t : TrunkState)
         → TellsNotes (noted_of side t) (noted_of side (ticked_at side t))
-        (up_of_tick (links.told_by side t.link))
+        (up_of_tick (links.link_told_by side t.link))
     tick_notes First t = near_ticked_notes t
     tick_notes Second t = near_ticked_notes (turned t)
 
@@ -290,7 +290,7 @@ turns_tell =
 
 -- what the first side says, seen from either
 says_at : (side : Side) (t u : TrunkState) (said : List Said) (noted : List (List ℕ))
-    → NearSays (seen_from side t) u said noted → Says side t (seen_from side u) said noted
+    → NearSays (seen_from side t) u said noted → SideSays side t (seen_from side u) said noted
 says_at First t u said noted n = record { kept = n.kept; notes = n.notes }
 says_at Second t u said noted n = record { kept = n.kept; notes = n.notes }
 

@@ -30,7 +30,7 @@ use Rattle.rlnh_end.specs.States.{RlnhState, RlnhTables, emptied, new_end}
 use Rattle.rlnh_end.specs.Calls.{Saying, after, begin_of, close_of, opened_of, publish_of, query_of}
 use Rattle.rlnh_end.specs.Calls.{send_of}
 use Rattle.rlnh_end.specs.Hearing.{IsRead, hears}
-use Rattle.rlnh_end.specs.Reactions.{input_of}
+use Rattle.rlnh_end.specs.Reactions.{rlnh_input_of}
 use Rattle.rlnh_laws.specs.Meanings.{saids}
 use Rattle.trunk.specs.declared.up.TrunkUp.{TrunkUp}
 use Rattle.ethcm_window.specs.Sending.{left_of}
@@ -108,8 +108,8 @@ given_up (ups.Asked name) = asked_for name ∷ []
 given_up ups.Bad = []
 
 -- for what is heard where the tables are these
-abbrev pub given_of : RlnhTables → Heard → List Given
-given_of t heard = given_up (hears t heard).up
+abbrev pub given_for_heard : RlnhTables → Heard → List Given
+given_for_heard t heard = given_up (hears t heard).up
 
 -- a side that was given these, the newest first
 abbrev pub giving_all : List Given → SideRecord → SideRecord
@@ -129,8 +129,8 @@ near_down t x =
 -- a message of this reading came to its RLNH end
 abbrev pub near_heard : TrunkState → Heard → TrunkState
 near_heard t heard =
-    near_pumped t (input_of t.first.end heard).state
-    (giving_all (given_of t.first.end.tables heard) t.first.kept)
+    near_pumped t (rlnh_input_of t.first.end heard).state
+    (giving_all (given_for_heard t.first.end.tables heard) t.first.kept)
 
 -- this was handed up by the link, with this reading
 abbrev pub near_took : TrunkState → Heard → Handed → TrunkState

@@ -9,7 +9,7 @@ use Rattle.carrier.specs.Keeping.{KeepsLink}
 use Rattle.rlnh_end.specs.Words.{Word, message_of}
 use Rattle.rlnh_laws.specs.Ties.{Talk}
 use Rattle.trunk.specs.Events.{TrunkSide, TrunkState}
-use Rattle.trunk.specs.Talks.{KeepsTalks, IsSound, Talks, all_talks, side_record}
+use Rattle.trunk.specs.Talks.{KeepsTalks, IsSoundSession, Talks, all_talks, side_record}
 
 -- the messages by which words go
 abbrev pub messages_of : List Word → List Message
@@ -32,7 +32,7 @@ AllMirror (e ∷ es) (t ∷ ts) = Mirrors e t × AllMirror es ts
 -- one side of a trunk over its half of the link, in these words, beside the words of the other side
 pub record KeepsSide (s : TrunkSide) (h : HalfState) (A B : Talks) : Type 0 where
   pub half : KeepsTalks A B
-  pub sound : AllByRecursion IsSound (all_talks A)
+  pub sound : AllByRecursion IsSoundSession (all_talks A)
   pub mirrors : AllMirror (entries h) (all_talks A)
   -- the RLNH end is that of the present session, and all that it had to say went out
   pub tables : s.end.tables ≡ A.now.end

@@ -12,10 +12,10 @@ use Rattle.trunk_record.specs.Changes as changes
 use Rattle.rlnh_end.specs.declared.heard.Heard.{Heard}
 use Rattle.rlnh_end.specs.States.{emptied}
 use Rattle.rlnh_end.specs.Calls.{Saying, after, begin_of}
-use Rattle.rlnh_end.specs.Reactions.{input_of}
+use Rattle.rlnh_end.specs.Reactions.{rlnh_input_of}
 use Rattle.rlnh_laws.specs.Meanings.{saids}
-use Rattle.trunk.specs.Events.{TrunkSide, TrunkState, giving_all, given_of, near_offers, seen_from}
-use Rattle.trunk.specs.Events.{taken_out}
+use Rattle.trunk.specs.Events.{TrunkSide, TrunkState, giving_all, given_for_heard, near_offers}
+use Rattle.trunk.specs.Events.{seen_from, taken_out}
 
 -- ---- a side above its link
 
@@ -36,8 +36,8 @@ side_ends s x = record { end = emptied s.end; kept = beginning x s.kept }
 abbrev pub side_hears : TrunkSide → Heard → TrunkSide
 side_hears s heard =
     record {
-      end = (input_of s.end heard).state;
-      kept = giving_all (given_of s.end.tables heard) s.kept;
+      end = (rlnh_input_of s.end heard).state;
+      kept = giving_all (given_for_heard s.end.tables heard) s.kept;
     }
 
 -- ---- a trunk

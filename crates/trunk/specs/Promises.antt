@@ -106,6 +106,6 @@ pub record SidePromises (A B : SideRecord) : Type 0 where
 -- ---- what is promised of a trunk
 
 -- of both sides
-pub record Promises (t : TrunkState) : Type 0 where
+pub record TrunkPromises (t : TrunkState) : Type 0 where
   pub first : SidePromises t.first.kept t.second.kept
   pub second : SidePromises t.second.kept t.first.kept

@@ -10,11 +10,11 @@ use Rattle.link_addresses.specs.Meanings.{meaning_of}
 use Rattle.rlnh_messages.specs.Messages.{IsAddress}
 use Rattle.carrier.specs.Records.{names}
 use Rattle.trunk_record.specs.Records.{SessionRecord, SideRecord}
-use Rattle.trunk_record.specs.Sayings.{IsInTurn, Said, is_live}
+use Rattle.trunk_record.specs.Sayings.{AreInTurn, Said, is_live}
 use Rattle.rlnh_end.specs.declared.met_at.MetAt.{MetAt}
 use Rattle.rlnh_end.specs.States.{RlnhTables, inc_met, no_tables}
 use Rattle.rlnh_end.specs.Words.{Word}
-use Rattle.rlnh_laws.specs.Meanings.{FitsMessage, heard_of, saids}
+use Rattle.rlnh_laws.specs.Meanings.{FitsHeard, heard_of, saids}
 use Rattle.rlnh_laws.specs.Ties.{Alone, Pair, Talk}
 
 -- ---- the sessions of a side
@@ -113,11 +113,11 @@ pub record MeetsLive (met : List MetAt) (heard : List Said) : Type 0 where
 
 -- the numbers of a word fit their fields, and its name is a name
 abbrev pub FitsWord : Word → Type 0
-FitsWord w = FitsMessage (heard_of w)
+FitsWord w = FitsHeard (heard_of w)
 
 -- what was said fits, the tables fit what was heard, and what was given came in turn
-pub record IsSound (e : Talk) : Type 0 where
+pub record IsSoundSession (e : Talk) : Type 0 where
   pub words : AllByRecursion FitsWord e.words
   pub tables : FitsTables e.end
   pub meets : MeetsLive e.end.met (saids e.heard)
-  pub in_turn : IsInTurn e.given
+  pub in_turn : AreInTurn e.given

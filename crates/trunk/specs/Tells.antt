@@ -8,13 +8,13 @@ use Rattle.linx_base.specs.declared.identity.Inc.{Inc}
 use Rattle.linx_base.specs.declared.identity.Session.{Session}
 use Rattle.linx_base.specs.declared.identity.Side.{Side}
 use Rattle.linx_base.specs.declared.signal.SigNote.{SigNote}
-use Rattle.carrier.specs.Events.{half_of, handed_by, told_by as link_told_by}
+use Rattle.carrier.specs.Events.{half_of, handed_by, link_told_by}
 use Rattle.carrier.specs.declared.handed.TickedSide.{TickedSide}
 use Rattle.carrier.specs.declared.handed.TickedSide.TheVariants as ticked
 use Rattle.trunk_record.specs.Records.{SideRecord, all, has_session, peer_in, said_in}
 use Rattle.trunk_record.specs.Sayings.{Given, Said, arrived, asked, asked_for, freed, gone}
 use Rattle.trunk_record.specs.Sayings.{heard_as, is_live, met, published, unpublished}
-use Rattle.trunk_record.specs.Changes.{beginning, giving, going_up, saying, sending}
+use Rattle.trunk_record.specs.Changes.{beginning, giving, going_up, saying, says_sending}
 use Rattle.trunk_record.specs.Trunks.{FitsReceiver, IsBelow}
 use Rattle.rlnh_end.specs.declared.heard.Heard.{Heard}
 use Rattle.rlnh_end.specs.Calls.{Saying}
@@ -100,12 +100,12 @@ abbrev pub publishing : Inc → List ℕ → SideRecord → List Said
 publishing inc name A = if is_live inc A.now.said then [] else published inc name ∷ []
 
 -- one that opened is, where its name is noted
-abbrev pub opening : Inc → List ℕ → List (List ℕ) → SideRecord → List Said
-opening inc name noted A = if is_noted noted name then publishing inc name A else []
+abbrev pub says_opening : Inc → List ℕ → List (List ℕ) → SideRecord → List Said
+says_opening inc name noted A = if is_noted noted name then publishing inc name A else []
 
 -- one that closes is unpublished where it is live
-abbrev pub closing : Inc → SideRecord → List Said
-closing inc A = if is_live inc A.now.said then unpublished inc ∷ [] else []
+abbrev pub says_closing : Inc → SideRecord → List Said
+says_closing inc A = if is_live inc A.now.said then unpublished inc ∷ [] else []
 
 -- the notes once an incarnation was published before its first signal
 abbrev pub notes_sending : Inc → List ℕ → SideRecord → List (List ℕ) → List (List ℕ)
@@ -121,7 +121,7 @@ abbrev pub noted_of : Side → TrunkState → List (List ℕ)
 noted_of side t = (tables_of side t).noted
 
 -- a call at a side that is up says this, and leaves these notes
-pub record Says (side : Side) (t u : TrunkState) (said : List Said) (noted : List (List ℕ))
+pub record SideSays (side : Side) (t u : TrunkState) (said : List Said) (noted : List (List ℕ))
     : Type 0 where
   pub kept : kept_of side u ≡ saying said (kept_of side t)
   pub notes : noted_of side u ≡ noted
@@ -193,28 +193,28 @@ pub record CallsTell : Type 0 where
   pub published :
       (side : Side) (inc : Inc) (name : List ℕ) (t : TrunkState) → KeepsTrunk t
       → (kept_of side t).now.peer ≢ None
-      → Says side t (published_at side inc name t) (publishing inc name (kept_of side t))
+      → SideSays side t (published_at side inc name t) (publishing inc name (kept_of side t))
       (without_note (noted_of side t) name)
   pub opened :
       (side : Side) (inc : Inc) (name : List ℕ) (t : TrunkState) → KeepsTrunk t
       → (kept_of side t).now.peer ≢ None
-      → Says side t (opened_at side inc name t)
-      (opening inc name (noted_of side t) (kept_of side t))
+      → SideSays side t (opened_at side inc name t)
+      (says_opening inc name (noted_of side t) (kept_of side t))
       (notes_opening name (noted_of side t))
   pub closed :
       (side : Side) (inc : Inc) (t : TrunkState) → KeepsTrunk t
       → (kept_of side t).now.peer ≢ None
-      → Says side t (closed_at side inc t) (closing inc (kept_of side t)) (noted_of side t)
+      → SideSays side t (closed_at side inc t) (says_closing inc (kept_of side t)) (noted_of side t)
   pub asked :
       (side : Side) (name : List ℕ) (t : TrunkState) → KeepsTrunk t
       → (kept_of side t).now.peer ≢ None
-      → Says side t (asked_at side name t) (asked name ∷ []) (noted_of side t)
+      → SideSays side t (asked_at side name t) (asked name ∷ []) (noted_of side t)
   pub sent :
       (side : Side) (from : Inc) (name : List ℕ) (to : Inc) (signal : SigNote) (t : TrunkState)
       → KeepsTrunk t → (kept_of side t).now.peer ≢ None
       → is_live to (map heard_as (kept_of side t).now.given) ≡ true
-      → Says side t (sent_at side from name to signal t)
-      (sending from name to signal (kept_of side t))
+      → SideSays side t (sent_at side from name to signal t)
+      (says_sending from name to signal (kept_of side t))
       (notes_sending from name (kept_of side t) (noted_of side t))
 
 -- the ticks of a side since it heard its peer

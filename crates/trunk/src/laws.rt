@@ -8,7 +8,7 @@ ghost use Rattle.trunk.specs.Events.{TrunkState};
 ghost use Rattle.trunk.specs.Keeping.{KeepsTrunk};
 ghost use Rattle.trunk.specs.Laws.{EndsAgree, EventsKeep, MessagesUnderstood, SidesAgree};
 ghost use Rattle.trunk.specs.Laws.{SidesOffer};
-ghost use Rattle.trunk.specs.Promises.{Promises};
+ghost use Rattle.trunk.specs.Promises.{TrunkPromises};
 ghost use Rattle.trunk.specs.Tells.{EventsTell};
 
 /// What holds of every trunk holds at its beginning, and after each event: a packet that comes,
@@ -46,7 +46,7 @@ pub fn trunks_keep_records()
 /// published once, and its unpublishing is the last word of it; a peer goes after all its signals,
 /// lives where it was met and hasn't gone, and was published in the other side's session.
 pub fn trunks_keep_promises()
-    ensures { (t : TrunkState) → KeepsTrunk t → Promises t }
+    ensures { (t : TrunkState) → KeepsTrunk t → TrunkPromises t }
 {}
 
 /// And where the link is quiet, both sides are up with each other, and all that was said was given.

@@ -10,7 +10,7 @@ ghost use Rattle.ethcm_end.specs.Sound.{IsPiece};
 ghost use Rattle.ethcm_end.specs.States.{peer_of};
 ghost use Rattle.carrier.specs.Events.{flight_from, half_of, handed_by, is_quiet, HasNextAt};
 ghost use Rattle.carrier.specs.Events.{delivered as links_delivered, ticked_at as links_ticked};
-ghost use Rattle.carrier.specs.Events.{restarted_at as links_restarted, told_by as link_told_by};
+ghost use Rattle.carrier.specs.Events.{link_told_by, restarted_at as links_restarted};
 ghost use Rattle.carrier.specs.Laws.{TellsRightly, handed_of};
 ghost use Rattle.rlnh_end.specs.declared.heard.Heard.{Heard as AnyHeard};
 ghost use Rattle.rlnh_end.specs.Calls.{close_of, opened_of, publish_of, query_of, send_of};

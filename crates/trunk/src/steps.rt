@@ -3,8 +3,7 @@ ghost use Rattle.std.specs.Prelude.{◌≡◌, ◌<◌, length, IfOk, OnOk, IsTr
 ghost use Rattle.linx_base.specs.NameText.{is_name};
 ghost use Rattle.linx_base.specs.Numbers.{boot_of};
 ghost use Rattle.linx_base.specs.Sides.{other_of};
-ghost use Rattle.carrier.specs.Events.{flight_from, half_of, handed_by, told_by as link_told_by};
-ghost use Rattle.carrier.specs.Events.{HasNextAt};
+ghost use Rattle.carrier.specs.Events.{HasNextAt, flight_from, half_of, handed_by, link_told_by};
 ghost use Rattle.rlnh_end.specs.declared.heard.Heard.{Heard as AnyHeard};
 ghost use Rattle.trunk.specs.Events.{IsReading, asked_at, closed_at, delivered, opened_at};
 ghost use Rattle.trunk.specs.Events.{published_at, restarted_at, sent_at, side_of, ticked_at};

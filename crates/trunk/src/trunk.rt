@@ -9,8 +9,8 @@ ghost use Rattle.ethcm_window.specs.Sending.{left_of};
 ghost use Rattle.ethcm_end.specs.Sound.{IsPiece};
 ghost use Rattle.ethcm_end.specs.States.{peer_of};
 ghost use Rattle.carrier.specs.Events.{flight_from, half_of, handed_by, is_quiet, HasNextAt};
-ghost use Rattle.carrier.specs.Events.{told_by as link_told_by};
-ghost use Rattle.trunk_record.specs.Changes.{beginning, sending};
+ghost use Rattle.carrier.specs.Events.{link_told_by};
+ghost use Rattle.trunk_record.specs.Changes.{beginning, says_sending};
 ghost use Rattle.trunk_record.specs.Sayings.{asked, heard_as, is_live};
 ghost use Rattle.trunk_record.specs.Trunks.{IsQuiet, IsTrunk};
 ghost use Rattle.rlnh_end.specs.declared.heard.Heard.{Heard as AnyHeard};
@@ -22,10 +22,11 @@ ghost use Rattle.trunk.specs.Events.{HasNumbersLeft};
 ghost use Rattle.trunk.specs.Keeping.{KeepsTrunk};
 ghost use Rattle.trunk.specs.Laws.{MayPublish, MaySend};
 ghost use Rattle.trunk.specs.Parts.{HasOnlyGrownAt};
-ghost use Rattle.trunk.specs.Promises.{Promises};
+ghost use Rattle.trunk.specs.Promises.{TrunkPromises};
 ghost use Rattle.trunk.specs.Publishing.{can_publish};
-ghost use Rattle.trunk.specs.Tells.{DownForLater, Says, TellsNotes, TellsSide, closing, noted_of};
-ghost use Rattle.trunk.specs.Tells.{notes_opening, notes_sending, opening, publishing, up_of_tick};
+ghost use Rattle.trunk.specs.Tells.{DownForLater, SideSays, TellsNotes, TellsSide, noted_of};
+ghost use Rattle.trunk.specs.Tells.{notes_opening, notes_sending, publishing, says_closing};
+ghost use Rattle.trunk.specs.Tells.{says_opening, up_of_tick};
 
 use crate::parts::Parts;
 use crate::steps;
@@ -169,7 +170,8 @@ impl Trunk {
         ensures err { OnErr result (self.new ≡ still self.old.was) }
         // What the side says, and what becomes of its notes.
         ensures says { OnOk result ((kept_of side self.old.is).now.peer ≢ None
-            → Says side self.old.is self.new.is (publishing inc name.now (kept_of side self.old.is))
+            → SideSays side self.old.is self.new.is
+            (publishing inc name.now (kept_of side self.old.is))
             (without_note (noted_of side self.old.is) name.now)) }
         ensures down { OnOk result ((kept_of side self.old.is).now.peer ≡ None
             → self.new.is ≡ self.old.is) }
@@ -195,8 +197,8 @@ impl Trunk {
         ensures err { OnErr result (self.new ≡ still self.old.was) }
         // What the side says, and what becomes of its notes.
         ensures says { OnOk result ((kept_of side self.old.is).now.peer ≢ None
-            → Says side self.old.is self.new.is
-            (opening inc name.now (noted_of side self.old.is) (kept_of side self.old.is))
+            → SideSays side self.old.is self.new.is
+            (says_opening inc name.now (noted_of side self.old.is) (kept_of side self.old.is))
             (notes_opening name.now (noted_of side self.old.is))) }
         ensures down { OnOk result ((kept_of side self.old.is).now.peer ≡ None
             → self.new.is ≡ self.old.is) }
@@ -221,7 +223,7 @@ impl Trunk {
         ensures err { OnErr result (self.new ≡ still self.old.was) }
         // What the side says, and what becomes of its notes.
         ensures says { OnOk result ((kept_of side self.old.is).now.peer ≢ None
-            → Says side self.old.is self.new.is (closing inc (kept_of side self.old.is))
+            → SideSays side self.old.is self.new.is (says_closing inc (kept_of side self.old.is))
             (noted_of side self.old.is)) }
         ensures down { OnOk result ((kept_of side self.old.is).now.peer ≡ None
             → self.new.is ≡ self.old.is) }
@@ -245,7 +247,7 @@ impl Trunk {
         ensures err { OnErr result (self.new ≡ still self.old.was) }
         // What the side says, and what becomes of its notes.
         ensures says { OnOk result ((kept_of side self.old.is).now.peer ≢ None
-            → Says side self.old.is self.new.is (asked name.now ∷ [])
+            → SideSays side self.old.is self.new.is (asked name.now ∷ [])
             (noted_of side self.old.is)) }
         ensures down { OnOk result ((kept_of side self.old.is).now.peer ≡ None
             → self.new.is ≡ self.old.is) }
@@ -279,8 +281,8 @@ impl Trunk {
         ensures err { OnErr result (self.new ≡ still self.old.was) }
         // What the side says, and what becomes of its notes.
         ensures says { let kept = kept_of side self.old.is in
-            OnOk result (Says side self.old.is self.new.is
-            (sending from name.now to signal.now kept)
+            OnOk result (SideSays side self.old.is self.new.is
+            (says_sending from name.now to signal.now kept)
             (notes_sending from name.now kept (noted_of side self.old.is))) }
         ensures other { OnOk result
             (side_of (other_of side) self.new.is ≡ side_of (other_of side) self.old.is) }
@@ -413,8 +415,8 @@ impl Trunk {
         ensures keeps { KeepsTrunk self.now.is }
         ensures kept { KeepsTrunk self.now.was }
         ensures records { IsTrunk self.now.is.first.kept self.now.is.second.kept }
-        ensures promises { Promises self.now.is }
-        ensures promised { Promises self.now.was }
+        ensures promises { TrunkPromises self.now.is }
+        ensures promised { TrunkPromises self.now.was }
     {
         let _ = &self.parts;
     }

@@ -10,7 +10,7 @@ use Rattle.ethcm_end.specs.declared.answers.Ticked.{Ticked}
 use Rattle.ethcm_end.specs.declared.answers.Ticked.TheVariants as answers
 use Rattle.ethcm_end.specs.States.{EndState, gives}
 use Rattle.ethcm_end.specs.Rules.{beat, lost, tick_in, tick_of}
-use Rattle.carrier.specs.Events.{LinkState, drained, recorded_tick, ticked_as, told_by}
+use Rattle.carrier.specs.Events.{LinkState, drained, link_told_by, recorded_tick, ticked_as}
 use Rattle.carrier.specs.Events as links
 use Rattle.carrier.specs.declared.handed.TickedSide.{TickedSide}
 use Rattle.carrier.specs.declared.handed.TickedSide.TheVariants as ticked
@@ -58,6 +58,6 @@ near_lost t session is =
     ∙ link_lost t.link session is
 
 pub lost_silent : (at : Side) (t : TrunkState) (session : Session)
-    → told_by at t.link ≡ ticked.WentDown session → silent_of at (ticked_at at t) ≡ 0
+    → link_told_by at t.link ≡ ticked.WentDown session → silent_of at (ticked_at at t) ≡ 0
 lost_silent First t session is = near_lost t session is
 lost_silent Second t session is = near_lost (turned t) session is

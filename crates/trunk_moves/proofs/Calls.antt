@@ -16,7 +16,7 @@ use Rattle.linx_base.specs.declared.identity.Side.TheVariants.{First, Second}
 use Rattle.linx_base.specs.declared.signal.SigNote.{SigNote}
 use Rattle.rlnh_end.specs.Calls.{Saying, close_of, opened_of, query_of, send_of}
 use Rattle.rlnh_end.specs.States.{RlnhTables, is_noted, without_note}
-use Rattle.trunk_record.specs.Changes.{saying, sending}
+use Rattle.trunk_record.specs.Changes.{saying, says_sending}
 use Rattle.trunk_record.specs.Records.{SideRecord}
 use Rattle.trunk_record.specs.Sayings.{asked, heard_as, is_live, published, unpublished}
 use Rattle.trunk_record.specs.Trunks.{IsHalf}
@@ -220,7 +220,7 @@ module _ (at : Side) (t : TrunkState) (kept : KeepsTrunk t) where
     abbrev sent : TrunkState
     sent = sent_at at j name b note t
 
-    pub sent_says : kept_of at sent ≡ saying (sending j name b note A) A
+    pub sent_says : kept_of at sent ≡ saying (says_sending j name b note A) A
     sent_says = (events_tell.calls.sent at j name b note t kept up lives).kept
 
     pub sent_notes : KeepsNotes name (state_of at t) (state_of at sent)

@@ -43,7 +43,7 @@ use Rattle.link_laws.specs.Ends.{HasTwoEnds, IsLinkOf, node_at}
 use Rattle.link_laws.specs.Laws.{IsLegal}
 use Rattle.link_laws.specs.Fits.{CanSend}
 use Rattle.link_laws.specs.Linked.{IsLinked}
-use Rattle.link_laws.specs.Runs.{IsRun, IsSound}
+use Rattle.link_laws.specs.Runs.{IsRun, IsSoundRun}
 use Rattle.link_laws.specs.Sessions.{boots, downs, ends_session, own_session, restarts}
 use Rattle.link_laws.proofs.Brings.{published-opened, unpublished-closed}
 use Rattle.link_laws.proofs.Fresh.{opens-new, step-opens}
@@ -70,7 +70,7 @@ pub record IsKnown (shape : Shape) (P : List Step) (trunks : RunTrunks) : Type 0
   pub nodes : NodesFit shape
   pub room : length P < step_limit
   pub run : IsRun shape P (links_of trunks)
-  pub sound : IsSound shape P (links_of trunks)
+  pub sound : IsSoundRun shape P (links_of trunks)
   pub kept : AllKept shape trunks
   pub used : AllUseUpTo shape (length P) trunks
   pub named : AllNamed P

@@ -45,8 +45,8 @@ use Rattle.trunk.specs.Events.{sent_at}
 use Rattle.trunk.specs.Keeping.{KeepsTrunk}
 use Rattle.trunk.specs.Tells.{noted_of, silent_of}
 use Rattle.trunk.proofs.Events.{events_keep}
-use Rattle.trunk_moves.specs.Steps.{AsksThere, Hunts, HuntsName, Sends, SendsThere, ending, opening}
-use Rattle.trunk_moves.specs.Steps.{restarting}
+use Rattle.trunk_moves.specs.Steps.{AsksThere, Hunts, HuntsName, Sends, SendsThere, trunks_ending}
+use Rattle.trunk_moves.specs.Steps.{trunks_opening, trunks_restarting}
 use Rattle.trunk_moves.specs.Trunks.{AllKept, AllUseUpTo, Become, RunTrunks, UsesUpTo, links_of}
 use Rattle.trunk_moves.specs.Trunks.{state_of}
 use Rattle.trunk_moves.proofs.Calls.{left_itself, other_left, restarted_left, sent_notes, sent_says}
@@ -68,8 +68,8 @@ pub record IsMoved (shape : Shape) (P : List Step) (before after : RunTrunks) (n
   pub kept : AllKept shape after
   pub used : AllUseUpTo shape (suc (length P)) after
 
-abbrev pub Keeps : LinkNo → TrunkState → Type 0
-Keeps l t = KeepsTrunk t
+abbrev pub KeepsAt : LinkNo → TrunkState → Type 0
+KeepsAt l t = KeepsTrunk t
 
 abbrev pub Uses : List Step → LinkNo → TrunkState → Type 0
 Uses P l t = UsesUpTo (suc (length P)) t
@@ -78,7 +78,7 @@ module _ (shape : Shape) (P : List Step) (before after : RunTrunks) (known : IsK
   where
     -- trunks that stay are kept
     pub stay_kept : Become shape after before → AllKept shape after
-    stay_kept made = trunks_stay shape before after made Keeps known.kept
+    stay_kept made = trunks_stay shape before after made KeepsAt known.kept
 
     pub uses_before : (l : LinkNo) → IsLinkOf shape l → UsesUpTo (suc (length P)) (before l.0)
     uses_before l of_shape = up_to_more (length P) (before l.0) (known.used l of_shape)
@@ -89,7 +89,7 @@ module _ (shape : Shape) (P : List Step) (before after : RunTrunks) (known : IsK
     -- ---- an opening
 
     module _ (n : ℕ) (name : List ℕ) (bounded : IsBounded (Open name))
-        (made : Become shape after (opening shape n (next_on P n) name before)) where
+        (made : Become shape after (trunks_opening shape n (next_on P n) name before)) where
       abbrev i : Inc
       i = next_on P n
 
@@ -109,7 +109,7 @@ module _ (shape : Shape) (P : List Step) (before after : RunTrunks) (known : IsK
           → IsMoved shape P before after n me (Open name) es
       opening_moved me es = record {
         moves = opens;
-        kept = each_trunk shape known.two n open_act before after made Keeps
+        kept = each_trunk shape known.two n open_act before after made KeepsAt
             (λ l of_shape at on.
             events_keep.opened at i name (before l.0)
             (new_may shape P before known l of_shape at n on name bounded)
@@ -132,7 +132,7 @@ module _ (shape : Shape) (P : List Step) (before after : RunTrunks) (known : IsK
     }
 
     module _ (n : ℕ) (j : Inc)
-        (made : Become shape after (ending shape n (Some j) before)) where
+        (made : Become shape after (trunks_ending shape n (Some j) before)) where
       abbrev close_act : Side → TrunkState → TrunkState
       close_act side = closed_at side j
 
@@ -150,7 +150,7 @@ module _ (shape : Shape) (P : List Step) (before after : RunTrunks) (known : IsK
           l of_shape side refl
 
       pub closed_kept : AllKept shape after
-      closed_kept = each_trunk shape known.two n close_act before after made Keeps
+      closed_kept = each_trunk shape known.two n close_act before after made KeepsAt
           (λ l of_shape at on. events_keep.closed at j (before l.0) (known.kept l of_shape))
           known.kept
 
@@ -159,7 +159,8 @@ module _ (shape : Shape) (P : List Step) (before after : RunTrunks) (known : IsK
           (λ l of_shape at on. closed_uses at j (before l.0) (length P) (known.used l of_shape))
           uses_before
 
-    pub close_moved : (n : ℕ) (me : Option Inc) → Become shape after (ending shape n me before)
+    pub close_moved : (n : ℕ) (me : Option Inc)
+        → Become shape after (trunks_ending shape n me before)
         → (es : List Effect) → IsMoved shape P before after n me Close es
     close_moved n None made es = record {
       moves = all_left shape before after made;
@@ -172,7 +173,8 @@ module _ (shape : Shape) (P : List Step) (before after : RunTrunks) (known : IsK
       used = closed_used n j made;
     }
 
-    pub ended_moved : (n : ℕ) (me : Option Inc) → Become shape after (ending shape n me before)
+    pub ended_moved : (n : ℕ) (me : Option Inc)
+        → Become shape after (trunks_ending shape n me before)
         → (es : List Effect) → IsMoved shape P before after n me Ended es
     ended_moved n None made es = record {
       moves = all_left shape before after made;
@@ -187,7 +189,7 @@ module _ (shape : Shape) (P : List Step) (before after : RunTrunks) (known : IsK
 
     -- ---- a restart
 
-    module _ (n : ℕ) (made : Become shape after (restarting shape P n before)) where
+    module _ (n : ℕ) (made : Become shape after (trunks_restarting shape P n before)) where
       abbrev boot : ℕ
       boot = 2 + boots P n
 
@@ -202,7 +204,7 @@ module _ (shape : Shape) (P : List Step) (before after : RunTrunks) (known : IsK
           (λ l of_shape at off. left_itself at (before l.0))
 
       pub restarted_kept : AllKept shape after
-      restarted_kept = each_trunk shape known.two n restart_act before after made Keeps
+      restarted_kept = each_trunk shape known.two n restart_act before after made KeepsAt
           (λ l of_shape at on.
           events_keep.restarted at boot (before l.0)
           (boots_later shape P before known l of_shape at n on) (known.kept l of_shape)) known.kept
@@ -267,7 +269,7 @@ module _ (shape : Shape) (P : List Step) (before after : RunTrunks) (known : IsK
       }) kept
 
       pub sent_kept : AllKept shape after
-      sent_kept = one_trunk shape before after l sends.of_shape u sends.makes Keeps u_kept
+      sent_kept = one_trunk shape before after l sends.of_shape u sends.makes KeepsAt u_kept
           known.kept
 
       pub sent_used : AllUseUpTo shape (suc (length P)) after
@@ -343,7 +345,7 @@ module _ (shape : Shape) (P : List Step) (before after : RunTrunks) (known : IsK
           }
 
       pub asked_kept : AllKept shape after
-      asked_kept = one_trunk shape before after l asks.of_shape asked asks.makes Keeps
+      asked_kept = one_trunk shape before after l asks.of_shape asked asks.makes KeepsAt
           (events_keep.asked asks.at v (before l.0) named (known.kept l asks.of_shape)) known.kept
 
       pub asked_used : AllUseUpTo shape (suc (length P)) after

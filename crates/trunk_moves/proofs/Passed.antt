@@ -48,7 +48,7 @@ use Rattle.trunk_moves.specs.Steps.{FindsNone, Passes, Rests, Ticks}
 use Rattle.trunk_moves.specs.Trunks.{Become, RunTrunks, UsesUpTo, links_of, state_of, with_trunk}
 use Rattle.trunk_moves.proofs.Calls.{left_itself, left_of, other_left}
 use Rattle.trunk_moves.proofs.Facts.{IsKnown, hunted_named, open_may}
-use Rattle.trunk_moves.proofs.Moved.{IsMoved, Keeps, Uses, stay_kept, stay_used, uses_before}
+use Rattle.trunk_moves.proofs.Moved.{IsMoved, KeepsAt, Uses, stay_kept, stay_used, uses_before}
 use Rattle.trunk_moves.proofs.Sides.{all_left, both_left, is_trunk, one_trunk, others_left}
 use Rattle.trunk_moves.proofs.Told.{found_there, packet_delivers, tick_ticks}
 use Rattle.trunk_moves.proofs.Used.{asked_uses, delivered_uses, published_uses, ticked_uses}
@@ -229,7 +229,7 @@ module _ (shape : Shape) (P : List Step) (before after : RunTrunks) (known : IsK
     (made : Become shape after (with_trunk before l.0 trunk)) where
   -- one trunk that is kept, and uses no more, among others that stay
   one_kept : KeepsTrunk trunk → (h : LinkNo) → IsLinkOf shape h → KeepsTrunk (after h.0)
-  one_kept is = one_trunk shape before after l of_shape trunk made Keeps is known.kept
+  one_kept is = one_trunk shape before after l of_shape trunk made KeepsAt is known.kept
 
   one_used : UsesUpTo (suc (length P)) trunk → (h : LinkNo) → IsLinkOf shape h
       → UsesUpTo (suc (length P)) (after h.0)

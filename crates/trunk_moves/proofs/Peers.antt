@@ -15,7 +15,7 @@ use Rattle.journal.specs.declared.effect.Step.{Step}
 use Rattle.link_laws.specs.Ends.{IsLinkOf, node_at}
 use Rattle.link_laws.specs.Laws.{IsLegal}
 use Rattle.link_laws.specs.Linked.{IsLinked}
-use Rattle.link_laws.specs.Runs.{IsSound}
+use Rattle.link_laws.specs.Runs.{IsSoundRun}
 use Rattle.link_laws.specs.Sessions.{boots}
 use Rattle.link_laws.proofs.Reached.{IsEndOf, run-reached}
 use Rattle.trunk.specs.Events.{kept_of}
@@ -42,7 +42,7 @@ up-is A x is = by_peer A.now.peer refl is
 -- A WHOLE RUN WITH TRUNKS
 module _ (shape : Shape) (P : List Step) (trunks : RunTrunks)
     (whole : IsBoundedTrunkRun shape P trunks) where
-  run-sound : IsSound shape P (links_of trunks)
+  run-sound : IsSoundRun shape P (links_of trunks)
   run-sound = (trunk_runs_keep_all shape P trunks whole).sound
 
   -- is legal

@@ -25,7 +25,7 @@ use Rattle.linx_base.specs.declared.name.Path.TheVariants.{Local, Over}
 use Rattle.linx_base.specs.declared.pending.PendingHunt.{PendingHunt}
 use Rattle.rlnh_end.specs.Calls.{publish_of, query_of}
 use Rattle.rlnh_end.specs.States.{is_noted, with_note, without_note}
-use Rattle.rlnh_end.specs.Reactions.{input_of}
+use Rattle.rlnh_end.specs.Reactions.{rlnh_input_of}
 use Rattle.rlnh_end.specs.Hearing.{hears}
 use Rattle.rlnh_end.specs.declared.heard.Heard.{Heard}
 use Rattle.rlnh_end.specs.declared.up.Up.{Up}
@@ -41,7 +41,7 @@ use Rattle.journal.specs.Pending.{hunting, owed}
 use Rattle.journal.specs.declared.effect.Effect.{Effect}
 use Rattle.journal.specs.declared.effect.Step.{Step}
 use Rattle.journal.proofs.Openings.{same_inc-true}
-use Rattle.carrier.specs.Events.{LinkState, handed_by, near_handed, told_by as link_told_by}
+use Rattle.carrier.specs.Events.{LinkState, handed_by, link_told_by, near_handed}
 use Rattle.carrier.specs.Events as links
 use Rattle.carrier.specs.Laws.{TellsRightly}
 use Rattle.carrier.specs.declared.handed.Handed.{Handed}
@@ -49,10 +49,9 @@ use Rattle.carrier.specs.declared.handed.Handed.TheVariants as handed
 use Rattle.carrier.specs.declared.handed.TickedSide.{TickedSide}
 use Rattle.carrier.specs.declared.handed.TickedSide.TheVariants as ticked
 use Rattle.link_laws.specs.Brought.{brought_at, goes_down, goes_up}
-use Rattle.link_laws.specs.Moves.{Delivers, IsAfter, IsAnswered}
-use Rattle.link_laws.specs.Moves.{NotesName}
-use Rattle.link_laws.specs.Moves.{Receives, TicksAt, brings_down, brings_nothing, brings_up}
-use Rattle.link_laws.specs.Moves.{brought_of, gives, is_up, loses_it, questions, ticks_on}
+use Rattle.link_laws.specs.Moves.{Delivers, IsAfter, IsQuestionAnswered, NotesName, Receives}
+use Rattle.link_laws.specs.Moves.{TicksAt, brings_down, brings_nothing, brings_up, brought_of}
+use Rattle.link_laws.specs.Moves.{gives, is_up, loses_it, questions, ticks_on}
 use Rattle.link_laws.specs.Promises.{IsNotAbove}
 use Rattle.link_laws.specs.Still.{is_hunt_over, is_path_over}
 use Rattle.link_laws.proofs.Names.{bytes_eq-is, bytes_eq-itself}
@@ -253,7 +252,7 @@ near_got : (t : TrunkState) → KeepsTrunk t → (k : ℕ) (keep : Bool) (readin
 near_got t kept k keep reading m got =
     let v : LinkState = links.near_delivered t.link k keep in
     ap (λ h. (near_took (with_link t v) reading h).link.first.end.ticks) got
-    ∙ offers_ticks v (input_of t.first.end reading).state.out
+    ∙ offers_ticks v (rlnh_input_of t.first.end reading).state.out
     ∙ (subst (TellsRightly t.link.first v.first t.link.second) got
     (near_tells t.link kept.link k keep)).heard
 
@@ -327,16 +326,16 @@ module _ (P : List Step) (n : ℕ) (l : LinkNo) (from : Side) (keep : Bool) (rea
         ap (list_any (bytes_eq w)) notes ∙ noted_then name w (noted_of to t) among
 
     answers : (holder : Option Inc) → holder_of P n name ≡ holder
-        → IsAnswered P n name (state_of to t) (state_of to (publishes_if to name holder v))
+        → IsQuestionAnswered P n name (state_of to t) (state_of to (publishes_if to name holder v))
     answers None none =
-        IsAnswered.notes (λ i alive.
+        IsQuestionAnswered.notes (λ i alive.
         none_there (λ j. bytes_eq name (name_of P j)) i (open_endpoints P n) none
         alive) is.kept noted_name
     answers (Some i) found =
         let there = found_there (λ j. bytes_eq name (name_of P j)) i (open_endpoints P n) found in
         let up = ap (λ (D : SideRecord). D.now.peer) is.kept ∙ is.pair in
         let says = events_tell.calls.published to i name v v_kept (λ none. absurd cc) in
-        IsAnswered.publishes i there.0 (sym (bytes_eq-is name (name_of P i) there.1))
+        IsQuestionAnswered.publishes i there.0 (sym (bytes_eq-is name (name_of P i) there.1))
         (says.kept ∙ ap (λ (D : SideRecord). saying (publishing i name D) D) is.kept)
         (λ w apart was.
         ap (list_any (bytes_eq w)) (says.notes ∙ ap (λ ns. without_note ns name) notes)

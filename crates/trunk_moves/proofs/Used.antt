@@ -17,8 +17,7 @@ use Rattle.rlnh_messages.specs.declared.rlnh.Rlnh.TheVariants.{Publish, Unpublis
 use Rattle.rlnh_end.specs.declared.heard.Heard.{Heard}
 use Rattle.rlnh_end.specs.declared.heard.Heard.TheVariants.{Control, Garbage, Signal}
 use Rattle.rlnh_end.specs.Calls.{Saying, announced, close_of, closed, publish_sender_of, opened_of}
-use Rattle.rlnh_end.specs.Calls.{publish_of}
-use Rattle.rlnh_end.specs.Calls.{query_of, saying, send_of}
+use Rattle.rlnh_end.specs.Calls.{end_saying, publish_of, query_of, send_of}
 use Rattle.rlnh_end.specs.declared.up.Up.TheVariants.{Bad, Met}
 use Rattle.rlnh_end.specs.Hearing.{heard_ack, heard_signal, heard_unpublish, hears, only}
 use Rattle.rlnh_end.specs.States.{RlnhTables, addr_met, inc_met, is_noted, with_met, without_note}
@@ -83,7 +82,7 @@ opened_used : (t : RlnhTables) (i : Inc) (name : List ℕ)
 opened_used t i name = by_noted (is_noted t.noted name)
   where
     by_noted : (b : Bool)
-        → used_in (cond b (publish_of t i name) (saying t [])).tables.own ≤ used_in t.own + 1
+        → used_in (cond b (publish_of t i name) (end_saying t [])).tables.own ≤ used_in t.own + 1
     by_noted true = publish_used t i name
     by_noted false = omega arith
 

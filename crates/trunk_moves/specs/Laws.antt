@@ -2,7 +2,7 @@
 use Rattle.std.specs.Prelude.{List, length}
 use Rattle.journal.specs.Shapes.{Shape}
 use Rattle.journal.specs.declared.effect.Step.{Step}
-use Rattle.link_laws.specs.Runs.{IsBoundedRun, IsSound, KeepsThroughout}
+use Rattle.link_laws.specs.Runs.{IsBoundedRun, IsSoundRun, KeepsThroughout}
 use Rattle.trunk_moves.specs.Steps.{IsBoundedTrunkRun}
 use Rattle.trunk_moves.specs.Trunks.{AllKept, AllUseUpTo, RunTrunks, links_of}
 
@@ -21,7 +21,7 @@ TrunkRunsAreRuns = (shape : Shape) (P : List Step) (trunks : RunTrunks)
 -- so it is legal, its links are what its history tells, and it keeps what is promised of runs after
 -- each of its steps
 pub record KeepsAll (shape : Shape) (P : List Step) (trunks : RunTrunks) : Type 0 where
-  pub sound : IsSound shape P (links_of trunks)
+  pub sound : IsSoundRun shape P (links_of trunks)
   pub promises : KeepsThroughout shape P (links_of trunks)
 
 abbrev pub TrunkRunsKeepAll : Type 0

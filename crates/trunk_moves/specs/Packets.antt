@@ -13,7 +13,7 @@ use Rattle.linx_base.specs.declared.identity.LinkNo.{LinkNo}
 use Rattle.linx_base.specs.declared.identity.Session.{Session}
 use Rattle.linx_base.specs.declared.identity.Side.{Side}
 use Rattle.rlnh_end.specs.declared.heard.Heard.{Heard}
-use Rattle.carrier.specs.Events.{flight_from, handed_by, told_by as link_told_by}
+use Rattle.carrier.specs.Events.{flight_from, handed_by, link_told_by}
 use Rattle.journal.specs.History.{name_of, open_endpoints}
 use Rattle.journal.specs.Pending.{hunting}
 use Rattle.journal.specs.declared.effect.Effect.{Effect}

@@ -35,17 +35,18 @@ use Rattle.trunk_moves.specs.Packets.{IsBeat, Meets}
 use Rattle.trunk_moves.specs.Trunks.{AllNew, Become, NodesFit, RunTrunks, all_do, with_trunk}
 
 -- AN OPENING: each side of the node hears of it
-abbrev pub opening : Shape → ℕ → Inc → List ℕ → RunTrunks → RunTrunks
-opening shape n i name before = all_do shape n (λ side. opened_at side i name) before
+abbrev pub trunks_opening : Shape → ℕ → Inc → List ℕ → RunTrunks → RunTrunks
+trunks_opening shape n i name before = all_do shape n (λ side. opened_at side i name) before
 
 -- A CLOSE, and an end, of an open endpoint, which each side of the node hears of
-abbrev pub ending : Shape → ℕ → Option Inc → RunTrunks → RunTrunks
-ending shape n None before = before
-ending shape n (Some j) before = all_do shape n (λ side. closed_at side j) before
+abbrev pub trunks_ending : Shape → ℕ → Option Inc → RunTrunks → RunTrunks
+trunks_ending shape n None before = before
+trunks_ending shape n (Some j) before = all_do shape n (λ side. closed_at side j) before
 
 -- A RESTART: each side of the node boots again
-abbrev pub restarting : Shape → List Step → ℕ → RunTrunks → RunTrunks
-restarting shape P n before = all_do shape n (λ side. restarted_at side (2 + boots P n)) before
+abbrev pub trunks_restarting : Shape → List Step → ℕ → RunTrunks → RunTrunks
+trunks_restarting shape P n before =
+    all_do shape n (λ side. restarted_at side (2 + boots P n)) before
 
 -- A SEND OVER A LINK of the node, of a signal whose number and data fit: the node's side sends it
 pub record SendsThere (shape : Shape) (P : List Step) (before after : RunTrunks) (n : ℕ) (j : Inc)
@@ -111,19 +112,19 @@ pub record FindsNone (shape : Shape) (P : List Step) (before after : RunTrunks) 
 abbrev pub Makes : Shape → List Step → RunTrunks → RunTrunks → ℕ → Option Inc → Head → List Effect
     → Type 0
 Makes shape P before after n me (Open name) es =
-    Become shape after (opening shape n (next_inc n (opened_on P n)) name before)
-Makes shape P before after n me Close es = Become shape after (ending shape n me before)
+    Become shape after (trunks_opening shape n (next_inc n (opened_on P n)) name before)
+Makes shape P before after n me Close es = Become shape after (trunks_ending shape n me before)
 Makes shape P before after n me (Send q note answer) es =
     Sends shape P before after n me q note answer
 Makes shape P before after n me (TakeNone filter) es = FindsNone shape P before after
 Makes shape P before after n me (Hunt path note) es =
     Hunts shape before after n path (find P n path)
 Makes shape P before after n me (Restart k) es =
-    Become shape after (restarting shape P k.0 before)
+    Become shape after (trunks_restarting shape P k.0 before)
 Makes shape P before after n me (Wire l from verdict) es =
     Passes shape P before after l from verdict es
 Makes shape P before after n me (Tick l side) es = Ticks shape P before after l side es
-Makes shape P before after n me Ended es = Become shape after (ending shape n me before)
+Makes shape P before after n me Ended es = Become shape after (trunks_ending shape n me before)
 Makes shape P before after n me head es = Become shape after before
 
 -- a hunt is for a name; the laws of nodes don't ask it of a hunt over a link

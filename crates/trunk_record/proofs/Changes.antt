@@ -12,12 +12,12 @@ use Rattle.linx_base.specs.Peers.{same_inc}
 use Rattle.linx_base.specs.declared.identity.Inc.{Inc}
 use Rattle.linx_base.specs.declared.identity.Session.{Session}
 use Rattle.linx_base.specs.declared.signal.SigNote.{SigNote}
-use Rattle.trunk_record.specs.Changes.{new_side, sending, giving, saying, going_up, beginning}
+use Rattle.trunk_record.specs.Changes.{new_side, says_sending, giving, saying, going_up, beginning}
 use Rattle.trunk_record.specs.Changes.{fresh}
 use Rattle.trunk_record.specs.Records.{SessionRecord, SideRecord, all, has_session, peer_of}
 use Rattle.trunk_record.specs.Records.{said_of, peer_in, said_in}
 use Rattle.trunk_record.specs.Sayings.{Said, Given, heard_as, frees, was_unpublished, unpublishes}
-use Rattle.trunk_record.specs.Sayings.{IsProper, IsInTurn, met, asked_for, arrived, freed, gone}
+use Rattle.trunk_record.specs.Sayings.{IsProper, AreInTurn, met, asked_for, arrived, freed, gone}
 use Rattle.trunk_record.specs.Sayings.{is_live, published, signaled, was_published}
 use Rattle.trunk_record.specs.Trunks.{IsHeardFrom, nothing_heard, heard, IsBelow, IsHalf}
 use Rattle.trunk_record.specs.Trunks.{FitsReceiver}
@@ -100,7 +100,7 @@ half_giving A B g y later half pair back said fits = record {
     frees_it (arrived a b note) there j e = absurd (true≢false (sym e))
     frees_it (gone i) there j e = absurd (true≢false (sym e))
 
-    turn : (h : Given) → FitsReceiver A h → IsInTurn (h ∷ A.now.given)
+    turn : (h : Given) → FitsReceiver A h → AreInTurn (h ∷ A.now.given)
     turn (met i name) there = half.in_turn.0
     turn (asked_for name) there = half.in_turn.0
     turn (arrived a b note) there = (
@@ -227,7 +227,7 @@ half_new x y = record {
 -- A SEND of an incarnation that wasn't unpublished is proper
 pub proper_sending : (A : SideRecord) (j b : Inc) (name : List ℕ) (note : SigNote)
     → IsProper A.now.said → was_unpublished j A.now.said ≡ false
-    → IsProper (sending j name b note A ++ A.now.said)
+    → IsProper (says_sending j name b note A ++ A.now.said)
 proper_sending A j b name note proper not_yet = by_life (is_live j A.now.said) refl
   where
     by_life : (t : Bool) → is_live j A.now.said ≡ t

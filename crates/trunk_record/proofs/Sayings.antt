@@ -12,7 +12,7 @@ use Rattle.trunk_record.specs.Sayings.{Said, published, asked, signaled, unpubli
 use Rattle.trunk_record.specs.Sayings.{asked_for, arrived, freed, gone, heard_as, unpublishes}
 use Rattle.trunk_record.specs.Sayings.{was_published, was_unpublished, is_live, signals_between}
 use Rattle.trunk_record.specs.Sayings.{IsProper, frees, is_shown, is_signal, has_met, has_gone}
-use Rattle.trunk_record.specs.Sayings.{IsInTurn}
+use Rattle.trunk_record.specs.Sayings.{AreInTurn}
 
 pub same_inc-itself : (i : Inc) → same_inc i i ≡ true
 same_inc-itself i = eq-eqb i.0 i.0 refl
@@ -205,7 +205,7 @@ both true t e = e
 both false t e = absurd (true≢false (sym e))
 
 -- what was given in turn is the front of what was heard
-pub arrivals-front : (a b : Inc) (given : List Given) → IsInTurn given
+pub arrivals-front : (a b : Inc) (given : List Given) → AreInTurn given
     → (later : List SigNote)
     × (signals_between a b (map heard_as given) ≡ arrivals_between a b given ++ later)
 arrivals-front a b [] turn = ([], refl)

@@ -31,6 +31,6 @@ abbrev pub beginning : Session → SideRecord → SideRecord
 beginning x A = record { now = fresh x; earlier = A.now ∷ A.earlier }
 
 -- what a send of a named incarnation says: that one is published first, unless it is live
-abbrev pub sending : Inc → List ℕ → Inc → SigNote → SideRecord → List Said
-sending j name b note A =
+abbrev pub says_sending : Inc → List ℕ → Inc → SigNote → SideRecord → List Said
+says_sending j name b note A =
     signaled j b note ∷ (if is_live j A.now.said then [] else published j name ∷ [])

@@ -80,13 +80,13 @@ frees j _ = false
 
 -- What a side is given in a session comes in turn: once a signal to a receiver was freed, none
 -- arrives at it
-abbrev pub IsInTurn : List Given → Type 0
-IsInTurn [] = Unit {0}
-IsInTurn (met i name ∷ before) = IsInTurn before
-IsInTurn (asked_for name ∷ before) = IsInTurn before
-IsInTurn (arrived a b note ∷ before) = (list_any (frees b) before ≡ false) × IsInTurn before
-IsInTurn (freed a b note ∷ before) = IsInTurn before
-IsInTurn (gone i ∷ before) = IsInTurn before
+abbrev pub AreInTurn : List Given → Type 0
+AreInTurn [] = Unit {0}
+AreInTurn (met i name ∷ before) = AreInTurn before
+AreInTurn (asked_for name ∷ before) = AreInTurn before
+AreInTurn (arrived a b note ∷ before) = (list_any (frees b) before ≡ false) × AreInTurn before
+AreInTurn (freed a b note ∷ before) = AreInTurn before
+AreInTurn (gone i ∷ before) = AreInTurn before
 
 -- this is a signal
 abbrev pub is_signal : Said → Bool

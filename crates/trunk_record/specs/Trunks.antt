@@ -4,7 +4,7 @@ use Rattle.std.specs.List.{list_any, AllByRecursion}
 use Rattle.linx_base.specs.declared.identity.Inc.{Inc}
 use Rattle.linx_base.specs.declared.identity.Session.{Session}
 use Rattle.trunk_record.specs.Records.{SessionRecord, SideRecord, all, peer_in, said_in}
-use Rattle.trunk_record.specs.Sayings.{Given, IsInTurn, IsProper, Said, arrived, asked_for, freed}
+use Rattle.trunk_record.specs.Sayings.{AreInTurn, Given, IsProper, Said, arrived, asked_for, freed}
 use Rattle.trunk_record.specs.Sayings.{frees, gone, heard_as, is_live, met, was_unpublished}
 
 -- What a session was given is what its peer said so far, in a session that has it as peer; where
@@ -29,7 +29,7 @@ FreesClosed e = (j : Inc) → list_any (frees j) e.given ≡ true → was_unpubl
 
 -- what was given came in turn
 abbrev pub IsGivenInTurn : SessionRecord → Type 0
-IsGivenInTurn e = IsInTurn e.given
+IsGivenInTurn e = AreInTurn e.given
 
 -- a session that never went up has nothing in it
 abbrev pub EmptyWhileDown : SessionRecord → Type 0

@@ -11,7 +11,7 @@ use Rattle.atomic_table.specs.Table.{State, Me, Joins, Final, Seen}
 use Rattle.atomic_table.proofs.Lists.{set_else}
 use Rattle.turn_lock.specs.declared.turns.Front.{Front}
 use Rattle.turn_lock.specs.declared.turns.Known.{Known}
-use Rattle.turn_lock.specs.Passes.{PassView, numbers, Tells, IsTold}
+use Rattle.turn_lock.specs.Passes.{PassView, numbers, Tells, TellsOfEach}
 use Rattle.std.specs.Prelude.{IsSomeAnd}
 use Rattle.turn_lock.specs.Stories.{AllMadeUpTo, RestsFor}
 use Rattle.turn_lock.specs.Turns.{front, joined, spent, front_of, FitsFront, FitsView, HasFronts}
@@ -142,7 +142,7 @@ module _ {S E F : Type 0} (t : Setting S E F) where
       → HasFronts passes m
       → ((n : ℕ) → 0 < n → n ≤ t.about.seats → Contains (numbers passes) n)
       → get_elem? xs 0 ≡ some slot
-      → IsSomeAnd slot (IsTold t.about.seats t.story_of t.fixed_of passes)
+      → IsSomeAnd slot (TellsOfEach t.about.seats t.story_of t.fixed_of passes)
   closes id m passes ws xs slot end fronts each there =
       let s = end.0 in
       let r = end.1.0 in
@@ -151,7 +151,7 @@ module _ {S E F : Type 0} (t : Setting S E F) where
       (all_home id m.0 passes fronts.1 fronts.2 r here each (omega arith))) in
       let h = r.home free in
       let x : S = h.0 in
-      let told : IsTold t.about.seats t.story_of t.fixed_of passes x = record {
+      let told : TellsOfEach t.about.seats t.story_of t.fixed_of passes x = record {
         each = All-weaker (λ p. Fits t r id (front_of p)) (Tells (t.fixed_of x) (t.story_of x))
             (λ p k. (
               h.3 ∙ sym k.same,
@@ -161,5 +161,5 @@ module _ {S E F : Type 0} (t : Setting S E F) where
         makers = subst (AllMadeUpTo t.about.seats) (sym h.2)
             (more_makers r.top t.about.seats r.story r.few r.makers);
       } in
-      subst (λ (o : Option S). IsSomeAnd o (IsTold t.about.seats t.story_of t.fixed_of passes))
+      subst (λ (o : Option S). IsSomeAnd o (TellsOfEach t.about.seats t.story_of t.fixed_of passes))
       (sym (some-injective slot (Some x) (sym there ∙ end.4 0 (Some x) h.1))) told

@@ -13,7 +13,7 @@ use Rattle.turn_lock.specs.declared.story.Made.{Made}
 use Rattle.turn_lock.specs.declared.turns.Known.{Known}
 use Rattle.turn_lock.specs.Turns.{front, joined, fixed_first, seen_first, pass_view, HasFronts}
 use Rattle.turn_lock.specs.Turns.{Gathers}
-use Rattle.turn_lock.specs.Passes.{PassView, new_pass, AreFirst, numbers, Tells, IsTold}
+use Rattle.turn_lock.specs.Passes.{PassView, new_pass, AreFirst, numbers, Tells, TellsOfEach}
 use Rattle.turn_lock.specs.Stories.{RestsFor}
 use Rattle.turn_lock.proofs.Lists.{get_before, get_last}
 
@@ -87,7 +87,8 @@ module _ {E F : Type 0} where
     )
 
   module _ {S : Type 0} (seats : ℕ) (story_of : S → List (Made E)) (fixed_of : S → F)
-      (passes : List (PassView E F)) (x : S) (h : IsTold seats story_of fixed_of passes x) where
+      (passes : List (PassView E F)) (x : S)
+      (h : TellsOfEach seats story_of fixed_of passes x) where
     pub told_rests : All (λ p. RestsFor p.number (story_of x) p.front) passes
     told_rests = All-weaker (Tells (fixed_of x) (story_of x)) _ (λ p t. t.1) passes h.each
 

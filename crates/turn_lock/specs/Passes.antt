@@ -71,7 +71,7 @@ module _ {E F : Type 0} where
   Tells fixed story p = (fixed ≡ p.fixed) × RestsFor p.number story p.front
 
   -- a state that tells of each of these passes, and of makers up to the number of seats alone
-  pub record IsTold {S : Type 0} (seats : ℕ) (story_of : S → List (Made E)) (fixed_of : S → F)
+  pub record TellsOfEach {S : Type 0} (seats : ℕ) (story_of : S → List (Made E)) (fixed_of : S → F)
       (passes : List (PassView E F)) (x : S) : Type 0 where
     pub each : All (Tells (fixed_of x) (story_of x)) passes
     pub makers : AllMadeUpTo seats (story_of x)

@@ -5,7 +5,7 @@
 ghost use Rattle.std.specs.Prelude.{◌≡◌, ◌+◌, ◌<◌, ◌≤◌, List, [], ◌++◌, ◌↔◌, All, Contains};
 ghost use Rattle.std.specs.Prelude.{IfOk, IfErr, OnOk, IsSomeAnd, IsTrue, MatchBool, MatchOption};
 ghost use Rattle.std.specs.Prelude.{vec_capacity, vec_len};
-ghost use Rattle.turn_lock.specs.Passes.{IsPassOf, AreDealt, HasEach, IsLeastMissing, IsTold};
+ghost use Rattle.turn_lock.specs.Passes.{IsPassOf, AreDealt, HasEach, IsLeastMissing, TellsOfEach};
 ghost use Rattle.turn_lock.specs.Passes.{numbers, own_steps};
 ghost use Rattle.turn_lock.specs.Stories.{RestsFor, IsAddedBy, AllMadeUpTo, made_by};
 ghost use Rattle.turn_lock.specs.Turns.{front, dealing, at_rest, with_state, with_nothing, Wins};
@@ -277,7 +277,7 @@ impl<S: Story> TurnLock<S> {
     fn finish(self, passes: Vec<Pass<S>>) -> Option<S>
         requires of { All (IsPassOf self) passes.items }
         requires each { (0 < self.seats) × HasEach self passes.items }
-        ensures { IsSomeAnd result (IsTold self.seats S.story S.fixed passes.items) }
+        ensures { IsSomeAnd result (TellsOfEach self.seats S.story S.fixed passes.items) }
     {
         let seat = self.gather(passes);
         let TurnLock { table, seats: _ } = self;

@@ -17,7 +17,7 @@ use Rattle.script_words.specs.declared.target.Target.TheVariants.{Last, Kept}
 use Rattle.script_words.specs.Filling.{fits_data, no_data}
 use Rattle.script_lang.specs.declared.actor_script.ActorScript.{ActorScript}
 use Rattle.script_lang.specs.Parts.{ScriptParts}
-use Rattle.script_lang.specs.Fits.{is_node, has_end, fits_command, commands_of}
+use Rattle.script_lang.specs.Fits.{is_node, has_end, fits_command, command_count}
 use Rattle.script_lang.specs.Copies.{copies}
 use Rattle.script_lang.proofs.Copies.{length-copies, list_all-copies}
 use Rattle.work_gen.specs.Generated.{up_to, receive}
@@ -105,7 +105,7 @@ client_few n k i =
 -- ---- how many actors there are, and how many commands
 
 clients_few : (n k first count : ℕ)
-    → commands_of (map (client n k) (range_with_len first count)) ≤ many_commands * count
+    → command_count (map (client n k) (range_with_len first count)) ≤ many_commands * count
 clients_few n k first zero = omega arith
 clients_few n k first (suc count) =
     omega (
@@ -178,7 +178,7 @@ over_count : (n k : ℕ) → length (actors_over n k) ≡ 9
 unfolding actors_over
 over_count n k = refl
 
-over_few : (n k : ℕ) → commands_of (actors_over n k) ≤ 18000
+over_few : (n k : ℕ) → command_count (actors_over n k) ≤ 18000
 unfolding actors_over
 over_few n k =
     omega (
@@ -201,7 +201,7 @@ peopled_count n from (suc count) =
     )
 
 peopled_few : (n from count : ℕ)
-    → commands_of (flat_map (actors_over n) (range_with_len from count)) ≤ 18000 * count
+    → command_count (flat_map (actors_over n) (range_with_len from count)) ≤ 18000 * count
 peopled_few n from zero = omega arith
 peopled_few n from (suc count) =
     let rest = flat_map (actors_over n) (range_with_len (from + 1) count) in

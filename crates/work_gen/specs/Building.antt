@@ -4,7 +4,7 @@ use Rattle.linx_base.specs.declared.identity.Side.{Side}
 use Rattle.script_lang.specs.Limits.{actor_limit, all_commands_limit}
 use Rattle.script_lang.specs.declared.actor_script.ActorScript.{ActorScript}
 use Rattle.script_lang.specs.Parts.{ScriptParts, planned_verdicts}
-use Rattle.script_lang.specs.Fits.{commands_of, is_link}
+use Rattle.script_lang.specs.Fits.{command_count, is_link}
 
 -- the link of this number is declared, and a direction of it has no plan as yet
 pub record IsUnplanned (s : ScriptParts) (k : ℕ) (from : Side) : Type 0 where
@@ -23,4 +23,4 @@ many_commands = 2000
 -- so many actors more stay within the limits
 pub record HasRoom (s : ScriptParts) (more : ℕ) : Type 0 where
   pub actors : length s.actors + more ≤ actor_limit
-  pub commands : commands_of s.actors + many_commands * more ≤ all_commands_limit
+  pub commands : command_count s.actors + many_commands * more ≤ all_commands_limit

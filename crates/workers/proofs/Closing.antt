@@ -19,7 +19,7 @@ use Rattle.turn_lock.specs.Passes.{new_pass}
 use Rattle.turn_lock.specs.Stories.{AllMadeUpTo, RestsFor}
 use Rattle.turn_lock.proofs.Back.{dealt_at}
 use Rattle.fabric.specs.Run.{IsReached, IsReachedBy, Layout}
-use Rattle.linx_api.specs.Telling.{PlanParts, number_of, numbered, plan_of, story_of, told_by}
+use Rattle.linx_api.specs.Telling.{PlanParts, made_steps, maker_number, numbered, plan_of, story_of}
 use Rattle.stage.specs.declared.player.Player.{Player}
 use Rattle.stage.specs.Plays.{IsPlanned}
 use Rattle.stage.specs.Seats.{AreSeated, IsSeated, IsStaged}
@@ -36,7 +36,7 @@ use Rattle.workers.proofs.Resting.{GoesOnFor, own-goes_on, played-goes_on, rests
 module _ (script : ScriptParts) where
   -- A RUN IS AS PLANNED where each maker's steps are, and each step has its maker
   pub makers-planned : (seats : ℕ) (P : List Step) (trunks : RunTrunks)
-      → AllMadeUpTo seats (told_by (shape_of script) P)
+      → AllMadeUpTo seats (made_steps (shape_of script) P)
       → ((n : ℕ) → 0 < n → n ≤ seats → OwnPlanned script n P)
       → IsReached (length script.names.nodes) (shape_of script) P trunks
       → IsPlanned script P trunks
@@ -44,15 +44,15 @@ module _ (script : ScriptParts) where
   makers-planned seats (s ∷ P) trunks made own reached =
       let shape : Shape = shape_of script in
       let first = All-head (λ (m : Made Step). (0 < m.maker) × (m.maker ≤ seats))
-      (numbered shape s) (told_by shape P) made in
+      (numbered shape s) (made_steps shape P) made in
       let rest = All-tail (λ (m : Made Step). (0 < m.maker) × (m.maker ≤ seats))
-      (numbered shape s) (told_by shape P) made in (
+      (numbered shape s) (made_steps shape P) made in (
         reached.0,
         (
           makers-planned seats P reached.0 rest (λ n low high. (own n low high).0) reached.1.0,
           (
             reached.1.1.0,
-            (own (number_of shape s.by) first.0 first.1).1 refl reached.0 reached.1.0,
+            (own (maker_number shape s.by) first.0 first.1).1 refl reached.0 reached.1.0,
           ),
         ),
       )
@@ -247,7 +247,7 @@ module _ (script : ScriptParts) (all : List Worked) (count : length all ≡ make
     count = closed-count;
     seated = closed-seated;
     planned = makers-planned script (makers script) f.log.steps (trunks_of f.trunks)
-        (subst (λ (s : Shape). AllMadeUpTo (makers script) (told_by s f.log.steps)) closed-shape
+        (subst (λ (s : Shape). AllMadeUpTo (makers script) (made_steps s f.log.steps)) closed-shape
         made)
         closed-own
         (subst (λ (names : Names). IsReached (length names.nodes) (shape_of script) f.log.steps

@@ -15,7 +15,7 @@ use Rattle.turn_lock.specs.Stories.{IsAddedBy}
 use Rattle.fabric.specs.declared.stop.StepStop.{StepStop}
 use Rattle.fabric.specs.Actings.{OnlyRuns}
 use Rattle.fabric.specs.Run.{Layout}
-use Rattle.linx_api.specs.Telling.{PlanParts, number_of, story_of}
+use Rattle.linx_api.specs.Telling.{PlanParts, maker_number, story_of}
 use Rattle.stage.specs.declared.acting.Acted.{Acted}
 use Rattle.stage.specs.declared.stage.Pump as pumps
 use Rattle.stage.specs.Settlings.{IsActedAs, settler_in}
@@ -40,7 +40,7 @@ acted-gives p turn found left taken ask acted came =
 
 -- the number of a link behind the actors
 number-back : (script : ScriptParts) (shape : Shape) → shape ≡ shape_of script → (n : ℕ)
-    → length script.actors < n → number_of shape (Pump (link_by script n)) ≡ n
+    → length script.actors < n → maker_number shape (Pump (link_by script n)) ≡ n
 number-back script shape is n behind =
     let actors : length (map (λ (a : ActorScript). a.node) script.actors) ≡ length script.actors =
     length-map script.actors (λ (a : ActorScript). a.node) in

@@ -15,8 +15,7 @@ use Rattle.turn_lock.specs.declared.story.Made.{Made}
 use Rattle.turn_lock.specs.Passes.{IsSamePass, PassView}
 use Rattle.turn_lock.specs.Stories.{made_by, RestsFor}
 use Rattle.fabric.specs.Run.{Layout}
-use Rattle.linx_api.specs.Telling.{PlanParts, number_of, plan_of, steps_in, story_of}
-use Rattle.linx_api.specs.Telling.{told_by}
+use Rattle.linx_api.specs.Telling.{PlanParts, made_steps, maker_number, plan_of, steps_in, story_of}
 use Rattle.linx_api.proofs.Own.{steps_in-told}
 use Rattle.stage.specs.declared.player.Player.{Player}
 use Rattle.stage.specs.Turns.{shape_of}
@@ -25,7 +24,7 @@ use Rattle.workers.specs.Working.{IsPlayedBy, IsWorking, OwnPlanned, seen}
 
 -- the maker of this number made none of these steps
 abbrev pub NoneOf : Shape → ℕ → List Step → Type 0
-NoneOf shape n steps = All (λ s. (number_of shape s.by == n) ≡ false) steps
+NoneOf shape n steps = All (λ s. (maker_number shape s.by == n) ≡ false) steps
 
 -- the history goes on from an earlier one, with no step of this maker
 abbrev pub GoesOnFor : Shape → ℕ → List Step → List Step → Type 0
@@ -35,9 +34,9 @@ GoesOnFor shape n now before =
 -- each maker's number is that of its step
 abbrev AllTold : Shape → List (Made Step) → Type 0
 AllTold shape [] = Unit {0}
-AllTold shape (m ∷ ms) = (m.maker ≡ number_of shape m.step.by) × AllTold shape ms
+AllTold shape (m ∷ ms) = (m.maker ≡ maker_number shape m.step.by) × AllTold shape ms
 
-told-all : (shape : Shape) (P : List Step) → AllTold shape (told_by shape P)
+told-all : (shape : Shape) (P : List Step) → AllTold shape (made_steps shape P)
 told-all shape [] = tt
 told-all shape (s ∷ P) = (refl, told-all shape P)
 
@@ -53,7 +52,7 @@ steps_in-append (x ∷ xs) ys = ap (λ l. x.step ∷ l) (steps_in-append xs ys)
 -- where no one of these is of n, n made none of their steps
 none-made : (shape : Shape) (n : ℕ) (ms : List (Made Step)) → AllTold shape ms
     → made_by n ms ≡ [] → NoneOf shape n (steps_in ms)
-none-made shape n [] told none = All-nil (λ (s : Step). (number_of shape s.by == n) ≡ false)
+none-made shape n [] told none = All-nil (λ (s : Step). (maker_number shape s.by == n) ≡ false)
 none-made shape n (m ∷ ms) told none =
     go (none-made shape n ms told.1) (m.maker == n) refl none
   where
@@ -61,12 +60,12 @@ none-made shape n (m ∷ ms) told none =
         → cond b (m ∷ made_by n ms) (made_by n ms) ≡ [] → NoneOf shape n (steps_in (m ∷ ms))
     go rest true e h = cc
     go rest false e h =
-        All-cons (λ (s : Step). (number_of shape s.by == n) ≡ false) m.step (steps_in ms)
+        All-cons (λ (s : Step). (maker_number shape s.by == n) ≡ false) m.step (steps_in ms)
         (sym (ap (λ (x : ℕ). x == n) told.0) ∙ e) (rest h)
 
 -- WHERE A STORY RESTS FOR A MAKER, its history goes on without it
 pub rests-on : (shape : Shape) (n : ℕ) (P : List Step) (front : List (Made Step))
-    → RestsFor n (told_by shape P) front → GoesOnFor shape n P (steps_in front)
+    → RestsFor n (made_steps shape P) front → GoesOnFor shape n P (steps_in front)
 rests-on shape n P front rests = (
   steps_in rests.0,
   sym (steps_in-told shape P) ∙ (ap steps_in rests.1 ∙ steps_in-append rests.0 front),
@@ -75,7 +74,7 @@ rests-on shape n P front rests = (
 )
 
 -- a step that hasn't the number of actor k isn't of actor k
-not-by : (shape : Shape) (k : ℕ) (by : By) → (number_of shape by == k) ≡ false
+not-by : (shape : Shape) (k : ℕ) (by : By) → (maker_number shape by == k) ≡ false
     → is_by by k ≡ false
 not-by shape k (Actor a) apart = apart
 not-by shape k (Pump link) apart = refl
@@ -86,7 +85,7 @@ pub as-actor : (shape : Shape) (k : ℕ) (now before : List Step) → GoesOnFor 
 as-actor shape k now before on = (
   on.0,
   on.1,
-  All-weaker (λ (s : Step). (number_of shape s.by == k) ≡ false)
+  All-weaker (λ (s : Step). (maker_number shape s.by == k) ≡ false)
       (λ (s : Step). is_by s.by k ≡ false) (λ s apart. not-by shape k s.by apart) on.0 on.2,
 )
 
@@ -96,10 +95,10 @@ module _ (script : ScriptParts) (n : ℕ) where
   since-planned [] P none planned = planned
   since-planned (s ∷ since) P none planned = (
     since-planned since P
-        (All-tail (λ (x : Step). (number_of (shape_of script) x.by == n) ≡ false) s since none)
+        (All-tail (λ (x : Step). (maker_number (shape_of script) x.by == n) ≡ false) s since none)
         planned,
-    λ own. absurd (true≢false (sym (eq-eqb (number_of (shape_of script) s.by) n own)
-        ∙ All-head (λ (x : Step). (number_of (shape_of script) x.by == n) ≡ false) s since
+    λ own. absurd (true≢false (sym (eq-eqb (maker_number (shape_of script) s.by) n own)
+        ∙ All-head (λ (x : Step). (maker_number (shape_of script) x.by == n) ≡ false) s since
         none)),
   )
 

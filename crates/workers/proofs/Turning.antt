@@ -28,7 +28,7 @@ use Rattle.fabric.specs.Actings.{OnlyRuns}
 use Rattle.fabric.specs.Asks.{MayAsk}
 use Rattle.fabric.specs.Links.{is_still}
 use Rattle.fabric.specs.Run.{IsReached, IsReachedBy, IsStepFor, IsStepOf, IsStepped, Layout}
-use Rattle.linx_api.specs.Telling.{PlanParts, number_of, numbered, plan_of, story_of, told_by}
+use Rattle.linx_api.specs.Telling.{PlanParts, made_steps, maker_number, numbered, plan_of, story_of}
 use Rattle.stage.specs.declared.acting.Acted.{Acted}
 use Rattle.stage.specs.declared.acting.Acted.TheVariants.{Done, Halfway, Stopped}
 use Rattle.stage.specs.declared.player.Player.{Player}
@@ -240,14 +240,14 @@ added-none n old new same =
 
 -- a step of it, or none
 added-step : (n : ℕ) (old new : Layout) → OnlyRuns old new → (by : By)
-    → number_of old.shape by ≡ n → (head : Option Head) (answer : StepAnswer)
+    → maker_number old.shape by ≡ n → (head : Option Head) (answer : StepAnswer)
     → IsStepFor old new by head answer → IsAddedBy n (story_of new) (story_of old)
 added-step n old new fixed by number None answer made = added-none n old new made.0
 added-step n old new fixed by number (Some head) answer made =
     let s : Step = record { by = by; head = head; effects = made.effects } in
     let same : new.shape ≡ old.shape = ap (λ (l : Layout). l.shape) fixed in (
       numbered old.shape s ∷ [],
-      ap (λ (x : Shape). told_by x new.log.steps) same ∙ ap (told_by old.shape) made.steps,
+      ap (λ (x : Shape). made_steps x new.log.steps) same ∙ ap (made_steps old.shape) made.steps,
       All-cons (λ (m : Made Step). m.maker ≡ n) (numbered old.shape s) [] number
           (All-nil (λ (m : Made Step). m.maker ≡ n)),
     )
@@ -284,7 +284,8 @@ added-acted old new k ask (Stopped stop) came = added-none k old new came.0.same
 
 -- AND A PUMP DOES
 pub added-pump : (script : ScriptParts) (old new : Layout) → OnlyRuns old new → (l : LinkNo)
-    (n : ℕ) → number_of old.shape (Pump l) ≡ n → (pump : pumps.Pump) → IsPump script l old new pump
+    (n : ℕ) → maker_number old.shape (Pump l) ≡ n → (pump : pumps.Pump)
+    → IsPump script l old new pump
     → IsAddedBy n (story_of new) (story_of old)
 added-pump script old new fixed l n number pump turn =
     go (pump_event script old.log.steps (trunks_of old.trunks) l) turn

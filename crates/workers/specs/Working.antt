@@ -5,7 +5,7 @@ use Rattle.journal.specs.declared.effect.Step.{Step}
 use Rattle.journal.specs.History.{has_ended}
 use Rattle.journal.specs.Logs.{is_full}
 use Rattle.turn_lock.specs.Passes.{IsPassOf, IsSamePass, LockView, PassView}
-use Rattle.linx_api.specs.Telling.{PlanParts, number_of, steps_in}
+use Rattle.linx_api.specs.Telling.{PlanParts, maker_number, steps_in}
 use Rattle.script_lang.specs.Parts.{ScriptParts}
 use Rattle.trunk_moves.specs.Trunks.{RunTrunks}
 use Rattle.fabric.specs.declared.stop.StopCause.TheVariants.{JournalFull}
@@ -35,7 +35,7 @@ IsPlannedThen script P s =
 abbrev pub OwnPlanned : ScriptParts → ℕ → List Step → Type 0
 OwnPlanned script n [] = Unit {0}
 OwnPlanned script n (s ∷ P) =
-    OwnPlanned script n P × (number_of (shape_of script) s.by ≡ n → IsPlannedThen script P s)
+    OwnPlanned script n P × (maker_number (shape_of script) s.by ≡ n → IsPlannedThen script P s)
 
 -- an actor is between two turns, or has ended; a link has no player
 abbrev pub IsPlayedBy : ScriptParts → List Step → ℕ → Option Player → Type 0
@@ -66,7 +66,7 @@ pub record IsWorked (script : ScriptParts) (before : PassView Step PlanParts) (d
   pub full : done.stop ≡ Some JournalFull → is_full (seen done.pass) ≡ true
 
 -- a pass of this lock, with this plan, that has seen nothing
-pub record IsReady (lock : LockView) (script : ScriptParts) (p : PassView Step PlanParts) : Type 0
+pub record IsNewPass (lock : LockView) (script : ScriptParts) (p : PassView Step PlanParts) : Type 0
   where
     pub of_lock : IsPassOf lock p
     pub fixed : p.fixed ≡ plan_for script

@@ -7,14 +7,14 @@ use Rattle.link_laws.specs.Laws.{down_if}
 use Rattle.run_trunks.specs.States.{over, trunks_of}
 use Rattle.trunk.specs.Events.{TrunkState}
 use Rattle.trunk_moves.specs.Trunks.{side_on}
-use Rattle.fabric.specs.Downs.{downs_on, session_if}
+use Rattle.fabric.specs.Downs.{downs_on, session_at_if}
 use Rattle.fabric.proofs.makings.downs_of.Goals as goal
 use Rattle.fabric.proofs.makings.downs_of.Goals.{in-Some+in_ok-push, in_default-down_over}
 
 -- the end over link number m, if one is up there
 abbrev down_at : List LinkDecl → ℕ → List TrunkState → ℕ → List Effect
 down_at links n ts m =
-    down_if n m (session_if (side_on (over links) n (record { 0 = m })) (trunks_of ts m))
+    down_if n m (session_at_if (side_on (over links) n (record { 0 = m })) (trunks_of ts m))
 
 -- one more link
 downs-more : (links : List LinkDecl) (n : ℕ) (ts : List TrunkState) (k : ℕ)

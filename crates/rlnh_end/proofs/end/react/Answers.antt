@@ -2,7 +2,7 @@ use Rattle.std.proofs.Common.{◌≡◌, ◌∙◌, ap, sym}
 use Rattle.rlnh_end.specs.declared.up.Up.TheVariants.{Bad}
 use Rattle.rlnh_end.specs.Calls.{after}
 use Rattle.rlnh_end.specs.Hearing.{hears}
-use Rattle.rlnh_end.specs.Reactions.{Reaction, input_of}
+use Rattle.rlnh_end.specs.Reactions.{Reaction, rlnh_input_of}
 use Rattle.rlnh_end.proofs.ByRule.{hearing_follows_rules}
 use Rattle.rlnh_end.proofs.Listing.{bad_listed, listed_bad}
 use Rattle.rlnh_end.proofs.Saying.{read_has_address}
@@ -17,7 +17,7 @@ returns-clause-is_read c = (c.in_ok-heard.heard, c.in_ok-heard.ensures.is)
 pub returns-clause-reaction : goal.returns-clause-reaction
 returns-clause-reaction c other read =
     c.in_ok-up.ensures.reaction
-    ∙ ap (input_of c.args.parts.now.is) (c.in_ok-heard.ensures.only other read)
+    ∙ ap (rlnh_input_of c.args.parts.now.is) (c.in_ok-heard.ensures.only other read)
 
 pub returns-clause-bad : goal.returns-clause-bad
 returns-clause-bad c listed =

@@ -1,5 +1,5 @@
 use Rattle.std.proofs.Common.{◌≡◌, ◌+◌, ◌-◌, ◌≤◌, length}
-use Rattle.script_lang.specs.Block.{IsReading}
+use Rattle.script_lang.specs.Block.{CanGoOn}
 use Rattle.script_lang.specs.Limits.{script_limit}
 use Rattle.script_words.specs.Lines.{lines_of}
 use Rattle.script_lang.specs.Reading.{read_from, script_of}
@@ -11,7 +11,7 @@ invariant-loop-rest l = record {
   reads :
       read_from l.reading (length l.bytes - length l.rest) l.line (lines_of l.rest)
       ≡ script_of l.bytes;
-  fits : IsReading l.reading;
+  fits : CanGoOn l.reading;
   shorter : length l.rest ≤ length l.bytes;
   lines : l.line + length l.rest ≤ length l.bytes;
   small : length l.bytes - length l.rest ≤ script_limit;

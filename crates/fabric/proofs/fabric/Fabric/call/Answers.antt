@@ -1,6 +1,6 @@
 use Rattle.std.proofs.Common.{◌-◌, sym, ◌∙◌}
 use Rattle.std.specs.Prelude.{slice_set}
-use Rattle.fabric.specs.Calls.{ask_of}
+use Rattle.fabric.specs.Calls.{ask_of_call}
 use Rattle.fabric.specs.declared.fabric.Fabric.TheView.{view}
 use Rattle.fabric.proofs.Called.{made-call}
 use Rattle.fabric.proofs.Granted.{may-tell}
@@ -45,7 +45,7 @@ made : (c : After-call) → IsMadeSeen (view c.self.inside) c.args.self.now
       kernels = slice_set c.self.inside.kernels.items c.kernel_of-place.result
           c.make_call-made.new.kernel;
       standings = slice_set c.self.inside.standings.items (c.args.actor - 1) c.call.new.self;
-    }) c.args.actor (ask_of c.args.call) c.in-Ok-made.answer
+    }) c.args.actor (ask_of_call c.args.call) c.in-Ok-made.answer
 made c =
     let seen = sees c.self.invariant.0 c.self.view_is in
     let acts = acting seen c.requires.asked c.kernel_of-place.ensures in
@@ -54,7 +54,7 @@ made c =
     ∙ sym (kernel-is acts.at c.index_mut.result.now c.index_mut.ensures.value) in
     made-told c.self.view_is c.make_call-made.new.journal.log c.tell_call.new.trunks
     c.keep_told.new.trunks _ c.in-Ok.ensures.links (rw same at c.in-Ok.ensures.is)
-    c.keep_told.ensures _ c.args.actor (ask_of c.args.call) c.in-Ok-made.answer
+    c.keep_told.ensures _ c.args.actor (ask_of_call c.args.call) c.in-Ok-made.answer
     (made-call acts c.in-Some.at mine c.index_mut.result.now c.make_call-made.new.kernel
     c.index_mut.ensures.value c.index_mut-in-Ok-made.result.now c.call.new.self
     c.index_mut-in-Ok-made.ensures.value c.make_call-made.new.journal.log c.in-Ok-made.answer

@@ -1,6 +1,6 @@
 use Rattle.std.proofs.Common.{◌<◌, length, ap, ◌∙◌, subst, arith}
 use Rattle.std.specs.Prelude.{IsSomeAnd}
-use Rattle.turn_lock.specs.Passes.{IsTold}
+use Rattle.turn_lock.specs.Passes.{TellsOfEach}
 use Rattle.turn_lock.proofs.Passes.{some_pass}
 use Rattle.turn_lock.proofs.Closing.{closes}
 use Rattle.turn_lock.proofs.Rule.{setting}
@@ -20,7 +20,7 @@ returns g c =
     let each = c.requires.each.1 in
     subst
     (λ n. IsSomeAnd c.take-slot.result
-    (IsTold n g.S.Story.story g.S.Story.fixed c.args.passes.items))
+    (TellsOfEach n g.S.Story.story g.S.Story.fixed c.args.passes.items))
     seats
     (closes t _ c.gather-seat.result.me c.args.passes.items _ _ _
     c.close_with-closed.ensures.values.2 c.gather-seat.ensures.1
