@@ -3,32 +3,52 @@ ghost use Rattle.std.specs.Prelude.{◌≡◌, replicate, IfOk};
 use linx_base::{Blob, NoMemory, TryCopy};
 use std::alloc::Global;
 
-/// The buffer that was filled last, and what it was filled with.
+/// The bytes that were filled last, of what signal they are, and what they were filled with.
 #[derive(Drop)]
 pub(crate) struct Filled {
+    number: u32,
     count: u32,
     byte: u8,
     bytes: Blob,
     ghost filled: { bytes ≡ replicate count byte },
 }
 
-/// So many bytes of one value, in the buffer that was filled last where that is of as many and the
-/// same.
+/// So many bytes of one value, which stand behind the number of their signal in one buffer: so they
+/// go over a link without being copied.
+fn fill(alloc: Global, number: u32, count: u32, byte: u8) -> Result<Blob, NoMemory>
+    ensures { IfOk result (λ bytes. bytes ≡ replicate count byte) }
+{
+    let front = number.to_be_bytes();
+    let whole = front.len() + count as usize;
+    let mut buffer = Vec::with_capacity(alloc, whole)?;
+    buffer.extend_from_slice(&front)?;
+    buffer.resize(whole, byte)?;
+    Blob::shared(buffer)?.part(front.len(), whole)
+}
+
+/// So many bytes of one value for a signal of this number. Those that were filled last are shared
+/// where they are of as many and the same.
 pub(crate) fn filled_with(
     alloc: Global,
     last: &mut Option<Filled>,
+    number: u32,
     count: u32,
     byte: u8,
 ) -> Result<Blob, NoMemory>
     ensures { IfOk result (λ bytes. bytes ≡ replicate count byte) }
 {
     if let Some(filled) = last {
-        if filled.count == count && filled.byte == byte {
+        if filled.number == number && filled.count == count && filled.byte == byte {
             return filled.bytes.copy();
         }
     }
-    let bytes = Blob::shared(vec![in alloc; byte; count as usize]?)?;
+    let bytes = fill(alloc, number, count, byte)?;
     let shared = bytes.copy()?;
-    *last = Some(Filled { count, byte, bytes });
+    *last = Some(Filled {
+        number,
+        count,
+        byte,
+        bytes,
+    });
     Ok(shared)
 }

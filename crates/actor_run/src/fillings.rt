@@ -8,14 +8,19 @@ use linx_base::{Blob, NoMemory, Signal, TryCopy};
 use script_lang::Filling;
 use std::alloc::Global;
 
-/// The bytes that a filling stands for. Those of the script are shared, and so are those that were
-/// filled last.
-fn bytes_of(alloc: Global, last: &mut Option<Filled>, filling: &Filling) -> Result<Blob, NoMemory>
+/// The bytes that a filling stands for, for a signal of this number. Those of the script are shared,
+/// and so are those that were filled last.
+fn bytes_of(
+    alloc: Global,
+    last: &mut Option<Filled>,
+    number: u32,
+    filling: &Filling,
+) -> Result<Blob, NoMemory>
     ensures { IfOk result (λ bytes. bytes ≡ data_of filling.now) }
 {
     match filling {
         Filling::Bytes(bytes) => bytes.copy(),
-        Filling::Repeat { count, byte } => filled_with(alloc, last, *count, *byte),
+        Filling::Repeat { count, byte } => filled_with(alloc, last, number, *count, *byte),
     }
 }
 
@@ -30,6 +35,6 @@ pub(crate) fn signal_filled(
     requires { IsTrue (fits_data data_limit filling.now) }
     ensures { IfOk result (λ signal. signal ≡ signal_of number (data_of filling.now)) }
 {
-    let bytes = bytes_of(alloc, last, filling)?;
+    let bytes = bytes_of(alloc, last, number, filling)?;
     Ok(Signal::of(number, bytes))
 }

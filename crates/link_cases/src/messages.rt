@@ -61,7 +61,7 @@ impl Called for Messages {
 /// The signal that goes by this body, which must be written so again.
 fn signal_again(alloc: Global, body: &Blob) -> Result<Signal, Fail> {
     let signal = read_signal(body)?;
-    if !write_signal(alloc, &signal)?.same(body) {
+    if !write_signal(&signal)?.same(body) {
         return Err(Fail::from("it is written otherwise"));
     }
     Ok(signal)

@@ -1,5 +1,6 @@
--- A part of a part.
-use Rattle.std.proofs.Common.{◌≡◌, ℕ, ◌+◌, ◌-◌, ◌≤◌, List, length, take, drop, slice_range, ap, sym}
+-- A part of a part, and a range with what stands right before it.
+use Rattle.std.proofs.Common.{◌≡◌, ℕ, ◌+◌, ◌-◌, ◌≤◌, ◌++◌, List, length, take, drop, slice_range}
+use Rattle.std.proofs.Common.{ap, sym, take-add}
 use Rattle.std.proofs.Common.{◌∙◌, arith}
 use Rattle.std.proofs.lemmas.List.{drop-take, take-take, drop-drop, length-take}
 
@@ -23,3 +24,15 @@ pub part_of_shared : (xs ys : List ℕ) (a b from to : ℕ) → ys ≡ xs → fr
     → to ≤ length (slice_range xs a b) → slice_range ys (a + from) (a + to)
     ≡ slice_range (slice_range xs a b) from to
 part_of_shared xs ys a b from to e order within = rw e (part_of_part xs a b from to order within)
+
+pub range_behind : (xs front : List ℕ) (start place to : ℕ) → start + length front ≡ place
+    → place ≤ to → slice_range xs start place ≡ front
+    → slice_range xs start to ≡ front ++ slice_range xs place to
+range_behind xs front start place to sum order e =
+    let whole : to - start ≡ place - start + (to - place) = omega (arith, sum) in
+    let at : start + (place - start) ≡ place = omega (arith, sum) in
+    let rest : drop (place - start) (drop start xs) ≡ drop place xs =
+    drop-drop (place - start) start xs ∙ ap (λ m. drop m xs) at in
+    ap (λ n. take n (drop start xs)) whole
+    ∙ take-add (place - start) (to - place) (drop start xs)
+    ∙ rw rest (ap (λ ys. ys ++ slice_range xs place to) e)

@@ -1,6 +1,8 @@
-ghost use Rattle.std.specs.Prelude.{◌≡◌, ◌≤◌, ◌↔◌, length, slice_range, IsTrue, IfOk};
+ghost use Rattle.std.specs.Prelude.{◌≡◌, ◌+◌, ◌≤◌, ◌↔◌, ◌++◌, length, slice_range, IsTrue, IfOk};
+ghost use Rattle.std.specs.Prelude.{IfSome};
 ghost use Rattle.std.specs.Str.{bytes_eq};
 
+use crate::bytes::Bytes;
 use crate::memory::NoMemory;
 use crate::try_copy::TryCopy;
 use std::alloc::Global;
@@ -27,6 +29,20 @@ impl Model for Blob {
     ghost invariant = { λ b. (b.from ≤ b.to) × (b.to ≤ length (arc_value b.buffer).items) };
 }
 
+/// Where a front begins that stands in a buffer right before a place.
+fn start_of(buffer: &[u8], front: &[u8], place: usize) -> Option<usize>
+    requires { place ≤ length buffer.now }
+    ensures { IfSome result (λ start. (start + length front.now ≡ place)
+        × (slice_range buffer.now start place ≡ front.now)) }
+{
+    let start = place.checked_sub(front.len())?;
+    if &buffer[start..place] == front {
+        Some(start)
+    } else {
+        None
+    }
+}
+
 impl Blob {
     /// A blob of these bytes, copied once.
     pub fn of(alloc: Global, bytes: &[u8]) -> Result<Blob, NoMemory>
@@ -45,6 +61,16 @@ impl Blob {
             from: 0,
             to,
         })
+    }
+
+    /// A blob of the bytes of the one and then those of the other, copied once.
+    pub fn joined(alloc: Global, front: &[u8], back: &[u8]) -> Result<Blob, NoMemory>
+        ensures { IfOk result (λ blob. blob ≡ front.now ++ back.now) }
+    {
+        let mut bytes = Bytes::with_room(alloc, front.len().saturating_add(back.len()))?;
+        bytes.extend(front)?;
+        bytes.extend(back)?;
+        bytes.into_blob()
     }
 
     pub fn bytes(&self) -> &[u8]
@@ -76,6 +102,22 @@ impl Blob {
             from: self.from + from,
             to: self.from + to,
         })
+    }
+
+    /// The bytes of a front, and these behind them. Where the buffer has the front right before
+    /// these bytes it is shared; else all are copied.
+    #[tactic(auto, using(crate::proofs::Ranges::range_behind))]
+    pub fn behind(&self, front: &[u8]) -> Result<Blob, NoMemory>
+        ensures { IfOk result (λ whole. whole ≡ front.now ++ self.now) }
+    {
+        match start_of(self.buffer.as_slice(), front, self.from) {
+            Some(from) => Ok(Blob {
+                buffer: self.buffer.clone()?,
+                from,
+                to: self.to,
+            }),
+            None => Blob::joined(self.allocator(), front, self.bytes()),
+        }
     }
 
     /// The allocator that the buffer was made with.

@@ -201,6 +201,13 @@ impl Signal {
         self.bytes.bytes()
     }
 
+    /// The data bytes, which can be shared.
+    pub fn data(&self) -> &Blob
+        ensures { result.now ≡ self.now.bytes }
+    {
+        &self.bytes
+    }
+
     /// 4, and the number of data bytes.
     pub fn size(&self) -> u32
         ensures size { result ≡ size_of self.now }

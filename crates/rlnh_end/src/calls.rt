@@ -109,7 +109,7 @@ fn tell(parts: &mut Parts, from: Inc, to: Inc, signal: &Signal) -> Result<(), No
     let Some(receiver) = parts.addr_met(to) else {
         return Ok(());
     };
-    let body = write_signal(parts.alloc, signal)?;
+    let body = write_signal(signal)?;
     parts.put(Message {
         from: sender,
         to: receiver,

@@ -6,10 +6,8 @@ ghost use Rattle.rlnh_messages.specs.Signals.{IsSignal, IsSignalBody, SpellsSign
 
 use crate::fields::u32_in;
 use crate::reading::RlnhError;
-use crate::writing::joined;
 use byteorder::{BigEndian, ByteOrder};
 use linx_base::{Blob, NoMemory, Signal};
-use std::alloc::Global;
 
 /// The bytes of a signal's number.
 const NUMBER_SIZE: usize = 4;
@@ -17,15 +15,16 @@ const NUMBER_SIZE: usize = 4;
 /// The most bytes of a message's body.
 const BODY_MOST: usize = 65_536;
 
-/// The body by which a signal goes.
-pub fn write_signal(alloc: Global, signal: &Signal) -> Result<Blob, NoMemory>
+/// The body by which a signal goes. It shares the signal's bytes where these stand behind its number
+/// already, as those of a signal do that came over a link.
+pub fn write_signal(signal: &Signal) -> Result<Blob, NoMemory>
     ensures ok { IfOk result (λ body. body ≡ signal_body signal.now) }
     // So what is written is read again.
     ensures is_signal { IsSignal signal.now }
 {
     let mut number = [0; NUMBER_SIZE];
     BigEndian::write_u32(&mut number, signal.number());
-    joined(alloc, &number, signal.bytes())
+    signal.data().behind(&number)
 }
 
 /// The signal that goes by this body, whose bytes its data share. A body of fewer than 4 bytes, or

@@ -4,7 +4,7 @@ ghost use Rattle.byteorder.specs.Endian.{big_bytes};
 
 use crate::rlnh::{INIT, INIT_REPLY, PUBLISH, QUERY_NAME, Rlnh, UNPUBLISH, UNPUBLISH_ACK};
 use byteorder::{BigEndian, ByteOrder};
-use linx_base::{Blob, Bytes, Inc, NoMemory};
+use linx_base::{Blob, Inc, NoMemory};
 use std::alloc::Global;
 
 /// The version that INIT and its reply name.
@@ -31,16 +31,6 @@ fn publication(addr: u32, inc: u64) -> [u8; 16]
     bytes
 }
 
-/// The bytes of the one, and then of the other.
-pub fn joined(alloc: Global, front: &[u8], back: &[u8]) -> Result<Blob, NoMemory>
-    ensures { IfOk result (λ bytes. bytes ≡ front.now ++ back.now) }
-{
-    let mut bytes = Bytes::with_room(alloc, front.len().saturating_add(back.len()))?;
-    bytes.extend(front)?;
-    bytes.extend(back)?;
-    bytes.into_blob()
-}
-
 /// The bytes of a message.
 #[tactic(auto, unfolding(crate::specs::Messages::spelling_of))]
 pub fn write(alloc: Global, m: &Rlnh) -> Result<Blob, NoMemory>
@@ -52,12 +42,12 @@ pub fn write(alloc: Global, m: &Rlnh) -> Result<Blob, NoMemory>
     match m {
         Rlnh::Init => Blob::of(alloc, &numbered(INIT, VERSION)),
         Rlnh::InitReply => Blob::of(alloc, &numbered(INIT_REPLY, VERSION)),
-        Rlnh::QueryName(name) => joined(alloc, &[QUERY_NAME, 0, 0, 0], name.bytes()),
+        Rlnh::QueryName(name) => Blob::joined(alloc, &[QUERY_NAME, 0, 0, 0], name.bytes()),
         Rlnh::Publish {
             addr,
             inc: Inc(inc),
             name,
-        } => joined(alloc, &publication(*addr, *inc), name.bytes()),
+        } => Blob::joined(alloc, &publication(*addr, *inc), name.bytes()),
         Rlnh::Unpublish(addr) => Blob::of(alloc, &numbered(UNPUBLISH, *addr)),
         Rlnh::UnpublishAck(addr) => Blob::of(alloc, &numbered(UNPUBLISH_ACK, *addr)),
     }
