@@ -28,9 +28,12 @@ use std::marker::Model;
 pub struct Half {
     end: End,
     notes: UndoList<Note>,
+    /// Whether anything was done to the side since the event began.
+    touched: bool,
 }
 
 impl Model for Half {
+    ghost use Rattle.std.specs.Prelude.{◌≡◌, false};
     ghost use Rattle.linx_base.specs.Both.{Both};
     ghost use Rattle.carrier.specs.Records.{HalfState};
     ghost use Rattle.carrier.specs.Notes.{half_with};
@@ -41,6 +44,9 @@ impl Model for Half {
       was = half_with h.end.was h.notes.was;
       is = half_with h.end.is h.notes.is;
     } };
+
+    ghost invariant = { λ h. h.touched ≡ false
+        → half_with h.end.was h.notes.was ≡ half_with h.end.is h.notes.is };
 }
 
 /// All that the end sends goes into flight, behind the others.
@@ -75,6 +81,7 @@ impl Half {
         Half {
             end: End::new(alloc, 1, window, piece),
             notes: UndoList::new(alloc),
+            touched: false,
         }
     }
 
@@ -93,6 +100,7 @@ impl Half {
             let mine = self.old.is.end.talk.mine in
             IfOk result (λ handed. handed ≡ handed_as mine (packet_at bytes.now).src r.answer) }
     {
+        self.touched = true;
         let mine = self.end.mine();
         let peer = self.end.peer();
         let input = self.end.input(bytes)?;
@@ -124,6 +132,7 @@ impl Half {
         ensures ticked { let r = tick_of self.old.is.end in
             IfOk result (λ ticked. ticked ≡ ticked_as self.old.is.end.talk.mine r.answer) }
     {
+        self.touched = true;
         let session = self.end.mine();
         let peer = self.end.peer();
         let ticked = self.end.tick()?;
@@ -148,6 +157,7 @@ impl Half {
             OnOk result (out.new.is ≡ out.old.is ++ s.out) }
         ensures out_was { out.new.was ≡ out.old.was }
     {
+        self.touched = true;
         self.end.offer(message)?;
         send_all(&mut self.end, out)?;
         self.notes.push(Note::Offered(message.copy()?))?;
@@ -161,6 +171,7 @@ impl Half {
             (self.new.is ≡ with_next self.old.is (restart_of self.old.is.end boot)) }
         ensures half_was { self.new.was ≡ self.old.was }
     {
+        self.touched = true;
         let session = self.end.mine();
         let peer = self.end.peer();
         self.notes.push(Note::Ended { session, peer })?;
@@ -201,15 +212,23 @@ impl Half {
     pub fn keep(&mut self)
         ensures { self.new ≡ still self.old.is }
     {
+        if !self.touched {
+            return;
+        }
         self.end.keep();
         self.notes.keep();
+        self.touched = false;
     }
 
     /// What was is again. It takes no memory.
     pub fn undo(&mut self)
         ensures { self.new ≡ still self.old.was }
     {
+        if !self.touched {
+            return;
+        }
         self.end.undo();
         self.notes.undo();
+        self.touched = false;
     }
 }

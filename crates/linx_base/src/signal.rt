@@ -203,7 +203,8 @@ impl Signal {
 
     /// The data bytes, which can be shared.
     pub fn data(&self) -> &Blob
-        ensures { result.now ≡ self.now.bytes }
+        ensures data { result.now ≡ self.now.bytes }
+        ensures bounded { length self.now.bytes ≤ data_limit }
     {
         &self.bytes
     }

@@ -24,9 +24,12 @@ use std::marker::Model;
 pub struct Half {
     end: RlnhEnd,
     kept: History,
+    /// Whether anything was done to the side since the event began.
+    touched: bool,
 }
 
 impl Model for Half {
+    ghost use Rattle.std.specs.Prelude.{◌≡◌, false};
     ghost use Rattle.linx_base.specs.Both.{Both};
     ghost use Rattle.trunk.specs.Events.{TrunkSide};
 
@@ -36,6 +39,8 @@ impl Model for Half {
       was = record { end = h.end.was; kept = h.kept.was };
       is = record { end = h.end.is; kept = h.kept.is };
     } };
+
+    ghost invariant = { λ h. h.touched ≡ false → (h.end.was ≡ h.end.is) × (h.kept.was ≡ h.kept.is) };
 }
 
 impl Half {
@@ -46,6 +51,7 @@ impl Half {
         Half {
             end: RlnhEnd::new(alloc),
             kept: History::new(alloc),
+            touched: false,
         }
     }
 
@@ -54,6 +60,7 @@ impl Half {
         ensures is { OnOk result (self.new.is ≡ side_begins self.old.is peer) }
         ensures was { self.new.was ≡ self.old.was }
     {
+        self.touched = true;
         self.end.begin()?;
         self.kept.note(Note::WentUp(peer))?;
         Ok(())
@@ -64,6 +71,7 @@ impl Half {
         ensures is { OnOk result (self.new.is ≡ side_ends self.old.is next) }
         ensures was { self.new.was ≡ self.old.was }
     {
+        self.touched = true;
         self.end.empty();
         self.kept.note(Note::Began(next))?;
         Ok(())
@@ -76,6 +84,7 @@ impl Half {
             OnOk result (self.new.is ≡ side_says self.old.is made) }
         ensures was { self.new.was ≡ self.old.was }
     {
+        self.touched = true;
         let known = self.end.is_published(inc);
         self.end.publish(inc, name)?;
         if known {
@@ -93,6 +102,7 @@ impl Half {
             OnOk result (self.new.is ≡ side_says self.old.is made) }
         ensures was { self.new.was ≡ self.old.was }
     {
+        self.touched = true;
         if !self.end.is_noted(name) {
             return Ok(());
         }
@@ -106,6 +116,7 @@ impl Half {
             OnOk result (self.new.is ≡ side_says self.old.is made) }
         ensures was { self.new.was ≡ self.old.was }
     {
+        self.touched = true;
         let known = self.end.is_published(inc);
         self.end.close(inc)?;
         if !known {
@@ -121,6 +132,7 @@ impl Half {
             OnOk result (self.new.is ≡ side_says self.old.is made) }
         ensures was { self.new.was ≡ self.old.was }
     {
+        self.touched = true;
         self.end.query(name)?;
         self.kept.note(Note::Asked(name.copy()?))?;
         Ok(())
@@ -134,6 +146,7 @@ impl Half {
             OnOk result (self.new.is ≡ side_says self.old.is made) }
         ensures was { self.new.was ≡ self.old.was }
     {
+        self.touched = true;
         let known = self.end.is_published(from);
         self.end.send(from, name, to, signal)?;
         let signal = signal.note()?;
@@ -156,6 +169,7 @@ impl Half {
             → up ≡ told_up (hears self.old.is.end.tables heard).up) }
         ensures was { self.new.was ≡ self.old.was }
     {
+        self.touched = true;
         match self.end.input(m)? {
             Up::Nothing => Ok(TrunkUp::Nothing),
             Up::Arrived { from, to, signal } => {
@@ -205,6 +219,7 @@ impl Half {
         ensures is { self.new.is ≡ record self.old.is { end = after_out self.old.is.end } }
         ensures was { self.new.was ≡ self.old.was }
     {
+        self.touched = true;
         self.end.pass();
     }
 
@@ -240,15 +255,23 @@ impl Half {
     pub fn keep(&mut self)
         ensures { self.new ≡ still self.old.is }
     {
+        if !self.touched {
+            return;
+        }
         self.end.keep();
         self.kept.keep();
+        self.touched = false;
     }
 
     /// What was is again. It takes no memory.
     pub fn undo(&mut self)
         ensures { self.new ≡ still self.old.was }
     {
+        if !self.touched {
+            return;
+        }
         self.end.undo();
         self.kept.undo();
+        self.touched = false;
     }
 }
