@@ -35,9 +35,8 @@ fn item(alloc: Global, number: u32, kind: Kind, step: u64) -> anyhow::Result<Ite
 }
 
 fn only(alloc: Global, number: u32) -> anyhow::Result<Sigsel> {
-    let mut numbers = Numbers::new(alloc);
-    numbers.push(number).context("numbers")?;
-    Ok(Sigsel::Only(numbers))
+    let numbers = Vec::from_slice(alloc, &[number])?;
+    Ok(Sigsel::Only(Numbers::of(numbers).context("numbers")?))
 }
 
 /// Each round takes a signal of one of the numbers and puts one of the same number, so that the

@@ -17,6 +17,9 @@ const STEPS_MOST: u64 = 200_000;
 /// The bytes of noted signals that fill a journal.
 const SIGNAL_BYTES_MOST: u64 = 67_108_864;
 
+/// The steps that room is made for at first: more memory than an allocator copies to let it grow.
+const FIRST_ROOM: usize = 2_048;
+
 /// The names of the nodes and links, and the steps so far. Contracts see its log, and how many more
 /// steps it has room for.
 #[derive(Drop)]
@@ -106,7 +109,12 @@ impl Journal {
         ensures log { self.new.log ≡ self.old.log }
         ensures room_stays { self.old.spare ≤ self.new.spare }
     {
-        self.steps.reserve(n)?;
+        let room = if self.steps.is_empty() {
+            n.max(FIRST_ROOM)
+        } else {
+            n
+        };
+        self.steps.reserve(room)?;
         Ok(())
     }
 

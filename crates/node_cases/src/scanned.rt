@@ -103,7 +103,7 @@ fn step_of(item: Option<Item>) -> Option<u64> {
 fn filter_of(alloc: Global, random: u64) -> Result<Sigsel, Fail> {
     let one = (random / 4 % 8) as u32;
     let other = (random / 32 % 8) as u32;
-    let listed = Numbers::of([one, other].to_vec(alloc)?);
+    let listed = Numbers::of([one, other].to_vec(alloc)?)?;
     Ok(match random % 4 {
         0 => Sigsel::Any,
         1 => Sigsel::Not(listed),

@@ -66,11 +66,11 @@ pub fn signal_of(alloc: Global, text: &str) -> Result<Signal, Fail> {
 
 /// Numbers, as `7,8`.
 fn numbers_of(alloc: Global, text: &str) -> Result<Numbers, Fail> {
-    let mut numbers = Numbers::new(alloc);
+    let mut numbers = Vec::new(alloc);
     for word in text.split(',') {
         numbers.push(word.parse()?)?;
     }
-    Ok(numbers)
+    Ok(Numbers::of(numbers)?)
 }
 
 /// A filter: `any`, `only:7,8` or `not:8`.

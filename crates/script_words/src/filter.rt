@@ -21,7 +21,7 @@ fn listed(alloc: Global, words: &[&[u8]]) -> Result<Numbers, LineError>
     if numbers.is_empty() || numbers.len() > NUMBERS_MOST {
         return Err(BAD_SHAPE);
     }
-    Ok(numbers)
+    Ok(Numbers::of(numbers.into_vec())?)
 }
 
 /// What a receive selects.

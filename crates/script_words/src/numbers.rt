@@ -10,7 +10,7 @@ ghost use Rattle.script_words.specs.Numbers.{any_number};
 ghost use Rattle.script_words.specs.Numbers.{numbers_of, number_or};
 
 use crate::line_error::{BAD_SHAPE, LineError};
-use sigsel::Numbers;
+use linx_base::Sequence;
 use std::alloc::Global;
 
 /// The most digits of a number.
@@ -86,10 +86,10 @@ pub(crate) fn number_or<'a, 'b>(unsaid: u32, words: &'a [&'b [u8]]) -> (u32, &'a
 }
 
 /// The words as numbers.
-pub(crate) fn numbers(alloc: Global, words: &[&[u8]]) -> Result<Numbers, LineError>
+pub(crate) fn numbers(alloc: Global, words: &[&[u8]]) -> Result<Sequence<u32>, LineError>
     ensures { Gives (λ n. n) result (numbers_of (map (λ w. w.now) words.now)) }
 {
-    let mut numbers = Numbers::new(alloc);
+    let mut numbers = Sequence::new(alloc);
     for word in words {
         let number = any_number(word)?;
         numbers.push(number)?;

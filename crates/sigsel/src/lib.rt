@@ -3,8 +3,10 @@
 //! listed, -n for all but the n listed.
 #![tactic(auto)]
 
+mod numbers;
 mod sigsel;
 mod spelling;
 
-pub use sigsel::{Numbers, Sigsel};
+pub use numbers::Numbers;
+pub use sigsel::Sigsel;
 pub use spelling::SelError;

@@ -2,10 +2,8 @@ ghost use Rattle.std.specs.Prelude.{◌≡◌, ◌==◌, ◌↔◌, IsTrue, Cont
 ghost use Rattle.std.specs.List.{list_any};
 ghost use Rattle.sigsel.specs.Selects.{Selects, selects};
 
-use linx_base::{NoMemory, Sequence, TryCopy};
-
-/// Signal numbers in order.
-pub type Numbers = Sequence<u32>;
+use crate::numbers::Numbers;
+use linx_base::{NoMemory, TryCopy};
 
 /// Which signals a receive takes.
 #[derive(Drop)]

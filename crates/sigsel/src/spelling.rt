@@ -5,8 +5,10 @@ ghost use Rattle.sigsel.specs.Spelling.{spelling_of, IsCounted, has_count, is_nu
 ghost use Rattle.sigsel.specs.Spelling.{lists_numbers};
 ghost use Rattle.sigsel.specs.declared.spelling.SelError.TheVariants.{NoMemory as OutOfMemory};
 
-use crate::sigsel::{Numbers, Sigsel};
-use std::alloc::{AllocError, Global};
+use crate::numbers::Numbers;
+use crate::sigsel::Sigsel;
+use linx_base::NoMemory;
+use std::alloc::Global;
 use std::error::Error;
 use std::fmt;
 
@@ -35,10 +37,10 @@ impl fmt::Display for SelError {
 
 impl Error for SelError {}
 
-impl From<AllocError> for SelError {
+impl From<NoMemory> for SelError {
     ghost from_gives = { λ _ e. e ≡ OutOfMemory };
 
-    fn from(_refusal: AllocError) -> SelError {
+    fn from(_refusal: NoMemory) -> SelError {
         SelError::NoMemory
     }
 }
@@ -56,7 +58,7 @@ fn are_numbers(values: &[i64]) -> bool
 }
 
 /// The values as signal numbers.
-fn numbers_of(alloc: Global, values: &[i64]) -> Result<Vec<u32>, AllocError>
+fn numbers_of(alloc: Global, values: &[i64]) -> Result<Vec<u32>, NoMemory>
     requires { IsTrue (list_all is_number values.now) }
     ensures { IfOk result (λ numbers. map pos numbers.items ≡ values.now) }
 {
@@ -89,7 +91,7 @@ impl Sigsel {
         if !are_numbers(rest) {
             return Err(SelError::BadNumber);
         }
-        let listed = Numbers::of(numbers_of(alloc, rest)?);
+        let listed = Numbers::of(numbers_of(alloc, rest)?)?;
         if *count == 0 {
             return Ok(Sigsel::Any);
         }

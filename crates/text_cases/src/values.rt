@@ -94,7 +94,7 @@ fn numbers(alloc: Global, words: &str) -> Result<Numbers, Fail> {
     for word in words.split(',') {
         numbers.push(word.parse()?)?;
     }
-    Ok(Numbers::of(numbers))
+    Ok(Numbers::of(numbers)?)
 }
 
 /// `any`, `only` or `not` with the numbers.

@@ -36,7 +36,7 @@ pub(crate) const CLIENTS: u32 = 8;
 fn receive_of(alloc: Global, number: u32) -> Result<Command, NoMemory>
     ensures { IfOk result (λ command. command ≡ receive number) }
 {
-    let listed = Numbers::of(Vec::from_slice(alloc, &[number])?);
+    let listed = Numbers::of(Vec::from_slice(alloc, &[number])?)?;
     Ok(Command::Recv(Sigsel::Only(listed)))
 }
 
