@@ -104,9 +104,7 @@ fn bring(
         TrunkUp::Nothing => Ok(Effects::new(alloc)),
         TrunkUp::WentUp { session, peer } => {
             ask_again(trunks, kernel, at.link, at.side)?;
-            let mut effects = Effects::new(alloc);
-            effects.push(Effect::Up(at.node, at.link, session, peer))?;
-            Ok(effects)
+            Effects::one(alloc, Effect::Up(at.node, at.link, session, peer))
         }
         TrunkUp::WentDown { session } => kernel.down(at.link, session, step),
         TrunkUp::Arrived { from, to, signal } => {

@@ -200,16 +200,12 @@ fn effects_of_send(
 ) -> Result<Effects, NoMemory>
     ensures { IfOk result (λ effects. effects ≡ arrivals_of from note.now living to) }
 {
-    let mut effects = Effects::new(alloc);
-    if !living {
-        return Ok(effects);
-    }
     match to {
-        Peer::Here(inc) => {
-            effects.push(Effect::Arrived(inc, Peer::Here(from), note.copy()?))?;
-            Ok(effects)
+        Peer::Here(inc) if living => {
+            let arrived = Effect::Arrived(inc, Peer::Here(from), note.copy()?);
+            Effects::one(alloc, arrived)
         }
-        Peer::There { .. } => Ok(effects),
+        _ => Ok(Effects::new(alloc)),
     }
 }
 

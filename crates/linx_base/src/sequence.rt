@@ -31,6 +31,17 @@ impl<T> Sequence<T> {
         }
     }
 
+    /// The list of one value, with room for no more. A refusal frees the value.
+    pub fn one(alloc: Global, value: T) -> Result<Sequence<T>, NoMemory>
+    where
+        T: Drop,
+        ensures { IfOk result (λ list. list ≡ value ∷ []) }
+    {
+        let mut elements = Vec::with_capacity(alloc, 1)?;
+        elements.push(value)?;
+        Ok(Sequence { elements })
+    }
+
     /// The list that a vector holds. It takes no memory.
     pub fn of(elements: Vec<T>) -> Sequence<T>
         ensures { result ≡ elements.items }

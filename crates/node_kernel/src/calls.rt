@@ -11,7 +11,6 @@ ghost use Rattle.node_kernel.specs.Calls.{IsSentAs};
 
 use crate::answers::Sent;
 use crate::roster::Roster;
-use crate::rules::one;
 use attach_table::AttachTable;
 use hunt_table::HuntTable;
 use journal::{Effect, Effects};
@@ -93,7 +92,7 @@ fn arrival(alloc: Global, at: Inc, from: Peer, signal: &Signal) -> Result<Effect
     ensures { IfOk result (λ effects. effects ≡ Arrived at from signal.now ∷ []) }
 {
     let note = signal.note()?;
-    one(alloc, Effect::Arrived(at, from, note))
+    Effects::one(alloc, Effect::Arrived(at, from, note))
 }
 
 /// A signal arrives at an endpoint.
@@ -124,7 +123,7 @@ fn found_at_once(
     ensures { IfOk result (λ effects. effects ≡ Found at peer signal.now number ∷ []) }
 {
     let note = signal.note()?;
-    one(alloc, Effect::Found(at, peer, note, number))
+    Effects::one(alloc, Effect::Found(at, peer, note, number))
 }
 
 /// A hunt is answered at once.
@@ -194,7 +193,7 @@ fn dead_notice(
     }) ∷ []) }
 {
     let note = signal.with_reason(Reason::Dead)?.note()?;
-    one(alloc, Effect::Notified(at, peer, note, r, Reason::Dead))
+    Effects::one(alloc, Effect::Notified(at, peer, note, r, Reason::Dead))
 }
 
 /// The holder of an attach to a peer that isn't alive is notified at once.

@@ -1,5 +1,5 @@
 //! The effects of what happens at a node, in order, by what is pending there.
-ghost use Rattle.std.specs.Prelude.{ℕ, ◌≡◌, ◌<◌, List, length, [], ◌∷◌, ◌++◌, map, IfOk, OnOk};
+ghost use Rattle.std.specs.Prelude.{ℕ, ◌≡◌, ◌<◌, List, length, ◌++◌, map, IfOk, OnOk};
 ghost use Rattle.linx_base.specs.Content.{data_limit};
 ghost use Rattle.linx_base.specs.Peers.{same_peer};
 ghost use Rattle.linx_base.specs.declared.identity.Peer.TheVariants.{Here};
@@ -18,15 +18,6 @@ use linx_base::{
     TryCopy,
 };
 use std::alloc::Global;
-
-/// One effect, as a list.
-pub(crate) fn one(alloc: Global, effect: Effect) -> Result<Effects, NoMemory>
-    ensures { IfOk result (λ effects. effects ≡ effect ∷ []) }
-{
-    let mut effects = Effects::new(alloc);
-    effects.push(effect)?;
-    Ok(effects)
-}
 
 /// The answer to a hunt that found a peer.
 fn found(peer: Peer, hunt: &PendingHunt) -> Result<Effect, NoMemory>
@@ -104,7 +95,7 @@ pub(crate) fn opening(
     ensures { IfOk result (λ effects. (name : List ℕ) → path.now ≡ Local name
         → effects ≡ opening inc name hunts.now) }
 {
-    let mut effects = one(alloc, Effect::Opened(inc))?;
+    let mut effects = Effects::one(alloc, Effect::Opened(inc))?;
     add_founds(&mut effects, hunts, path, Peer::Here(inc))?;
     Ok(effects)
 }
@@ -113,7 +104,7 @@ pub(crate) fn opening(
 pub(crate) fn closing(alloc: Global, inc: Inc, attaches: &AttachTable) -> Result<Effects, NoMemory>
     ensures { IfOk result (λ effects. effects ≡ closing inc attaches.now) }
 {
-    let mut effects = one(alloc, Effect::Closed(inc))?;
+    let mut effects = Effects::one(alloc, Effect::Closed(inc))?;
     add_notices_elsewhere(&mut effects, attaches, inc)?;
     Ok(effects)
 }
@@ -142,7 +133,7 @@ pub(crate) fn meeting(
     ensures { IfOk result (λ effects. (link : LinkNo) → path.now ≡ Over link name.now
         → effects ≡ meeting node link peer name.now hunts.now) }
 {
-    let mut effects = one(alloc, Effect::Met(node, peer, name.copy()?))?;
+    let mut effects = Effects::one(alloc, Effect::Met(node, peer, name.copy()?))?;
     add_founds(&mut effects, hunts, path, peer)?;
     Ok(effects)
 }
@@ -156,7 +147,7 @@ pub(crate) fn parting(
 ) -> Result<Effects, NoMemory>
     ensures { IfOk result (λ effects. effects ≡ parting node peer attaches.now) }
 {
-    let mut effects = one(alloc, Effect::Gone(node, peer))?;
+    let mut effects = Effects::one(alloc, Effect::Gone(node, peer))?;
     add_notices(&mut effects, Reason::Closed, attaches.attaches_to(peer))?;
     Ok(effects)
 }
@@ -171,7 +162,7 @@ pub(crate) fn losing(
 ) -> Result<Effects, NoMemory>
     ensures { IfOk result (λ effects. effects ≡ losing node link session attaches.now) }
 {
-    let mut effects = one(alloc, Effect::Down(node, link, session))?;
+    let mut effects = Effects::one(alloc, Effect::Down(node, link, session))?;
     let lost = attaches.attaches_within(link, session);
     add_notices(&mut effects, Reason::Lost, lost)?;
     Ok(effects)
