@@ -1,8 +1,10 @@
--- An actor that waits in vain, and isn't at rest, makes no step in its turn.
-use Rattle.std.proofs.Common.{◌≡◌, ℕ, Bool, true, false, List, Option, Some, None, is_none, refl}
-use Rattle.std.proofs.Common.{sym, ap, subst}
-use Rattle.std.specs.Prelude.{not, ◌&&◌, slice_get}
-use Rattle.std.proofs.lemmas.Bool.{true≢false}
+-- An actor that has ended, or waits in vain and isn't at rest, makes no step in its turn.
+use Rattle.std.proofs.Common.{◌≡◌, ℕ, ◌+◌, ◌<◌, ◌≤◌, Bool, true, false, List, length, Option, Some}
+use Rattle.std.proofs.Common.{None, is_none, refl, sym, ◌∙◌, ap, subst, arith}
+use Rattle.std.specs.Prelude.{not, ◌&&◌, ◌||◌, ◌==◌, nat_lt, slice_get}
+use Rattle.std.proofs.Math.Bool.{and-false}
+use Rattle.std.proofs.lemmas.Bool.{and_parts, le-leb, le-ltb, ne_eqb, true≢false}
+use Rattle.std.proofs.lemmas.List.{length-map}
 use Rattle.linx_base.specs.declared.identity.Inc.{Inc}
 use Rattle.linx_base.specs.declared.identity.LinkNo.{LinkNo}
 use Rattle.linx_base.specs.declared.item.Item.{Item}
@@ -12,9 +14,10 @@ use Rattle.journal.specs.declared.by.By.TheVariants.{Actor}
 use Rattle.journal.specs.declared.effect.Step.{Step}
 use Rattle.journal.specs.declared.event.Event.TheVariants as asks
 use Rattle.journal.specs.declared.head.Head.{Head}
-use Rattle.journal.specs.History.{endpoint_of, last_endpoint}
+use Rattle.journal.specs.History.{endpoint_of, has_ended, last_endpoint}
 use Rattle.journal.specs.Queues.{queued}
 use Rattle.journal.specs.Rest.{is_idle, waits_in_vain, waits_with}
+use Rattle.journal.specs.Shapes.{Shape}
 use Rattle.node_kernel.specs.declared.answers.StepAnswer.TheVariants.{NotYet}
 use Rattle.node_kernel.specs.declared.ask.Ask.{Ask}
 use Rattle.run_trunks.specs.States.{trunks_of}
@@ -26,9 +29,13 @@ use Rattle.actor_run.specs.Following.{Follows, knows, next_ask}
 use Rattle.fabric.specs.Links.{is_still}
 use Rattle.fabric.specs.Machine.{head_for, is_at_rest}
 use Rattle.fabric.specs.Run.{IsStepFor, Layout}
-use Rattle.stage.specs.declared.stage.Turn.TheVariants.{Waits}
+use Rattle.fabric.proofs.Leading.{behind}
+use Rattle.stage.specs.declared.stage.Turn.{Turn}
+use Rattle.stage.specs.declared.stage.Turn.TheVariants.{Ended, Waits}
 use Rattle.stage.specs.Settlings.{GoesOnAfter, settled_by}
-use Rattle.stage.specs.Turns.{IsActed, asked_next, commands_of}
+use Rattle.stage.specs.Plays.{Play}
+use Rattle.stage.specs.Turns.{IsActed, IsBehind, IsTurn, IsTurnBy, IsTurnIf, IsTurnOf, asked_next}
+use Rattle.stage.specs.Turns.{commands_of, shape_of}
 use Rattle.stage.proofs.Waiting.{waits_at}
 
 pub not_true : (b : Bool) → not b ≡ true → b ≡ false
@@ -97,3 +104,69 @@ module _ (script : ScriptParts) (f : Layout) (k : ℕ)
         };
         came = refl;
       }
+
+all-false : (a b c d : Bool) → a ≡ false → b ≡ false → d ≡ false → false ≡ (a || (b || (c && d)))
+all-false a b c d first second last = rw (first, second, last, and-false c) refl
+
+waits-if : (a b c : Bool) → a ≡ true → b ≡ false → (a && not (b && c)) ≡ true
+waits-if a b c idle busy = rw (idle, busy) refl
+
+-- BEHIND ONE THAT HASN'T ENDED no actor is at rest
+behind-busy : (shape : Shape) (P : List Step) (k : ℕ) → IsBehind P k → k ≤ length shape.actors
+    → is_at_rest shape P k ≡ false
+behind-busy shape P k it within =
+    let n : ℕ = it.first in
+    let less : n < k = it.less in
+    behind shape P n it.above (omega (arith, less, within)) false k
+    (all-false (k == n) (has_ended P n) (is_idle P n) (nat_lt k n)
+    (ne_eqb k n (λ same. omega (arith, same, less))) it.running
+    (le-ltb k n (omega (arith, less)))) refl
+
+pub later-behind : (P : List Step) (k : ℕ) → IsBehind P k → IsBehind P (k + 1)
+later-behind P k it =
+    let less : it.first < k = it.less in
+    record {
+      first = it.first;
+      above = it.above;
+      less = omega (arith, less);
+      running = it.running;
+    }
+
+-- so one that waits in vain waits on
+pub behind-waits : (p : Play) → p.run.shape ≡ shape_of p.script → (k : ℕ)
+    → k ≤ length p.script.actors → IsBehind p.run.log.steps k
+    → is_idle p.run.log.steps k ≡ true
+    → (is_idle p.run.log.steps k
+    && not (is_at_rest p.run.shape p.run.log.steps k
+    && is_still p.run.shape p.run.log.steps (trunks_of p.run.trunks))) ≡ true
+behind-waits p shape k within it idle =
+    let count : length p.run.shape.actors ≡ length p.script.actors =
+    ap (λ (s : Shape). length s.actors) shape ∙ length-map p.script.actors (λ a. a.node) in
+    waits-if (is_idle p.run.log.steps k) (is_at_rest p.run.shape p.run.log.steps k)
+    (is_still p.run.shape p.run.log.steps (trunks_of p.run.trunks)) idle
+    (behind-busy p.run.shape p.run.log.steps k it (omega (arith, within, count)))
+
+-- THE TURN OF AN ACTOR that is passed over changes nothing
+module _ (script : ScriptParts) (f : Layout) (k : ℕ) (within : k ≤ length script.actors) where
+  turn_of-actor : (turn : Turn) → IsTurn script k f f turn → IsTurnOf script k f f
+  turn_of-actor turn made =
+      subst (λ (b : Bool). IsTurnBy b script k f f) (sym (le-leb k (length script.actors) within))
+      (turn, made)
+
+  pub ended-passed : has_ended f.log.steps k ≡ true → IsTurnOf script k f f
+  ended-passed ended =
+      turn_of-actor Ended
+      (subst (λ (b : Bool). IsTurnIf b script k f f Ended) (sym ended) (refl, refl))
+
+  pub waiting-passed : Follows (commands_of script k) k f.log.steps
+      → has_ended f.log.steps k ≡ false
+      → (is_idle f.log.steps k
+      && not (is_at_rest f.shape f.log.steps k
+      && is_still f.shape f.log.steps (trunks_of f.trunks))) ≡ true → IsTurnOf script k f f
+  waiting-passed follows running on =
+      let rests : Bool =
+      is_at_rest f.shape f.log.steps k && is_still f.shape f.log.steps (trunks_of f.trunks) in
+      let parts = and_parts (is_idle f.log.steps k) (not rests) on in
+      turn_of-actor Waits
+      (subst (λ (b : Bool). IsTurnIf b script k f f Waits) (sym running)
+      (idle-turn script f k follows parts.0 (not_true rests parts.1)))

@@ -4,6 +4,7 @@ use Rattle.std.specs.Prelude.{[], length, map, nat_le, slice_get, is_some, Optio
 use Rattle.std.specs.Prelude.{if◌then◌else◌}
 use Rattle.linx_base.specs.declared.identity.LinkNo.{LinkNo}
 use Rattle.journal.specs.declared.by.By.TheVariants.{Pump}
+use Rattle.journal.specs.declared.effect.Step.{Step}
 use Rattle.journal.specs.declared.event.Event.{Event}
 use Rattle.journal.specs.History.{has_ended}
 use Rattle.journal.specs.Logs.{is_full}
@@ -61,6 +62,13 @@ pub record IsActed (script : ScriptParts) (k : ℕ) (old new : Layout) (turn : T
 abbrev pub IsTurnStopped : ScriptParts → ℕ → Layout → Layout → Type 0
 IsTurnStopped script k old new =
     (new ≡ old) ⊎ ((answer : StepAnswer) × IsHalfDone old new k (asked_next script k old) answer)
+
+-- an actor with a smaller number hasn't ended
+pub record IsBehind (P : List Step) (k : ℕ) : Type 0 where
+  pub first : ℕ
+  pub above : 0 < first
+  pub less : first < k
+  pub running : has_ended P first ≡ false
 
 -- the journal takes no further step, and one is due: of an actor that hasn't ended, or of one that
 -- settles a link

@@ -13,7 +13,8 @@ ghost use Rattle.fabric.specs.Run.{Layout};
 ghost use Rattle.stage.specs.Plays.{AllFollowWhole, IsSoFar};
 ghost use Rattle.stage.specs.Seats.{IsStaged, unstarted};
 ghost use Rattle.stage.specs.Settlings.{settler_in, stirs_in};
-ghost use Rattle.stage.specs.Turns.{AreRounds, IsFullForActor, IsFullForLink, IsPump, IsRound};
+ghost use Rattle.stage.specs.Turns.{AreRounds, AreTurns, IsBehind, IsFullForActor, IsFullForLink};
+ghost use Rattle.stage.specs.Turns.{IsPump, IsRound};
 ghost use Rattle.stage.specs.Turns.{IsStoppedOf, IsStoppedRound, IsStoppedRun, IsTurn, IsTurnOf};
 ghost use Rattle.stage.specs.Turns.{IsTurnStopped};
 ghost use Rattle.stage.specs.Turns.{IsWhole, first_layout, is_over, makers, shape_of};
@@ -184,26 +185,8 @@ impl Stage {
         if self.fabric.has_ended(actor) {
             return Ok(Turn::Ended);
         }
-        if self.waits_on(actor) {
-            return Ok(Turn::Waits);
-        }
         let player = &mut self.players[(actor - 1) as usize];
         turn_of(self.alloc, &mut self.fabric, &self.script, actor, player)
-    }
-
-    /// Whether an actor's turn would find nothing, as the one before did: it waits, nothing that it
-    /// waits for is in its queue, it isn't at rest, and the journal has room.
-    fn waits_on(&self, actor: u32) -> bool
-        requires above { 0 < actor }
-        requires within { actor ≤ length self.now.script.actors }
-        ensures { result ≡ (not (is_full self.now.run.log.steps)
-            && (is_idle self.now.run.log.steps actor
-            && not (is_at_rest self.now.run.shape self.now.run.log.steps actor
-            && is_still self.now.run.shape self.now.run.log.steps
-            (trunks_of self.now.run.trunks)))) }
-    {
-        let _ = &self.players;
-        !self.fabric.journal().full() && self.fabric.is_idle(actor) && !self.fabric.is_rest(actor)
     }
 
     /// One turn of a link's pump. A stop leaves it to be made, and nothing changed.
@@ -244,6 +227,45 @@ impl Stage {
         Ok(())
     }
 
+    /// Whether an actor waits, nothing that it waits for is in its queue, and it isn't at rest, as
+    /// none is behind one that hasn't ended.
+    fn waits_on(&self, actor: u32, behind: bool) -> bool
+        requires above { 0 < actor }
+        requires within { actor ≤ length self.now.script.actors }
+        requires behind { behind ≡ true → IsBehind self.now.run.log.steps actor }
+        ensures { result ≡ (is_idle self.now.run.log.steps actor
+            && not (is_at_rest self.now.run.shape self.now.run.log.steps actor
+            && is_still self.now.run.shape self.now.run.log.steps
+            (trunks_of self.now.run.trunks))) }
+    {
+        let _ = &self.players;
+        self.fabric.is_idle(actor) && (behind || !self.fabric.is_rest(actor))
+    }
+
+    /// The place of the first maker, from this one on, whose turn may find something: the actors
+    /// before it have ended, or wait on.
+    fn next_due(&self, place: u32) -> u32
+        requires within { place ≤ makers self.now.script }
+        ensures on { place ≤ result }
+        ensures within { result ≤ makers self.now.script }
+        ensures passed { (start : Layout) → AreTurns self.now.script place start self.now.run
+            → AreTurns self.now.script result start self.now.run }
+    {
+        let _ = &self.players;
+        let actors = self.script.actors().len() as u32;
+        let mut behind = false;
+        'passing: for next in place..actors {
+            if self.fabric.has_ended(next + 1) {
+                continue;
+            }
+            if !self.waits_on(next + 1, behind) {
+                return next;
+            }
+            behind = true;
+        }
+        place.max(actors)
+    }
+
     /// A round: each actor takes its turn, by number, and then each link. It answers whether all is
     /// over. A stop leaves what the turns before it made, and what the one that stopped did.
     pub fn round(&mut self) -> Result<bool, StepStop>
@@ -258,8 +280,10 @@ impl Stage {
         ensures few { OnOk result (length self.new.run.log.steps ≤ 200000) }
     {
         let count = (self.script.actors().len() + self.script.links().len()) as u32;
-        'turns: for place in 0..count {
+        let mut place = self.next_due(0);
+        'turns: while place < count {
             self.take_turn(place + 1)?;
+            place = self.next_due(place + 1);
         }
         Ok(self.is_over())
     }
