@@ -28,22 +28,7 @@ use Rattle.carrier.proofs.Joining.{receives_anew}
 use Rattle.carrier.proofs.Lookups.{of_none}
 use Rattle.carrier.proofs.Places.{all_left, all_swapped}
 use Rattle.carrier.proofs.Reacting.{Steps, steps_beat, steps_came, steps_offered, steps_restart}
-use Rattle.carrier.proofs.Stepping.{keeps_alone}
-
--- with these packets in flight
-keeps_with : (piece : ℕ) (a b : HalfState) (there left : List Packet) → KeepsHalf piece a b there
-    → All (IsFlying piece a b) left → KeepsHalf piece a b left
-keeps_with piece a b there left k all =
-    record {
-      book = k.book;
-      cut = k.cut;
-      window = k.window;
-      sends = k.sends;
-      receives = k.receives;
-      bound = k.bound;
-      out = k.out;
-      packets = all;
-    }
+use Rattle.carrier.proofs.Stepping.{keeps_alone, keeps_with}
 
 -- ---- the link seen from its other side
 

@@ -90,10 +90,10 @@ pub record Turns (piece : ℕ) (a c b : HalfState) (there : List Packet) : Type 
   pub later : IsLater a c
   pub keeps : KeepsHalf piece c b there
 
--- these packets are in flight behind the others
-pub keeps_put : (piece : ℕ) (a b : HalfState) (there out : List Packet) → KeepsHalf piece a b there
-    → All (IsFlying piece a b) out → KeepsHalf piece a b (there ++ out)
-keeps_put piece a b there out k h =
+-- with these packets in flight
+pub keeps_with : (piece : ℕ) (a b : HalfState) (there left : List Packet) → KeepsHalf piece a b there
+    → All (IsFlying piece a b) left → KeepsHalf piece a b left
+keeps_with piece a b there left k all =
     record {
       book = k.book;
       cut = k.cut;
@@ -102,23 +102,21 @@ keeps_put piece a b there out k h =
       receives = k.receives;
       bound = k.bound;
       out = k.out;
-      packets = All-append (IsFlying piece a b) there out k.packets h;
+      packets = all;
     }
+
+-- these packets are in flight behind the others
+pub keeps_put : (piece : ℕ) (a b : HalfState) (there out : List Packet) → KeepsHalf piece a b there
+    → All (IsFlying piece a b) out → KeepsHalf piece a b (there ++ out)
+keeps_put piece a b there out k h =
+    keeps_with piece a b there (there ++ out) k
+    (All-append (IsFlying piece a b) there out k.packets h)
 
 -- with no packets in flight
 pub keeps_alone : (piece : ℕ) (a b : HalfState) (there : List Packet) → KeepsHalf piece a b there
     → KeepsHalf piece a b []
 keeps_alone piece a b there k =
-    record {
-      book = k.book;
-      cut = k.cut;
-      window = k.window;
-      sends = k.sends;
-      receives = k.receives;
-      bound = k.bound;
-      out = k.out;
-      packets = All-nil (IsFlying piece a b);
-    }
+    keeps_with piece a b there [] k (All-nil (IsFlying piece a b))
 
 -- ---- the session goes on
 

@@ -31,8 +31,8 @@ use Rattle.fabric.specs.declared.stop.StopCause.TheVariants.{JournalFull}
 use Rattle.fabric.specs.Asks.{FitsEvent, may_ask}
 use Rattle.fabric.specs.Fits.{LeavesBy}
 use Rattle.fabric.specs.Links.{is_still}
-use Rattle.fabric.specs.Machine.{head_for, head_of, is_at_rest, look, pumped_head, signal_in}
-use Rattle.fabric.specs.Machine.{vain_look}
+use Rattle.fabric.specs.Machine.{LooksInVain, head_for, head_of, is_at_rest, look, pumped_head}
+use Rattle.fabric.specs.Machine.{signal_in, vain_look}
 use Rattle.fabric.specs.Run.{IsStepFor, IsStepOf, IsStepped, Layout}
 use Rattle.linx_api.specs.Asked.{FindsNothing, Gives, IsAnswered, MakesStep}
 
@@ -40,15 +40,6 @@ use Rattle.linx_api.specs.Asked.{FindsNothing, Gives, IsAnswered, MakesStep}
 abbrev ends : Option Head → Bool
 ends None = false
 ends (Some head) = is_end head
-
--- a look that finds nothing yet, of an actor that has said that it waits
-pub record LooksInVain (shape : Shape) (P : List Step) (still : Bool) (k : ℕ) (me : Option Inc)
-    (event : Event) : Type 0 where
-  pub filter : Sigsel
-  pub looks : event ≡ asks.Look filter
-  pub none : first_selected filter (queue_of P me) ≡ None
-  pub stirs : (is_at_rest shape P k && still) ≡ false
-  pub waits : is_some (waits_with P k) ≡ true
 
 module _ (shape : Shape) (P : List Step) (still : Bool) (k : ℕ) (node : ℕ) (me : Option Inc) where
   vain-stirs : (filter : Sigsel) (rest waits : Bool) → vain_look rest waits filter ≡ None

@@ -46,8 +46,8 @@ use Rattle.trunk_moves.specs.Steps.{Makes as MakesOfTrunks}
 use Rattle.trunk_moves.specs.Trunks.{RunTrunks}
 use Rattle.carrier.specs.Events.{link_told_by}
 use Rattle.fabric.specs.Links.{is_still}
-use Rattle.fabric.specs.Machine.{hands_over, head_for, head_of, is_at_rest, look, signal_in}
-use Rattle.fabric.specs.Machine.{vain_look}
+use Rattle.fabric.specs.Machine.{LooksInVain, hands_over, head_for, head_of, is_at_rest, look}
+use Rattle.fabric.specs.Machine.{signal_in, vain_look}
 use Rattle.fabric.specs.Run.{IsStepFor, IsStepOf, IsStepped, Layout}
 use Rattle.stage.proofs.Asking.{next-actors}
 
@@ -66,19 +66,10 @@ pub record IsHeadOf (P : List Step) (k : ℕ) (event : Event) (hand : Option Sig
   pub names : named head ≡ record { event = event; hand = hand }
   pub once : is_waits head ≡ true → is_some (waits_with P k) ≡ false
 
--- that no head was made of it: it is a look, by an actor that waits, and not all is at rest
-pub record IsVain (shape : Shape) (P : List Step) (still : Bool) (k : ℕ) (me : Option Inc)
-    (event : Event) : Type 0 where
-  pub filter : Sigsel
-  pub looks : event ≡ asks.Look filter
-  pub none : first_selected filter (queue_of P me) ≡ None
-  pub stirs : (is_at_rest shape P k && still) ≡ false
-  pub waits : is_some (waits_with P k) ≡ true
-
 -- the head, or its want
 abbrev pub IsHeadOr : Shape → List Step → Bool → ℕ → Option Inc → Event → Option SigNote
     → Option Head → Type 0
-IsHeadOr shape P still k me event hand None = IsVain shape P still k me event
+IsHeadOr shape P still k me event hand None = LooksInVain shape P still k me event
 IsHeadOr shape P still k me event hand (Some head) = IsHeadOf P k event hand head
 
 module _ (shape : Shape) (P : List Step) (still : Bool) (k : ℕ) (me : Option Inc) where
@@ -287,7 +278,7 @@ module _ (shape : Shape) (P : List Step) (still : Bool) (k : ℕ) (ask : Ask)
 
   -- there is none: WHAT NO STEP MEANS
   pub vain-is : head_for shape P still (Actor k) ask ≡ None
-      → IsVain shape P still k (endpoint_of P k) (granted P k ask).event
+      → LooksInVain shape P still k (endpoint_of P k) (granted P k ask).event
   vain-is is =
       subst (IsHeadOr shape P still k (endpoint_of P k) given.event given.hand) is the_head-made
 

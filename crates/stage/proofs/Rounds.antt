@@ -31,7 +31,7 @@ use Rattle.run_trunks.specs.States.{trunks_of}
 use Rattle.trunk_moves.specs.Trunks.{RunTrunks}
 use Rattle.fabric.specs.Links.{is_still, none_stirs, stirs}
 use Rattle.fabric.specs.Machine.{all_have_ended, all_leave_at_rest, hands_over, have_ended}
-use Rattle.fabric.specs.Machine.{head_for, is_at_rest, pumped_head}
+use Rattle.fabric.specs.Machine.{LooksInVain, head_for, is_at_rest, pumped_head}
 use Rattle.fabric.specs.Run.{IsStepFor, Layout}
 use Rattle.fabric.proofs.Resting.{ended-each}
 use Rattle.stage.specs.Plays.{AllFollow}
@@ -41,7 +41,7 @@ use Rattle.stage.specs.Turns.{IsTurnOf, asked_next, commands_of, is_over, makers
 use Rattle.stage.specs.declared.stage.Pump as pumps
 use Rattle.stage.specs.declared.stage.Turn.{Turn}
 use Rattle.stage.proofs.Going.{done-far, done-still, far-grows, step-grows}
-use Rattle.stage.proofs.Makings.{IsVain, granted_endpoint, granted_look, vain-is}
+use Rattle.stage.proofs.Makings.{granted_endpoint, granted_look, vain-is}
 use Rattle.stage.proofs.Pumping.{pump-heads, pump-stirs}
 use Rattle.stage.proofs.Waiting.{waits_at}
 
@@ -104,7 +104,7 @@ module _ (shape : Shape) (P : List Step) (still : Bool) (k : ℕ) (commands : Li
       ap (λ x. first_selected f (queue_of P x)) (sym mine) ∙ none in
       rw (mine, waits) (ap is_none there)
 
-  vain-stuck : IsVain shape P still k (endpoint_of P k) (granted P k ask).event
+  vain-stuck : LooksInVain shape P still k (endpoint_of P k) (granted P k ask).event
       → IsStuck shape P still k
   vain-stuck vain =
       let f : Sigsel = vain.filter in
