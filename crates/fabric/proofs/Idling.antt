@@ -3,11 +3,12 @@ use Rattle.std.proofs.Common.{◌≡◌, ◌≢◌, ℕ, zero, suc, ◌<◌, Boo
 use Rattle.std.proofs.Common.{◌∷◌, ◌++◌, length, map, filter, replicate}
 use Rattle.std.proofs.Common.{Option, Some, None, is_none}
 use Rattle.std.proofs.Common.{drop, get_or, set, take}
-use Rattle.std.proofs.Common.{refl, sym, ◌∙◌, ap, subst, arith, ◌⊎◌, inl, inr}
-use Rattle.std.specs.Prelude.{◌+◌, ◌==◌, slice_get, slice_set}
+use Rattle.std.proofs.Common.{refl, sym, ◌∙◌, ap, ap₂, subst, arith, ◌⊎◌, inl, inr}
+use Rattle.std.specs.Prelude.{◌+◌, ◌||◌, slice_get, slice_set}
 use Rattle.std.specs.List.{list_any}
-use Rattle.std.proofs.lemmas.Bool.{eqb-true, ne_eqb, or_from, or_parts}
+use Rattle.std.proofs.lemmas.Bool.{eq-eqb, ne_eqb, or_from, or_parts, true≢false}
 use Rattle.std.proofs.lemmas.List.{append-nil}
+use Rattle.linx_base.specs.Peers.{same_inc}
 use Rattle.linx_base.specs.declared.identity.Inc.{Inc}
 use Rattle.linx_base.specs.declared.identity.ItemAt.{ItemAt}
 use Rattle.linx_base.specs.declared.item.Item.{Item}
@@ -26,8 +27,8 @@ use Rattle.journal.specs.Queues.{is_item_of, items_from, items_in, left_by, queu
 use Rattle.journal.specs.Queues.{unless_opened}
 use Rattle.journal.specs.Rest.{waits_in, waits_in_vain, waits_with}
 use Rattle.journal.specs.Traffic.{is_endpoint}
-use Rattle.fabric.specs.Idle.{AreIdle, IsIdleAt, noted_past, reaches, unless_reached}
-use Rattle.fabric.specs.Idle.{without_maker}
+use Rattle.fabric.specs.Idle.{AreIdle, IsIdleAt, is_reached, noted_past, reached_by, reaches}
+use Rattle.fabric.specs.Idle.{unless_at, unless_reached, without_maker}
 
 -- A QUEUE of which nothing is selected
 module _ (f : Sigsel) where
@@ -68,7 +69,8 @@ is-none (Some x) is = cc
 -- EFFECTS that don't reach an endpoint
 module _ (j : Inc) where
   closes-not : (e : Effect) → reaches j e ≡ false → closes j e ≡ false
-  closes-not (Closed i) apart = apart
+  closes-not (Closed i) apart =
+      ne_eqb j.0 i.0 (λ same. true≢false (sym (eq-eqb i.0 j.0 (sym same)) ∙ apart))
   closes-not (Opened i) apart = refl
   closes-not (Arrived i q note) apart = refl
   closes-not (Found i q note h) apart = refl
@@ -216,16 +218,66 @@ idle_none n k j is = absurd (never n k is)
     never (suc n) zero is = cc
     never (suc n) (suc k) is = never n k is
 
+-- one effect reaches one endpoint, or none
+module _ (e : Effect) where
+  or-false : (b : Bool) → (b || false) ≡ b
+  or-false true = refl
+  or-false false = refl
+
+  pub forgets_at : (i : Inc) → reached_by e ≡ Some i → (noted : List (Option Inc))
+      → map (unless_at i) noted ≡ map (unless_reached (e ∷ [])) noted
+  forgets_at i at [] = refl
+  forgets_at i at (None ∷ rest) = ap (λ (l : List (Option Inc)). None ∷ l) (forgets_at i at rest)
+  forgets_at i at (Some j ∷ rest) =
+      let same : same_inc i j ≡ (reaches j e || false) =
+      ap (is_reached j) (sym at) ∙ sym (or-false (reaches j e)) in
+      ap₂ (λ (b : Bool) (l : List (Option Inc)). cond b None (Some j) ∷ l) same
+      (forgets_at i at rest)
+
+  pub forgets_none : reached_by e ≡ None → (noted : List (Option Inc))
+      → noted ≡ map (unless_reached (e ∷ [])) noted
+  forgets_none none [] = refl
+  forgets_none none (None ∷ rest) =
+      ap (λ (l : List (Option Inc)). None ∷ l) (forgets_none none rest)
+  forgets_none none (Some j ∷ rest) =
+      let apart : false ≡ (reaches j e || false) =
+      ap (is_reached j) (sym none) ∙ sym (or-false (reaches j e)) in
+      ap₂ (λ (b : Bool) (l : List (Option Inc)). cond b None (Some j) ∷ l) apart
+      (forgets_none none rest)
+
 -- no effects reach nobody
-pub unreached : (es : List Effect) (noted : List (Option Inc)) → (length es == 0) ≡ true
-    → noted ≡ map (unless_reached es) noted
-unreached (e ∷ es) noted none = absurd (omega (arith, eqb-true (length (e ∷ es)) 0 none))
-unreached [] noted none = go noted
+pub unreached : (noted : List (Option Inc)) → noted ≡ map (unless_reached []) noted
+unreached [] = refl
+unreached (None ∷ rest) = ap (λ (l : List (Option Inc)). None ∷ l) (unreached rest)
+unreached (Some j ∷ rest) = ap (λ (l : List (Option Inc)). Some j ∷ l) (unreached rest)
+
+-- effects, and then one more
+any-more : (j : Inc) (es : List Effect) (e : Effect)
+    → list_any (reaches j) (es ++ e ∷ []) ≡ (list_any (reaches j) es || (reaches j e || false))
+any-more j [] e = refl
+any-more j (x ∷ es) e = go (reaches j x) (any-more j es e)
   where
-    go : (rest : List (Option Inc)) → rest ≡ map (unless_reached []) rest
-    go [] = refl
-    go (None ∷ rest) = ap (λ (l : List (Option Inc)). None ∷ l) (go rest)
-    go (Some j ∷ rest) = ap (λ (l : List (Option Inc)). Some j ∷ l) (go rest)
+    go : (b : Bool)
+        → list_any (reaches j) (es ++ e ∷ []) ≡ (list_any (reaches j) es || (reaches j e || false))
+        → (b || list_any (reaches j) (es ++ e ∷ []))
+        ≡ ((b || list_any (reaches j) es) || (reaches j e || false))
+    go true more = refl
+    go false more = more
+
+pub one_more : (es : List Effect) (e : Effect) (noted : List (Option Inc))
+    → map (unless_reached (e ∷ [])) (map (unless_reached es) noted)
+    ≡ map (unless_reached (es ++ e ∷ [])) noted
+one_more es e [] = refl
+one_more es e (None ∷ rest) = ap (λ (l : List (Option Inc)). None ∷ l) (one_more es e rest)
+one_more es e (Some j ∷ rest) =
+    ap₂ (λ (o : Option Inc) (l : List (Option Inc)). o ∷ l)
+    (go (list_any (reaches j) es)
+    ∙ ap (λ (b : Bool). cond b None (Some j)) (sym (any-more j es e))) (one_more es e rest)
+  where
+    go : (a : Bool) → unless_reached (e ∷ []) (cond a None (Some j))
+        ≡ cond (a || (reaches j e || false)) None (Some j)
+    go true = refl
+    go false = refl
 
 -- one more of a list is changed
 pub map-turned : {X : Type 0} (f : X → X) (xs : List X) (k : ℕ) (x : X) → k < length xs

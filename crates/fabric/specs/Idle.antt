@@ -12,13 +12,27 @@ use Rattle.journal.specs.declared.effect.Step.{Step}
 use Rattle.journal.specs.History.{endpoint_of}
 use Rattle.journal.specs.Rest.{is_idle}
 
--- the effect closes this endpoint, or puts an item into its queue
+-- the endpoint that an effect closes, or into whose queue it puts an item
+abbrev pub reached_by : Effect → Option Inc
+reached_by (Closed i) = Some i
+reached_by (Arrived i from note) = Some i
+reached_by (Found i from note hunt) = Some i
+reached_by (Notified i from note reference reason) = Some i
+reached_by _ = None
+
+-- this endpoint is reached, if one is
+abbrev pub is_reached : Inc → Option Inc → Bool
+is_reached j None = false
+is_reached j (Some i) = same_inc i j
+
+-- the effect reaches this endpoint
 abbrev pub reaches : Inc → Effect → Bool
-reaches j (Closed i) = same_inc j i
-reaches j (Arrived i from note) = same_inc i j
-reaches j (Found i from note hunt) = same_inc i j
-reaches j (Notified i from note reference reason) = same_inc i j
-reaches j _ = false
+reaches j e = is_reached j (reached_by e)
+
+-- where an actor waits in vain, unless that endpoint is reached
+abbrev pub unless_at : Inc → Option Inc → Option Inc
+unless_at i None = None
+unless_at i (Some j) = if same_inc i j then None else Some j
 
 -- where an actor waits in vain, until effects reach that endpoint
 abbrev pub unless_reached : List Effect → Option Inc → Option Inc

@@ -4,11 +4,11 @@
 
 ghost use Rattle.std.specs.Prelude.{◌≡◌, ◌+◌, ◌≤◌, ◌<◌, [], ◌∷◌, length, map, replicate, suc};
 ghost use Rattle.std.specs.Prelude.{IfOk, OnOk, Some, None, true};
-ghost use Rattle.std.specs.List.{list_any};
 ghost use Rattle.journal.specs.History.{endpoint_of};
 ghost use Rattle.journal.specs.Logs.{is_full};
 ghost use Rattle.journal.specs.Rest.{is_idle};
-ghost use Rattle.fabric.specs.Idle.{noted_past, reaches, unless_reached, without_maker};
+ghost use Rattle.fabric.specs.Idle.{noted_past, reached_by, unless_at, unless_reached};
+ghost use Rattle.fabric.specs.Idle.{without_maker};
 
 use journal::{By, Effect, Journal, Step};
 use linx_base::{Inc, Names, NoMemory};
@@ -46,41 +46,54 @@ fn none_idle(alloc: Global, actors: usize) -> Result<Vec<Option<Inc>>, NoMemory>
     Ok(idle)
 }
 
-/// Whether an effect closes an endpoint, or puts an item into its queue.
-fn reaches(inc: Inc, effect: &Effect) -> bool
-    ensures { result ≡ reaches inc effect.now }
+/// The endpoint that an effect closes, or into whose queue it puts an item.
+fn reached_by(effect: &Effect) -> Option<Inc>
+    ensures { result ≡ reached_by effect.now }
 {
     match effect {
-        Effect::Closed(at) => inc.0 == at.0,
-        Effect::Arrived(at, ..) | Effect::Found(at, ..) | Effect::Notified(at, ..) => at.0 == inc.0,
-        _ => false,
+        Effect::Closed(inc)
+        | Effect::Arrived(inc, ..)
+        | Effect::Found(inc, ..)
+        | Effect::Notified(inc, ..) => Some(*inc),
+        _ => None,
     }
 }
 
-/// Whether effects close an endpoint, or put an item into its queue.
-fn are_reaching(inc: Inc, effects: &[Effect]) -> bool
-    ensures { result ≡ list_any (reaches inc) effects.now }
+/// An actor that waits there is not known to wait in vain.
+fn forget_if_at(noted: &mut Option<Inc>, reached: Inc)
+    ensures { noted.new ≡ unless_at reached noted.old }
 {
-    effects.iter().any(|effect| reaches(inc, effect))
-}
-
-/// An actor that waits where these effects reach is not known to wait in vain.
-fn forget_if_reached(idle: &mut Option<Inc>, effects: &[Effect])
-    ensures { idle.new ≡ unless_reached effects.now idle.old }
-{
-    if let Some(inc) = *idle {
-        if are_reaching(inc, effects) {
-            *idle = None;
+    if let Some(inc) = *noted {
+        if inc.0 == reached.0 {
+            *noted = None;
         }
     }
 }
 
-/// Nor is any other one that waits there.
+/// Nor is any actor that waits there.
+fn forget_at(idle: &mut [Option<Inc>], reached: Inc)
+    ensures { idle.new ≡ map (unless_at reached) idle.old }
+{
+    for noted in idle.iter_mut() {
+        forget_if_at(noted, reached);
+    }
+}
+
+/// Nor is any actor that waits where an effect reaches.
+fn forget_by(idle: &mut [Option<Inc>], effect: &Effect)
+    ensures { idle.new ≡ map (unless_reached (effect.now ∷ [])) idle.old }
+{
+    if let Some(reached) = reached_by(effect) {
+        forget_at(idle, reached);
+    }
+}
+
+/// Nor is any actor that waits where effects reach.
 fn forget_reached(idle: &mut [Option<Inc>], effects: &[Effect])
     ensures { idle.new ≡ map (unless_reached effects.now) idle.old }
 {
-    for noted in idle.iter_mut() {
-        forget_if_reached(noted, effects);
+    for effect in effects {
+        forget_by(idle, effect);
     }
 }
 
@@ -101,9 +114,7 @@ fn forget(idle: &mut [Option<Inc>], step: &Step)
     ensures { idle.new ≡ noted_past step.now idle.old }
 {
     forget_maker(idle, step.by);
-    if !step.effects.is_empty() {
-        forget_reached(idle, step.effects.as_slice());
-    }
+    forget_reached(idle, step.effects.as_slice());
 }
 
 impl WatchedJournal {

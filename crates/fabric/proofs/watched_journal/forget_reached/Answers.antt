@@ -1,16 +1,21 @@
-use Rattle.std.proofs.Common.{ℕ, ◌++◌, sym, ◌∙◌, ap, add-one, set, get_or, List, map, take, drop}
-use Rattle.std.proofs.Common.{Option}
-use Rattle.linx_base.specs.declared.identity.Inc.{Inc}
+use Rattle.std.proofs.Common.{sym, ◌∙◌, ◌++◌, ◌∷◌, [], ap, ℕ, List, map, take}
+use Rattle.std.proofs.lemmas.List.{take_more}
+use Rattle.journal.specs.declared.effect.Effect.{Effect}
 use Rattle.fabric.specs.Idle.{unless_reached}
-use Rattle.fabric.proofs.Idling.{map-turned}
+use Rattle.fabric.proofs.Idling.{one_more, unreached}
 use Rattle.fabric.proofs.watched_journal.forget_reached.Goals as goal
 
-pub loop-noted-preserved : goal.loop-noted-preserved
-loop-noted-preserved c =
-    let xs : List (Option Inc) = c.args.idle.now in
-    let k : ℕ = c.loop-noted.noted-index in
-    let f : Option Inc → Option Inc = unless_reached c.args.effects.now in
-    ap (λ (z : Option Inc). set c.loop-noted.idle k z) c.forget_if_reached.ensures
-    ∙ ap (λ (ys : List (Option Inc)). set ys k (f (get_or ys k _))) c.loop-noted.invariant
-    ∙ map-turned f xs k _ c.loop-noted-test.true
-    ∙ ap (λ (n : ℕ). map f (take n xs) ++ drop n xs) (sym (add-one k))
+pub loop-effect-init : goal.loop-effect-init
+loop-effect-init c = unreached c.args.idle.now
+
+pub loop-effect-preserved : goal.loop-effect-preserved
+loop-effect-preserved c =
+    let es : List Effect = c.args.effects.now in
+    let k : ℕ = c.loop-effect.effect-index in
+    let e : Effect = c.effect-item.result in
+    c.forget_by.ensures ∙ ap (map (unless_reached (e ∷ []))) c.loop-effect.invariant
+    ∙ one_more (take k es) e c.args.idle.now
+    ∙ ap (λ (x : Effect). map (unless_reached (take k es ++ x ∷ [])) c.args.idle.now)
+    c.effect-item.is
+    ∙ ap (λ (xs : List Effect). map (unless_reached xs) c.args.idle.now)
+    (sym (take_more es k e c.loop-effect-test.true))
