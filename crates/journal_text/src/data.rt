@@ -3,7 +3,7 @@ ghost use Rattle.std.specs.Prelude.{◌≡◌, ◌++◌, OnOk};
 ghost use Rattle.journal_text.specs.Values.{digest_text, data_text};
 
 use crate::digests::Digested;
-use crate::digits::{SPELLED_MOST, write_bytes, write_digest, write_hexadecimal};
+use crate::digits::{SPELLED_MOST, write_byte, write_bytes, write_digest, write_hexadecimal};
 use linx_base::{Blob, NoMemory};
 
 /// The number of bytes and their digest, by what is known if that is of these bytes.
@@ -29,7 +29,7 @@ pub(crate) fn write_data(
     ensures { OnOk result (out.new.items ≡ out.old.items ++ data_text bytes.now) }
 {
     if bytes.is_empty() {
-        write_bytes(out, b"-")
+        write_byte(out, b'-')
     } else if bytes.len() <= SPELLED_MOST {
         write_hexadecimal(out, bytes.bytes())
     } else {

@@ -1,7 +1,7 @@
 //! Bytes, numbers, hexadecimal and digests, each written through one call of what makes them. What
 //! is written goes to the end of a buffer; after a refusal the buffer holds some front of it, which
 //! the callers throw away.
-ghost use Rattle.std.specs.Prelude.{◌≡◌, ◌<◌, ◌≤◌, ◌++◌, length, decimal, OnOk};
+ghost use Rattle.std.specs.Prelude.{◌≡◌, ◌<◌, ◌≤◌, [], ◌∷◌, ◌++◌, length, decimal, OnOk};
 ghost use Rattle.hex.specs.Hex.{encode_lower};
 ghost use Rattle.sha2.specs.Sha256.{sha256};
 ghost use Rattle.journal_text.specs.Values.{digest_text};
@@ -20,6 +20,13 @@ pub(crate) fn write_bytes(out: &mut Vec<u8>, text: &[u8]) -> Result<(), NoMemory
     ensures { OnOk result (out.new.items ≡ out.old.items ++ text.now) }
 {
     out.extend_from_slice(text)?;
+    Ok(())
+}
+
+pub(crate) fn write_byte(out: &mut Vec<u8>, byte: u8) -> Result<(), NoMemory>
+    ensures { OnOk result (out.new.items ≡ out.old.items ++ byte ∷ []) }
+{
+    out.push(byte)?;
     Ok(())
 }
 
@@ -75,7 +82,7 @@ pub(crate) fn write_digest(out: &mut Vec<u8>, bytes: &Blob) -> Result<(), NoMemo
     ensures { OnOk result (out.new.items ≡ out.old.items ++ digest_text bytes.now) }
 {
     write_number(out, bytes.len() as u64)?;
-    write_bytes(out, b":")?;
+    write_byte(out, b':')?;
     let digest = digest_of(bytes.bytes());
     write_hexadecimal(out, &digest)
 }

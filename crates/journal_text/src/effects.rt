@@ -5,7 +5,7 @@ ghost use Rattle.journal_text.specs.Values.{peer_signal_text, reference_text, re
 ghost use Rattle.journal_text.specs.Steps.{effect_text, effect_line};
 
 use crate::digests::{Digested, Digests};
-use crate::digits::write_bytes;
+use crate::digits::{write_byte, write_bytes};
 use crate::peers::{write_halves, write_link, write_node, write_peer, write_peer_signal};
 use crate::words::{write_reason, write_reference};
 use journal::Effect;
@@ -34,7 +34,7 @@ fn write_arrival(
         ++ peer_signal_text names.now peer.now note.now)) }
 {
     write_word_and_inc(out, word, inc)?;
-    write_bytes(out, b" ")?;
+    write_byte(out, b' ')?;
     write_peer_signal(out, names, peer, note, known)
 }
 
@@ -43,9 +43,9 @@ fn write_cause(out: &mut Vec<u8>, step: u64, reason: Reason) -> Result<(), NoMem
     ensures { OnOk result (out.new.items ≡ out.old.items
         ++ (codes " " ++ reference_text step ++ codes " " ++ reason_text reason)) }
 {
-    write_bytes(out, b" ")?;
+    write_byte(out, b' ')?;
     write_reference(out, step)?;
-    write_bytes(out, b" ")?;
+    write_byte(out, b' ')?;
     write_reason(out, reason)
 }
 
@@ -62,7 +62,7 @@ fn write_node_and_peer(
 {
     write_bytes(out, word)?;
     write_node(out, names, node)?;
-    write_bytes(out, b" ")?;
+    write_byte(out, b' ')?;
     write_peer(out, names, peer)
 }
 
@@ -81,9 +81,9 @@ fn write_session(
 {
     write_bytes(out, word)?;
     write_node(out, names, node)?;
-    write_bytes(out, b" ")?;
+    write_byte(out, b' ')?;
     write_link(out, names, link)?;
-    write_bytes(out, b" ")?;
+    write_byte(out, b' ')?;
     write_halves(out, session)
 }
 
@@ -104,7 +104,7 @@ fn write_effect(
         }
         Effect::Found(inc, peer, note, hunt) => {
             write_arrival(out, names, b"found ", *inc, peer, note, known)?;
-            write_bytes(out, b" ")?;
+            write_byte(out, b' ')?;
             write_reference(out, *hunt)
         }
         Effect::Notified(inc, peer, note, reference, reason) => {
@@ -113,13 +113,13 @@ fn write_effect(
         }
         Effect::Met(node, peer, name) => {
             write_node_and_peer(out, names, b"met ", *node, peer)?;
-            write_bytes(out, b" ")?;
+            write_byte(out, b' ')?;
             write_bytes(out, name.bytes())
         }
         Effect::Gone(node, peer) => write_node_and_peer(out, names, b"gone ", *node, peer),
         Effect::Up(node, link, session, other) => {
             write_session(out, names, b"up ", *node, *link, session.0)?;
-            write_bytes(out, b" ")?;
+            write_byte(out, b' ')?;
             write_halves(out, other.0)
         }
         Effect::Down(node, link, session) => {
@@ -139,7 +139,7 @@ fn write_effect_line(
 {
     write_bytes(out, b"+ ")?;
     write_effect(out, names, effect, known)?;
-    write_bytes(out, b"\n")
+    write_byte(out, b'\n')
 }
 
 /// A line for each effect of the step at a position.

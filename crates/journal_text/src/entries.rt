@@ -6,7 +6,7 @@ ghost use Rattle.journal_text.specs.Blocks.{title_text, concerned, effect_log};
 ghost use Rattle.journal_text.specs.Blocks.{item_text, head_log};
 
 use crate::digests::{Digested, Digests};
-use crate::digits::write_bytes;
+use crate::digits::{write_byte, write_bytes};
 use crate::heads::{write_hunt, write_sending, write_word_and_signal};
 use crate::peers::{write_halves, write_name_or_mark, write_node, write_peer_signal};
 use crate::reading::item_at;
@@ -27,11 +27,11 @@ pub(crate) fn write_title(
 {
     write_bytes(out, b"log ")?;
     write_halves(out, inc.0)?;
-    write_bytes(out, b" ")?;
+    write_byte(out, b' ')?;
     write_name_or_mark(out, name)?;
-    write_bytes(out, b" ")?;
+    write_byte(out, b' ')?;
     write_node(out, names, inc.node())?;
-    write_bytes(out, b"\n")
+    write_byte(out, b'\n')
 }
 
 /// The incarnation whose log has a line of the effect.
@@ -60,7 +60,7 @@ fn write_item_line(
         ++ (word.now ++ peer_signal_text names.now peer.now note.now ++ codes "\n")) }
 {
     write_word_and_signal(out, names, word, peer, note, known)?;
-    write_bytes(out, b"\n")
+    write_byte(out, b'\n')
 }
 
 fn write_notified(
@@ -76,9 +76,9 @@ fn write_notified(
         ++ reason_text reason ++ codes "\n")) }
 {
     write_word_and_signal(out, names, b"notified ", peer, note, known)?;
-    write_bytes(out, b" ")?;
+    write_byte(out, b' ')?;
     write_reason(out, reason)?;
-    write_bytes(out, b"\n")
+    write_byte(out, b'\n')
 }
 
 /// The line of an effect in the log of the incarnation that it concerns.
@@ -123,7 +123,7 @@ fn write_sender_and_signal(
         | Some(Effect::Notified(_, peer, note, _, _)) => {
             write_peer_signal(out, names, peer, note, known)
         }
-        _ => write_bytes(out, b"?"),
+        _ => write_byte(out, b'?'),
     }
 }
 
@@ -138,7 +138,7 @@ fn write_took(
 {
     write_bytes(out, b"took ")?;
     write_sender_and_signal(out, names, item, known)?;
-    write_bytes(out, b"\n")
+    write_byte(out, b'\n')
 }
 
 /// The line that the head of the step at a position makes in the log of its maker's endpoint.
@@ -158,19 +158,19 @@ pub(crate) fn write_head_log(
     match head {
         Head::Send(peer, note, answer) => {
             write_sending(out, names, b"sent ", peer, note, known, *answer)?;
-            write_bytes(out, b"\n")
+            write_byte(out, b'\n')
         }
         Head::Take(_, at) => { write_took(out, names, item_at(journal, *at), digests.of_item(*at)) }
         Head::TakeNone(_) => write_bytes(out, b"none\n"),
         Head::Hunt(path, note) => {
             write_hunt(out, names, path, note, known)?;
-            write_bytes(out, b"\n")
+            write_byte(out, b'\n')
         }
         Head::Attach(peer, note) => { write_item_line(out, names, b"attach ", peer, note, known) }
         Head::Detach(_, answer) => {
             write_bytes(out, b"detach ")?;
             write_detached(out, *answer)?;
-            write_bytes(out, b"\n")
+            write_byte(out, b'\n')
         }
         _ => Ok(()),
     }

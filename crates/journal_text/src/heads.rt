@@ -6,7 +6,7 @@ ghost use Rattle.journal_text.specs.Values.{side_text, verdict_text, sent_text, 
 ghost use Rattle.journal_text.specs.Steps.{head_text};
 
 use crate::digests::Digested;
-use crate::digits::write_bytes;
+use crate::digits::{write_byte, write_bytes};
 use crate::peers::{write_link, write_node, write_peer_signal, write_signal};
 use crate::words::{
     write_detached, write_filter, write_path, write_position, write_reference, write_refusal,
@@ -32,7 +32,7 @@ pub(crate) fn write_sending(
 {
     write_bytes(out, word)?;
     write_peer_signal(out, names, peer, note, known)?;
-    write_bytes(out, b" ")?;
+    write_byte(out, b' ')?;
     write_sent(out, answer)
 }
 
@@ -42,7 +42,7 @@ fn write_take(out: &mut Vec<u8>, filter: &Sigsel, at: ItemAt) -> Result<(), NoMe
 {
     write_bytes(out, b"take ")?;
     write_filter(out, filter)?;
-    write_bytes(out, b" ")?;
+    write_byte(out, b' ')?;
     write_position(out, at)
 }
 
@@ -67,7 +67,7 @@ pub(crate) fn write_hunt(
 {
     write_bytes(out, b"hunt ")?;
     write_path(out, names, path)?;
-    write_bytes(out, b" ")?;
+    write_byte(out, b' ')?;
     write_signal(out, note, known)
 }
 
@@ -93,7 +93,7 @@ fn write_detach(out: &mut Vec<u8>, reference: AttRef, answer: Detached) -> Resul
 {
     write_bytes(out, b"detach ")?;
     write_reference(out, reference.0)?;
-    write_bytes(out, b" ")?;
+    write_byte(out, b' ')?;
     write_detached(out, answer)
 }
 
@@ -123,7 +123,7 @@ fn write_direction(
         ++ (word.now ++ link_text names.now link.0 ++ codes " " ++ side_text side)) }
 {
     write_word_and_link(out, names, word, link)?;
-    write_bytes(out, b" ")?;
+    write_byte(out, b' ')?;
     write_side(out, side)
 }
 
@@ -139,7 +139,7 @@ fn write_wire(
         ++ verdict_text verdict)) }
 {
     write_direction(out, names, b"wire ", link, from)?;
-    write_bytes(out, b" ")?;
+    write_byte(out, b' ')?;
     write_verdict(out, verdict)
 }
 

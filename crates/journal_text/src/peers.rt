@@ -6,7 +6,7 @@ ghost use Rattle.journal_text.specs.Values.{link_text, peer_text, signal_text, p
 
 use crate::data::write_data;
 use crate::digests::Digested;
-use crate::digits::{write_bytes, write_number};
+use crate::digits::{write_byte, write_bytes, write_number};
 use linx_base::{LinkNo, Name, NameList, Names, NoMemory, NodeNo, Peer, SigNote};
 
 /// Both halves of a number of 64 bits, with a dot between them.
@@ -15,7 +15,7 @@ pub(crate) fn write_halves(out: &mut Vec<u8>, number: u64) -> Result<(), NoMemor
     ensures { OnOk result (out.new.items ≡ out.old.items ++ halves_text number) }
 {
     write_number(out, number >> 32)?;
-    write_bytes(out, b".")?;
+    write_byte(out, b'.')?;
     write_number(out, number & 0xffff_ffff)?;
     Ok(())
 }
@@ -36,7 +36,7 @@ pub(crate) fn write_name_or_mark(out: &mut Vec<u8>, name: Option<&Name>) -> Resu
 {
     match name {
         Some(name) => write_bytes(out, name.bytes()),
-        None => write_bytes(out, b"?"),
+        None => write_byte(out, b'?'),
     }
 }
 
@@ -62,9 +62,9 @@ pub(crate) fn write_peer(out: &mut Vec<u8>, names: &Names, peer: &Peer) -> Resul
         Peer::Here(inc) => write_halves(out, inc.0),
         Peer::There { link, session, inc } => {
             write_link(out, names, *link)?;
-            write_bytes(out, b":")?;
+            write_byte(out, b':')?;
             write_halves(out, session.0)?;
-            write_bytes(out, b":")?;
+            write_byte(out, b':')?;
             write_halves(out, inc.0)
         }
     }
@@ -79,7 +79,7 @@ pub(crate) fn write_signal(
     ensures { OnOk result (out.new.items ≡ out.old.items ++ signal_text note.now) }
 {
     write_number(out, note.number as u64)?;
-    write_bytes(out, b" ")?;
+    write_byte(out, b' ')?;
     write_data(out, &note.bytes, known)
 }
 
@@ -95,6 +95,6 @@ pub(crate) fn write_peer_signal(
         ≡ out.old.items ++ peer_signal_text names.now peer.now note.now) }
 {
     write_peer(out, names, peer)?;
-    write_bytes(out, b" ")?;
+    write_byte(out, b' ')?;
     write_signal(out, note, known)
 }

@@ -5,7 +5,7 @@ ghost use Rattle.journal_text.specs.Steps.{head_text, step_text, step_text_at};
 ghost use Rattle.journal_text.specs.Text.{count_text};
 
 use crate::digests::{Digested, Digests};
-use crate::digits::{write_bytes, write_number};
+use crate::digits::{write_byte, write_bytes, write_number};
 use crate::effects::write_effects;
 use crate::heads::write_head;
 use crate::words::write_maker;
@@ -30,11 +30,11 @@ fn write_first_line(
         ++ codes "\n")) }
 {
     write_number(out, position)?;
-    write_bytes(out, b" ")?;
+    write_byte(out, b' ')?;
     write_maker(out, by)?;
-    write_bytes(out, b" ")?;
+    write_byte(out, b' ')?;
     write_head(out, names, head, known)?;
-    write_bytes(out, b"\n")
+    write_byte(out, b'\n')
 }
 
 #[tactic(auto, unfolding(crate::specs::Steps::step_text))]
@@ -78,7 +78,7 @@ pub fn write_count(out: &mut Vec<u8>, journal: &Journal) -> Result<(), NoMemory>
     let mut line = Vec::new(*out.allocator());
     write_bytes(&mut line, b"journal ")?;
     write_number(&mut line, journal.len())?;
-    write_bytes(&mut line, b"\n")?;
+    write_byte(&mut line, b'\n')?;
     out.extend_from_slice(&line)?;
     Ok(())
 }

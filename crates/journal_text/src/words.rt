@@ -6,7 +6,7 @@ ghost use Rattle.journal_text.specs.Values.{maker_text, position_text, reference
 ghost use Rattle.journal_text.specs.Values.{swapped_text, verdict_text, reason_text, sent_text};
 ghost use Rattle.journal_text.specs.Values.{detached_text, refusal_text};
 
-use crate::digits::{write_bytes, write_number};
+use crate::digits::{write_byte, write_bytes, write_number};
 use crate::peers::write_link;
 use journal::{By, Detached, Refusal, SentTo};
 use linx_base::{ItemAt, Names, NoMemory, Path, Reason, Side, Verdict};
@@ -15,7 +15,7 @@ use sigsel::Sigsel;
 fn write_further(out: &mut Vec<u8>, number: u32) -> Result<(), NoMemory>
     ensures { OnOk result (out.new.items ≡ out.old.items ++ further_text number) }
 {
-    write_bytes(out, b",")?;
+    write_byte(out, b',')?;
     write_number(out, number as u64)
 }
 
@@ -66,7 +66,7 @@ pub(crate) fn write_path(out: &mut Vec<u8>, names: &Names, path: &Path) -> Resul
         Path::Local(name) => write_bytes(out, name.bytes()),
         Path::Over { link, name } => {
             write_link(out, names, *link)?;
-            write_bytes(out, b"/")?;
+            write_byte(out, b'/')?;
             write_bytes(out, name.bytes())
         }
     }
@@ -78,11 +78,11 @@ pub(crate) fn write_maker(out: &mut Vec<u8>, by: By) -> Result<(), NoMemory>
 {
     match by {
         By::Actor(number) => {
-            write_bytes(out, b"A")?;
+            write_byte(out, b'A')?;
             write_number(out, number as u64)
         }
         By::Pump(link) => {
-            write_bytes(out, b"P")?;
+            write_byte(out, b'P')?;
             write_number(out, link.0 as u64)
         }
     }
@@ -93,7 +93,7 @@ pub(crate) fn write_position(out: &mut Vec<u8>, at: ItemAt) -> Result<(), NoMemo
     ensures { OnOk result (out.new.items ≡ out.old.items ++ position_text at) }
 {
     write_number(out, at.step)?;
-    write_bytes(out, b".")?;
+    write_byte(out, b'.')?;
     write_number(out, at.place)
 }
 
@@ -101,7 +101,7 @@ pub(crate) fn write_position(out: &mut Vec<u8>, at: ItemAt) -> Result<(), NoMemo
 pub(crate) fn write_reference(out: &mut Vec<u8>, step: u64) -> Result<(), NoMemory>
     ensures { OnOk result (out.new.items ≡ out.old.items ++ reference_text step) }
 {
-    write_bytes(out, b"@")?;
+    write_byte(out, b'@')?;
     write_number(out, step)
 }
 
@@ -109,8 +109,8 @@ pub(crate) fn write_side(out: &mut Vec<u8>, side: Side) -> Result<(), NoMemory>
     ensures { OnOk result (out.new.items ≡ out.old.items ++ side_text side) }
 {
     match side {
-        Side::First => write_bytes(out, b">"),
-        Side::Second => write_bytes(out, b"<"),
+        Side::First => write_byte(out, b'>'),
+        Side::Second => write_byte(out, b'<'),
     }
 }
 
@@ -121,7 +121,7 @@ fn write_swapped(out: &mut Vec<u8>, place: u8) -> Result<(), NoMemory>
     if 1 <= place && place <= 9 {
         write_number(out, place as u64)
     } else {
-        write_bytes(out, b"?")
+        write_byte(out, b'?')
     }
 }
 
