@@ -9,6 +9,9 @@ use journal::Journal;
 use linx_base::NoMemory;
 use std::alloc::Global;
 
+/// The room that a text begins with: more memory than an allocator copies to let it grow.
+const TEXT_ROOM: usize = 262_144;
+
 fn write_steps(out: &mut Vec<u8>, journal: &Journal, digests: &Digests) -> Result<(), NoMemory>
     ensures { OnOk result (out.new.items ≡ out.old.items
         ++ steps_text journal.now.log.names journal.now.log.steps) }
@@ -25,10 +28,10 @@ fn write_steps(out: &mut Vec<u8>, journal: &Journal, digests: &Digests) -> Resul
 pub fn text(alloc: Global, journal: &Journal) -> Result<Vec<u8>, NoMemory>
     ensures { IfOk result (λ printed. printed.items ≡ text_of journal.now.log) }
 {
-    let mut printed = Vec::new(alloc);
     if journal.is_empty() {
-        return Ok(printed);
+        return Ok(Vec::new(alloc));
     }
+    let mut printed = Vec::with_capacity(alloc, TEXT_ROOM)?;
     let digests = Digests::of(alloc, journal)?;
     write_logs_with(&mut printed, journal, &digests)?;
     write_count(&mut printed, journal)?;
