@@ -1,3 +1,4 @@
 pub mod Openings
 pub mod Choices
 pub mod StepLines
+pub mod Fitting

@@ -3,6 +3,7 @@ pub mod Steps
 pub mod Makers
 pub mod Blocks
 pub mod Texts
+pub mod Known
 pub mod Owners
 pub mod Collected
 pub mod Text

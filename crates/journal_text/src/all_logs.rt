@@ -3,6 +3,7 @@
 ghost use Rattle.std.specs.Prelude.{◌≡◌, ◌++◌, flat_map, OnOk, OnErr, IfOk};
 ghost use Rattle.journal_text.specs.Blocks.{log_text, logs_text};
 ghost use Rattle.journal_text.specs.Collected.{Collects, opened_log};
+ghost use Rattle.journal_text.specs.Known.{Fits};
 
 use crate::collecting::Logs;
 use crate::digests::Digests;
@@ -14,6 +15,7 @@ use linx_base::{Inc, NoMemory};
 use std::alloc::Global;
 
 pub(crate) fn collect(alloc: Global, journal: &Journal, digests: &Digests) -> Result<Logs, NoMemory>
+    requires { Fits digests.now.kept journal.now.log.steps }
     ensures { IfOk result (λ logs.
         Collects journal.now.log.names journal.now.log.steps journal.now.log.steps logs) }
 {
@@ -95,6 +97,7 @@ pub(crate) fn write_logs_with(
     journal: &Journal,
     digests: &Digests,
 ) -> Result<(), NoMemory>
+    requires { Fits digests.now.kept journal.now.log.steps }
     ensures { OnOk result (out.new.items ≡ out.old.items ++ logs_text journal.now.log) }
 {
     let logs = collect(*out.allocator(), journal, digests)?;

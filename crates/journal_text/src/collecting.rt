@@ -1,5 +1,6 @@
 //! The logs of all incarnations, collected in one pass over a journal.
-ghost use Rattle.std.specs.Prelude.{◌≡◌, ◌==◌, ◌++◌, ℕ, List, [], ◌∷◌, OnOk, nat_eq, if◌then◌else◌};
+ghost use Rattle.std.specs.Prelude.{◌≡◌, ◌==◌, ◌++◌, ℕ, List, [], ◌∷◌, Some, OnOk, IfSome, nat_eq};
+ghost use Rattle.std.specs.Prelude.{if◌then◌else◌};
 ghost use Rattle.std.specs.List.{list_any};
 ghost use Rattle.std.specs.Option.{option_copied};
 ghost use Rattle.std.specs.HashMap.{get};
@@ -7,6 +8,7 @@ ghost use Rattle.linx_base.specs.declared.name.Names.{Names as NamesOf};
 ghost use Rattle.journal.specs.declared.effect.Step.{Step as StepOf};
 ghost use Rattle.journal_text.specs.Makers.{owner_by};
 ghost use Rattle.journal_text.specs.Texts.{kept};
+ghost use Rattle.journal_text.specs.Known.{signal_brought, AreOf, FitsStep, Fits};
 ghost use Rattle.journal.specs.History.{opens, name_in};
 ghost use Rattle.journal_text.specs.Blocks.{if_for, head_log, concerned, effect_log, effect_logs};
 ghost use Rattle.journal_text.specs.Collected.{Collects};
@@ -89,12 +91,14 @@ fn add_head_line(
     journal: &Journal,
     digests: &Digests,
     position: u64,
-    head: &Head,
+    step: &Step,
 ) -> Result<(), NoMemory>
+    requires fits_step { FitsStep digests.now.kept position (Some step.now) }
+    requires fits { Fits digests.now.kept journal.now.log.steps }
     ensures { OnOk result (text.new
-        ≡ text.old ++ head_log journal.now.log.names journal.now.log.steps head.now) }
+        ≡ text.old ++ head_log journal.now.log.names journal.now.log.steps step.now.head) }
 {
-    write_head_log(&mut text.bytes, journal, digests, position, head)
+    write_head_log(&mut text.bytes, journal, digests, position, step)
 }
 
 /// Adds the line of an effect to a text.
@@ -104,6 +108,7 @@ fn add_effect_line(
     effect: &Effect,
     known: Option<&Digested>,
 ) -> Result<(), NoMemory>
+    requires { IfSome known (λ digested. AreOf (signal_brought effect.now) digested.now) }
     ensures { OnOk result (text.new ≡ text.old ++ effect_log names.now effect.now) }
 {
     write_effect_log(&mut text.bytes, names, effect, known)
@@ -117,16 +122,18 @@ fn add_head_at(
     digests: &Digests,
     inc: Inc,
     position: u64,
-    head: &Head,
+    step: &Step,
 ) -> Result<(), NoMemory>
+    requires fits_step { FitsStep digests.now.kept position (Some step.now) }
+    requires fits { Fits digests.now.kept journal.now.log.steps }
     ensures { OnOk result ((q : ℕ) → kept lines.new q ≡ kept lines.old q ++ (if q == inc.0
-        then head_log journal.now.log.names journal.now.log.steps head.now else [])) }
+        then head_log journal.now.log.names journal.now.log.steps step.now.head else [])) }
 {
     match lines.get_mut(&inc.0) {
-        Some(text) => add_head_line(text, journal, digests, position, head),
+        Some(text) => add_head_line(text, journal, digests, position, step),
         None => {
             let mut text = Text::new(alloc);
-            add_head_line(&mut text, journal, digests, position, head)?;
+            add_head_line(&mut text, journal, digests, position, step)?;
             lines.insert(inc.0, text)?;
             Ok(())
         }
@@ -141,14 +148,16 @@ fn add_head(
     digests: &Digests,
     owner: Option<Inc>,
     position: u64,
-    head: &Head,
+    step: &Step,
 ) -> Result<(), NoMemory>
+    requires fits_step { FitsStep digests.now.kept position (Some step.now) }
+    requires fits { Fits digests.now.kept journal.now.log.steps }
     ensures { OnOk result ((q : ℕ) → kept lines.new q ≡ kept lines.old q
         ++ if_for (record { 0 = q }) owner
-        (head_log journal.now.log.names journal.now.log.steps head.now)) }
+        (head_log journal.now.log.names journal.now.log.steps step.now.head)) }
 {
     match owner {
-        Some(inc) => add_head_at(alloc, lines, journal, digests, inc, position, head),
+        Some(inc) => add_head_at(alloc, lines, journal, digests, inc, position, step),
         None => Ok(()),
     }
 }
@@ -162,6 +171,7 @@ fn add_effect_at(
     effect: &Effect,
     known: Option<&Digested>,
 ) -> Result<(), NoMemory>
+    requires { IfSome known (λ digested. AreOf (signal_brought effect.now) digested.now) }
     ensures { OnOk result ((q : ℕ) → kept lines.new q ≡ kept lines.old q
         ++ (if q == inc.0 then effect_log names.now effect.now else [])) }
 {
@@ -184,6 +194,7 @@ fn add_effect(
     effect: &Effect,
     known: Option<&Digested>,
 ) -> Result<(), NoMemory>
+    requires { IfSome known (λ digested. AreOf (signal_brought effect.now) digested.now) }
     ensures { OnOk result ((q : ℕ) → kept lines.new q ≡ kept lines.old q
         ++ if_for (record { 0 = q }) (concerned effect.now) (effect_log names.now effect.now)) }
 {
@@ -200,13 +211,14 @@ fn add_effects(
     names: &Names,
     digests: &Digests,
     position: u64,
-    effects: &[Effect],
+    step: &Step,
 ) -> Result<(), NoMemory>
+    requires { FitsStep digests.now.kept position (Some step.now) }
     ensures { OnOk result ((q : ℕ) → kept lines.new q ≡ kept lines.old q
-        ++ effect_logs names.now (record { 0 = q }) effects.now) }
+        ++ effect_logs names.now (record { 0 = q }) step.now.effects) }
 {
-    for (index, effect) in effects.iter().enumerate() {
-        let known = digests.of_effect(position, index, effect);
+    for (index, effect) in step.effects.as_slice().iter().enumerate() {
+        let known = digests.of_effect(position, index as u64 + 1, effect);
         add_effect(alloc, lines, names, effect, known)?;
     }
     Ok(())
@@ -235,16 +247,17 @@ impl Logs {
         position: u64,
         step: &Step,
     ) -> Result<(), NoMemory>
+        requires fits_step { FitsStep digests.now.kept position (Some step.now) }
+        requires fits { Fits digests.now.kept journal.now.log.steps }
         ensures { (P : List StepOf) → owner ≡ owner_by P step.now.by
             → Collects journal.now.log.names journal.now.log.steps P self.old
             → OnOk result (Collects journal.now.log.names journal.now.log.steps (step.now ∷ P)
             self.new) }
     {
-        let effects = step.effects.as_slice();
-        keep_opened(&mut self.opened, &step.head, effects)?;
+        keep_opened(&mut self.opened, &step.head, step.effects.as_slice())?;
         let lines = &mut self.lines;
-        add_head(alloc, lines, journal, digests, owner, position, &step.head)?;
-        add_effects(alloc, lines, journal.names(), digests, position, effects)
+        add_head(alloc, lines, journal, digests, owner, position, step)?;
+        add_effects(alloc, lines, journal.names(), digests, position, step)
     }
 
     /// The name that the incarnation was opened with.

@@ -1,22 +1,23 @@
 //! The data of signals: spelled, or as a digest, which may be known.
-ghost use Rattle.std.specs.Prelude.{◌≡◌, ◌++◌, OnOk};
+ghost use Rattle.std.specs.Prelude.{◌≡◌, ◌++◌, OnOk, IfSome};
 ghost use Rattle.journal_text.specs.Values.{digest_text, data_text};
 
 use crate::digests::Digested;
 use crate::digits::{SPELLED_MOST, write_byte, write_bytes, write_digest, write_hexadecimal};
 use linx_base::{Blob, NoMemory};
 
-/// The number of bytes and their digest, by what is known if that is of these bytes.
+/// The number of bytes and their digest, which may be known.
 fn write_known_digest(
     out: &mut Vec<u8>,
     bytes: &Blob,
     known: Option<&Digested>,
 ) -> Result<(), NoMemory>
+    requires { IfSome known (λ digested. digested.now ≡ bytes.now) }
     ensures { OnOk result (out.new.items ≡ out.old.items ++ digest_text bytes.now) }
 {
     match known {
-        Some(digested) if digested.is_of(bytes) => write_bytes(out, digested.text()),
-        _ => write_digest(out, bytes),
+        Some(digested) => write_bytes(out, digested.text()),
+        None => write_digest(out, bytes),
     }
 }
 
@@ -26,6 +27,7 @@ pub(crate) fn write_data(
     bytes: &Blob,
     known: Option<&Digested>,
 ) -> Result<(), NoMemory>
+    requires { IfSome known (λ digested. digested.now ≡ bytes.now) }
     ensures { OnOk result (out.new.items ≡ out.old.items ++ data_text bytes.now) }
 {
     if bytes.is_empty() {

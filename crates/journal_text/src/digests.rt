@@ -1,9 +1,15 @@
 //! The digests of a journal's signals, each made once, before any of it is printed, and equal
-//! bytes share one where they can be told at a glance. One is kept with the bytes that it is of,
-//! under the step and the place where they stand, and is used only where these bytes are printed:
-//! so what is printed depends on nothing that is kept.
-ghost use Rattle.std.specs.Prelude.{◌≡◌, ◌↔◌, IsTrue, IfOk, IfSome};
+//! bytes share one where they can be told at a glance. One is kept under the step and the place
+//! where its signal stands.
+ghost use Rattle.std.specs.Prelude.{◌≡◌, ◌↔◌, ◌==◌, ◌&&◌, ◌+◌, ℕ, List, Option, Some};
+ghost use Rattle.std.specs.Prelude.{IsTrue, IfOk, IfSome, OnOk, if◌then◌else◌};
+ghost use Rattle.std.specs.Option.{option_copied};
+ghost use Rattle.journal.specs.declared.effect.Step.{Step};
+ghost use Rattle.journal.specs.Logs.{step_at};
+ghost use Rattle.journal_text.specs.Blocks.{effect_at};
 ghost use Rattle.journal_text.specs.Values.{digest_text};
+ghost use Rattle.journal_text.specs.Known.{signal_in, signal_brought, signal_of, signal_at, AreOf};
+ghost use Rattle.journal_text.specs.Known.{kept_for, FitsStep, Fits};
 
 use crate::digits::{SPELLED_MOST, write_digest};
 use journal::{Effect, Head, Journal, Step};
@@ -15,18 +21,8 @@ use std::marker::Model;
 /// The room for a spelled digest: a length of up to five digits, a colon and two digits a byte.
 const SPELLED_ROOM: usize = 70;
 
-/// Where a step's head stands; its effects stand at the places from 1 on.
-fn place_of_head(step: u64) -> ItemAt {
-    ItemAt { step, place: 0 }
-}
-
-/// Where the effect of an index stands.
-fn place_of_effect(step: u64, index: usize) -> ItemAt {
-    ItemAt {
-        step,
-        place: (index as u64).saturating_add(1),
-    }
-}
+/// The place of a step's head; its effects stand at the places from 1 on.
+const HEAD: u64 = 0;
 
 /// Bytes with their digest as it is spelled. Contracts see the bytes.
 #[derive(Drop)]
@@ -74,7 +70,7 @@ impl Digested {
         })
     }
 
-    pub(crate) fn is_of(&self, bytes: &Blob) -> bool
+    fn is_of(&self, bytes: &Blob) -> bool
         ensures { IsTrue result ↔ (self.now ≡ bytes.now) }
     {
         self.bytes.same(bytes)
@@ -103,7 +99,9 @@ fn is_digested(note: &SigNote) -> bool {
 }
 
 /// The signal in a head.
-fn signal_in(head: &Head) -> Option<&SigNote> {
+fn signal_in(head: &Head) -> Option<&SigNote>
+    ensures { option_copied result ≡ signal_in head.now }
+{
     match head {
         Head::Send(_, note, _) | Head::Hunt(_, note) | Head::Attach(_, note) => Some(note),
         _ => None,
@@ -111,7 +109,9 @@ fn signal_in(head: &Head) -> Option<&SigNote> {
 }
 
 /// The signal that an effect brings.
-fn signal_brought(effect: &Effect) -> Option<&SigNote> {
+fn signal_brought(effect: &Effect) -> Option<&SigNote>
+    ensures { option_copied result ≡ signal_brought effect.now }
+{
     match effect {
         Effect::Arrived(_, _, note)
         | Effect::Found(_, _, note, _)
@@ -150,90 +150,134 @@ impl Glance {
 /// While digests are made: the latest bytes of each glance, with their digest.
 type Latest = HashMap<Glance, Digested>;
 
-/// The digests that are kept, by step and place.
+/// The digest of these bytes: the latest of their glance if that is of the same bytes, else a new
+/// one.
+fn digest_of(alloc: Global, latest: &mut Latest, bytes: &Blob) -> Result<Digested, NoMemory>
+    ensures { IfOk result (λ digested. digested ≡ bytes.now) }
+{
+    let glance = Glance::at(bytes.bytes());
+    match copy_if_of(latest.get(&glance), bytes)? {
+        Some(known) => Ok(known),
+        None => {
+            let made = Digested::of(alloc, bytes)?;
+            latest.insert(glance, made.copy()?)?;
+            Ok(made)
+        }
+    }
+}
+
+/// Digests by the step and the place of their signal.
+type Kept = HashMap<(u64, u64), Digested>;
+
+/// Keeps a digest for a place of a step.
+fn keep(kept: &mut Kept, position: u64, place: u64, digested: Digested) -> Result<(), NoMemory>
+    ensures { OnOk result ((p q : ℕ) → kept_for kept.new p q
+        ≡ (if (position == p) && (place == q) then Some digested else kept_for kept.old p q)) }
+{
+    kept.insert((position, place), digested)?;
+    Ok(())
+}
+
+/// The digests that are kept.
 #[derive(Drop)]
 pub(crate) struct Digests {
-    kept: HashMap<ItemAt, Digested>,
+    kept: Kept,
 }
 
 impl Digests {
-    pub(crate) fn none(alloc: Global) -> Digests {
+    pub(crate) fn none(alloc: Global) -> Digests
+        ensures { (position : ℕ) (s : Option Step) → FitsStep result.kept position s }
+    {
         Digests {
-            kept: HashMap::new(alloc),
+            kept: Kept::new(alloc),
         }
     }
 
     /// Those of all signals in a journal.
-    pub(crate) fn of(alloc: Global, journal: &Journal) -> Result<Digests, NoMemory> {
+    pub(crate) fn of(alloc: Global, journal: &Journal) -> Result<Digests, NoMemory>
+        ensures { IfOk result (λ digests. Fits digests.kept journal.now.log.steps) }
+    {
         let mut digests = Digests::none(alloc);
         let mut latest = Latest::new(alloc);
         for done in 0..journal.len() {
-            digests.add_step(alloc, &mut latest, done + 1, journal.step_after(done))?;
+            digests.add_step(alloc, &mut latest, journal, done + 1)?;
         }
         Ok(digests)
     }
 
     /// That of the signal in the head of a step, if it is printed with one.
-    pub(crate) fn of_head(&self, step: u64, head: &Head) -> Option<&Digested> {
-        match signal_in(head) {
-            Some(note) if is_digested(note) => self.kept.get(&place_of_head(step)),
+    pub(crate) fn of_head(&self, position: u64, step: &Step) -> Option<&Digested>
+        requires { FitsStep self.now.kept position (Some step.now) }
+        ensures { IfSome result (λ known. AreOf (signal_in step.now.head) known.now) }
+    {
+        match signal_in(&step.head) {
+            Some(note) if is_digested(note) => self.kept.get(&(position, HEAD)),
             _ => None,
         }
     }
 
-    /// That of the signal in the effect of an index, if it is printed with one.
-    pub(crate) fn of_effect(&self, step: u64, index: usize, effect: &Effect) -> Option<&Digested> {
+    /// That of the signal in the effect at a place, if it is printed with one.
+    pub(crate) fn of_effect(&self, position: u64, place: u64, effect: &Effect) -> Option<&Digested>
+        requires { IfSome (kept_for self.now.kept position place)
+            (AreOf (signal_brought effect.now)) }
+        ensures { IfSome result (λ known. AreOf (signal_brought effect.now) known.now) }
+    {
         match signal_brought(effect) {
-            Some(note) if is_digested(note) => self.kept.get(&place_of_effect(step, index)),
+            Some(note) if is_digested(note) => self.kept.get(&(position, place)),
             _ => None,
         }
     }
 
     /// That of the signal in the effect at an item's position.
-    pub(crate) fn of_item(&self, at: ItemAt) -> Option<&Digested> {
-        self.kept.get(&at)
+    pub(crate) fn of_item(&self, at: ItemAt) -> Option<&Digested>
+        ensures { (steps : List Step) → Fits self.now.kept steps
+            → IfSome result (λ known. AreOf (signal_of (effect_at steps at)) known.now) }
+    {
+        self.kept.get(&(at.step, at.place))
     }
 
+    /// Keeps those of the signals in a step.
     fn add_step(
         &mut self,
         alloc: Global,
         latest: &mut Latest,
-        step: u64,
-        made: &Step,
-    ) -> Result<(), NoMemory> {
-        if let Some(note) = signal_in(&made.head) {
-            self.add(alloc, latest, place_of_head(step), note)?;
+        journal: &Journal,
+        position: u64,
+    ) -> Result<(), NoMemory>
+        requires { Fits self.old.kept journal.now.log.steps }
+        ensures { OnOk result (Fits self.new.kept journal.now.log.steps) }
+    {
+        let Some(step) = journal.step(position) else {
+            return Ok(());
+        };
+        if let Some(note) = signal_in(&step.head) {
+            self.add(alloc, latest, position, HEAD, note)?;
         }
-        for (index, effect) in made.effects.as_slice().iter().enumerate() {
+        for (index, effect) in step.effects.as_slice().iter().enumerate() {
             if let Some(note) = signal_brought(effect) {
-                self.add(alloc, latest, place_of_effect(step, index), note)?;
+                self.add(alloc, latest, position, index as u64 + 1, note)?;
             }
         }
         Ok(())
     }
 
-    /// Keeps the digest of a signal, if it is printed with one. It is made unless the latest bytes
-    /// of the same glance are the same.
+    /// Keeps the digest of the signal at a place of a step, if it is printed with one.
+    #[tactic(auto, using(crate::proofs::Fitting::fits_more))]
     fn add(
         &mut self,
         alloc: Global,
         latest: &mut Latest,
-        at: ItemAt,
+        position: u64,
+        place: u64,
         note: &SigNote,
-    ) -> Result<(), NoMemory> {
+    ) -> Result<(), NoMemory>
+        ensures { (steps : List Step) → signal_at (step_at steps position) place ≡ Some note.now
+            → Fits self.old.kept steps → OnOk result (Fits self.new.kept steps) }
+    {
         if !is_digested(note) {
             return Ok(());
         }
-        let glance = Glance::at(note.bytes.bytes());
-        let digested = match copy_if_of(latest.get(&glance), &note.bytes)? {
-            Some(known) => known,
-            None => {
-                let made = Digested::of(alloc, &note.bytes)?;
-                latest.insert(glance, made.copy()?)?;
-                made
-            }
-        };
-        self.kept.insert(at, digested)?;
-        Ok(())
+        let digested = digest_of(alloc, latest, &note.bytes)?;
+        keep(&mut self.kept, position, place, digested)
     }
 }

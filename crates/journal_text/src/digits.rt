@@ -6,12 +6,14 @@ ghost use Rattle.hex.specs.Hex.{encode_lower};
 ghost use Rattle.sha2.specs.Sha256.{sha256};
 ghost use Rattle.journal_text.specs.Values.{digest_text};
 
-use itoa::Buffer;
 use linx_base::{Blob, NoMemory};
 use sha2::{Digest, Sha256};
 
 /// The most data bytes that are spelled one by one, and the bytes of a digest.
 pub(crate) const SPELLED_MOST: usize = 32;
+
+/// The most digits of a number.
+const DIGITS_MOST: usize = 20;
 
 /// The digits of so many bytes.
 const SPELLED_DIGITS: usize = 64;
@@ -43,8 +45,9 @@ fn write_digit(out: &mut Vec<u8>, digit: u8) -> Result<(), NoMemory>
 fn write_digits(out: &mut Vec<u8>, number: u64) -> Result<(), NoMemory>
     ensures { OnOk result (out.new.items ≡ out.old.items ++ decimal number) }
 {
-    let mut buffer = Buffer::new();
-    write_bytes(out, buffer.format(number).as_bytes())
+    let mut digits = [0u8; DIGITS_MOST];
+    let start = itoa::write_digits(number, &mut digits, DIGITS_MOST);
+    write_bytes(out, &digits[start..])
 }
 
 pub(crate) fn write_number(out: &mut Vec<u8>, number: u64) -> Result<(), NoMemory>

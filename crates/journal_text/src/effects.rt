@@ -1,14 +1,15 @@
 //! The lines of effects: what happened in a step.
-ghost use Rattle.std.specs.Prelude.{◌≡◌, ◌++◌, codes, flat_map, OnOk};
+ghost use Rattle.std.specs.Prelude.{◌≡◌, ◌++◌, codes, flat_map, Some, OnOk, IfSome};
 ghost use Rattle.journal_text.specs.Values.{halves_text, node_text, link_text, peer_text};
 ghost use Rattle.journal_text.specs.Values.{peer_signal_text, reference_text, reason_text};
 ghost use Rattle.journal_text.specs.Steps.{effect_text, effect_line};
+ghost use Rattle.journal_text.specs.Known.{signal_brought, AreOf, FitsStep};
 
 use crate::digests::{Digested, Digests};
 use crate::digits::{write_byte, write_bytes};
 use crate::peers::{write_halves, write_link, write_node, write_peer, write_peer_signal};
 use crate::words::{write_reason, write_reference};
-use journal::Effect;
+use journal::{Effect, Step};
 use linx_base::{Inc, LinkNo, Name, Names, NoMemory, NodeNo, Peer, Reason, SigNote};
 
 /// A word and an incarnation.
@@ -29,6 +30,7 @@ fn write_arrival(
     note: &SigNote,
     known: Option<&Digested>,
 ) -> Result<(), NoMemory>
+    requires { IfSome known (λ digested. digested.now ≡ note.now.bytes) }
     ensures { OnOk result (out.new.items ≡ out.old.items
         ++ (word.now ++ halves_text inc.0 ++ codes " "
         ++ peer_signal_text names.now peer.now note.now)) }
@@ -94,6 +96,7 @@ fn write_effect(
     effect: &Effect,
     known: Option<&Digested>,
 ) -> Result<(), NoMemory>
+    requires { IfSome known (λ digested. AreOf (signal_brought effect.now) digested.now) }
     ensures { OnOk result (out.new.items ≡ out.old.items ++ effect_text names.now effect.now) }
 {
     match effect {
@@ -135,6 +138,7 @@ fn write_effect_line(
     effect: &Effect,
     known: Option<&Digested>,
 ) -> Result<(), NoMemory>
+    requires { IfSome known (λ digested. AreOf (signal_brought effect.now) digested.now) }
     ensures { OnOk result (out.new.items ≡ out.old.items ++ effect_line names.now effect.now) }
 {
     write_bytes(out, b"+ ")?;
@@ -148,18 +152,15 @@ pub(crate) fn write_effects(
     names: &Names,
     digests: &Digests,
     position: u64,
-    effects: &[Effect],
+    step: &Step,
 ) -> Result<(), NoMemory>
+    requires { FitsStep digests.now.kept position (Some step.now) }
     ensures { OnOk result (out.new.items
-        ≡ out.old.items ++ flat_map (effect_line names.now) effects.now) }
+        ≡ out.old.items ++ flat_map (effect_line names.now) step.now.effects) }
 {
-    for (index, effect) in effects.iter().enumerate() {
-        write_effect_line(
-            out,
-            names,
-            effect,
-            digests.of_effect(position, index, effect),
-        )?;
+    for (index, effect) in step.effects.as_slice().iter().enumerate() {
+        let known = digests.of_effect(position, index as u64 + 1, effect);
+        write_effect_line(out, names, effect, known)?;
     }
     Ok(())
 }

@@ -1,9 +1,10 @@
 //! The lines of a log.
-ghost use Rattle.std.specs.Prelude.{◌≡◌, ◌++◌, codes, OnOk};
+ghost use Rattle.std.specs.Prelude.{◌≡◌, ◌++◌, codes, Some, OnOk, IfSome};
 ghost use Rattle.std.specs.Option.{option_copied};
 ghost use Rattle.journal_text.specs.Values.{peer_signal_text, reason_text};
 ghost use Rattle.journal_text.specs.Blocks.{title_text, concerned, effect_log};
 ghost use Rattle.journal_text.specs.Blocks.{item_text, head_log};
+ghost use Rattle.journal_text.specs.Known.{signal_brought, signal_of, AreOf, FitsStep, Fits};
 
 use crate::digests::{Digested, Digests};
 use crate::digits::{write_byte, write_bytes};
@@ -11,7 +12,7 @@ use crate::heads::{write_hunt, write_sending, write_word_and_signal};
 use crate::peers::{write_halves, write_name_or_mark, write_node, write_peer_signal};
 use crate::reading::item_at;
 use crate::words::{write_detached, write_reason};
-use journal::{Effect, Head, Journal};
+use journal::{Effect, Head, Journal, Step};
 use linx_base::{Inc, Name, Names, NoMemory, Peer, Reason, SigNote};
 
 /// The first line of a log.
@@ -56,6 +57,7 @@ fn write_item_line(
     note: &SigNote,
     known: Option<&Digested>,
 ) -> Result<(), NoMemory>
+    requires { IfSome known (λ digested. digested.now ≡ note.now.bytes) }
     ensures { OnOk result (out.new.items ≡ out.old.items
         ++ (word.now ++ peer_signal_text names.now peer.now note.now ++ codes "\n")) }
 {
@@ -71,6 +73,7 @@ fn write_notified(
     known: Option<&Digested>,
     reason: Reason,
 ) -> Result<(), NoMemory>
+    requires { IfSome known (λ digested. digested.now ≡ note.now.bytes) }
     ensures { OnOk result (out.new.items ≡ out.old.items
         ++ (codes "notified " ++ peer_signal_text names.now peer.now note.now ++ codes " "
         ++ reason_text reason ++ codes "\n")) }
@@ -89,6 +92,7 @@ pub(crate) fn write_effect_log(
     effect: &Effect,
     known: Option<&Digested>,
 ) -> Result<(), NoMemory>
+    requires { IfSome known (λ digested. AreOf (signal_brought effect.now) digested.now) }
     ensures { OnOk result (out.new.items ≡ out.old.items ++ effect_log names.now effect.now) }
 {
     match effect {
@@ -114,6 +118,8 @@ fn write_sender_and_signal(
     item: Option<&Effect>,
     known: Option<&Digested>,
 ) -> Result<(), NoMemory>
+    requires { IfSome known (λ digested.
+        AreOf (signal_of (option_copied item)) digested.now) }
     ensures { OnOk result (out.new.items
         ≡ out.old.items ++ item_text names.now (option_copied item.entry)) }
 {
@@ -133,6 +139,8 @@ fn write_took(
     item: Option<&Effect>,
     known: Option<&Digested>,
 ) -> Result<(), NoMemory>
+    requires { IfSome known (λ digested.
+        AreOf (signal_of (option_copied item)) digested.now) }
     ensures { OnOk result (out.new.items ≡ out.old.items
         ++ (codes "took " ++ item_text names.now (option_copied item.entry) ++ codes "\n")) }
 {
@@ -148,14 +156,16 @@ pub(crate) fn write_head_log(
     journal: &Journal,
     digests: &Digests,
     position: u64,
-    head: &Head,
+    step: &Step,
 ) -> Result<(), NoMemory>
+    requires fits_step { FitsStep digests.now.kept position (Some step.now) }
+    requires fits { Fits digests.now.kept journal.now.log.steps }
     ensures { OnOk result (out.new.items ≡ out.old.items
-        ++ head_log journal.now.log.names journal.now.log.steps head.now) }
+        ++ head_log journal.now.log.names journal.now.log.steps step.now.head) }
 {
     let names = journal.names();
-    let known = digests.of_head(position, head);
-    match head {
+    let known = digests.of_head(position, step);
+    match &step.head {
         Head::Send(peer, note, answer) => {
             write_sending(out, names, b"sent ", peer, note, known, *answer)?;
             write_byte(out, b'\n')

@@ -1,9 +1,10 @@
 //! The line of a head: what a step did.
-ghost use Rattle.std.specs.Prelude.{◌≡◌, ◌++◌, codes, OnOk};
+ghost use Rattle.std.specs.Prelude.{◌≡◌, ◌++◌, codes, OnOk, IfSome};
 ghost use Rattle.journal_text.specs.Values.{link_text, peer_signal_text, filter_text};
 ghost use Rattle.journal_text.specs.Values.{position_text, path_text, signal_text, reference_text};
 ghost use Rattle.journal_text.specs.Values.{side_text, verdict_text, sent_text, detached_text};
 ghost use Rattle.journal_text.specs.Steps.{head_text};
+ghost use Rattle.journal_text.specs.Known.{signal_in, AreOf};
 
 use crate::digests::Digested;
 use crate::digits::{write_byte, write_bytes};
@@ -26,6 +27,7 @@ pub(crate) fn write_sending(
     known: Option<&Digested>,
     answer: SentTo,
 ) -> Result<(), NoMemory>
+    requires { IfSome known (λ digested. digested.now ≡ note.now.bytes) }
     ensures { OnOk result (out.new.items ≡ out.old.items
         ++ (word.now ++ peer_signal_text names.now peer.now note.now ++ codes " "
         ++ sent_text answer)) }
@@ -62,6 +64,7 @@ pub(crate) fn write_hunt(
     note: &SigNote,
     known: Option<&Digested>,
 ) -> Result<(), NoMemory>
+    requires { IfSome known (λ digested. digested.now ≡ note.now.bytes) }
     ensures { OnOk result (out.new.items ≡ out.old.items
         ++ (codes "hunt " ++ path_text names.now path.now ++ codes " " ++ signal_text note.now)) }
 {
@@ -80,6 +83,7 @@ pub(crate) fn write_word_and_signal(
     note: &SigNote,
     known: Option<&Digested>,
 ) -> Result<(), NoMemory>
+    requires { IfSome known (λ digested. digested.now ≡ note.now.bytes) }
     ensures { OnOk result (out.new.items ≡ out.old.items
         ++ (word.now ++ peer_signal_text names.now peer.now note.now)) }
 {
@@ -150,6 +154,7 @@ pub(crate) fn write_head(
     head: &Head,
     known: Option<&Digested>,
 ) -> Result<(), NoMemory>
+    requires { IfSome known (λ digested. AreOf (signal_in head.now) digested.now) }
     ensures { OnOk result (out.new.items ≡ out.old.items ++ head_text names.now head.now) }
 {
     match head {

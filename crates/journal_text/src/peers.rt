@@ -1,5 +1,5 @@
 //! How nodes, links, peers and signals are spelled. A node or link that the names lack is `?`.
-ghost use Rattle.std.specs.Prelude.{◌≡◌, ◌++◌, OnOk};
+ghost use Rattle.std.specs.Prelude.{◌≡◌, ◌++◌, OnOk, IfSome};
 ghost use Rattle.std.specs.Option.{option_copied};
 ghost use Rattle.journal_text.specs.Values.{halves_text, nth_name, name_or_mark, node_text};
 ghost use Rattle.journal_text.specs.Values.{link_text, peer_text, signal_text, peer_signal_text};
@@ -76,6 +76,7 @@ pub(crate) fn write_signal(
     note: &SigNote,
     known: Option<&Digested>,
 ) -> Result<(), NoMemory>
+    requires { IfSome known (λ digested. digested.now ≡ note.now.bytes) }
     ensures { OnOk result (out.new.items ≡ out.old.items ++ signal_text note.now) }
 {
     write_number(out, note.number as u64)?;
@@ -91,6 +92,7 @@ pub(crate) fn write_peer_signal(
     note: &SigNote,
     known: Option<&Digested>,
 ) -> Result<(), NoMemory>
+    requires { IfSome known (λ digested. digested.now ≡ note.now.bytes) }
     ensures { OnOk result (out.new.items
         ≡ out.old.items ++ peer_signal_text names.now peer.now note.now) }
 {

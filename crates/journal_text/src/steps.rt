@@ -1,8 +1,9 @@
 //! The lines of a step.
-ghost use Rattle.std.specs.Prelude.{◌≡◌, ◌++◌, codes, decimal, length, OnOk, OnErr};
+ghost use Rattle.std.specs.Prelude.{◌≡◌, ◌++◌, codes, decimal, length, Some, OnOk, OnErr, IfSome};
 ghost use Rattle.journal_text.specs.Values.{maker_text};
 ghost use Rattle.journal_text.specs.Steps.{head_text, step_text, step_text_at};
 ghost use Rattle.journal_text.specs.Text.{count_text};
+ghost use Rattle.journal_text.specs.Known.{signal_in, AreOf, FitsStep};
 
 use crate::digests::{Digested, Digests};
 use crate::digits::{write_byte, write_bytes, write_number};
@@ -24,6 +25,7 @@ fn write_first_line(
     head: &Head,
     known: Option<&Digested>,
 ) -> Result<(), NoMemory>
+    requires { IfSome known (λ digested. AreOf (signal_in head.now) digested.now) }
     ensures { OnOk result (out.new.items ≡ out.old.items
         ++ (decimal position ++ codes " " ++ maker_text by ++ codes " "
         ++ head_text names.now head.now
@@ -45,11 +47,12 @@ pub(crate) fn write_lines(
     position: u64,
     step: &Step,
 ) -> Result<(), NoMemory>
+    requires { FitsStep digests.now.kept position (Some step.now) }
     ensures { OnOk result (out.new.items ≡ out.old.items ++ step_text names.now position step.now) }
 {
-    let known = digests.of_head(position, &step.head);
+    let known = digests.of_head(position, step);
     write_first_line(out, names, position, step.by, &step.head, known)?;
-    write_effects(out, names, digests, position, step.effects.as_slice())
+    write_effects(out, names, digests, position, step)
 }
 
 /// Appends the lines of the step at position k, from 1; nothing where k is no position. A refusal

@@ -1,6 +1,7 @@
 //! The whole text of a journal.
 ghost use Rattle.std.specs.Prelude.{◌≡◌, ◌++◌, OnOk, IfOk};
 ghost use Rattle.journal_text.specs.Text.{steps_text, text_of};
+ghost use Rattle.journal_text.specs.Known.{Fits};
 
 use crate::all_logs::write_logs_with;
 use crate::digests::Digests;
@@ -13,6 +14,7 @@ use std::alloc::Global;
 const TEXT_ROOM: usize = 262_144;
 
 fn write_steps(out: &mut Vec<u8>, journal: &Journal, digests: &Digests) -> Result<(), NoMemory>
+    requires { Fits digests.now.kept journal.now.log.steps }
     ensures { OnOk result (out.new.items ≡ out.old.items
         ++ steps_text journal.now.log.names journal.now.log.steps) }
 {

@@ -4,6 +4,7 @@ use Rattle.linx_base.specs.declared.name.Names.{Names}
 use Rattle.journal_text.specs.Owners.{Tracks}
 use Rattle.journal_text.specs.Collected.{Collects}
 use Rattle.journal.proofs.Positions.{first_steps_none, first_steps_done}
+use Rattle.journal_text.proofs.Fitting.{fits_next}
 use Rattle.journal_text.proofs.all_logs.collect.Goals as goal
 
 pub loop-done-init : goal.loop-done-init
@@ -24,3 +25,9 @@ returns c =
     subst (λ (P : List Step). Collects names S P c.loop-done.logs)
     (first_steps_done S c.loop-done.done all)
     c.loop-done.invariant.1
+
+pub note-requires-clause-fits_step : goal.note-requires-clause-fits_step
+note-requires-clause-fits_step c =
+    fits_next c.args.digests.now.kept c.args.journal.now.log.steps c.loop-done.done
+    c.step_after-step.result.now c.step_after-step.ensures.next c.step_after-step.ensures.position
+    c.requires

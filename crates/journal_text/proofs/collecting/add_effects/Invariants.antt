@@ -7,4 +7,4 @@ use Rattle.journal_text.proofs.collecting.add_effects.Given as goal
 abbrev pub invariant-loop-index : goal.invariant-loop-index
 invariant-loop-index l = (q : ℕ) → kept l.lines q
     ≡ kept l.initial.lines q ++ effect_logs l.names (record { 0 = q })
-    (take l.index l.effects)
+    (take l.index l.step.effects)

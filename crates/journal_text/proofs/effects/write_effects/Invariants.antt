@@ -6,4 +6,4 @@ use Rattle.journal_text.proofs.effects.write_effects.Given as goal
 abbrev pub invariant-loop-index : goal.invariant-loop-index
 invariant-loop-index l =
     l.out.items ≡ l.initial.out.items
-    ++ flat_map (effect_line l.names) (take l.index l.effects)
+    ++ flat_map (effect_line l.names) (take l.index l.step.effects)

@@ -6,6 +6,7 @@ use Rattle.journal_text.specs.Steps.{step_text}
 use Rattle.journal_text.specs.Text.{steps_text}
 use Rattle.journal.proofs.Positions.{first_steps_done}
 use Rattle.journal_text.proofs.StepLines.{steps_text_none, steps_text_more}
+use Rattle.journal_text.proofs.Fitting.{fits_next}
 use Rattle.journal_text.proofs.whole_text.write_steps.Goals as goal
 
 pub loop-done-init : goal.loop-done-init
@@ -33,3 +34,9 @@ returns c =
     c.loop-done.invariant
     ∙ ap (λ (P : List Step). c.args.out.now.items ++ steps_text names P)
     (first_steps_done S c.loop-done.done all)
+
+pub write_lines-requires : goal.write_lines-requires
+write_lines-requires c =
+    fits_next c.args.digests.now.kept c.args.journal.now.log.steps c.loop-done.done
+    c.step_after-step.result.now c.step_after-step.ensures.next c.step_after-step.ensures.position
+    c.requires
