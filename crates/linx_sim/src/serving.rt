@@ -168,6 +168,8 @@ fn read_script<S: Source>(alloc: Global, source: &mut S) -> Result<Script, Statu
     if let Err(stop) = read_up_to(source, &mut bytes, READ_MOST) {
         return Err(status_of_read(stop));
     }
+    // A large buffer that is freed would let the C library copy what grows, up to that size.
+    bytes.shrink_to_fit();
     match parse(alloc, bytes.as_slice()) {
         Ok(script) => Ok(script),
         Err(error) => Err(status_of_script(error)),
