@@ -13,6 +13,7 @@ cat > src/main.rt <<'PROGRAM'
 
 use anyhow::Context;
 use ethcm_end::{End, Input};
+use ethcm_headers::PacketBytes;
 use linx_base::{Blob, Message, NoMemory};
 use std::alloc::Global;
 use std::collections::VecDeque;
@@ -34,7 +35,7 @@ fn message(alloc: Global) -> anyhow::Result<Message> {
 }
 
 /// The event stays, and all that the end sends is put on the wire.
-fn put_all(end: &mut End, wire: &mut VecDeque<Blob>) -> anyhow::Result<()> {
+fn put_all(end: &mut End, wire: &mut VecDeque<PacketBytes>) -> anyhow::Result<()> {
     for _ in 0..u64::MAX {
         let Some(bytes) = end.out().context("out")? else {
             break;
@@ -48,7 +49,11 @@ fn put_all(end: &mut End, wire: &mut VecDeque<Blob>) -> anyhow::Result<()> {
 }
 
 /// The next packet of a wire comes. The answer is whether a message is whole.
-fn take(end: &mut End, from: &mut VecDeque<Blob>, to: &mut VecDeque<Blob>) -> anyhow::Result<bool> {
+fn take(
+    end: &mut End,
+    from: &mut VecDeque<PacketBytes>,
+    to: &mut VecDeque<PacketBytes>,
+) -> anyhow::Result<bool> {
     let Some(bytes) = from.pop_front() else {
         return Ok(false);
     };
@@ -68,8 +73,8 @@ fn take(end: &mut End, from: &mut VecDeque<Blob>, to: &mut VecDeque<Blob>) -> an
 struct Link {
     first: End,
     second: End,
-    to_first: VecDeque<Blob>,
-    to_second: VecDeque<Blob>,
+    to_first: VecDeque<PacketBytes>,
+    to_second: VecDeque<PacketBytes>,
 }
 
 impl Link {

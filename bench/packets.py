@@ -27,7 +27,7 @@ NAME = re.compile(rb"[A-Za-z0-9_.-]{1,32}\Z")
 PROGRAM = """#![tactic(auto)]
 
 use anyhow::Context;
-use ethcm_headers::ReadError;
+use ethcm_headers::{PacketBytes, ReadError};
 use linx_base::Blob;
 use rlnh_messages::RlnhError;
 use std::alloc::Global;
@@ -37,8 +37,8 @@ fn bytes_of(alloc: Global, digits: &str) -> anyhow::Result<Blob> {
     Blob::shared(hex::decode(alloc, digits.as_bytes())?).context("bytes")
 }
 
-fn is_packet(bytes: &Blob) -> anyhow::Result<bool> {
-    match ethcm_headers::read(bytes) {
+fn is_packet(bytes: Blob) -> anyhow::Result<bool> {
+    match ethcm_headers::read(&PacketBytes::of(bytes).context("bytes")?) {
         Ok(_) => Ok(true),
         Err(ReadError::Bad) => Ok(false),
         Err(ReadError::NoMemory) => anyhow::bail!("memory"),
@@ -64,7 +64,7 @@ fn is_signal(bytes: &Blob) -> anyhow::Result<bool> {
 // Whether the bytes of a line are what its first letter says.
 fn is_good(alloc: Global, line: &str) -> anyhow::Result<bool> {
     if let Some(digits) = line.strip_prefix("p") {
-        return is_packet(&bytes_of(alloc, digits)?);
+        return is_packet(bytes_of(alloc, digits)?);
     }
     if let Some(digits) = line.strip_prefix("m") {
         return is_message(alloc, &bytes_of(alloc, digits)?);

@@ -5,7 +5,8 @@ ghost use Rattle.linx_base.specs.Both.{still};
 ghost use Rattle.lossy_wire.specs.Flight.{HasOnlyGrown};
 ghost use Rattle.carrier.specs.Spelling.{IsSpelled, packet_at};
 
-use linx_base::{Blob, NoMemory};
+use ethcm_headers::PacketBytes;
+use linx_base::NoMemory;
 use lossy_wire::Wire;
 use std::alloc::Global;
 use std::marker::Model;
@@ -15,7 +16,7 @@ use std::marker::Model;
 /// oldest.
 #[derive(Drop)]
 pub struct Flight {
-    wire: Wire,
+    wire: Wire<PacketBytes>,
 }
 
 impl Model for Flight {
@@ -42,7 +43,7 @@ impl Flight {
     }
 
     /// A packet goes behind the others. A refusal frees it and changes nothing.
-    pub fn put(&mut self, bytes: Blob) -> Result<(), NoMemory>
+    pub fn put(&mut self, bytes: PacketBytes) -> Result<(), NoMemory>
         requires { IsSpelled bytes }
         ensures is { OnOk result (self.new.is ≡ self.old.is ++ packet_at bytes ∷ []) }
         ensures was { self.new.was ≡ self.old.was }
@@ -68,7 +69,7 @@ impl Flight {
     }
 
     /// The bytes of the packet at place k.
-    pub fn at(&self, k: usize) -> &Blob
+    pub fn at(&self, k: usize) -> &PacketBytes
         requires { k < length self.now.is }
         ensures packet { slice_get self.now.is k ≡ Some (packet_at result.now) }
         ensures spelled { IsSpelled result.now }

@@ -17,7 +17,8 @@ use crate::flight::Flight;
 use crate::handed::{Handed, TickedSide};
 use crate::note::Note;
 use ethcm_end::{End, Input, Ticked};
-use linx_base::{Blob, Message, NoMemory, Session, TryCopy, UndoList};
+use ethcm_headers::PacketBytes;
+use linx_base::{Message, NoMemory, Session, TryCopy, UndoList};
 use std::alloc::Global;
 use std::marker::Model;
 
@@ -87,7 +88,7 @@ impl Half {
 
     /// A packet comes. It is recorded what becomes of the session, and a message that is handed up;
     /// what the end sends goes into flight.
-    pub fn receive(&mut self, bytes: &Blob, out: &mut Flight) -> Result<Handed, NoMemory>
+    pub fn receive(&mut self, bytes: &PacketBytes, out: &mut Flight) -> Result<Handed, NoMemory>
         requires spelled { IsSpelled bytes.now }
         requires counted { HasNext self.old.is.end.talk.mine }
         ensures half { let r = input_of self.old.is.end (packet_at bytes.now) in

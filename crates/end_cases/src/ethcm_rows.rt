@@ -9,12 +9,13 @@
 
 use crate::exchange::{Exchanges, bytes_of, follows, front};
 use ethcm_end::{End, Input, Ticked};
+use ethcm_headers::PacketBytes;
 use linx_base::{Blob, Message};
 use std::alloc::Global;
 use std::test::Fail;
 
 /// A packet comes.
-fn input(end: &mut End, packet: &Blob) -> Result<Input, Fail> {
+fn input(end: &mut End, packet: &PacketBytes) -> Result<Input, Fail> {
     if end.mine().count() == u32::MAX {
         return Err(Fail::from("no session follows"));
     }
@@ -33,7 +34,7 @@ fn input_word(input: &Input) -> &'static str {
 
 /// A packet of these bytes comes. The answer is what it means in a word.
 fn take(end: &mut End, bytes: Vec<u8>) -> Result<&'static str, Fail> {
-    let packet = Blob::shared(bytes)?;
+    let packet = PacketBytes::of(Blob::shared(bytes)?)?;
     let input = input(end, &packet)?;
     Ok(input_word(&input))
 }
@@ -125,23 +126,23 @@ fn ends_event(end: &mut End, word: &str) -> Result<bool, Fail> {
     Ok(true)
 }
 
-/// Whether exactly these bytes go out next; where they are none, whether nothing goes out.
-fn sends(end: &mut End, bytes: &[u8]) -> Result<bool, Fail> {
-    Ok(match end.out()? {
-        None => bytes.is_empty(),
-        Some(out) => out.bytes() == bytes,
-    })
+fn sends_nothing(end: &mut End) -> Result<bool, Fail> {
+    let out = end.out()?;
+    Ok(out.is_none())
 }
 
-/// Whether these bytes go out next.
-fn sends_words(alloc: Global, end: &mut End, words: &str) -> Result<bool, Fail> {
+/// Whether exactly these bytes go out next; where they are none, whether nothing goes out.
+fn sends(alloc: Global, end: &mut End, words: &str) -> Result<bool, Fail> {
     let bytes = bytes_of(alloc, words)?;
-    sends(end, &bytes)
+    Ok(match end.out()? {
+        None => bytes.is_empty(),
+        Some(out) => out.whole(alloc)?.bytes() == bytes.as_slice(),
+    })
 }
 
 /// Whether nothing was left to go out, and what happens then comes out as the word says.
 fn happens(alloc: Global, end: &mut End, word: &str, rest: &str) -> Result<bool, Fail> {
-    if !sends(end, &[])? {
+    if !sends_nothing(end)? {
         return Ok(false);
     }
     match word {
@@ -161,7 +162,7 @@ impl Exchanges for End {
     fn goes_as(&mut self, alloc: Global, line: &str) -> Result<bool, Fail> {
         let (word, rest) = front(line);
         match word {
-            "sends" => sends_words(alloc, self, rest),
+            "sends" => sends(alloc, self, rest),
             "work" => Ok(self.has_work()),
             "rest" => Ok(!self.has_work()),
             "keep" | "undo" => ends_event(self, word),
@@ -171,7 +172,7 @@ impl Exchanges for End {
     }
 
     fn is_over(&mut self) -> Result<bool, Fail> {
-        sends(self, &[])
+        sends_nothing(self)
     }
 }
 

@@ -15,8 +15,8 @@ ghost use Rattle.ethcm_end.specs.Rules.{restart_of, tick_of};
 use crate::answers::{Input, Ticked};
 use crate::events::{take_offer, take_packet, take_tick};
 use crate::parts::Parts;
-use ethcm_headers::{Packet, ReadError, read};
-use linx_base::{Blob, Message, NoMemory, Session};
+use ethcm_headers::{Packet, PacketBytes, ReadError, read};
+use linx_base::{Message, NoMemory, Session};
 use std::alloc::Global;
 use std::marker::Model;
 
@@ -91,7 +91,7 @@ fn send(parts: &mut Parts, message: &Message) -> Result<(), NoMemory>
 }
 
 /// `Parts::out` of a sound end, which stays sound; what goes out is a packet of the wire.
-fn hand_out(parts: &mut Parts) -> Result<Option<Blob>, NoMemory>
+fn hand_out(parts: &mut Parts) -> Result<Option<PacketBytes>, NoMemory>
     requires { IsSoundEnd parts.old.is }
     ensures bytes { IfOk result (λ bytes. bytes ≡ next_bytes parts.old.is) }
     ensures is { OnOk result (parts.new.is ≡ after_out parts.old.is) }
@@ -119,7 +119,7 @@ impl End {
 
     /// The packet comes that these bytes spell. Bytes that are no packet change nothing. A refusal
     /// undoes the event.
-    pub fn input(&mut self, bytes: &Blob) -> Result<Input, NoMemory>
+    pub fn input(&mut self, bytes: &PacketBytes) -> Result<Input, NoMemory>
         requires { HasNext self.old.is.talk.mine }
         ensures packet { IfOk result (λ handed. (packet : AnyPacket) → Spells packet bytes.now
             → gives self.new.is handed ≡ input_of self.old.is packet) }
@@ -205,7 +205,7 @@ impl End {
 
     /// Takes out the next packet to be put on the wire, as its bytes; `None` exactly where there is
     /// none. A refusal changes nothing.
-    pub fn out(&mut self) -> Result<Option<Blob>, NoMemory>
+    pub fn out(&mut self) -> Result<Option<PacketBytes>, NoMemory>
         ensures bytes { IfOk result (λ bytes. bytes ≡ next_bytes self.old.is) }
         ensures is { OnOk result (self.new.is ≡ after_out self.old.is) }
         ensures packet { ForSome (slice_get self.old.is.out 0) IsPacket }

@@ -7,12 +7,12 @@ ghost use Rattle.ethcm_end.specs.States.{new_end, peer_of};
 ghost use Rattle.ethcm_end.specs.Rules.{after_out, anew, gone_down, heard, next_bytes, packet_of};
 ghost use Rattle.ethcm_end.specs.Rules.{put, put_ack, put_pieces, replied, restart_of};
 
-use ethcm_headers::{Packet, Part, write};
+use ethcm_headers::{Packet, PacketBytes, Part, write};
 use ethcm_session::Talk;
 use ethcm_window::{Rx, Tx};
 use fragmenter::Joiner;
 use link_supervisor::Watch;
-use linx_base::{Blob, ConnKind, NoMemory, SentFrames, Session, UndoQueue};
+use linx_base::{ConnKind, NoMemory, SentFrames, Session, UndoQueue};
 use std::alloc::Global;
 use std::marker::Model;
 
@@ -161,7 +161,7 @@ impl Parts {
 
     /// Takes out the next packet, as its bytes; `None` exactly where there is none. A refusal
     /// changes nothing.
-    pub fn out(&mut self) -> Result<Option<Blob>, NoMemory>
+    pub fn out(&mut self) -> Result<Option<PacketBytes>, NoMemory>
         requires { All IsPacket self.old.is.out }
         ensures bytes { IfOk result (λ bytes. bytes ≡ next_bytes self.old.is) }
         ensures is { OnOk result (self.new.is ≡ after_out self.old.is) }
@@ -171,7 +171,7 @@ impl Parts {
         let Some(packet) = self.outgoing.first() else {
             return Ok(None);
         };
-        let bytes = write(self.alloc, packet)?;
+        let bytes = write(packet)?;
         self.outgoing.pass();
         Ok(Some(bytes))
     }

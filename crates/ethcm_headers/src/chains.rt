@@ -93,15 +93,11 @@ impl Headers {
     {
         let main = |next: u8| main_header(next, length, self.src, self.dst);
         match self.chain {
-            Chain::Conn(kind) => HeaderBytes::new()
-                .then(&main(CONN))
-                .then(&conn_header(kind)),
-            Chain::Ack { next } => HeaderBytes::new()
-                .then(&main(ACK))
-                .then(&ack_header(NONE, next)),
-            Chain::Nack { next, count } => HeaderBytes::new()
-                .then(&main(NACK))
-                .then(&nack_header(next, count)),
+            Chain::Conn(kind) => HeaderBytes::pair(&main(CONN), &conn_header(kind)),
+            Chain::Ack { next } => HeaderBytes::pair(&main(ACK), &ack_header(NONE, next)),
+            Chain::Nack { next, count } => {
+                HeaderBytes::pair(&main(NACK), &nack_header(next, count))
+            }
             Chain::First {
                 next,
                 seq,
@@ -109,14 +105,16 @@ impl Headers {
                 from,
                 to,
                 size,
-            } => HeaderBytes::new()
-                .then(&main(ACK))
-                .then(&ack_header(UDATA, next))
-                .then(&udata_header(more, seq, from, to, size)),
-            Chain::Next { next, seq, more } => HeaderBytes::new()
-                .then(&main(ACK))
-                .then(&ack_header(FRAG, next))
-                .then(&frag_header(more, seq)),
+            } => HeaderBytes::triple(
+                &main(ACK),
+                &ack_header(UDATA, next),
+                &udata_header(more, seq, from, to, size),
+            ),
+            Chain::Next { next, seq, more } => HeaderBytes::triple(
+                &main(ACK),
+                &ack_header(FRAG, next),
+                &frag_header(more, seq),
+            ),
         }
     }
 }

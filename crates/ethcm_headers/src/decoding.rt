@@ -4,7 +4,7 @@
 ghost use Rattle.std.specs.Prelude.{◌≡◌, ◌+◌, ◌≤◌, length, IfSome};
 ghost use Rattle.ethcm_headers.specs.Chains.{number_at, kind_of, layout_at, layout_length};
 ghost use Rattle.ethcm_headers.specs.Chains.{fields_at, chain_at, headers_at, FitsChain};
-ghost use Rattle.ethcm_headers.specs.Chains.{FitsHeaders};
+ghost use Rattle.ethcm_headers.specs.Chains.{FitsHeaders, layout_of, length_of};
 
 use crate::chains::{Chain, Headers, Layout};
 use crate::headers::{ACK, CONN, FRAG, NACK, NONE, UDATA};
@@ -72,6 +72,7 @@ fn fields_at(layout: Layout, bytes: &[u8]) -> Option<Chain>
     requires { layout_length layout ≤ length bytes.now }
     ensures value { result ≡ fields_at layout bytes.now }
     ensures fits { IfSome result FitsChain }
+    ensures layout { IfSome result (λ chain. layout_of chain ≡ layout) }
 {
     match layout {
         Layout::Conn => {
@@ -105,6 +106,7 @@ fn chain_at(bytes: &[u8]) -> Option<Chain>
     requires { 24 ≤ length bytes.now }
     ensures value { result ≡ chain_at bytes.now }
     ensures fits { IfSome result FitsChain }
+    ensures within { IfSome result (λ chain. length_of chain ≤ length bytes.now) }
 {
     let layout = layout_at(bytes)?;
     if bytes.len() < layout.len() {
@@ -118,6 +120,7 @@ fn chain_at(bytes: &[u8]) -> Option<Chain>
 pub fn headers_at(bytes: &[u8]) -> Option<Headers>
     ensures value { result ≡ headers_at bytes.now }
     ensures fits { IfSome result FitsHeaders }
+    ensures within { IfSome result (λ headers. length_of headers.chain ≤ length bytes.now) }
 {
     if bytes.len() < 24 {
         return None;

@@ -32,16 +32,38 @@ impl HeaderBytes {
         }
     }
 
-    /// These bytes with another header behind them.
-    pub fn then(mut self, header: &[u8]) -> HeaderBytes
-        requires { length self + length header.now ≤ 48 }
-        ensures { result ≡ self ++ header.now }
+    /// The bytes of two headers.
+    pub fn pair(first: &[u8], second: &[u8]) -> HeaderBytes
+        requires { length first.now + length second.now ≤ 48 }
+        ensures { result ≡ first.now ++ second.now }
+    {
+        let mut headers = HeaderBytes::new();
+        headers.push(first);
+        headers.push(second);
+        headers
+    }
+
+    /// The bytes of three headers.
+    pub fn triple(first: &[u8], second: &[u8], third: &[u8]) -> HeaderBytes
+        requires { length first.now + length second.now + length third.now ≤ 48 }
+        ensures { result ≡ (first.now ++ second.now) ++ third.now }
+    {
+        let mut headers = HeaderBytes::new();
+        headers.push(first);
+        headers.push(second);
+        headers.push(third);
+        headers
+    }
+
+    /// Some headers come behind these.
+    pub fn push(&mut self, header: &[u8])
+        requires { length self.old + length header.now ≤ 48 }
+        ensures { self.new ≡ self.old ++ header.now }
     {
         let start = self.len;
         let end = start + header.len();
         self.bytes[start..end].copy_from_slice(header);
         self.len = end;
-        self
     }
 
     pub fn as_slice(&self) -> &[u8]

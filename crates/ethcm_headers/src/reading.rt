@@ -1,15 +1,16 @@
-ghost use Rattle.std.specs.Prelude.{◌≡◌, ◌≤◌, ◌++◌, List, ℕ, length, drop, IfSome, IfNone, IfOk};
-ghost use Rattle.std.specs.Prelude.{IfErr};
+ghost use Rattle.std.specs.Prelude.{◌≡◌, ◌↔◌, ◌++◌, [], IsTrue, IfSome, IfNone, IfOk, IfErr};
 ghost use Rattle.ethcm_headers.specs.declared.packets.Packet.{Packet as AnyPacket};
 ghost use Rattle.ethcm_headers.specs.declared.reading.ReadError.TheVariants as errors;
-ghost use Rattle.ethcm_headers.specs.Packets.{Spells};
+ghost use Rattle.ethcm_headers.specs.Packets.{IsPart, Spells};
+ghost use Rattle.ethcm_headers.specs.Parted.{bytes_in, StandApart};
 ghost use Rattle.ethcm_headers.specs.Chains.{packet_with, part_with};
 
 use crate::bounds::is_packet;
 use crate::chains::{Chain, Headers};
 use crate::decoding::headers_at;
+use crate::packet_bytes::{PacketBytes, bytes_in};
 use crate::packets::{Packet, Part};
-use linx_base::{Blob, Frame, NoMemory, Session};
+use linx_base::{Blob, Frame, NoMemory, Session, TryCopy};
 use std::error::Error;
 use std::fmt;
 
@@ -47,42 +48,52 @@ impl From<NoMemory> for ReadError {
     }
 }
 
-/// What stands behind the front.
-fn behind<'a>(bytes: &'a [u8], front: &[u8]) -> Option<&'a [u8]>
-    ensures found { IfSome result (λ rest. bytes.now ≡ front.now ++ rest.now) }
-    ensures none { IfNone result ((rest : List ℕ) → ¬ (bytes.now ≡ front.now ++ rest)) }
+fn is_same(bytes: &[u8], other: &[u8]) -> bool
+    ensures { IsTrue result ↔ (bytes.now ≡ other.now) }
 {
-    bytes.strip_prefix(front)
+    bytes == other
 }
 
-/// The headers of the packet that the bytes spell, and the place at which its payload begins.
-fn split(bytes: &[u8]) -> Option<(Headers, usize)>
+/// The headers of the packet that has these bytes of headers, and these behind them.
+fn headers_of(front: &[u8], behind: &[u8]) -> Option<Headers>
     ensures found { IfSome result
-        (λ parts. Spells (packet_with parts.0 (drop parts.1 bytes.now)) bytes.now) }
-    ensures within { IfSome result (λ parts. parts.1 ≤ length bytes.now) }
-    ensures none { IfNone result ((packet : AnyPacket) → ¬ (Spells packet bytes.now)) }
+        (λ headers. Spells (packet_with headers behind.now) (front.now ++ behind.now)) }
+    ensures none { IfNone result (StandApart front.now behind.now
+        → (packet : AnyPacket) → ¬ (Spells packet (front.now ++ behind.now))) }
 {
-    if bytes.len() > PACKET_MOST {
+    let length = front.len() + behind.len();
+    if length > PACKET_MOST {
         return None;
     }
-    let Some(headers) = headers_at(bytes) else {
+    let Some(headers) = headers_at(front) else {
         return None;
     };
-    let spelled = headers.bytes(bytes.len() as u16);
-    let Some(payload) = behind(bytes, spelled.as_slice()) else {
-        return None;
-    };
-    if !is_packet(&headers, payload) {
+    let spelled = headers.bytes(length as u16);
+    if !is_same(spelled.as_slice(), front) {
         return None;
     }
-    Some((headers, bytes.len() - payload.len()))
+    if !is_packet(&headers, behind) {
+        return None;
+    }
+    Some(headers)
 }
 
-/// What the chain and the payload behind it bring. The payload is the bytes from a place on, which
-/// are shared.
-fn part_with(chain: Chain, bytes: &Blob, from: usize) -> Result<Part, NoMemory>
-    requires { from ≤ length bytes.now }
-    ensures { IfOk result (λ part. part ≡ part_with chain (drop from bytes.now)) }
+/// The payload of a piece, which is shared. A piece has one.
+fn payload_of(payload: &Option<Blob>) -> Result<Blob, ReadError>
+    ensures ok { IfOk result (λ copy. copy ≡ bytes_in payload.now) }
+    ensures bad { IfErr result (λ e. e ≡ ReadError.Bad → bytes_in payload.now ≡ []) }
+{
+    match payload {
+        None => Err(ReadError::Bad),
+        Some(payload) => Ok(payload.copy()?),
+    }
+}
+
+/// What the chain and the payload behind it bring.
+fn part_with(chain: Chain, payload: &Option<Blob>) -> Result<Part, ReadError>
+    ensures ok { IfOk result (λ part. part ≡ part_with chain (bytes_in payload.now)) }
+    ensures bad { IfErr result
+        (λ e. e ≡ ReadError.Bad → ¬ (IsPart (part_with chain (bytes_in payload.now)))) }
 {
     match chain {
         Chain::Conn(kind) => Ok(Part::Conn(kind)),
@@ -95,7 +106,7 @@ fn part_with(chain: Chain, bytes: &Blob, from: usize) -> Result<Part, NoMemory>
             next,
             seq,
             more,
-            from: sender,
+            from,
             to,
             size,
         } => Ok(Part::Piece {
@@ -103,10 +114,10 @@ fn part_with(chain: Chain, bytes: &Blob, from: usize) -> Result<Part, NoMemory>
             seq,
             frame: Frame::First {
                 more,
-                from: sender,
+                from,
                 to,
                 size,
-                payload: bytes.part(from, bytes.len())?,
+                payload: payload_of(payload)?,
             },
         }),
         Chain::Next { next, seq, more } => Ok(Part::Piece {
@@ -114,27 +125,28 @@ fn part_with(chain: Chain, bytes: &Blob, from: usize) -> Result<Part, NoMemory>
             seq,
             frame: Frame::Next {
                 more,
-                payload: bytes.part(from, bytes.len())?,
+                payload: payload_of(payload)?,
             },
         }),
     }
 }
 
-/// The packet that has these headers, and the bytes from a place on as its payload.
-fn packet_with(headers: &Headers, bytes: &Blob, from: usize) -> Result<Packet, NoMemory>
-    requires { from ≤ length bytes.now }
-    ensures { IfOk result (λ packet. packet ≡ packet_with headers.now (drop from bytes.now)) }
+/// The packet that has these headers, and this payload.
+fn packet_with(headers: &Headers, payload: &Option<Blob>) -> Result<Packet, ReadError>
+    ensures ok { IfOk result (λ packet. packet ≡ packet_with headers.now (bytes_in payload.now)) }
+    ensures bad { IfErr result (λ e. e ≡ ReadError.Bad
+        → ¬ (IsPart (packet_with headers.now (bytes_in payload.now)).part)) }
 {
     Ok(Packet {
         src: Session(headers.src),
         dst: headers.dst,
-        part: part_with(headers.chain, bytes, from)?,
+        part: part_with(headers.chain, payload)?,
     })
 }
 
 /// The packet that the bytes spell, whose payload shares them. Bytes that are no packet's spelling
 /// are `Bad`.
-pub fn read(bytes: &Blob) -> Result<Packet, ReadError>
+pub fn read(bytes: &PacketBytes) -> Result<Packet, ReadError>
     // What is read is so spelled, and the packet that is so spelled is read.
     ensures found { IfOk result (λ packet. Spells packet bytes.now) }
     ensures only { IfOk result
@@ -146,9 +158,10 @@ pub fn read(bytes: &Blob) -> Result<Packet, ReadError>
     ensures bad_only { IfErr result
         (λ e. e ≡ ReadError.Bad → (packet : AnyPacket) → ¬ (Spells packet bytes.now)) }
 {
-    let Some((headers, from)) = split(bytes.bytes()) else {
+    let front = bytes.headers.as_slice();
+    let Some(headers) = headers_of(front, bytes_in(&bytes.payload)) else {
         return Err(ReadError::Bad);
     };
-    let packet = packet_with(&headers, bytes, from)?;
+    let packet = packet_with(&headers, &bytes.payload)?;
     Ok(packet)
 }

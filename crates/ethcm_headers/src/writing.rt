@@ -2,11 +2,12 @@ ghost use Rattle.std.specs.Prelude.{◌≡◌, IfOk};
 ghost use Rattle.ethcm_headers.specs.Packets.{IsPart, IsPacket, IsWithinBounds, FitsPart};
 ghost use Rattle.ethcm_headers.specs.Packets.{spelling_of};
 ghost use Rattle.ethcm_headers.specs.Chains.{chain_in, headers_in, payload_in};
+ghost use Rattle.ethcm_headers.specs.Parted.{bytes_in};
 
 use crate::chains::{Chain, Headers};
+use crate::packet_bytes::{PacketBytes, bytes_in};
 use crate::packets::{Packet, Part};
-use linx_base::{Blob, Bytes, Frame, NoMemory, Session};
-use std::alloc::Global;
+use linx_base::{Blob, Frame, NoMemory, Session, TryCopy};
 
 fn chain_in(part: &Part) -> Chain
     requires { IsPart part.now }
@@ -44,14 +45,15 @@ fn chain_in(part: &Part) -> Chain
     }
 }
 
-fn payload_in(part: &Part) -> &[u8]
-    ensures { result.now ≡ payload_in part.now }
+/// The payload, which is shared.
+fn payload_in(part: &Part) -> Result<Option<Blob>, NoMemory>
+    ensures { IfOk result (λ payload. bytes_in payload ≡ payload_in part.now) }
 {
     match part {
         Part::Piece { frame, .. } => match frame {
-            Frame::First { payload, .. } | Frame::Next { payload, .. } => payload.bytes(),
+            Frame::First { payload, .. } | Frame::Next { payload, .. } => Ok(Some(payload.copy()?)),
         },
-        _ => &[],
+        _ => Ok(None),
     }
 }
 
@@ -72,20 +74,15 @@ fn headers_in(packet: &Packet) -> Headers
     }
 }
 
-/// The bytes of a packet, whose length is reserved once.
-pub fn write(alloc: Global, packet: &Packet) -> Result<Blob, NoMemory>
+/// The bytes of a packet, which share its payload.
+pub fn write(packet: &Packet) -> Result<PacketBytes, NoMemory>
     requires { IsWithinBounds packet.now }
     ensures ok { IfOk result (λ bytes. bytes ≡ spelling_of packet.now) }
     // So what is written is read again.
     ensures is_packet { IsPacket packet.now }
 {
     let headers = headers_in(packet);
-    let payload = payload_in(&packet.part);
-    let length = headers.chain.layout().len() + payload.len();
-    let spelled = headers.bytes(length as u16);
-    let mut bytes = Bytes::with_room(alloc, length)?;
-    bytes.extend(spelled.as_slice())?;
-    bytes.extend(payload)?;
-    let bytes = bytes.into_blob()?;
-    Ok(bytes)
+    let payload = payload_in(&packet.part)?;
+    let length = headers.chain.layout().len() + bytes_in(&payload).len();
+    Ok(PacketBytes::new(&headers, length as u16, payload))
 }

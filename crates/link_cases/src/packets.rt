@@ -1,7 +1,7 @@
 //! The bytes of packets, as words: sessions, and hexadecimal digits.
 
 use crate::lines::{Called, bytes_of, follows, front, text_of};
-use ethcm_headers::{Packet, Part, ReadError, read, write};
+use ethcm_headers::{Packet, PacketBytes, Part, ReadError, read, write};
 use linx_base::{Blob, Frame, Session};
 use std::alloc::Global;
 use std::test::Fail;
@@ -43,15 +43,15 @@ fn packet_text(alloc: Global, packet: &Packet) -> Result<String, Fail> {
     Ok(format!(in alloc; "{boot}.{count} to {}.{} {part}", dst.boot(), dst.count())?)
 }
 
-fn is_bad(bytes: &Blob) -> bool {
+fn is_bad(bytes: &PacketBytes) -> bool {
     matches!(read(bytes), Err(ReadError::Bad))
 }
 
 /// The packet that is spelled so, which must be written so again.
-fn read_again(alloc: Global, bytes: &Blob) -> Result<Packet, Fail> {
+fn read_again(alloc: Global, bytes: &PacketBytes) -> Result<Packet, Fail> {
     let packet = read(bytes)?;
-    let written = write(alloc, &packet)?;
-    if !written.same(bytes) {
+    let written = write(&packet)?;
+    if written.len() != bytes.len() || !written.whole(alloc)?.same(&bytes.whole(alloc)?) {
         return Err(Fail::from("it is written otherwise"));
     }
     Ok(packet)
@@ -59,7 +59,7 @@ fn read_again(alloc: Global, bytes: &Blob) -> Result<Packet, Fail> {
 
 /// What is read of bytes.
 fn meaning(alloc: Global, bytes: Vec<u8>) -> Result<String, Fail> {
-    let bytes = Blob::shared(bytes)?;
+    let bytes = PacketBytes::of(Blob::shared(bytes)?)?;
     if is_bad(&bytes) {
         return text_of(alloc, "bad");
     }

@@ -8,7 +8,7 @@ use std::str;
 use std::test::Fail;
 
 /// A packet of the bytes of a word is put on a wire.
-fn put(alloc: Global, wire: &mut Wire, word: &str) -> Result<(), Fail> {
+fn put(alloc: Global, wire: &mut Wire<Blob>, word: &str) -> Result<(), Fail> {
     let packet = Blob::of(alloc, word.as_bytes())?;
     match wire.put(packet) {
         Ok(()) => Ok(()),
@@ -17,7 +17,7 @@ fn put(alloc: Global, wire: &mut Wire, word: &str) -> Result<(), Fail> {
 }
 
 /// The packet at a place is lost, in an event that begins with it.
-fn lose(wire: &mut Wire, place: usize) -> Result<(), Fail> {
+fn lose(wire: &mut Wire<Blob>, place: usize) -> Result<(), Fail> {
     wire.keep();
     if place >= wire.len() {
         return Err(Fail::from("no such packet"));
@@ -27,7 +27,7 @@ fn lose(wire: &mut Wire, place: usize) -> Result<(), Fail> {
 }
 
 /// The packets at two places are exchanged, in an event that begins with it.
-fn swap(wire: &mut Wire, place: usize, other: usize) -> Result<(), Fail> {
+fn swap(wire: &mut Wire<Blob>, place: usize, other: usize) -> Result<(), Fail> {
     wire.keep();
     if place >= wire.len() || other >= wire.len() {
         return Err(Fail::from("no such packets"));
@@ -36,17 +36,17 @@ fn swap(wire: &mut Wire, place: usize, other: usize) -> Result<(), Fail> {
     Ok(())
 }
 
-fn lose_word(wire: &mut Wire, place: &str) -> Result<(), Fail> {
+fn lose_word(wire: &mut Wire<Blob>, place: &str) -> Result<(), Fail> {
     lose(wire, place.parse()?)
 }
 
-fn swap_words(wire: &mut Wire, places: &str) -> Result<(), Fail> {
+fn swap_words(wire: &mut Wire<Blob>, places: &str) -> Result<(), Fail> {
     let (place, other) = front(places);
     swap(wire, place.parse()?, other.parse()?)
 }
 
 /// The packets in flight, in order.
-fn flying(alloc: Global, wire: &Wire) -> Result<String, Fail> {
+fn flying(alloc: Global, wire: &Wire<Blob>) -> Result<String, Fail> {
     let mut text = String::new(alloc);
     for place in 0..wire.len() {
         text.push_str(str::from_utf8(wire.at(place).bytes())?)?;
@@ -54,7 +54,7 @@ fn flying(alloc: Global, wire: &Wire) -> Result<String, Fail> {
     Ok(text)
 }
 
-fn ends_event(wire: &mut Wire, word: &str) -> Result<(), Fail> {
+fn ends_event(wire: &mut Wire<Blob>, word: &str) -> Result<(), Fail> {
     match word {
         "keep" => wire.keep(),
         "undo" => wire.undo(),
@@ -63,7 +63,7 @@ fn ends_event(wire: &mut Wire, word: &str) -> Result<(), Fail> {
     Ok(())
 }
 
-fn call(alloc: Global, wire: &mut Wire, word: &str, rest: &str) -> Result<(), Fail> {
+fn call(alloc: Global, wire: &mut Wire<Blob>, word: &str, rest: &str) -> Result<(), Fail> {
     match word {
         "put" => put(alloc, wire, rest),
         "lose" => lose_word(wire, rest),
@@ -72,8 +72,8 @@ fn call(alloc: Global, wire: &mut Wire, word: &str, rest: &str) -> Result<(), Fa
     }
 }
 
-impl Called for Wire {
-    fn anew(alloc: Global) -> Wire {
+impl Called for Wire<Blob> {
+    fn anew(alloc: Global) -> Wire<Blob> {
         Wire::new(alloc)
     }
 
@@ -87,7 +87,7 @@ impl Called for Wire {
 /// Each call answers the packets in flight, whose bytes are a letter.
 #[test]
 fn a_wire_has_what_was_put(rt: HostRuntime) -> Result<(), Fail> {
-    follows::<Wire>(
+    follows::<Wire<Blob>>(
         rt.alloc(),
         "# packets are exchanged and lost
         put a: a

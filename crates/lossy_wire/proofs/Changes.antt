@@ -19,7 +19,7 @@ swap-append (d ∷ xs) ys i j h k =
     ) (set-append_left (set (d ∷ xs) i (get_or (d ∷ xs) j d)) ys j (get_or (d ∷ xs) i d)
     (rw (length-set (d ∷ xs) i (get_or (d ∷ xs) j d)) k))
 
-pub changed_behind : (change : Change) (packets : List (List ℕ)) (packet : List ℕ)
+pub changed_behind : {X : Type 0} (change : Change) (packets : List X) (packet : X)
     → IsWithin change packets
     → changed change (packets ++ packet ∷ []) ≡ changed change packets ++ packet ∷ []
 changed_behind Nothing packets packet h = refl

@@ -4,7 +4,7 @@ ghost use Rattle.std.specs.List.{remove, swap};
 ghost use Rattle.linx_base.specs.Both.{still};
 ghost use Rattle.lossy_wire.specs.Flight.{HasOnlyGrown, changed, IsWithin};
 
-use linx_base::{Blob, NoMemory};
+use linx_base::NoMemory;
 use std::alloc::Global;
 use std::collections::VecDeque;
 use std::marker::Model;
@@ -20,23 +20,23 @@ enum Change {
 }
 
 /// The packets in flight in one direction, with a way back: what an event did either stays, or is
-/// undone. Contracts see the lists of their bytes as they were when the event began, and as they
+/// undone. Contracts see the lists of the packets as they were when the event began, and as they
 /// are now, place 0 the oldest.
 #[derive(Drop)]
-pub struct Wire {
+pub struct Wire<P> {
     /// The packets without the change.
-    packets: VecDeque<Blob>,
+    packets: VecDeque<P>,
     /// How many of them were in flight when the event began.
     kept: usize,
     change: Change,
 }
 
-impl Model for Wire {
-    ghost use Rattle.std.specs.Prelude.{◌≤◌, List, ℕ, length, take};
+impl<P> Model for Wire<P> {
+    ghost use Rattle.std.specs.Prelude.{◌≤◌, List, length, take};
     ghost use Rattle.linx_base.specs.Both.{Both};
     ghost use Rattle.lossy_wire.specs.Flight.{changed, IsWithin};
 
-    ghost Value = { Both (List (List ℕ)) };
+    ghost Value = { Both (List P) };
 
     ghost view = { λ w. record {
       was = take w.kept w.packets.items;
@@ -47,22 +47,32 @@ impl Model for Wire {
         × IsWithin w.change w.packets.items };
 }
 
+/// Takes out the packet at place k, which is mostly the oldest.
+fn take_out<P: Drop>(packets: &mut VecDeque<P>, k: usize)
+    requires { k < length packets.old.items }
+    ensures { packets.new.items ≡ remove packets.old.items k }
+{
+    if k == 0 {
+        let _ = packets.pop_front();
+        return;
+    }
+    let _ = packets.remove(k);
+}
+
 /// Makes the change in the buffer.
-fn make(packets: &mut VecDeque<Blob>, change: Change)
+fn make<P: Drop>(packets: &mut VecDeque<P>, change: Change)
     requires { IsWithin change packets.old.items }
     ensures { packets.new.items ≡ changed change packets.old.items }
 {
     match change {
         Change::Nothing => {}
-        Change::Lost(k) => {
-            let _ = packets.remove(k);
-        }
+        Change::Lost(k) => take_out(packets, k),
         Change::Exchanged(k, n) => packets.swap(k, n),
     }
 }
 
 /// How many packets there are after the change.
-fn count(packets: &VecDeque<Blob>, change: Change) -> usize
+fn count<P>(packets: &VecDeque<P>, change: Change) -> usize
     requires { IsWithin change packets.now.items }
     ensures { result ≡ length (changed change packets.now.items) }
 {
@@ -73,7 +83,7 @@ fn count(packets: &VecDeque<Blob>, change: Change) -> usize
 }
 
 /// The packet at place k after the change.
-fn nth(packets: &VecDeque<Blob>, change: Change, k: usize) -> &Blob
+fn nth<P>(packets: &VecDeque<P>, change: Change, k: usize) -> &P
     requires within { IsWithin change packets.now.items }
     requires below { k < length (changed change packets.now.items) }
     ensures { slice_get (changed change packets.now.items) k ≡ Some result.now }
@@ -98,9 +108,9 @@ fn nth(packets: &VecDeque<Blob>, change: Change, k: usize) -> &Blob
     }
 }
 
-impl Wire {
+impl<P> Wire<P> {
     /// A wire with nothing in flight. It takes no memory.
-    pub fn new(alloc: Global) -> Wire
+    pub fn new(alloc: Global) -> Wire<P>
         ensures { result ≡ still [] }
     {
         Wire {
@@ -112,13 +122,13 @@ impl Wire {
 
     /// Puts a packet last. A refusal gives it back and changes nothing.
     #[tactic(auto, using(crate::proofs::Changes::changed_behind))]
-    pub fn put(&mut self, bytes: Blob) -> Result<(), (NoMemory, Blob)>
-        ensures ok { OnOk result (self.new.is ≡ self.old.is ++ bytes ∷ []) }
+    pub fn put(&mut self, packet: P) -> Result<(), (NoMemory, P)>
+        ensures ok { OnOk result (self.new.is ≡ self.old.is ++ packet ∷ []) }
         ensures was { self.new.was ≡ self.old.was }
         ensures err { OnErr result (self.new ≡ self.old) }
-        ensures given_back { IfErr result (λ refusal. refusal.1 ≡ bytes) }
+        ensures given_back { IfErr result (λ refusal. refusal.1 ≡ packet) }
     {
-        match self.packets.push_back(bytes) {
+        match self.packets.push_back(packet) {
             Ok(()) => Ok(()),
             Err(refusal) => Err((NoMemory, refusal.value)),
         }
@@ -138,7 +148,7 @@ impl Wire {
     }
 
     /// The packet at place k.
-    pub fn at(&self, k: usize) -> &Blob
+    pub fn at(&self, k: usize) -> &P
         requires { k < length self.now.is }
         ensures { slice_get self.now.is k ≡ Some result.now }
     {
@@ -148,6 +158,8 @@ impl Wire {
     /// Takes the packet at place k out of flight, in an event that has lost or exchanged none yet.
     /// It takes no memory.
     pub fn lose(&mut self, k: usize)
+    where
+        P: Drop,
         requires within { k < length self.old.is }
         requires grown { HasOnlyGrown self.old }
         ensures is { self.new.is ≡ remove self.old.is k }
@@ -160,6 +172,8 @@ impl Wire {
     /// Exchanges the packets at places k and n, in an event that has lost or exchanged none yet. It
     /// takes no memory.
     pub fn swap(&mut self, k: usize, n: usize)
+    where
+        P: Drop,
         requires first { k < length self.old.is }
         requires second { n < length self.old.is }
         requires grown { HasOnlyGrown self.old }
@@ -172,15 +186,24 @@ impl Wire {
 
     /// What is now stays. It takes no memory.
     pub fn keep(&mut self)
+    where
+        P: Drop,
         ensures { self.new ≡ still self.old.is }
     {
-        make(&mut self.packets, self.change);
+        match self.change {
+            Change::Nothing => {}
+            change => {
+                make(&mut self.packets, change);
+                self.change = Change::Nothing;
+            }
+        }
         self.kept = self.packets.len();
-        self.change = Change::Nothing;
     }
 
     /// What was is again. It takes no memory.
     pub fn undo(&mut self)
+    where
+        P: Drop,
         ensures { self.new ≡ still self.old.was }
     {
         self.packets.truncate(self.kept);
