@@ -94,19 +94,44 @@ fn judge(begun: Option<Progress>, frame: &Frame) -> Fate
     }
 }
 
-/// The bytes of the parts, and then those of the last one. A last one alone is shared.
-fn join(alloc: Global, parts: &[Blob], last: &Blob, size: usize) -> Result<Blob, NoMemory>
+/// The most parts before the last one that are joined one by one. A join that can't be shared copies
+/// what is joined so far, so with these it copies the message less than five times.
+const FEW_PARTS: usize = 7;
+
+/// The bytes of the parts, and then those of the last one. Where one buffer has all next to each
+/// other it is shared.
+fn join_shared(parts: &[Blob], last: &Blob) -> Result<Blob, NoMemory>
     ensures { IfOk result (λ body. body ≡ joined (parts.now ++ last.now ∷ [])) }
 {
-    if parts.is_empty() {
-        return last.copy();
+    let mut body = last.copy()?;
+    for k in 0..parts.len() {
+        body = body.behind(parts[parts.len() - 1 - k].bytes())?;
     }
+    Ok(body)
+}
+
+/// The bytes of the parts, and then those of the last one, copied once.
+fn join_copied(alloc: Global, parts: &[Blob], last: &Blob, size: usize) -> Result<Blob, NoMemory>
+    ensures { IfOk result (λ body. body ≡ joined (parts.now ++ last.now ∷ [])) }
+{
     let mut bytes = Bytes::with_room(alloc, size)?;
     for part in parts {
         bytes.extend(part.bytes())?;
     }
     bytes.extend(last.bytes())?;
     bytes.into_blob()
+}
+
+/// The bytes of the parts, and then those of the last one. The parts of a message mostly lie next
+/// to each other in the buffer that its sender has.
+fn join(alloc: Global, parts: &[Blob], last: &Blob, size: usize) -> Result<Blob, NoMemory>
+    ensures { IfOk result (λ body. body ≡ joined (parts.now ++ last.now ∷ [])) }
+{
+    if parts.len() <= FEW_PARTS {
+        join_shared(parts, last)
+    } else {
+        join_copied(alloc, parts, last, size)
+    }
 }
 
 /// The bytes that a frame carries.
@@ -133,6 +158,9 @@ fn drop_front(parts: &mut Vec<Blob>, count: usize)
     requires { count ≤ length parts.old.items }
     ensures { parts.new.items ≡ drop count parts.old.items }
 {
+    if count == 0 {
+        return;
+    }
     let rest = parts.len() - count;
     parts.rotate_left(count);
     parts.truncate(rest);
