@@ -7,7 +7,7 @@ pub(crate) fn drop_first<T: Drop>(queue: &mut VecDeque<T>, count: usize)
     requires { count ≤ length queue.old.items }
     ensures { queue.new.items ≡ drop count queue.old.items }
 {
-    let rest = queue.len() - count;
-    queue.rotate_left(count);
-    queue.truncate(rest);
+    for _ in 0..count {
+        let _ = queue.pop_front();
+    }
 }

@@ -137,7 +137,9 @@ impl Addresses {
     pub fn keep(&mut self)
         ensures { self.new ≡ still self.old.is }
     {
-        self.before = None;
+        if self.before.is_some() {
+            self.before = None;
+        }
         self.table.keep();
     }
 

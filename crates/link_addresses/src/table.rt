@@ -159,6 +159,9 @@ impl Table {
     pub(crate) fn keep(&mut self)
         ensures { self.new ≡ still self.old.is }
     {
+        if self.changes.is_empty() {
+            return;
+        }
         index::forget(&self.meanings, &mut self.index, &self.changes);
         self.changes.clear();
         self.old_used = self.used;

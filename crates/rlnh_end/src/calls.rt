@@ -1,5 +1,5 @@
 //! What an end says by itself: one function a rule. After a refusal the event is to be undone.
-ghost use Rattle.std.specs.Prelude.{◌≡◌, [], OnOk, None};
+ghost use Rattle.std.specs.Prelude.{◌≡◌, [], IfOk, OnOk, None};
 ghost use Rattle.link_addresses.specs.Meanings.{address_of, IsLive, HasAddressLeft};
 ghost use Rattle.rlnh_end.specs.Calls.{after, begin_of, query_of, publish_of, announced, opened_of};
 ghost use Rattle.rlnh_end.specs.Calls.{close_of, end_saying, publish_sender_of, send_of};
@@ -83,27 +83,38 @@ pub(crate) fn close(parts: &mut Parts, inc: Inc) -> Result<(), NoMemory>
     }
 }
 
-/// A sender that isn't live is published.
-fn publish_sender(parts: &mut Parts, inc: Inc, name: &Name) -> Result<(), NoMemory>
+/// A sender that isn't live is published. Its address is answered.
+fn publish_sender(parts: &mut Parts, inc: Inc, name: &Name) -> Result<Option<u32>, NoMemory>
     requires room { HasAddressLeft parts.old.is.tables.own }
     ensures is { let addr = address_of parts.old.is.tables.own inc in
         OnOk result (parts.new.is ≡ after parts.old.is
         (publish_sender_of parts.old.is.tables inc name.now addr)) }
+    ensures address { IfOk result (λ addr. addr ≡ address_of parts.new.is.tables.own inc) }
     ensures was { parts.new.was ≡ parts.old.was }
 {
     match parts.own.addr_of(inc) {
-        Some(_) => Ok(()),
-        None => publish(parts, inc, name),
+        Some(addr) => Ok(Some(addr)),
+        None => {
+            publish(parts, inc, name)?;
+            Ok(parts.own.addr_of(inc))
+        }
     }
 }
 
-/// A signal goes from the address of a live endpoint to that of a peer that was met.
-fn tell(parts: &mut Parts, from: Inc, to: Inc, signal: &Signal) -> Result<(), NoMemory>
+/// A signal goes from the address of its sender, where it has one, to that of a peer that was met.
+fn tell(
+    parts: &mut Parts,
+    from: Inc,
+    sender: Option<u32>,
+    to: Inc,
+    signal: &Signal,
+) -> Result<(), NoMemory>
+    requires address { sender ≡ address_of parts.old.is.tables.own from }
     ensures is { let made = then_signals (end_saying parts.old.is.tables []) from to signal.now in
         OnOk result (parts.new.is ≡ after parts.old.is made) }
     ensures was { parts.new.was ≡ parts.old.was }
 {
-    let Some(sender) = parts.own.addr_of(from) else {
+    let Some(sender) = sender else {
         return Ok(());
     };
     let Some(receiver) = parts.addr_met(to) else {
@@ -132,7 +143,7 @@ pub(crate) fn send(
         (send_of parts.old.is.tables from name.now to signal.now)) }
     ensures was { parts.new.was ≡ parts.old.was }
 {
-    publish_sender(parts, from, name)?;
-    tell(parts, from, to, signal)?;
+    let sender = publish_sender(parts, from, name)?;
+    tell(parts, from, sender, to, signal)?;
     Ok(())
 }

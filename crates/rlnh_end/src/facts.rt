@@ -157,6 +157,9 @@ impl Facts {
     pub(crate) fn keep(&mut self)
         ensures { self.new ≡ still self.old.is }
     {
+        if self.before.is_none() && self.come.is_empty() && self.gone.is_empty() {
+            return;
+        }
         self.before = None;
         drop_numbers(&mut self.entries, &self.gone);
         self.gone.clear();
