@@ -4,7 +4,7 @@ use Rattle.std.proofs.Common.{◌∷◌, ◌++◌, length, map, filter, replicat
 use Rattle.std.proofs.Common.{Option, Some, None, is_none}
 use Rattle.std.proofs.Common.{drop, get_or, set, take}
 use Rattle.std.proofs.Common.{refl, sym, ◌∙◌, ap, ap₂, subst, arith, ◌⊎◌, inl, inr}
-use Rattle.std.specs.Prelude.{◌+◌, ◌||◌, slice_get, slice_set}
+use Rattle.std.specs.Prelude.{◌+◌, ◌||◌, IsSome, slice_get, slice_set}
 use Rattle.std.specs.List.{list_any}
 use Rattle.std.proofs.lemmas.Bool.{eq-eqb, ne_eqb, or_from, or_parts, true≢false}
 use Rattle.std.proofs.lemmas.List.{append-nil}
@@ -21,11 +21,12 @@ use Rattle.journal.specs.declared.effect.Effect.TheVariants.{Arrived, Closed, Do
 use Rattle.journal.specs.declared.effect.Effect.TheVariants.{Met, Notified, Opened, Up}
 use Rattle.journal.specs.declared.effect.Step.{Step}
 use Rattle.journal.specs.declared.head.Head.{Head}
+use Rattle.journal.specs.declared.head.Head.TheVariants.{Waits}
 use Rattle.journal.specs.History.{closes, endpoint_by, endpoint_of, is_by, last_opened, opens}
 use Rattle.journal.specs.History.{unless_closed}
 use Rattle.journal.specs.Queues.{is_item_of, items_from, items_in, left_by, queued, removes}
 use Rattle.journal.specs.Queues.{unless_opened}
-use Rattle.journal.specs.Rest.{waits_in, waits_in_vain, waits_with}
+use Rattle.journal.specs.Rest.{is_idle, queue_of, waits_in, waits_in_vain, waits_with}
 use Rattle.journal.specs.Traffic.{is_endpoint}
 use Rattle.fabric.specs.Idle.{AreIdle, IsIdleAt, is_reached, noted_past, reached_by, reaches}
 use Rattle.fabric.specs.Idle.{unless_at, unless_reached, without_maker}
@@ -108,9 +109,8 @@ module _ (j : Inc) where
       (item-not e both.0 (record { step = step; place = place }))
       ∙ no-items step (place + 1) es both.1
 
--- A STEP of another maker that doesn't reach the endpoint
-module _ (P : List Step) (s : Step) (k : ℕ) (j : Inc) (other : is_by s.by k ≡ false)
-    (apart : list_any (reaches j) s.effects ≡ false) where
+-- A STEP that doesn't reach the endpoint
+module _ (P : List Step) (s : Step) (j : Inc) (apart : list_any (reaches j) s.effects ≡ false) where
   vain-stays : (w : Option Sigsel) → waits_in_vain P w (Some j) ≡ true
       → waits_in_vain (s ∷ P) w (Some j) ≡ true
   vain-stays None vain = vain
@@ -126,6 +126,9 @@ module _ (P : List Step) (s : Step) (k : ℕ) (j : Inc) (other : is_by s.by k �
       ∙ ap (λ (o : Option Item). is_none o)
       (none-left f (is_endpoint j (endpoint_by P s.by)) s.head before none)
 
+-- one of another maker
+module _ (P : List Step) (s : Step) (k : ℕ) (j : Inc) (other : is_by s.by k ≡ false)
+    (apart : list_any (reaches j) s.effects ≡ false) where
   idle-stays : IsIdleAt P k j → IsIdleAt (s ∷ P) k j
   idle-stays idle =
       let at : endpoint_of (s ∷ P) k ≡ Some j =
@@ -142,8 +145,30 @@ module _ (P : List Step) (s : Step) (k : ℕ) (j : Inc) (other : is_by s.by k �
         idle =
             ap (waits_in_vain (s ∷ P) (waits_with (s ∷ P) k)) at
             ∙ ap (λ (w : Option Sigsel). waits_in_vain (s ∷ P) w (Some j)) waits
-            ∙ vain-stays (waits_with P k) vain;
+            ∙ vain-stays P s j apart (waits_with P k) vain;
       }
+
+-- one that waits with a filter that selects nothing
+pub waits-idle : (P : List Step) (k : ℕ) (f : Sigsel) → IsSome (endpoint_of P k)
+    → first_selected f (queue_of P (endpoint_of P k)) ≡ None → (new : List Step)
+    → new ≡ record { by = Actor k; head = Waits f; effects = [] } ∷ P → is_idle new k ≡ true
+waits-idle P k f owns vain new new_is = go (endpoint_of P k) refl owns vain
+  where
+    go : (me : Option Inc) → endpoint_of P k ≡ me → IsSome me
+        → first_selected f (queue_of P me) ≡ None → is_idle new k ≡ true
+    go None at owns none = let never : false ≡ true = owns in cc
+    go (Some j) at owns none =
+        let s : Step = record { by = Actor k; head = Waits f; effects = [] } in
+        let mine : is_by s.by k ≡ true = eq-eqb k k refl in
+        let there : endpoint_of (s ∷ P) k ≡ Some j =
+        ap (λ (b : Bool). unless_closed [] (cond b (endpoint_of P k) (endpoint_of P k))) mine
+        ∙ ap (unless_closed []) at in
+        let waits : waits_with (s ∷ P) k ≡ Some f =
+        ap (λ (b : Bool). cond b (Some f) (waits_with P k)) mine in
+        ap (λ (steps : List Step). is_idle steps k) new_is
+        ∙ ap (waits_in_vain (s ∷ P) (waits_with (s ∷ P) k)) there
+        ∙ ap (λ (w : Option Sigsel). waits_in_vain (s ∷ P) w (Some j)) waits
+        ∙ vain-stays P s j refl (Some f) (ap (λ (o : Option Item). is_none o) none)
 
 -- WHAT IS NOTED
 get-unless : (es : List Effect) (noted : List (Option Inc)) (k : ℕ) (j : Inc)

@@ -1,6 +1,6 @@
 -- What an actor's call at its open endpoint makes of its node, of how it stands, and of the
 -- journal.
-use Rattle.std.specs.Prelude.{ℕ, ◌≡◌, ◌≤◌, ◌<◌, true, List, [], ◌∷◌, length, Option, None, Some}
+use Rattle.std.specs.Prelude.{ℕ, ◌≡◌, ◌≤◌, ◌<◌, Bool, true, List, [], ◌∷◌, length, Option, None, Some}
 use Rattle.linx_base.specs.Content.{data_limit}
 use Rattle.linx_base.specs.declared.identity.Inc.{Inc}
 use Rattle.linx_base.specs.declared.signal.SigNote.{SigNote}
@@ -64,6 +64,11 @@ abbrev pub IsTyped : Call → Type 0
 IsTyped (Send q signal) = signal.number < 4294967296
 IsTyped (Hunt path signal) = HuntsName (heads.Hunt path signal)
 IsTyped _ = Unit {0}
+
+-- it is known whether the peer of a send is alive
+abbrev pub IsKnown : NodeState → Call → Bool → Type 0
+IsKnown k (Send q signal) living = living ≡ is_living k q
+IsKnown k _ living = Unit {0}
 
 -- what a call makes: its node after it, the head and the effects of its step, and its answer
 pub record CallMade : Type 0 where

@@ -2,7 +2,7 @@
 //! and what becomes of the node's kernel. All memory that a trunk takes is taken first, and the
 //! kernel changes last.
 
-ghost use Rattle.std.specs.Prelude.{◌≡◌, ◌+◌, ◌<◌, ◌∷◌, length, None, IfOk, OnErr, OnOk};
+ghost use Rattle.std.specs.Prelude.{◌≡◌, ◌+◌, ◌<◌, [], ◌∷◌, length, None, IfOk, OnErr, OnOk};
 ghost use Rattle.linx_base.specs.Sides.{other_of};
 ghost use Rattle.carrier.specs.Events.{flight_from, handed_by, link_told_by};
 ghost use Rattle.journal.specs.declared.head.Head.TheVariants as heads;
@@ -176,6 +176,28 @@ pub(crate) fn make_told(
     }
 }
 
+/// The step of a packet that brings the node nothing, on a journal that has room for it. What is now
+/// of the trunks stays.
+fn make_still(
+    alloc: Global,
+    journal: &mut WatchedJournal,
+    trunks: &mut RunTrunks,
+    by: By,
+    head: Head,
+    link: LinkNo,
+)
+    requires room { 0 < journal.old.spare }
+    requires of_run { HasLink trunks.old link }
+    requires only { OnlyChangedAt link trunks.old }
+    ensures log { journal.new.log ≡ record journal.old.log {
+      steps = record { by = by; head = head; effects = [] } ∷ journal.old.log.steps;
+    } }
+    ensures trunks { trunks.new ≡ resting trunks.old.links trunks.old.is }
+{
+    trunks.keep(link);
+    journal.push_quiet(alloc, by, head);
+}
+
 /// What a tick means, as what is told of a packet.
 fn up_of(ticked: TickedSide) -> TrunkUp
     ensures { result ≡ up_of_tick ticked }
@@ -216,6 +238,10 @@ pub(crate) fn make_delivery(
 {
     journal.reserve(1)?;
     let up = trunks.deliver(at.link, at.side.other(), keep)?;
+    if let TrunkUp::Nothing = up {
+        make_still(alloc, journal, trunks, by, head, at.link);
+        return Ok(());
+    }
     make_told(alloc, journal, trunks, kernel, by, head, at, up)
 }
 

@@ -3,8 +3,8 @@
 
 ghost use Rattle.std.specs.Prelude.{◌≡◌, ◌+◌, ◌<◌, length, IfErr, IfOk, OnErr, IsTrue};
 ghost use Rattle.node_kernel.specs.Nodes.{is_open};
-ghost use Rattle.fabric.specs.Calls.{HasRoom, IsBounded, IsCallMade, call_made, hand_of_call};
-ghost use Rattle.fabric.specs.Calls.{refusal_with};
+ghost use Rattle.fabric.specs.Calls.{HasRoom, IsBounded, IsCallMade, IsKnown, call_made};
+ghost use Rattle.fabric.specs.Calls.{hand_of_call, refusal_with};
 
 use crate::makings::{make_attach, make_close, make_detach, make_hunt, make_send};
 use crate::stop::StepStop;
@@ -40,8 +40,18 @@ impl Call {
     }
 }
 
-/// Makes a call at an open endpoint of the node. A refusal changes nothing, and gives the signal
-/// back.
+/// Whether the peer of a send is alive. Of another call it says nothing.
+pub(crate) fn is_to_living(kernel: &Kernel, call: &Call) -> bool
+    ensures { IsKnown kernel.now call.now result }
+{
+    match call {
+        Call::Send(to, _) => kernel.is_living(*to),
+        _ => false,
+    }
+}
+
+/// Makes a call at an open endpoint of the node, where it is known whether the peer of a send is
+/// alive. A refusal changes nothing, and gives the signal back.
 pub(crate) fn make_call(
     alloc: Global,
     journal: &mut WatchedJournal,
@@ -49,8 +59,10 @@ pub(crate) fn make_call(
     by: By,
     at: Inc,
     call: Call,
+    living: bool,
 ) -> Result<StepAnswer, StepStop>
     requires is_open { IsTrue (is_open kernel.old.endpoints at) }
+    requires known { IsKnown kernel.old call living }
     requires short { length journal.old.log.steps < 200000 }
     requires room { HasRoom call }
     ensures made { IfOk result (λ answer. IsCallMade
@@ -70,7 +82,7 @@ pub(crate) fn make_call(
             Ok(StepAnswer::Done)
         }
         Call::Send(to, signal) => {
-            let sent = make_send(alloc, journal, kernel, by, at, to, signal)?;
+            let sent = make_send(alloc, journal, kernel, by, at, to, signal, living)?;
             Ok(StepAnswer::Sent(sent))
         }
         Call::Hunt(path, signal) => {

@@ -1,6 +1,6 @@
 //! The fabric: what it holds and keeps, and the steps that it makes of what its makers ask for.
 ghost use Rattle.std.specs.Prelude.{◌≡◌, ◌&&◌, ◌<◌, ◌≤◌, Option, true, false, []};
-ghost use Rattle.std.specs.Prelude.{length, replicate, IfOk, IfErr, OnErr, IsSome};
+ghost use Rattle.std.specs.Prelude.{length, replicate, IfOk, IfErr, OnErr, OnOk, IsSome};
 ghost use Rattle.std.specs.Prelude.{Some, None, IsTrue};
 ghost use Rattle.linx_base.specs.declared.signal.SigNote.{SigNote};
 ghost use Rattle.sigsel.specs.Selection.{first_selected};
@@ -8,7 +8,7 @@ ghost use Rattle.linx_base.specs.NameText.{is_name};
 ghost use Rattle.journal.specs.History.{endpoint_of};
 ghost use Rattle.journal.specs.Laws.{IsMaker};
 ghost use Rattle.journal.specs.Logs.{is_full, step_limit};
-ghost use Rattle.journal.specs.Rest.{queue_of, waits_with};
+ghost use Rattle.journal.specs.Rest.{is_idle, queue_of, waits_with};
 ghost use Rattle.journal.specs.declared.head.Head.TheVariants as heads;
 ghost use Rattle.link_laws.specs.Laws.{IsLegal};
 ghost use Rattle.link_laws.specs.Runs.{KeepsThroughout};
@@ -27,7 +27,7 @@ ghost use Rattle.fabric.specs.Machine.{all_have_ended, is_at_rest};
 ghost use Rattle.fabric.specs.Run.{IsReachedBy, IsStepped};
 ghost use Rattle.fabric.specs.Standings.{empty_nodes, fresh, unless_refused};
 
-use crate::call::{Call, make_call};
+use crate::call::{Call, is_to_living, make_call};
 use crate::granting::refusal_of;
 use crate::line::{Line, Mark};
 use crate::makings::{Looked, downs_of, make_open, make_quiet, make_restart, make_take, make_wait};
@@ -263,8 +263,14 @@ impl Fabric {
                     link,
                     from,
                     verdict,
-                } => self.wire(by, link, from, verdict),
-                Event::Tick { link, side } => self.tick(by, link, side),
+                } => {
+                    self.wire(by, link, from, verdict)?;
+                    Ok(StepAnswer::Done)
+                }
+                Event::Tick { link, side } => {
+                    self.tick(by, link, side)?;
+                    Ok(StepAnswer::Done)
+                }
                 _ => unreachable!(),
             },
         }
@@ -342,8 +348,14 @@ impl Fabric {
                 link,
                 from,
                 verdict,
-            } => self.wire(By::Actor(actor), link, from, verdict),
-            Event::Tick { link, side } => self.tick(By::Actor(actor), link, side),
+            } => {
+                self.wire(By::Actor(actor), link, from, verdict)?;
+                Ok(StepAnswer::Done)
+            }
+            Event::Tick { link, side } => {
+                self.tick(By::Actor(actor), link, side)?;
+                Ok(StepAnswer::Done)
+            }
         }
     }
 
@@ -418,7 +430,9 @@ impl Fabric {
         };
         let place = self.kernel_of(actor);
         let node = self.node_of(actor);
-        let Ok(hearing) = tell_call(&mut self.trunks, &self.kernels[place], node, at, &call) else {
+        let kernel = &self.kernels[place];
+        let living = is_to_living(kernel, &call);
+        let Ok(hearing) = tell_call(&mut self.trunks, kernel, node, at, &call, living) else {
             return Err(no_memory(call.into_hand()));
         };
         let made = make_call(
@@ -428,6 +442,7 @@ impl Fabric {
             By::Actor(actor),
             at,
             call,
+            living,
         );
         match made {
             Ok(answer) => {
@@ -496,16 +511,15 @@ impl Fabric {
         Ok(answer)
     }
 
-    /// Notes that an actor waits in vain, if it does.
+    /// Notes that an actor waits in vain.
     fn note_idle(&mut self, actor: u32)
         requires above { 0 < actor }
         requires within { actor ≤ length self.old.shape.actors }
+        requires idle { is_idle self.old.log.steps actor ≡ true }
         ensures { self.new ≡ self.old }
     {
         if let Some(at) = self.endpoint_of(actor) {
-            if self.is_idle(actor) {
-                self.journal.note_idle(actor, at);
-            }
+            self.journal.note_idle(actor, at);
         }
     }
 
@@ -543,6 +557,7 @@ impl Fabric {
         requires first { waits_with self.old.log.steps actor ≡ None }
         ensures ok { IfOk result (HasMade self.old self.new actor
             (asking (Event.Look filter) None)) }
+        ensures idle { OnOk result (is_idle self.new.log.steps actor ≡ true) }
         ensures fixed { OnlyRuns self.old self.new }
         ensures err { IfErr result (LeavesAll self.old self.new None) }
     {

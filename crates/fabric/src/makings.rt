@@ -46,11 +46,7 @@ pub(crate) fn make_quiet(
     ensures err { OnErr result (journal.new.log ≡ journal.old.log) }
 {
     journal.reserve(1)?;
-    journal.push(Step {
-        by,
-        head,
-        effects: Effects::new(alloc),
-    });
+    journal.push_quiet(alloc, by, head);
     Ok(())
 }
 
@@ -147,11 +143,7 @@ pub(crate) fn make_take(
     journal.reserve(1)?;
     match kernel.receive(at, &filter) {
         Some(item) => {
-            journal.push(Step {
-                by,
-                head: Head::Take(filter, item.pos),
-                effects: Effects::new(alloc),
-            });
+            journal.push_quiet(alloc, by, Head::Take(filter, item.pos));
             Ok(Looked::Found(item))
         }
         None => Ok(Looked::Vain(filter)),
@@ -241,7 +233,29 @@ fn prepare_send(
     Ok((note, effects))
 }
 
-/// A send. A refusal gives the signal back.
+/// A signal to an endpoint of the own node goes into its queue, if it is open; one over a link is for
+/// the link alone. A refusal gives the signal back.
+fn queue_here(
+    kernel: &mut Kernel,
+    from: Inc,
+    to: Peer,
+    signal: Signal,
+    step: u64,
+) -> Result<(), (NoMemory, Signal)>
+    requires { IsTrue (is_open kernel.old.endpoints from) }
+    ensures ok { OnOk result (kernel.new ≡ after_send kernel.old from to signal step) }
+    ensures err { IfErr result (λ back. (back.1 ≡ signal) × (kernel.new ≡ kernel.old)) }
+{
+    match to {
+        Peer::Here(_) => match kernel.send(from, to, signal, step) {
+            Ok(_) => Ok(()),
+            Err(back) => Err(back),
+        },
+        Peer::There { .. } => Ok(()),
+    }
+}
+
+/// A send to a peer of which it is known whether it is alive. A refusal gives the signal back.
 pub(crate) fn make_send(
     alloc: Global,
     journal: &mut WatchedJournal,
@@ -250,8 +264,10 @@ pub(crate) fn make_send(
     from: Inc,
     to: Peer,
     signal: Signal,
+    living: bool,
 ) -> Result<SentTo, StepStop>
     requires is_open { IsTrue (is_open kernel.old.endpoints from) }
+    requires known { living ≡ is_living kernel.old to }
     requires short { length journal.old.log.steps < 200000 }
     ensures sent { IfOk result (λ sent. sent ≡ send_answer (is_living kernel.old to) to) }
     ensures bounded { length signal.bytes ≤ data_limit }
@@ -267,12 +283,11 @@ pub(crate) fn make_send(
     ensures stop { IfErr result (λ stop. stop ≡ refusal_with (Some signal)) }
     ensures err { OnErr result ((journal.new.log ≡ journal.old.log) × (kernel.new ≡ kernel.old)) }
 {
-    let living = kernel.is_living(to);
     let Ok((note, effects)) = prepare_send(alloc, journal, from, &signal, living, to) else {
         return Err(no_memory(Some(signal)));
     };
-    match kernel.send(from, to, signal, journal.len() + 1) {
-        Ok(_) => {
+    match queue_here(kernel, from, to, signal, journal.len() + 1) {
+        Ok(()) => {
             let sent = answer_to_send(living, to);
             journal.push(Step {
                 by,
@@ -426,11 +441,7 @@ pub(crate) fn make_detach(
 {
     journal.reserve(1)?;
     let answer = kernel.detach(at, r);
-    journal.push(Step {
-        by,
-        head: Head::Detach(r, answer),
-        effects: Effects::new(alloc),
-    });
+    journal.push_quiet(alloc, by, Head::Detach(r, answer));
     Ok(answer)
 }
 

@@ -4,6 +4,7 @@
 ghost use Rattle.std.specs.Prelude.{◌≡◌, IsTrue, IfOk, OnErr, OnOk};
 ghost use Rattle.node_kernel.specs.Nodes.{find_at, is_living, is_open};
 ghost use Rattle.run_trunks.specs.States.{kept, undone};
+ghost use Rattle.fabric.specs.Calls.{IsKnown};
 ghost use Rattle.fabric.specs.Tellings.{IsHeardBy, MayTell, MayTellHunt, MayTellSend};
 ghost use Rattle.fabric.specs.Tellings.{asked_over, sent_over, told_of_call};
 
@@ -23,15 +24,18 @@ pub(crate) enum Hearing {
 }
 
 /// The trunks hear of a call at an open endpoint of a node: each side of the node of a close, and
-/// one of a signal over its link, or of a hunt. A refusal undoes the event.
+/// one of a signal over its link to a peer that is known to be alive, or of a hunt. A refusal undoes
+/// the event.
 pub(crate) fn tell_call(
     trunks: &mut RunTrunks,
     kernel: &Kernel,
     node: NodeNo,
     at: Inc,
     call: &Call,
+    living: bool,
 ) -> Result<Hearing, NoMemory>
     requires is_open { IsTrue (is_open kernel.now.endpoints at) }
+    requires known { IsKnown kernel.now call.now living }
     requires node { node ≡ kernel.now.node }
     requires rests { trunks.old.was ≡ trunks.old.is }
     requires may { MayTell trunks.old kernel.now at call.now }
@@ -47,7 +51,7 @@ pub(crate) fn tell_call(
             trunks.closed(node, at)?;
             Ok(Hearing::Several)
         }
-        Call::Send(to, signal) => tell_send(trunks, kernel, node, at, *to, signal),
+        Call::Send(to, signal) => tell_send(trunks, kernel, node, at, *to, signal, living),
         Call::Hunt(path, _) => tell_hunt(trunks, kernel, node, path),
         Call::Attach(..) | Call::Detach(_) => Ok(Hearing::Nobody),
     }
@@ -61,8 +65,10 @@ fn tell_send(
     from: Inc,
     to: Peer,
     signal: &Signal,
+    living: bool,
 ) -> Result<Hearing, NoMemory>
     requires is_open { IsTrue (is_open kernel.now.endpoints from) }
+    requires known { living ≡ is_living kernel.now to }
     requires node { node ≡ kernel.now.node }
     requires rests { trunks.old.was ≡ trunks.old.is }
     requires may { MayTellSend trunks.old kernel.now from (is_living kernel.now to) to }
@@ -75,7 +81,7 @@ fn tell_send(
 {
     let _number = signal.number();
     let _bytes = signal.bytes();
-    if !kernel.is_living(to) {
+    if !living {
         return Ok(Hearing::Nobody);
     }
     match to {

@@ -10,7 +10,7 @@ ghost use Rattle.journal.specs.Rest.{is_idle};
 ghost use Rattle.fabric.specs.Idle.{noted_past, reached_by, unless_at, unless_reached};
 ghost use Rattle.fabric.specs.Idle.{without_maker};
 
-use journal::{By, Effect, Journal, Step};
+use journal::{By, Effect, Effects, Head, Journal, Step};
 use linx_base::{Inc, Names, NoMemory};
 use std::alloc::Global;
 use std::marker::Model;
@@ -151,6 +151,22 @@ impl WatchedJournal {
     {
         forget(&mut self.idle, &step);
         self.journal.push(step);
+    }
+
+    /// Adds a step without effects. It takes no memory.
+    pub(crate) fn push_quiet(&mut self, alloc: Global, by: By, head: Head)
+        requires { 0 < self.old.spare }
+        ensures log { self.new.log ≡ record self.old.log {
+          steps = record { by = by; head = head; effects = [] } ∷ self.old.log.steps;
+        } }
+        ensures room { self.new.spare + 1 ≡ self.old.spare }
+    {
+        forget_maker(&mut self.idle, by);
+        self.journal.push(Step {
+            by,
+            head,
+            effects: Effects::new(alloc),
+        });
     }
 
     /// The number of steps.

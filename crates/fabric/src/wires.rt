@@ -2,7 +2,7 @@
 //! as a whole.
 
 ghost use Rattle.std.specs.Prelude.{◌≡◌, ◌<◌, true, false};
-ghost use Rattle.std.specs.Prelude.{IfOk, IfErr};
+ghost use Rattle.std.specs.Prelude.{IfOk, IfErr, OnErr, OnOk};
 ghost use Rattle.std.specs.Prelude.{Some, None};
 ghost use Rattle.journal.specs.declared.head.Head.TheVariants as heads;
 ghost use Rattle.link_laws.specs.Ends.{IsLinkOf};
@@ -20,6 +20,17 @@ use crate::stop::{StepStop, no_memory};
 use journal::{By, Event, Head};
 use linx_base::{LinkNo, NoMemory, Side, Verdict};
 use node_kernel::StepAnswer;
+
+/// Whether a packet stays in flight that a verdict hands over, if it does.
+fn comes_by(verdict: Verdict) -> Option<bool>
+    ensures { result ≡ comes_by verdict }
+{
+    match verdict {
+        Verdict::Deliver => Some(false),
+        Verdict::Repeat => Some(true),
+        Verdict::Lose | Verdict::Swap(_) => None,
+    }
+}
 
 impl Fabric {
     /// An actor cuts, mends or settles a link.
@@ -59,24 +70,23 @@ impl Fabric {
         }
     }
 
-    /// A packet in flight from a side meets a verdict.
+    /// A packet in flight from a side meets a verdict. The step is answered that it is done.
     pub(crate) fn wire(
         &mut self,
         by: By,
         link: LinkNo,
         from: Side,
         verdict: Verdict,
-    ) -> Result<StepAnswer, StepStop>
+    ) -> Result<(), NoMemory>
         requires asked { MayMake self.old by (asking (Event.Wire link from verdict) None) }
-        ensures ok { IfOk result
-            (IsStepOf self.old self.new by (heads.Wire link from verdict)) }
+        ensures ok { OnOk result (IsStepOf self.old self.new by (heads.Wire link from verdict)
+            StepAnswer.Done) }
         ensures fixed { OnlyRuns self.old self.new }
-        ensures err { IfErr result (LeavesAll self.old self.new None) }
+        ensures err { OnErr result (self.new ≡ self.old) }
     {
-        match verdict {
-            Verdict::Deliver => self.deliver(by, link, from, verdict, false),
-            Verdict::Repeat => self.deliver(by, link, from, verdict, true),
-            Verdict::Lose | Verdict::Swap(_) => self.pass(by, link, from, verdict),
+        match comes_by(verdict) {
+            Some(keep) => self.deliver(by, link, from, verdict, keep),
+            None => self.pass(by, link, from, verdict),
         }
     }
 
@@ -88,13 +98,13 @@ impl Fabric {
         from: Side,
         verdict: Verdict,
         keep: bool,
-    ) -> Result<StepAnswer, StepStop>
+    ) -> Result<(), NoMemory>
         requires asked { MayMake self.old by (asking (Event.Wire link from verdict) None) }
         requires comes { comes_by verdict ≡ Some keep }
-        ensures ok { IfOk result
-            (IsStepOf self.old self.new by (heads.Wire link from verdict)) }
+        ensures ok { OnOk result (IsStepOf self.old self.new by (heads.Wire link from verdict)
+            StepAnswer.Done) }
         ensures fixed { OnlyRuns self.old self.new }
-        ensures err { IfErr result (LeavesAll self.old self.new None) }
+        ensures err { OnErr result (self.new ≡ self.old) }
     {
         let at = self.at(link, from.other());
         let made = make_delivery(
@@ -111,26 +121,20 @@ impl Fabric {
             Ok(()) => {
                 self.lines[(link.0 - 1) as usize].count(from);
                 wait_no_more(&mut self.standings, by);
-                Ok(StepAnswer::Done)
+                Ok(())
             }
-            Err(NoMemory) => Err(no_memory(None)),
+            Err(NoMemory) => Err(NoMemory),
         }
     }
 
     /// A packet is lost, or exchanged with another one.
-    fn pass(
-        &mut self,
-        by: By,
-        link: LinkNo,
-        from: Side,
-        verdict: Verdict,
-    ) -> Result<StepAnswer, StepStop>
+    fn pass(&mut self, by: By, link: LinkNo, from: Side, verdict: Verdict) -> Result<(), NoMemory>
         requires asked { MayMake self.old by (asking (Event.Wire link from verdict) None) }
         requires passes { comes_by verdict ≡ None }
-        ensures ok { IfOk result
-            (IsStepOf self.old self.new by (heads.Wire link from verdict)) }
+        ensures ok { OnOk result (IsStepOf self.old self.new by (heads.Wire link from verdict)
+            StepAnswer.Done) }
         ensures fixed { OnlyRuns self.old self.new }
-        ensures err { IfErr result (LeavesAll self.old self.new None) }
+        ensures err { OnErr result (self.new ≡ self.old) }
     {
         let head = Head::Wire(link, from, verdict);
         match make_quiet(self.alloc, &mut self.journal, by, head) {
@@ -138,18 +142,19 @@ impl Fabric {
                 pass_by(&mut self.trunks, link, from, verdict);
                 self.lines[(link.0 - 1) as usize].count(from);
                 wait_no_more(&mut self.standings, by);
-                Ok(StepAnswer::Done)
+                Ok(())
             }
-            Err(NoMemory) => Err(no_memory(None)),
+            Err(NoMemory) => Err(NoMemory),
         }
     }
 
-    /// A side of a link is ticked.
-    pub(crate) fn tick(&mut self, by: By, link: LinkNo, side: Side) -> Result<StepAnswer, StepStop>
+    /// A side of a link is ticked. The step is answered that it is done.
+    pub(crate) fn tick(&mut self, by: By, link: LinkNo, side: Side) -> Result<(), NoMemory>
         requires asked { MayMake self.old by (asking (Event.Tick link side) None) }
-        ensures ok { IfOk result (IsStepOf self.old self.new by (heads.Tick link side)) }
+        ensures ok { OnOk result (IsStepOf self.old self.new by (heads.Tick link side)
+            StepAnswer.Done) }
         ensures fixed { OnlyRuns self.old self.new }
-        ensures err { IfErr result (LeavesAll self.old self.new None) }
+        ensures err { OnErr result (self.new ≡ self.old) }
     {
         let at = self.at(link, side);
         let made = make_tick(
@@ -164,9 +169,9 @@ impl Fabric {
             Ok(()) => {
                 self.lines[(link.0 - 1) as usize].tick();
                 wait_no_more(&mut self.standings, by);
-                Ok(StepAnswer::Done)
+                Ok(())
             }
-            Err(NoMemory) => Err(no_memory(None)),
+            Err(NoMemory) => Err(NoMemory),
         }
     }
 }

@@ -1,6 +1,7 @@
-use Rattle.std.proofs.Common.{◌-◌, sym, ◌∙◌}
+use Rattle.std.proofs.Common.{◌-◌, sym, ◌∙◌, subst}
 use Rattle.std.specs.Prelude.{slice_set}
-use Rattle.fabric.specs.Calls.{ask_of_call}
+use Rattle.node_kernel.specs.Nodes.{NodeState}
+use Rattle.fabric.specs.Calls.{IsKnown, ask_of_call}
 use Rattle.fabric.specs.declared.fabric.Fabric.TheView.{view}
 use Rattle.fabric.proofs.Called.{made-call}
 use Rattle.fabric.proofs.Granted.{may-tell}
@@ -15,21 +16,21 @@ tell_call-requires-clause-is_open c =
     let seen = sees c.self.invariant.0 c.self.view_is in
     let acts = acting seen c.requires.asked c.kernel_of-place.ensures in
     let mine = endpoint-seen seen c.args.actor _ (sym c.endpoint_of.ensures ∙ c.in-Some.is) in
-    own_open acts.at c.index.result.now c.index.ensures c.in-Some.at mine
+    own_open acts.at c.index-kernel.result.now c.index-kernel.ensures c.in-Some.at mine
 
 pub tell_call-requires-clause-node : goal.tell_call-requires-clause-node
 tell_call-requires-clause-node c =
     let seen = sees c.self.invariant.0 c.self.view_is in
     let acts = acting seen c.requires.asked c.kernel_of-place.ensures in
     (rw (← c.self.view_is) at c.node_of-node.ensures)
-    ∙ sym (node-is acts.at c.index.result.now c.index.ensures)
+    ∙ sym (node-is acts.at c.index-kernel.result.now c.index-kernel.ensures)
 
 pub tell_call-requires-clause-may : goal.tell_call-requires-clause-may
 tell_call-requires-clause-may c =
     let seen = sees c.self.invariant.0 c.self.view_is in
     let acts = acting seen c.requires.asked c.kernel_of-place.ensures in
     let mine = endpoint-seen seen c.args.actor _ (sym c.endpoint_of.ensures ∙ c.in-Some.is) in
-    may-tell acts c.in-Some.at mine c.index.result.now c.index.ensures c.self.inside.trunks.was
+    may-tell acts c.in-Some.at mine c.index-kernel.result.now c.index-kernel.ensures c.self.inside.trunks.was
     c.args.call (may-seen seen c.requires.asked).may.fits
 
 pub make_call-made-requires-clause-is_open : goal.make_call-made-requires-clause-is_open
@@ -38,6 +39,15 @@ make_call-made-requires-clause-is_open c =
     let acts = acting seen c.requires.asked c.kernel_of-place.ensures in
     let mine = endpoint-seen seen c.args.actor _ (sym c.endpoint_of.ensures ∙ c.in-Some.is) in
     own_open acts.at c.index_mut.result.now c.index_mut.ensures.value c.in-Some.at mine
+
+pub make_call-made-requires-clause-known : goal.make_call-made-requires-clause-known
+make_call-made-requires-clause-known c =
+    let seen = sees c.self.invariant.0 c.self.view_is in
+    let acts = acting seen c.requires.asked c.kernel_of-place.ensures in
+    let same = kernel-is acts.at c.index-kernel.result.now c.index-kernel.ensures
+    ∙ sym (kernel-is acts.at c.index_mut.result.now c.index_mut.ensures.value) in
+    subst (λ (k : NodeState). IsKnown k c.args.call c.is_to_living-living.result) same
+    c.is_to_living-living.ensures
 
 -- what it makes
 made : (c : After-call) → IsMadeSeen (view c.self.inside) c.args.self.now
@@ -50,7 +60,7 @@ made c =
     let seen = sees c.self.invariant.0 c.self.view_is in
     let acts = acting seen c.requires.asked c.kernel_of-place.ensures in
     let mine = endpoint-seen seen c.args.actor _ (sym c.endpoint_of.ensures ∙ c.in-Some.is) in
-    let same = kernel-is acts.at c.index.result.now c.index.ensures
+    let same = kernel-is acts.at c.index-kernel.result.now c.index-kernel.ensures
     ∙ sym (kernel-is acts.at c.index_mut.result.now c.index_mut.ensures.value) in
     made-told c.self.view_is c.make_call-made.new.journal.log c.tell_call.new.trunks
     c.keep_told.new.trunks _ c.in-Ok.ensures.links (rw same at c.in-Ok.ensures.is)

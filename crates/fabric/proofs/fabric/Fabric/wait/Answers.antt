@@ -1,9 +1,11 @@
 use Rattle.std.proofs.Common.{None, ◌∙◌, ap}
+use Rattle.journal.specs.Logs.{Log}
 use Rattle.journal.specs.declared.event.Event.TheVariants as asks
 use Rattle.node_kernel.specs.declared.answers.StepAnswer.TheVariants as answers
 use Rattle.fabric.proofs.Own.{as_waiting}
 use Rattle.fabric.proofs.Placed.{acting-home, makes-seen, sees}
 use Rattle.fabric.specs.Actings.{asking}
+use Rattle.fabric.proofs.Idling.{waits-idle}
 use Rattle.fabric.proofs.Looking.{lay_still, made-wait}
 use Rattle.fabric.proofs.fabric.Fabric.wait.Goals as goal
 
@@ -36,3 +38,10 @@ returns-in-Ok-clause-ok c =
     c.index_mut.ensures.value
     (c.wait.ensures ∙ ap (as_waiting c.index_mut.result.now) c.in-Ok.ensures.filter)
     c.make_wait.new.journal.log c.in-Ok.ensures.log).1
+
+pub returns-in-Ok-clause-idle : goal.returns-in-Ok-clause-idle
+returns-in-Ok-clause-idle c =
+    let owns = rw (← c.self.view_is) at c.requires.granted in
+    let vain = rw (← c.self.view_is) at c.requires.vain in
+    waits-idle c.self.inside.journal.log.steps c.args.actor c.args.filter owns vain
+    c.make_wait.new.journal.log.steps (ap (λ (l : Log). l.steps) c.in-Ok.ensures.log)
