@@ -33,7 +33,7 @@ use Rattle.fabric.proofs.Leading.{behind}
 use Rattle.stage.specs.declared.stage.Turn.{Turn}
 use Rattle.stage.specs.declared.stage.Turn.TheVariants.{Ended, Waits}
 use Rattle.stage.specs.Settlings.{GoesOnAfter, settled_by}
-use Rattle.stage.specs.Plays.{Play}
+use Rattle.stage.specs.Plays.{AllFollow, Play}
 use Rattle.stage.specs.Turns.{IsActed, IsBehind, IsTurn, IsTurnBy, IsTurnIf, IsTurnOf, asked_next}
 use Rattle.stage.specs.Turns.{commands_of, shape_of}
 use Rattle.stage.proofs.Waiting.{waits_at}
@@ -170,3 +170,22 @@ module _ (script : ScriptParts) (f : Layout) (k : ℕ) (within : k ≤ length sc
       turn_of-actor Waits
       (subst (λ (b : Bool). IsTurnIf b script k f f Waits) (sym running)
       (idle-turn script f k follows parts.0 (not_true rests parts.1)))
+
+-- BEHIND ONE THAT HASN'T ENDED the turn of one that waits in vain, or has ended, changes nothing
+or-false : (b : Bool) → (b || false) ≡ true → b ≡ true
+or-false true is = refl
+or-false false is = is
+
+module _ (p : Play) (shape : p.run.shape ≡ shape_of p.script)
+    (follows : AllFollow p.script p.run.log.steps) (k : ℕ) (above : 0 < k)
+    (within : k ≤ length p.script.actors) (it : IsBehind p.run.log.steps k) where
+  asleep-by : (b : Bool) → has_ended p.run.log.steps k ≡ b
+      → (is_idle p.run.log.steps k || b) ≡ true → IsTurnOf p.script k p.run p.run
+  asleep-by true ended is = ended-passed p.script p.run k within ended
+  asleep-by false running is =
+      waiting-passed p.script p.run k within (follows k above within) running
+      (behind-waits p shape k within it (or-false (is_idle p.run.log.steps k) is))
+
+  pub asleep-passed : (is_idle p.run.log.steps k || has_ended p.run.log.steps k) ≡ true
+      → IsTurnOf p.script k p.run p.run
+  asleep-passed is = asleep-by (has_ended p.run.log.steps k) refl is

@@ -12,6 +12,7 @@ use Rattle.linx_base.specs.declared.name.Names.{Names}
 use Rattle.journal.specs.declared.by.By.TheVariants.{Actor, Pump}
 use Rattle.journal.specs.declared.effect.Step.{Step}
 use Rattle.journal.specs.declared.event.Event.{Event}
+use Rattle.journal.specs.declared.head.Head.{Head}
 use Rattle.journal.specs.History.{has_ended}
 use Rattle.journal.specs.Shapes.{Shape}
 use Rattle.link_laws.specs.Laws.{IsLegal}
@@ -31,8 +32,10 @@ use Rattle.fabric.specs.Actings.{OnlyRuns}
 use Rattle.fabric.specs.Links.{is_still}
 use Rattle.fabric.specs.Machine.{all_have_ended, have_ended}
 use Rattle.fabric.specs.Asks.{MayAsk}
-use Rattle.fabric.specs.Run.{IsReached, IsReachedBy, Layout}
+use Rattle.fabric.specs.Machine.{pumped_head}
+use Rattle.fabric.specs.Run.{IsReached, IsReachedBy, IsStepFor, Layout}
 use Rattle.fabric.specs.declared.stop.StepStop.{StepStop}
+use Rattle.fabric.specs.declared.stop.StopCause.{StopCause}
 use Rattle.fabric.proofs.Kept.{get-set, get-set-other}
 use Rattle.fabric.proofs.Resting.{ended-each}
 use Rattle.stage.specs.declared.player.Player.{Player}
@@ -41,7 +44,7 @@ use Rattle.stage.specs.declared.stage.Turn.{Turn}
 use Rattle.stage.specs.Plays.{AllFollow, AllFollowWhole, IsPlanned, IsSoFar}
 use Rattle.stage.specs.Pumps.{pump_event}
 use Rattle.stage.specs.Seats.{AreSeated, IsSeated, IsStaged, unstarted}
-use Rattle.stage.specs.Settlings.{Settler, settler_in}
+use Rattle.stage.specs.Settlings.{Settler, if_stirs, settler_in, settler_of}
 use Rattle.stage.specs.Turns.{IsActed, IsPump, IsPumpIf, IsRound, IsTurnStopped, asked_next}
 use Rattle.stage.specs.Turns.{commands_in, commands_of, first_layout, is_over, shape_of}
 use Rattle.stage.proofs.Asking.{may_ask, next-handed}
@@ -228,7 +231,7 @@ module _ (script : ScriptParts) (old new : Layout) (players : List Player)
         (subst (λ (l : Layout). IsPlanned script l.log.steps (trunks_of l.trunks)) (sym same)
         staged.planned)
 
-    pub staged-turned : (r : Result Turn StepStop) → settler_in old ≡ None
+    pub staged-turned : (r : Result Turn StopCause) → settler_in old ≡ None
         → has_ended old.log.steps k ≡ false → IfOk r (IsActed script k old new)
         → OnErr r (IsTurnStopped script k old new) → IsSeated script new.log.steps k player
         → IsStaged script new (slice_set players (k - 1) player)
@@ -237,14 +240,14 @@ module _ (script : ScriptParts) (old new : Layout) (players : List Player)
         may : MayAsk old (Actor k) (asked_next script k old)
         may = may_ask script staged.declared old staged.shape staged.names k above within running
 
-        go : (r : Result Turn StepStop) → IfOk r (IsActed script k old new)
+        go : (r : Result Turn StopCause) → IfOk r (IsActed script k old new)
             → OnErr r (IsTurnStopped script k old new)
             → IsStaged script new (slice_set players (k - 1) player)
         go (Ok turn) acted stopped =
             staged-far calm acted.answer
             (done-far old new k (asked_next script k old) acted.answer acted.done) may seated
-        go (Err stop) acted (inl same) = staged-same same seated
-        go (Err stop) acted (inr half) =
+        go (Err cause) acted (inl same) = staged-same same seated
+        go (Err cause) acted (inr half) =
             staged-far calm half.0 (half-far old new k (asked_next script k old) half.0 half.1) may
             seated
 
@@ -265,6 +268,35 @@ module _ (script : ScriptParts) (old new : Layout) (players : List Player)
     planned = planned-pumped script old new staged.shape calm l event asks made.answer made.stepped
         staged.planned;
   }
+
+  -- while nobody settles a link, and nobody does after it
+  pub staged-pumped_calm : (r : Result pumps.Pump StopCause) (l : LinkNo) → settler_in old ≡ None
+      → IfOk r (IsPump script l old new) → OnErr r (new ≡ old) → IsStaged script new players
+  staged-pumped_calm (Ok pump) l calm made stopped =
+      pumped-if (pump_event script old.log.steps (trunks_of old.trunks) l) l pump refl calm made
+  staged-pumped_calm (Err cause) l calm made stopped = staged-kept stopped
+
+  kept-calm : settler_in old ≡ None → new ≡ old → settler_in new ≡ None
+  kept-calm calm same = subst (λ (f : Layout). settler_in f ≡ None) (sym same) calm
+
+  stepped-calm : (l : LinkNo) (head : Option Head) (answer : StepAnswer) → settler_in old ≡ None
+      → IsStepFor old new (Pump l) head answer → settler_in new ≡ None
+  stepped-calm l None answer calm made = kept-calm calm made.0
+  stepped-calm l (Some head) answer calm made =
+      ap (λ (P : List Step). if_stirs new.shape new.log.steps (trunks_of new.trunks) (settler_of P))
+      made.steps
+
+  calm-if : (o : Option Event) (l : LinkNo) (pump : pumps.Pump) → settler_in old ≡ None
+      → IsPumpIf o l old new pump → settler_in new ≡ None
+  calm-if None l pump calm made = kept-calm calm made.0
+  calm-if (Some event) l pump calm made =
+      stepped-calm l (pumped_head event) made.answer calm made.stepped
+
+  pub pumped-calm : (r : Result pumps.Pump StopCause) (l : LinkNo) → settler_in old ≡ None
+      → IfOk r (IsPump script l old new) → OnErr r (new ≡ old) → settler_in new ≡ None
+  pumped-calm (Ok pump) l calm made stopped =
+      calm-if (pump_event script old.log.steps (trunks_of old.trunks) l) l pump calm made
+  pumped-calm (Err cause) l calm made stopped = kept-calm calm stopped
 
   pub staged-pumped : (r : Result pumps.Pump StepStop) (l : LinkNo)
       → (is_some (settler_in old) ≡ true → IsErr r) → IfOk r (IsPump script l old new)

@@ -1,10 +1,11 @@
 -- Turns make a round, and rounds a whole run.
-use Rattle.std.proofs.Common.{◌≡◌, ℕ, zero, suc, ◌+◌, ◌<◌, ◌≤◌, ◌⊎◌, Bool, true, false, List}
-use Rattle.std.proofs.Common.{length, Result, Ok, Err, IfErr, OnErr, Option, Some, None, refl}
+use Rattle.std.proofs.Common.{◌≡◌, ℕ, zero, suc, ◌+◌, ◌-◌, ◌<◌, ◌≤◌, ◌⊎◌, Bool, true, false, List}
+use Rattle.std.proofs.Common.{length, Result, Ok, Err, IfErr, OnErr, OnOk, Option, Some, None, refl}
 use Rattle.std.proofs.Common.{sym, ◌∙◌, ap, subst, inl, inr, arith}
 use Rattle.std.specs.Result.{IsErrAnd}
 use Rattle.std.specs.Prelude.{not, ◌&&◌, is_some, nat_le, nat_lt, if◌then◌else◌}
-use Rattle.std.proofs.lemmas.Bool.{and_parts, cases_order, leb-true, ltb-true, true≢false}
+use Rattle.std.proofs.lemmas.Bool.{and_parts, cases_order, le-leb, leb-true, lt-leb, ltb-true}
+use Rattle.std.proofs.lemmas.Bool.{true≢false}
 use Rattle.std.proofs.lemmas.List.{length-map}
 use Rattle.linx_base.specs.declared.identity.LinkNo.{LinkNo}
 use Rattle.journal.specs.declared.by.By.TheVariants.{Actor}
@@ -25,12 +26,14 @@ use Rattle.fabric.specs.Links.{is_still, none_stirs, stirs}
 use Rattle.fabric.specs.Machine.{all_have_ended}
 use Rattle.fabric.specs.Run.{Layout}
 use Rattle.fabric.proofs.Resting.{ended-each}
-use Rattle.fabric.specs.declared.stop.StepStop.{StepStop}
+use Rattle.fabric.specs.declared.stop.StopCause.{StopCause}
 use Rattle.fabric.specs.declared.stop.StopCause.TheVariants.{JournalFull}
+use Rattle.stage.specs.declared.stage.Pump.{Pump}
 use Rattle.stage.specs.declared.stage.Turn.{Turn}
 use Rattle.stage.specs.Settlings.{IsHalfDone, Settler, if_stirs, settler_in, settler_of, stirs_on}
-use Rattle.stage.specs.Turns.{AreRounds, AreTurns, IsFullForActor, IsFullForLink, IsRound, IsTurnOf}
-use Rattle.stage.specs.Turns.{IsStoppedRound, IsStoppedRun, IsTurnStopped, asked_next, is_over}
+use Rattle.stage.specs.Turns.{AreRounds, AreTurns, IsFullForActor, IsFullForLink, IsPump, IsRound}
+use Rattle.stage.specs.Turns.{IsStoppedBy, IsStoppedOf, IsStoppedRound, IsStoppedRun, IsTurn}
+use Rattle.stage.specs.Turns.{IsTurnBy, IsTurnOf, IsTurnStopped, asked_next, is_over}
 use Rattle.stage.specs.Turns.{makers, shape_of}
 use Rattle.stage.proofs.Going.{begun-under, settle-made, settles-there, settles_it}
 use Rattle.stage.proofs.Idling.{not_true}
@@ -192,13 +195,13 @@ stopped-due script old new k may running (inl same) =
 stopped-due script old new k may running (inr half) =
     inr (half-settles old new k (asked_next script k old) half.0 may half.1)
 
-pub turn-full : (script : ScriptParts) (old new : Layout) (k : ℕ) (r : Result Turn StepStop)
+pub turn-full : (script : ScriptParts) (old new : Layout) (k : ℕ) (r : Result Turn StopCause)
     → MayAsk old (Actor k) (asked_next script k old) → has_ended old.log.steps k ≡ false
-    → IfErr r (λ stop. stop.cause ≡ JournalFull → is_full new.log.steps ≡ true)
+    → IfErr r (λ cause. cause ≡ JournalFull → is_full new.log.steps ≡ true)
     → OnErr r (IsTurnStopped script k old new)
-    → IfErr r (λ stop. stop.cause ≡ JournalFull → IsFullForActor new k)
+    → IfErr r (λ cause. cause ≡ JournalFull → IsFullForActor new k)
 turn-full script old new k (Ok turn) may running full stopped = tt
-turn-full script old new k (Err stop) may running full stopped =
+turn-full script old new k (Err cause) may running full stopped =
     λ is. (full is, stopped-due script old new k may running stopped)
 
 -- what a stop changes is the run alone
@@ -212,6 +215,133 @@ stopped-shape script k old new (inr half) =
     half.1.stops.stops.made)
     ∙ ap (λ (f : Layout). f.shape) half.1.fixed
 
+-- so not all is over
+pub turn-not_over : (script : ScriptParts) (old new : Layout) (k : ℕ) (r : Result Turn StopCause)
+    → old.shape ≡ shape_of script → 0 < k → k ≤ length script.actors
+    → IfErr r (λ cause. cause ≡ JournalFull → IsFullForActor new k)
+    → OnErr r (IsTurnStopped script k old new)
+    → IfErr r (λ cause. cause ≡ JournalFull → is_over new ≡ false)
+turn-not_over script old new k (Ok turn) shape above within full stopped = tt
+turn-not_over script old new k (Err cause) shape above within full stopped =
+    λ is. (full-actor script new (stopped-shape script k old new stopped ∙ shape) k above within
+    (full is)).1
+
+-- nor is it where a link's turn stopped
+pub pump-not_over : (script : ScriptParts) (old new : Layout) (l : LinkNo)
+    (r : Result Pump StopCause) → old.shape ≡ shape_of script → IsLinkOf (shape_of script) l
+    → IfErr r (λ cause. cause ≡ JournalFull → IsFullForLink old l) → OnErr r (new ≡ old)
+    → IfErr r (λ cause. cause ≡ JournalFull
+    → (is_full new.log.steps ≡ true) × (is_over new ≡ false))
+pump-not_over script old new l (Ok pump) shape of_shape full same = tt
+pump-not_over script old new l (Err cause) shape of_shape full same =
+    λ is. subst (λ (f : Layout). (is_full f.log.steps ≡ true) × (is_over f ≡ false)) (sym same)
+    (full-link script old shape l of_shape (full is))
+
+-- A TURN OF THE MAKER of this number
+pub turn-of_actor : (script : ScriptParts) (k : ℕ) (old new : Layout)
+    → k ≤ length script.actors → (turn : Turn) → IsTurn script k old new turn
+    → IsTurnOf script k old new
+turn-of_actor script k old new within turn made =
+    subst (λ (b : Bool). IsTurnBy b script k old new) (sym (le-leb k (length script.actors) within))
+    (turn, made)
+
+pub stop-of_actor : (script : ScriptParts) (k : ℕ) (old new : Layout)
+    → k ≤ length script.actors → IsTurnStopped script k old new → IsStoppedOf script k old new
+stop-of_actor script k old new within stopped =
+    subst (λ (b : Bool). IsStoppedBy b script k old new)
+    (sym (le-leb k (length script.actors) within)) stopped
+
+-- a round that stopped at an actor
+pub front-of_actor : (script : ScriptParts) (start before now : Layout) (place : ℕ)
+    → place + 1 ≤ length script.actors → AreTurns script place start before
+    → IsTurnStopped script (place + 1) before now → HasFront script start now
+front-of_actor script start before now place within turns stopped =
+    let next : place + 1 ≡ suc place = omega arith in (
+      place,
+      omega (arith, within),
+      (
+        before,
+        (
+          turns,
+          subst (λ (n : ℕ). IsStoppedOf script n before now) next
+              (stop-of_actor script (place + 1) before now within stopped),
+        ),
+      ),
+    )
+
+-- behind the actors it is a link's
+module _ (script : ScriptParts) (place : ℕ) where
+  abbrev count : ℕ
+  count = length script.actors
+
+  abbrev number : ℕ
+  number = count + place + 1
+
+  pub turn-of_link : (old new : Layout) (pump : Pump)
+      → IsPump script (record { 0 = place + 1 }) old new pump → IsTurnOf script number old new
+  turn-of_link old new pump made =
+      let its : number - count ≡ place + 1 = omega arith in
+      subst (λ (b : Bool). IsTurnBy b script number old new)
+      (sym (lt-leb number count (omega arith)))
+      (pump, subst (λ (l : ℕ). IsPump script (record { 0 = l }) old new pump) (sym its) made)
+
+  pub stop-of_link : (old new : Layout) → new ≡ old → IsStoppedOf script number old new
+  stop-of_link old new same =
+      subst (λ (b : Bool). IsStoppedBy b script number old new)
+      (sym (lt-leb number count (omega arith))) same
+
+  pub links-more : (start before now : Layout) → AreTurns script (count + place) start before
+      → (pump : Pump) → IsPump script (record { 0 = place + 1 }) before now pump
+      → AreTurns script (count + (place + 1)) start now
+  links-more start before now turns pump made =
+      let next : count + place + 1 ≡ count + (place + 1) = omega arith in
+      subst (λ (n : ℕ). AreTurns script n start now) next
+      (turns-more script start before now (count + place) turns
+      (turn-of_link before now pump made))
+
+  -- a round that stopped at a link
+  pub front-of_link : (start before now : Layout) → place + 1 ≤ length script.links
+      → AreTurns script (count + place) start before → now ≡ before → HasFront script start now
+  front-of_link start before now within turns same =
+      let next : count + place + 1 ≡ suc (count + place) = omega arith in (
+        count + place,
+        omega (arith, within),
+        (
+          before,
+          (
+            turns,
+            subst (λ (n : ℕ). IsStoppedOf script n before now) next
+                (stop-of_link before now same),
+          ),
+        ),
+      )
+
+-- WHERE AN ACTOR SETTLES A LINK there is one
+pub settling-linked : (script : ScriptParts) (f : Layout) → f.shape ≡ shape_of script
+    → is_some (settler_in f) ≡ true → 1 ≤ length script.links
+settling-linked script f shape is = go (settler_of f.log.steps) is
+  where
+    go : (o : Option Settler)
+        → is_some (if_stirs f.shape f.log.steps (trunks_of f.trunks) o) ≡ true
+        → 1 ≤ length script.links
+    go None is = absurd (true≢false (sym is))
+    go (Some w) is = on w (stirs_on f.shape f.log.steps (trunks_of f.trunks) w.link) refl is
+      where
+        on : (w : Settler) (b : Bool)
+            → stirs_on f.shape f.log.steps (trunks_of f.trunks) w.link ≡ b
+            → is_some (if b then Some w else None) ≡ true → 1 ≤ length script.links
+        on w true stirs_so is =
+            let parts = and_parts (nat_lt 0 w.link.0 && nat_le w.link.0 (length f.shape.links))
+            (stirs f.log.steps (trunks_of f.trunks) w.link.0) stirs_so in
+            let bounds = and_parts (nat_lt 0 w.link.0)
+            (nat_le w.link.0 (length f.shape.links)) parts.0 in
+            let above = ltb-true 0 w.link.0 bounds.0 in
+            let within = leb-true w.link.0 (length f.shape.links) bounds.1 in
+            let count : length f.shape.links ≡ length script.links =
+            ap (λ (s : Shape). length s.links) shape in
+            omega (arith, above, within, count)
+        on w false stirs_so is = absurd (true≢false (sym is))
+
 -- a refusal that is handed on says what was said of it
 pub if_err-handed : {T E : Type 0} (r : Result T E) (e : E) (Says : E → Type 0)
     → IsErrAnd r (λ x. x ≡ e) → Says e → IfErr r Says
@@ -221,3 +351,13 @@ if_err-handed (Err x) e Says is says = subst Says (sym is) says
 pub on_err-said : {T E : Type 0} (r : Result T E) (Says : Type 0) → Says → OnErr r Says
 on_err-said (Ok x) Says says = tt
 on_err-said (Err x) Says says = says
+
+-- what is said of what came of it, said otherwise
+pub on_ok-turned : {T E : Type 0} (r : Result T E) (A B : Type 0) → (A → B) → OnOk r A → OnOk r B
+on_ok-turned (Ok x) A B turn says = turn says
+on_ok-turned (Err x) A B turn says = tt
+
+pub on_err-turned : {T E : Type 0} (r : Result T E) (A B : Type 0) → (A → B) → OnErr r A
+    → OnErr r B
+on_err-turned (Ok x) A B turn says = tt
+on_err-turned (Err x) A B turn says = turn says

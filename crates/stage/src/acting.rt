@@ -176,18 +176,14 @@ pub fn act(fabric: &mut Fabric, actor: u32, ask: Ask) -> Acted
     }
 }
 
-/// The stop of a turn that is to wait until a link is settled.
-pub(crate) fn unsettled(fabric: &Fabric) -> StepStop
-    ensures cause { result.cause ≡ StopCause.JournalFull
-        → is_full fabric.now.log.steps ≡ true }
-    ensures full { is_full fabric.now.log.steps ≡ true
-        → result.cause ≡ StopCause.JournalFull }
-    ensures hand { result.hand ≡ None }
+/// The cause of the stop of a turn that is to wait until a link is settled.
+pub(crate) fn unsettled(fabric: &Fabric) -> StopCause
+    ensures full_only { result ≡ StopCause.JournalFull → is_full fabric.now.log.steps ≡ true }
+    ensures full { is_full fabric.now.log.steps ≡ true → result ≡ StopCause.JournalFull }
 {
-    let cause = if fabric.journal().full() {
+    if fabric.journal().full() {
         StopCause::JournalFull
     } else {
         StopCause::NoMemory
-    };
-    StepStop { cause, hand: None }
+    }
 }

@@ -67,7 +67,7 @@ pub(crate) fn turn_of(
     script: &Script,
     actor: u32,
     player: &mut Player,
-) -> Result<Turn, StepStop>
+) -> Result<Turn, StopCause>
     requires above { 0 < actor }
     requires within { actor ≤ length script.now.actors }
     requires shape { fabric.old.shape ≡ shape_of script.now }
@@ -78,17 +78,13 @@ pub(crate) fn turn_of(
     ensures err { OnErr result (IsTurnStopped script.now actor fabric.old fabric.new) }
     ensures seated { IsSeated script.now fabric.new.log.steps actor player.new }
     ensures full { is_full fabric.old.log.steps ≡ true → IsErr result }
-    ensures full_only { IfErr result (λ stop. stop.cause ≡ StopCause.JournalFull
+    ensures full_only { IfErr result (λ cause. cause ≡ StopCause.JournalFull
         → is_full fabric.new.log.steps ≡ true) }
-    ensures hand { IfErr result (λ stop. stop.hand ≡ None) }
     ensures fixed { OnlyRuns fabric.old fabric.new }
 {
     let commands = actor_of(script, actor);
     let Ok(ask) = player.mind.next(alloc, commands, player.me) else {
-        return Err(StepStop {
-            cause: StopCause::NoMemory,
-            hand: None,
-        });
+        return Err(StopCause::NoMemory);
     };
     match act(fabric, actor, ask) {
         Acted::Done(answer) => {
@@ -98,11 +94,11 @@ pub(crate) fn turn_of(
         }
         Acted::Halfway(answer, cause) => {
             player.told(commands, answer);
-            Err(StepStop { cause, hand: None })
+            Err(cause)
         }
         Acted::Stopped(StepStop { cause, hand }) => {
             player.mind.stopped(hand);
-            Err(StepStop { cause, hand: None })
+            Err(cause)
         }
     }
 }

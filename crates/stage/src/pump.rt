@@ -165,13 +165,39 @@ pub fn pump_on(fabric: &mut Fabric, script: &Script, link: LinkNo) -> Result<Pum
     ensures err { OnErr result (fabric.new ≡ fabric.old) }
 {
     if is_settling(fabric, script) {
-        return Err(unsettled(fabric));
+        let cause = unsettled(fabric);
+        return Err(StepStop { cause, hand: None });
     }
+    match pump_turn(fabric, script, link) {
+        Ok(pump) => Ok(pump),
+        Err(cause) => Err(StepStop { cause, hand: None }),
+    }
+}
+
+/// One turn of a link's pump, whoever settles a link. A stop leaves it to be made, and nothing
+/// changed: memory was refused, or the journal is full and a step is due.
+pub(crate) fn pump_turn(
+    fabric: &mut Fabric,
+    script: &Script,
+    link: LinkNo,
+) -> Result<Pump, StopCause>
+    requires shape { fabric.old.shape ≡ shape_of script.now }
+    requires declared { IsLinkOf fabric.old.shape link }
+    ensures ok { IfOk result (IsPump script.now link fabric.old fabric.new) }
+    ensures full { is_full fabric.old.log.steps ≡ true → stirs_in fabric.old link ≡ true
+        → IsErr result }
+    ensures full_only { IfErr result (λ cause. cause ≡ StopCause.JournalFull
+        → IsFullForLink fabric.old link) }
+    ensures fixed { OnlyRuns fabric.old fabric.new }
+    ensures err { OnErr result (fabric.new ≡ fabric.old) }
+{
     // a script's verdicts are within their limits
     let _ = script.links();
     let Some(event) = pump_event(fabric, script, link) else {
         return Ok(Pump::NoWork);
     };
-    fabric.step(By::Pump(link), event, None)?;
-    Ok(Pump::Moved)
+    match fabric.step(By::Pump(link), event, None) {
+        Ok(_) => Ok(Pump::Moved),
+        Err(stop) => Err(stop.cause),
+    }
 }

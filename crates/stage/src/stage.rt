@@ -1,6 +1,6 @@
 //! The actors and the links of a script on a fabric: their turns, rounds and whole runs.
 ghost use Rattle.std.specs.Prelude.{◌≡◌, ℕ, ◌<◌, ◌≤◌, true, false, [], length, map, IfOk, IfErr};
-ghost use Rattle.std.specs.Prelude.{OnOk, OnErr, IsErr, is_some, not, ◌&&◌, None};
+ghost use Rattle.std.specs.Prelude.{OnOk, OnErr, IsErr, is_some, not, ◌&&◌, ◌||◌, ◌+◌, None};
 ghost use Rattle.journal.specs.Logs.{is_full};
 ghost use Rattle.journal.specs.History.{has_ended};
 ghost use Rattle.journal.specs.Rest.{is_idle};
@@ -15,13 +15,13 @@ ghost use Rattle.stage.specs.Seats.{IsStaged, unstarted};
 ghost use Rattle.stage.specs.Settlings.{settler_in, stirs_in};
 ghost use Rattle.stage.specs.Turns.{AreRounds, AreTurns, IsBehind, IsFullForActor, IsFullForLink};
 ghost use Rattle.stage.specs.Turns.{IsPump, IsRound};
-ghost use Rattle.stage.specs.Turns.{IsStoppedOf, IsStoppedRound, IsStoppedRun, IsTurn, IsTurnOf};
+ghost use Rattle.stage.specs.Turns.{IsStoppedRound, IsStoppedRun, IsTurn};
 ghost use Rattle.stage.specs.Turns.{IsTurnStopped};
 ghost use Rattle.stage.specs.Turns.{IsWhole, first_layout, is_over, makers, shape_of};
 
 use crate::acting::{is_settling, unsettled};
 use crate::player::{Player, turn_of};
-use crate::pump::pump_on;
+use crate::pump::{pump_on, pump_turn};
 use actor_run::Mind;
 use fabric::{Fabric, StepStop, StopCause};
 use journal::Journal;
@@ -179,6 +179,29 @@ impl Stage {
         ensures err { OnErr result
             (IsTurnStopped self.old.script actor self.old.run self.new.run) }
     {
+        match self.actor_turn(actor) {
+            Ok(turn) => Ok(turn),
+            Err(cause) => Err(StepStop { cause, hand: None }),
+        }
+    }
+
+    /// One turn of an actor, of which a stop says the cause.
+    fn actor_turn(&mut self, actor: u32) -> Result<Turn, StopCause>
+        requires above { 0 < actor }
+        requires within { actor ≤ length self.old.script.actors }
+        ensures ok { IfOk result (IsTurn self.old.script actor self.old.run self.new.run) }
+        ensures script { self.new.script ≡ self.old.script }
+        ensures settling { is_some (settler_in self.old.run) ≡ true
+            → IsErr result × (self.new ≡ self.old) }
+        ensures full { is_full self.old.run.log.steps ≡ true
+            → has_ended self.old.run.log.steps actor ≡ false → IsErr result }
+        ensures full_only { IfErr result (λ cause. cause ≡ StopCause.JournalFull
+            → IsFullForActor self.new.run actor) }
+        ensures not_over { IfErr result (λ cause. cause ≡ StopCause.JournalFull
+            → is_over self.new.run ≡ false) }
+        ensures err { OnErr result
+            (IsTurnStopped self.old.script actor self.old.run self.new.run) }
+    {
         if is_settling(&self.fabric, &self.script) {
             return Err(unsettled(&self.fabric));
         }
@@ -206,64 +229,173 @@ impl Stage {
         pump_on(&mut self.fabric, &self.script, link)
     }
 
-    /// A turn of the maker of this number: an actor, or behind the actors a link.
-    fn take_turn(&mut self, number: u32) -> Result<(), StepStop>
-        requires above { 0 < number }
-        requires within { number ≤ makers self.old.script }
-        ensures ok { OnOk result (IsTurnOf self.old.script number self.old.run self.new.run) }
-        ensures script { self.new.script ≡ self.old.script }
-        ensures full_only { IfErr result (λ stop. stop.cause ≡ StopCause.JournalFull
-            → (is_full self.new.run.log.steps ≡ true) × (is_over self.new.run ≡ false)) }
-        ensures hand { IfErr result (λ stop. stop.hand ≡ None) }
-        ensures err { OnErr result
-            (IsStoppedOf self.old.script number self.old.run self.new.run) }
-    {
-        let actors = self.script.actors().len() as u32;
-        if number <= actors {
-            self.turn(number)?;
-        } else {
-            self.pump(LinkNo(number - actors))?;
-        }
-        Ok(())
-    }
-
-    /// Whether an actor waits, nothing that it waits for is in its queue, and it isn't at rest, as
-    /// none is behind one that hasn't ended.
-    fn waits_on(&self, actor: u32, behind: bool) -> bool
+    /// Whether an actor waits, nothing that it waits for is in its queue, and it isn't at rest.
+    fn waits_on(&self, actor: u32) -> bool
         requires above { 0 < actor }
         requires within { actor ≤ length self.now.script.actors }
-        requires behind { behind ≡ true → IsBehind self.now.run.log.steps actor }
         ensures { result ≡ (is_idle self.now.run.log.steps actor
             && not (is_at_rest self.now.run.shape self.now.run.log.steps actor
             && is_still self.now.run.shape self.now.run.log.steps
             (trunks_of self.now.run.trunks))) }
     {
         let _ = &self.players;
-        self.fabric.is_idle(actor) && (behind || !self.fabric.is_rest(actor))
+        self.fabric.is_idle(actor) && !self.fabric.is_rest(actor)
     }
 
-    /// The place of the first maker, from this one on, whose turn may find something: the actors
-    /// before it have ended, or wait on.
-    fn next_due(&self, place: u32) -> u32
-        requires within { place ≤ makers self.now.script }
+    /// The place of the first actor, from this one on, that hasn't ended.
+    fn first_left(&self, place: u32) -> u32
+        requires within { place ≤ length self.now.script.actors }
         ensures on { place ≤ result }
-        ensures within { result ≤ makers self.now.script }
+        ensures within { result ≤ length self.now.script.actors }
+        ensures left { result < length self.now.script.actors
+            → has_ended self.now.run.log.steps (result + 1) ≡ false }
         ensures passed { (start : Layout) → AreTurns self.now.script place start self.now.run
             → AreTurns self.now.script result start self.now.run }
     {
         let _ = &self.players;
         let actors = self.script.actors().len() as u32;
-        let mut behind = false;
         'passing: for next in place..actors {
-            if self.fabric.has_ended(next + 1) {
-                continue;
-            }
-            if !self.waits_on(next + 1, behind) {
+            if !self.fabric.has_ended(next + 1) {
                 return next;
             }
-            behind = true;
         }
-        place.max(actors)
+        actors
+    }
+
+    /// The place of the first actor, from this one on, that neither has ended nor waits in vain.
+    /// Behind one that hasn't ended none is at rest, so that those before it wait on.
+    fn first_awake(&self, place: u32) -> u32
+        requires within { place ≤ length self.now.script.actors }
+        requires behind { IsBehind self.now.run.log.steps (place + 1) }
+        ensures on { place ≤ result }
+        ensures within { result ≤ length self.now.script.actors }
+        ensures passed { (start : Layout) → AreTurns self.now.script place start self.now.run
+            → AreTurns self.now.script result start self.now.run }
+    {
+        let _ = &self.players;
+        let actors = self.script.actors().len() as u32;
+        'passing: for next in place..actors {
+            if !self.is_asleep(next + 1) {
+                return next;
+            }
+        }
+        actors
+    }
+
+    /// Whether the actor right before this place hasn't ended.
+    fn runs_before(&self, place: u32) -> bool
+        requires within { place ≤ length self.now.script.actors }
+        ensures { result ≡ true → IsBehind self.now.run.log.steps (place + 1) }
+    {
+        let _ = &self.players;
+        if place == 0 {
+            return false;
+        }
+        !self.fabric.has_ended(place)
+    }
+
+    /// Whether an actor waits in vain, or has ended.
+    fn is_asleep(&self, actor: u32) -> bool
+        requires above { 0 < actor }
+        requires within { actor ≤ length self.now.script.actors }
+        ensures { result ≡ (is_idle self.now.run.log.steps actor
+            || has_ended self.now.run.log.steps actor) }
+    {
+        let _ = &self.players;
+        self.fabric.is_idle(actor) || self.fabric.has_ended(actor)
+    }
+
+    /// The place of the first actor, from this one on, whose turn may find something: those before
+    /// it have ended, or wait on.
+    fn next_due(&self, place: u32) -> u32
+        requires within { place ≤ length self.now.script.actors }
+        ensures on { place ≤ result }
+        ensures within { result ≤ length self.now.script.actors }
+        ensures passed { (start : Layout) → AreTurns self.now.script place start self.now.run
+            → AreTurns self.now.script result start self.now.run }
+    {
+        if self.runs_before(place) {
+            return self.first_awake(place);
+        }
+        let first = self.first_left(place);
+        if first as usize == self.script.actors().len() {
+            return first;
+        }
+        if !self.waits_on(first + 1) {
+            return first;
+        }
+        self.first_awake(first + 1)
+    }
+
+    /// Each actor takes its turn, by number.
+    fn actor_turns(&mut self) -> Result<(), StopCause>
+        ensures ok { OnOk result (AreTurns self.old.script (length self.old.script.actors)
+            self.old.run self.new.run) }
+        ensures script { self.new.script ≡ self.old.script }
+        ensures full_only { IfErr result (λ cause. cause ≡ StopCause.JournalFull
+            → (is_full self.new.run.log.steps ≡ true) × (is_over self.new.run ≡ false)) }
+        ensures front { OnErr result ((n : ℕ) × (n < makers self.old.script)
+            × IsStoppedRound self.old.script n self.old.run self.new.run) }
+    {
+        let actors = self.script.actors().len() as u32;
+        let mut place = self.next_due(0);
+        'turns: while place < actors {
+            self.actor_turn(place + 1)?;
+            place = self.next_due(place + 1);
+        }
+        Ok(())
+    }
+
+    /// One turn of a link's pump, while nobody settles a link. Nobody does after it.
+    fn link_turn(&mut self, link: LinkNo) -> Result<Pump, StopCause>
+        requires declared { IsLinkOf (shape_of self.old.script) link }
+        requires calm { settler_in self.old.run ≡ None }
+        ensures ok { IfOk result (IsPump self.old.script link self.old.run self.new.run) }
+        ensures calm { settler_in self.new.run ≡ None }
+        ensures script { self.new.script ≡ self.old.script }
+        ensures full_only { IfErr result (λ cause. cause ≡ StopCause.JournalFull
+            → (is_full self.new.run.log.steps ≡ true) × (is_over self.new.run ≡ false)) }
+        ensures err { OnErr result (self.new.run ≡ self.old.run) }
+    {
+        let _ = &self.players;
+        pump_turn(&mut self.fabric, &self.script, link)
+    }
+
+    /// Each link takes its turn, by number, behind the actors.
+    fn link_turns(&mut self) -> Result<(), StopCause>
+        requires calm { settler_in self.old.run ≡ None }
+        ensures ok { OnOk result ((start : Layout)
+            → AreTurns self.old.script (length self.old.script.actors) start self.old.run
+            → IsRound self.old.script start self.new.run) }
+        ensures script { self.new.script ≡ self.old.script }
+        ensures full_only { IfErr result (λ cause. cause ≡ StopCause.JournalFull
+            → (is_full self.new.run.log.steps ≡ true) × (is_over self.new.run ≡ false)) }
+        ensures front { OnErr result ((start : Layout)
+            → AreTurns self.old.script (length self.old.script.actors) start self.old.run
+            → (n : ℕ) × (n < makers self.old.script)
+            × IsStoppedRound self.old.script n start self.new.run) }
+    {
+        let links = self.script.links().len() as u32;
+        'turns: for place in 0..links {
+            self.link_turn(LinkNo(place + 1))?;
+        }
+        Ok(())
+    }
+
+    /// The turns of a round.
+    fn turns(&mut self) -> Result<(), StopCause>
+        ensures ok { OnOk result (IsRound self.old.script self.old.run self.new.run) }
+        ensures script { self.new.script ≡ self.old.script }
+        ensures front { OnErr result ((n : ℕ) × (n < makers self.old.script)
+            × IsStoppedRound self.old.script n self.old.run self.new.run) }
+        ensures full_only { IfErr result (λ cause. cause ≡ StopCause.JournalFull
+            → (is_full self.new.run.log.steps ≡ true) × (is_over self.new.run ≡ false)) }
+    {
+        self.actor_turns()?;
+        if is_settling(&self.fabric, &self.script) {
+            return Err(unsettled(&self.fabric));
+        }
+        self.link_turns()
     }
 
     /// A round: each actor takes its turn, by number, and then each link. It answers whether all is
@@ -279,13 +411,10 @@ impl Stage {
         ensures hand { IfErr result (λ stop. stop.hand ≡ None) }
         ensures few { OnOk result (length self.new.run.log.steps ≤ 200000) }
     {
-        let count = (self.script.actors().len() + self.script.links().len()) as u32;
-        let mut place = self.next_due(0);
-        'turns: while place < count {
-            self.take_turn(place + 1)?;
-            place = self.next_due(place + 1);
+        match self.turns() {
+            Ok(()) => Ok(self.is_over()),
+            Err(cause) => Err(StepStop { cause, hand: None }),
         }
-        Ok(self.is_over())
     }
 
     /// Rounds until all is over, from whatever was done. A stop leaves the rounds before it, and of

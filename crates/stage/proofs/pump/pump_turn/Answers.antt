@@ -2,7 +2,7 @@ use Rattle.std.proofs.Common.{sym, subst}
 use Rattle.journal.specs.Shapes.{Shape}
 use Rattle.link_laws.specs.Ends.{IsLinkOf}
 use Rattle.stage.proofs.Pumping.{pump-asks}
-use Rattle.stage.proofs.pump.pump_on.Goals as goal
+use Rattle.stage.proofs.pump.pump_turn.Goals as goal
 
 pub step-requires : goal.step-requires
 step-requires c = record {

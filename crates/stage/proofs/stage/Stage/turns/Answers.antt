@@ -1,0 +1,61 @@
+use Rattle.std.proofs.Common.{false, ◌<◌, ◌≡◌, ◌+◌, ℕ, true, None, length, refl, sym, ◌∙◌, subst, arith}
+use Rattle.std.specs.Prelude.{is_some}
+use Rattle.std.proofs.lemmas.Bool.{true≢false}
+use Rattle.script_lang.specs.Parts.{ScriptParts}
+use Rattle.fabric.specs.Run.{Layout}
+use Rattle.stage.specs.Settlings.{settler_in}
+use Rattle.stage.specs.Turns.{AreTurns, IsRound, is_over}
+use Rattle.stage.proofs.Seats.{none-settles}
+use Rattle.stage.proofs.Whole.{HasFront, front-of_link, on_err-turned, on_ok-turned}
+use Rattle.stage.proofs.Whole.{settling-linked, settling-not_over}
+use Rattle.stage.specs.Plays.{Play}
+use Rattle.journal.specs.Logs.{is_full}
+use Rattle.stage.proofs.stage.Stage.turns.Goals as goal
+
+pub returns-clause-ok : goal.returns-clause-ok
+returns-clause-ok c =
+    let script : ScriptParts = c.args.self.now.script in
+    let start : Layout = c.args.self.now.run in
+    let between : Layout = c.actor_turns.new.self.run in
+    let now : Layout = c.link_turns.new.self.run in
+    on_ok-turned c.link_turns.result _ (IsRound script start now)
+    (λ ok. subst (λ (s : ScriptParts). AreTurns s (length s.actors) start between
+    → IsRound s start now) c.actor_turns.ensures.script (ok start)
+    c.in_ok-actor_turns.ensures.ok) c.link_turns.ensures.ok
+
+pub returns-clause-front : goal.returns-clause-front
+returns-clause-front c =
+    let script : ScriptParts = c.args.self.now.script in
+    let start : Layout = c.args.self.now.run in
+    let between : Layout = c.actor_turns.new.self.run in
+    let now : Layout = c.link_turns.new.self.run in
+    on_err-turned c.link_turns.result _ (HasFront script start now)
+    (λ front. subst (λ (s : ScriptParts). AreTurns s (length s.actors) start between
+    → HasFront s start now) c.actor_turns.ensures.script (front start)
+    c.in_ok-actor_turns.ensures.ok) c.link_turns.ensures.front
+
+pub returns-then-is_settling-clause-full_only : goal.returns-then-is_settling-clause-full_only
+returns-then-is_settling-clause-full_only c = λ full.
+    let s = c.self.inside in (
+      subst (λ (p : Play). is_full p.run.log.steps ≡ true) c.self.view_is
+          (c.unsettled.ensures.full_only full),
+      subst (λ (p : Play). is_over p.run ≡ false) c.self.view_is
+          (settling-not_over s.script s.fabric c.self.invariant.shape
+          (sym c.is_settling.ensures ∙ c.if-is_settling.true)),
+    )
+
+pub returns-then-is_settling-clause-front : goal.returns-then-is_settling-clause-front
+returns-then-is_settling-clause-front c =
+    let s = c.self.inside in
+    let script : ScriptParts = c.args.self.now.script in
+    let start : Layout = c.args.self.now.run in
+    let now : Layout = c.actor_turns.new.self.run in
+    let linked : 0 < length s.script.links =
+    settling-linked s.script s.fabric c.self.invariant.shape
+    (sym c.is_settling.ensures ∙ c.if-is_settling.true) in
+    let low : 0 < length script.links =
+    subst (λ (q : ScriptParts). 0 < length q.links) c.actor_turns.ensures.script
+    (subst (λ (p : Play). 0 < length p.script.links) c.self.view_is linked) in
+    let sum : length script.actors ≡ length script.actors + 0 = omega arith in
+    front-of_link script 0 start now now (omega (arith, low))
+    (subst (λ (n : ℕ). AreTurns script n start now) sum c.in_ok-actor_turns.ensures.ok) refl
