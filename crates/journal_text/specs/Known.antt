@@ -1,9 +1,5 @@
 -- Digests that are known before they are printed.
-use Rattle.std.specs.Prelude.{◌≡◌, ℕ, zero, suc, Bool, ◌==◌, ◌&&◌, List, Option, Some, None}
-use Rattle.std.specs.Prelude.{slice_get, IfSome, ⊤}
-use Rattle.std.specs.declared.hash.FoldHasher.{FoldHasher}
-use Rattle.std.specs.declared.hash.BuildHasherDefault.{BuildHasherDefault}
-use Rattle.std.specs.HashMap.{get, HashMap}
+use Rattle.std.specs.Prelude.{◌≡◌, ℕ, zero, suc, List, Option, Some, None, slice_get, IsSomeAnd, ⊤}
 use Rattle.linx_base.specs.declared.signal.SigNote.{SigNote}
 use Rattle.journal.specs.declared.head.Head.{Head}
 use Rattle.journal.specs.declared.head.Head.TheVariants.{Send, Hunt, Attach}
@@ -11,6 +7,8 @@ use Rattle.journal.specs.declared.effect.Effect.{Effect}
 use Rattle.journal.specs.declared.effect.Effect.TheVariants.{Arrived, Found, Notified}
 use Rattle.journal.specs.declared.effect.Step.{Step}
 use Rattle.journal.specs.Logs.{step_at}
+use Rattle.journal_text.specs.declared.digests.Placed.{Placed}
+use Rattle.journal_text.specs.declared.digests.Digests.{Digests}
 
 -- the signal in a head
 abbrev pub signal_in : Head → Option SigNote
@@ -42,22 +40,22 @@ abbrev pub AreOf : Option SigNote → List ℕ → Type 0
 AreOf None bytes = ⊤
 AreOf (Some note) bytes = bytes ≡ note.bytes
 
--- both name one place of a journal
-abbrev pub same_place : ℕ × ℕ → ℕ × ℕ → Bool
-same_place a b = (a.0 == b.0) && (a.1 == b.1)
+-- what is in the first list is at the same place in the second
+abbrev pub Keeps : List (List ℕ) → List (List ℕ) → Type 0
+Keeps before after =
+    (at : ℕ) (bytes : List ℕ) → slice_get before at ≡ Some bytes → slice_get after at ≡ Some bytes
 
--- the bytes whose digest is kept for a place of a step
-abbrev pub kept_for : HashMap (ℕ × ℕ) (List ℕ) (BuildHasherDefault FoldHasher) → ℕ → ℕ
-    → Option (List ℕ)
-kept_for kept position place = get same_place kept (position, place)
+-- the digests that are placed at a place of a step were made, and of bytes of this signal
+abbrev pub FitsPlace : List (List ℕ) → List Placed → ℕ → ℕ → Option SigNote → Type 0
+FitsPlace made placed position place note =
+    (k : ℕ) (p : Placed) → slice_get placed k ≡ Some p → p.step ≡ position → p.place ≡ place
+    → IsSomeAnd (slice_get made p.digest) (AreOf note)
 
--- what is kept for the places of a step is of the signals there
-abbrev pub FitsStep : HashMap (ℕ × ℕ) (List ℕ) (BuildHasherDefault FoldHasher) → ℕ
-    → Option Step → Type 0
-FitsStep kept position s =
-    (place : ℕ) → IfSome (kept_for kept position place) (AreOf (signal_at s place))
+-- the digests at the places of a step are of the signals there
+abbrev pub FitsStep : Digests → ℕ → Option Step → Type 0
+FitsStep digests position s = (place : ℕ)
+    → FitsPlace digests.made.items digests.placed.items position place (signal_at s place)
 
--- what is kept is of the signals at its places
-abbrev pub Fits : HashMap (ℕ × ℕ) (List ℕ) (BuildHasherDefault FoldHasher) → List Step
-    → Type 0
-Fits kept steps = (position : ℕ) → FitsStep kept position (step_at steps position)
+-- all digests are of the signals at their places
+abbrev pub Fits : Digests → List Step → Type 0
+Fits digests steps = (position : ℕ) → FitsStep digests position (step_at steps position)

@@ -15,16 +15,17 @@ use linx_base::{Inc, NoMemory};
 use std::alloc::Global;
 
 pub(crate) fn collect(alloc: Global, journal: &Journal, digests: &Digests) -> Result<Logs, NoMemory>
-    requires { Fits digests.now.kept journal.now.log.steps }
+    requires { Fits digests.now journal.now.log.steps }
     ensures { IfOk result (λ logs.
         Collects journal.now.log.names journal.now.log.steps journal.now.log.steps logs) }
 {
     let mut owners = Owners::new(alloc);
     let mut logs = Logs::new(alloc);
+    let mut next = 0;
     for done in 0..journal.len() {
         let step = journal.step_after(done);
         let owner = owners.endpoint(step.by);
-        logs.note(alloc, journal, digests, owner, done + 1, step)?;
+        logs.note(alloc, journal, digests, &mut next, owner, done + 1, step)?;
         owners.note(step)?;
     }
     Ok(logs)
@@ -97,7 +98,7 @@ pub(crate) fn write_logs_with(
     journal: &Journal,
     digests: &Digests,
 ) -> Result<(), NoMemory>
-    requires { Fits digests.now.kept journal.now.log.steps }
+    requires { Fits digests.now journal.now.log.steps }
     ensures { OnOk result (out.new.items ≡ out.old.items ++ logs_text journal.now.log) }
 {
     let logs = collect(*out.allocator(), journal, digests)?;

@@ -8,7 +8,7 @@ ghost use Rattle.linx_base.specs.declared.name.Names.{Names as NamesOf};
 ghost use Rattle.journal.specs.declared.effect.Step.{Step as StepOf};
 ghost use Rattle.journal_text.specs.Makers.{owner_by};
 ghost use Rattle.journal_text.specs.Texts.{kept};
-ghost use Rattle.journal_text.specs.Known.{signal_brought, AreOf, FitsStep, Fits};
+ghost use Rattle.journal_text.specs.Known.{signal_in, signal_brought, AreOf, FitsStep, Fits};
 ghost use Rattle.journal.specs.History.{opens, name_in};
 ghost use Rattle.journal_text.specs.Blocks.{if_for, head_log, concerned, effect_log, effect_logs};
 ghost use Rattle.journal_text.specs.Collected.{Collects};
@@ -85,20 +85,20 @@ fn keep_opened(
     Ok(())
 }
 
-/// Adds the line of the head of the step at a position to a text.
+/// Adds the line of a head to a text.
 fn add_head_line(
     text: &mut Text,
     journal: &Journal,
     digests: &Digests,
-    position: u64,
-    step: &Step,
+    head: &Head,
+    known: Option<&Digested>,
 ) -> Result<(), NoMemory>
-    requires fits_step { FitsStep digests.now.kept position (Some step.now) }
-    requires fits { Fits digests.now.kept journal.now.log.steps }
+    requires known { IfSome known (λ digested. AreOf (signal_in head.now) digested.now) }
+    requires fits { Fits digests.now journal.now.log.steps }
     ensures { OnOk result (text.new
-        ≡ text.old ++ head_log journal.now.log.names journal.now.log.steps step.now.head) }
+        ≡ text.old ++ head_log journal.now.log.names journal.now.log.steps head.now) }
 {
-    write_head_log(&mut text.bytes, journal, digests, position, step)
+    write_head_log(&mut text.bytes, journal, digests, head, known)
 }
 
 /// Adds the line of an effect to a text.
@@ -114,50 +114,50 @@ fn add_effect_line(
     write_effect_log(&mut text.bytes, names, effect, known)
 }
 
-/// Adds the line of the head of the step at a position to the log of an incarnation.
+/// Adds the line of a head to the log of an incarnation.
 fn add_head_at(
     alloc: Global,
     lines: &mut Texts,
     journal: &Journal,
     digests: &Digests,
     inc: Inc,
-    position: u64,
-    step: &Step,
+    head: &Head,
+    known: Option<&Digested>,
 ) -> Result<(), NoMemory>
-    requires fits_step { FitsStep digests.now.kept position (Some step.now) }
-    requires fits { Fits digests.now.kept journal.now.log.steps }
+    requires known { IfSome known (λ digested. AreOf (signal_in head.now) digested.now) }
+    requires fits { Fits digests.now journal.now.log.steps }
     ensures { OnOk result ((q : ℕ) → kept lines.new q ≡ kept lines.old q ++ (if q == inc.0
-        then head_log journal.now.log.names journal.now.log.steps step.now.head else [])) }
+        then head_log journal.now.log.names journal.now.log.steps head.now else [])) }
 {
     match lines.get_mut(&inc.0) {
-        Some(text) => add_head_line(text, journal, digests, position, step),
+        Some(text) => add_head_line(text, journal, digests, head, known),
         None => {
             let mut text = Text::new(alloc);
-            add_head_line(&mut text, journal, digests, position, step)?;
+            add_head_line(&mut text, journal, digests, head, known)?;
             lines.insert(inc.0, text)?;
             Ok(())
         }
     }
 }
 
-/// Adds the line of the head of the step at a position to the log of its maker's endpoint.
+/// Adds the line of a head to the log of its maker's endpoint.
 fn add_head(
     alloc: Global,
     lines: &mut Texts,
     journal: &Journal,
     digests: &Digests,
     owner: Option<Inc>,
-    position: u64,
-    step: &Step,
+    head: &Head,
+    known: Option<&Digested>,
 ) -> Result<(), NoMemory>
-    requires fits_step { FitsStep digests.now.kept position (Some step.now) }
-    requires fits { Fits digests.now.kept journal.now.log.steps }
+    requires known { IfSome known (λ digested. AreOf (signal_in head.now) digested.now) }
+    requires fits { Fits digests.now journal.now.log.steps }
     ensures { OnOk result ((q : ℕ) → kept lines.new q ≡ kept lines.old q
         ++ if_for (record { 0 = q }) owner
-        (head_log journal.now.log.names journal.now.log.steps step.now.head)) }
+        (head_log journal.now.log.names journal.now.log.steps head.now)) }
 {
     match owner {
-        Some(inc) => add_head_at(alloc, lines, journal, digests, inc, position, step),
+        Some(inc) => add_head_at(alloc, lines, journal, digests, inc, head, known),
         None => Ok(()),
     }
 }
@@ -210,15 +210,16 @@ fn add_effects(
     lines: &mut Texts,
     names: &Names,
     digests: &Digests,
+    next: &mut usize,
     position: u64,
     step: &Step,
 ) -> Result<(), NoMemory>
-    requires { FitsStep digests.now.kept position (Some step.now) }
+    requires { FitsStep digests.now position (Some step.now) }
     ensures { OnOk result ((q : ℕ) → kept lines.new q ≡ kept lines.old q
         ++ effect_logs names.now (record { 0 = q }) step.now.effects) }
 {
     for (index, effect) in step.effects.as_slice().iter().enumerate() {
-        let known = digests.of_effect(position, index as u64 + 1, effect);
+        let known = digests.of_effect(next, position, index as u64 + 1, effect);
         add_effect(alloc, lines, names, effect, known)?;
     }
     Ok(())
@@ -243,12 +244,13 @@ impl Logs {
         alloc: Global,
         journal: &Journal,
         digests: &Digests,
+        next: &mut usize,
         owner: Option<Inc>,
         position: u64,
         step: &Step,
     ) -> Result<(), NoMemory>
-        requires fits_step { FitsStep digests.now.kept position (Some step.now) }
-        requires fits { Fits digests.now.kept journal.now.log.steps }
+        requires fits_step { FitsStep digests.now position (Some step.now) }
+        requires fits { Fits digests.now journal.now.log.steps }
         ensures { (P : List StepOf) → owner ≡ owner_by P step.now.by
             → Collects journal.now.log.names journal.now.log.steps P self.old
             → OnOk result (Collects journal.now.log.names journal.now.log.steps (step.now ∷ P)
@@ -256,8 +258,9 @@ impl Logs {
     {
         keep_opened(&mut self.opened, &step.head, step.effects.as_slice())?;
         let lines = &mut self.lines;
-        add_head(alloc, lines, journal, digests, owner, position, step)?;
-        add_effects(alloc, lines, journal.names(), digests, position, step)
+        let known = digests.of_head(next, position, step);
+        add_head(alloc, lines, journal, digests, owner, &step.head, known)?;
+        add_effects(alloc, lines, journal.names(), digests, next, position, step)
     }
 
     /// The name that the incarnation was opened with.

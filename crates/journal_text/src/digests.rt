@@ -1,15 +1,16 @@
 //! The digests of a journal's signals, each made once, before any of it is printed, and equal
-//! bytes share one where they can be told at a glance. One is kept under the step and the place
-//! where its signal stands.
-ghost use Rattle.std.specs.Prelude.{◌≡◌, ◌↔◌, ◌==◌, ◌&&◌, ◌+◌, ℕ, List, Option, Some};
-ghost use Rattle.std.specs.Prelude.{IsTrue, IfOk, IfSome, OnOk, if◌then◌else◌};
+//! bytes share one where they can be told at a glance. Which is for which step and place is a list
+//! in the order of the journal: who reads the journal in order passes along the list beside it.
+ghost use Rattle.std.specs.Prelude.{◌≡◌, ◌↔◌, ℕ, List, Option, Some};
+ghost use Rattle.std.specs.Prelude.{IsTrue, IfOk, IfSome, OnOk, slice_get};
 ghost use Rattle.std.specs.Option.{option_copied};
+ghost use Rattle.linx_base.specs.declared.signal.SigNote.{SigNote as SigNoteOf};
 ghost use Rattle.journal.specs.declared.effect.Step.{Step};
 ghost use Rattle.journal.specs.Logs.{step_at};
 ghost use Rattle.journal_text.specs.Blocks.{effect_at};
 ghost use Rattle.journal_text.specs.Values.{digest_text};
 ghost use Rattle.journal_text.specs.Known.{signal_in, signal_brought, signal_of, signal_at, AreOf};
-ghost use Rattle.journal_text.specs.Known.{kept_for, FitsStep, Fits};
+ghost use Rattle.journal_text.specs.Known.{Keeps, FitsPlace, FitsStep, Fits};
 
 use crate::digits::{SPELLED_MOST, write_digest};
 use journal::{Effect, Head, Journal, Step};
@@ -42,15 +43,6 @@ impl Model for Digested {
     ghost invariant = { λ d. d.text ≡ digest_text d.bytes };
 }
 
-impl TryCopy for Digested {
-    fn copy(&self) -> Result<Digested, NoMemory> {
-        Ok(Digested {
-            bytes: self.bytes.copy()?,
-            text: self.text.copy()?,
-        })
-    }
-}
-
 /// The digest of these bytes, as it is spelled.
 fn spelled(alloc: Global, bytes: &Blob) -> Result<Blob, NoMemory>
     ensures { IfOk result (λ text. text ≡ digest_text bytes.now) }
@@ -80,16 +72,6 @@ impl Digested {
         ensures { result.now ≡ digest_text self.now }
     {
         self.text.bytes()
-    }
-}
-
-/// A copy of what is known, if that is of these bytes.
-fn copy_if_of(known: Option<&Digested>, bytes: &Blob) -> Result<Option<Digested>, NoMemory>
-    ensures { IfOk result (λ found. IfSome found (λ copy. copy ≡ bytes.now)) }
-{
-    match known {
-        Some(digested) if digested.is_of(bytes) => Ok(Some(digested.copy()?)),
-        _ => Ok(None),
     }
 }
 
@@ -147,55 +129,71 @@ impl Glance {
     }
 }
 
-/// While digests are made: the latest bytes of each glance, with their digest.
-type Latest = HashMap<Glance, Digested>;
+/// While digests are made: where the latest of each glance stands among them.
+type Latest = HashMap<Glance, usize>;
 
-/// The digest of these bytes: the latest of their glance if that is of the same bytes, else a new
-/// one.
-fn digest_of(alloc: Global, latest: &mut Latest, bytes: &Blob) -> Result<Digested, NoMemory>
-    ensures { IfOk result (λ digested. digested ≡ bytes.now) }
+/// Whether the digest at this place is of these bytes.
+fn is_made(made: &[Digested], at: usize, bytes: &Blob) -> bool
+    ensures { IsTrue result → slice_get made.now at ≡ Some bytes.now }
+{
+    match made.get(at) {
+        Some(digested) => digested.is_of(bytes),
+        None => false,
+    }
+}
+
+/// Where the digest of these bytes stands: the latest of their glance if that is of the same bytes,
+/// else a new one.
+fn place_of(
+    alloc: Global,
+    made: &mut Vec<Digested>,
+    latest: &mut Latest,
+    bytes: &Blob,
+) -> Result<usize, NoMemory>
+    ensures keeps { OnOk result (Keeps made.old.items made.new.items) }
+    ensures stands { IfOk result (λ at. slice_get made.new.items at ≡ Some bytes.now) }
 {
     let glance = Glance::at(bytes.bytes());
-    match copy_if_of(latest.get(&glance), bytes)? {
-        Some(known) => Ok(known),
-        None => {
-            let made = Digested::of(alloc, bytes)?;
-            latest.insert(glance, made.copy()?)?;
-            Ok(made)
+    match latest.get(&glance) {
+        Some(at) if is_made(made, *at, bytes) => Ok(*at),
+        _ => {
+            let at = made.len();
+            made.push(Digested::of(alloc, bytes)?)?;
+            latest.insert(glance, at)?;
+            Ok(at)
         }
     }
 }
 
-/// Digests by the step and the place of their signal.
-type Kept = HashMap<(u64, u64), Digested>;
-
-/// Keeps a digest for a place of a step.
-fn keep(kept: &mut Kept, position: u64, place: u64, digested: Digested) -> Result<(), NoMemory>
-    ensures { OnOk result ((p q : ℕ) → kept_for kept.new p q
-        ≡ (if (position == p) && (place == q) then Some digested else kept_for kept.old p q)) }
-{
-    kept.insert((position, place), digested)?;
-    Ok(())
+/// The step and the place of a signal, and where its digest stands.
+#[derive(Clone, Copy)]
+pub(crate) struct Placed {
+    step: u64,
+    place: u64,
+    digest: usize,
 }
 
-/// The digests that are kept.
+/// The digests that were made, and for which signals, in the order of the journal.
 #[derive(Drop)]
 pub(crate) struct Digests {
-    kept: Kept,
+    made: Vec<Digested>,
+    placed: Vec<Placed>,
 }
 
 impl Digests {
+    #[tactic(auto, using(crate::proofs::Fitting::nothing_placed))]
     pub(crate) fn none(alloc: Global) -> Digests
-        ensures { (position : ℕ) (s : Option Step) → FitsStep result.kept position s }
+        ensures { (position : ℕ) (s : Option Step) → FitsStep result position s }
     {
         Digests {
-            kept: Kept::new(alloc),
+            made: Vec::new(alloc),
+            placed: Vec::new(alloc),
         }
     }
 
     /// Those of all signals in a journal.
     pub(crate) fn of(alloc: Global, journal: &Journal) -> Result<Digests, NoMemory>
-        ensures { IfOk result (λ digests. Fits digests.kept journal.now.log.steps) }
+        ensures { IfOk result (λ digests. Fits digests journal.now.log.steps) }
     {
         let mut digests = Digests::none(alloc);
         let mut latest = Latest::new(alloc);
@@ -205,38 +203,77 @@ impl Digests {
         Ok(digests)
     }
 
-    /// That of the signal in the head of a step, if it is printed with one.
-    pub(crate) fn of_head(&self, position: u64, step: &Step) -> Option<&Digested>
-        requires { FitsStep self.now.kept position (Some step.now) }
+    /// What is at a place of the list.
+    fn placed_at(&self, next: usize) -> Option<&Placed>
+        ensures { option_copied result ≡ slice_get self.now.placed.items next }
+    {
+        self.placed.get(next)
+    }
+
+    /// What was made at a place.
+    fn made_at(&self, at: usize) -> Option<&Digested>
+        ensures { option_copied result ≡ slice_get self.now.made.items at }
+    {
+        self.made.get(at)
+    }
+
+    /// The digest that is next in the list, if it is for this place of this step; then what follows
+    /// it is next.
+    fn look(&self, next: &mut usize, position: u64, place: u64) -> Option<&Digested>
+        ensures { (note : Option SigNoteOf)
+            → FitsPlace self.now.made.items self.now.placed.items position place note
+            → IfSome result (λ known. AreOf note known.now) }
+    {
+        match self.placed_at(*next) {
+            Some(placed) if placed.step == position && placed.place == place => {
+                *next += 1;
+                self.made_at(placed.digest)
+            }
+            _ => None,
+        }
+    }
+
+    /// That of the signal in the head of a step, if it is printed with one, and if it is next.
+    pub(crate) fn of_head(&self, next: &mut usize, position: u64, step: &Step) -> Option<&Digested>
+        requires { FitsStep self.now position (Some step.now) }
         ensures { IfSome result (λ known. AreOf (signal_in step.now.head) known.now) }
     {
         match signal_in(&step.head) {
-            Some(note) if is_digested(note) => self.kept.get(&(position, HEAD)),
+            Some(note) if is_digested(note) => self.look(next, position, HEAD),
             _ => None,
         }
     }
 
-    /// That of the signal in the effect at a place, if it is printed with one.
-    pub(crate) fn of_effect(&self, position: u64, place: u64, effect: &Effect) -> Option<&Digested>
-        requires { IfSome (kept_for self.now.kept position place)
-            (AreOf (signal_brought effect.now)) }
+    /// That of the signal in the effect at a place, if it is printed with one, and if it is next.
+    pub(crate) fn of_effect(
+        &self,
+        next: &mut usize,
+        position: u64,
+        place: u64,
+        effect: &Effect,
+    ) -> Option<&Digested>
+        requires { FitsPlace self.now.made.items self.now.placed.items position place
+            (signal_brought effect.now) }
         ensures { IfSome result (λ known. AreOf (signal_brought effect.now) known.now) }
     {
         match signal_brought(effect) {
-            Some(note) if is_digested(note) => self.kept.get(&(position, place)),
+            Some(note) if is_digested(note) => self.look(next, position, place),
             _ => None,
         }
     }
 
-    /// That of the signal in the effect at an item's position.
+    /// That of the signal in the effect at an item's position, which is sought.
     pub(crate) fn of_item(&self, at: ItemAt) -> Option<&Digested>
-        ensures { (steps : List Step) → Fits self.now.kept steps
+        ensures { (steps : List Step) → Fits self.now steps
             → IfSome result (λ known. AreOf (signal_of (effect_at steps at)) known.now) }
     {
-        self.kept.get(&(at.step, at.place))
+        let mut next = self.placed.partition_point(|placed| {
+            placed.step < at.step || (placed.step == at.step && placed.place < at.place)
+        });
+        self.look(&mut next, at.step, at.place)
     }
 
-    /// Keeps those of the signals in a step.
+    /// Adds those of the signals in a step.
     fn add_step(
         &mut self,
         alloc: Global,
@@ -244,8 +281,8 @@ impl Digests {
         journal: &Journal,
         position: u64,
     ) -> Result<(), NoMemory>
-        requires { Fits self.old.kept journal.now.log.steps }
-        ensures { OnOk result (Fits self.new.kept journal.now.log.steps) }
+        requires { Fits self.old journal.now.log.steps }
+        ensures { OnOk result (Fits self.new journal.now.log.steps) }
     {
         let Some(step) = journal.step(position) else {
             return Ok(());
@@ -261,7 +298,7 @@ impl Digests {
         Ok(())
     }
 
-    /// Keeps the digest of the signal at a place of a step, if it is printed with one.
+    /// Adds the digest of the signal at a place of a step, if it is printed with one.
     #[tactic(auto, using(crate::proofs::Fitting::fits_more))]
     fn add(
         &mut self,
@@ -272,12 +309,17 @@ impl Digests {
         note: &SigNote,
     ) -> Result<(), NoMemory>
         ensures { (steps : List Step) → signal_at (step_at steps position) place ≡ Some note.now
-            → Fits self.old.kept steps → OnOk result (Fits self.new.kept steps) }
+            → Fits self.old steps → OnOk result (Fits self.new steps) }
     {
         if !is_digested(note) {
             return Ok(());
         }
-        let digested = digest_of(alloc, latest, &note.bytes)?;
-        keep(&mut self.kept, position, place, digested)
+        let digest = place_of(alloc, &mut self.made, latest, &note.bytes)?;
+        self.placed.push(Placed {
+            step: position,
+            place,
+            digest,
+        })?;
+        Ok(())
     }
 }

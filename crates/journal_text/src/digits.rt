@@ -18,6 +18,19 @@ const DIGITS_MOST: usize = 20;
 /// The digits of so many bytes.
 const SPELLED_DIGITS: usize = 64;
 
+/// Appends a literal: a look at the room, and a store for each byte.
+#[inline(always)]
+pub(crate) fn write_word<const N: usize>(out: &mut Vec<u8>, word: &[u8; N]) -> Result<(), NoMemory>
+    ensures { OnOk result (out.new.items ≡ out.old.items ++ word.now) }
+{
+    out.reserve(N)?;
+    for byte in word {
+        out.push_reserved(*byte);
+    }
+    Ok(())
+}
+
+/// Appends any bytes.
 pub(crate) fn write_bytes(out: &mut Vec<u8>, text: &[u8]) -> Result<(), NoMemory>
     ensures { OnOk result (out.new.items ≡ out.old.items ++ text.now) }
 {
@@ -25,6 +38,7 @@ pub(crate) fn write_bytes(out: &mut Vec<u8>, text: &[u8]) -> Result<(), NoMemory
     Ok(())
 }
 
+#[inline(always)]
 pub(crate) fn write_byte(out: &mut Vec<u8>, byte: u8) -> Result<(), NoMemory>
     ensures { OnOk result (out.new.items ≡ out.old.items ++ byte ∷ []) }
 {
@@ -50,6 +64,7 @@ fn write_digits(out: &mut Vec<u8>, number: u64) -> Result<(), NoMemory>
     write_bytes(out, &digits[start..])
 }
 
+#[inline(always)]
 pub(crate) fn write_number(out: &mut Vec<u8>, number: u64) -> Result<(), NoMemory>
     ensures { OnOk result (out.new.items ≡ out.old.items ++ decimal number) }
 {

@@ -6,25 +6,29 @@ ghost use Rattle.journal_text.specs.Steps.{effect_text, effect_line};
 ghost use Rattle.journal_text.specs.Known.{signal_brought, AreOf, FitsStep};
 
 use crate::digests::{Digested, Digests};
-use crate::digits::{write_byte, write_bytes};
+use crate::digits::{write_byte, write_bytes, write_word};
 use crate::peers::{write_halves, write_link, write_node, write_peer, write_peer_signal};
 use crate::words::{write_reason, write_reference};
 use journal::{Effect, Step};
 use linx_base::{Inc, LinkNo, Name, Names, NoMemory, NodeNo, Peer, Reason, SigNote};
 
 /// A word and an incarnation.
-fn write_word_and_inc(out: &mut Vec<u8>, word: &[u8], inc: Inc) -> Result<(), NoMemory>
+fn write_word_and_inc<const N: usize>(
+    out: &mut Vec<u8>,
+    word: &[u8; N],
+    inc: Inc,
+) -> Result<(), NoMemory>
     ensures { OnOk result (out.new.items ≡ out.old.items ++ (word.now ++ halves_text inc.0)) }
 {
-    write_bytes(out, word)?;
+    write_word(out, word)?;
     write_halves(out, inc.0)
 }
 
 /// A word, an incarnation, and the peer and signal that came to it.
-fn write_arrival(
+fn write_arrival<const N: usize>(
     out: &mut Vec<u8>,
     names: &Names,
-    word: &[u8],
+    word: &[u8; N],
     inc: Inc,
     peer: &Peer,
     note: &SigNote,
@@ -52,27 +56,27 @@ fn write_cause(out: &mut Vec<u8>, step: u64, reason: Reason) -> Result<(), NoMem
 }
 
 /// A word, a node and a peer.
-fn write_node_and_peer(
+fn write_node_and_peer<const N: usize>(
     out: &mut Vec<u8>,
     names: &Names,
-    word: &[u8],
+    word: &[u8; N],
     node: NodeNo,
     peer: &Peer,
 ) -> Result<(), NoMemory>
     ensures { OnOk result (out.new.items ≡ out.old.items
         ++ (word.now ++ node_text names.now node.0 ++ codes " " ++ peer_text names.now peer.now)) }
 {
-    write_bytes(out, word)?;
+    write_word(out, word)?;
     write_node(out, names, node)?;
     write_byte(out, b' ')?;
     write_peer(out, names, peer)
 }
 
 /// A word, a node, a link and a session.
-fn write_session(
+fn write_session<const N: usize>(
     out: &mut Vec<u8>,
     names: &Names,
-    word: &[u8],
+    word: &[u8; N],
     node: NodeNo,
     link: LinkNo,
     session: u64,
@@ -81,7 +85,7 @@ fn write_session(
         ++ (word.now ++ node_text names.now node.0 ++ codes " " ++ link_text names.now link.0
         ++ codes " " ++ halves_text session)) }
 {
-    write_bytes(out, word)?;
+    write_word(out, word)?;
     write_node(out, names, node)?;
     write_byte(out, b' ')?;
     write_link(out, names, link)?;
@@ -141,7 +145,7 @@ fn write_effect_line(
     requires { IfSome known (λ digested. AreOf (signal_brought effect.now) digested.now) }
     ensures { OnOk result (out.new.items ≡ out.old.items ++ effect_line names.now effect.now) }
 {
-    write_bytes(out, b"+ ")?;
+    write_word(out, b"+ ")?;
     write_effect(out, names, effect, known)?;
     write_byte(out, b'\n')
 }
@@ -151,15 +155,16 @@ pub(crate) fn write_effects(
     out: &mut Vec<u8>,
     names: &Names,
     digests: &Digests,
+    next: &mut usize,
     position: u64,
     step: &Step,
 ) -> Result<(), NoMemory>
-    requires { FitsStep digests.now.kept position (Some step.now) }
+    requires { FitsStep digests.now position (Some step.now) }
     ensures { OnOk result (out.new.items
         ≡ out.old.items ++ flat_map (effect_line names.now) step.now.effects) }
 {
     for (index, effect) in step.effects.as_slice().iter().enumerate() {
-        let known = digests.of_effect(position, index as u64 + 1, effect);
+        let known = digests.of_effect(next, position, index as u64 + 1, effect);
         write_effect_line(out, names, effect, known)?;
     }
     Ok(())

@@ -1,18 +1,18 @@
 //! The lines of a log.
-ghost use Rattle.std.specs.Prelude.{◌≡◌, ◌++◌, codes, Some, OnOk, IfSome};
+ghost use Rattle.std.specs.Prelude.{◌≡◌, ◌++◌, codes, OnOk, IfSome};
 ghost use Rattle.std.specs.Option.{option_copied};
 ghost use Rattle.journal_text.specs.Values.{peer_signal_text, reason_text};
 ghost use Rattle.journal_text.specs.Blocks.{title_text, concerned, effect_log};
 ghost use Rattle.journal_text.specs.Blocks.{item_text, head_log};
-ghost use Rattle.journal_text.specs.Known.{signal_brought, signal_of, AreOf, FitsStep, Fits};
+ghost use Rattle.journal_text.specs.Known.{signal_in, signal_brought, signal_of, AreOf, Fits};
 
 use crate::digests::{Digested, Digests};
-use crate::digits::{write_byte, write_bytes};
+use crate::digits::{write_byte, write_word};
 use crate::heads::{write_hunt, write_sending, write_word_and_signal};
 use crate::peers::{write_halves, write_name_or_mark, write_node, write_peer_signal};
 use crate::reading::item_at;
 use crate::words::{write_detached, write_reason};
-use journal::{Effect, Head, Journal, Step};
+use journal::{Effect, Head, Journal};
 use linx_base::{Inc, Name, Names, NoMemory, Peer, Reason, SigNote};
 
 /// The first line of a log.
@@ -26,7 +26,7 @@ pub(crate) fn write_title(
     ensures { OnOk result (out.new.items
         ≡ out.old.items ++ title_text names.now inc (option_copied name.entry)) }
 {
-    write_bytes(out, b"log ")?;
+    write_word(out, b"log ")?;
     write_halves(out, inc.0)?;
     write_byte(out, b' ')?;
     write_name_or_mark(out, name)?;
@@ -49,10 +49,10 @@ pub(crate) fn concerns(effect: &Effect) -> Option<Inc>
 }
 
 /// A line of a word, a peer and a signal.
-fn write_item_line(
+fn write_item_line<const N: usize>(
     out: &mut Vec<u8>,
     names: &Names,
-    word: &[u8],
+    word: &[u8; N],
     peer: &Peer,
     note: &SigNote,
     known: Option<&Digested>,
@@ -96,7 +96,7 @@ pub(crate) fn write_effect_log(
     ensures { OnOk result (out.new.items ≡ out.old.items ++ effect_log names.now effect.now) }
 {
     match effect {
-        Effect::Closed(_) => write_bytes(out, b"closed\n"),
+        Effect::Closed(_) => write_word(out, b"closed\n"),
         Effect::Arrived(_, peer, note) => {
             write_item_line(out, names, b"arrived ", peer, note, known)
         }
@@ -144,41 +144,40 @@ fn write_took(
     ensures { OnOk result (out.new.items ≡ out.old.items
         ++ (codes "took " ++ item_text names.now (option_copied item.entry) ++ codes "\n")) }
 {
-    write_bytes(out, b"took ")?;
+    write_word(out, b"took ")?;
     write_sender_and_signal(out, names, item, known)?;
     write_byte(out, b'\n')
 }
 
-/// The line that the head of the step at a position makes in the log of its maker's endpoint.
+/// The line that a head makes in the log of its maker's endpoint.
 #[tactic(auto, unfolding(crate::specs::Blocks::head_log))]
 pub(crate) fn write_head_log(
     out: &mut Vec<u8>,
     journal: &Journal,
     digests: &Digests,
-    position: u64,
-    step: &Step,
+    head: &Head,
+    known: Option<&Digested>,
 ) -> Result<(), NoMemory>
-    requires fits_step { FitsStep digests.now.kept position (Some step.now) }
-    requires fits { Fits digests.now.kept journal.now.log.steps }
+    requires known { IfSome known (λ digested. AreOf (signal_in head.now) digested.now) }
+    requires fits { Fits digests.now journal.now.log.steps }
     ensures { OnOk result (out.new.items ≡ out.old.items
-        ++ head_log journal.now.log.names journal.now.log.steps step.now.head) }
+        ++ head_log journal.now.log.names journal.now.log.steps head.now) }
 {
     let names = journal.names();
-    let known = digests.of_head(position, step);
-    match &step.head {
+    match head {
         Head::Send(peer, note, answer) => {
             write_sending(out, names, b"sent ", peer, note, known, *answer)?;
             write_byte(out, b'\n')
         }
         Head::Take(_, at) => { write_took(out, names, item_at(journal, *at), digests.of_item(*at)) }
-        Head::TakeNone(_) => write_bytes(out, b"none\n"),
+        Head::TakeNone(_) => write_word(out, b"none\n"),
         Head::Hunt(path, note) => {
             write_hunt(out, names, path, note, known)?;
             write_byte(out, b'\n')
         }
         Head::Attach(peer, note) => { write_item_line(out, names, b"attach ", peer, note, known) }
         Head::Detach(_, answer) => {
-            write_bytes(out, b"detach ")?;
+            write_word(out, b"detach ")?;
             write_detached(out, *answer)?;
             write_byte(out, b'\n')
         }

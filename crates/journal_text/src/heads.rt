@@ -7,7 +7,7 @@ ghost use Rattle.journal_text.specs.Steps.{head_text};
 ghost use Rattle.journal_text.specs.Known.{signal_in, AreOf};
 
 use crate::digests::Digested;
-use crate::digits::{write_byte, write_bytes};
+use crate::digits::{write_byte, write_bytes, write_word};
 use crate::peers::{write_link, write_node, write_peer_signal, write_signal};
 use crate::words::{
     write_detached, write_filter, write_path, write_position, write_reference, write_refusal,
@@ -18,10 +18,10 @@ use linx_base::{AttRef, ItemAt, LinkNo, Names, NoMemory, Path, Peer, Side, SigNo
 use sigsel::Sigsel;
 
 /// `send PEER SIGNAL ANSWER`, also with another word in front.
-pub(crate) fn write_sending(
+pub(crate) fn write_sending<const N: usize>(
     out: &mut Vec<u8>,
     names: &Names,
-    word: &[u8],
+    word: &[u8; N],
     peer: &Peer,
     note: &SigNote,
     known: Option<&Digested>,
@@ -32,7 +32,7 @@ pub(crate) fn write_sending(
         ++ (word.now ++ peer_signal_text names.now peer.now note.now ++ codes " "
         ++ sent_text answer)) }
 {
-    write_bytes(out, word)?;
+    write_word(out, word)?;
     write_peer_signal(out, names, peer, note, known)?;
     write_byte(out, b' ')?;
     write_sent(out, answer)
@@ -42,17 +42,21 @@ fn write_take(out: &mut Vec<u8>, filter: &Sigsel, at: ItemAt) -> Result<(), NoMe
     ensures { OnOk result (out.new.items ≡ out.old.items
         ++ (codes "take " ++ filter_text filter.now ++ codes " " ++ position_text at)) }
 {
-    write_bytes(out, b"take ")?;
+    write_word(out, b"take ")?;
     write_filter(out, filter)?;
     write_byte(out, b' ')?;
     write_position(out, at)
 }
 
 /// A word and a filter.
-fn write_look(out: &mut Vec<u8>, word: &[u8], filter: &Sigsel) -> Result<(), NoMemory>
+fn write_look<const N: usize>(
+    out: &mut Vec<u8>,
+    word: &[u8; N],
+    filter: &Sigsel,
+) -> Result<(), NoMemory>
     ensures { OnOk result (out.new.items ≡ out.old.items ++ (word.now ++ filter_text filter.now)) }
 {
-    write_bytes(out, word)?;
+    write_word(out, word)?;
     write_filter(out, filter)
 }
 
@@ -68,17 +72,17 @@ pub(crate) fn write_hunt(
     ensures { OnOk result (out.new.items ≡ out.old.items
         ++ (codes "hunt " ++ path_text names.now path.now ++ codes " " ++ signal_text note.now)) }
 {
-    write_bytes(out, b"hunt ")?;
+    write_word(out, b"hunt ")?;
     write_path(out, names, path)?;
     write_byte(out, b' ')?;
     write_signal(out, note, known)
 }
 
 /// A word, a peer and a signal.
-pub(crate) fn write_word_and_signal(
+pub(crate) fn write_word_and_signal<const N: usize>(
     out: &mut Vec<u8>,
     names: &Names,
-    word: &[u8],
+    word: &[u8; N],
     peer: &Peer,
     note: &SigNote,
     known: Option<&Digested>,
@@ -87,7 +91,7 @@ pub(crate) fn write_word_and_signal(
     ensures { OnOk result (out.new.items ≡ out.old.items
         ++ (word.now ++ peer_signal_text names.now peer.now note.now)) }
 {
-    write_bytes(out, word)?;
+    write_word(out, word)?;
     write_peer_signal(out, names, peer, note, known)
 }
 
@@ -95,31 +99,31 @@ fn write_detach(out: &mut Vec<u8>, reference: AttRef, answer: Detached) -> Resul
     ensures { OnOk result (out.new.items ≡ out.old.items
         ++ (codes "detach " ++ reference_text reference.0 ++ codes " " ++ detached_text answer)) }
 {
-    write_bytes(out, b"detach ")?;
+    write_word(out, b"detach ")?;
     write_reference(out, reference.0)?;
     write_byte(out, b' ')?;
     write_detached(out, answer)
 }
 
 /// A word and a link.
-fn write_word_and_link(
+fn write_word_and_link<const N: usize>(
     out: &mut Vec<u8>,
     names: &Names,
-    word: &[u8],
+    word: &[u8; N],
     link: LinkNo,
 ) -> Result<(), NoMemory>
     ensures { OnOk result (out.new.items
         ≡ out.old.items ++ (word.now ++ link_text names.now link.0)) }
 {
-    write_bytes(out, word)?;
+    write_word(out, word)?;
     write_link(out, names, link)
 }
 
 /// A word, a link and a direction.
-fn write_direction(
+fn write_direction<const N: usize>(
     out: &mut Vec<u8>,
     names: &Names,
-    word: &[u8],
+    word: &[u8; N],
     link: LinkNo,
     side: Side,
 ) -> Result<(), NoMemory>
@@ -159,10 +163,10 @@ pub(crate) fn write_head(
 {
     match head {
         Head::Open(name) => {
-            write_bytes(out, b"open ")?;
+            write_word(out, b"open ")?;
             write_bytes(out, name.bytes())
         }
-        Head::Close => write_bytes(out, b"close"),
+        Head::Close => write_word(out, b"close"),
         Head::Send(peer, note, answer) => {
             write_sending(out, names, b"send ", peer, note, known, *answer)
         }
@@ -178,15 +182,15 @@ pub(crate) fn write_head(
         Head::Mend(link) => write_word_and_link(out, names, b"mend ", *link),
         Head::Settle(link) => write_word_and_link(out, names, b"settle ", *link),
         Head::Restart(node) => {
-            write_bytes(out, b"restart ")?;
+            write_word(out, b"restart ")?;
             write_node(out, names, *node)
         }
         Head::Wire(link, from, verdict) => write_wire(out, names, *link, *from, *verdict),
         Head::Tick(link, side) => write_direction(out, names, b"tick ", *link, *side),
         Head::Refused(reason) => {
-            write_bytes(out, b"refused ")?;
+            write_word(out, b"refused ")?;
             write_refusal(out, *reason)
         }
-        Head::Ended => write_bytes(out, b"ended"),
+        Head::Ended => write_word(out, b"ended"),
     }
 }

@@ -6,7 +6,7 @@ ghost use Rattle.journal_text.specs.Text.{count_text};
 ghost use Rattle.journal_text.specs.Known.{signal_in, AreOf, FitsStep};
 
 use crate::digests::{Digested, Digests};
-use crate::digits::{write_byte, write_bytes, write_number};
+use crate::digits::{write_byte, write_number, write_word};
 use crate::effects::write_effects;
 use crate::heads::write_head;
 use crate::words::write_maker;
@@ -39,20 +39,22 @@ fn write_first_line(
     write_byte(out, b'\n')
 }
 
+/// The lines of the step at a position; the digests of its signals are next in their list.
 #[tactic(auto, unfolding(crate::specs::Steps::step_text))]
 pub(crate) fn write_lines(
     out: &mut Vec<u8>,
     names: &Names,
     digests: &Digests,
+    next: &mut usize,
     position: u64,
     step: &Step,
 ) -> Result<(), NoMemory>
-    requires { FitsStep digests.now.kept position (Some step.now) }
+    requires { FitsStep digests.now position (Some step.now) }
     ensures { OnOk result (out.new.items ≡ out.old.items ++ step_text names.now position step.now) }
 {
-    let known = digests.of_head(position, step);
+    let known = digests.of_head(next, position, step);
     write_first_line(out, names, position, step.by, &step.head, known)?;
-    write_effects(out, names, digests, position, step)
+    write_effects(out, names, digests, next, position, step)
 }
 
 /// Appends the lines of the step at position k, from 1; nothing where k is no position. A refusal
@@ -66,7 +68,8 @@ pub fn write_step(out: &mut Vec<u8>, journal: &Journal, k: u64) -> Result<(), No
     };
     let alloc = *out.allocator();
     let mut lines = Vec::with_capacity(alloc, LINES_ROOM)?;
-    write_lines(&mut lines, journal.names(), &Digests::none(alloc), k, step)?;
+    let digests = Digests::none(alloc);
+    write_lines(&mut lines, journal.names(), &digests, &mut 0, k, step)?;
     out.extend_from_slice(&lines)?;
     Ok(())
 }
@@ -79,7 +82,7 @@ pub fn write_count(out: &mut Vec<u8>, journal: &Journal) -> Result<(), NoMemory>
     ensures err { OnErr result (out.new.items ≡ out.old.items) }
 {
     let mut line = Vec::new(*out.allocator());
-    write_bytes(&mut line, b"journal ")?;
+    write_word(&mut line, b"journal ")?;
     write_number(&mut line, journal.len())?;
     write_byte(&mut line, b'\n')?;
     out.extend_from_slice(&line)?;

@@ -14,13 +14,14 @@ use std::alloc::Global;
 const TEXT_ROOM: usize = 262_144;
 
 fn write_steps(out: &mut Vec<u8>, journal: &Journal, digests: &Digests) -> Result<(), NoMemory>
-    requires { Fits digests.now.kept journal.now.log.steps }
+    requires { Fits digests.now journal.now.log.steps }
     ensures { OnOk result (out.new.items ≡ out.old.items
         ++ steps_text journal.now.log.names journal.now.log.steps) }
 {
+    let mut next = 0;
     for done in 0..journal.len() {
         let step = journal.step_after(done);
-        write_lines(out, journal.names(), digests, done + 1, step)?;
+        write_lines(out, journal.names(), digests, &mut next, done + 1, step)?;
     }
     Ok(())
 }

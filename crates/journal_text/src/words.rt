@@ -6,7 +6,7 @@ ghost use Rattle.journal_text.specs.Values.{maker_text, position_text, reference
 ghost use Rattle.journal_text.specs.Values.{swapped_text, verdict_text, reason_text, sent_text};
 ghost use Rattle.journal_text.specs.Values.{detached_text, refusal_text};
 
-use crate::digits::{write_byte, write_bytes, write_number};
+use crate::digits::{write_byte, write_bytes, write_number, write_word};
 use crate::peers::write_link;
 use journal::{By, Detached, Refusal, SentTo};
 use linx_base::{ItemAt, Names, NoMemory, Path, Reason, Side, Verdict};
@@ -46,13 +46,13 @@ pub(crate) fn write_filter(out: &mut Vec<u8>, filter: &Sigsel) -> Result<(), NoM
     ensures { OnOk result (out.new.items ≡ out.old.items ++ filter_text filter.now) }
 {
     match filter {
-        Sigsel::Any => write_bytes(out, b"any"),
+        Sigsel::Any => write_word(out, b"any"),
         Sigsel::Only(listed) => {
-            write_bytes(out, b"only:")?;
+            write_word(out, b"only:")?;
             write_numbers(out, listed.as_slice())
         }
         Sigsel::Not(listed) => {
-            write_bytes(out, b"not:")?;
+            write_word(out, b"not:")?;
             write_numbers(out, listed.as_slice())
         }
     }
@@ -129,11 +129,11 @@ pub(crate) fn write_verdict(out: &mut Vec<u8>, verdict: Verdict) -> Result<(), N
     ensures { OnOk result (out.new.items ≡ out.old.items ++ verdict_text verdict) }
 {
     match verdict {
-        Verdict::Deliver => write_bytes(out, b"deliver"),
-        Verdict::Lose => write_bytes(out, b"lose"),
-        Verdict::Repeat => write_bytes(out, b"repeat"),
+        Verdict::Deliver => write_word(out, b"deliver"),
+        Verdict::Lose => write_word(out, b"lose"),
+        Verdict::Repeat => write_word(out, b"repeat"),
         Verdict::Swap(place) => {
-            write_bytes(out, b"swap")?;
+            write_word(out, b"swap")?;
             write_swapped(out, place)
         }
     }
@@ -143,9 +143,9 @@ pub(crate) fn write_reason(out: &mut Vec<u8>, reason: Reason) -> Result<(), NoMe
     ensures { OnOk result (out.new.items ≡ out.old.items ++ reason_text reason) }
 {
     match reason {
-        Reason::Closed => write_bytes(out, b"closed"),
-        Reason::Lost => write_bytes(out, b"lost"),
-        Reason::Dead => write_bytes(out, b"dead"),
+        Reason::Closed => write_word(out, b"closed"),
+        Reason::Lost => write_word(out, b"lost"),
+        Reason::Dead => write_word(out, b"dead"),
     }
 }
 
@@ -153,9 +153,9 @@ pub(crate) fn write_sent(out: &mut Vec<u8>, answer: SentTo) -> Result<(), NoMemo
     ensures { OnOk result (out.new.items ≡ out.old.items ++ sent_text answer) }
 {
     match answer {
-        SentTo::Queued => write_bytes(out, b"queued"),
-        SentTo::Link => write_bytes(out, b"link"),
-        SentTo::Dead => write_bytes(out, b"dead"),
+        SentTo::Queued => write_word(out, b"queued"),
+        SentTo::Link => write_word(out, b"link"),
+        SentTo::Dead => write_word(out, b"dead"),
     }
 }
 
@@ -163,9 +163,9 @@ pub(crate) fn write_detached(out: &mut Vec<u8>, answer: Detached) -> Result<(), 
     ensures { OnOk result (out.new.items ≡ out.old.items ++ detached_text answer) }
 {
     match answer {
-        Detached::Pending => write_bytes(out, b"pending"),
-        Detached::Queued => write_bytes(out, b"queued"),
-        Detached::None => write_bytes(out, b"none"),
+        Detached::Pending => write_word(out, b"pending"),
+        Detached::Queued => write_word(out, b"queued"),
+        Detached::None => write_word(out, b"none"),
     }
 }
 
@@ -173,10 +173,10 @@ pub(crate) fn write_refusal(out: &mut Vec<u8>, reason: Refusal) -> Result<(), No
     ensures { OnOk result (out.new.items ≡ out.old.items ++ refusal_text reason) }
 {
     match reason {
-        Refusal::NotOpen { .. } => write_bytes(out, b"not-open"),
-        Refusal::IsOpen { .. } => write_bytes(out, b"is-open"),
-        Refusal::NoPeer => write_bytes(out, b"no-peer"),
-        Refusal::NoSignal => write_bytes(out, b"no-signal"),
-        Refusal::NoRef => write_bytes(out, b"no-ref"),
+        Refusal::NotOpen { .. } => write_word(out, b"not-open"),
+        Refusal::IsOpen { .. } => write_word(out, b"is-open"),
+        Refusal::NoPeer => write_word(out, b"no-peer"),
+        Refusal::NoSignal => write_word(out, b"no-signal"),
+        Refusal::NoRef => write_word(out, b"no-ref"),
     }
 }

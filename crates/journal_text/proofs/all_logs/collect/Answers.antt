@@ -28,6 +28,6 @@ returns c =
 
 pub note-requires-clause-fits_step : goal.note-requires-clause-fits_step
 note-requires-clause-fits_step c =
-    fits_next c.args.digests.now.kept c.args.journal.now.log.steps c.loop-done.done
+    fits_next c.args.digests.now c.args.journal.now.log.steps c.loop-done.done
     c.step_after-step.result.now c.step_after-step.ensures.next c.step_after-step.ensures.position
     c.requires

@@ -37,6 +37,6 @@ returns c =
 
 pub write_lines-requires : goal.write_lines-requires
 write_lines-requires c =
-    fits_next c.args.digests.now.kept c.args.journal.now.log.steps c.loop-done.done
+    fits_next c.args.digests.now c.args.journal.now.log.steps c.loop-done.done
     c.step_after-step.result.now c.step_after-step.ensures.next c.step_after-step.ensures.position
     c.requires

@@ -3,4 +3,4 @@ use Rattle.journal_text.proofs.digests.Digests.add_step.Given as goal
 
 -- what is kept so far fits
 abbrev pub invariant-loop-index : goal.invariant-loop-index
-invariant-loop-index l = Fits l.self.kept l.journal.log.steps
+invariant-loop-index l = Fits l.self l.journal.log.steps
