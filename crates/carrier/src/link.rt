@@ -1,3 +1,4 @@
+//! Both ends of a link and what is in flight. After a refusal the event is to be undone.
 ghost use Rattle.std.specs.Prelude.{◌≡◌, ◌≤◌, ◌<◌, length, IfOk, OnOk, ◌++◌, slice_get, Some};
 ghost use Rattle.linx_base.specs.Both.{still};
 ghost use Rattle.linx_base.specs.Frames.{IsMessage};

@@ -1,4 +1,5 @@
-//! The data rules: what is acknowledged, sent again, taken and asked for.
+//! The data rules: what is acknowledged, sent again, taken and asked for. After a refusal the event
+//! is to be undone.
 
 ghost use Rattle.std.specs.Prelude.{◌≡◌, ◌<◌, IfOk, OnOk, IsSome};
 ghost use Rattle.ethcm_headers.specs.Packets.{IsPart};

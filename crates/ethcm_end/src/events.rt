@@ -1,4 +1,5 @@
-//! The events of an end: a packet comes, a tick comes, a message is offered.
+//! The events of an end: a packet comes, a tick comes, a message is offered. After a refusal the
+//! event is to be undone.
 
 ghost use Rattle.std.specs.Prelude.{◌≡◌, ◌≤◌, IfOk, OnOk};
 ghost use Rattle.linx_base.specs.Frames.{IsMessage};

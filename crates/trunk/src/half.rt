@@ -1,3 +1,4 @@
+//! One side of a trunk: an RLNH end with its record. After a refusal the event is to be undone.
 ghost use Rattle.std.specs.Prelude.{◌≡◌, IfOk, OnOk, IsSome, is_some};
 ghost use Rattle.std.specs.Option.{option_copied};
 ghost use Rattle.linx_base.specs.Both.{still};

@@ -1,3 +1,5 @@
+//! The parts of a trunk: both sides, and the link between them. After a refusal the event is to be
+//! undone.
 ghost use Rattle.std.specs.Prelude.{◌≡◌, ◌≤◌, ◌<◌, ◌*◌, length, IfOk, OnOk, IsSome, is_some};
 ghost use Rattle.std.specs.List.{AllByRecursion};
 ghost use Rattle.linx_base.specs.Both.{still};
