@@ -89,7 +89,7 @@ module _ (shape : Shape) (P : List Step) (trunks : Trunks) (by : By) (l : LinkNo
       let what = goes_up A.now.session y in
       let done : IsDone (step_of what) (Up (record { 0 = n }) l A.now.session y ∷ []) [] =
       record { effects = refl; items_only = tt } in (
-        legal_wire shape P by l from verdict what maker hands whole
+        legal_wire shape P by l from verdict what maker of_shape hands whole
             (legal_going_up P n m l A B y near far down has),
         one_side shape (step_of what ∷ P) trunks l (other_of from) (going_up y A) two of_shape
             (keeps_up P (step_of what) n l A y [] done near down none refl
@@ -115,7 +115,7 @@ module _ (shape : Shape) (P : List Step) (trunks : Trunks) (by : By) (l : LinkNo
         items_only = notices-items reasons.Lost
             (is_of_session l A.now.session) (owed P n);
       } in (
-        legal_wire shape P by l from verdict what maker hands whole
+        legal_wire shape P by l from verdict what maker of_shape hands whole
             (legal_going_down P n m l A B y near far was greater),
         one_side shape (step_of what ∷ P) trunks l (other_of from)
             (beginning (next_session A.now.session) A) two of_shape

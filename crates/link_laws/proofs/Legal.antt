@@ -23,10 +23,10 @@ use Rattle.journal.specs.declared.effect.Step.{Step}
 use Rattle.journal.specs.declared.head.Head.{Head}
 use Rattle.journal.specs.declared.head.Head.TheVariants.{Restart, TakeNone, Tick, Wire}
 use Rattle.link_laws.specs.Brought.{Brought, MayBring, brought_at}
-use Rattle.link_laws.specs.Ends.{node_at}
+use Rattle.link_laws.specs.Ends.{IsLinkOf, node_at}
 use Rattle.link_laws.specs.Laws.{ArePacketEffects, HasEffects, IsHandedOver, IsLegalStep, IsTick}
-use Rattle.link_laws.specs.Laws.{KeepsCuts, KeepsPackets, KeepsRest, KeepsTicks, actors_alone}
-use Rattle.link_laws.specs.Laws.{delivers, loses, restarting}
+use Rattle.link_laws.specs.Laws.{KeepsCuts, KeepsLinks, KeepsPackets, KeepsRest, KeepsTicks}
+use Rattle.link_laws.specs.Laws.{actors_alone, delivers, loses, restarting}
 use Rattle.link_laws.specs.Moves.{KeepsNodeLaws}
 use Rattle.link_laws.specs.Sessions.{is_cut, silent_ticks}
 
@@ -45,10 +45,11 @@ is_plain_head (Wire l from verdict) = false
 is_plain_head (Tick l side) = false
 is_plain_head _ = true
 
--- so the laws of rest, packets, cuts and ticks ask nothing of it
+-- so the laws of rest, links, packets, cuts and ticks ask nothing of it
 pub record AsksNothing (shape : Shape) (P : List Step) (head : Head) (effects : List Effect)
     : Type 0 where
   pub rest : KeepsRest shape P head
+  pub links : KeepsLinks shape head
   pub packets : KeepsPackets shape P head effects
   pub cuts : KeepsCuts P head
   pub ticks : KeepsTicks shape P head effects
@@ -59,22 +60,23 @@ asks-nothing shape P (TakeNone filter) effects plain = absurd (true≢false (sym
 asks-nothing shape P (Wire k from verdict) effects plain = absurd (true≢false (sym plain))
 asks-nothing shape P (Tick k side) effects plain = absurd (true≢false (sym plain))
 asks-nothing shape P _ effects plain =
-    record { rest = tt; packets = tt; cuts = tt; ticks = tt }
+    record { rest = tt; links = tt; packets = tt; cuts = tt; ticks = tt }
 
 -- a step is legal that keeps the laws of nodes, and those of the links
 pub legal_with : (shape : Shape) (P : List Step) (s : Step) → KeepsNodeLaws shape P s
     → AsksNothing shape P s.head s.effects → IsLegalStep shape P s
-legal_with shape P s laws links = record {
+legal_with shape P s laws asks = record {
   makers = laws.makers;
   endpoints = laws.endpoints;
   bounds = laws.bounds;
   effects = laws.effects;
   sends = laws.sends;
   receives = laws.receives;
-  rest = links.rest;
-  packets = links.packets;
-  cuts = links.cuts;
-  ticks = links.ticks;
+  rest = asks.rest;
+  links = asks.links;
+  packets = asks.packets;
+  cuts = asks.cuts;
+  ticks = asks.ticks;
 }
 
 -- a step that needs no endpoint keeps the laws of nodes where what they ask of its head is kept
@@ -96,13 +98,13 @@ node_laws makers opens needs bounds effects sends receives = record {
 -- a packet that meets a verdict
 pub legal_passing : (shape : Shape) (P : List Step) (by : By) (l : LinkNo) (from : Side)
     (verdict : Verdict) (es : List Effect) → KeepsMakers shape P by (Wire l from verdict)
-    → (is_cut P l.0 ≡ true → verdict ≡ Lose)
+    → IsLinkOf shape l → (is_cut P l.0 ≡ true → verdict ≡ Lose)
     → IsHandedOver (delivers verdict) P (node_at shape l (other_of from)) (node_at shape l from) l
     es
     → IsLegalStep shape P (record { by = by; head = Wire l from verdict; effects = es })
-legal_passing shape P by l from verdict es maker cuts handed =
+legal_passing shape P by l from verdict es maker of_shape cuts handed =
     legal_with shape P _ (node_laws maker refl refl tt tt tt tt)
-    (record { rest = tt; packets = handed; cuts = cuts; ticks = tt })
+    (record { rest = tt; links = of_shape; packets = handed; cuts = cuts; ticks = tt })
 
 -- the step of a packet that brings this
 abbrev pub wire_step : Shape → List Step → By → LinkNo → Side → Verdict → Brought → Step
@@ -114,26 +116,26 @@ wire_step shape P by l from verdict what = record {
 
 pub legal_wire : (shape : Shape) (P : List Step) (by : By) (l : LinkNo) (from : Side)
     (verdict : Verdict) (what : Brought) → KeepsMakers shape P by (Wire l from verdict)
-    → delivers verdict ≡ true → is_cut P l.0 ≡ false
+    → IsLinkOf shape l → delivers verdict ≡ true → is_cut P l.0 ≡ false
     → MayBring P (node_at shape l (other_of from)) (node_at shape l from) l what
     → IsLegalStep shape P (wire_step shape P by l from verdict what)
-legal_wire shape P by l from verdict what maker hands whole may =
+legal_wire shape P by l from verdict what maker of_shape hands whole may =
     let n : ℕ = node_at shape l (other_of from) in
     let m : ℕ = node_at shape l from in
     let packet : ArePacketEffects P n m l (brought_at P n l what) =
     record { what = what; effects = refl; may = may } in
-    legal_passing shape P by l from verdict (brought_at P n l what) maker
+    legal_passing shape P by l from verdict (brought_at P n l what) maker of_shape
     (λ cut. absurd (true≢false (sym cut ∙ whole)))
     (subst (λ (t : Bool). IsHandedOver t P n m l (brought_at P n l what)) (sym hands) packet)
 
 -- a tick
 pub legal_tick : (shape : Shape) (P : List Step) (by : By) (l : LinkNo) (side : Side)
-    (es : List Effect) → KeepsMakers shape P by (Tick l side)
+    (es : List Effect) → KeepsMakers shape P by (Tick l side) → IsLinkOf shape l
     → IsTick P (node_at shape l side) l side es
     → IsLegalStep shape P (record { by = by; head = Tick l side; effects = es })
-legal_tick shape P by l side es maker tick =
+legal_tick shape P by l side es maker of_shape tick =
     legal_with shape P _ (node_laws maker refl refl tt tt tt tt)
-    (record { rest = tt; packets = tt; cuts = tt; ticks = tick })
+    (record { rest = tt; links = of_shape; packets = tt; cuts = tt; ticks = tick })
 
 -- the step of a tick at which a session is lost
 abbrev pub lost_step : Shape → List Step → By → LinkNo → Side → Session → Step
@@ -144,11 +146,12 @@ lost_step shape P by l side x = record {
 }
 
 pub legal_lost : (shape : Shape) (P : List Step) (by : By) (l : LinkNo) (side : Side) (x : Session)
-    → KeepsMakers shape P by (Tick l side) → up_session P (node_at shape l side) l.0 ≡ Some x
+    → KeepsMakers shape P by (Tick l side) → IsLinkOf shape l
+    → up_session P (node_at shape l side) l.0 ≡ Some x
     → 2 ≤ silent_ticks P (node_at shape l side) l.0 side
     → IsLegalStep shape P (lost_step shape P by l side x)
-legal_lost shape P by l side x maker up silent =
-    legal_tick shape P by l side (lost_step shape P by l side x).effects maker
+legal_lost shape P by l side x maker of_shape up silent =
+    legal_tick shape P by l side (lost_step shape P by l side x).effects maker of_shape
     (loses x up silent refl)
 
 -- the step of a restart
@@ -164,4 +167,4 @@ pub legal_restart : (shape : Shape) (P : List Step) (by : By) (n : ℕ)
     → IsLegalStep shape P (restart_step shape P by n)
 legal_restart shape P by n maker =
     legal_with shape P _ (node_laws maker refl refl tt refl tt tt)
-    (record { rest = tt; packets = tt; cuts = tt; ticks = tt })
+    (record { rest = tt; links = tt; packets = tt; cuts = tt; ticks = tt })

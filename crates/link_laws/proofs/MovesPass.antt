@@ -62,7 +62,8 @@ module _ (shape : Shape) (P : List Step) (before after : Links) (known : IsKnown
   nothing_good es laws passes none handed left =
       subst (λ (fs : List Effect). IsGood shape P (step_of by (Wire l from verdict) fs) after)
       (sym none) (record {
-        legal = legal_passing shape P by l from verdict [] laws.makers passes.cuts handed;
+        legal = legal_passing shape P by l from verdict [] laws.makers passes.of_shape passes.cuts
+            handed;
         kept = left_kept shape P (step_of by (Wire l from verdict) []) before after
             (empty_wire P by l from verdict)
             (λ n m h. calm_here P (step_of by (Wire l from verdict) [])
@@ -151,7 +152,7 @@ module _ (shape : Shape) (P : List Step) (before after : Links) (known : IsKnown
 
     ticked_good : KeepsNodeLaws shape P tick → IsGood shape P tick after
     ticked_good laws = record {
-      legal = legal_tick shape P by l side [] laws.makers (stays refl);
+      legal = legal_tick shape P by l side [] laws.makers of_shape (stays refl);
       kept = record {
         trunks = trunks-alike shape (records_of before) (records_of after)
             (λ h of_h at. (same h of_h at).side) known.kept.trunks;

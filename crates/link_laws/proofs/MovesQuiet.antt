@@ -183,6 +183,7 @@ pub finding_good : (shape : Shape) (P : List Step) (before after : Links)
 finding_good shape P before after known by filter es laws finds =
     quiet_good shape P before after known by (TakeNone filter) es refl laws finds.left (record {
       rest = resting_still shape P before known.kept finds.resting;
+      links = tt;
       packets = tt;
       cuts = tt;
       ticks = tt;

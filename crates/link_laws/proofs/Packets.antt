@@ -123,7 +123,7 @@ module _ (shape : Shape) (P : List Step) (trunks : Trunks) (by : By) (l : LinkNo
   may (gone a) it = legal_parting P n m l A B (gone a) near far it.near it.far a refl near.truly.0
 
   pub legal_giving : IsLegalStep shape P s
-  legal_giving = legal_wire shape P by l from verdict (brought_of A g) maker hands whole
+  legal_giving = legal_wire shape P by l from verdict (brought_of A g) maker of_shape hands whole
       (may g given)
 
   pub given_at : (h : Given) → FitsReceiver A h → IsAt n h

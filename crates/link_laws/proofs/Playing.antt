@@ -80,7 +80,7 @@ pub finds_none : {shape : Shape} {P : List Step} {k : ℕ} {filter : Sigsel}
     (record { by = Actor k; head = TakeNone filter; effects = [] })
 finds_none {shape} {P} {k} {filter} may receives still =
     legal_with shape P (made k (TakeNone filter) []) (keeps_laws may tt refl tt receives)
-    (record { rest = still; packets = tt; cuts = tt; ticks = tt })
+    (record { rest = still; links = tt; packets = tt; cuts = tt; ticks = tt })
 
 -- where there is no link, all are still
 pub no_links : {actors : List NodeNo} {P : List Step} → AllStill (on_node actors) P
@@ -138,7 +138,7 @@ pub passes : {P : List Step} {from : Side} {verdict : Verdict} {es : List Effect
     (node_at two_ends l from) l es
     → IsLegalStep two_ends P (record { by = Pump l; head = Wire l from verdict; effects = es })
 passes {P} {from} {verdict} {es} cuts handed =
-    legal_passing two_ends P (Pump l) l from verdict es (pumped refl) cuts handed
+    legal_passing two_ends P (Pump l) l from verdict es (pumped refl) one_of cuts handed
 
 -- the same, while the link is whole
 pub goes_through : {P : List Step} {from : Side} {verdict : Verdict} {es : List Effect}
@@ -158,7 +158,7 @@ brings what uncut same may = goes_through uncut (record { what = what; effects =
 pub ticked : {P : List Step} {side : Side} {es : List Effect}
     → IsTick P (node_at two_ends l side) l side es
     → IsLegalStep two_ends P (record { by = Pump l; head = Tick l side; effects = es })
-ticked {P} {side} {es} tick = legal_tick two_ends P (Pump l) l side es (pumped refl) tick
+ticked {P} {side} {es} tick = legal_tick two_ends P (Pump l) l side es (pumped refl) one_of tick
 
 -- the laws of nodes ask little of a packet and of a tick
 pub wire_laws : {P : List Step} {from : Side} {verdict : Verdict} {es : List Effect}

@@ -152,7 +152,7 @@ module _ (shape : Shape) (P : List Step) (trunks : Trunks) (by : By) (l : LinkNo
   pub lost_legal : (y : Session) → KeepsMakers shape P by (Tick l side) → A.now.peer ≡ Some y
       → 2 ≤ silent_ticks P m l.0 side → IsLegalStep shape P lost
   lost_legal y maker was silent =
-      legal_lost shape P by l side A.now.session maker ((linked l of_shape side).up
+      legal_lost shape P by l side A.now.session maker of_shape ((linked l of_shape side).up
       ∙ ap (λ p. session_if p A.now.session) was) silent
 
   pub whole_lost : (y : Session) → A.now.peer ≡ Some y

@@ -26,16 +26,12 @@ use Rattle.journal.specs.declared.head.Head.TheVariants.{Restart, Tick, Wire}
 use Rattle.link_laws.specs.Brought.{Brought, arrives, brought_at, goes_down, goes_up, meets}
 use Rattle.link_laws.specs.Brought.{nothing, parts}
 use Rattle.link_laws.specs.Ends.{IsLinkOf, node_at}
-use Rattle.link_laws.specs.Sides.{Links}
-use Rattle.link_laws.specs.Laws.{HasEffects, IsHandedOver, IsLegal, IsLegalStep, KeepsPackets}
-use Rattle.link_laws.specs.Laws.{KeepsTicks, delivers}
-use Rattle.link_laws.specs.Moves.{Moves}
-use Rattle.link_laws.specs.Runs.{IsRun, IsBoundedRun}
+use Rattle.link_laws.specs.Laws.{HasEffects, IsHandedOver, IsLegal, IsLegalStep, KeepsLinks}
+use Rattle.link_laws.specs.Laws.{KeepsPackets, KeepsTicks, delivers}
 use Rattle.link_laws.proofs.Away.{same_peer-is}
 use Rattle.link_laws.proofs.Meetings.{effects-meet_none, is_meeting, restarting-meets_none}
 use Rattle.link_laws.proofs.Meetings.{tick-meets_none}
 use Rattle.link_laws.proofs.MetPeers.{MeetsKnown, items-known, living-known, meets_none-known}
-use Rattle.link_laws.proofs.Runs.{runs_are_legal}
 use Rattle.link_laws.proofs.Sides.{founds-items, notices-items}
 use Rattle.linx_base.specs.declared.signal.Reason.TheVariants as reasons
 
@@ -50,15 +46,6 @@ IsReached shape n (There l x a) = IsEndOf shape n l
 
 abbrev AreReached : Shape → ℕ → MetPeer → Type 0
 AreReached shape n m = IsReached shape n m.peer
-
--- a packet is one on a link of the shape; the laws alone let an actor pass one on any
-abbrev pub IsOfShape : Shape → Head → Type 0
-IsOfShape shape (Wire l from verdict) = IsLinkOf shape l
-IsOfShape shape _ = Unit {0}
-
--- each packet so far is
-abbrev pub AllOfShape : Shape → List Step → Type 0
-AllOfShape shape P = AllByRecursion (λ (s : Step). IsOfShape shape s.head) P
 
 module _ (shape : Shape) where
   -- whom a packet of a link meets is over that link
@@ -93,7 +80,7 @@ module _ (shape : Shape) where
   -- and no other step meets anybody
   head-reached : (P : List Step) (node : ℕ) (me : Option Inc) (head : Head) (es : List Effect)
       → HasEffects shape P node me head es → KeepsPackets shape P head es
-      → KeepsTicks shape P head es → IsOfShape shape head
+      → KeepsTicks shape P head es → KeepsLinks shape head
       → AllByRecursion (MeetsKnown (AreReached shape)) es
   head-reached P node me (Restart n) es has packets ticks of_shape =
       meets_none-known (AreReached shape) es
@@ -108,18 +95,18 @@ module _ (shape : Shape) where
       meets_none-known (AreReached shape) es
       (ap (list_any is_meeting) has ∙ effects-meet_none P node me head)
 
-  step-reached : (P : List Step) (s : Step) → IsLegalStep shape P s → IsOfShape shape s.head
+  step-reached : (P : List Step) (s : Step) → IsLegalStep shape P s
       → AllByRecursion (MeetsKnown (AreReached shape)) s.effects
   step-reached P s legal =
       head-reached P (node_by shape s.by) (endpoint_by P s.by) s.head s.effects legal.effects
-      legal.packets legal.ticks
+      legal.packets legal.ticks legal.links
 
-  all-reached : (P : List Step) → IsLegal shape P → AllOfShape shape P → (n : ℕ)
+  all-reached : (P : List Step) → IsLegal shape P → (n : ℕ)
       → AllByRecursion (AreReached shape n) (living P n)
-  all-reached [] legal of_shape n = tt
-  all-reached (s ∷ P) legal of_shape n =
-      living-known (AreReached shape) n (living P n) s.effects
-      (all-reached P legal.0 of_shape.1 n) (step-reached P s legal.1 of_shape.0)
+  all-reached [] legal n = tt
+  all-reached (s ∷ P) legal n =
+      living-known (AreReached shape) n (living P n) s.effects (all-reached P legal.0 n)
+      (step-reached P s legal.1)
 
   among-reached : (n : ℕ) (l : LinkNo) (x : Session) (b : Inc) (table : List MetPeer)
       → AllByRecursion (AreReached shape n) table
@@ -133,31 +120,7 @@ module _ (shape : Shape) where
       ]
 
   -- a living peer over a link is over one that its node is an end of
-  pub living-reached : (P : List Step) → IsLegal shape P → AllOfShape shape P → (n : ℕ) (l : LinkNo)
-      (x : Session) (b : Inc) → is_alive P n (There l x b) ≡ true → IsEndOf shape n l
-  living-reached P legal of_shape n l x b lives =
-      among-reached n l x b (living P n) (all-reached P legal of_shape n) lives
-
--- IN A RUN the packets are on links of the shape
-move-of_shape : (shape : Shape) (P : List Step) (before after : Links) (n : ℕ) (me : Option Inc)
-    (head : Head) (es : List Effect) → Moves shape P before after n me head es
-    → IsOfShape shape head
-move-of_shape shape P before after n me (Wire l from verdict) es moves = moves.of_shape
-move-of_shape shape P before after n me head es moves = tt
-
-pub run-of_shape : (shape : Shape) (P : List Step) (links : Links) → IsRun shape P links
-    → AllOfShape shape P
-run-of_shape shape [] links first = tt
-run-of_shape shape (s ∷ P) after run = (
-  move-of_shape shape P run.0 after (node_by shape s.by) (endpoint_by P s.by) s.head s.effects
-      run.1.1.moves,
-  run-of_shape shape P run.0 run.1.0,
-)
-
--- so whom a node reaches over a link is over one that it is an end of
-pub run-reached : (shape : Shape) (P : List Step) (links : Links) → IsBoundedRun shape P links
-    → (n : ℕ) (l : LinkNo) (x : Session) (b : Inc) → is_alive P n (There l x b) ≡ true
-    → IsEndOf shape n l
-run-reached shape P links whole =
-    living-reached shape P (runs_are_legal shape P links whole).legal
-    (run-of_shape shape P links whole.run)
+  pub living-reached : (P : List Step) → IsLegal shape P → (n : ℕ) (l : LinkNo) (x : Session)
+      (b : Inc) → is_alive P n (There l x b) ≡ true → IsEndOf shape n l
+  living-reached P legal n l x b lives =
+      among-reached n l x b (living P n) (all-reached P legal n) lives

@@ -5,6 +5,7 @@ use Rattle.std.proofs.Common.{subst, arith, ◌≤◌, ◌<◌}
 use Rattle.std.specs.Prelude.{codes}
 use Rattle.std.proofs.lemmas.Bool.{true≢false}
 use Rattle.linx_base.specs.declared.frame.Verdict.TheVariants.{Deliver, Lose}
+use Rattle.linx_base.specs.declared.identity.LinkNo.{LinkNo}
 use Rattle.linx_base.specs.declared.identity.Peer.TheVariants.{There}
 use Rattle.linx_base.specs.declared.identity.Session.{Session}
 use Rattle.linx_base.specs.declared.identity.Side.TheVariants.{First, Second}
@@ -13,19 +14,20 @@ use Rattle.linx_base.specs.declared.signal.Reason.TheVariants as reasons
 use Rattle.sigsel.specs.declared.sigsel.Sigsel.TheVariants.{Any}
 use Rattle.journal.specs.Traffic.{arrived_from, sent_to}
 use Rattle.journal.specs.declared.effect.Effect.{Effect}
-use Rattle.journal.specs.declared.effect.Effect.TheVariants.{Arrived, Closed, Notified}
+use Rattle.journal.specs.declared.effect.Effect.TheVariants.{Arrived, Closed, Notified, Up}
 use Rattle.journal.specs.declared.effect.Step.{Step}
 use Rattle.journal.specs.declared.head.Head.TheVariants.{Restart, TakeNone, Tick, Waits, Wire}
 use Rattle.journal.proofs.Playing.{at_rest, closes, endpoint_kept, made, made_by, note, ref}
 use Rattle.link_laws.specs.Brought.{IsArrival, IsGoingDown, IsGoingUp, IsMeeting, IsParting}
-use Rattle.link_laws.specs.Brought.{arrives, meets, nothing}
+use Rattle.link_laws.specs.Brought.{arrives, goes_up, meets, nothing}
 use Rattle.link_laws.specs.Laws.{ArePacketEffects, IsLegal, IsTick, loses, stays}
 use Rattle.link_laws.specs.Sessions.{is_cut}
 use Rattle.link_laws.specs.Still.{IsStill, cut, whole as whole_link}
-use Rattle.link_laws.proofs.Playing.{acts, a, b, brings, down, gone_at, l, met_at, posts, pump}
-use Rattle.link_laws.proofs.Playing.{pumped, there, ticked, two_ends, up, x11, x21, ◌▸◌}
+use Rattle.link_laws.proofs.Playing.{acts, a, b, brings, down, gone_at, l, met_at, one_of, posts}
+use Rattle.link_laws.proofs.Playing.{pump, pumped, there, ticked, two_ends, up, x11, x21, ◌▸◌}
 use Rattle.link_laws.proofs.Reconnected.{cut_off, cut_off_is_legal}
-use Rattle.link_laws.proofs.Refusing.{Breaks, cutting, effects, packets, resting, ticking, unequal}
+use Rattle.link_laws.proofs.Refusing.{Breaks, cutting, effects, linking, packets, resting, ticking}
+use Rattle.link_laws.proofs.Refusing.{unequal}
 use Rattle.link_laws.proofs.Told.{may_told}
 use Rattle.link_laws.proofs.Worked.{closed_behind_data, closed_behind_data_is_legal, found_over}
 use Rattle.link_laws.proofs.Worked.{found_over_is_legal, one_answered, one_answered_is_legal}
@@ -44,6 +46,7 @@ brings_wrong {P} {es} before uncut broken = record {
     tt,
     tt,
     tt,
+    one_of,
     tt,
     λ is_so. absurd (true≢false (sym is_so ∙ uncut)),
     tt,
@@ -133,7 +136,7 @@ lost_packet_brings : Breaks two_ends two_coming
 lost_packet_brings = record {
   before = two_coming_is_legal;
   broken = λ none. unequal 1 0 refl (ap length none);
-  others = (pumped refl, endpoint_kept refl, tt, tt, tt, tt, tt, tt, (λ is_so. refl), tt);
+  others = (pumped refl, endpoint_kept refl, tt, tt, tt, tt, tt, one_of, tt, (λ is_so. refl), tt);
 }
 
 -- MEETINGS. A peer is met twice
@@ -182,6 +185,41 @@ down_for_nothing = brings_wrong found_over_is_legal refl (λ packet.
     let wrong : 4294967297 < 4294967297 = law.passed in
     omega arith)
 
+-- LINKS. A packet and a tick are of a link that there isn't
+abbrev no_link : LinkNo
+no_link = record { 0 = 2 }
+
+goes_up_nowhere : Breaks two_ends []
+    (made 1 (Wire no_link First Deliver) (Up (record { 0 = 0 }) no_link x11 x11 ∷ [])) linking
+goes_up_nowhere = record {
+  before = tt;
+  broken = λ there_is. let wrong : 2 ≤ 1 = there_is.1 in omega arith;
+  others = (
+    made_by refl,
+    endpoint_kept refl,
+    tt,
+    tt,
+    tt,
+    tt,
+    tt,
+    tt,
+    record {
+      what = goes_up x11 x11;
+      effects = refl;
+      may = record { down = refl; own = refl; other_had = refl };
+    },
+    λ is_so. absurd (true≢false (sym is_so)),
+    tt,
+  );
+}
+
+ticks_nowhere : Breaks two_ends [] (made 1 (Tick no_link First) []) linking
+ticks_nowhere = record {
+  before = tt;
+  broken = λ there_is. let wrong : 2 ≤ 1 = there_is.1 in omega arith;
+  others = (made_by refl, endpoint_kept refl, tt, tt, tt, tt, tt, tt, tt, tt, stays refl);
+}
+
 -- CUTS. A packet passes a cut
 passes_a_cut : Breaks two_ends cut_off (there []) cutting
 passes_a_cut = record {
@@ -195,6 +233,7 @@ passes_a_cut = record {
     tt,
     tt,
     tt,
+    one_of,
     record { what = nothing; effects = refl; may = tt },
     tt,
     tt,
@@ -215,7 +254,7 @@ lost_too_early : Breaks two_ends one_tick_cut
 lost_too_early = record {
   before = one_tick_cut_is_legal;
   broken = λ tick. by_tick tick;
-  others = (pumped refl, endpoint_kept refl, tt, tt, tt, tt, tt, tt, tt, tt);
+  others = (pumped refl, endpoint_kept refl, tt, tt, tt, tt, tt, one_of, tt, tt, tt);
 }
   where
     by_tick : IsTick one_tick_cut 2 l Second
@@ -230,7 +269,7 @@ forgets_the_session : Breaks two_ends one_answered
 forgets_the_session = record {
   before = one_answered_is_legal;
   broken = λ same. absurd cc;
-  others = (made_by refl, endpoint_kept refl, tt, tt, tt, tt, tt, tt, tt, tt);
+  others = (made_by refl, endpoint_kept refl, tt, tt, tt, tt, tt, tt, tt, tt, tt);
 }
 
 -- REST. A receive finds none while a signal is on its way, though all other actors are at rest
@@ -252,6 +291,7 @@ finds_none_too_early = record {
     refl,
     tt,
     (refl, at_rest refl),
+    tt,
     tt,
     tt,
     tt,

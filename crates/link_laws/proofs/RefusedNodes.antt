@@ -83,7 +83,7 @@ pump_opens : Breaks two_ends [] (pump (Open (codes "a")) (Opened (inc_of 0 1) �
 pump_opens = record {
   before = tt;
   broken = λ kept. let wrong : false ≡ true = kept.may in cc;
-  others = (tt, endpoint_kept refl, refl, refl, tt, tt, tt, tt, tt, tt);
+  others = (tt, endpoint_kept refl, refl, refl, tt, tt, tt, tt, tt, tt, tt);
 }
 
 -- an actor opens an endpoint after its end
@@ -91,7 +91,7 @@ ended_actor_opens : Breaks one_actor (ends 1 [] ∷ []) (opens 1 (codes "a") fir
 ended_actor_opens = record {
   before = tt ▸ acts refl tt refl tt tt;
   broken = λ kept. let wrong : true ≡ false = kept.maker.2 in cc;
-  others = (tt, endpoint_kept refl, refl, refl, tt, tt, tt, tt, tt, tt);
+  others = (tt, endpoint_kept refl, refl, refl, tt, tt, tt, tt, tt, tt, tt);
 }
 
 -- an actor acts that the shape doesn't have
@@ -99,7 +99,7 @@ stranger_opens : Breaks one_actor [] (opens 2 (codes "a") (inc_of 0 1)) makers
 stranger_opens = record {
   before = tt;
   broken = λ kept. let within : 2 ≤ 1 = kept.maker.1 in omega arith;
-  others = (tt, endpoint_kept refl, refl, refl, tt, tt, tt, tt, tt, tt);
+  others = (tt, endpoint_kept refl, refl, refl, tt, tt, tt, tt, tt, tt, tt);
 }
 
 -- ENDPOINTS. An actor opens a second endpoint
@@ -107,7 +107,7 @@ opens_a_second : Breaks one_actor one_open (opens 1 (codes "b") second) endpoint
 opens_a_second = record {
   before = one_open_is_legal;
   broken = λ kept. let wrong : false ≡ true = kept.opens refl in cc;
-  others = (made_by refl, tt, refl, refl, tt, tt, tt, tt, tt, tt);
+  others = (made_by refl, tt, refl, refl, tt, tt, tt, tt, tt, tt, tt);
 }
 
 -- one that has none closes it
@@ -115,7 +115,7 @@ closes_none : Breaks one_actor [] (made 1 Close []) endpoints
 closes_none = record {
   before = tt;
   broken = λ kept. let wrong : false ≡ true = kept.needs refl in cc;
-  others = (made_by refl, tt, tt, refl, tt, tt, tt, tt, tt, tt);
+  others = (made_by refl, tt, tt, refl, tt, tt, tt, tt, tt, tt, tt);
 }
 
 -- BOUNDS. An endpoint is opened with what is no name
@@ -123,7 +123,7 @@ opens_no_name : Breaks one_actor [] (opens 1 (codes "a b") first) bounds
 opens_no_name = record {
   before = tt;
   broken = λ named. let wrong : false ≡ true = named in cc;
-  others = (made_by refl, endpoint_kept refl, tt, refl, tt, tt, tt, tt, tt, tt);
+  others = (made_by refl, endpoint_kept refl, tt, refl, tt, tt, tt, tt, tt, tt, tt);
 }
 
 -- the signal of an attach leaves no byte for the reason
@@ -133,7 +133,7 @@ attaches_too_much : Breaks one_actor one_open
 attaches_too_much = record {
   before = one_open_is_legal;
   broken = λ fits. omega (arith, length-replicate {A = ℕ} 65532 0);
-  others = (made_by refl, endpoint_kept refl, tt, refl, tt, tt, tt, tt, tt, tt);
+  others = (made_by refl, endpoint_kept refl, tt, refl, tt, tt, tt, tt, tt, tt, tt);
 }
 
 -- EFFECTS. An incarnation is opened again
@@ -142,7 +142,7 @@ incarnation_used_again = record {
   before = one_closed_is_legal;
   broken = λ same. let wrong : first ≡ second = cc in
       let number : first.0 ≡ second.0 = ap (λ (i : Inc). i.0) wrong in omega arith;
-  others = (made_by refl, endpoint_kept refl, refl, tt, tt, tt, tt, tt, tt, tt);
+  others = (made_by refl, endpoint_kept refl, refl, tt, tt, tt, tt, tt, tt, tt, tt);
 }
 
 -- a signal is sent to a living endpoint, and doesn't arrive
@@ -151,7 +151,7 @@ signal_never_arrives : Breaks one_actor one_open (made 1 (Send (Here first) (not
 signal_never_arrives = record {
   before = one_open_is_legal;
   broken = differ length refl;
-  others = (made_by refl, endpoint_kept refl, omega arith, tt, refl, tt, tt, tt, tt, tt);
+  others = (made_by refl, endpoint_kept refl, omega arith, tt, refl, tt, tt, tt, tt, tt, tt);
 }
 
 -- two hunters wait for a name
@@ -176,7 +176,7 @@ later_hunt_first = record {
   before = two_hunts_is_legal;
   broken = λ same. let wrong : second ≡ first = cc in
       let number : second.0 ≡ first.0 = ap (λ (i : Inc). i.0) wrong in omega arith;
-  others = (made_by refl, endpoint_kept refl, refl, tt, tt, tt, tt, tt, tt, tt);
+  others = (made_by refl, endpoint_kept refl, refl, tt, tt, tt, tt, tt, tt, tt, tt);
 }
 
 -- one answer names another hunt
@@ -185,7 +185,7 @@ another_hunt_named : Breaks three_actors two_hunts
 another_hunt_named = record {
   before = two_hunts_is_legal;
   broken = differ hunts_answered refl;
-  others = (made_by refl, endpoint_kept refl, refl, tt, tt, tt, tt, tt, tt, tt);
+  others = (made_by refl, endpoint_kept refl, refl, tt, tt, tt, tt, tt, tt, tt, tt);
 }
 
 -- the answers stand before the opening
@@ -194,7 +194,7 @@ answers_before_opening : Breaks three_actors two_hunts
 answers_before_opening = record {
   before = two_hunts_is_legal;
   broken = λ same. cc;
-  others = (made_by refl, endpoint_kept refl, refl, tt, tt, tt, tt, tt, tt, tt);
+  others = (made_by refl, endpoint_kept refl, refl, tt, tt, tt, tt, tt, tt, tt, tt);
 }
 
 -- of two holders the first alone is told of a close
@@ -205,7 +205,7 @@ one_holder_told : Breaks three_actors two_holders
 one_holder_told = record {
   before = two_holders_is_legal;
   broken = differ length refl;
-  others = (made_by refl, endpoint_kept refl, tt, tt, tt, tt, tt, tt, tt, tt);
+  others = (made_by refl, endpoint_kept refl, tt, tt, tt, tt, tt, tt, tt, tt, tt);
 }
 
 -- a holder waits for the end of the second endpoint
@@ -225,7 +225,7 @@ reason_without_byte : Breaks two_actors one_holder (tells [] reasons.Closed) eff
 reason_without_byte = record {
   before = one_holder_is_legal;
   broken = differ bytes_told refl;
-  others = (made_by refl, endpoint_kept refl, tt, tt, tt, tt, tt, tt, tt, tt);
+  others = (made_by refl, endpoint_kept refl, tt, tt, tt, tt, tt, tt, tt, tt, tt);
 }
 
 -- it is told of a close as of a loss
@@ -233,7 +233,7 @@ close_told_as_lost : Breaks two_actors one_holder (tells (1 ∷ []) reasons.Lost
 close_told_as_lost = record {
   before = one_holder_is_legal;
   broken = differ reasons_told refl;
-  others = (made_by refl, endpoint_kept refl, tt, tt, tt, tt, tt, tt, tt, tt);
+  others = (made_by refl, endpoint_kept refl, tt, tt, tt, tt, tt, tt, tt, tt, tt);
 }
 
 -- a restart leaves an endpoint of its node open
@@ -242,7 +242,7 @@ restart_leaves_one : Breaks two_actors two_open
 restart_leaves_one = record {
   before = two_open_is_legal;
   broken = differ length refl;
-  others = (made_by refl, endpoint_kept refl, tt, tt, tt, tt, tt, tt, tt, tt);
+  others = (made_by refl, endpoint_kept refl, tt, tt, tt, tt, tt, tt, tt, tt, tt);
 }
 
 -- SENDS. A signal arrives, and its sender is told that the peer was dead
@@ -253,7 +253,7 @@ living_said_dead : Breaks one_actor one_open
 living_said_dead = record {
   before = one_open_is_legal;
   broken = λ same. cc;
-  others = (made_by refl, endpoint_kept refl, omega arith, refl, tt, tt, tt, tt, tt, tt);
+  others = (made_by refl, endpoint_kept refl, omega arith, refl, tt, tt, tt, tt, tt, tt, tt);
 }
 
 -- a signal to a dead peer is said to be queued
@@ -262,7 +262,7 @@ dead_said_queued : Breaks one_actor one_open
 dead_said_queued = record {
   before = one_open_is_legal;
   broken = λ same. cc;
-  others = (made_by refl, endpoint_kept refl, omega arith, refl, tt, tt, tt, tt, tt, tt);
+  others = (made_by refl, endpoint_kept refl, omega arith, refl, tt, tt, tt, tt, tt, tt, tt);
 }
 
 -- RECEIVES. Of two selected items the later is taken
@@ -270,7 +270,7 @@ later_item_taken : Breaks one_actor two_sent (takes 1 Any (at 3 1)) receiving
 later_item_taken = record {
   before = two_sent_is_legal;
   broken = λ same. let steps : 2 ≡ 3 = ap (λ (p : ItemAt). p.step) same in omega arith;
-  others = (made_by refl, endpoint_kept refl, tt, refl, tt, tt, tt, tt, tt, tt);
+  others = (made_by refl, endpoint_kept refl, tt, refl, tt, tt, tt, tt, tt, tt, tt);
 }
 
 -- none is found where an item is selected
@@ -278,7 +278,7 @@ selected_item_not_found : Breaks one_actor two_sent (made 1 (TakeNone Any) []) r
 selected_item_not_found = record {
   before = two_sent_is_legal;
   broken = λ none. let wrong : first_selected Any (queued two_sent first) ≡ None = none.0 in cc;
-  others = (made_by refl, endpoint_kept refl, tt, refl, tt, tt, no_links, tt, tt, tt);
+  others = (made_by refl, endpoint_kept refl, tt, refl, tt, tt, no_links, tt, tt, tt, tt);
 }
 
 -- none is found while another actor is busy
@@ -288,7 +288,7 @@ none_while_another_acts = record {
   broken = λ none.
       let wrong : false ≡ true =
       none.1.others 2 (omega arith) (omega arith) (λ same. omega arith) in cc;
-  others = (made_by refl, endpoint_kept refl, tt, refl, tt, tt, no_links, tt, tt, tt);
+  others = (made_by refl, endpoint_kept refl, tt, refl, tt, tt, no_links, tt, tt, tt, tt);
 }
 
 -- of two that wait in vain the second is told so first
@@ -305,7 +305,7 @@ greater_number_first = record {
   broken = λ none.
       let wrong : false ≡ true =
       none.1.others 1 (omega arith) (omega arith) (λ same. omega arith) in cc;
-  others = (made_by refl, endpoint_kept refl, tt, refl, tt, tt, no_links, tt, tt, tt);
+  others = (made_by refl, endpoint_kept refl, tt, refl, tt, tt, no_links, tt, tt, tt, tt);
 }
 
 -- the lesser may
@@ -317,7 +317,7 @@ waits_twice : Breaks two_actors two_wait (made 2 (Waits Any) []) receiving
 waits_twice = record {
   before = two_wait_is_legal;
   broken = λ waits. let wrong : Some Any ≡ None = waits.1 in cc;
-  others = (made_by refl, endpoint_kept refl, tt, refl, tt, tt, tt, tt, tt, tt);
+  others = (made_by refl, endpoint_kept refl, tt, refl, tt, tt, tt, tt, tt, tt, tt);
 }
 
 -- it waits where an item is selected
@@ -325,7 +325,7 @@ waits_at_an_item : Breaks one_actor two_sent (made 1 (Waits Any) []) receiving
 waits_at_an_item = record {
   before = two_sent_is_legal;
   broken = λ waits. let wrong : first_selected Any (queued two_sent first) ≡ None = waits.0 in cc;
-  others = (made_by refl, endpoint_kept refl, tt, refl, tt, tt, tt, tt, tt, tt);
+  others = (made_by refl, endpoint_kept refl, tt, refl, tt, tt, tt, tt, tt, tt, tt);
 }
 
 -- a detach of what is owed is answered that there was none
@@ -333,7 +333,7 @@ owed_said_none : Breaks two_actors one_holder (made 1 (Detach (ref 3) Neither) [
 owed_said_none = record {
   before = one_holder_is_legal;
   broken = λ same. cc;
-  others = (made_by refl, endpoint_kept refl, tt, refl, tt, tt, tt, tt, tt, tt);
+  others = (made_by refl, endpoint_kept refl, tt, refl, tt, tt, tt, tt, tt, tt, tt);
 }
 
 -- a detach of what is queued is answered that it was owed
@@ -341,5 +341,5 @@ queued_said_pending : Breaks two_actors told_dead (made 1 (Detach (ref 15) Pendi
 queued_said_pending = record {
   before = told_dead_is_legal;
   broken = λ same. cc;
-  others = (made_by refl, endpoint_kept refl, tt, refl, tt, tt, tt, tt, tt, tt);
+  others = (made_by refl, endpoint_kept refl, tt, refl, tt, tt, tt, tt, tt, tt, tt);
 }

@@ -6,8 +6,8 @@ use Rattle.journal.specs.History.{endpoint_by}
 use Rattle.journal.specs.Laws.{IsBounded, KeepsEndpoints, KeepsMakers, KeepsReceives, KeepsSends}
 use Rattle.journal.specs.Shapes.{Shape, node_by}
 use Rattle.journal.specs.declared.effect.Step.{Step}
-use Rattle.link_laws.specs.Laws.{HasEffects, IsLegal, KeepsCuts, KeepsPackets, KeepsRest}
-use Rattle.link_laws.specs.Laws.{KeepsTicks, actors_alone}
+use Rattle.link_laws.specs.Laws.{HasEffects, IsLegal, KeepsCuts, KeepsLinks, KeepsPackets}
+use Rattle.link_laws.specs.Laws.{KeepsRest, KeepsTicks, actors_alone}
 
 -- the laws of a step
 pub data Law : Type 0 where
@@ -18,6 +18,7 @@ pub data Law : Type 0 where
   sending : Law
   receiving : Law
   resting : Law
+  linking : Law
   packets : Law
   cutting : Law
   ticking : Law
@@ -30,9 +31,10 @@ law_number effects = 4
 law_number sending = 5
 law_number receiving = 6
 law_number resting = 7
-law_number packets = 8
-law_number cutting = 9
-law_number ticking = 10
+law_number linking = 8
+law_number packets = 9
+law_number cutting = 10
+law_number ticking = 11
 
 -- a step after P keeps a law
 abbrev pub KeepsLaw : Shape → List Step → Step → Law → Type 0
@@ -45,6 +47,7 @@ KeepsLaw shape P s sending = KeepsSends P (node_by shape s.by) s.head
 KeepsLaw shape P s receiving =
     KeepsReceives (actors_alone shape) P (node_by shape s.by) s.by (endpoint_by P s.by) s.head
 KeepsLaw shape P s resting = KeepsRest shape P s.head
+KeepsLaw shape P s linking = KeepsLinks shape s.head
 KeepsLaw shape P s packets = KeepsPackets shape P s.head s.effects
 KeepsLaw shape P s cutting = KeepsCuts P s.head
 KeepsLaw shape P s ticking = KeepsTicks shape P s.head s.effects
@@ -65,8 +68,9 @@ KeepsAllBut shape P s law =
     KeepsOther shape P s law makers × KeepsOther shape P s law endpoints
     × KeepsOther shape P s law bounds × KeepsOther shape P s law effects
     × KeepsOther shape P s law sending × KeepsOther shape P s law receiving
-    × KeepsOther shape P s law resting × KeepsOther shape P s law packets
-    × KeepsOther shape P s law cutting × KeepsOther shape P s law ticking
+    × KeepsOther shape P s law resting × KeepsOther shape P s law linking
+    × KeepsOther shape P s law packets × KeepsOther shape P s law cutting
+    × KeepsOther shape P s law ticking
 
 -- after a legal history stands a step that breaks one law, and no other
 pub record Breaks (shape : Shape) (P : List Step) (s : Step) (law : Law) : Type 0 where

@@ -21,7 +21,7 @@ use Rattle.journal.specs.declared.effect.Step.{Step}
 use Rattle.journal.specs.declared.head.Head.{Head}
 use Rattle.journal.specs.declared.head.Head.TheVariants.{TakeNone, Restart, Wire, Tick}
 use Rattle.link_laws.specs.Brought.{Brought, MayBring, brought_at}
-use Rattle.link_laws.specs.Ends.{node_at}
+use Rattle.link_laws.specs.Ends.{IsLinkOf, node_at}
 use Rattle.link_laws.specs.Sessions.{is_cut, silent_ticks}
 use Rattle.link_laws.specs.Still.{AllStill}
 
@@ -52,6 +52,12 @@ HasEffects shape P node me head es = es ≡ effects_by P node me head
 abbrev pub KeepsRest : Shape → List Step → Head → Type 0
 KeepsRest shape P (TakeNone filter) = AllStill shape P
 KeepsRest shape P _ = Unit {0}
+
+-- LAW OF LINKS. A packet and a tick are of a link that there is
+abbrev pub KeepsLinks : Shape → Head → Type 0
+KeepsLinks shape (Wire l from verdict) = IsLinkOf shape l
+KeepsLinks shape (Tick l side) = IsLinkOf shape l
+KeepsLinks shape _ = Unit {0}
 
 -- the verdict hands the packet over
 abbrev pub delivers : Verdict → Bool
@@ -111,6 +117,7 @@ pub record IsLegalStep (shape : Shape) (P : List Step) (s : Step) : Type 0 where
   pub receives :
       KeepsReceives (actors_alone shape) P (node_by shape s.by) s.by (endpoint_by P s.by) s.head
   pub rest : KeepsRest shape P s.head
+  pub links : KeepsLinks shape s.head
   pub packets : KeepsPackets shape P s.head s.effects
   pub cuts : KeepsCuts P s.head
   pub ticks : KeepsTicks shape P s.head s.effects

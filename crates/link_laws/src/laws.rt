@@ -5,8 +5,8 @@ ghost use Rattle.link_laws.specs.Fits.{RunsFit};
 ghost use Rattle.link_laws.specs.Runs.{RunsAreLegal, RunsKeepPromises};
 
 /// Every run is legal: where each step is a move, which says what its node does and what its kind
-/// makes of the sides of the links, every step keeps the laws of nodes, of rest, packets, cuts and
-/// ticks; and after it each side of each link is what the history tells of it.
+/// makes of the sides of the links, every step keeps the laws of nodes, of rest, links, packets,
+/// cuts and ticks; and after it each side of each link is what the history tells of it.
 pub fn runs_are_legal()
     ensures { RunsAreLegal }
 {}

@@ -17,12 +17,12 @@ use Rattle.link_laws.specs.Laws.{IsLegal}
 use Rattle.link_laws.specs.Linked.{IsLinked}
 use Rattle.link_laws.specs.Runs.{IsSoundRun}
 use Rattle.link_laws.specs.Sessions.{boots}
-use Rattle.link_laws.proofs.Reached.{IsEndOf, run-reached}
+use Rattle.link_laws.proofs.Reached.{IsEndOf, living-reached}
 use Rattle.trunk.specs.Events.{kept_of}
 use Rattle.trunk_moves.specs.Steps.{IsBoundedTrunkRun}
 use Rattle.trunk_moves.specs.Trunks.{RunTrunks, links_of}
 use Rattle.trunk_moves.proofs.Facts.{own_boot}
-use Rattle.trunk_moves.proofs.Runs.{trunk_runs_are_runs, trunk_runs_keep_all}
+use Rattle.trunk_moves.proofs.Runs.{trunk_runs_keep_all}
 
 -- a side is up in this session
 pub record IsUpIn (x : Session) (A : SideRecord) : Type 0 where
@@ -57,7 +57,7 @@ module _ (shape : Shape) (P : List Step) (trunks : RunTrunks)
   -- whom a node reaches over a link is over one of the shape with a side on the node
   pub peer-end : (n : ℕ) (l : LinkNo) (x : Session) (b : Inc) → is_alive P n (There l x b) ≡ true
       → IsEndOf shape n l
-  peer-end = run-reached shape P (links_of trunks) (trunk_runs_are_runs shape P trunks whole).run
+  peer-end = living-reached shape P run-legal
 
   -- A SIDE OF A LINK. What is up at its node is its own session, if that has a peer
   module _ (l : LinkNo) (of_shape : IsLinkOf shape l) (side : Side) where
