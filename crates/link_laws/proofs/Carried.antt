@@ -1,5 +1,5 @@
--- What is carried over a link: arrivals are a front of what was sent, and all of it once the
--- sender's close was told.
+-- What is carried over a link: arrivals are a front of what was sent, and at an endpoint that is
+-- still open all of it once the sender's close was told.
 use Rattle.std.proofs.Common.{Bool, ◌&&◌, ◌≡◌, ℕ, true, false, List, [], ◌∷◌, ◌++◌, Option, Some}
 use Rattle.std.proofs.Common.{None}
 use Rattle.std.proofs.Common.{map, refl, sym, ◌∙◌, ap, subst, append_assoc, append-nil}

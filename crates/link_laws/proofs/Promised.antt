@@ -1,5 +1,5 @@
 -- The promises beyond the laws follow from the records: pairs both ways, sessions that go forward,
--- and nobody met after its close.
+-- and whoever is met was not closed before the paired session went up.
 use Rattle.std.proofs.Common.{◌≡◌, ℕ, ◌<◌, Bool, true, false, cond, ◌||◌, ◌&&◌, List, [], ◌∷◌, Some}
 use Rattle.std.proofs.Common.{map, refl, sym, ◌∙◌, ap, subst, arith}
 use Rattle.std.specs.Prelude.{◌==◌}

@@ -81,7 +81,8 @@ IsNotAbove y (Some z) = z.0 ≤ y.0
 abbrev pub GoesForward : List Step → ℕ → LinkNo → Session → Type 0
 GoesForward P n l y = (x : Session) → IsNotAbove y (paired_session P n l.0 x)
 
--- NOBODY IS MET AFTER ITS CLOSE. The effect is the Up of this session
+-- WHOEVER IS MET was not closed before the paired session went up. The effect is the Up of this
+-- session
 abbrev pub ups : ℕ → ℕ → Session → Effect → Bool
 ups node link x (Up n l z y) = n.0 == node && l.0 == link && z.0 == x.0
 ups node link x _ = false

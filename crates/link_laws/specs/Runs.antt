@@ -79,9 +79,11 @@ AllUnfound P = (n : ℕ) (l : LinkNo) (v : List ℕ) → is_hunted P n l v ≡ t
 pub record KeepsPromises (shape : Shape) (P : List Step) (links : Links) : Type 0 where
   -- on a node an endpoint has got just what another sent it
   pub nodes : KeepsNodePromises shape P
-  -- arrivals are fronts of what was sent, complete once the close was told, and then over
+  -- arrivals are fronts of what was sent, at an endpoint that is still open complete once the
+  -- close was told, and then over
   pub carried : AllCarried shape P
-  -- sessions pair both ways and go forward, and nobody is met after its close
+  -- sessions pair both ways and go forward, and whoever is met was not closed before the paired
+  -- session went up
   pub packets : KeepsLinkPromises shape P
   pub unfound : AllUnfound P
   pub vanishes_none : NothingVanishesThere shape P links
