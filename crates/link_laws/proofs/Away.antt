@@ -87,7 +87,8 @@ more-off true table q m apart = list_any-append (λ k. same_peer q k.peer) table
     ∙ ap (λ w. alive_in q table || (w || false)) (apart refl) ∙ or-false (alive_in q table)
 more-off false table q m apart = refl
 
-fewer-off : (t : Bool) (q : Peer) (p : MetPeer → Bool)
+-- a filter that keeps the peer leaves it as alive as it was
+pub fewer-off : (t : Bool) (q : Peer) (p : MetPeer → Bool)
     → ((m : MetPeer) → t ≡ true → same_peer q m.peer ≡ true → p m ≡ true) → (table : List MetPeer)
     → alive_in q (cond t (filter p table) table) ≡ alive_in q table
 fewer-off true q p keeps table = any-filter (λ m. same_peer q m.peer) p true
@@ -108,7 +109,7 @@ same_peer-is l x a (There k y i) is =
     cc
 
 -- the second of two tests fails where the first holds
-second_fails : (s t : Bool) → (s && t) ≡ false → s ≡ true → t ≡ false
+pub second_fails : (s t : Bool) → (s && t) ≡ false → s ≡ true → t ≡ false
 second_fails true t e is = e
 second_fails false t e is = absurd (true≢false (sym is))
 

@@ -12,15 +12,16 @@ use Rattle.linx_base.specs.Peers.{same_inc, same_peer}
 use Rattle.linx_base.specs.Sides.{other_of}
 use Rattle.linx_base.specs.declared.identity.Inc.{Inc}
 use Rattle.linx_base.specs.declared.identity.LinkNo.{LinkNo}
-use Rattle.linx_base.specs.declared.identity.Peer.TheVariants.{There}
+use Rattle.linx_base.specs.declared.identity.Peer.TheVariants.{Here, There}
 use Rattle.linx_base.specs.declared.identity.Session.{Session}
 use Rattle.linx_base.specs.declared.identity.Side.{Side}
 use Rattle.linx_base.specs.declared.name.Path.TheVariants.{Over}
 use Rattle.journal.specs.Effects.{closings}
 use Rattle.journal.specs.History.{effects_of, endpoint_by, open_endpoints, opened_by, opened_in}
-use Rattle.journal.specs.History.{openings}
+use Rattle.journal.specs.History.{name_in, name_of, name_or_none, opening_name, openings}
 use Rattle.journal.specs.Laws.{is_opening}
 use Rattle.linx_base.specs.Pending.{is_of_session}
+use Rattle.journal.specs.Living.{is_alive}
 use Rattle.journal.specs.Pending.{hunting, owed}
 use Rattle.journal.specs.Sessions.{up_session}
 use Rattle.journal.specs.Shapes.{Shape, node_by}
@@ -37,7 +38,7 @@ use Rattle.link_laws.specs.Laws.{HasEffects, IsHandedOver, IsLegal, IsLegalStep,
 use Rattle.link_laws.specs.Laws.{KeepsPackets, KeepsTicks, delivers, down_if, downs_of, loses}
 use Rattle.link_laws.specs.Laws.{restarting, stays}
 use Rattle.link_laws.proofs.Done.{opened-items}
-use Rattle.link_laws.proofs.Opened.{OpensNew}
+use Rattle.link_laws.proofs.Opened.{OpensNew, both_true, open-opened, opened-any}
 use Rattle.link_laws.proofs.Orderly.{IsOrderly, IsOrderlyStep, node_of-next_on, opened_next}
 use Rattle.link_laws.proofs.Sides.{founds-items, notices-items}
 use Rattle.linx_base.specs.declared.signal.Reason.TheVariants as reasons
@@ -182,3 +183,19 @@ opens-new shape P legal short node i was =
     let lower : i.0 < (next_on P node).0 = subst (λ (h : ℕ). i.0 < (next_on P h).0) at low in
     let number : i.0 ≡ (next_on P node).0 = ap (λ (k : Inc). k.0) same in
     omega arith))
+
+-- so a step leaves the name of each endpoint that was open before it
+pub open-name : (shape : Shape) (P : List Step) (s : Step) → IsLegal shape P → IsShort P
+    → IsLegalStep shape P s → (node : ℕ) (i : Inc) → is_alive P node (Here i) ≡ true
+    → name_of (s ∷ P) i ≡ name_of P i
+open-name shape P s legal short step node i was =
+    ap (λ t. name_or_none (cond t (name_in s.head) (opening_name P i)))
+    (sym (opened-any i s.effects) ∙ ap (list_any (same_inc i)) (step-opens shape P s step)
+    ∙ by_opening (is_opening s.head))
+  where
+    by_opening : (t : Bool) → list_any (same_inc i)
+        (cond t (next_on P (node_by shape s.by) ∷ []) []) ≡ false
+    by_opening true = opens-new shape P legal short (node_by shape s.by) i
+        (both_true (is_on node i) (list_any (same_inc i) (openings P))
+        (open-opened P node i was)).1
+    by_opening false = refl

@@ -65,3 +65,5 @@ pub mod Orderly
 pub mod Places
 pub mod MetPeers
 pub mod Reached
+pub mod UnfoundHere
+pub mod BetweenLiving

@@ -33,7 +33,9 @@ use Rattle.link_laws.proofs.MovesSend.{sending_good}
 use Rattle.link_laws.proofs.New.{links_new}
 use Rattle.link_laws.proofs.NodePromises.{keeps-node_promises}
 use Rattle.link_laws.proofs.Stillness.{nothing_vanishes}
+use Rattle.link_laws.proofs.BetweenLiving.{between_living}
 use Rattle.link_laws.proofs.Unfound.{unfound}
+use Rattle.link_laws.proofs.UnfoundHere.{unfound_here}
 
 -- EACH MOVE is legal, keeps the links and what is promised
 module _ (shape : Shape) (P : List Step) (before after : Links) (known : IsKnown shape P before)
@@ -125,6 +127,8 @@ promises_now shape P links whole =
       carried = all_carried shape P (records_of links) kept.kept.trunks kept.kept.linked;
       packets = kept.promised;
       unfound = unfound shape P kept.legal (short P whole.fits);
+      unfound_here = unfound_here shape P kept.legal (short P whole.fits);
+      between_living = between_living shape P kept.legal (short P whole.fits);
       vanishes_none = vanishes_none shape P links kept.kept;
       still = resting_still shape P links kept.kept;
     }

@@ -12,6 +12,7 @@ use Rattle.std.proofs.lemmas.List.Folds.{list_any-append}
 use Rattle.linx_base.specs.FirstMatch.{first_match}
 use Rattle.linx_base.specs.Numbers.{is_on, node_of}
 use Rattle.linx_base.specs.Peers.{same_inc, same_path, same_peer}
+use Rattle.linx_base.specs.Pending.{is_for}
 use Rattle.linx_base.specs.declared.identity.Inc.{Inc}
 use Rattle.linx_base.specs.declared.identity.LinkNo.{LinkNo}
 use Rattle.linx_base.specs.declared.identity.Peer.{Peer}
@@ -22,7 +23,7 @@ use Rattle.linx_base.specs.declared.name.Path.TheVariants.{Local, Over}
 use Rattle.linx_base.specs.declared.pending.MetPeer.{MetPeer}
 use Rattle.linx_base.specs.declared.pending.PendingHunt.{PendingHunt}
 use Rattle.trunk_record.specs.Sayings.{published}
-use Rattle.journal.specs.Effects.{found, founds, hunted, hunts_for, meeting}
+use Rattle.journal.specs.Effects.{found, founds, hunted, meeting}
 use Rattle.journal.specs.History.{endpoint_by, name_of}
 use Rattle.journal.specs.Laws.{is_opening}
 use Rattle.journal.specs.Living.{find, is_named_over, is_peer_over, living}
@@ -62,17 +63,17 @@ maker-home shape P legal short (Pump l) j is = absurd cc
 
 -- LISTS
 module _ {X : Type 0} where
-  all-each : (G : X → Type 0) → ((x : X) → G x) → (xs : List X) → AllByRecursion G xs
+  pub all-each : (G : X → Type 0) → ((x : X) → G x) → (xs : List X) → AllByRecursion G xs
   all-each G each [] = tt
   all-each G each (x ∷ xs) = (each x, all-each G each xs)
 
-  all-both : (F G H : X → Type 0) → ((x : X) → F x → G x → H x) → (xs : List X)
+  pub all-both : (F G H : X → Type 0) → ((x : X) → F x → G x → H x) → (xs : List X)
       → AllByRecursion F xs → AllByRecursion G xs → AllByRecursion H xs
   all-both F G H both [] fs gs = tt
   all-both F G H both (x ∷ xs) fs gs = (both x fs.0 gs.0, all-both F G H both xs fs.1 gs.1)
 
   -- what holds of each that passes holds of all that a filter keeps
-  all-kept : (G : X → Type 0) (p : X → Bool) (xs : List X)
+  pub all-kept : (G : X → Type 0) (p : X → Bool) (xs : List X)
       → AllByRecursion (λ x. p x ≡ true → G x) xs → AllByRecursion G (filter p xs)
   all-kept G p [] each = tt
   all-kept G p (x ∷ xs) each = by_test (p x) refl (all-kept G p xs each.1)
@@ -92,7 +93,7 @@ module _ {X : Type 0} where
         | inr e ↦ or_right (q x) (list_any q xs) (any-with G p q passes xs all.1 e)
       ]
 
-  any-one : (G : X → Type 0) (p : X → Bool) (xs : List X) → AllByRecursion G xs
+  pub any-one : (G : X → Type 0) (p : X → Bool) (xs : List X) → AllByRecursion G xs
       → list_any p xs ≡ true → (x : X) × ((p x ≡ true) × G x)
   any-one G p [] all is = absurd (true≢false (sym is))
   any-one G p (x ∷ xs) all is =
@@ -101,7 +102,7 @@ module _ {X : Type 0} where
         | inr e ↦ any-one G p xs all.1 e
       ]
 
-  any-match : (p : X → Bool) (xs : List X) → list_any p xs ≡ true
+  pub any-match : (p : X → Bool) (xs : List X) → list_any p xs ≡ true
       → (x : X) × (first_match p xs ≡ Some x)
   any-match p [] is = absurd (true≢false (sym is))
   any-match p (x ∷ xs) is = by_test (p x) (any-match p xs) is
@@ -110,6 +111,26 @@ module _ {X : Type 0} where
           → (t || list_any p xs) ≡ true → (y : X) × (cond t (Some x) (first_match p xs) ≡ Some y)
       by_test true rest e = (x, refl)
       by_test false rest e = rest e
+
+  -- an image passes the test of what it is of: so does one of all that a filter keeps
+  pub all-passed : {Y : Type 0} (p : X → Y → Bool) (f : X → Y) → ((x : X) → p x (f x) ≡ true)
+      → (q : X → Bool) (xs : List X)
+      → AllByRecursion (λ x. q x ≡ true → list_any (p x) (map f (filter q xs)) ≡ true) xs
+  all-passed p f passes q [] = tt
+  all-passed p f passes q (x ∷ xs) = (
+    first (q x),
+    all-impl _ _ (λ y is kept. later y (q x) (is kept)) xs (all-passed p f passes q xs),
+  )
+    where
+      first : (t : Bool) → t ≡ true
+          → list_any (p x) (map f (cond t (x ∷ filter q xs) (filter q xs))) ≡ true
+      first true is = or_left (p x (f x)) _ (passes x)
+      first false is = absurd (true≢false (sym is))
+
+      later : (y : X) (t : Bool) → list_any (p y) (map f (filter q xs)) ≡ true
+          → list_any (p y) (map f (cond t (x ∷ filter q xs) (filter q xs))) ≡ true
+      later y true is = or_right (p y (f x)) _ is
+      later y false is = is
 
 -- a met peer is one of a path over its link
 abbrev pub is_at_path : Path → MetPeer → Bool
@@ -158,32 +179,14 @@ living-from n path z (e ∷ es) is =
     one _ is = inl is
 
 -- a found hunt is answered
-all-answered : (q : Peer) (path : Path) (hs : List PendingHunt)
-    → AllByRecursion (λ h. same_path path h.path ≡ true
+pub found-answers : (q : Peer) (h : PendingHunt) → answers_hunt h (found q h) ≡ true
+found-answers q h = ap (λ t. t && same_inc h.at h.at) (eq-eqb h.number h.number refl)
+    ∙ same_inc-itself h.at
+
+pub all-answered : (q : Peer) (path : Path) (hs : List PendingHunt)
+    → AllByRecursion (λ h. is_for path h ≡ true
     → list_any (answers_hunt h) (founds path q hs) ≡ true) hs
-all-answered q path [] = tt
-all-answered q path (h ∷ hs) = (
-  first (same_path path h.path),
-  all-impl _ _ (λ k is same. later k (same_path path h.path) (is same)) hs
-      (all-answered q path hs),
-)
-  where
-    rest : List PendingHunt
-    rest = hunts_for path hs
-
-    answered : answers_hunt h (found q h) ≡ true
-    answered = ap (λ t. t && same_inc h.at h.at) (eq-eqb h.number h.number refl)
-        ∙ same_inc-itself h.at
-
-    first : (t : Bool) → t ≡ true
-        → list_any (answers_hunt h) (map (found q) (cond t (h ∷ rest) rest)) ≡ true
-    first true is = or_left (answers_hunt h (found q h)) _ answered
-    first false is = absurd (true≢false (sym is))
-
-    later : (k : PendingHunt) (t : Bool) → list_any (answers_hunt k) (map (found q) rest) ≡ true
-        → list_any (answers_hunt k) (map (found q) (cond t (h ∷ rest) rest)) ≡ true
-    later k true is = or_right (answers_hunt k (found q h)) _ is
-    later k false is = is
+all-answered q path hs = all-passed answers_hunt (found q) (found-answers q) (is_for path) hs
 
 -- the met peer is one of the path of a hunt: the hunt is for its name
 path-same : (l : LinkNo) (x : Session) (a : Inc) (name : List ℕ) (path : Path)
@@ -284,7 +287,7 @@ find-over P n (Over l v) is =
     (one.0.peer, ap met_peer one.1)
 
 -- a hunt that a step leaves is one that it doesn't answer
-unanswered : (es : List Effect) (h : PendingHunt) → not (ends_hunt es h) ≡ true
+pub unanswered : (es : List Effect) (h : PendingHunt) → not (ends_hunt es h) ≡ true
     → list_any (answers_hunt h) es ≡ true → ⊥
 unanswered es h kept answered =
     true≢false (sym (or_left (list_any (answers_hunt h) es) _ answered)
@@ -323,7 +326,7 @@ module _ (shape : Shape) (P : List Step) (s : Step) (n : ℕ) (legal : IsLegal s
                 ∙ ap (λ q. hunted q h) there.1 in
                 unanswered s.effects h kept (ap (list_any (answers_hunt h)) is_found
                 ∙ or_left (answers_hunt h (found there.0 h)) false
-                (ap (λ t. t && same_inc j j) (eq-eqb h.number h.number refl) ∙ same_inc-itself j))
+                (found-answers there.0 h))
             | inr met ↦ none-met n path s.effects
                 (ap (list_any is_meeting) effects ∙ hunted-meets_none (find P node path) h) met
           ])

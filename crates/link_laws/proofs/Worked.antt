@@ -1,6 +1,7 @@
 -- The definitions computed on worked runs of two nodes and a link, each of which is legal.
 use Rattle.std.proofs.Common.{ℕ, true, false, List, [], ◌∷◌, length, ◌≡◌, ◌≤◌, refl, arith}
 use Rattle.std.specs.Prelude.{codes}
+use Rattle.std.specs.List.{AllByRecursion}
 use Rattle.linx_base.specs.Content.{data_limit}
 use Rattle.linx_base.specs.declared.frame.Verdict.TheVariants.{Lose, Repeat, Swap}
 use Rattle.linx_base.specs.declared.identity.Peer.TheVariants.{There}
@@ -17,6 +18,7 @@ use Rattle.journal.specs.declared.head.SentTo.TheVariants.{Link}
 use Rattle.journal.proofs.Playing.{at_rest, made, note, at, ref, opens, closes, takes, ends}
 use Rattle.link_laws.specs.Brought.{nothing, goes_up, arrives, meets, parts}
 use Rattle.link_laws.specs.Laws.{IsLegal}
+use Rattle.link_laws.specs.Runs.{IsBetweenLiving}
 use Rattle.link_laws.specs.Still.{whole as whole_link, IsStill}
 use Rattle.link_laws.proofs.Playing.{acts, l, a, b, c, pump, there, back, posts, up, brings}
 use Rattle.link_laws.proofs.Playing.{passes, goes_through, finds_none, two_ends, x11, met_at}
@@ -228,6 +230,9 @@ told_of_close_is_legal =
 told_after_all_data : arrived_from told_of_close b (There l x11 a) ≡ note 1 [] ∷ note 2 []
     ∷ note 3 [] ∷ note 4 [] ∷ []
 told_after_all_data = refl
+
+attached_between_living : AllByRecursion (IsBetweenLiving one_answered 2) (owed one_answered 2)
+attached_between_living = (record { holder = refl; peer = refl }, tt)
 
 told_once : owed told_of_close 2 ≡ []
 told_once = refl

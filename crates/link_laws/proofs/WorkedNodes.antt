@@ -2,6 +2,8 @@
 -- found, attached and told; each run is legal.
 use Rattle.std.proofs.Common.{◌≡◌, ℕ, List, [], ◌∷◌, arith, Some, true, false, refl, is_none}
 use Rattle.std.specs.Prelude.{codes}
+use Rattle.std.specs.List.{AllByRecursion}
+use Rattle.std.specs.Str.{bytes_eq}
 use Rattle.linx_base.specs.Numbers.{inc_of}
 use Rattle.linx_base.specs.declared.identity.Inc.{Inc}
 use Rattle.linx_base.specs.declared.identity.LinkNo.{LinkNo}
@@ -27,7 +29,7 @@ use Rattle.journal.specs.declared.effect.Effect.TheVariants.{Gone, Down}
 use Rattle.journal.specs.declared.effect.Step.{Step}
 use Rattle.journal.specs.Effects.{losing, meeting, parting}
 use Rattle.journal.specs.History.{closed_step, endpoint_of, next_inc, open_endpoints, opened_on}
-use Rattle.journal.specs.History.{opening_name}
+use Rattle.journal.specs.History.{name_of, opening_name}
 use Rattle.journal.specs.Living.{find, is_alive}
 use Rattle.journal.specs.Logs.{step_at, signal_bytes_of}
 use Rattle.journal.specs.Pending.{hunting, owed}
@@ -38,6 +40,7 @@ use Rattle.journal.proofs.Playing.{at_rest, one_actor, two_actors, three_actors,
 use Rattle.journal.proofs.Playing.{second, third, made, note, at, ref, opens, closes, sends, takes}
 use Rattle.journal.proofs.Playing.{ends, item}
 use Rattle.link_laws.specs.Laws.{IsLegal}
+use Rattle.link_laws.specs.Runs.{AllBetweenLiving, AllUnfoundHere, IsBetweenLiving}
 use Rattle.link_laws.proofs.Playing.{acts, finds_none, no_links, ◌▸◌}
 
 -- SELF SEND AND RECEIVE
@@ -147,6 +150,15 @@ answered_later_is_legal =
 hunt_is_pending : hunting hunted_in_vain 1 ≡ hunter ∷ []
 hunt_is_pending = refl
 
+-- nobody who is open has its name
+hunt_is_in_vain : AllByRecursion
+    (λ i. bytes_eq (codes "b") (name_of hunted_in_vain i) ≡ false) (open_endpoints hunted_in_vain 1)
+hunt_is_in_vain = (refl, tt)
+
+-- an opening that left it pending would break the promise
+left_unanswered : ¬ AllUnfoundHere (opens 2 (codes "b") third ∷ hunted_in_vain)
+left_unanswered promise = let wrong : true ≡ false = promise 1 (codes "b") refl third refl in cc
+
 hunter_is_idle : is_idle hunted_in_vain 1 ≡ true
 hunter_is_idle = refl
 
@@ -248,6 +260,14 @@ both_are_owed : owed attached_twice 1 ≡
     owes (note 252 []) 6 ∷ owes (note 300 (170 ∷ [])) 7 ∷ []
 both_are_owed = refl
 
+both_between_living : AllByRecursion (IsBetweenLiving attached_twice 1) (owed attached_twice 1)
+both_between_living =
+    (record { holder = refl; peer = refl }, (record { holder = refl; peer = refl }, tt))
+
+-- a close that told nobody would break the promise
+nobody_told : ¬ AllBetweenLiving (closes 2 second ∷ attached_twice)
+nobody_told promise = let wrong : false ≡ true = (promise 1).0.peer in cc
+
 one_is_owed : owed detached_once 1 ≡ owes (note 300 (170 ∷ [])) 7 ∷ []
 one_is_owed = refl
 
@@ -257,6 +277,23 @@ none_is_owed = refl
 notice_is_queued : queued told_of_the_close first ≡
     item (note 300 (170 ∷ 0 ∷ [])) second (Notice (ref 7)) (at 12 2) ∷ []
 notice_is_queued = refl
+
+-- AN ATTACH TO ITSELF goes with the endpoint, and nobody is told
+abbrev attached_to_itself : List Step
+attached_to_itself =
+    made 1 (Attach (Here first) (note 252 [])) [] ∷ opens 1 (codes "a") first ∷ []
+
+attached_to_itself_is_legal : IsLegal one_actor (closes 1 first ∷ attached_to_itself)
+attached_to_itself_is_legal =
+    tt ▸ acts refl refl refl tt tt ▸ acts refl (omega arith) refl tt tt
+    ▸ acts refl tt refl tt tt
+
+itself_between_living : AllByRecursion (IsBetweenLiving attached_to_itself 1)
+    (owed attached_to_itself 1)
+itself_between_living = (record { holder = refl; peer = refl }, tt)
+
+itself_not_owed : owed (closes 1 first ∷ attached_to_itself) 1 ≡ []
+itself_not_owed = refl
 
 -- A QUEUED NOTIFICATION IS TAKEN OUT by a detach; the next one finds neither
 abbrev detached_twice : List Step

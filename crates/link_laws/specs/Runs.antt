@@ -1,16 +1,21 @@
 -- A run, step by step, and what holds of it.
-use Rattle.std.specs.Prelude.{ℕ, ◌≡◌, ◌≤◌, true, List, [], ◌∷◌, length}
+use Rattle.std.specs.Prelude.{ℕ, ◌≡◌, ◌≤◌, Bool, true, List, [], ◌∷◌, length}
+use Rattle.std.specs.List.{list_any, AllByRecursion}
 use Rattle.linx_base.specs.Numbers.{first_session, is_on}
+use Rattle.linx_base.specs.Pending.{is_for}
 use Rattle.linx_base.specs.Sides.{other_of}
 use Rattle.linx_base.specs.declared.identity.Inc.{Inc}
 use Rattle.linx_base.specs.declared.identity.LinkNo.{LinkNo}
 use Rattle.linx_base.specs.declared.identity.Peer.TheVariants.{Here, There}
 use Rattle.linx_base.specs.declared.identity.Side.{Side}
+use Rattle.linx_base.specs.declared.name.Path.TheVariants.{Local}
+use Rattle.linx_base.specs.declared.pending.PendingAttach.{PendingAttach}
 use Rattle.trunk_record.specs.Changes.{new_side}
 use Rattle.trunk_record.specs.Records.{SideRecord}
 use Rattle.trunk_record.specs.Trunks.{IsQuiet}
 use Rattle.journal.specs.Living.{is_alive}
 use Rattle.journal.specs.Logs.{step_limit}
+use Rattle.journal.specs.Pending.{hunting, owed}
 use Rattle.journal.specs.Promises.{KeepsNodePromises}
 use Rattle.journal.specs.Shapes.{Shape}
 use Rattle.journal.specs.Traffic.{arrived_from, sent_to}
@@ -18,7 +23,7 @@ use Rattle.journal.specs.declared.effect.Step.{Step}
 use Rattle.link_laws.specs.Ends.{HasTwoEnds, IsLinkOf, node_at}
 use Rattle.link_laws.specs.Sides.{AreLinksKept, Links, SideState}
 use Rattle.link_laws.specs.Laws.{IsLegal}
-use Rattle.link_laws.specs.Linked.{IsUnfound, is_hunted}
+use Rattle.link_laws.specs.Linked.{HasNone, IsUnfound, is_hunted}
 use Rattle.link_laws.specs.Moves.{AllResting, IsLeft, IsMove}
 use Rattle.link_laws.specs.Promises.{AllCarried, KeepsLinkPromises}
 use Rattle.link_laws.specs.Still.{AllStill}
@@ -75,6 +80,23 @@ NothingVanishesThere shape P links = (l : LinkNo) → IsLinkOf shape l → (side
 abbrev pub AllUnfound : List Step → Type 0
 AllUnfound P = (n : ℕ) (l : LinkNo) (v : List ℕ) → is_hunted P n l v ≡ true → IsUnfound P n l v
 
+-- a hunt of node n is pending for a name of the own node
+abbrev pub is_hunted_here : List Step → ℕ → List ℕ → Bool
+is_hunted_here P n v = list_any (is_for (Local v)) (hunting P n)
+
+-- such a name is that of no open endpoint of the node
+abbrev pub AllUnfoundHere : List Step → Type 0
+AllUnfoundHere P = (n : ℕ) (v : List ℕ) → is_hunted_here P n v ≡ true → HasNone P n v
+
+-- an attach at node n is between living: its holder is open there, and its peer is alive
+pub record IsBetweenLiving (P : List Step) (n : ℕ) (a : PendingAttach) : Type 0 where
+  pub holder : is_alive P n (Here a.at) ≡ true
+  pub peer : is_alive P n a.peer ≡ true
+
+-- each one that is owed a notification is
+abbrev pub AllBetweenLiving : List Step → Type 0
+AllBetweenLiving P = (n : ℕ) → AllByRecursion (IsBetweenLiving P n) (owed P n)
+
 -- what is promised of the journal so far and of the links that it left
 pub record KeepsPromises (shape : Shape) (P : List Step) (links : Links) : Type 0 where
   -- on a node an endpoint has got just what another sent it
@@ -85,7 +107,11 @@ pub record KeepsPromises (shape : Shape) (P : List Step) (links : Links) : Type 
   -- sessions pair both ways and go forward, and whoever is met was not closed before the paired
   -- session went up
   pub packets : KeepsLinkPromises shape P
+  -- no pending hunt names a living peer, over a link or on its own node
   pub unfound : AllUnfound P
+  pub unfound_here : AllUnfoundHere P
+  -- each attach that is owed a notification is of a living peer, and its holder is open
+  pub between_living : AllBetweenLiving P
   pub vanishes_none : NothingVanishesThere shape P links
   -- links that rest are still
   pub still : AllResting shape P links → AllStill shape P
