@@ -185,6 +185,14 @@ impl Fabric {
         self.is_idle(other)
     }
 
+    /// Whether an actor is known to wait in vain. One that does so isn't known to before it looks, and
+    /// no more once something has come.
+    pub fn is_known_idle(&self, actor: u32) -> bool
+        ensures { result ≡ true → is_idle self.now.log.steps actor ≡ true }
+    {
+        self.journal.is_known_idle(actor)
+    }
+
     /// Whether an actor waits, and nothing that it waits for is in its queue.
     pub fn is_idle(&self, actor: u32) -> bool
         requires above { 0 < actor }

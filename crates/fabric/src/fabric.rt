@@ -504,6 +504,7 @@ impl Fabric {
             return self.find_none(actor, filter);
         }
         if self.is_waiting(actor) {
+            self.note_if_idle(actor);
             return Ok(StepAnswer::NotYet);
         }
         let answer = self.wait(actor, filter)?;
@@ -520,6 +521,17 @@ impl Fabric {
     {
         if let Some(at) = self.endpoint_of(actor) {
             self.journal.note_idle(actor, at);
+        }
+    }
+
+    /// Notes that an actor waits in vain, if it does.
+    fn note_if_idle(&mut self, actor: u32)
+        requires above { 0 < actor }
+        requires within { actor ≤ length self.old.shape.actors }
+        ensures { self.new ≡ self.old }
+    {
+        if self.is_idle(actor) {
+            self.note_idle(actor);
         }
     }
 

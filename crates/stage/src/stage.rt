@@ -229,17 +229,17 @@ impl Stage {
         pump_on(&mut self.fabric, &self.script, link)
     }
 
-    /// Whether an actor waits, nothing that it waits for is in its queue, and it isn't at rest.
+    /// Whether an actor is known to wait in vain, and isn't at rest.
     fn waits_on(&self, actor: u32) -> bool
         requires above { 0 < actor }
         requires within { actor ≤ length self.now.script.actors }
-        ensures { result ≡ (is_idle self.now.run.log.steps actor
+        ensures { result ≡ true → (is_idle self.now.run.log.steps actor
             && not (is_at_rest self.now.run.shape self.now.run.log.steps actor
             && is_still self.now.run.shape self.now.run.log.steps
-            (trunks_of self.now.run.trunks))) }
+            (trunks_of self.now.run.trunks))) ≡ true }
     {
         let _ = &self.players;
-        self.fabric.is_idle(actor) && !self.fabric.is_rest(actor)
+        self.fabric.is_known_idle(actor) && !self.fabric.is_rest(actor)
     }
 
     /// The place of the first actor, from this one on, that hasn't ended.
@@ -262,8 +262,8 @@ impl Stage {
         actors
     }
 
-    /// The place of the first actor, from this one on, that neither has ended nor waits in vain.
-    /// Behind one that hasn't ended none is at rest, so that those before it wait on.
+    /// The place of the first actor, from this one on, that neither has ended nor is known to wait in
+    /// vain. Behind one that hasn't ended none is at rest, so that those before it wait on.
     fn first_awake(&self, place: u32) -> u32
         requires within { place ≤ length self.now.script.actors }
         requires behind { IsBehind self.now.run.log.steps (place + 1) }
@@ -294,15 +294,16 @@ impl Stage {
         !self.fabric.has_ended(place)
     }
 
-    /// Whether an actor waits in vain, or has ended.
+    /// Whether an actor is known to wait in vain, or has ended. One that isn't known to takes its
+    /// turn, by which it is known again.
     fn is_asleep(&self, actor: u32) -> bool
         requires above { 0 < actor }
         requires within { actor ≤ length self.now.script.actors }
-        ensures { result ≡ (is_idle self.now.run.log.steps actor
-            || has_ended self.now.run.log.steps actor) }
+        ensures { result ≡ true → (is_idle self.now.run.log.steps actor
+            || has_ended self.now.run.log.steps actor) ≡ true }
     {
         let _ = &self.players;
-        self.fabric.is_idle(actor) || self.fabric.has_ended(actor)
+        self.fabric.is_known_idle(actor) || self.fabric.has_ended(actor)
     }
 
     /// The place of the first actor, from this one on, whose turn may find something: those before

@@ -32,6 +32,6 @@ passing-preserved c =
           turns-more old.script start old.run old.run c.passing.next
           (c.passing.invariant.passed start turns)
           (asleep-passed old shape follows k above within behind
-          (sym c.is_asleep.ensures ∙ c.if-not-is_asleep.false));
+          (c.is_asleep.ensures c.if-not-is_asleep.false));
       behind = later-behind old.run.log.steps k behind;
     }

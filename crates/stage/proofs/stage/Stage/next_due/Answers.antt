@@ -33,4 +33,4 @@ returns-clause-passed c =
     c.first_awake-2.ensures.passed start
     (turns-more old.script start old.run old.run first (c.first_left-first.ensures.passed start turns)
     (waiting-passed old.script old.run k within follows running
-    (sym c.waits_on.ensures ∙ c.if-not-waits_on.false)))
+    (c.waits_on.ensures c.if-not-waits_on.false)))
