@@ -94,6 +94,16 @@ def middle(count, selection):
     return lines
 
 
+def in_vain(count):
+    """An actor that waits for what is no 5, while ten others send it 5s, takes the 6 at last."""
+    lines = ["node n", *actor("taker", "n", "open q", "recv not 5")]
+    for k in range(10):
+        ends = ["send q 6"] if k == 9 else []
+        lines += actor(f"p{k}", "n", "open a", "hunt q", "recv 251", "keep q",
+                       *repeat(count, "send q 5"), *ends)
+    return lines
+
+
 def hunters(rounds):
     """60 actors that hunt again and again for names that four actors open and close."""
     lines = ["node n"]
@@ -147,6 +157,7 @@ LINES = [
     ("200,000 steps in all queues", queues(10), queues(5)),
     ("the middle of 60,000 taken, by its number", middle(9990, "recv 2"), middle(4995, "recv 2")),
     ("the same, by what it isn't", middle(9990, "recv not 1 3"), middle(4995, "recv not 1 3")),
+    ("99,900 signals that a waiting actor leaves", in_vain(9990), in_vain(4995)),
     ("60 hunters against openings and closings", hunters(1000), hunters(500)),
     ("100,000 attaches, 70,000 of them detached", attaches(10), attaches(5)),
     ("ping-pong over a window of 1", ping_pong(9990), ping_pong(4995)),

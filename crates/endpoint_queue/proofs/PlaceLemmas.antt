@@ -1,15 +1,16 @@
--- Places in their order, and the least ticket of some of them.
+-- Places in their order, the least ticket of some of them, and whether some aren't listed.
 use Rattle.std.proofs.Common.{◌≡◌, ◌≢◌, ℕ, ◌<◌, ◌≤◌, min, Bool, true, false, ◌||◌, List, [], ◌∷◌}
 use Rattle.std.proofs.Common.{◌++◌, length, get_or, refl, ap, sym, subst, ◌∙◌, arith, ◌⊎◌, inl, inr}
-use Rattle.std.proofs.Common.{eqb}
-use Rattle.std.specs.Prelude.{Option, Some, None}
-use Rattle.std.specs.List.{All, AllPairs}
+use Rattle.std.proofs.Common.{eqb, not}
+use Rattle.std.specs.Prelude.{Option, Some, None, nat_le, ◌==◌}
+use Rattle.std.specs.List.{All, AllPairs, list_any}
 use Rattle.std.specs.List.Sorted.{IsPartitionPoint, IsPartitionedBy}
 use Rattle.std.proofs.lemmas.Bool.Decides.{nat_tests}
 use Rattle.std.proofs.lemmas.List.{get_or_default}
+use Rattle.std.proofs.lemmas.List.Folds.{list_any_none}
 use Rattle.endpoint_queue.specs.declared.place.Place.{Place}
 use Rattle.sigsel.specs.Selects.{selects}
-use Rattle.sigsel.specs.declared.sigsel.Sigsel.TheVariants.{Only}
+use Rattle.sigsel.specs.declared.sigsel.Sigsel.TheVariants.{Not, Only}
 use Rattle.endpoint_queue.specs.Places.{IsBefore, is_before, IsLeastTicket, lower_of}
 
 -- the order of places by its test
@@ -148,6 +149,60 @@ module _ (number : ℕ) (p : ℕ → Bool) (test : IsTestOf number p) (places : 
   pub first_ticket_past : length places ≤ at → IsLeastTicket p places None
   first_ticket_past past k d within =
       fails (get_or places k d).number (λ same. let low = lower k d (omega arith) in omega arith)
+
+-- numbers don't fall in an order of places
+numbers_rise : (places : List Place) → AllPairs IsBefore places → (i j : ℕ) (d : Place) → i ≤ j
+    → j < length places → (get_or places i d).number ≤ (get_or places j d).number
+numbers_rise places ordered i j d le within =
+    elim (up_to i j le) [
+      | inl under ↦ let before = ordered i j d under within in grind arith
+      | inr same ↦
+          let equal : (get_or places i d).number ≡ (get_or places j d).number =
+          ap (λ n. (get_or places n d).number) same in
+          omega arith
+    ]
+
+-- so those up to a number stand before all others
+pub numbers_split : (number : ℕ) (places : List Place) → AllPairs IsBefore places
+    → IsPartitionedBy (λ p. nat_le p.number number) places
+numbers_split number places ordered i j d le within test =
+    let rise = numbers_rise places ordered i j d le within in
+    grind (arith, nat_tests)
+
+-- the numbers of the places before this one are listed
+abbrev pub AreListed : List ℕ → List Place → ℕ → Type 0
+AreListed listed places at =
+    (k : ℕ) (d : Place) → k < at → k < length places
+    → list_any (λ n. n == (get_or places k d).number) listed ≡ true
+
+-- where the places up to the number of one end, and that number is listed, those are listed
+module _ (places : List Place) (ordered : AllPairs IsBefore places) (listed : List ℕ)
+    (at next number : ℕ) (e : Place) (within : at < length places)
+    (is : (get_or places at e).number ≡ number)
+    (between : IsPartitionPoint (λ p. nat_le p.number number ≡ true)
+    (λ p. nat_le p.number number ≡ false) places next) where
+  pub listed_further : list_any (λ n. n == number) listed ≡ true → AreListed listed places at
+      → AreListed listed places next
+  listed_further one before k d low inside =
+      elim (below_or k at) [
+        | inl earlier ↦ before k d earlier inside
+        | inr high ↦
+            let here : (get_or places at d).number ≡ number =
+            ap (λ (q : Place). q.number) (get_or_default places at d e within) ∙ is in
+            let up = numbers_rise places ordered at k d high inside in
+            let test : nat_le (get_or places k d).number number ≡ true =
+            between.0 k d (omega arith) low in
+            let down : (get_or places k d).number ≤ number = grind (arith, nat_tests) in
+            let same : number ≡ (get_or places k d).number = omega arith in
+            subst (λ m. list_any (λ n. n == m) listed ≡ true) same one
+      ]
+
+-- where the numbers of all places are listed
+pub none_unlisted : (places : List Place) (listed : List ℕ) (at : ℕ) → length places ≤ at
+    → AreListed listed places at → list_any (λ p. selects (Not listed) p.number) places ≡ false
+none_unlisted places listed at past all =
+    list_any_none (λ p. selects (Not listed) p.number) places
+    (λ k d inside. ap not (all k d (omega arith) inside))
 
 -- one more listed number
 listed_more : (listed : List ℕ) (n m : ℕ)

@@ -1,9 +1,10 @@
 -- What a queue keeps when an item is put, and when one is taken; and where an item is found.
 use Rattle.std.proofs.Common.{◌≡◌, ℕ, zero, suc, ◌+◌, ◌<◌, ◌≤◌, Bool, true, false, cond, List, []}
 use Rattle.std.proofs.Common.{◌∷◌, ◌++◌, length, get_or, take, refl, ap, sym, subst, ◌∙◌, arith}
-use Rattle.std.proofs.Common.{inl, inr, length-append, append-nil, add-one}
+use Rattle.std.proofs.Common.{inl, inr, length-append, append-nil, add-one, ◌||◌}
 use Rattle.std.specs.Prelude.{Option, Some, None, Result, Ok, Err, is_some, ◌==◌}
-use Rattle.std.specs.List.{All, AllPairs, Contains, remove, count_by, position, range_with_len}
+use Rattle.std.specs.List.{All, AllPairs, Contains, remove, count_by, list_any, position}
+use Rattle.std.specs.List.{range_with_len}
 use Rattle.std.specs.List.Sorted.{IsPermutation, IsBinarySearchResult}
 use Rattle.std.specs.Ordering.{nat_cmp}
 use Rattle.std.specs.Result.{result_ok}
@@ -14,15 +15,17 @@ use Rattle.std.proofs.lemmas.List.Elements.{All-push, All-contains}
 use Rattle.std.proofs.lemmas.List.Sorted.{IsPermutation-sym, IsPermutation-trans}
 use Rattle.std.proofs.lemmas.List.Sorted.{IsPermutation-cons, IsPermutation-to_front}
 use Rattle.std.proofs.lemmas.List.Sorted.{All-permutation, Contains-permutation, length_permutation}
-use Rattle.std.proofs.lemmas.List.Sorted.{searched}
+use Rattle.std.proofs.lemmas.List.Sorted.{searched, list_any-IsPermutation}
 use Rattle.std.proofs.lemmas.List.Sums.{sum_by-cons, sum_by-take-le}
 use Rattle.linx_base.specs.declared.item.Item.{Item}
 use Rattle.linx_base.specs.declared.item.Kind.{Kind}
 use Rattle.linx_base.specs.declared.item.Kind.TheVariants.{Plain, Found, Notice}
 use Rattle.linx_base.specs.declared.identity.AttRef.{AttRef}
-use Rattle.linx_base.proofs.FirstMatches.{position_at, position_none}
+use Rattle.linx_base.proofs.FirstMatches.{is_some-first_match, position_at, position_none}
 use Rattle.endpoint_queue.specs.declared.place.Place.{Place}
-use Rattle.sigsel.specs.Selection.{is_notice_kind, is_notice_of}
+use Rattle.sigsel.specs.Selects.{selects}
+use Rattle.sigsel.specs.Selection.{first_selected, is_notice_kind, is_notice_of, is_selected}
+use Rattle.sigsel.specs.declared.sigsel.Sigsel.{Sigsel}
 use Rattle.endpoint_queue.specs.Places.{number_key, attach_of, notice_key, count_notices, placed}
 use Rattle.endpoint_queue.specs.Places.{places_by, IsBefore, IsIndex, IsIndexed, IsLeastTicket}
 use Rattle.endpoint_queue.specs.IndexContent.{IndexContent}
@@ -365,6 +368,24 @@ module _ (key : Item → Option ℕ) (p : ℕ → Bool) (test : Item → Bool)
             let less = between.2 stands.0 high (omega (arith, stands.2)) in
             absurd (omega (arith, stands.3))
       ]
+
+numbers_pass : (p : ℕ → Bool) (items : List Item) (tickets : List ℕ)
+    → length tickets ≡ length items
+    → list_any (λ q. p q.number) (places_by number_key items tickets)
+    ≡ list_any (λ item. p item.signal.number) items
+numbers_pass p [] tickets paired = refl
+numbers_pass p (item ∷ items) [] paired = absurd (omega arith)
+numbers_pass p (item ∷ items) (ticket ∷ tickets) paired =
+    ap (λ b. p item.signal.number || b) (numbers_pass p items tickets (omega arith))
+
+-- the number of a place passes where an item is selected
+pub place_selected : (sel : Sigsel) (items : List Item) (tickets : List ℕ) (index : List Place)
+    → length tickets ≡ length items → IsIndex number_key items tickets index
+    → list_any (λ q. selects sel q.number) index ≡ is_some (first_selected sel items)
+place_selected sel items tickets index paired kept =
+    sym (list_any-IsPermutation (λ q. selects sel q.number) _ _ kept.whole)
+    ∙ numbers_pass (selects sel) items tickets paired
+    ∙ sym (is_some-first_match (is_selected sel) items)
 
 -- a notice is found by its attach
 pub notice_alike : (r : AttRef) (item : Item)

@@ -1,8 +1,8 @@
-ghost use Rattle.std.specs.Prelude.{◌≡◌, ◌==◌, ◌≤◌, true, false, length};
-ghost use Rattle.std.specs.List.{AllPairs};
+ghost use Rattle.std.specs.Prelude.{◌≡◌, ◌==◌, ◌≤◌, true, false, length, nat_le};
+ghost use Rattle.std.specs.List.{AllPairs, list_any};
 ghost use Rattle.std.specs.List.Sorted.{IsPartitionPoint};
 ghost use Rattle.sigsel.specs.Selects.{selects};
-ghost use Rattle.sigsel.specs.declared.sigsel.Sigsel.TheVariants.{Only};
+ghost use Rattle.sigsel.specs.declared.sigsel.Sigsel.TheVariants.{Not, Only};
 ghost use Rattle.endpoint_queue.specs.Places.{IsBefore, IsLeastTicket, is_before, lower_of};
 ghost use Rattle.endpoint_queue.specs.IndexChanges.{Adds, CanTake, Has, TakesOut};
 
@@ -82,4 +82,37 @@ pub(crate) fn least_ticket(places: &[Place], listed: &[u32]) -> Option<u64>
         least = lower_of(least, first_ticket(places, *number as u64));
     }
     least
+}
+
+/// How many places stand before those of higher numbers.
+fn count_up_to(places: &[Place], number: u64) -> usize
+    requires { AllPairs IsBefore places.now }
+    ensures within { result ≤ length places.now }
+    ensures between { IsPartitionPoint (λ p. nat_le p.number number ≡ true)
+        (λ p. nat_le p.number number ≡ false) places.now result }
+{
+    places.partition_point(|place| place.number <= number)
+}
+
+fn lists(listed: &[u32], number: u64) -> bool
+    ensures { result ≡ list_any (λ n. n == number) listed.now }
+{
+    listed.iter().any(|one| *one as u64 == number)
+}
+
+/// Whether the number of a place isn't listed. It searches once for each listed number that it
+/// passes.
+pub(crate) fn has_unlisted(places: &[Place], listed: &[u32]) -> bool
+    requires { AllPairs IsBefore places.now }
+    ensures { result ≡ list_any (λ p. selects (Not listed.now) p.number) places.now }
+{
+    let mut at = 0;
+    while at < places.len() {
+        let number = places[at].number;
+        if !lists(listed, number) {
+            return true;
+        }
+        at = count_up_to(places, number);
+    }
+    false
 }

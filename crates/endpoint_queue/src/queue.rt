@@ -10,7 +10,7 @@ ghost use Rattle.linx_base.specs.FirstMatch.{TakesEarliest, first_match, without
 ghost use Rattle.linx_base.specs.FirstMatch.{without_beside};
 
 use crate::indexes::Indexes;
-use crate::place::{Place, first_ticket, least_ticket};
+use crate::place::{Place, first_ticket, has_unlisted, least_ticket};
 use linx_base::{AttRef, Item, NoMemory};
 use sigsel::Sigsel;
 use std::alloc::Global;
@@ -247,11 +247,16 @@ impl Queue {
         }
     }
 
-    /// Whether an item is selected.
+    /// Whether an item is selected. It looks at no item where the filter lists numbers.
     pub fn holds(&self, sel: &Sigsel) -> bool
         ensures { result ≡ is_some (first_selected sel.now self.now.items) }
     {
-        self.first_position(sel).is_some()
+        match sel {
+            Sigsel::Any | Sigsel::Only(_) => self.first_position(sel).is_some(),
+            Sigsel::Not(listed) => {
+                has_unlisted(self.indexes.numbers.as_slice(), listed.as_slice())
+            }
+        }
     }
 
     /// Takes out the notice of an attach. `None` exactly where there is none. It takes no memory,
