@@ -1,5 +1,4 @@
--- A step makes the same of the same trunks, whatever it is, and the ends of these keep their
--- windows and pieces.
+-- A step makes the same of the same trunks, whatever it is.
 use Rattle.std.proofs.Common.{◌≡◌, ℕ, Bool, true, false, cond, List, Option, Some, None}
 use Rattle.std.proofs.Common.{refl, sym, ◌∙◌, ap, subst}
 use Rattle.std.specs.Prelude.{◌==◌, ◌+◌}
@@ -20,7 +19,6 @@ use Rattle.carrier.specs.Events.{handed_by}
 use Rattle.carrier.specs.Events as links
 use Rattle.carrier.specs.declared.handed.Handed.{Handed}
 use Rattle.carrier.specs.declared.handed.Handed.TheVariants as handed
-use Rattle.rlnh_end.specs.Calls.{close_of, opened_of, query_of, send_of}
 use Rattle.rlnh_end.specs.Hearing.{hears}
 use Rattle.rlnh_end.specs.States.{RlnhTables}
 use Rattle.rlnh_end.specs.declared.heard.Heard.{Heard}
@@ -44,11 +42,6 @@ use Rattle.trunk.proofs.Reading.{reads_once}
 use Rattle.trunk_moves.specs.Packets.{Comes, Meets, answered}
 use Rattle.trunk_moves.specs.Steps.{Hunts, Makes, Passes, Sends, Ticks, trunks_ending}
 use Rattle.trunk_moves.specs.Trunks.{Become, RunTrunks, all_do, does, side_on, with_trunk}
-use Rattle.trunk_moves.proofs.Sides.{one_trunk, trunks_stay}
-use Rattle.run_states.specs.Runs.{AllKeepSizes}
-use Rattle.run_states.proofs.Sizes.{TrunkKeepsSizes, answered_sizes, delivered_sizes, lost_sizes}
-use Rattle.run_states.proofs.Sizes.{restarted_sizes, said_sizes, sizes_stay, sizes_then}
-use Rattle.run_states.proofs.Sizes.{swapped_sizes, ticked_sizes}
 
 -- ---- a packet has one reading
 
@@ -101,23 +94,6 @@ module _ (P : List Step) (n : ℕ) (l : LinkNo) (from : Side) (es : List Effect)
   meets_once Repeat t u v one two = comes_once true t u v one two
   meets_once Lose t u v one two = one.makes ∙ sym two.makes
   meets_once (Swap k) t u v one two = one.makes ∙ sym two.makes
-
-  comes_sizes : (keep : Bool) (t u : TrunkState) → Comes P n l from keep es t u
-      → TrunkKeepsSizes t u
-  comes_sizes keep t u comes =
-      let v : TrunkState = delivered from 0 keep comes.heard t in
-      let up : TrunkUp = told_by from 0 comes.heard t in
-      subst (TrunkKeepsSizes t) (sym comes.makes)
-      (sizes_then t.link v.link (answered P n l to up v).link
-      (delivered_sizes from 0 keep comes.heard t) (answered_sizes P n l to up v))
-
-  pub meets_sizes : (verdict : Verdict) (t u : TrunkState) → Meets P n l from verdict es t u
-      → TrunkKeepsSizes t u
-  meets_sizes Deliver t u comes = comes_sizes false t u comes
-  meets_sizes Repeat t u comes = comes_sizes true t u comes
-  meets_sizes Lose t u lost = subst (TrunkKeepsSizes t) (sym lost.makes) (lost_sizes from 0 t)
-  meets_sizes (Swap k) t u swaps =
-      subst (TrunkKeepsSizes t) (sym swaps.makes) (swapped_sizes from 0 _ t)
 
 -- ---- the same of the same trunks
 
@@ -219,84 +195,3 @@ module _ (shape : Shape) (ends : HasTwoEnds shape) (P : List Step)
   makes_same n me (Tick l side) es one two = ticks_same l side es one two
   makes_same n me Ended es one two = ending_same n me one two
   makes_same n me head es one two = stays_same one two
-
--- ---- windows and pieces
-
-module _ (shape : Shape) (P : List Step) (before after : RunTrunks) where
-  abbrev SizesAt : LinkNo → TrunkState → Type 0
-  SizesAt l t = TrunkKeepsSizes (before l.0) t
-
-  all_before : (l : LinkNo) → IsLinkOf shape l → SizesAt l (before l.0)
-  all_before l of_shape = sizes_stay (before l.0).link
-
-  stays_sizes : Become shape after before → AllKeepSizes shape before after
-  stays_sizes made = trunks_stay shape before after made SizesAt all_before
-
-  all_sizes : (n : ℕ) (act : Side → TrunkState → TrunkState)
-      → ((side : Side) (t : TrunkState) → TrunkKeepsSizes t (act side t))
-      → Become shape after (all_do shape n act before) → AllKeepSizes shape before after
-  all_sizes n act kept made l of_shape =
-      subst (SizesAt l) (sym (made l of_shape)) (by_side (side_on shape n l))
-    where
-      by_side : (o : Option Side) → SizesAt l (does o act (before l.0))
-      by_side None = sizes_stay (before l.0).link
-      by_side (Some side) = kept side (before l.0)
-
-  one_sizes : (l : LinkNo) → IsLinkOf shape l → (t : TrunkState) → SizesAt l t
-      → Become shape after (with_trunk before l.0 t) → AllKeepSizes shape before after
-  one_sizes l of_shape t kept made =
-      one_trunk shape before after l of_shape t made SizesAt kept all_before
-
-  ending_sizes : (n : ℕ) (me : Option Inc) → Become shape after (trunks_ending shape n me before)
-      → AllKeepSizes shape before after
-  ending_sizes n None made = stays_sizes made
-  ending_sizes n (Some j) made =
-      all_sizes n (λ side. closed_at side j) (said_sizes (λ s. close_of s j)) made
-
-  sends_sizes : (n : ℕ) (me : Option Inc) (q : Peer) (note : SigNote) (answer : SentTo)
-      → Sends shape P before after n me q note answer → AllKeepSizes shape before after
-  sends_sizes n None q note answer made = stays_sizes made
-  sends_sizes n (Some j) (Here i) note answer made = stays_sizes made
-  sends_sizes n (Some j) (There l x b) note Queued made = stays_sizes made
-  sends_sizes n (Some j) (There l x b) note Dead made = stays_sizes made
-  sends_sizes n (Some j) (There l x b) note Link made =
-      one_sizes l made.of_shape (sent_at made.at j (name_of P j) b note (before l.0))
-      (said_sizes (λ s. send_of s j (name_of P j) b note) made.at (before l.0)) made.makes
-
-  hunts_sizes : (n : ℕ) (path : Path) (found : Option Peer)
-      → Hunts shape before after n path found → AllKeepSizes shape before after
-  hunts_sizes n (Local v) found made = stays_sizes made
-  hunts_sizes n (Over l v) (Some q) made = stays_sizes made
-  hunts_sizes n (Over l v) None made =
-      one_sizes l made.of_shape (asked_at made.at v (before l.0))
-      (said_sizes (λ s. query_of s v) made.at (before l.0)) made.makes
-
-  passes_sizes : (l : LinkNo) (from : Side) (verdict : Verdict) (es : List Effect)
-      → Passes shape P before after l from verdict es → AllKeepSizes shape before after
-  passes_sizes l from verdict es made =
-      one_sizes l made.of_shape made.trunk
-      (meets_sizes P (node_at shape l (other_of from)) l from es verdict (before l.0) made.trunk
-      made.meets) made.makes
-
-  ticks_sizes : (l : LinkNo) (side : Side) (es : List Effect)
-      → Ticks shape P before after l side es → AllKeepSizes shape before after
-  ticks_sizes l side es made =
-      one_sizes l made.of_shape made.trunk
-      (subst (SizesAt l) (sym made.beat.makes) (ticked_sizes side (before l.0))) made.makes
-
-  pub makes_sizes : (n : ℕ) (me : Option Inc) (head : Head) (es : List Effect)
-      → Makes shape P before after n me head es → AllKeepSizes shape before after
-  makes_sizes n me (Open name) es made =
-      all_sizes n (λ side. opened_at side (next_inc n (opened_on P n)) name)
-      (said_sizes (λ s. opened_of s (next_inc n (opened_on P n)) name)) made
-  makes_sizes n me Close es made = ending_sizes n me made
-  makes_sizes n me (Send q note answer) es made = sends_sizes n me q note answer made
-  makes_sizes n me (TakeNone filter) es made = stays_sizes made.makes
-  makes_sizes n me (Hunt path note) es made = hunts_sizes n path (find P n path) made
-  makes_sizes n me (Restart k) es made =
-      all_sizes k.0 (λ side. restarted_at side (2 + boots P k.0))
-      (restarted_sizes (2 + boots P k.0)) made
-  makes_sizes n me (Wire l from verdict) es made = passes_sizes l from verdict es made
-  makes_sizes n me (Tick l side) es made = ticks_sizes l side es made
-  makes_sizes n me Ended es made = ending_sizes n me made
-  makes_sizes n me head es made = stays_sizes made

@@ -5,7 +5,7 @@ use Rattle.journal.specs.declared.effect.Step.{Step}
 use Rattle.link_laws.specs.Ends.{HasTwoEnds}
 use Rattle.trunk_moves.specs.Steps.{IsTrunkRun, IsTrunkStep}
 use Rattle.trunk_moves.specs.Trunks.{AllNew, Become, RunTrunks}
-use Rattle.run_states.specs.Runs.{AllKeepSizes, IsRunFrom}
+use Rattle.run_states.specs.Runs.{IsRunFrom}
 
 -- what a run from new trunks began with
 pub record HasBegun (shape : Shape) (P : List Step) (trunks : RunTrunks) : Type 0 where
@@ -30,17 +30,3 @@ pub record RunsReachOneState : Type 0 where
   pub begun :
       (shape : Shape) (P : List Step) (trunks : RunTrunks) → IsTrunkRun shape P trunks
       → HasBegun shape P trunks
-
--- WINDOWS AND PIECES STAY
-pub record RunsKeepSizes : Type 0 where
-  pub step :
-      (shape : Shape) (P : List Step) (before : RunTrunks) (s : Step) (after : RunTrunks)
-      → IsTrunkStep shape P before s after → AllKeepSizes shape before after
-  pub run :
-      (shape : Shape) (first : RunTrunks) (P : List Step) (trunks : RunTrunks)
-      → IsRunFrom shape first P trunks → AllKeepSizes shape first trunks
-  -- so where they are the same at the end, two runs of one journal end with the same trunks
-  pub same :
-      (shape : Shape) → HasTwoEnds shape → (P : List Step) (one two : RunTrunks)
-      → IsTrunkRun shape P one → IsTrunkRun shape P two → AllKeepSizes shape one two
-      → Become shape one two

@@ -1,9 +1,8 @@
 //! That a journal reaches one state. A run over trunks says of each step which trunks it leaves,
 //! and not how they are computed; `proofs/` shows that the steps of a journal leave no choice, so
-//! that whoever knows the trunks at the beginning and the journal knows the trunks at its end. No
-//! step changes the window or the piece of an end, so the trunks at the end tell how the run began.
+//! that whoever knows the trunks at the beginning and the journal knows the trunks at its end.
 #![tactic(auto)]
 
 mod laws;
 
-pub use laws::{runs_keep_sizes, runs_reach_one_state};
+pub use laws::runs_reach_one_state;
