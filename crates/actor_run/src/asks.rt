@@ -1,3 +1,4 @@
+//! What each command asks for, once its names are looked up.
 ghost use Rattle.std.specs.Prelude.{◌≡◌, IfOk, IsTrue};
 ghost use Rattle.linx_base.specs.Content.{data_limit};
 ghost use Rattle.journal.specs.declared.event.Event.TheVariants.{Hunt};

@@ -1,3 +1,4 @@
+//! What was given to the names of a script, each looked up by the place of its command.
 ghost use Rattle.std.specs.Prelude.{◌≡◌, [], IfOk, OnOk, true};
 ghost use Rattle.std.specs.Option.{option_copied};
 ghost use Rattle.actor_run.specs.Knowing.{rows_for};

@@ -1,3 +1,4 @@
+//! Bytes of one value, which the next signal shares where it has as many and the same.
 ghost use Rattle.std.specs.Prelude.{◌≡◌, replicate, IfOk};
 
 use linx_base::{Blob, NoMemory, TryCopy};

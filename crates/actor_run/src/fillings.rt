@@ -1,3 +1,4 @@
+//! Signals with the bytes that a script says.
 ghost use Rattle.std.specs.Prelude.{◌≡◌, IfOk, IsTrue};
 ghost use Rattle.linx_base.specs.Content.{data_limit};
 ghost use Rattle.script_words.specs.Filling.{data_of, fits_data};

@@ -1,3 +1,4 @@
+//! The gate that lets every turn pass, where threads share it.
 use linx_outside::{Gate, OpenGate};
 use std::sync::Wait;
 

@@ -1,3 +1,4 @@
+//! The text and the summary of a journal, written to a sink.
 ghost use Rattle.std.specs.Prelude.{◌≡◌, length, OnOk, IfErr};
 ghost use Rattle.std.specs.Io.KnownBytes.{Appends};
 ghost use Rattle.linx_outside.specs.Counts.{HasFaulted, NeverFalls};
