@@ -162,9 +162,8 @@ impl Kernel {
     }
 
     /// Closes an endpoint, frees its queue, its hunts and its attaches, and notifies those that are
-    /// attached to it.
+    /// attached to it. One that isn't open has no queue.
     pub fn close(&mut self, at: Inc, step: u64) -> Result<Effects, NoMemory>
-        requires { IsTrue (is_open self.old.endpoints at) }
         ensures effects { IfOk result (λ effects. effects ≡ closing at self.old.attaches) }
         ensures ok { OnOk result (self.new ≡ after_close self.old at step) }
         ensures err { OnErr result (self.new ≡ self.old) }
@@ -177,8 +176,8 @@ impl Kernel {
         Ok(effects)
     }
 
-    /// Sends a signal from an endpoint of this node to a peer. A refusal gives the signal back and
-    /// changes nothing.
+    /// Sends a signal from an endpoint of this node, open or not, to a peer. A refusal gives the
+    /// signal back and changes nothing.
     pub fn send(
         &mut self,
         from: Inc,
@@ -186,7 +185,6 @@ impl Kernel {
         signal: Signal,
         step: u64,
     ) -> Result<Sent, (NoMemory, Signal)>
-        requires { IsTrue (is_open self.old.endpoints from) }
         ensures sent { IfOk result (IsSentAs (is_living self.old to) to signal) }
         ensures ok { OnOk result (self.new ≡ after_send self.old from to signal step) }
         ensures err { IfErr result (λ back. (back.1 ≡ signal) × (self.new ≡ self.old)) }
@@ -204,9 +202,8 @@ impl Kernel {
     }
 
     /// Takes the earliest item at an endpoint that the filter selects, `None` exactly where it
-    /// selects none. It takes no memory.
+    /// selects none. At one that isn't open no item waits. It takes no memory.
     pub fn receive(&mut self, at: Inc, filter: &Sigsel) -> Option<Item>
-        requires { IsTrue (is_open self.old.endpoints at) }
         ensures item { result ≡ first_selected filter.now (items_at self.old.endpoints at) }
         ensures others { self.new ≡ record self.old {
           endpoints = with_items self.old.endpoints at
@@ -216,16 +213,17 @@ impl Kernel {
         self.roster.take(at, filter)
     }
 
-    /// Whether the filter selects an item at an endpoint. It takes no memory.
+    /// Whether the filter selects an item at an endpoint, which has none where it isn't open. It
+    /// takes no memory.
     pub fn holds(&self, at: Inc, filter: &Sigsel) -> bool
-        requires { IsTrue (is_open self.now.endpoints at) }
         ensures { result ≡ is_some (first_selected filter.now (items_at self.now.endpoints at)) }
     {
         self.roster.holds(at, filter)
     }
 
     /// Hunts for a path: the signal is queued at the hunter where a peer is found at once, else the
-    /// hunt is pending. A refusal gives the signal back and changes nothing.
+    /// hunt is pending. A hunter that isn't open gets nothing. A refusal gives the signal back and
+    /// changes nothing.
     pub fn hunt(
         &mut self,
         at: Inc,
@@ -233,7 +231,6 @@ impl Kernel {
         signal: Signal,
         number: u64,
     ) -> Result<Effects, (NoMemory, Signal)>
-        requires { IsTrue (is_open self.old.endpoints at) }
         ensures effects { IfOk result (λ effects. effects
             ≡ hunted (find_at self.old path) (record {
               at = at;
@@ -261,7 +258,8 @@ impl Kernel {
     }
 
     /// Attaches an endpoint to a peer: the holder is owed a notification with the signal, or gets
-    /// it at once where the peer isn't alive. A refusal gives the signal back and changes nothing.
+    /// it at once where the peer isn't alive. A holder that isn't open gets nothing. A refusal gives
+    /// the signal back and changes nothing.
     pub fn attach(
         &mut self,
         at: Inc,
@@ -269,8 +267,7 @@ impl Kernel {
         signal: Signal,
         r: AttRef,
     ) -> Result<Effects, (NoMemory, Signal)>
-        requires holder { IsTrue (is_open self.old.endpoints at) }
-        requires room { length signal.bytes < data_limit }
+        requires { length signal.bytes < data_limit }
         ensures effects { IfOk result (λ effects. effects
             ≡ attached (is_living self.old peer) (record {
               at = at;
@@ -295,10 +292,9 @@ impl Kernel {
         }
     }
 
-    /// Cancels an attach of an endpoint, or takes its notification out of the queue. It takes no
-    /// memory.
+    /// Cancels an attach of an endpoint, or takes its notification out of the queue, of which one
+    /// that isn't open has none. It takes no memory.
     pub fn detach(&mut self, at: Inc, r: AttRef) -> Detached
-        requires { IsTrue (is_open self.old.endpoints at) }
         ensures answer { result ≡ detached self.old at r }
         ensures after { self.new ≡ after_detach self.old at r }
     {
@@ -327,7 +323,8 @@ impl Kernel {
         Ok(effects)
     }
 
-    /// A signal arrives over a link at an open endpoint.
+    /// A signal arrives over a link at an endpoint. Where that isn't open, nobody gets it. A refusal
+    /// gives the signal back and changes nothing.
     pub fn arrived(
         &mut self,
         at: Inc,
@@ -335,7 +332,6 @@ impl Kernel {
         signal: Signal,
         step: u64,
     ) -> Result<Effects, (NoMemory, Signal)>
-        requires { IsTrue (is_open self.old.endpoints at) }
         ensures effects { IfOk result (λ effects. effects ≡ Arrived at from signal ∷ []) }
         ensures ok { OnOk result (self.new ≡ after_arrival self.old at from signal step) }
         ensures err { IfErr result (λ back. (back.1 ≡ signal) × (self.new ≡ self.old)) }
