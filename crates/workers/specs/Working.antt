@@ -65,15 +65,6 @@ pub record IsWorked (script : ScriptParts) (before : PassView Step PlanParts) (d
   pub working : IsWorking script done.pass done.player
   pub full : done.stop ≡ Some JournalFull → is_full (seen done.pass) ≡ true
 
--- a pass of this lock, with this plan, that has seen nothing
-pub record IsNewPass (lock : LockView) (script : ScriptParts) (p : PassView Step PlanParts) : Type 0
-  where
-    pub of_lock : IsPassOf lock p
-    pub fixed : p.fixed ≡ plan_for script
-    pub above : 0 < p.number
-    pub within : p.number ≤ makers script
-    pub fresh : p.front ≡ []
-
 -- ---- the workers
 
 -- A JOB before its worker starts: a pass that has seen nothing, and for an actor its player between
