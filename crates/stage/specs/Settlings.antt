@@ -137,11 +137,14 @@ module _ (old new : Layout) (k : ℕ) (ask : Ask) where
     pub same : new ≡ old
     pub hand : stop.hand ≡ ask.hand
 
-  -- what came of it, by what is said of it. Only a full journal is said to be full
+  -- what came of it, by what is said of it. Only a full journal is said to be full, and where it
+  -- is full a settling stops for that
   abbrev pub IsActedAs : Acted → Type 0
   IsActedAs (Done answer) = IsDone answer
   IsActedAs (Halfway answer cause) =
-      IsHalfDone answer × (cause ≡ JournalFull → is_full new.log.steps ≡ true)
+      IsHalfDone answer
+      × (cause ≡ JournalFull → is_full new.log.steps ≡ true)
+      × (is_full new.log.steps ≡ true → cause ≡ JournalFull)
   IsActedAs (Stopped stop) =
       IsNotDone stop × (stop.cause ≡ JournalFull → is_full new.log.steps ≡ true)
 

@@ -140,6 +140,8 @@ fn go_on(fabric: &mut Fabric, actor: u32, settled: Option<LinkNo>) -> Result<(),
     requires may { MayGoOn settled actor fabric.old }
     ensures ok { OnOk result (GoesOnAfter settled actor fabric.old fabric.new) }
     ensures err { OnErr result (StopsAfter settled actor fabric.old fabric.new) }
+    ensures full { IfErr result (λ cause. is_full fabric.new.log.steps ≡ true
+        → cause ≡ StopCause.JournalFull) }
     ensures full_only { IfErr result (λ cause. cause ≡ StopCause.JournalFull
         → is_full fabric.new.log.steps ≡ true) }
     ensures fixed { OnlyRuns fabric.old fabric.new }

@@ -1,6 +1,6 @@
 //! The pump's rule: what a link does next by itself, as its plans say.
 
-ghost use Rattle.std.specs.Prelude.{◌≡◌, ◌<◌, true, length, is_some, None, IfOk, IfErr, OnErr};
+ghost use Rattle.std.specs.Prelude.{◌≡◌, ◌<◌, true, length, is_some, None, Err, IfOk, IfErr, OnErr};
 ghost use Rattle.std.specs.Prelude.{IsErr};
 ghost use Rattle.carrier.specs.Events.{flight_from};
 ghost use Rattle.journal.specs.Logs.{is_full};
@@ -156,8 +156,8 @@ pub fn pump_on(fabric: &mut Fabric, script: &Script, link: LinkNo) -> Result<Pum
     requires declared { IsLinkOf fabric.old.shape link }
     ensures ok { IfOk result (IsPump script.now link fabric.old fabric.new) }
     ensures settling { is_some (settler_in fabric.old) ≡ true → IsErr result }
-    ensures full { is_full fabric.old.log.steps ≡ true → stirs_in fabric.old link ≡ true
-        → IsErr result }
+    ensures full { IsFullForLink fabric.old link
+        → result ≡ Err (record { cause = StopCause.JournalFull; hand = None }) }
     ensures full_only { IfErr result (λ stop. stop.cause ≡ StopCause.JournalFull
         → IsFullForLink fabric.old link) }
     ensures hand { IfErr result (λ stop. stop.hand ≡ None) }
@@ -185,7 +185,7 @@ pub(crate) fn pump_turn(
     requires declared { IsLinkOf fabric.old.shape link }
     ensures ok { IfOk result (IsPump script.now link fabric.old fabric.new) }
     ensures full { is_full fabric.old.log.steps ≡ true → stirs_in fabric.old link ≡ true
-        → IsErr result }
+        → result ≡ Err StopCause.JournalFull }
     ensures full_only { IfErr result (λ cause. cause ≡ StopCause.JournalFull
         → IsFullForLink fabric.old link) }
     ensures fixed { OnlyRuns fabric.old fabric.new }

@@ -1,6 +1,6 @@
 //! The actors and the links of a script on a fabric: their turns, rounds and whole runs.
 ghost use Rattle.std.specs.Prelude.{◌≡◌, ℕ, ◌<◌, ◌≤◌, true, false, [], length, map, IfOk, IfErr};
-ghost use Rattle.std.specs.Prelude.{OnOk, OnErr, IsErr, is_some, not, ◌&&◌, ◌||◌, ◌+◌, None};
+ghost use Rattle.std.specs.Prelude.{OnOk, OnErr, IsErr, Err, is_some, not, ◌&&◌, ◌||◌, ◌+◌, None};
 ghost use Rattle.journal.specs.Logs.{is_full};
 ghost use Rattle.journal.specs.History.{has_ended};
 ghost use Rattle.journal.specs.Rest.{is_idle};
@@ -12,7 +12,7 @@ ghost use Rattle.fabric.specs.Machine.{is_at_rest};
 ghost use Rattle.fabric.specs.Run.{Layout};
 ghost use Rattle.stage.specs.Plays.{AllFollowWhole, IsSoFar};
 ghost use Rattle.stage.specs.Seats.{IsStaged, unstarted};
-ghost use Rattle.stage.specs.Settlings.{settler_in, stirs_in};
+ghost use Rattle.stage.specs.Settlings.{settler_in};
 ghost use Rattle.stage.specs.Turns.{AreRounds, AreTurns, IsBehind, IsFullForActor, IsFullForLink};
 ghost use Rattle.stage.specs.Turns.{IsPump, IsRound};
 ghost use Rattle.stage.specs.Turns.{IsStoppedRound, IsStoppedRun, IsTurn};
@@ -173,6 +173,9 @@ impl Stage {
             → IsErr result × (self.new ≡ self.old) }
         ensures full { is_full self.old.run.log.steps ≡ true
             → has_ended self.old.run.log.steps actor ≡ false → IsErr result }
+        ensures full_settling { is_full self.old.run.log.steps ≡ true
+            → is_some (settler_in self.old.run) ≡ true
+            → result ≡ Err (record { cause = StopCause.JournalFull; hand = None }) }
         ensures full_only { IfErr result (λ stop. stop.cause ≡ StopCause.JournalFull
             → IsFullForActor self.new.run actor) }
         ensures hand { IfErr result (λ stop. stop.hand ≡ None) }
@@ -195,6 +198,8 @@ impl Stage {
             → IsErr result × (self.new ≡ self.old) }
         ensures full { is_full self.old.run.log.steps ≡ true
             → has_ended self.old.run.log.steps actor ≡ false → IsErr result }
+        ensures full_settling { is_full self.old.run.log.steps ≡ true
+            → is_some (settler_in self.old.run) ≡ true → result ≡ Err StopCause.JournalFull }
         ensures full_only { IfErr result (λ cause. cause ≡ StopCause.JournalFull
             → IsFullForActor self.new.run actor) }
         ensures not_over { IfErr result (λ cause. cause ≡ StopCause.JournalFull
@@ -218,8 +223,8 @@ impl Stage {
         ensures ok { IfOk result (IsPump self.old.script link self.old.run self.new.run) }
         ensures script { self.new.script ≡ self.old.script }
         ensures settling { is_some (settler_in self.old.run) ≡ true → IsErr result }
-        ensures full { is_full self.old.run.log.steps ≡ true
-            → stirs_in self.old.run link ≡ true → IsErr result }
+        ensures full { IsFullForLink self.old.run link
+            → result ≡ Err (record { cause = StopCause.JournalFull; hand = None }) }
         ensures full_only { IfErr result (λ stop. stop.cause ≡ StopCause.JournalFull
             → IsFullForLink self.old.run link) }
         ensures hand { IfErr result (λ stop. stop.hand ≡ None) }
