@@ -103,7 +103,7 @@ fn play_in_order(alloc: Global, script: Script) -> Result<Ran, NoMemory>
     let mut stage = Stage::new(alloc, script)?;
     let stop = match stage.play() {
         Ok(()) => None,
-        Err(stop) => Some(stop.cause),
+        Err(cause) => Some(cause),
     };
     Ok(Ran { stage, stop })
 }

@@ -34,7 +34,6 @@ use Rattle.fabric.specs.Machine.{all_have_ended, have_ended}
 use Rattle.fabric.specs.Asks.{MayAsk}
 use Rattle.fabric.specs.Machine.{pumped_head}
 use Rattle.fabric.specs.Run.{IsReached, IsReachedBy, IsStepFor, Layout}
-use Rattle.fabric.specs.declared.stop.StepStop.{StepStop}
 use Rattle.fabric.specs.declared.stop.StopCause.{StopCause}
 use Rattle.fabric.proofs.Kept.{get-set, get-set-other}
 use Rattle.fabric.proofs.Resting.{ended-each}
@@ -298,7 +297,7 @@ module _ (script : ScriptParts) (old new : Layout) (players : List Player)
       calm-if (pump_event script old.log.steps (trunks_of old.trunks) l) l pump calm made
   pumped-calm (Err cause) l calm made stopped = kept-calm calm stopped
 
-  pub staged-pumped : (r : Result pumps.Pump StepStop) (l : LinkNo)
+  pub staged-pumped : (r : Result pumps.Pump StopCause) (l : LinkNo)
       → (is_some (settler_in old) ≡ true → IsErr r) → IfOk r (IsPump script l old new)
       → OnErr r (new ≡ old) → IsStaged script new players
   staged-pumped (Ok pump) l settling made stopped =

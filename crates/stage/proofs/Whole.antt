@@ -2,7 +2,6 @@
 use Rattle.std.proofs.Common.{◌≡◌, ℕ, zero, suc, ◌+◌, ◌-◌, ◌<◌, ◌≤◌, ◌⊎◌, Bool, true, false, List}
 use Rattle.std.proofs.Common.{length, Result, Ok, Err, IfErr, OnErr, OnOk, Option, Some, None, refl}
 use Rattle.std.proofs.Common.{sym, ◌∙◌, ap, subst, inl, inr, arith}
-use Rattle.std.specs.Result.{IsErrAnd}
 use Rattle.std.specs.Prelude.{not, ◌&&◌, is_some, nat_le, nat_lt, if◌then◌else◌}
 use Rattle.std.proofs.lemmas.Bool.{and_parts, cases_order, le-leb, leb-true, lt-leb, ltb-true}
 use Rattle.std.proofs.lemmas.Bool.{true≢false}
@@ -342,22 +341,7 @@ settling-linked script f shape is = go (settler_of f.log.steps) is
             omega (arith, above, within, count)
         on w false stirs_so is = absurd (true≢false (sym is))
 
--- a refusal that is handed on says what was said of it
-pub if_err-handed : {T E : Type 0} (r : Result T E) (e : E) (Says : E → Type 0)
-    → IsErrAnd r (λ x. x ≡ e) → Says e → IfErr r Says
-if_err-handed (Ok x) e Says is says = tt
-if_err-handed (Err x) e Says is says = subst Says (sym is) says
-
+-- what is said of a refusal
 pub on_err-said : {T E : Type 0} (r : Result T E) (Says : Type 0) → Says → OnErr r Says
 on_err-said (Ok x) Says says = tt
 on_err-said (Err x) Says says = says
-
--- what is said of what came of it, said otherwise
-pub on_ok-turned : {T E : Type 0} (r : Result T E) (A B : Type 0) → (A → B) → OnOk r A → OnOk r B
-on_ok-turned (Ok x) A B turn says = turn says
-on_ok-turned (Err x) A B turn says = tt
-
-pub on_err-turned : {T E : Type 0} (r : Result T E) (A B : Type 0) → (A → B) → OnErr r A
-    → OnErr r B
-on_err-turned (Ok x) A B turn says = tt
-on_err-turned (Err x) A B turn says = turn says

@@ -2,7 +2,7 @@
 //! settle the link.
 
 ghost use Rattle.std.specs.Prelude.{◌≡◌, true, false, is_some, None, IfOk, IfErr, OnOk};
-ghost use Rattle.std.specs.Prelude.{OnErr};
+ghost use Rattle.std.specs.Prelude.{OnErr, Err};
 ghost use Rattle.journal.specs.Laws.{IsMaker};
 ghost use Rattle.journal.specs.Logs.{is_full};
 ghost use Rattle.journal.specs.declared.by.By.TheVariants.{Actor};
@@ -12,6 +12,7 @@ ghost use Rattle.run_trunks.specs.States.{trunks_of};
 ghost use Rattle.fabric.specs.Actings.{OnlyRuns};
 ghost use Rattle.fabric.specs.Asks.{MayAsk};
 ghost use Rattle.fabric.specs.Links.{is_settled};
+ghost use Rattle.fabric.specs.Run.{IsStepped};
 ghost use Rattle.stage.specs.Settlings.{GoesOnAfter, IsActedAs, IsSettled, MayGoOn, MaySettle};
 ghost use Rattle.stage.specs.Settlings.{StopsAfter, StopsSettling, if_stirs, settled_by};
 ghost use Rattle.stage.specs.Settlings.{settler_after, settler_by, settler_in, stirs_on, ticks_of};
@@ -96,10 +97,27 @@ fn ticks_of(event: &Event) -> u32
     }
 }
 
+/// Makes the step of an event, with nothing in hand.
+fn make_step(fabric: &mut Fabric, by: By, event: Event) -> Result<StepAnswer, StopCause>
+    requires asked { MayAsk fabric.old by (record { event = event; hand = None }) }
+    ensures ok { IfOk result (IsStepped fabric.old fabric.new by
+        (record { event = event; hand = None })) }
+    ensures fixed { OnlyRuns fabric.old fabric.new }
+    ensures full { is_full fabric.old.log.steps ≡ true → result ≡ Err StopCause.JournalFull }
+    ensures full_only { IfErr result (λ cause. cause ≡ StopCause.JournalFull
+        → is_full fabric.old.log.steps ≡ true) }
+    ensures err { OnErr result (fabric.new ≡ fabric.old) }
+{
+    match fabric.step(by, event, None) {
+        Ok(answer) => Ok(answer),
+        Err(stop) => Err(stop.cause),
+    }
+}
+
 /// Settles a link: makes the steps of its pump, as this maker, until the link doesn't stir. It
 /// answers how many ticks that took: six at most, and then both sides are up with each other. A
 /// stop leaves the steps that were made.
-pub fn settle(fabric: &mut Fabric, by: By, link: LinkNo) -> Result<u32, StepStop>
+pub fn settle(fabric: &mut Fabric, by: By, link: LinkNo) -> Result<u32, StopCause>
     requires declared { IsLinkOf fabric.old.shape link }
     requires maker { IsMaker fabric.old.shape fabric.old.log.steps by }
     requires may { MaySettle by link }
@@ -107,11 +125,10 @@ pub fn settle(fabric: &mut Fabric, by: By, link: LinkNo) -> Result<u32, StepStop
     requires settled { is_settled fabric.old.log.steps link.0 ≡ true }
     ensures ok { IfOk result (λ ticks. IsSettled by link ticks fabric.old fabric.new) }
     ensures err { OnErr result (StopsSettling by link fabric.old fabric.new) }
-    ensures full { IfErr result (λ stop. is_full fabric.new.log.steps ≡ true
-        → stop.cause ≡ StopCause.JournalFull) }
-    ensures full_only { IfErr result (λ stop. stop.cause ≡ StopCause.JournalFull
+    ensures full { IfErr result (λ cause. is_full fabric.new.log.steps ≡ true
+        → cause ≡ StopCause.JournalFull) }
+    ensures full_only { IfErr result (λ cause. cause ≡ StopCause.JournalFull
         → is_full fabric.new.log.steps ≡ true) }
-    ensures hand { IfErr result (λ stop. stop.hand ≡ None) }
     ensures fixed { OnlyRuns fabric.old fabric.new }
 {
     runs_settle();
@@ -119,7 +136,7 @@ pub fn settle(fabric: &mut Fabric, by: By, link: LinkNo) -> Result<u32, StepStop
     let mut ticks = 0;
     'steps: while let Some(event) = settling_event(fabric, link) {
         let more = ticks_of(&event);
-        fabric.step(by, event, None)?;
+        make_step(fabric, by, event)?;
         ticks += more;
     }
     Ok(ticks)
@@ -152,10 +169,8 @@ fn go_on(fabric: &mut Fabric, actor: u32, settled: Option<LinkNo>) -> Result<(),
     if fabric.is_cut(link) {
         return Ok(());
     }
-    match settle(fabric, By::Actor(actor), link) {
-        Ok(_) => Ok(()),
-        Err(stop) => Err(stop.cause),
-    }
+    settle(fabric, By::Actor(actor), link)?;
+    Ok(())
 }
 
 /// Makes the step of what an actor asks for, and settles the link where that was a settle of one

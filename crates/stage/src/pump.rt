@@ -14,7 +14,7 @@ ghost use Rattle.stage.specs.Turns.{IsFullForLink, IsPump, shape_of};
 
 use crate::acting::{is_settling, unsettled};
 use crate::stage::Pump;
-use fabric::{Fabric, StepStop, StopCause};
+use fabric::{Fabric, StopCause};
 use journal::{By, Event};
 use linx_base::{LinkNo, Side, Verdict};
 use script_lang::Script;
@@ -151,27 +151,21 @@ fn planned(plan: &[Verdict], used: u64) -> Verdict
 
 /// One turn of a link's pump, on a fabric that is at hand. A stop leaves it to be made, and nothing
 /// changed: the journal is full, memory was refused, or an actor settles a link and isn't done.
-pub fn pump_on(fabric: &mut Fabric, script: &Script, link: LinkNo) -> Result<Pump, StepStop>
+pub fn pump_on(fabric: &mut Fabric, script: &Script, link: LinkNo) -> Result<Pump, StopCause>
     requires shape { fabric.old.shape ≡ shape_of script.now }
     requires declared { IsLinkOf fabric.old.shape link }
     ensures ok { IfOk result (IsPump script.now link fabric.old fabric.new) }
     ensures settling { is_some (settler_in fabric.old) ≡ true → IsErr result }
-    ensures full { IsFullForLink fabric.old link
-        → result ≡ Err (record { cause = StopCause.JournalFull; hand = None }) }
-    ensures full_only { IfErr result (λ stop. stop.cause ≡ StopCause.JournalFull
+    ensures full { IsFullForLink fabric.old link → result ≡ Err StopCause.JournalFull }
+    ensures full_only { IfErr result (λ cause. cause ≡ StopCause.JournalFull
         → IsFullForLink fabric.old link) }
-    ensures hand { IfErr result (λ stop. stop.hand ≡ None) }
     ensures fixed { OnlyRuns fabric.old fabric.new }
     ensures err { OnErr result (fabric.new ≡ fabric.old) }
 {
     if is_settling(fabric, script) {
-        let cause = unsettled(fabric);
-        return Err(StepStop { cause, hand: None });
+        return Err(unsettled(fabric));
     }
-    match pump_turn(fabric, script, link) {
-        Ok(pump) => Ok(pump),
-        Err(cause) => Err(StepStop { cause, hand: None }),
-    }
+    pump_turn(fabric, script, link)
 }
 
 /// One turn of a link's pump, whoever settles a link. A stop leaves it to be made, and nothing

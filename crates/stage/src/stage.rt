@@ -23,7 +23,7 @@ use crate::acting::{is_settling, unsettled};
 use crate::player::{Player, turn_of};
 use crate::pump::{pump_on, pump_turn};
 use actor_run::Mind;
-use fabric::{Fabric, StepStop, StopCause};
+use fabric::{Fabric, StopCause};
 use journal::Journal;
 use linx_base::{LinkNo, NoMemory, NodeNo, TryCopy};
 use script_lang::{ActorScript, Script};
@@ -164,32 +164,7 @@ impl Stage {
 
     /// One turn of an actor. A stop leaves it to be made, and nothing changed; or a settle is half
     /// done, and then no further turn is taken.
-    pub fn turn(&mut self, actor: u32) -> Result<Turn, StepStop>
-        requires above { 0 < actor }
-        requires within { actor ≤ length self.old.script.actors }
-        ensures ok { IfOk result (IsTurn self.old.script actor self.old.run self.new.run) }
-        ensures script { self.new.script ≡ self.old.script }
-        ensures settling { is_some (settler_in self.old.run) ≡ true
-            → IsErr result × (self.new ≡ self.old) }
-        ensures full { is_full self.old.run.log.steps ≡ true
-            → has_ended self.old.run.log.steps actor ≡ false → IsErr result }
-        ensures full_settling { is_full self.old.run.log.steps ≡ true
-            → is_some (settler_in self.old.run) ≡ true
-            → result ≡ Err (record { cause = StopCause.JournalFull; hand = None }) }
-        ensures full_only { IfErr result (λ stop. stop.cause ≡ StopCause.JournalFull
-            → IsFullForActor self.new.run actor) }
-        ensures hand { IfErr result (λ stop. stop.hand ≡ None) }
-        ensures err { OnErr result
-            (IsTurnStopped self.old.script actor self.old.run self.new.run) }
-    {
-        match self.actor_turn(actor) {
-            Ok(turn) => Ok(turn),
-            Err(cause) => Err(StepStop { cause, hand: None }),
-        }
-    }
-
-    /// One turn of an actor, of which a stop says the cause.
-    fn actor_turn(&mut self, actor: u32) -> Result<Turn, StopCause>
+    pub fn turn(&mut self, actor: u32) -> Result<Turn, StopCause>
         requires above { 0 < actor }
         requires within { actor ≤ length self.old.script.actors }
         ensures ok { IfOk result (IsTurn self.old.script actor self.old.run self.new.run) }
@@ -218,16 +193,14 @@ impl Stage {
     }
 
     /// One turn of a link's pump. A stop leaves it to be made, and nothing changed.
-    pub fn pump(&mut self, link: LinkNo) -> Result<Pump, StepStop>
+    pub fn pump(&mut self, link: LinkNo) -> Result<Pump, StopCause>
         requires declared { IsLinkOf (shape_of self.old.script) link }
         ensures ok { IfOk result (IsPump self.old.script link self.old.run self.new.run) }
         ensures script { self.new.script ≡ self.old.script }
         ensures settling { is_some (settler_in self.old.run) ≡ true → IsErr result }
-        ensures full { IsFullForLink self.old.run link
-            → result ≡ Err (record { cause = StopCause.JournalFull; hand = None }) }
-        ensures full_only { IfErr result (λ stop. stop.cause ≡ StopCause.JournalFull
+        ensures full { IsFullForLink self.old.run link → result ≡ Err StopCause.JournalFull }
+        ensures full_only { IfErr result (λ cause. cause ≡ StopCause.JournalFull
             → IsFullForLink self.old.run link) }
-        ensures hand { IfErr result (λ stop. stop.hand ≡ None) }
         ensures err { OnErr result (self.new ≡ self.old) }
     {
         let _ = &self.players;
@@ -346,7 +319,7 @@ impl Stage {
         let actors = self.script.actors().len() as u32;
         let mut place = self.next_due(0);
         'turns: while place < actors {
-            self.actor_turn(place + 1)?;
+            self.turn(place + 1)?;
             place = self.next_due(place + 1);
         }
         Ok(())
@@ -388,53 +361,37 @@ impl Stage {
         Ok(())
     }
 
-    /// The turns of a round.
-    fn turns(&mut self) -> Result<(), StopCause>
-        ensures ok { OnOk result (IsRound self.old.script self.old.run self.new.run) }
-        ensures script { self.new.script ≡ self.old.script }
-        ensures front { OnErr result ((n : ℕ) × (n < makers self.old.script)
-            × IsStoppedRound self.old.script n self.old.run self.new.run) }
-        ensures full_only { IfErr result (λ cause. cause ≡ StopCause.JournalFull
-            → (is_full self.new.run.log.steps ≡ true) × (is_over self.new.run ≡ false)) }
-    {
-        self.actor_turns()?;
-        if is_settling(&self.fabric, &self.script) {
-            return Err(unsettled(&self.fabric));
-        }
-        self.link_turns()
-    }
-
     /// A round: each actor takes its turn, by number, and then each link. It answers whether all is
     /// over. A stop leaves what the turns before it made, and what the one that stopped did.
-    pub fn round(&mut self) -> Result<bool, StepStop>
+    pub fn round(&mut self) -> Result<bool, StopCause>
         ensures ok { OnOk result (IsRound self.old.script self.old.run self.new.run) }
         ensures over { IfOk result (λ over. over ≡ is_over self.new.run) }
         ensures script { self.new.script ≡ self.old.script }
         ensures front { OnErr result ((n : ℕ) × (n < makers self.old.script)
             × IsStoppedRound self.old.script n self.old.run self.new.run) }
-        ensures full_only { IfErr result (λ stop. stop.cause ≡ StopCause.JournalFull
+        ensures full_only { IfErr result (λ cause. cause ≡ StopCause.JournalFull
             → (is_full self.new.run.log.steps ≡ true) × (is_over self.new.run ≡ false)) }
-        ensures hand { IfErr result (λ stop. stop.hand ≡ None) }
         ensures few { OnOk result (length self.new.run.log.steps ≤ 200000) }
     {
-        match self.turns() {
-            Ok(()) => Ok(self.is_over()),
-            Err(cause) => Err(StepStop { cause, hand: None }),
+        self.actor_turns()?;
+        if is_settling(&self.fabric, &self.script) {
+            return Err(unsettled(&self.fabric));
         }
+        self.link_turns()?;
+        Ok(self.is_over())
     }
 
     /// Rounds until all is over, from whatever was done. A stop leaves the rounds before it, and of
     /// its own round what `round` leaves.
-    pub fn finish(&mut self) -> Result<(), StepStop>
+    pub fn finish(&mut self) -> Result<(), StopCause>
         ensures over { OnOk result (is_over self.new.run ≡ true) }
         ensures rounds { OnOk result ((n : ℕ)
             × AreRounds self.old.script n self.old.run self.new.run) }
         ensures script { self.new.script ≡ self.old.script }
         ensures front { OnErr result
             (IsStoppedRun self.old.script self.old.run self.new.run) }
-        ensures full_only { IfErr result (λ stop. stop.cause ≡ StopCause.JournalFull
+        ensures full_only { IfErr result (λ cause. cause ≡ StopCause.JournalFull
             → (is_full self.new.run.log.steps ≡ true) × (is_over self.new.run ≡ false)) }
-        ensures hand { IfErr result (λ stop. stop.hand ≡ None) }
     {
         'rounds: while !self.is_over() {
             self.round()?;
@@ -443,15 +400,14 @@ impl Stage {
     }
 
     /// The whole run: rounds until all is over. A stop leaves what `finish` leaves.
-    pub fn play(&mut self) -> Result<(), StepStop>
+    pub fn play(&mut self) -> Result<(), StopCause>
         requires unstarted { self.old.run ≡ first_layout self.old.script }
         ensures whole { OnOk result (IsWhole self.old.script self.new.run) }
         ensures script { self.new.script ≡ self.old.script }
         ensures front { OnErr result
             (IsStoppedRun self.old.script self.old.run self.new.run) }
-        ensures full_only { IfErr result (λ stop. stop.cause ≡ StopCause.JournalFull
+        ensures full_only { IfErr result (λ cause. cause ≡ StopCause.JournalFull
             → (is_full self.new.run.log.steps ≡ true) × (is_over self.new.run ≡ false)) }
-        ensures hand { IfErr result (λ stop. stop.hand ≡ None) }
     {
         self.finish()
     }

@@ -12,7 +12,7 @@ use Rattle.script_lang.specs.declared.actor_script.ActorScript.{ActorScript}
 use Rattle.script_lang.specs.Parts.{ScriptParts}
 use Rattle.turn_lock.specs.Passes.{PassView}
 use Rattle.turn_lock.specs.Stories.{IsAddedBy}
-use Rattle.fabric.specs.declared.stop.StepStop.{StepStop}
+use Rattle.fabric.specs.declared.stop.StopCause.{StopCause}
 use Rattle.fabric.specs.Actings.{OnlyRuns}
 use Rattle.fabric.specs.Run.{Layout}
 use Rattle.linx_api.specs.Telling.{PlanParts, maker_number, story_of}
@@ -55,13 +55,13 @@ pumped-gives script p turn found left taken shape behind fixed pumped =
     subst (λ (q : PassView Step PlanParts). IsAddedBy q.number (story_of left) q.front) (sym taken)
     (go pumped.0 pumped.1)
   where
-    go : (r : Result pumps.Pump StepStop)
+    go : (r : Result pumps.Pump StopCause)
         → IsPumpedAs script (link_by script p.number) found left r
         → IsAddedBy p.number (story_of left) (story_of found)
     go (Ok pump) is =
         added-pump script found left fixed (link_by script p.number) p.number
         (number-back script found.shape shape p.number behind) pump is
-    go (Err stop) is = added-none p.number found left is.0
+    go (Err cause) is = added-none p.number found left is.0
 
 -- AFTER ITS TURN a link's worker knows what it is to know
 pub pumped-knows : (script : ScriptParts) → IsOneState script
@@ -81,10 +81,10 @@ pumped-knows script one-state before after working found left turn pumped =
         (subst (λ (f : Layout). OwnPlanned script before.number f.log.steps) (sym same)
         (found-planned script before None working found turn.plan turn.rests))
 
-    moved : settler_in found ≡ None → (r : Result pumps.Pump StepStop)
+    moved : settler_in found ≡ None → (r : Result pumps.Pump StopCause)
         → IsPumpedAs script (link_by script before.number) found left r
         → IsWorking script (having_seen before left) None
     moved calm (Ok pump) is =
         pumped-working script one-state before None working found turn.plan turn.rests turn.reached
         left calm turn.fixed (link_by script before.number) pump is None working.played
-    moved calm (Err stop) is = still is.0
+    moved calm (Err cause) is = still is.0

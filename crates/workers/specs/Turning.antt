@@ -13,7 +13,6 @@ use Rattle.actor_run.specs.Knowing.{stopped_with, told}
 use Rattle.script_lang.specs.Parts.{ScriptParts}
 use Rattle.turn_lock.specs.Passes.{PassView}
 use Rattle.turn_lock.specs.Stories.{RestsFor}
-use Rattle.fabric.specs.declared.stop.StepStop.{StepStop}
 use Rattle.fabric.specs.declared.stop.StopCause.{StopCause}
 use Rattle.fabric.specs.declared.stop.StopCause.TheVariants.{JournalFull}
 use Rattle.fabric.specs.Actings.{OnlyRuns}
@@ -80,15 +79,15 @@ stop_of (Stopped stop) = Some stop.cause
 -- ---- a link's
 
 -- what came of the turn of a pump
-abbrev pub IsPumpedAs : ScriptParts → LinkNo → Layout → Layout → Result Pump StepStop → Type 0
+abbrev pub IsPumpedAs : ScriptParts → LinkNo → Layout → Layout → Result Pump StopCause → Type 0
 IsPumpedAs script l old new (Ok pump) = IsPump script l old new pump
-IsPumpedAs script l old new (Err stop) =
-    (new ≡ old) × (stop.cause ≡ JournalFull → is_full old.log.steps ≡ true)
+IsPumpedAs script l old new (Err cause) =
+    (new ≡ old) × (cause ≡ JournalFull → is_full old.log.steps ≡ true)
 
 -- the turn of the pump of this number
 abbrev pub IsPumpTurn : ScriptParts → ℕ → Layout → Layout → Type 0
 IsPumpTurn script n old new =
-    (result : Result Pump StepStop)
+    (result : Result Pump StopCause)
     × IsPumpedAs script (record { 0 = n - length script.actors }) old new result
 
 -- ---- either's

@@ -178,7 +178,7 @@ pub fn run<R: Threads + Wait + Sync, G: Gate + Sync>(
     }
     let stop = match stage.finish() {
         Ok(()) => None,
-        Err(stop) => Some(stop.cause),
+        Err(cause) => Some(cause),
     };
     Ok(Ran { stage, stop })
 }

@@ -283,7 +283,7 @@ fn stop_in(turned: Turned) -> Option<StopCause>
 }
 
 /// A turn of a link's pump, unless the run was stopped.
-fn pump_in(fabric: &mut Fabric, script: &Script, link: LinkNo) -> Result<Pump, StepStop>
+fn pump_in(fabric: &mut Fabric, script: &Script, link: LinkNo) -> Result<Pump, StopCause>
     requires shape { fabric.old.shape ≡ shape_of script.now }
     requires declared { IsLinkOf fabric.old.shape link }
     ensures came { IsPumpedAs script.now link fabric.old fabric.new result }
@@ -291,15 +291,15 @@ fn pump_in(fabric: &mut Fabric, script: &Script, link: LinkNo) -> Result<Pump, S
     ensures fixed { OnlyRuns fabric.old fabric.new }
 {
     if let Some(cause) = stop_before(fabric, script) {
-        return Err(StepStop { cause, hand: None });
+        return Err(cause);
     }
     pump_on(fabric, script, link)
 }
 
 /// What came of a pump's turn: it is done once all actors have ended and its link doesn't stir. A
 /// stop is noted.
-fn pumped_by(fabric: &mut Fabric, pumped: Result<Pump, StepStop>) -> Turned
-    requires { IfErr pumped (λ stop. stop.cause ≡ StopCause.JournalFull
+fn pumped_by(fabric: &mut Fabric, pumped: Result<Pump, StopCause>) -> Turned
+    requires { IfErr pumped (λ cause. cause ≡ StopCause.JournalFull
         → is_full fabric.old.log.steps ≡ true) }
     ensures same { fabric.new ≡ fabric.old }
     ensures full { stop_in result ≡ Some StopCause.JournalFull
@@ -311,9 +311,9 @@ fn pumped_by(fabric: &mut Fabric, pumped: Result<Pump, StepStop>) -> Turned
             Some(_) => Turned::Waits,
             None => Turned::Done(None),
         },
-        Err(stop) => {
-            fabric.stop(stop.cause);
-            Turned::Done(Some(stop.cause))
+        Err(cause) => {
+            fabric.stop(cause);
+            Turned::Done(Some(cause))
         }
     }
 }

@@ -13,41 +13,41 @@ steps-init c =
     c.requires.maker c.requires.whole c.requires.settled c.journal.ensures.laid_out
     c.journal.ensures.few c.journal.ensures.reached
 
-pub step-requires : goal.step-requires
-step-requires c = record {
+pub make_step-requires : goal.make_step-requires
+make_step-requires c = record {
   asked = settle-asks c.steps.fabric c.args.by c.args.link c.steps.invariant.of_shape
       c.steps.invariant.maker c.steps.invariant.whole c.requires.may c.in-Some.event
       (sym c.in-Some.ensures);
 }
 
-pub returns-in_err-step-clause-err : goal.returns-in_err-step-clause-err
-returns-in_err-step-clause-err c =
+pub returns-in_err-make_step-clause-err : goal.returns-in_err-make_step-clause-err
+returns-in_err-make_step-clause-err c =
     on_err-said c.from_residual.result
-    (StopsSettling c.args.by c.args.link c.args.fabric.now c.step.new.self)
+    (StopsSettling c.args.by c.args.link c.args.fabric.now c.make_step.new.fabric)
     (subst (λ (f : Layout). StopsSettling c.args.by c.args.link c.args.fabric.now f)
-    (sym c.in_err-step.ensures.err.1)
+    (sym c.in_err-make_step.ensures.err)
     (way-stops c.args.by c.args.link c.args.fabric.now c.steps.fabric c.steps.ticks
     c.steps.invariant c.in-Some.event (sym c.in-Some.ensures)))
 
 pub steps-smaller : goal.steps-smaller
 steps-smaller c =
     let room : length c.steps.fabric.log.steps < 200000 =
-    not_full c.steps.fabric.log.steps (λ full. let no = c.in_ok-step.ensures.full full in cc) in
+    not_full c.steps.fabric.log.steps (λ full. let no = c.in_ok-make_step.ensures.full full in cc) in
     let more = way-grows c.runs_settle.ensures c.args.by c.args.link c.args.fabric.now
-    c.steps.fabric c.step.new.self c.steps.ticks c.steps.invariant c.in-Some.event
-    (sym c.in-Some.ensures) c.in_ok-step.field-0 c.in_ok-step.ensures.ok
-    c.in_ok-step.ensures.fixed room in
+    c.steps.fabric c.make_step.new.fabric c.steps.ticks c.steps.invariant c.in-Some.event
+    (sym c.in-Some.ensures) c.in_ok-make_step.field-0 c.in_ok-make_step.ensures.ok
+    c.in_ok-make_step.ensures.fixed room in
     omega (arith, room, more)
 
 pub steps-preserved : goal.steps-preserved
 steps-preserved c =
     let room : length c.steps.fabric.log.steps < 200000 =
-    not_full c.steps.fabric.log.steps (λ full. let no = c.in_ok-step.ensures.full full in cc) in
-    subst (λ (n : ℕ). IsUnderWay c.args.by c.args.link c.args.fabric.now c.step.new.self
+    not_full c.steps.fabric.log.steps (λ full. let no = c.in_ok-make_step.ensures.full full in cc) in
+    subst (λ (n : ℕ). IsUnderWay c.args.by c.args.link c.args.fabric.now c.make_step.new.fabric
     (c.steps.ticks + n)) (sym c.ticks_of-more.ensures)
     (way-more c.runs_settle.ensures c.args.by c.args.link c.args.fabric.now c.steps.fabric
-    c.step.new.self c.steps.ticks c.steps.invariant c.in-Some.event (sym c.in-Some.ensures)
-    c.in_ok-step.field-0 c.in_ok-step.ensures.ok c.in_ok-step.ensures.fixed room)
+    c.make_step.new.fabric c.steps.ticks c.steps.invariant c.in-Some.event (sym c.in-Some.ensures)
+    c.in_ok-make_step.field-0 c.in_ok-make_step.ensures.ok c.in_ok-make_step.ensures.fixed room)
 
 pub returns-clause-ok : goal.returns-clause-ok
 returns-clause-ok c =

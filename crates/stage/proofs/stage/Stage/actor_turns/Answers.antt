@@ -19,7 +19,7 @@ turns-preserved c =
     let script : ScriptParts = c.args.self.now.script in
     let start : Layout = c.args.self.now.run in
     let before : Layout = c.turns.self.run in
-    let now : Layout = c.actor_turn.new.self.run in
+    let now : Layout = c.turn.new.self.run in
     let place : ℕ = c.turns.place in
     let next : ℕ = c.next_due-place-in-turns.result in
     let count : length c.actors.result.now ≡ length s.script.actors =
@@ -28,13 +28,13 @@ turns-preserved c =
     let low : place + 1 ≤ length s.script.actors = omega (arith, count, test) in
     let within : place + 1 ≤ length script.actors =
     subst (λ (p : Play). place + 1 ≤ length p.script.actors) c.self.view_is low in
-    let same : c.actor_turn.new.self.script ≡ script =
-    c.actor_turn.ensures.script ∙ c.turns.invariant.script in
+    let same : c.turn.new.self.script ≡ script =
+    c.turn.ensures.script ∙ c.turns.invariant.script in
     let taken : AreTurns script (place + 1) start now =
     turns-more script start before now place c.turns.invariant.turns
-    (turn-of_actor script (place + 1) before now within c.in_ok-actor_turn.field-0
-    (subst (λ (s : ScriptParts). IsTurn s (place + 1) before now c.in_ok-actor_turn.field-0)
-    c.turns.invariant.script c.in_ok-actor_turn.ensures.ok)) in
+    (turn-of_actor script (place + 1) before now within c.in_ok-turn.field-0
+    (subst (λ (s : ScriptParts). IsTurn s (place + 1) before now c.in_ok-turn.field-0)
+    c.turns.invariant.script c.in_ok-turn.ensures.ok)) in
     record {
       turns = subst (λ (s : ScriptParts). AreTurns s (place + 1) start now
           → AreTurns s next start now) same (c.next_due-place-in-turns.ensures.passed start) taken;
@@ -43,13 +43,13 @@ turns-preserved c =
       script = same;
     }
 
-pub returns-in_err-actor_turn-clause-front : goal.returns-in_err-actor_turn-clause-front
-returns-in_err-actor_turn-clause-front c =
+pub returns-in_err-turn-clause-front : goal.returns-in_err-turn-clause-front
+returns-in_err-turn-clause-front c =
     let s = c.self.inside in
     let script : ScriptParts = c.args.self.now.script in
     let start : Layout = c.args.self.now.run in
     let before : Layout = c.turns.self.run in
-    let now : Layout = c.actor_turn.new.self.run in
+    let now : Layout = c.turn.new.self.run in
     let place : ℕ = c.turns.place in
     let count : length c.actors.result.now ≡ length s.script.actors =
     ap length c.actors.ensures.actors in
@@ -60,4 +60,4 @@ returns-in_err-actor_turn-clause-front c =
     on_err-said c.from_residual.result (HasFront script start now)
     (front-of_actor script start before now place within c.turns.invariant.turns
     (subst (λ (s : ScriptParts). IsTurnStopped s (place + 1) before now)
-    c.turns.invariant.script c.in_err-actor_turn.ensures.err))
+    c.turns.invariant.script c.in_err-turn.ensures.err))

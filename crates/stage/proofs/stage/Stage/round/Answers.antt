@@ -6,11 +6,11 @@ use Rattle.fabric.specs.Run.{Layout}
 use Rattle.stage.specs.Settlings.{settler_in}
 use Rattle.stage.specs.Turns.{AreTurns, IsRound, is_over}
 use Rattle.stage.proofs.Seats.{none-settles}
-use Rattle.stage.proofs.Whole.{HasFront, front-of_link, on_err-turned, on_ok-turned}
+use Rattle.stage.proofs.Whole.{HasFront, front-of_link, on_err-said}
 use Rattle.stage.proofs.Whole.{settling-linked, settling-not_over}
 use Rattle.stage.specs.Plays.{Play}
 use Rattle.journal.specs.Logs.{is_full}
-use Rattle.stage.proofs.stage.Stage.turns.Goals as goal
+use Rattle.stage.proofs.stage.Stage.round.Goals as goal
 
 pub returns-clause-ok : goal.returns-clause-ok
 returns-clause-ok c =
@@ -18,21 +18,20 @@ returns-clause-ok c =
     let start : Layout = c.args.self.now.run in
     let between : Layout = c.actor_turns.new.self.run in
     let now : Layout = c.link_turns.new.self.run in
-    on_ok-turned c.link_turns.result _ (IsRound script start now)
-    (λ ok. subst (λ (s : ScriptParts). AreTurns s (length s.actors) start between
-    → IsRound s start now) c.actor_turns.ensures.script (ok start)
-    c.in_ok-actor_turns.ensures.ok) c.link_turns.ensures.ok
+    subst (λ (s : ScriptParts). AreTurns s (length s.actors) start between → IsRound s start now)
+    c.actor_turns.ensures.script (c.in_ok-link_turns.ensures.ok start)
+    c.in_ok-actor_turns.ensures.ok
 
-pub returns-clause-front : goal.returns-clause-front
-returns-clause-front c =
+pub returns-in_err-link_turns-clause-front : goal.returns-in_err-link_turns-clause-front
+returns-in_err-link_turns-clause-front c =
     let script : ScriptParts = c.args.self.now.script in
     let start : Layout = c.args.self.now.run in
     let between : Layout = c.actor_turns.new.self.run in
     let now : Layout = c.link_turns.new.self.run in
-    on_err-turned c.link_turns.result _ (HasFront script start now)
-    (λ front. subst (λ (s : ScriptParts). AreTurns s (length s.actors) start between
-    → HasFront s start now) c.actor_turns.ensures.script (front start)
-    c.in_ok-actor_turns.ensures.ok) c.link_turns.ensures.front
+    on_err-said c.from_residual-in_err-link_turns.result (HasFront script start now)
+    (subst (λ (s : ScriptParts). AreTurns s (length s.actors) start between
+    → HasFront s start now) c.actor_turns.ensures.script (c.in_err-link_turns.ensures.front start)
+    c.in_ok-actor_turns.ensures.ok)
 
 pub returns-then-is_settling-clause-full_only : goal.returns-then-is_settling-clause-full_only
 returns-then-is_settling-clause-full_only c = λ full.

@@ -7,7 +7,7 @@ use Rattle.stage.specs.Turns.{is_over}
 use Rattle.stage.proofs.Asking.{may_ask}
 use Rattle.stage.proofs.Seats.{none-settles, seat-playing, staged-turned}
 use Rattle.stage.proofs.Whole.{settling-not_over, turn-full, turn-not_over}
-use Rattle.stage.proofs.stage.Stage.actor_turn.Goals as goal
+use Rattle.stage.proofs.stage.Stage.turn.Goals as goal
 
 pub turn_of-requires-clause-playing : goal.turn_of-requires-clause-playing
 turn_of-requires-clause-playing c =
