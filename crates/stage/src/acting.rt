@@ -194,7 +194,7 @@ pub fn act(fabric: &mut Fabric, actor: u32, ask: Ask) -> Acted
 }
 
 /// The cause of the stop of a turn that is to wait until a link is settled.
-pub(crate) fn unsettled(fabric: &Fabric) -> StopCause
+pub fn unsettled(fabric: &Fabric) -> StopCause
     ensures full_only { result ≡ StopCause.JournalFull → is_full fabric.now.log.steps ≡ true }
     ensures full { is_full fabric.now.log.steps ≡ true → result ≡ StopCause.JournalFull }
 {

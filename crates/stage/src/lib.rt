@@ -13,7 +13,7 @@ mod player;
 mod pump;
 mod stage;
 
-pub use acting::{Acted, act, is_settling, settle};
+pub use acting::{Acted, act, is_settling, settle, unsettled};
 pub use player::{Player, actor_of};
 pub use pump::{pump_event, pump_on};
 pub use stage::{Pump, Stage, Turn, nodes_of, players_of};

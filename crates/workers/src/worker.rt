@@ -28,7 +28,7 @@ use linx_outside::Gate;
 use node_kernel::{Ask, StepAnswer};
 use run_states::runs_reach_one_state;
 use script_lang::{ActorScript, Script};
-use stage::{Acted, Player, Pump, act, actor_of, is_settling, pump_on};
+use stage::{Acted, Player, Pump, act, actor_of, is_settling, pump_on, unsettled};
 use std::alloc::Global;
 use std::sync::Wait;
 use std::thread;
@@ -79,10 +79,7 @@ fn stop_before(fabric: &Fabric, script: &Script) -> Option<StopCause>
     if fabric.stopped().is_none() && !is_settling(fabric, script) {
         return None;
     }
-    if fabric.journal().full() {
-        return Some(StopCause::JournalFull);
-    }
-    Some(StopCause::NoMemory)
+    Some(unsettled(fabric))
 }
 
 /// What an actor asks for is done, unless the run was stopped.
