@@ -1,12 +1,14 @@
 //! The whole program, over what a process is given: its command line and its streams.
 
-ghost use Rattle.std.specs.Prelude.{◌≡◌, ◌⊎◌};
+ghost use Rattle.std.specs.Prelude.{◌≡◌, ◌⊎◌, length};
 ghost use Rattle.std.specs.Io.KnownBytes.{Appends};
+ghost use Rattle.linx_outside.specs.Counts.{HasFaulted, NeverFalls};
 ghost use Rattle.linx_outside.specs.Told.{AppendsFront};
 ghost use Rattle.linx_sim.specs.Commands.{ReadsUnder};
 ghost use Rattle.linx_sim.specs.Programs.{IsServed, IsToldUnread, asked_by_line};
 ghost use Rattle.linx_sim.specs.Statuses.{line_of};
 ghost use Rattle.linx_sim.specs.Streams.{Writes};
+ghost use Rattle.linx_sim.specs.declared.outcome.Status.TheVariants.{Done};
 
 use crate::serving::run;
 use crate::told::{Told, tell};
@@ -39,8 +41,14 @@ pub fn program<R: Threads + Wait + Sync, S: Source, K: Sink, L: Sink>(
     ensures unread { IsToldUnread words result.status }
 
     // Of the line that says how it ended.
-    ensures line { Appends (L.held errors.old) (L.held errors.new) (line_of result.status)
+    ensures line { ¬ (HasFaulted L.last_count (L.faults errors.old) (L.faults errors.new))
+        → Appends (L.held errors.old) (L.held errors.new) (line_of result.status) }
+    ensures takes { L.can_take errors.old (length (line_of result.status))
+        → Appends (L.held errors.old) (L.held errors.new) (line_of result.status) }
+    ensures front { Appends (L.held errors.old) (L.held errors.new) (line_of result.status)
         ⊎ AppendsFront (L.held errors.old) (L.held errors.new) (line_of result.status) }
+    ensures silent { result.status ≡ Done → errors.new ≡ errors.old }
+    ensures never_falls { NeverFalls L.last_count (L.faults errors.old) (L.faults errors.new) }
 {
     match words {
         Words::Read(words) => {
