@@ -1,5 +1,5 @@
 -- From what a play and the writing of its text say to the answer of a status.
-use Rattle.std.proofs.Common.{◌≡◌, ◌∙◌, ℕ, true, false, List, [], ap, refl, sym, subst}
+use Rattle.std.proofs.Common.{◌≡◌, ◌∙◌, ℕ, true, false, List, [], ap, inl, inr, refl, sym, subst}
 use Rattle.std.specs.Prelude.{Some, None, Result, Ok, Err, IfOk}
 use Rattle.linx_base.specs.declared.memory.NoMemory.{NoMemory as Refused}
 use Rattle.journal.specs.declared.effect.Step.{Step}
@@ -15,29 +15,39 @@ use Rattle.stage.specs.Plays.{AllFollowWhole, IsSoFar, Play}
 use Rattle.stage.specs.Turns.{is_over, shape_of}
 use Rattle.workers.specs.declared.ran.Ran.{Ran}
 use Rattle.linx_sim.specs.Causes.{is_of_writing, stop_status}
-use Rattle.linx_sim.specs.Runs.{IsAnswerTo, IsLegalSomehow, IsOverUnder, IsRan, IsRunAs, IsRunOf}
-use Rattle.linx_sim.specs.Runs.{IsRunUnder, IsWholeAs}
+use Rattle.linx_sim.specs.Runs.{IsAnswerTo, IsLegalSomehow, IsOverUnder, IsRan, IsRunAs}
+use Rattle.linx_sim.specs.Runs.{IsRunSoFar, IsRunUnder, IsStoppedUnder, IsWholeAs}
 use Rattle.linx_sim.specs.declared.asked.Asked.{Asked}
 use Rattle.linx_sim.specs.declared.asked.Asked.TheVariants.{Run, Serial, Gen}
 use Rattle.linx_sim.specs.declared.outcome.Status.{Status}
 use Rattle.linx_sim.specs.declared.outcome.Status.TheVariants.{Done, Usage, Script, ReadFault}
 use Rattle.linx_sim.specs.declared.outcome.Status.TheVariants.{WriteFault, JournalFull, NoMemory}
 
--- a whole run under a command is one in some order
-run-of : (asked : Asked) (script : ScriptParts) (log : Log) → IsRunUnder asked script log
-    → IsRunOf script log
-run-of Run script log run = run
-run-of Serial script log run = (run.run, run.is)
-run-of (Gen n) script log run = run
+-- a whole run under a command is a run so far under it
+so-far-of : (asked : Asked) (script : ScriptParts) (log : Log) → IsRunUnder asked script log
+    → IsRunSoFar asked script log
+so-far-of Run script log run = record {
+  run = run.0;
+  so_far = run.1.so_far;
+  order = inl run.1.over;
+}
+so-far-of Serial script log run = record {
+  run = run.run;
+  so_far = run.is.so_far;
+  order = inl run.whole;
+}
+so-far-of (Gen n) script log run = record {
+  run = run.0;
+  so_far = run.1.so_far;
+  order = inl run.1.over;
+}
 
 -- a whole run whose text was written, or was to be
 answers-written : (asked : Asked) (status : Status) (script : ScriptParts) (log : Log)
     → is_of_writing status ≡ true → IsRunUnder asked script log → IsAnswerTo asked status script log
 answers-written asked Done script log writes run = run
 answers-written asked WriteFault script log writes run = run
-answers-written asked NoMemory script log writes run =
-    let some = run-of asked script log run in
-    (some.0, some.1.so_far)
+answers-written asked NoMemory script log writes run = so-far-of asked script log run
 answers-written asked JournalFull script log writes run = cc
 answers-written asked Usage script log writes run = cc
 answers-written asked (Script line) script log writes run = cc
@@ -57,16 +67,21 @@ whole-under (Gen n) script run log whole over = (run, whole over)
 
 -- a run that stopped
 answers-stopped : (asked : Asked) (cause : StopCause) (script : ScriptParts) (run : Layout)
-    (log : Log) → IsRunAs script run log
+    (log : Log) → IsRunAs script run log → IsStoppedUnder asked script run
     → (cause ≡ stops.JournalFull → (is_full run.log.steps ≡ true) × (is_over run ≡ false))
     → IsAnswerTo asked (stop_status cause) script log
-answers-stopped asked stops.JournalFull script run log so_far full = record {
+answers-stopped asked stops.JournalFull script run log so_far order full = record {
   run = run;
   so_far = so_far;
   full = subst (λ (l : Log). is_full l.steps ≡ true) so_far.logged (full refl).0;
   turn = (full refl).1;
+  order = order;
 }
-answers-stopped asked stops.NoMemory script run log so_far full = (run, so_far)
+answers-stopped asked stops.NoMemory script run log so_far order full = record {
+  run = run;
+  so_far = so_far;
+  order = inr order;
+}
 
 -- what a stage hands out is a run so far of the script that was played
 run-as : (script : ScriptParts) (stage : Play) (log : Log) → stage.script ≡ script
@@ -112,12 +127,17 @@ pub answers-halted : (asked : Asked) (cause : StopCause) (script : ScriptParts) 
 answers-halted asked cause script ran log is_ran stopped so_far is =
     answers-stopped asked cause script ran.stage.run log
     (run-as script ran.stage log is_ran.of so_far is)
-    (λ full. is_ran.full (stopped ∙ ap Some full))
+    (is_ran.order cause stopped) (λ full. is_ran.full (stopped ∙ ap Some full))
 
 -- a generated script is run as any other one
 pub ran-generated : (n : ℕ) (script : ScriptParts) (played : Result Ran Refused)
     → IfOk played (IsRan Run script) → IfOk played (IsRan (Gen n) script)
-ran-generated n script (Ok ran) is = record { of = is.of; over = is.over; full = is.full }
+ran-generated n script (Ok ran) is = record {
+  of = is.of;
+  over = is.over;
+  order = is.order;
+  full = is.full;
+}
 ran-generated n script (Err refused) is = tt
 
 -- A JOURNAL IS LEGAL whatever the answer: one without steps is

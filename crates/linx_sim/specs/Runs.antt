@@ -6,13 +6,14 @@ use Rattle.journal.specs.Logs.{Log, is_full}
 use Rattle.journal.specs.Shapes.{Shape}
 use Rattle.link_laws.specs.Laws.{IsLegal}
 use Rattle.link_laws.specs.Still.{IsOver}
+use Rattle.fabric.specs.declared.stop.StopCause.{StopCause}
 use Rattle.fabric.specs.declared.stop.StopCause.TheVariants as stops
 use Rattle.fabric.specs.Run.{Layout}
 use Rattle.script_lang.specs.Parts.{ScriptParts}
 use Rattle.script_lang.specs.Reading.{script_of}
 use Rattle.script_words.specs.declared.bad_kind.BadKind.{BadKind}
 use Rattle.stage.specs.Plays.{AllFollowWhole, IsSoFar}
-use Rattle.stage.specs.Turns.{IsWhole, is_over, shape_of}
+use Rattle.stage.specs.Turns.{IsStoppedRun, IsWhole, first_layout, is_over, shape_of}
 use Rattle.workers.specs.declared.ran.Ran.{Ran}
 use Rattle.linx_sim.specs.Statuses.{IsDoneOrRefused}
 use Rattle.linx_sim.specs.Streams.{read_most}
@@ -26,10 +27,6 @@ use Rattle.linx_sim.specs.declared.outcome.Status.TheVariants.{WriteFault, Journ
 pub record IsRunAs (script : ScriptParts) (run : Layout) (log : Log) : Type 0 where
   pub logged : run.log ≡ log
   pub so_far : IsSoFar script run
-
--- a journal so far of a script
-abbrev pub IsRunSoFar : ScriptParts → Log → Type 0
-IsRunSoFar script log = (run : Layout) × IsRunAs script run log
 
 -- a whole run of a script, whose journal has this log: each actor's steps are all that its commands
 -- ask for, and all is over; as the journal tells, every actor has ended, and every link is still
@@ -61,20 +58,36 @@ IsOverUnder Run script run = is_over run ≡ true
 IsOverUnder Serial script run = IsWhole script run
 IsOverUnder (Gen n) script run = is_over run ≡ true
 
+-- a run was stopped: under `serial` in the fixed order, so behind so many of its rounds, and of
+-- the next round so many turns
+abbrev pub IsStoppedUnder : Asked → ScriptParts → Layout → Type 0
+IsStoppedUnder Run script run = Unit {0}
+IsStoppedUnder Serial script run = IsStoppedRun script (first_layout script) run
+IsStoppedUnder (Gen n) script run = Unit {0}
+
 -- a script was run: until all was over, or as far as memory and the journal let it
 pub record IsRan (asked : Asked) (script : ScriptParts) (ran : Ran) : Type 0 where
   pub of : ran.stage.script ≡ script
   pub over : ran.stop ≡ None → IsOverUnder asked script ran.stage.run
+  pub order : (cause : StopCause) → ran.stop ≡ Some cause
+      → IsStoppedUnder asked script ran.stage.run
   pub full : ran.stop ≡ Some stops.JournalFull
       → (is_full ran.stage.run.log.steps ≡ true) × (is_over ran.stage.run ≡ false)
 
 -- a run of a script stopped where an actor or a link has a turn to take, and the journal takes no
--- further step
-pub record IsStoppedFull (script : ScriptParts) (log : Log) : Type 0 where
+-- further step; under `serial` in the fixed order
+pub record IsStoppedFull (asked : Asked) (script : ScriptParts) (log : Log) : Type 0 where
   pub run : Layout
   pub so_far : IsRunAs script run log
   pub full : is_full log.steps ≡ true
   pub turn : is_over run ≡ false
+  pub order : IsStoppedUnder asked script run
+
+-- A JOURNAL IS THAT OF A RUN SO FAR of a script: under `serial` of the fixed order, whole or stopped
+pub record IsRunSoFar (asked : Asked) (script : ScriptParts) (log : Log) : Type 0 where
+  pub run : Layout
+  pub so_far : IsRunAs script run log
+  pub order : IsOverUnder asked script run ⊎ IsStoppedUnder asked script run
 
 -- an empty journal: it has no names and no steps
 abbrev pub IsEmptyLog : Log → Type 0
@@ -88,8 +101,8 @@ IsLegalSomehow P = (shape : Shape) × IsLegal shape P
 abbrev pub IsAnswerTo : Asked → Status → ScriptParts → Log → Type 0
 IsAnswerTo asked Done script log = IsRunUnder asked script log
 IsAnswerTo asked WriteFault script log = IsRunUnder asked script log
-IsAnswerTo asked JournalFull script log = IsStoppedFull script log
-IsAnswerTo asked NoMemory script log = IsRunSoFar script log
+IsAnswerTo asked JournalFull script log = IsStoppedFull asked script log
+IsAnswerTo asked NoMemory script log = IsRunSoFar asked script log
 IsAnswerTo asked _ script log = ⊥
 
 -- what each status says of a script that is at hand: its answer, or that memory was refused before
