@@ -21,7 +21,8 @@ use Rattle.linx_base.specs.declared.item.Item.{Item}
 use Rattle.linx_base.specs.declared.item.Kind.{Kind}
 use Rattle.linx_base.specs.declared.item.Kind.TheVariants.{Plain, Found, Notice}
 use Rattle.linx_base.specs.declared.identity.AttRef.{AttRef}
-use Rattle.linx_base.proofs.FirstMatches.{is_some-first_match, position_at, position_none}
+use Rattle.linx_base.proofs.FirstMatches.{is_some-first_match, is_some-position, position_at}
+use Rattle.linx_base.proofs.FirstMatches.{position_none}
 use Rattle.endpoint_queue.specs.declared.place.Place.{Place}
 use Rattle.sigsel.specs.Selects.{selects}
 use Rattle.sigsel.specs.Selection.{first_selected, is_notice_kind, is_notice_of, is_selected}
@@ -386,6 +387,19 @@ place_selected sel items tickets index paired kept =
     sym (list_any-IsPermutation (λ q. selects sel q.number) _ _ kept.whole)
     ∙ numbers_pass (selects sel) items tickets paired
     ∙ sym (is_some-first_match (is_selected sel) items)
+
+-- where no place's number passes, no item is selected
+pub none_selected : (sel : Sigsel) (items : List Item) (tickets : List ℕ) (index : List Place)
+    → length tickets ≡ length items → IsIndex number_key items tickets index
+    → list_any (λ q. selects sel q.number) index ≡ false → position (is_selected sel) items ≡ None
+none_selected sel items tickets index paired kept none =
+    without (position (is_selected sel) items)
+    (is_some-position (is_selected sel) items
+    ∙ sym (place_selected sel items tickets index paired kept) ∙ none)
+  where
+    without : (o : Option ℕ) → is_some o ≡ false → o ≡ None
+    without None is = refl
+    without (Some k) is = absurd (cc)
 
 -- a notice is found by its attach
 pub notice_alike : (r : AttRef) (item : Item)

@@ -125,7 +125,7 @@ impl Queue {
     ghost use Rattle.endpoint_queue.specs.QueueContent.{next_for, tickets_for};
     ghost use Rattle.sigsel.specs.Selection.{first_selected, is_notice_of, is_selected};
     ghost use Rattle.sigsel.specs.Selection.{without_first};
-    ghost use Rattle.sigsel.specs.declared.sigsel.Sigsel.TheVariants.{Only};
+    ghost use Rattle.sigsel.specs.declared.sigsel.Sigsel.TheVariants.{Not, Only};
 
     /// The empty queue. It takes no memory.
     pub fn new(alloc: Global) -> Queue
@@ -190,6 +190,20 @@ impl Queue {
         self.tickets.binary_search(&ticket).ok()
     }
 
+    /// The position of the first item of a number that isn't listed. That there is none is told by the
+    /// index, so that who waits in vain costs no look at an item.
+    fn first_unlisted(&self, sel: &Sigsel, listed: &[u32]) -> Option<usize>
+        requires { sel.now ≡ Not listed.now }
+        ensures { result ≡ position (is_selected sel.now) self.now.items }
+    {
+        if !has_unlisted(self.indexes.numbers.as_slice(), listed) {
+            return None;
+        }
+        self.items
+            .iter()
+            .position(|item| sel.selects(item.signal.number()))
+    }
+
     /// The position of the first selected item.
     fn first_position(&self, sel: &Sigsel) -> Option<usize>
         ensures { result ≡ position (is_selected sel.now) self.now.items }
@@ -198,10 +212,7 @@ impl Queue {
             Sigsel::Any if self.items.is_empty() => None,
             Sigsel::Any => Some(0),
             Sigsel::Only(listed) => self.first_listed(listed.as_slice()),
-            Sigsel::Not(_) => self
-                .items
-                .iter()
-                .position(|item| sel.selects(item.signal.number())),
+            Sigsel::Not(listed) => self.first_unlisted(sel, listed.as_slice()),
         }
     }
 
