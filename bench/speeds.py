@@ -124,11 +124,13 @@ def attaches(actors):
 
 
 def ping_pong(rounds):
-    """A signal goes to and fro over a link with a window of 1."""
-    return ["node m", "node n", "link l m n window 1",
-            *actor("p", "m", "open a", "hunt l/b", "recv 251", "keep b",
-                   *repeat(rounds, "send b 1", "recv 2")),
-            *actor("q", "n", "open b", *repeat(rounds, "recv 1", "send last 2"))]
+    """Signals go to and fro over two links with windows of 1, ten steps a round and link."""
+    lines = ["node m", "node n"] + [f"link l{k} m n window 1" for k in range(2)]
+    for k in range(2):
+        lines += actor(f"p{k}", "m", f"open a{k}", f"hunt l{k}/b{k}", "recv 251", "keep b",
+                       *repeat(rounds, "send b 1", "recv 2"))
+        lines += actor(f"q{k}", "n", f"open b{k}", *repeat(rounds, "recv 1", "send last 2"))
+    return lines
 
 
 def long_script(size):
@@ -160,7 +162,7 @@ LINES = [
     ("99,900 signals that a waiting actor leaves", in_vain(9990), in_vain(4995)),
     ("60 hunters against openings and closings", hunters(1000), hunters(500)),
     ("100,000 attaches, 70,000 of them detached", attaches(10), attaches(5)),
-    ("ping-pong over a window of 1", ping_pong(9990), ping_pong(4995)),
+    ("130,000 steps of ping-pong, windows of 1", ping_pong(6500), ping_pong(3250)),
     ("a script of 1 MB", long_script(1_000_000), long_script(500_000)),
     ("the text of 200,000 steps with long data", long_data(10), long_data(5)),
     ("20,000 sends and receives of one actor", sends(9998), sends(4999)),

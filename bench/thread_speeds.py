@@ -39,7 +39,7 @@ def waiting(actors):
 
 LINES = [
     ("the generated load of 7", load(100), ["gen", "7"]),
-    ("ping-pong over a window of 1", ping_pong(9990), ["run"]),
+    ("130,000 steps of ping-pong, windows of 1", ping_pong(6500), ["run"]),
     ("ten full queues, 200,000 steps", queues(10), ["run"]),
     ("64 actors and 32 links that start and end", crowd(), ["run"]),
     ("one actor of 20,000 steps, nobody waits", waiting(0), ["run"]),
