@@ -175,110 +175,118 @@ impl Exchanges for Carrier {
     }
 }
 
+const OLD_PACKETS: &str = "# an old packet is refused
+    tick F: stays
+    deliver F 0: nothing
+    deliver T 0: up 1.1 1.1
+    deliver F 0: up 1.1 1.1
+    offer F 5: offered
+    repeat F 0: got 5
+    flying F: 1
+    restart T 2: done
+    tick T: stays
+    deliver T 0: nothing
+    deliver T 0: down 1.1
+    tick F: stays
+    deliver F 1: nothing
+    deliver T 0: up 1.2 2.1
+    deliver F 1: up 2.1 1.2
+    deliver F 0: nothing
+    flying F: 0
+    mine F: 1.2
+    peer F: 2.1
+    mine T: 2.1
+    peer T: 1.2
+
+    # an old piece of a lower session is not taken
+    # The piece was sent in session 1.1 of its side, and comes in its session 2.1.
+    tick F: stays
+    deliver F 0: nothing
+    deliver T 0: up 1.1 1.1
+    deliver F 0: up 1.1 1.1
+    tick T: stays
+    offer T 5: offered
+    flying T: 2
+    lose T 0: done
+    restart T 2: done
+    tick T: stays
+    deliver T 1: down 1.1
+    tick F: stays
+    deliver F 0: nothing
+    deliver T 1: up 1.2 2.1
+    deliver F 0: up 2.1 1.2
+    repeat T 0: nothing
+    deliver T 0: nothing
+    offer T 6: offered
+    deliver T 0: got 6";
+
 #[test]
-fn packets_come_over_a_link(rt: HostRuntime) -> Result<(), Fail> {
-    follows::<Carrier>(
-        rt.alloc(),
-        32,
-        "# an old packet is refused
-        tick F: stays
-        deliver F 0: nothing
-        deliver T 0: up 1.1 1.1
-        deliver F 0: up 1.1 1.1
-        offer F 5: offered
-        repeat F 0: got 5
-        flying F: 1
-        restart T 2: done
-        tick T: stays
-        deliver T 0: nothing
-        deliver T 0: down 1.1
-        tick F: stays
-        deliver F 1: nothing
-        deliver T 0: up 1.2 2.1
-        deliver F 1: up 2.1 1.2
-        deliver F 0: nothing
-        flying F: 0
-        mine F: 1.2
-        peer F: 2.1
-        mine T: 2.1
-        peer T: 1.2
+fn what_is_of_an_old_session_is_not_taken(rt: HostRuntime) -> Result<(), Fail> {
+    follows::<Carrier>(rt.alloc(), 32, OLD_PACKETS)
+}
 
-        # a message comes once in one session
-        tick F: stays
-        deliver F 0: nothing
-        deliver T 0: up 1.1 1.1
-        deliver F 0: up 1.1 1.1
-        offer F 5: offered
-        repeat F 0: got 5
-        deliver F 0: nothing
-        flying F: 0
-        flying T: 2
-        quiet: no
-        deliver T 0: nothing
-        deliver T 0: nothing
-        quiet: yes
+const MESSAGES: &str = "# a message comes once in one session
+    tick F: stays
+    deliver F 0: nothing
+    deliver T 0: up 1.1 1.1
+    deliver F 0: up 1.1 1.1
+    offer F 5: offered
+    repeat F 0: got 5
+    deliver F 0: nothing
+    flying F: 0
+    flying T: 2
+    quiet: no
+    deliver T 0: nothing
+    deliver T 0: nothing
+    quiet: yes
 
-        # an old piece of a lower session is not taken
-        # The piece was sent in session 1.1 of its side, and comes in its session 2.1.
-        tick F: stays
-        deliver F 0: nothing
-        deliver T 0: up 1.1 1.1
-        deliver F 0: up 1.1 1.1
-        tick T: stays
-        offer T 5: offered
-        flying T: 2
-        lose T 0: done
-        restart T 2: done
-        tick T: stays
-        deliver T 1: down 1.1
-        tick F: stays
-        deliver F 0: nothing
-        deliver T 1: up 1.2 2.1
-        deliver F 0: up 2.1 1.2
-        repeat T 0: nothing
-        deliver T 0: nothing
-        offer T 6: offered
-        deliver T 0: got 6
+    # pieces come in any order
+    tick F: stays
+    deliver F 0: nothing
+    deliver T 0: up 1.1 1.1
+    deliver F 0: up 1.1 1.1
+    offer F 150: offered
+    flying F: 3
+    swap F 0 2: done
+    repeat F 0: nothing
+    deliver F 1: nothing
+    repeat F 1: got 150
+    deliver F 0: nothing
+    deliver F 0: nothing";
 
-        # pieces come in any order
-        tick F: stays
-        deliver F 0: nothing
-        deliver T 0: up 1.1 1.1
-        deliver F 0: up 1.1 1.1
-        offer F 150: offered
-        flying F: 3
-        swap F 0 2: done
-        repeat F 0: nothing
-        deliver F 1: nothing
-        repeat F 1: got 150
-        deliver F 0: nothing
-        deliver F 0: nothing
+#[test]
+fn a_message_comes_once_and_its_pieces_in_any_order(rt: HostRuntime) -> Result<(), Fail> {
+    follows::<Carrier>(rt.alloc(), 32, MESSAGES)
+}
 
-        # an undone event leaves the link as it was
-        # What is undone comes again.
-        undone tick F: stays
-        flying F: 0
-        tick F: stays
-        undone lose F 0: done
-        undone deliver F 0: nothing
-        flying F: 1
-        flying T: 0
-        deliver F 0: nothing
-        undone deliver T 0: up 1.1 1.1
-        peer F: none
-        deliver T 0: up 1.1 1.1
-        deliver F 0: up 1.1 1.1
-        undone offer F 200: offered
-        offer F 100: offered
-        flying F: 2
-        undone swap F 0 1: done
-        deliver F 0: nothing
-        undone deliver F 0: got 100
-        deliver F 0: got 100
-        undone restart F 2: done
-        mine F: 1.1
-        peer F: 1.1",
-    )
+const UNDONE: &str = "# an undone event leaves the link as it was
+    # What is undone comes again.
+    undone tick F: stays
+    flying F: 0
+    tick F: stays
+    undone lose F 0: done
+    undone deliver F 0: nothing
+    flying F: 1
+    flying T: 0
+    deliver F 0: nothing
+    undone deliver T 0: up 1.1 1.1
+    peer F: none
+    deliver T 0: up 1.1 1.1
+    deliver F 0: up 1.1 1.1
+    undone offer F 200: offered
+    offer F 100: offered
+    flying F: 2
+    undone swap F 0 1: done
+    deliver F 0: nothing
+    undone deliver F 0: got 100
+    deliver F 0: got 100
+    undone restart F 2: done
+    mine F: 1.1
+    peer F: 1.1";
+
+#[test]
+fn an_undone_event_leaves_the_link_as_it_was(rt: HostRuntime) -> Result<(), Fail> {
+    follows::<Carrier>(rt.alloc(), 32, UNDONE)
 }
 
 #[test]

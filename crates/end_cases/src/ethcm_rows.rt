@@ -176,184 +176,207 @@ impl Exchanges for End {
     }
 }
 
+const CONNECTING: &str = "# a connecting end follows each row of the table of sessions
+    # What a row did is undone before the next one. A tick shows the session and the peer.
+    none 02020018 9.4 0.0 00010000
+    sends 02020018 5.1 9.4 00020000
+    tick
+    sends 02020018 5.1 0.0 00010000
+    up 02020018 9.4 5.1 00020000
+    sends 02020018 5.1 9.4 00030000
+    work
+    tick
+    sends 02020018 5.1 9.4 00030000
+    undo
+    up 02020018 9.4 5.1 00030000
+    rest
+    tick
+    sends 02020018 5.1 9.4 00030000
+    undo
+    none 02020018 9.4 5.2 00020000
+    none 02020018 9.4 5.2 00030000
+    none 02020018 9.4 5.1 00040000
+    none 0205001c 9.4 5.1 00000000 00000000
+    work
+    tick
+    sends 02020018 5.1 0.0 00010000
+
+    # a connecting end asks at each tick and is never lost
+    # What is offered to it does nothing.
+    tick
+    sends 02020018 5.1 0.0 00010000
+    tick
+    sends 02020018 5.1 0.0 00010000
+    tick
+    sends 02020018 5.1 0.0 00010000
+    tick
+    sends 02020018 5.1 0.0 00010000
+    offer 5a*100
+    work";
+
 #[test]
-fn sessions_begin_and_end(rt: HostRuntime) -> Result<(), Fail> {
-    follows::<End>(
-        rt.alloc(),
-        32,
-        "# a connecting end follows each row of the table of sessions
-        # What a row did is undone before the next one. A tick shows the session and the peer.
-        none 02020018 9.4 0.0 00010000
-        sends 02020018 5.1 9.4 00020000
-        tick
-        sends 02020018 5.1 0.0 00010000
-        up 02020018 9.4 5.1 00020000
-        sends 02020018 5.1 9.4 00030000
-        work
-        tick
-        sends 02020018 5.1 9.4 00030000
-        undo
-        up 02020018 9.4 5.1 00030000
-        rest
-        tick
-        sends 02020018 5.1 9.4 00030000
-        undo
-        none 02020018 9.4 5.2 00020000
-        none 02020018 9.4 5.2 00030000
-        none 02020018 9.4 5.1 00040000
-        none 0205001c 9.4 5.1 00000000 00000000
-        work
-        tick
-        sends 02020018 5.1 0.0 00010000
+fn a_connecting_end_follows_the_table_of_sessions(rt: HostRuntime) -> Result<(), Fail> {
+    follows::<End>(rt.alloc(), 32, CONNECTING)
+}
 
-        # bytes that are no packet change nothing
-        # Each is a CONNECT with one change, and the last is the CONNECT.
-        none 01020018 9.4 0.0 00010000
-        none 02000018 9.4 0.0 00010000
-        none 02070018 9.4 0.0 00010000
-        none 02020017 9.4 0.0 00010000
-        none 02020019 9.4 0.0 00010000
-        none 02020018 0.0 0.0 00010000
-        none 02020018 9.4 0.1 00010000
-        none 02020018 9.4 0.0 02010000
-        none 02020018 9.4 0.0 00000000
-        none 02020018 9.4 0.0 00050000
-        none 02020018 9.4 0.0 00010100
-        none 02020018 9.4 0.0 00010000 00
-        none
-        none 02020018 9.4 0.0 00010000
-        sends 02020018 5.1 9.4 00020000
+const NO_PACKETS: &str = "# bytes that are no packet change nothing
+    # Each is a CONNECT with one change, and the last is the CONNECT.
+    none 01020018 9.4 0.0 00010000
+    none 02000018 9.4 0.0 00010000
+    none 02070018 9.4 0.0 00010000
+    none 02020017 9.4 0.0 00010000
+    none 02020019 9.4 0.0 00010000
+    none 02020018 0.0 0.0 00010000
+    none 02020018 9.4 0.1 00010000
+    none 02020018 9.4 0.0 02010000
+    none 02020018 9.4 0.0 00000000
+    none 02020018 9.4 0.0 00050000
+    none 02020018 9.4 0.0 00010100
+    none 02020018 9.4 0.0 00010000 00
+    none
+    none 02020018 9.4 0.0 00010000
+    sends 02020018 5.1 9.4 00020000";
 
-        # an end that is up follows each row of the table of sessions
-        up 02020018 9.4 5.1 00020000
-        sends 02020018 5.1 9.4 00030000
-        keep
-        none 02020018 9.3 5.1 00040000
-        none 0205001c 9.3 5.1 00000000 00000000
-        down 02020018 9.5 0.0 00010000
-        tick
-        sends 02020018 5.2 0.0 00010000
-        undo
-        none 02020018 9.4 0.0 00010000
-        sends 02020018 5.1 9.4 00030000
-        none 0205001c 9.4 5.2 00000000 00000000
-        none 02020018 9.4 5.2 00040000
-        work
-        down 02020018 9.4 5.1 00040000
-        tick
-        sends 02020018 5.2 0.0 00010000
-        undo
-        none 02020018 9.4 5.1 00020000
-        sends 02020018 5.1 9.4 00030000
-        work
-        none 02020018 9.4 5.1 00030000
-        rest
-        undo
-        none 0205001c 9.4 5.1 00000000 00000000
-        rest
-        undo
-        none 0206001c 9.4 5.1 00000001 00000000
-        rest
-        undo
-        work
-        tick
-        sends 02020018 5.1 9.4 00030000
+#[test]
+fn bytes_that_are_no_packet_change_nothing(rt: HostRuntime) -> Result<(), Fail> {
+    follows::<End>(rt.alloc(), 32, NO_PACKETS)
+}
 
-        # a connecting end asks at each tick and is never lost
-        # What is offered to it does nothing.
-        tick
-        sends 02020018 5.1 0.0 00010000
-        tick
-        sends 02020018 5.1 0.0 00010000
-        tick
-        sends 02020018 5.1 0.0 00010000
-        tick
-        sends 02020018 5.1 0.0 00010000
-        offer 5a*100
-        work
+const UP: &str = "# an end that is up follows each row of the table of sessions
+    up 02020018 9.4 5.1 00020000
+    sends 02020018 5.1 9.4 00030000
+    keep
+    none 02020018 9.3 5.1 00040000
+    none 0205001c 9.3 5.1 00000000 00000000
+    down 02020018 9.5 0.0 00010000
+    tick
+    sends 02020018 5.2 0.0 00010000
+    undo
+    none 02020018 9.4 0.0 00010000
+    sends 02020018 5.1 9.4 00030000
+    none 0205001c 9.4 5.2 00000000 00000000
+    none 02020018 9.4 5.2 00040000
+    work
+    down 02020018 9.4 5.1 00040000
+    tick
+    sends 02020018 5.2 0.0 00010000
+    undo
+    none 02020018 9.4 5.1 00020000
+    sends 02020018 5.1 9.4 00030000
+    work
+    none 02020018 9.4 5.1 00030000
+    rest
+    undo
+    none 0205001c 9.4 5.1 00000000 00000000
+    rest
+    undo
+    none 0206001c 9.4 5.1 00000001 00000000
+    rest
+    undo
+    work
+    tick
+    sends 02020018 5.1 9.4 00030000";
 
-        # lost at the third tick since the peer was heard
-        up 02020018 9.4 5.1 00030000
-        tick
-        sends 02020018 5.1 9.4 00030000
-        tick
-        sends 02020018 5.1 9.4 00030000
-        none 02020018 9.4 0.0 00010000
-        sends 02020018 5.1 9.4 00030000
-        tick
-        sends 02020018 5.1 9.4 00030000
-        tick
-        sends 02020018 5.1 9.4 00030000
-        none 02020018 9.4 5.1 00020000
-        sends 02020018 5.1 9.4 00030000
-        tick
-        sends 02020018 5.1 9.4 00030000
-        tick
-        sends 02020018 5.1 9.4 00030000
-        none 02020018 9.4 5.1 00030000
-        tick
-        sends 02020018 5.1 9.4 00030000
-        tick
-        sends 02020018 5.1 9.4 00030000
-        none 0205001c 9.4 5.1 00000000 00000000
-        tick
-        sends 02020018 5.1 9.4 00030000
-        tick
-        sends 02020018 5.1 9.4 00030000
-        lost
-        sends 02020018 5.1 9.4 00040000
-        tick
-        sends 02020018 5.2 0.0 00010000
+#[test]
+fn an_end_that_is_up_follows_the_table_of_sessions(rt: HostRuntime) -> Result<(), Fail> {
+    follows::<End>(rt.alloc(), 32, UP)
+}
 
-        # a broken frame ends the session
-        up 02020018 9.4 5.1 00030000
-        down 02050025 9.4 5.1 04000000 00000000 00000000 00000000 cc
-        tick
-        sends 02020018 5.2 0.0 00010000
+const LOST: &str = "# lost at the third tick since the peer was heard
+    up 02020018 9.4 5.1 00030000
+    tick
+    sends 02020018 5.1 9.4 00030000
+    tick
+    sends 02020018 5.1 9.4 00030000
+    none 02020018 9.4 0.0 00010000
+    sends 02020018 5.1 9.4 00030000
+    tick
+    sends 02020018 5.1 9.4 00030000
+    tick
+    sends 02020018 5.1 9.4 00030000
+    none 02020018 9.4 5.1 00020000
+    sends 02020018 5.1 9.4 00030000
+    tick
+    sends 02020018 5.1 9.4 00030000
+    tick
+    sends 02020018 5.1 9.4 00030000
+    none 02020018 9.4 5.1 00030000
+    tick
+    sends 02020018 5.1 9.4 00030000
+    tick
+    sends 02020018 5.1 9.4 00030000
+    none 0205001c 9.4 5.1 00000000 00000000
+    tick
+    sends 02020018 5.1 9.4 00030000
+    tick
+    sends 02020018 5.1 9.4 00030000
+    lost
+    sends 02020018 5.1 9.4 00040000
+    tick
+    sends 02020018 5.2 0.0 00010000";
 
-        # what was kept and begun is gone after a reconnection
-        # In the next session frames 0 and 1 come, and the kept frame 2 is not there.
-        up 02020018 9.4 5.1 00030000
-        none 02050031 9.4 5.1 03000000 00000000 00010000 00000000 00000007 00000009 00000003 aa
-        sends 0205001c 5.1 9.4 00000000 00000001
-        none 02050025 9.4 5.1 04000000 00000000 00000000 00000002 cc
-        sends 0206001c 5.1 9.4 00000001 00000001
-        down 02020018 9.4 5.1 00040000
-        up 02020018 9.4 5.2 00020000
-        sends 02020018 5.2 9.4 00030000
-        none 02050025 9.4 5.1 04000000 00000000 00010000 00000001 bb
-        none 02050031 9.4 5.2 03000000 00000000 00010000 00000000 00000007 00000009 00000003 aa
-        sends 0205001c 5.2 9.4 00000000 00000001
-        none 02050025 9.4 5.2 04000000 00000000 00010000 00000001 bb
-        sends 0205001c 5.2 9.4 00000000 00000002
-        got 02050025 9.4 5.2 04000000 00000000 00000000 00000002 cc
-        sends 0205001c 5.2 9.4 00000000 00000003
+#[test]
+fn a_silent_peer_is_lost_at_the_third_tick(rt: HostRuntime) -> Result<(), Fail> {
+    follows::<End>(rt.alloc(), 32, LOST)
+}
 
-        # an undone event leaves the end as it was
-        # What was to go out then goes out again.
-        up 02020018 9.4 5.1 00030000
-        none 02050025 9.4 5.1 04000000 00000000 00000000 00000001 bb
-        keep
-        sends 0206001c 5.1 9.4 00000001 00000000
-        got 02050031 9.4 5.1 03000000 00000000 00010000 00000000 00000007 00000009 00000002 aa
-        sends 0205001c 5.1 9.4 00000000 00000002
-        down 02020018 9.4 5.1 00040000
-        undo
-        sends 0206001c 5.1 9.4 00000001 00000000
-        offer 5a*1000
-        undo
-        sends 0206001c 5.1 9.4 00000001 00000000
-        got 02050031 9.4 5.1 03000000 00000000 00010000 00000000 00000007 00000009 00000002 aa
-        sends 0205001c 5.1 9.4 00000000 00000002
+const ENDED: &str = "# a broken frame ends the session
+    up 02020018 9.4 5.1 00030000
+    down 02050025 9.4 5.1 04000000 00000000 00000000 00000000 cc
+    tick
+    sends 02020018 5.2 0.0 00010000
 
-        # a restart begins the first session of the boot
-        up 02020018 9.4 5.1 00030000
-        offer 5a*1000
-        restart
-        work
-        tick
-        sends 02020018 6.1 0.0 00010000",
-    )
+    # what was kept and begun is gone after a reconnection
+    # In the next session frames 0 and 1 come, and the kept frame 2 is not there.
+    up 02020018 9.4 5.1 00030000
+    none 02050031 9.4 5.1 03000000 00000000 00010000 00000000 00000007 00000009 00000003 aa
+    sends 0205001c 5.1 9.4 00000000 00000001
+    none 02050025 9.4 5.1 04000000 00000000 00000000 00000002 cc
+    sends 0206001c 5.1 9.4 00000001 00000001
+    down 02020018 9.4 5.1 00040000
+    up 02020018 9.4 5.2 00020000
+    sends 02020018 5.2 9.4 00030000
+    none 02050025 9.4 5.1 04000000 00000000 00010000 00000001 bb
+    none 02050031 9.4 5.2 03000000 00000000 00010000 00000000 00000007 00000009 00000003 aa
+    sends 0205001c 5.2 9.4 00000000 00000001
+    none 02050025 9.4 5.2 04000000 00000000 00010000 00000001 bb
+    sends 0205001c 5.2 9.4 00000000 00000002
+    got 02050025 9.4 5.2 04000000 00000000 00000000 00000002 cc
+    sends 0205001c 5.2 9.4 00000000 00000003
+
+    # a restart begins the first session of the boot
+    up 02020018 9.4 5.1 00030000
+    offer 5a*1000
+    restart
+    work
+    tick
+    sends 02020018 6.1 0.0 00010000";
+
+#[test]
+fn a_session_takes_nothing_over_from_the_one_before(rt: HostRuntime) -> Result<(), Fail> {
+    follows::<End>(rt.alloc(), 32, ENDED)
+}
+
+const UNDONE: &str = "# an undone event leaves the end as it was
+    # What was to go out then goes out again.
+    up 02020018 9.4 5.1 00030000
+    none 02050025 9.4 5.1 04000000 00000000 00000000 00000001 bb
+    keep
+    sends 0206001c 5.1 9.4 00000001 00000000
+    got 02050031 9.4 5.1 03000000 00000000 00010000 00000000 00000007 00000009 00000002 aa
+    sends 0205001c 5.1 9.4 00000000 00000002
+    down 02020018 9.4 5.1 00040000
+    undo
+    sends 0206001c 5.1 9.4 00000001 00000000
+    offer 5a*1000
+    undo
+    sends 0206001c 5.1 9.4 00000001 00000000
+    got 02050031 9.4 5.1 03000000 00000000 00010000 00000000 00000007 00000009 00000002 aa
+    sends 0205001c 5.1 9.4 00000000 00000002";
+
+#[test]
+fn an_undone_event_leaves_the_end_as_it_was(rt: HostRuntime) -> Result<(), Fail> {
+    follows::<End>(rt.alloc(), 32, UNDONE)
 }
 
 #[test]

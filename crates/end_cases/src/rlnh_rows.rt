@@ -236,166 +236,189 @@ impl Exchanges for RlnhEnd {
     }
 }
 
+const QUESTIONS: &str = "# one query goes out for each name after each connection
+    begin
+    query b
+    query server
+    query b
+    says 0 0 01000000 00000001
+    says 0 0 03000000 62
+    says 0 0 03000000 736572766572
+    says 0 0 03000000 62
+    hears 0 0 01000000 00000001 : nothing
+    says 0 0 02000000 00000001
+    hears 0 0 02000000 00000001 : nothing
+    begin
+    query b
+    says 0 0 01000000 00000001
+    says 0 0 03000000 62
+
+    # a note stays until an endpoint is published
+    opened 1.1 b
+    hears 0 0 03000000 62 : asked b
+    hears 0 0 03000000 62 : asked b
+    opened 1.2 c
+    opened 1.3 b
+    says 0 0 04000000 00000001 0000000100000003 62
+    opened 1.4 b
+    hears 0 0 03000000 62 : asked b
+    publish 1.3 b
+    opened 1.5 b
+    publish 1.5 b
+    says 0 0 04000000 00000002 0000000100000005 62
+    used 2";
+
 #[test]
-fn what_an_end_says_and_hears(rt: HostRuntime) -> Result<(), Fail> {
-    follows::<RlnhEnd>(
-        rt.alloc(),
-        0,
-        "# one query goes out for each name after each connection
-        begin
-        query b
-        query server
-        query b
-        says 0 0 01000000 00000001
-        says 0 0 03000000 62
-        says 0 0 03000000 736572766572
-        says 0 0 03000000 62
-        hears 0 0 01000000 00000001 : nothing
-        says 0 0 02000000 00000001
-        hears 0 0 02000000 00000001 : nothing
-        begin
-        query b
-        says 0 0 01000000 00000001
-        says 0 0 03000000 62
+fn a_name_is_asked_for_once_and_noted_until_it_is_published(rt: HostRuntime) -> Result<(), Fail> {
+    follows::<RlnhEnd>(rt.alloc(), 0, QUESTIONS)
+}
 
-        # a note stays until an endpoint is published
-        opened 1.1 b
-        hears 0 0 03000000 62 : asked b
-        hears 0 0 03000000 62 : asked b
-        opened 1.2 c
-        opened 1.3 b
-        says 0 0 04000000 00000001 0000000100000003 62
-        opened 1.4 b
-        hears 0 0 03000000 62 : asked b
-        publish 1.3 b
-        opened 1.5 b
-        publish 1.5 b
-        says 0 0 04000000 00000002 0000000100000005 62
-        used 2
+const ADDRESSES: &str = "# an address is free when its unpublish is acknowledged
+    # The third endpoint gets the first address once its closing is acknowledged.
+    publish 1.1 b
+    says 0 0 04000000 00000001 0000000100000001 62
+    close 1.1
+    says 0 0 05000000 00000001
+    close 1.1
+    close 1.9
+    publish 1.2 b
+    says 0 0 04000000 00000002 0000000100000002 62
+    hears 0 0 06000000 00000002 : bad
+    hears 0 0 06000000 00000001 : nothing
+    hears 0 0 06000000 00000001 : bad
+    publish 1.3 b
+    says 0 0 04000000 00000001 0000000100000003 62
+    used 2";
 
-        # an address is free when its unpublish is acknowledged
-        # The third endpoint gets the first address once its closing is acknowledged.
-        publish 1.1 b
-        says 0 0 04000000 00000001 0000000100000001 62
-        close 1.1
-        says 0 0 05000000 00000001
-        close 1.1
-        close 1.9
-        publish 1.2 b
-        says 0 0 04000000 00000002 0000000100000002 62
-        hears 0 0 06000000 00000002 : bad
-        hears 0 0 06000000 00000001 : nothing
-        hears 0 0 06000000 00000001 : bad
-        publish 1.3 b
-        says 0 0 04000000 00000001 0000000100000003 62
-        used 2
+#[test]
+fn an_address_is_free_when_its_unpublish_is_acknowledged(rt: HostRuntime) -> Result<(), Fail> {
+    follows::<RlnhEnd>(rt.alloc(), 0, ADDRESSES)
+}
 
-        # a sender is published before its first signal
-        unmet 2.1
-        hears 0 0 04000000 00000007 0000000200000001 736572766572 : met 2.1 server
-        met 2.1
-        send 1.1 b 2.1 5 aa
-        says 0 0 04000000 00000001 0000000100000001 62
-        says 1 7 00000005 aa
-        send 1.1 b 2.1 6
-        says 1 7 00000006
-        hears 0 0 03000000 63 : asked c
-        send 1.2 c 2.1 7
-        says 0 0 04000000 00000002 0000000100000002 63
-        says 2 7 00000007
-        opened 1.3 c
+const SIGNALS: &str = "# a sender is published before its first signal
+    unmet 2.1
+    hears 0 0 04000000 00000007 0000000200000001 736572766572 : met 2.1 server
+    met 2.1
+    send 1.1 b 2.1 5 aa
+    says 0 0 04000000 00000001 0000000100000001 62
+    says 1 7 00000005 aa
+    send 1.1 b 2.1 6
+    says 1 7 00000006
+    hears 0 0 03000000 63 : asked c
+    send 1.2 c 2.1 7
+    says 0 0 04000000 00000002 0000000100000002 63
+    says 2 7 00000007
+    opened 1.3 c
 
-        # a signal arrives at a living address alone
-        hears 0 0 04000000 ffffffff 0000000200000001 736572766572 : met 2.1 server
-        publish 1.1 b
-        says 0 0 04000000 00000001 0000000100000001 62
-        hears 4294967295 1 00000005 aa : arrived 2.1 1.1 5 aa
-        hears 4294967295 1 00000005 : arrived 2.1 1.1 5
-        close 1.1
-        says 0 0 05000000 00000001
-        hears 4294967295 1 00000005 aa : freed 2.1 1.1 5 aa
-        hears 0 0 06000000 00000001 : nothing
-        hears 4294967295 1 00000005 aa : bad
-        hears 0 0 05000000 ffffffff : gone 2.1
-        says 0 0 06000000 ffffffff
-        unmet 2.1
-        hears 0 0 05000000 ffffffff : bad
+    # a signal arrives at a living address alone
+    hears 0 0 04000000 ffffffff 0000000200000001 736572766572 : met 2.1 server
+    publish 1.1 b
+    says 0 0 04000000 00000001 0000000100000001 62
+    hears 4294967295 1 00000005 aa : arrived 2.1 1.1 5 aa
+    hears 4294967295 1 00000005 : arrived 2.1 1.1 5
+    close 1.1
+    says 0 0 05000000 00000001
+    hears 4294967295 1 00000005 aa : freed 2.1 1.1 5 aa
+    hears 0 0 06000000 00000001 : nothing
+    hears 4294967295 1 00000005 aa : bad
+    hears 0 0 05000000 ffffffff : gone 2.1
+    says 0 0 06000000 ffffffff
+    unmet 2.1
+    hears 0 0 05000000 ffffffff : bad";
 
-        # each bad message is bad and gets no answer
-        begin
-        says 0 0 01000000 00000001
-        hears 0 1 01000000 00000001 : bad
-        hears 1 0 01000000 00000001 : bad
-        hears 0 0 07 : bad
-        hears 0 0 : bad
-        hears 0 0 05000000 00000009 : bad
-        hears 0 0 06000000 00000001 : bad
-        hears 5 1 00000005 : bad
-        hears 0 0 04000000 00000001 0000000200000001 62 : met 2.1 b
-        hears 0 0 04000000 00000001 0000000200000001 62 : bad
-        hears 0 0 04000000 00000001 0000000200000002 62 : bad
-        hears 0 0 04000000 00000002 0000000200000001 62 : bad
-        hears 1 9 00000005 : bad
-        publish 1.1 a
-        says 0 0 04000000 00000001 0000000100000001 61
-        hears 1 1 000005 : bad
-        hears 1 1 00000005 : arrived 2.1 1.1 5
-        hears 0 0 06000000 00000001 : bad
+#[test]
+fn signals_go_between_published_and_living_endpoints(rt: HostRuntime) -> Result<(), Fail> {
+    follows::<RlnhEnd>(rt.alloc(), 0, SIGNALS)
+}
 
-        # a connection begins with empty tables
-        hears 0 0 04000000 00000001 0000000200000001 62 : met 2.1 b
-        hears 0 0 03000000 63 : asked c
-        publish 1.1 a
-        says 0 0 04000000 00000001 0000000100000001 61
-        keep
-        begin
-        says 0 0 01000000 00000001
-        unmet 2.1
-        used 0
-        opened 1.2 c
-        hears 1 1 00000005 : bad
-        hears 0 0 04000000 00000001 0000000200000001 62 : met 2.1 b
-        publish 1.3 a
-        says 0 0 04000000 00000001 0000000100000003 61
-        undo
-        used 1
-        hears 1 1 00000005 : arrived 2.1 1.1 5
-        opened 1.2 c
-        says 0 0 04000000 00000002 0000000100000002 63
-        empty
-        used 0
-        unmet 2.1
+const BAD: &str = "# each bad message is bad and gets no answer
+    begin
+    says 0 0 01000000 00000001
+    hears 0 1 01000000 00000001 : bad
+    hears 1 0 01000000 00000001 : bad
+    hears 0 0 07 : bad
+    hears 0 0 : bad
+    hears 0 0 05000000 00000009 : bad
+    hears 0 0 06000000 00000001 : bad
+    hears 5 1 00000005 : bad
+    hears 0 0 04000000 00000001 0000000200000001 62 : met 2.1 b
+    hears 0 0 04000000 00000001 0000000200000001 62 : bad
+    hears 0 0 04000000 00000001 0000000200000002 62 : bad
+    hears 0 0 04000000 00000002 0000000200000001 62 : bad
+    hears 1 9 00000005 : bad
+    publish 1.1 a
+    says 0 0 04000000 00000001 0000000100000001 61
+    hears 1 1 000005 : bad
+    hears 1 1 00000005 : arrived 2.1 1.1 5
+    hears 0 0 06000000 00000001 : bad";
 
-        # what an event did is undone
-        hears 0 0 04000000 00000001 0000000200000001 62 : met 2.1 b
-        hears 0 0 04000000 00000002 0000000200000002 62 : met 2.2 b
-        hears 0 0 03000000 63 : asked c
-        query c
-        keep
-        hears 0 0 05000000 00000001 : gone 2.1
-        hears 0 0 04000000 00000001 0000000200000003 62 : met 2.3 b
-        hears 0 0 05000000 00000001 : gone 2.3
-        hears 0 0 04000000 00000001 0000000200000001 62 : met 2.1 b
-        hears 0 0 03000000 61 : asked a
-        publish 1.1 c
-        opened 1.2 a
-        says 0 0 03000000 63
-        undo
-        unmet 2.3
-        met 2.2
-        says 0 0 03000000 63
-        used 0
-        hears 0 0 05000000 00000001 : gone 2.1
-        says 0 0 06000000 00000001
-        hears 0 0 05000000 00000002 : gone 2.2
-        says 0 0 06000000 00000002
-        opened 1.3 a
-        opened 1.4 c
-        says 0 0 04000000 00000001 0000000100000004 63
-        keep
-        undo
-        unmet 2.1
-        unmet 2.2
-        used 1",
-    )
+#[test]
+fn each_bad_message_gets_no_answer(rt: HostRuntime) -> Result<(), Fail> {
+    follows::<RlnhEnd>(rt.alloc(), 0, BAD)
+}
+
+const CONNECTIONS: &str = "# a connection begins with empty tables
+    hears 0 0 04000000 00000001 0000000200000001 62 : met 2.1 b
+    hears 0 0 03000000 63 : asked c
+    publish 1.1 a
+    says 0 0 04000000 00000001 0000000100000001 61
+    keep
+    begin
+    says 0 0 01000000 00000001
+    unmet 2.1
+    used 0
+    opened 1.2 c
+    hears 1 1 00000005 : bad
+    hears 0 0 04000000 00000001 0000000200000001 62 : met 2.1 b
+    publish 1.3 a
+    says 0 0 04000000 00000001 0000000100000003 61
+    undo
+    used 1
+    hears 1 1 00000005 : arrived 2.1 1.1 5
+    opened 1.2 c
+    says 0 0 04000000 00000002 0000000100000002 63
+    empty
+    used 0
+    unmet 2.1";
+
+#[test]
+fn a_connection_begins_with_empty_tables(rt: HostRuntime) -> Result<(), Fail> {
+    follows::<RlnhEnd>(rt.alloc(), 0, CONNECTIONS)
+}
+
+const UNDONE: &str = "# what an event did is undone
+    hears 0 0 04000000 00000001 0000000200000001 62 : met 2.1 b
+    hears 0 0 04000000 00000002 0000000200000002 62 : met 2.2 b
+    hears 0 0 03000000 63 : asked c
+    query c
+    keep
+    hears 0 0 05000000 00000001 : gone 2.1
+    hears 0 0 04000000 00000001 0000000200000003 62 : met 2.3 b
+    hears 0 0 05000000 00000001 : gone 2.3
+    hears 0 0 04000000 00000001 0000000200000001 62 : met 2.1 b
+    hears 0 0 03000000 61 : asked a
+    publish 1.1 c
+    opened 1.2 a
+    says 0 0 03000000 63
+    undo
+    unmet 2.3
+    met 2.2
+    says 0 0 03000000 63
+    used 0
+    hears 0 0 05000000 00000001 : gone 2.1
+    says 0 0 06000000 00000001
+    hears 0 0 05000000 00000002 : gone 2.2
+    says 0 0 06000000 00000002
+    opened 1.3 a
+    opened 1.4 c
+    says 0 0 04000000 00000001 0000000100000004 63
+    keep
+    undo
+    unmet 2.1
+    unmet 2.2
+    used 1";
+
+#[test]
+fn what_an_event_did_is_undone(rt: HostRuntime) -> Result<(), Fail> {
+    follows::<RlnhEnd>(rt.alloc(), 0, UNDONE)
 }
