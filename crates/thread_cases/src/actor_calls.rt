@@ -5,7 +5,7 @@ ghost use Rattle.linx_base.specs.Content.{data_limit};
 use crate::answers::Answer;
 use crate::callers::{Caller, LINK, named};
 use journal::Event;
-use linx_base::{Blob, Inc, Path, Peer, Signal, TryCopy};
+use linx_base::{AttRef, Blob, Inc, Path, Peer, Signal, TryCopy};
 use node_kernel::StepAnswer;
 use sigsel::Sigsel;
 use std::alloc::Global;
@@ -124,6 +124,28 @@ pub fn hunt<'a, R: Abort + Wait>(
         name: named(rt, alloc, name.as_bytes()),
     };
     let (end, answer) = end.hunt(rt, path, signal(rt, alloc, 1, b""));
+    (Caller { end, number, last }, answer)
+}
+
+/// Attaches to an incarnation of the own node, and hands over the signal that tells of its end.
+pub fn attach<'a, R: Abort + Wait>(
+    rt: &R,
+    alloc: Global,
+    caller: Caller<'a>,
+    to: Inc,
+    (of, data): (u32, &str),
+) -> Told<'a> {
+    let Caller { end, number, last } = caller;
+    let note = signal(rt, alloc, of, data.as_bytes());
+    assert!(rt; note.bytes().len() < 65_532);
+    let (end, answer) = end.attach(rt, Peer::Here(to), note);
+    (Caller { end, number, last }, answer)
+}
+
+/// Takes back the attach of this step.
+pub fn detach<'a, R: Wait>(rt: &R, caller: Caller<'a>, step: u64) -> Told<'a> {
+    let Caller { end, number, last } = caller;
+    let (end, answer) = end.detach(rt, AttRef(step));
     (Caller { end, number, last }, answer)
 }
 

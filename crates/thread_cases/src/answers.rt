@@ -1,7 +1,7 @@
 //! What the answers of a fabric say, as text.
 
 use fabric::{StepStop, StopCause};
-use journal::SentTo;
+use journal::{Detached, Refusal, SentTo};
 use linx_base::{Inc, Item, Kind, Peer, Signal};
 use node_kernel::StepAnswer;
 use std::alloc::{AllocError, Global};
@@ -52,6 +52,24 @@ fn sent_text(sent: SentTo) -> &'static str {
     }
 }
 
+fn detached_text(detached: Detached) -> &'static str {
+    match detached {
+        Detached::Pending => "detached pending",
+        Detached::Queued => "detached queued",
+        Detached::None => "detached none",
+    }
+}
+
+fn refusal_text(refusal: Refusal) -> &'static str {
+    match refusal {
+        Refusal::NotOpen { .. } => "refused not-open",
+        Refusal::IsOpen { .. } => "refused is-open",
+        Refusal::NoPeer => "refused no-peer",
+        Refusal::NoSignal => "refused no-signal",
+        Refusal::NoRef => "refused no-ref",
+    }
+}
+
 /// The cause of a stop, and the number and the data of what came back.
 fn stop_text(alloc: Global, stop: &StepStop) -> Result<String, AllocError> {
     let cause = match stop.cause {
@@ -76,10 +94,15 @@ fn step_text(alloc: Global, answer: &StepAnswer) -> Result<String, AllocError> {
         StepAnswer::Took(item) => return item_text(alloc, item),
         StepAnswer::Sent(sent) => sent_text(*sent),
         StepAnswer::Closed => "closed",
+        StepAnswer::Nothing => "nothing",
         StepAnswer::NotYet => "not yet",
         StepAnswer::Hunted(_) => "hunted",
+        StepAnswer::Attached(reference) => {
+            return format!(in alloc; "attached @{}", reference.0);
+        }
+        StepAnswer::Detached(detached) => detached_text(*detached),
         StepAnswer::Done => "done",
-        _ => "another",
+        StepAnswer::Refused(refusal) => refusal_text(*refusal),
     };
     String::from_str(alloc, word)
 }

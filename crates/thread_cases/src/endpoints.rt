@@ -3,7 +3,8 @@ ghost use Rattle.std.specs.Prelude.{All};
 ghost use Rattle.thread_cases.specs.Fresh.{IsFresh};
 
 use crate::actor_calls::{
-    Told, answer, close, give_back, hunt, open, receive, send, send_shared, wait_for_item,
+    Told, answer, attach, close, detach, give_back, hunt, open, receive, send, send_shared,
+    wait_for_item,
 };
 use crate::answers::answer_text;
 use crate::callers::{Caller, caller_of, locked};
@@ -33,6 +34,12 @@ fn opening(rt: &impl Abort, word: &str) -> Inc {
     Inc::of(NodeNo(1), word.parse().ok().expect(rt, "an opening"))
 }
 
+/// The step of an attach.
+fn reference(rt: &impl Abort, word: &str) -> u64 {
+    let step = word.strip_prefix('@').expect(rt, "a reference");
+    step.parse().ok().expect(rt, "a step")
+}
+
 fn called<'a, R: Abort + Wait>(rt: &R, alloc: Global, caller: Caller<'a>, call: &str) -> Told<'a> {
     let (word, rest) = front(call);
     match word {
@@ -45,6 +52,11 @@ fn called<'a, R: Abort + Wait>(rt: &R, alloc: Global, caller: Caller<'a>, call: 
         "answer" => answer(rt, alloc, caller, signal_of(rt, rest)),
         "give_back" => give_back(rt, caller),
         "hunt" => hunt(rt, alloc, caller, rest),
+        "attach" => {
+            let (to, rest) = front(rest);
+            attach(rt, alloc, caller, opening(rt, to), signal_of(rt, rest))
+        }
+        "detach" => detach(rt, caller, reference(rt, rest)),
         "receive" => receive(rt, caller),
         _ => wait_for_item(rt, caller),
     }
@@ -134,6 +146,55 @@ fn exchange<R: Abort + Wait>(
 fn two_endpoints_exchange_a_signal(rt: HostRuntime) {
     let (lock, passes) = locked(&rt, rt.alloc(), 3);
     exchange(&rt, rt.alloc(), &lock, passes);
+    mem::forget(lock);
+}
+
+/// Two actors on node 1 attach to each other, and the second takes its attach back and closes. The
+/// first is told once, by the signal of its attach with the reason 00 behind it, takes back the
+/// attach of which it wasn't told yet, and then finds neither. An attach to who is closed is
+/// answered at once, with the reason 02.
+fn watch<R: Abort + Wait>(
+    rt: &R,
+    alloc: Global,
+    lock: &TurnLock<SharedFabric>,
+    passes: Vec<Pass<SharedFabric>>,
+)
+    requires { All (IsFresh lock.now) passes.items }
+{
+    let mut passes = passes;
+    let second = last_caller(rt, lock, &mut passes);
+    let _ = passes.pop();
+    let first = last_caller(rt, lock, &mut passes);
+    let first = follow(rt, alloc, first, "open a: opened 1.1");
+    let second = follow(rt, alloc, second, "open b: opened 1.2");
+    let first = follow(rt, alloc, first, WATCH);
+    let second = follow(rt, alloc, second, TAKE_BACK);
+    let _ = follow(rt, alloc, first, LEARN);
+    let _ = follow(rt, alloc, second, "detach @5: refused not-open");
+}
+
+/// Steps 3 and 4: it attaches twice.
+const WATCH: &str = "attach 2 9 gone: attached @3
+    attach 2 8 late: attached @4";
+
+/// Steps 5 to 7: it attaches, takes that back and closes.
+const TAKE_BACK: &str = "attach 1 7 end: attached @5
+    detach @5: detached pending
+    close: closed";
+
+/// Steps 8 to 14: what it is told, and what is left of its attaches.
+const LEARN: &str = "wait: noticed 1.2 9 gone\0
+    detach @4: detached queued
+    detach @4: detached none
+    detach @3: detached none
+    attach 2 6 over: attached @12
+    wait: noticed 1.2 6 over\x02
+    receive: not yet";
+
+#[test]
+fn an_actor_is_told_that_another_closed(rt: HostRuntime) {
+    let (lock, passes) = locked(&rt, rt.alloc(), 3);
+    watch(&rt, rt.alloc(), &lock, passes);
     mem::forget(lock);
 }
 
