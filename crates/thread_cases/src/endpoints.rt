@@ -105,7 +105,7 @@ pub fn follow<'a, R: Abort + Wait>(
 }
 
 /// The actor that has the last of these passes.
-fn last_caller<'a>(
+pub fn last_caller<'a>(
     rt: &impl Abort,
     lock: &'a TurnLock<SharedFabric>,
     passes: &mut Vec<Pass<SharedFabric>>,
@@ -215,7 +215,7 @@ fn send_often<'a, R: Abort + Wait>(
 }
 
 /// A signal of 65,536 bytes is noted twice, as sent and as arrived.
-fn fill_the_journal<R: Abort + Wait>(
+pub fn fill_the_journal<R: Abort + Wait>(
     rt: &R,
     alloc: Global,
     caller: Caller<'_>,
