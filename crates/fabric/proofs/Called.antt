@@ -13,8 +13,6 @@ use Rattle.linx_base.specs.declared.name.Path.{Path}
 use Rattle.linx_base.specs.declared.name.Path.TheVariants.{Local, Over}
 use Rattle.linx_base.specs.declared.signal.SigNote.{SigNote}
 use Rattle.journal.specs.declared.by.By.TheVariants.{Actor}
-use Rattle.journal.specs.declared.event.Event.TheVariants as asks
-use Rattle.journal.specs.declared.head.Head.TheVariants as heads
 use Rattle.journal.specs.Effects.{send_answer}
 use Rattle.journal.specs.History.{endpoint_of}
 use Rattle.journal.specs.Living.{find, is_alive}
@@ -27,7 +25,7 @@ use Rattle.run_trunks.specs.Laws.{AreTrunksOf}
 use Rattle.run_trunks.specs.States.{trunks_of}
 use Rattle.run_trunks.proofs.Lists.{length-each}
 use Rattle.trunk.specs.Events.{TrunkState, closed_at}
-use Rattle.trunk_moves.specs.Steps.{Hunts, HuntsName, Sends, trunks_ending}
+use Rattle.trunk_moves.specs.Steps.{Hunts, Sends, trunks_ending}
 use Rattle.trunk_moves.specs.Trunks.{Become}
 use Rattle.trunk_moves.proofs.Peers.{peer-end}
 use Rattle.fabric.specs.Actings.{HasMade}
@@ -43,7 +41,6 @@ use Rattle.fabric.specs.Remains.{IsKept, Parts, node_left}
 use Rattle.fabric.specs.Run.{Layout}
 use Rattle.fabric.specs.Tellings.{asked_over, sent_over, told_of_call}
 use Rattle.fabric.proofs.Kept.{length-set}
-use Rattle.fabric.proofs.Legal.{IsNamedEvent}
 use Rattle.fabric.proofs.Made.{made-attach, made-close, made-detach, made-end_open}
 use Rattle.fabric.proofs.Made.{made-hunt}
 use Rattle.fabric.proofs.Made.{made-send, with_own}
@@ -170,11 +167,6 @@ module _ {f : Layout} {parts : Parts} {actor place home : ℕ} (acts : Acts f pa
     trunks-count (Attach q signal) = count
     trunks-count (Detach r) = count
 
-    named : (path : Path) (signal : SigNote) → HuntsName (heads.Hunt path signal)
-        → IsNamedEvent (asks.Hunt path)
-    named (Local v) signal typed = tt
-    named (Over l v) signal typed = typed
-
     made-with : (call : Call) → FitsEvent f n (event_of_call call) (signal_in (hand_of_call call))
         → IsTyped call → IsBounded call
         → (let made : CallMade = call_made kernel (length P + 1) j call in
@@ -193,7 +185,7 @@ module _ {f : Layout} {parts : Parts} {actor place home : ℕ} (acts : Acts f pa
     made-with (Hunt path signal) fits typed bounded c then_is =
         made-hunt acts kernel next is standing then stands new (after (Hunt path signal))
         (trunks-count (Hunt path signal)) j path signal (length P + 1) mine fits
-        (named path signal typed) bounded refl c.node_is then_is c.logged (hunts path fits)
+        typed bounded refl c.node_is then_is c.logged (hunts path fits)
     made-with (Attach q signal) fits typed bounded c then_is =
         made-attach acts kernel next is standing then stands new f.trunks count j q signal
         (record { 0 = length P + 1 }) mine fits refl c.node_is then_is c.logged

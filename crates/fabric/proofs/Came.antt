@@ -1,5 +1,5 @@
 -- What stands in a queue is what came at its position.
-use Rattle.std.proofs.Common.{◌≡◌, ℕ, suc, ◌+◌, ◌-◌, ◌<◌, ◌≤◌, Bool, true, false, cond, not, List}
+use Rattle.std.proofs.Common.{◌≡◌, ℕ, suc, ◌+◌, ◌≤◌, Bool, true, false, cond, not, List}
 use Rattle.std.proofs.Common.{[], ◌∷◌, length, Option, Some, refl, ◌∙◌, ap, arith}
 use Rattle.std.specs.Prelude.{◌==◌, slice_get}
 use Rattle.std.specs.List.{list_any, AllByRecursion}
@@ -15,12 +15,12 @@ use Rattle.journal.specs.declared.effect.Effect.TheVariants.{Notified, Met, Gone
 use Rattle.journal.specs.declared.effect.Step.{Step}
 use Rattle.journal.specs.declared.head.Head.{Head}
 use Rattle.journal.specs.History.{endpoint_by, opens}
-use Rattle.journal.specs.Logs.{step_at}
+use Rattle.journal.specs.Logs.{nth_effect, step_at}
 use Rattle.journal.specs.Queues.{is_item_of, items_from, items_in, left_by, queued, removes}
 use Rattle.journal.specs.Queues.{unless_opened}
 use Rattle.journal.specs.Traffic.{is_endpoint}
 use Rattle.journal.proofs.Lists.{all-append, all-filter, all-first_match, all-impl}
-use Rattle.node_kernel.specs.Answers.{effect_in, item_at, item_or_none, items_by}
+use Rattle.node_kernel.specs.Answers.{item_at, item_or_none, items_by}
 
 -- the item came within the history, at its position
 pub record IsCome (P : List Step) (item : Item) : Type 0 where
@@ -39,7 +39,7 @@ come-later : (s : Step) (P : List Step) (item : Item) → IsCome P item → IsCo
 come-later s P item come = record {
   within = let low : item.pos.step ≤ length P = come.within in omega arith;
   came = ap (λ (b : Bool). item_or_none item.pos
-      (items_by item.pos (effect_in (cond b (Some s) (step_at P item.pos.step)) item.pos.place)))
+      (items_by item.pos (nth_effect item.pos.place (cond b (Some s) (step_at P item.pos.step)))))
       (other_number item.pos.step (length P) come.within) ∙ come.came;
 }
 
@@ -48,11 +48,11 @@ module _ (s : Step) (P : List Step) where
   abbrev at : ℕ → ItemAt
   at place = record { step = suc (length P); place = place }
 
-  item_here : (place : ℕ) (e : Effect) → slice_get s.effects (place - 1) ≡ Some e
+  item_here : (place : ℕ) (e : Effect) → nth_effect place (Some s) ≡ Some e
       → item_at (s ∷ P) (at place) ≡ item_or_none (at place) (items_from (at place) e)
   item_here place e is =
       ap (λ (b : Bool). item_or_none (at place)
-      (items_by (at place) (effect_in (cond b (Some s) (step_at P (suc (length P)))) place)))
+      (items_by (at place) (nth_effect place (cond b (Some s) (step_at P (suc (length P)))))))
       (same_number (suc (length P)))
       ∙ ap (λ (o : Option Effect). item_or_none (at place) (items_by (at place) o)) is
 
@@ -64,7 +64,7 @@ module _ (s : Step) (P : List Step) where
     came = ap (item_at (s ∷ P)) where_it ∙ came;
   }
 
-  come-from : (place : ℕ) (e : Effect) → slice_get s.effects (place - 1) ≡ Some e
+  come-from : (place : ℕ) (e : Effect) → nth_effect place (Some s) ≡ Some e
       → AllByRecursion (IsCome (s ∷ P)) (items_from (at place) e)
   come-from place (Arrived i from note) is =
       (come-one place _ refl (item_here place (Arrived i from note) is), tt)
@@ -84,28 +84,29 @@ module _ (s : Step) (P : List Step) where
   come-if true items all = all
   come-if false items all = tt
 
-  come-in : (j : Inc) (place : ℕ) (es : List Effect) → 0 < place
+  come-in : (j : Inc) (place : ℕ) (es : List Effect)
       → ((k : ℕ) (e : Effect) → slice_get es k ≡ Some e
-      → slice_get s.effects ((place - 1) + k) ≡ Some e)
+      → nth_effect (place + k) (Some s) ≡ Some e)
       → AllByRecursion (IsCome (s ∷ P)) (items_in j (suc (length P)) place es)
-  come-in j place [] above there = tt
-  come-in j place (e ∷ es) above there =
-      let first : slice_get s.effects (place - 1) ≡ Some e =
-      ap (slice_get s.effects) (let z : place - 1 ≡ (place - 1) + 0 = omega arith in z)
+  come-in j place [] there = tt
+  come-in j place (e ∷ es) there =
+      let first : nth_effect place (Some s) ≡ Some e =
+      ap (λ (k : ℕ). nth_effect k (Some s)) (let z : place ≡ place + 0 = omega arith in z)
       ∙ there 0 e refl
       in
       all-append (IsCome (s ∷ P)) (cond (is_item_of j e) (items_from (at place) e) [])
       (items_in j (suc (length P)) (place + 1) es)
       (come-if (is_item_of j e) (items_from (at place) e) (come-from place e first))
-      (come-in j (place + 1) es (omega arith)
-      (λ k f is. ap (slice_get s.effects)
-      (let z : ((place + 1) - 1) + k ≡ (place - 1) + suc k = omega arith in z)
+      (come-in j (place + 1) es
+      (λ k f is. ap (λ (n : ℕ). nth_effect n (Some s))
+      (let z : (place + 1) + k ≡ place + suc k = omega arith in z)
       ∙ there (suc k) f is))
 
   come-step : (j : Inc) → AllByRecursion (IsCome (s ∷ P)) (items_in j (suc (length P)) 1 s.effects)
   come-step j =
-      come-in j 1 s.effects (omega arith)
-      (λ k e is. ap (slice_get s.effects) (let z : (1 - 1) + k ≡ k = omega arith in z) ∙ is)
+      come-in j 1 s.effects
+      (λ k e is. ap (λ (n : ℕ). nth_effect n (Some s)) (let z : 1 + k ≡ suc k = omega arith in z)
+      ∙ is)
 
 come-left : (P : List Step) (mine : Bool) (head : Head) (items : List Item)
     → AllByRecursion (IsCome P) items → AllByRecursion (IsCome P) (left_by mine head items)

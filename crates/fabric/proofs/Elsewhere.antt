@@ -469,7 +469,7 @@ module _ (shape : Shape) (P : List Step) (legal : IsLegal shape P) (short : IsSh
   -- A LEGAL STEP is about the node that it changes
   pub step-about : (s : Step) → IsLegalStep shape P s
       → AllByRecursion (IsAbout (changed_node shape s.by s.head)) s.effects
-  step-about s step = head_about s.by s.head s.effects step.effects step.packets step.ticks
+  step-about s step = head_about s.by s.head s.effects step.nodes.effects step.packets step.ticks
 
 -- AND ITS HEAD is none of another node
 abbrev IsOff : ℕ → Option Inc → Type 0

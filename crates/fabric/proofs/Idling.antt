@@ -24,11 +24,11 @@ use Rattle.journal.specs.declared.head.Head.{Head}
 use Rattle.journal.specs.declared.head.Head.TheVariants.{Waits}
 use Rattle.journal.specs.History.{closes, endpoint_by, endpoint_of, is_by, last_opened, opens}
 use Rattle.journal.specs.History.{unless_closed}
-use Rattle.journal.specs.Queues.{is_item_of, items_from, items_in, left_by, queued, removes}
-use Rattle.journal.specs.Queues.{unless_opened}
+use Rattle.journal.specs.Queues.{is_item_of, items_from, items_in, left_by, queued, reached_by}
+use Rattle.journal.specs.Queues.{removes, unless_opened}
 use Rattle.journal.specs.Rest.{is_idle, queue_of, waits_in, waits_in_vain, waits_with}
 use Rattle.journal.specs.Traffic.{is_endpoint}
-use Rattle.fabric.specs.Idle.{AreIdle, IsIdleAt, is_reached, noted_past, reached_by, reaches}
+use Rattle.fabric.specs.Idle.{AreIdle, IsIdleAt, is_reached, noted_past, reaches}
 use Rattle.fabric.specs.Idle.{unless_at, unless_reached, without_maker}
 
 -- A QUEUE of which nothing is selected

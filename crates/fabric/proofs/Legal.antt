@@ -1,7 +1,7 @@
 -- A step of an actor that the machine makes keeps the laws of nodes, and is the one that it makes
 -- of what the step names.
 use Rattle.std.proofs.Common.{◌≡◌, ◌≢◌, ℕ, zero, suc, ◌<◌, ◌≤◌, Bool, true, false, cond, ◌&&◌, ◌||◌}
-use Rattle.std.proofs.Common.{List, [], ◌∷◌, length, Option, Some, None, is_none, inl, inr, refl}
+use Rattle.std.proofs.Common.{List, ◌∷◌, length, Option, Some, None, is_none, inl, inr, refl}
 use Rattle.std.proofs.Common.{sym, ◌∙◌}
 use Rattle.std.proofs.Common.{ap, subst, arith}
 use Rattle.std.specs.Prelude.{◌==◌, is_some}
@@ -13,8 +13,6 @@ use Rattle.linx_base.specs.declared.identity.Inc.{Inc}
 use Rattle.linx_base.specs.declared.identity.LinkNo.{LinkNo}
 use Rattle.linx_base.specs.declared.identity.Side.{Side}
 use Rattle.linx_base.specs.declared.item.Item.{Item}
-use Rattle.linx_base.specs.declared.name.Path.{Path}
-use Rattle.linx_base.specs.declared.name.Path.TheVariants.{Local, Over}
 use Rattle.linx_base.specs.declared.signal.SigNote.{SigNote}
 use Rattle.sigsel.specs.Selection.{first_selected}
 use Rattle.sigsel.specs.declared.sigsel.Sigsel.{Sigsel}
@@ -30,6 +28,7 @@ use Rattle.journal.specs.declared.head.Refusal.{Refusal}
 use Rattle.journal.specs.History.{closed_step, endpoint_by, endpoint_of}
 use Rattle.journal.specs.Laws.{IsBounded, IsMaker, KeepsReceives, KeepsSends}
 use Rattle.journal.specs.Laws.{detached_as, effects_by, is_endpoints, is_opening, may_make}
+use Rattle.journal.specs.Laws.{name_of_path}
 use Rattle.journal.specs.Living.{is_alive}
 use Rattle.journal.specs.Rest.{leaves_at_rest, queue_of, waits_with}
 use Rattle.journal.specs.Shapes.{Shape, node_by}
@@ -42,16 +41,14 @@ use Rattle.fabric.specs.Machine.{all_leave_at_rest, granted_head, head_for, head
 use Rattle.fabric.specs.Machine.{is_at_rest, look, pumped_head, signal_in, vain_look}
 use Rattle.fabric.specs.Run.{IsMade}
 use Rattle.link_laws.specs.Ends.{IsLinkOf}
-use Rattle.link_laws.specs.Laws.{HasEffects, actors_alone, restarting}
-use Rattle.link_laws.specs.Moves.{KeepsNodeLaws}
+use Rattle.link_laws.specs.Laws.{HasEffects, KeepsLinks, KeepsNodeLaws, restarting}
 use Rattle.link_laws.specs.Sessions.{boots}
-use Rattle.trunk_moves.specs.Steps.{HuntsName}
 use Rattle.trunk_moves.specs.Trunks.{RunTrunks}
 
 -- what the types of an event tell: its name is one, and its signal has at most 65,532 bytes
 abbrev pub IsNamedEvent : Event → Type 0
 IsNamedEvent (asks.Open name) = is_name name ≡ true
-IsNamedEvent (asks.Hunt path) = HuntsName (heads.Hunt path (record { number = 0; bytes = [] }))
+IsNamedEvent (asks.Hunt path) = is_name (name_of_path path) ≡ true
 IsNamedEvent _ = Unit {0}
 
 pub record IsTyped (ask : Ask) : Type 0 where
@@ -113,11 +110,21 @@ pub boots-none : (P : List Step) (by : By) (es : List Effect) (n : ℕ) (head : 
 boots-none P by es n (heads.Restart k) off = absurd (true≢false off)
 boots-none P by es n _ off = refl
 
--- A STEP keeps the laws of nodes, hunts for a name, and is made of what it names
+-- where what a head names is there, the link that it speaks of is one of the shape
+links-there : (nodes : ℕ) (shape : Shape) (P : List Step) (trunks : RunTrunks) (node : ℕ)
+    → (head : Head) → FitsRun nodes shape P trunks node (event_of head) (signal_in (hand_of head))
+    → KeepsLinks shape head
+links-there nodes shape P trunks node (heads.Wire l from verdict) fits = fits.of_shape
+links-there nodes shape P trunks node (heads.Tick l side) fits = fits
+links-there nodes shape P trunks node (heads.Cut l) fits = fits
+links-there nodes shape P trunks node (heads.Mend l) fits = fits
+links-there nodes shape P trunks node (heads.Settle l) fits = fits
+links-there nodes shape P trunks node _ fits = tt
+
+-- A STEP keeps the laws of nodes, and is made of what it names
 pub record IsLawful (nodes : ℕ) (shape : Shape) (P : List Step) (trunks : RunTrunks) (s : Step)
     : Type 0 where
   pub laws : KeepsNodeLaws shape P s
-  pub named : HuntsName s.head
   pub made : IsMade nodes shape P trunks s
 
 -- it is so, whoever makes it, by what each law says of its head
@@ -128,11 +135,11 @@ lawful-by : (nodes : ℕ) (shape : Shape) (P : List Step) (trunks : RunTrunks) (
     → (is_endpoints head ≡ true → is_some (endpoint_by P by) ≡ true) → IsBounded head
     → HasEffects shape P (node_by shape by) (endpoint_by P by) head es
     → KeepsSends P (node_by shape by) head
-    → KeepsReceives (actors_alone shape) P (node_by shape by) by (endpoint_by P by) head
-    → HuntsName head → IsMade nodes shape P trunks (record { by = by; head = head; effects = es })
+    → KeepsReceives shape P (node_by shape by) by (endpoint_by P by) head
+    → IsMade nodes shape P trunks (record { by = by; head = head; effects = es })
     → IsLawful nodes shape P trunks (record { by = by; head = head; effects = es })
 lawful-by nodes shape P trunks es by maker head may opens_one needs_one bounds effects sends
-    receives name made = record {
+    receives made = record {
       laws = record {
         makers = record { maker = maker; may = may };
         endpoints = record { opens = opens_one; needs = needs_one };
@@ -140,8 +147,8 @@ lawful-by nodes shape P trunks es by maker head may opens_one needs_one bounds e
         effects = effects;
         sends = sends;
         receives = receives;
+        links = links-there nodes shape P trunks (node_by shape by) head made.fits;
       };
-      named = name;
       made = made;
     }
 
@@ -231,11 +238,11 @@ module _ (nodes : ℕ) (shape : Shape) (P : List Step) (trunks : RunTrunks) (k :
   -- that what it speaks of is there
   made-lawful : (head : Head) → (is_opening head ≡ true → is_none me ≡ true)
       → (is_endpoints head ≡ true → is_some me ≡ true) → IsBounded head → KeepsSends P home head
-      → KeepsReceives (actors_alone shape) P home (Actor k) me head → HuntsName head
-      → IsOfNamed shape P still k head → NamesFitting head → LawfulIf (Some head)
-  made-lawful head opens_one needs_one bounds sends receives name of_named fits =
+      → KeepsReceives shape P home (Actor k) me head → IsOfNamed shape P still k head
+      → NamesFitting head → LawfulIf (Some head)
+  made-lawful head opens_one needs_one bounds sends receives of_named fits =
       lawful-by nodes shape P trunks (effects_for shape P home me head) (Actor k) maker head refl
-      opens_one needs_one bounds (has-effects shape P home me head) sends receives name
+      opens_one needs_one bounds (has-effects shape P home me head) sends receives
       (record {
         given = made-of_named shape P still k head opens_one needs_one of_named;
         fits = fits;
@@ -250,13 +257,12 @@ module _ (nodes : ℕ) (shape : Shape) (P : List Step) (trunks : RunTrunks) (k :
         record {
           others = λ other above within different. rest-others P k (length shape.actors) other
               (and_parts (is_at_rest shape P k) still at_rest).0 above within different;
-          links = refl;
         },
-      ) tt (rw (none, at_rest) refl) tt
+      ) (rw (none, at_rest) refl) tt
   vain f mine none false true at_rest has = tt
   vain f mine none false false at_rest has =
       made-lawful (heads.Waits f) (fails refl) (λ is. mine) tt tt
-      (none, no_filter (waits_with P k) has) tt (rw (none, at_rest, has) refl) tt
+      (none, no_filter (waits_with P k) has) (rw (none, at_rest, has) refl) tt
     where
       no_filter : (w : Option Sigsel) → is_some w ≡ false → w ≡ None
       no_filter None is = refl
@@ -267,7 +273,7 @@ module _ (nodes : ℕ) (shape : Shape) (P : List Step) (trunks : RunTrunks) (k :
   looks f mine None is =
       vain f mine is (is_at_rest shape P k && still) (is_some (waits_with P k)) refl refl
   looks f mine (Some item) is =
-      made-lawful (heads.Take f item.pos) (fails refl) (λ is. mine) tt tt (rw is refl) tt
+      made-lawful (heads.Take f item.pos) (fails refl) (λ is. mine) tt tt (rw is refl)
       (rw is refl) tt
 
   -- WHAT IS GRANTED makes a lawful step
@@ -275,50 +281,44 @@ module _ (nodes : ℕ) (shape : Shape) (P : List Step) (trunks : RunTrunks) (k :
       → length note.bytes ≤ data_limit → FitsRun nodes shape P trunks home event note
       → LawfulIf (head_of shape P still k home me event note)
   granted-lawful (asks.Open name) note g named short fits =
-      made-lawful (heads.Open name) (λ is. g.opening refl) (fails refl) named tt tt tt refl tt
+      made-lawful (heads.Open name) (λ is. g.opening refl) (fails refl) named tt tt refl tt
   granted-lawful asks.Close note g named short fits =
-      made-lawful heads.Close (fails refl) g.needing tt tt tt tt refl tt
+      made-lawful heads.Close (fails refl) g.needing tt tt tt refl tt
   granted-lawful (asks.Send q) note g named short fits =
       made-lawful
       (heads.Send q note (Rattle.journal.specs.Effects.send_answer (is_alive P home q) q))
-      (fails refl) g.needing short refl tt tt refl tt
+      (fails refl) g.needing short refl tt refl tt
   granted-lawful (asks.Look filter) note g named short fits =
       looks filter (g.needing refl) (first_selected filter (queue_of P me)) refl
   granted-lawful (asks.Hunt path) note g named short fits =
-      made-lawful (heads.Hunt path note) (fails refl) g.needing short tt tt
-      (hunts-name path note named) refl fits
-    where
-      hunts-name : (p : Path) (n : SigNote) → IsNamedEvent (asks.Hunt p)
-          → HuntsName (heads.Hunt p n)
-      hunts-name (Local v) n named = tt
-      hunts-name (Over l v) n named = named
+      made-lawful (heads.Hunt path note) (fails refl) g.needing (named, short) tt tt refl fits
   granted-lawful (asks.Attach q) note g named short fits =
-      made-lawful (heads.Attach q note) (fails refl) g.needing fits tt tt tt refl fits
+      made-lawful (heads.Attach q note) (fails refl) g.needing fits tt tt refl fits
   granted-lawful (asks.Detach r) note g named short fits =
-      made-lawful (heads.Detach r (detached_as P home me r)) (fails refl) g.needing tt tt refl tt
+      made-lawful (heads.Detach r (detached_as P home me r)) (fails refl) g.needing tt tt refl
       refl tt
   granted-lawful (asks.Cut link) note g named short fits =
-      made-lawful (heads.Cut link) (fails refl) (fails refl) tt tt tt tt refl fits
+      made-lawful (heads.Cut link) (fails refl) (fails refl) tt tt tt refl fits
   granted-lawful (asks.Mend link) note g named short fits =
-      made-lawful (heads.Mend link) (fails refl) (fails refl) tt tt tt tt refl fits
+      made-lawful (heads.Mend link) (fails refl) (fails refl) tt tt tt refl fits
   granted-lawful (asks.Restart n) note g named short fits =
-      made-lawful (heads.Restart n) (fails refl) (fails refl) tt tt tt tt refl fits
+      made-lawful (heads.Restart n) (fails refl) (fails refl) tt tt tt refl fits
   granted-lawful (asks.Settle link) note g named short fits =
-      made-lawful (heads.Settle link) (fails refl) (fails refl) tt tt tt tt refl fits
+      made-lawful (heads.Settle link) (fails refl) (fails refl) tt tt tt refl fits
   granted-lawful (asks.Refuse reason) note g named short fits =
-      made-lawful (heads.Refused reason) (fails refl) (fails refl) tt tt tt tt refl tt
+      made-lawful (heads.Refused reason) (fails refl) (fails refl) tt tt tt refl tt
   granted-lawful asks.End note g named short fits =
-      made-lawful heads.Ended (fails refl) (fails refl) tt tt tt tt refl tt
+      made-lawful heads.Ended (fails refl) (fails refl) tt tt tt refl tt
   granted-lawful (asks.Wire link from verdict) note g named short fits =
-      made-lawful (heads.Wire link from verdict) (fails refl) (fails refl) tt tt tt tt refl fits
+      made-lawful (heads.Wire link from verdict) (fails refl) (fails refl) tt tt tt refl fits
   granted-lawful (asks.Tick link side) note g named short fits =
-      made-lawful (heads.Tick link side) (fails refl) (fails refl) tt tt tt tt refl fits
+      made-lawful (heads.Tick link side) (fails refl) (fails refl) tt tt tt refl fits
 
   -- a refusal
   pub refused-lawful : (reason : Refusal)
       → IsLawful nodes shape P trunks (made_by (heads.Refused reason))
   refused-lawful reason =
-      made-lawful (heads.Refused reason) (fails refl) (fails refl) tt tt tt tt refl tt
+      made-lawful (heads.Refused reason) (fails refl) (fails refl) tt tt tt refl tt
 
 -- A STEP OF A LINK, by a maker that may make it, whatever its effects are
 module _ (nodes : ℕ) (shape : Shape) (P : List Step) (trunks : RunTrunks) (es : List Effect)
@@ -339,7 +339,7 @@ module _ (nodes : ℕ) (shape : Shape) (P : List Step) (trunks : RunTrunks) (es 
       (record { by = by; head = heads.Wire l from verdict; effects = es })
   wire-lawful l from verdict may meets =
       lawful-by nodes shape P trunks es by maker (heads.Wire l from verdict) may (fails refl)
-      (fails refl) tt tt tt tt tt (record {
+      (fails refl) tt tt tt tt (record {
         given = given (heads.Wire l from verdict) refl refl (λ k. refl) refl by;
         fits = meets;
       })
@@ -349,7 +349,7 @@ module _ (nodes : ℕ) (shape : Shape) (P : List Step) (trunks : RunTrunks) (es 
       → IsLawful nodes shape P trunks (record { by = by; head = heads.Tick l side; effects = es })
   tick-lawful l side may of_shape =
       lawful-by nodes shape P trunks es by maker (heads.Tick l side) may (fails refl) (fails refl)
-      tt tt tt tt tt (record {
+      tt tt tt tt (record {
         given = given (heads.Tick l side) refl refl (λ k. refl) refl by;
         fits = of_shape;
       })

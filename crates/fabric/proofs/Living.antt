@@ -441,7 +441,7 @@ module _ (shape : Shape) (n : ℕ) (above : 0 < n) where
           → (rest : AreUp 0 links (up_session P n) (living P n)) → StayUp P rest s.effects
       by_node true is before rest =
           own_up P rest s.by s.head s.effects (eqb-true (changed_node shape s.by s.head) n is)
-          legal.1.effects legal.1.packets legal.1.ticks
+          legal.1.nodes.effects legal.1.packets legal.1.ticks
       by_node false is before rest =
           stay P rest s.effects (keeps-elsewhere (changed_node shape s.by s.head) n
           (λ same. true≢false (sym (eq-eqb (changed_node shape s.by s.head) n same) ∙ is))

@@ -8,7 +8,6 @@ use Rattle.std.specs.List.{filter}
 use Rattle.std.proofs.lemmas.Bool.{and_parts, true≢false}
 use Rattle.linx_base.specs.declared.identity.Inc.{Inc}
 use Rattle.linx_base.specs.declared.item.Item.{Item}
-use Rattle.linx_base.specs.declared.signal.Reason.TheVariants as reasons
 use Rattle.sigsel.specs.Selection.{first_selected}
 use Rattle.sigsel.specs.declared.sigsel.Sigsel.{Sigsel}
 use Rattle.journal.specs.declared.by.By.TheVariants.{Actor}
@@ -18,7 +17,7 @@ use Rattle.journal.specs.declared.event.Event.TheVariants as asks
 use Rattle.journal.specs.declared.head.Head.{Head}
 use Rattle.journal.specs.declared.head.Head.TheVariants as heads
 use Rattle.journal.specs.declared.head.Refusal.{Refusal}
-use Rattle.journal.specs.Effects.{opening, ending}
+use Rattle.journal.specs.Effects.{ending}
 use Rattle.journal.specs.History.{is_end}
 use Rattle.journal.specs.Logs.{Log}
 use Rattle.journal.specs.Pending.{owed, attach_in, detaches, hunt_in}

@@ -105,7 +105,7 @@ module _ {f : Layout} {parts : Parts} {actor place home : ℕ} (acts : Acts f pa
         → (after : List TrunkState) → MakesTrunks head after
         → IsTrunkStep shape P trunks (step_by head) (trunks_of after)
     run-step head lawful after makes =
-        record { laws = lawful.laws; named = lawful.named; makes = makes }
+        record { laws = lawful.laws; makes = makes }
 
     -- and is what was asked for, answered so
     pub is-step : (head : Head) → IsLawful (length f.log.names.nodes) shape P trunks (step_by head)

@@ -10,7 +10,6 @@ use Rattle.journal.specs.declared.effect.Effect.{Effect}
 use Rattle.journal.specs.declared.event.Event.TheVariants as asks
 use Rattle.journal.specs.declared.event.Event.{Event}
 use Rattle.journal.specs.declared.head.Head.{Head}
-use Rattle.journal.specs.declared.head.Head.TheVariants as heads
 use Rattle.journal.specs.Logs.{Log}
 use Rattle.journal.specs.Shapes.{node_by}
 use Rattle.journal.specs.Pending.{attach_in, detaches, hunt_in}
@@ -101,7 +100,7 @@ module _ {f : Layout} {parts : Parts} {actor place home : ℕ} (acts : Acts f pa
       standing then stands then_eq new new_eq =
       let head : Head = head_of_mark mark l in
       let step : IsTrunkStep shape P trunks (step_by head) trunks =
-      record { laws = lawful.laws; named = lawful.named; makes = makes } in
+      record { laws = lawful.laws; makes = makes } in
       let left : node_left (step_by head ∷ P) node ≡ node_left P node =
       ap (λ (es : List Effect). node_left (record { by = Actor actor; head = head; effects = es }
       ∷ P) node) (sym (none (node_by shape (Actor actor))))

@@ -16,7 +16,7 @@ use Rattle.linx_base.specs.declared.identity.Side.{Side}
 use Rattle.linx_base.specs.declared.identity.Side.TheVariants.{First, Second}
 use Rattle.linx_base.specs.declared.signal.SigNote.{SigNote}
 use Rattle.rlnh_end.specs.declared.heard.Heard.{Heard}
-use Rattle.carrier.specs.Events.{flight_from, handed_by}
+use Rattle.carrier.specs.Events.{handed_by}
 use Rattle.journal.specs.declared.by.By.{By}
 use Rattle.journal.specs.declared.by.By.TheVariants.{Actor, Pump}
 use Rattle.journal.specs.declared.effect.Effect.{Effect}
@@ -167,7 +167,6 @@ module _ {f : Layout} {parts : Parts} (kept : IsKept f parts) (by : By) (l : Lin
       → IsTrunkStep shape P trunks (step_of what) (trunks_of (at_link l change f.trunks))
   run-step what change met = record {
     laws = (lawful what).laws;
-    named = (lawful what).named;
     makes = record {
       of_shape = of_shape;
       flies = meeting.flies;

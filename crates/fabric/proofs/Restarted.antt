@@ -154,7 +154,6 @@ module _ {f : Layout} {parts : Parts} {actor place own_home : ℕ}
       (trunks_of (becomes (2 + boots P n.0)))
   run-step = record {
     laws = lawful.laws;
-    named = lawful.named;
     makes = all-do shape n.0 (λ (side : Side). restarted_at side (2 + boots P n.0)) f.trunks
         kept.counted.trunks;
   }

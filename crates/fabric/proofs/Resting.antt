@@ -13,7 +13,6 @@ use Rattle.journal.specs.Rest.{IsAtRest}
 use Rattle.journal.specs.Shapes.{Shape}
 use Rattle.journal.specs.declared.effect.Step.{Step}
 use Rattle.link_laws.specs.Ends.{IsLinkOf}
-use Rattle.link_laws.specs.Laws.{actors_alone}
 use Rattle.link_laws.specs.Moves.{IsResting}
 use Rattle.link_laws.specs.Sessions.{is_cut}
 use Rattle.link_laws.specs.Still.{AllStill, IsOver}
@@ -101,9 +100,10 @@ module _ (f : Layout) (parts : Parts) (kept : IsKept f parts) where
   all-still still =
       let trunks : RunTrunks = trunks_of f.trunks in
       let carried = trunk_runs_are_runs f.shape f.log.steps trunks (whole-run f parts kept) in
-      (promised_now f.shape f.log.steps (links_of trunks) (keeps-all f parts kept).promises).still
-      (λ l of_shape. sides-rest f.log.steps l (trunks l.0) (carried.kept l of_shape)
-      (rests-all f.shape f.log.steps trunks still l of_shape))
+      λ l of_shape.
+          (promised_now f.shape f.log.steps (links_of trunks) (keeps-all f parts kept).promises)
+          .still l of_shape (sides-rest f.log.steps l (trunks l.0) (carried.kept l of_shape)
+          (rests-all f.shape f.log.steps trunks still l of_shape))
 
   -- AND ALL HAVE ENDED: all is over
   pub all-over : (all_have_ended f.shape f.log.steps
@@ -121,7 +121,7 @@ module _ (f : Layout) (parts : Parts) (kept : IsKept f parts) where
   -- AND THE OTHERS LEAVE AN ACTOR AT REST: it is at rest
   pub at-rest : (k : ℕ) → (is_at_rest f.shape f.log.steps k
       && is_still f.shape f.log.steps (trunks_of f.trunks)) ≡ true
-      → IsAtRest (actors_alone f.shape) f.log.steps k × AllStill f.shape f.log.steps
+      → IsAtRest f.shape f.log.steps k × AllStill f.shape f.log.steps
   at-rest k rest =
       let parts_of = and_parts (is_at_rest f.shape f.log.steps k)
       (is_still f.shape f.log.steps (trunks_of f.trunks)) rest in (
@@ -129,7 +129,6 @@ module _ (f : Layout) (parts : Parts) (kept : IsKept f parts) where
           others = λ other above within different.
               rest-others f.log.steps k (length f.shape.actors) other parts_of.0 above within
               different;
-          links = refl;
         },
         all-still parts_of.1,
       )

@@ -105,7 +105,6 @@ module _ {f : Layout} {parts : Parts} (kept : IsKept f parts) (by : By) (l : Lin
   run-step : IsTrunkStep shape P (trunks_of f.trunks) step (trunks_of becomes)
   run-step = record {
     laws = lawful.laws;
-    named = lawful.named;
     makes = record {
       of_shape = of_shape;
       trunk = ticked_at side t;

@@ -131,4 +131,4 @@ module _ (shape : Shape) (n l : ℕ)
   none-off [] legal = refl
   none-off (s ∷ P) legal =
       ap (λ (up : Option Session). session_past n l up s.effects) (none-off P legal.0)
-      ∙ step_down P s.by s.head s.effects legal.1.effects legal.1.packets legal.1.ticks
+      ∙ step_down P s.by s.head s.effects legal.1.nodes.effects legal.1.packets legal.1.ticks

@@ -2,6 +2,7 @@
 -- journal.
 use Rattle.std.specs.Prelude.{ℕ, ◌≡◌, ◌≤◌, ◌<◌, Bool, true, List, [], ◌∷◌, length, Option, None, Some}
 use Rattle.linx_base.specs.Content.{data_limit}
+use Rattle.linx_base.specs.NameText.{is_name}
 use Rattle.linx_base.specs.declared.identity.Inc.{Inc}
 use Rattle.linx_base.specs.declared.signal.SigNote.{SigNote}
 use Rattle.journal.specs.declared.by.By.{By}
@@ -11,6 +12,7 @@ use Rattle.journal.specs.declared.event.Event.TheVariants as asks
 use Rattle.journal.specs.declared.head.Head.{Head}
 use Rattle.journal.specs.declared.head.Head.TheVariants as heads
 use Rattle.journal.specs.Effects.{arrivals_of, attached, closing, hunted, send_answer}
+use Rattle.journal.specs.Laws.{name_of_path}
 use Rattle.journal.specs.Logs.{Log}
 use Rattle.node_kernel.specs.declared.answers.StepAnswer.{StepAnswer}
 use Rattle.node_kernel.specs.declared.answers.StepAnswer.TheVariants as answers
@@ -18,7 +20,6 @@ use Rattle.node_kernel.specs.declared.ask.Ask.{Ask}
 use Rattle.node_kernel.specs.Calls.{after_attach, after_close, after_detach, after_hunt, after_send}
 use Rattle.node_kernel.specs.Calls.{detached}
 use Rattle.node_kernel.specs.Nodes.{NodeState, find_at, is_living}
-use Rattle.trunk_moves.specs.Steps.{HuntsName}
 use Rattle.fabric.specs.declared.call.Call.{Call}
 use Rattle.fabric.specs.declared.call.Call.TheVariants.{Attach, Close, Detach, End, Hunt, Send}
 use Rattle.fabric.specs.declared.standing.Standing.{Standing}
@@ -58,11 +59,10 @@ IsBounded (Send q signal) = length signal.bytes ≤ data_limit
 IsBounded (Hunt path signal) = length signal.bytes ≤ data_limit
 IsBounded _ = Unit {0}
 
--- what the types of a call tell: a signal's number fits four bytes, and what is hunted over a link
--- is a name
+-- what the types of a call tell: a send's number fits four bytes, and what is hunted for is a name
 abbrev pub IsTyped : Call → Type 0
 IsTyped (Send q signal) = signal.number < 4294967296
-IsTyped (Hunt path signal) = HuntsName (heads.Hunt path signal)
+IsTyped (Hunt path signal) = is_name (name_of_path path) ≡ true
 IsTyped _ = Unit {0}
 
 -- it is known whether the peer of a send is alive

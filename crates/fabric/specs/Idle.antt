@@ -7,18 +7,10 @@ use Rattle.linx_base.specs.declared.identity.Inc.{Inc}
 use Rattle.journal.specs.declared.by.By.{By}
 use Rattle.journal.specs.declared.by.By.TheVariants.{Actor, Pump}
 use Rattle.journal.specs.declared.effect.Effect.{Effect}
-use Rattle.journal.specs.declared.effect.Effect.TheVariants.{Arrived, Closed, Found, Notified}
 use Rattle.journal.specs.declared.effect.Step.{Step}
 use Rattle.journal.specs.History.{endpoint_of}
+use Rattle.journal.specs.Queues.{reached_by}
 use Rattle.journal.specs.Rest.{is_idle}
-
--- the endpoint that an effect closes, or into whose queue it puts an item
-abbrev pub reached_by : Effect → Option Inc
-reached_by (Closed i) = Some i
-reached_by (Arrived i from note) = Some i
-reached_by (Found i from note hunt) = Some i
-reached_by (Notified i from note reference reason) = Some i
-reached_by _ = None
 
 -- this endpoint is reached, if one is
 abbrev pub is_reached : Inc → Option Inc → Bool

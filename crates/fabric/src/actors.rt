@@ -6,7 +6,6 @@ ghost use Rattle.std.specs.Prelude.{length, is_some};
 ghost use Rattle.journal.specs.History.{endpoint_of, has_ended, next_inc, opened_on};
 ghost use Rattle.journal.specs.Rest.{IsAtRest, is_idle, leaves_at_rest, waits_with};
 ghost use Rattle.journal.specs.Shapes.{node_by};
-ghost use Rattle.link_laws.specs.Laws.{actors_alone};
 ghost use Rattle.link_laws.specs.Still.{AllStill, IsOver};
 ghost use Rattle.run_trunks.specs.States.{trunks_of};
 ghost use Rattle.fabric.specs.Actings.{IsHomeOf};
@@ -138,7 +137,7 @@ impl Fabric {
         ensures value { result ≡ (is_at_rest self.now.shape self.now.log.steps actor
             && is_still self.now.shape self.now.log.steps (trunks_of self.now.trunks)) }
         ensures rest { result ≡ true
-            → IsAtRest (actors_alone self.now.shape) self.now.log.steps actor }
+            → IsAtRest self.now.shape self.now.log.steps actor }
         ensures still { result ≡ true → AllStill self.now.shape self.now.log.steps }
     {
         let _ = &self.journal;

@@ -6,10 +6,9 @@ ghost use Rattle.linx_base.specs.declared.signal.SigNote.{SigNote};
 ghost use Rattle.sigsel.specs.Selection.{first_selected};
 ghost use Rattle.linx_base.specs.NameText.{is_name};
 ghost use Rattle.journal.specs.History.{endpoint_of};
-ghost use Rattle.journal.specs.Laws.{IsMaker};
+ghost use Rattle.journal.specs.Laws.{IsMaker, name_of_path};
 ghost use Rattle.journal.specs.Logs.{is_full, step_limit};
 ghost use Rattle.journal.specs.Rest.{is_idle, queue_of, waits_with};
-ghost use Rattle.journal.specs.declared.head.Head.TheVariants as heads;
 ghost use Rattle.link_laws.specs.Laws.{IsLegal};
 ghost use Rattle.link_laws.specs.Runs.{KeepsThroughout};
 ghost use Rattle.link_laws.specs.Still.{IsOver};
@@ -19,7 +18,6 @@ ghost use Rattle.trunk_moves.specs.Trunks.{links_of};
 ghost use Rattle.fabric.specs.Actings.{HasMade, LeavesAll, MayMake, OnlyRuns};
 ghost use Rattle.fabric.specs.Actings.{asking};
 ghost use Rattle.fabric.specs.Asks.{MayAsk};
-ghost use Rattle.trunk_moves.specs.Steps.{HuntsName};
 ghost use Rattle.fabric.specs.Calls.{IsTyped, ask_of_call, hand_of_call};
 ghost use Rattle.fabric.specs.Lines.{fresh_line};
 ghost use Rattle.fabric.specs.Links.{is_still};
@@ -129,12 +127,12 @@ fn lines_of(alloc: Global, count: usize) -> Result<Vec<Line>, NoMemory>
     Ok(lines)
 }
 
-/// A path over a link has a name. It does nothing.
+/// A path has a name. It does nothing.
 fn name_path(path: &Path)
-    ensures { (signal : SigNote) → HuntsName (heads.Hunt path.now signal) }
+    ensures { IsTrue (is_name (name_of_path path.now)) }
 {
-    if let Path::Over { name, .. } = path {
-        let _bytes = name.bytes();
+    match path {
+        Path::Local(name) | Path::Over { name, .. } => is_named(name),
     }
 }
 

@@ -7,7 +7,7 @@ ghost use Rattle.std.specs.Prelude.{IfOk, OnOk, Some, None, true};
 ghost use Rattle.journal.specs.History.{endpoint_of};
 ghost use Rattle.journal.specs.Logs.{is_full};
 ghost use Rattle.journal.specs.Rest.{is_idle};
-ghost use Rattle.fabric.specs.Idle.{noted_past, reached_by, unless_at, unless_reached};
+ghost use Rattle.fabric.specs.Idle.{noted_past, unless_at, unless_reached};
 ghost use Rattle.fabric.specs.Idle.{without_maker};
 
 use journal::{By, Effect, Effects, Head, Journal, Step};
@@ -46,19 +46,6 @@ fn none_idle(alloc: Global, actors: usize) -> Result<Vec<Option<Inc>>, NoMemory>
     Ok(idle)
 }
 
-/// The endpoint that an effect closes, or into whose queue it puts an item.
-fn reached_by(effect: &Effect) -> Option<Inc>
-    ensures { result ≡ reached_by effect.now }
-{
-    match effect {
-        Effect::Closed(inc)
-        | Effect::Arrived(inc, ..)
-        | Effect::Found(inc, ..)
-        | Effect::Notified(inc, ..) => Some(*inc),
-        _ => None,
-    }
-}
-
 /// An actor that waits there is not known to wait in vain.
 fn forget_if_at(noted: &mut Option<Inc>, reached: Inc)
     ensures { noted.new ≡ unless_at reached noted.old }
@@ -83,7 +70,7 @@ fn forget_at(idle: &mut [Option<Inc>], reached: Inc)
 fn forget_by(idle: &mut [Option<Inc>], effect: &Effect)
     ensures { idle.new ≡ map (unless_reached (effect.now ∷ [])) idle.old }
 {
-    if let Some(reached) = reached_by(effect) {
+    if let Some(reached) = effect.reached_by() {
         forget_at(idle, reached);
     }
 }

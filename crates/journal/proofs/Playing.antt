@@ -91,10 +91,9 @@ each_leaves P k (suc n) all other low high differs =
     ]
 
 -- an actor is at rest where this computes
-pub at_rest : {actors : List NodeNo} {P : List Step} {k : ℕ}
-    → all_leave P k (length actors) ≡ true
-    → IsAtRest (record { links = []; actors = actors }) P k
-at_rest {actors} {P} {k} all = record { others = each_leaves P k (length actors) all; links = refl }
+pub at_rest : {shape : Shape} {P : List Step} {k : ℕ}
+    → all_leave P k (length shape.actors) ≡ true → IsAtRest shape P k
+at_rest {shape} {P} {k} all = record { others = each_leaves P k (length shape.actors) all }
 
 -- one, two and three actors on node 1, and no link
 abbrev pub on_node : List NodeNo → Shape

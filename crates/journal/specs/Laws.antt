@@ -9,6 +9,7 @@ use Rattle.linx_base.specs.declared.identity.AttRef.{AttRef}
 use Rattle.linx_base.specs.declared.identity.Inc.{Inc}
 use Rattle.linx_base.specs.declared.identity.Peer.{Peer}
 use Rattle.linx_base.specs.declared.name.Path.{Path}
+use Rattle.linx_base.specs.declared.name.Path.TheVariants.{Local, Over}
 use Rattle.linx_base.specs.declared.signal.SigNote.{SigNote}
 use Rattle.sigsel.specs.Selection.{first_selected, is_notice_of}
 use Rattle.journal.specs.declared.by.By.{By}
@@ -68,12 +69,18 @@ pub record KeepsEndpoints (me : Option Inc) (head : Head) : Type 0 where
   pub opens : is_opening head ≡ true → is_none me ≡ true
   pub needs : is_endpoints head ≡ true → is_some me ≡ true
 
--- LAW OF BOUNDS. A name is one, a signal has at most 65,532 data bytes, and the signal of an attach
--- one fewer, for its reason
+-- the name that a path hunts for
+abbrev pub name_of_path : Path → List ℕ
+name_of_path (Local name) = name
+name_of_path (Over link name) = name
+
+-- LAW OF BOUNDS. A name that is opened or hunted for is one, a signal has at most 65,532 data
+-- bytes, and the signal of an attach one fewer, for its reason
 abbrev pub IsBounded : Head → Type 0
 IsBounded (Open name) = is_name name ≡ true
 IsBounded (Send q note answer) = length note.bytes ≤ data_limit
-IsBounded (Hunt path note) = length note.bytes ≤ data_limit
+IsBounded (Hunt path note) =
+    (is_name (name_of_path path) ≡ true) × (length note.bytes ≤ data_limit)
 IsBounded (Attach q note) = length note.bytes < data_limit
 IsBounded _ = Unit {0}
 
@@ -142,7 +149,7 @@ detached_as P node me r =
     detach_answer (is_owed P node me r) (list_any (is_notice_of r) (queue_of P me))
 
 -- LAW OF RECEIVING. A receive takes the earliest item that its filter selects; or it finds none,
--- and then nothing is selected and all else is at rest; or it waits, and then nothing is selected
+-- and then nothing is selected and its maker is at rest; or it waits, and then nothing is selected
 -- and its maker doesn't wait already. A detach cancels what is owed, or takes out what is queued
 abbrev pub KeepsReceives : Shape → List Step → ℕ → By → Option Inc → Head → Type 0
 KeepsReceives shape P node by me (Take filter position) =

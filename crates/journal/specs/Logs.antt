@@ -1,6 +1,7 @@
-use Rattle.std.specs.Prelude.{ℕ, suc, ◌+◌, Bool, ◌||◌, ◌==◌, nat_le, List, [], ◌∷◌, length, Option}
-use Rattle.std.specs.Prelude.{Some, None, if◌then◌else◌, sum_by}
+use Rattle.std.specs.Prelude.{ℕ, zero, suc, ◌+◌, Bool, ◌||◌, ◌==◌, nat_le, List, [], ◌∷◌, length, Option}
+use Rattle.std.specs.Prelude.{Some, None, if◌then◌else◌, slice_get, sum_by}
 use Rattle.linx_base.specs.Content.{size_of}
+use Rattle.linx_base.specs.declared.identity.ItemAt.{ItemAt}
 use Rattle.linx_base.specs.declared.name.Names.{Names}
 use Rattle.journal.specs.declared.head.Head.{Head}
 use Rattle.journal.specs.declared.head.Head.TheVariants.{Send, Hunt, Attach}
@@ -22,6 +23,16 @@ pub record Book : Type 0 where
 abbrev pub step_at : List Step → ℕ → Option Step
 step_at [] k = None
 step_at (s ∷ P) k = if k == suc (length P) then Some s else step_at P k
+
+-- the effect at a place of a step, from 1
+abbrev pub nth_effect : ℕ → Option Step → Option Effect
+nth_effect place None = None
+nth_effect zero (Some s) = None
+nth_effect (suc k) (Some s) = slice_get s.effects k
+
+-- the effect at the position of an item
+abbrev pub effect_at : List Step → ItemAt → Option Effect
+effect_at P at = nth_effect at.place (step_at P at.step)
 
 -- the size of the signal that a head notes
 abbrev pub head_bytes : Head → ℕ

@@ -1,6 +1,6 @@
 use Rattle.std.specs.List.{list_any}
 use Rattle.std.specs.Prelude.{ℕ, suc, ◌+◌, Bool, true, false, not, ◌&&◌, List, [], ◌∷◌, ◌++◌}
-use Rattle.std.specs.Prelude.{length, filter, if◌then◌else◌}
+use Rattle.std.specs.Prelude.{length, filter, if◌then◌else◌, Option, Some, None}
 use Rattle.linx_base.specs.Peers.{same_inc, same_position}
 use Rattle.linx_base.specs.declared.identity.Inc.{Inc}
 use Rattle.linx_base.specs.declared.identity.ItemAt.{ItemAt}
@@ -12,7 +12,7 @@ use Rattle.journal.specs.declared.head.Head.TheVariants.{Take, Detach}
 use Rattle.journal.specs.declared.head.Detached.{Detached}
 use Rattle.journal.specs.declared.head.Detached.TheVariants.{Pending, Queued, None as Neither}
 use Rattle.journal.specs.declared.effect.Effect.{Effect}
-use Rattle.journal.specs.declared.effect.Effect.TheVariants.{Arrived, Found, Notified}
+use Rattle.journal.specs.declared.effect.Effect.TheVariants.{Arrived, Closed, Found, Notified}
 use Rattle.journal.specs.declared.effect.Step.{Step}
 use Rattle.journal.specs.History.{endpoint_by, opens}
 use Rattle.journal.specs.Traffic.{is_endpoint}
@@ -23,6 +23,14 @@ is_item_of j (Arrived i from note) = same_inc i j
 is_item_of j (Found i from note hunt) = same_inc i j
 is_item_of j (Notified i from note reference reason) = same_inc i j
 is_item_of j _ = false
+
+-- the endpoint that an effect closes, or into whose queue it puts an item
+abbrev pub reached_by : Effect → Option Inc
+reached_by (Closed i) = Some i
+reached_by (Arrived i from note) = Some i
+reached_by (Found i from note hunt) = Some i
+reached_by (Notified i from note reference reason) = Some i
+reached_by _ = None
 
 -- the item that an effect at this position puts into its endpoint's queue
 abbrev pub items_from : ItemAt → Effect → List Item

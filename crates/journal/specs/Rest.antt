@@ -1,4 +1,4 @@
--- When all is at rest but one actor.
+-- When an actor is at rest, so that what it waits for can come from no other actor.
 use Rattle.std.specs.Prelude.{ℕ, ◌≡◌, ◌≢◌, ◌≤◌, ◌<◌, Bool, true, false, ◌&&◌, ◌||◌, List, [], ◌∷◌}
 use Rattle.std.specs.Prelude.{length, is_none, nat_lt, Option, Some, None, if◌then◌else◌}
 use Rattle.linx_base.specs.declared.identity.Inc.{Inc}
@@ -41,9 +41,8 @@ is_idle P k = waits_in_vain P (waits_with P k) (endpoint_of P k)
 abbrev pub leaves_at_rest : List Step → ℕ → ℕ → Bool
 leaves_at_rest P k other = has_ended P other || (is_idle P other && nat_lt k other)
 
--- An actor of a run without links is at rest where every other one leaves it so. Where there are
--- links, link_laws says that each is still
+-- An actor is at rest where every other one of the shape leaves it so. That each link is still,
+-- too, is said by link_laws
 pub record IsAtRest (shape : Shape) (P : List Step) (k : ℕ) : Type 0 where
   pub others : (other : ℕ) → 0 < other → other ≤ length shape.actors → other ≢ k
       → leaves_at_rest P k other ≡ true
-  pub links : shape.links ≡ []

@@ -1,3 +1,6 @@
+ghost use Rattle.std.specs.Prelude.{◌≡◌};
+ghost use Rattle.journal.specs.Queues.{reached_by};
+
 use crate::by::By;
 use crate::head::Head;
 use linx_base::{AttRef, Inc, LinkNo, Name, NodeNo, Peer, Reason, Sequence, Session, SigNote};
@@ -16,6 +19,22 @@ pub enum Effect {
     /// The node's session of the link is up, with the peer's session.
     Up(NodeNo, LinkNo, Session, Session),
     Down(NodeNo, LinkNo, Session),
+}
+
+impl Effect {
+    /// The endpoint that the effect closes, or into whose queue it puts an item. An opening reaches
+    /// none.
+    pub fn reached_by(&self) -> Option<Inc>
+        ensures { result ≡ reached_by self.now }
+    {
+        match self {
+            Effect::Closed(inc)
+            | Effect::Arrived(inc, ..)
+            | Effect::Found(inc, ..)
+            | Effect::Notified(inc, ..) => Some(*inc),
+            _ => None,
+        }
+    }
 }
 
 /// Effects in order.

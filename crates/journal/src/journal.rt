@@ -1,13 +1,13 @@
 ghost use Rattle.std.specs.Prelude.{◌≡◌, ◌+◌, ◌-◌, ◌≤◌, ◌<◌, ◌^◌, ◌↔◌, [], ◌∷◌, min, length};
-ghost use Rattle.std.specs.Prelude.{OnOk, IsTrue, slice_get};
+ghost use Rattle.std.specs.Prelude.{OnOk, IsTrue, Some, slice_get};
 ghost use Rattle.std.specs.Option.{option_copied};
 ghost use Rattle.linx_base.specs.Content.{size_of};
-ghost use Rattle.journal.specs.Logs.{head_bytes, effect_bytes, step_bytes};
+ghost use Rattle.journal.specs.Logs.{head_bytes, effect_bytes, nth_effect, step_bytes};
 ghost use Rattle.journal.specs.Histories.{first_steps};
 
 use crate::effect::{Effect, Step};
 use crate::head::Head;
-use linx_base::{Names, NoMemory, SigNote};
+use linx_base::{ItemAt, Names, NoMemory, SigNote};
 use std::alloc::Global;
 use std::marker::Model;
 
@@ -82,6 +82,16 @@ fn bytes_in_step(step: &Step) -> u64
     total
 }
 
+/// The effect at a place of a step, from 1.
+fn nth_effect(step: &Step, place: u64) -> Option<&Effect>
+    ensures { option_copied result ≡ nth_effect place (Some step.now) }
+{
+    match place {
+        0 => None,
+        _ => step.effects.get((place - 1) as usize),
+    }
+}
+
 /// The step at a place from 0, in the order of making.
 fn nth_made(steps: &[Step], place: usize) -> Option<&Step>
     ensures { option_copied result ≡ slice_get steps.now place }
@@ -90,7 +100,7 @@ fn nth_made(steps: &[Step], place: usize) -> Option<&Step>
 }
 
 impl Journal {
-    ghost use Rattle.journal.specs.Logs.{signal_bytes_of, is_full, step_at};
+    ghost use Rattle.journal.specs.Logs.{signal_bytes_of, is_full, effect_at, step_at};
 
     /// A journal without steps.
     pub fn new(alloc: Global, names: Names) -> Journal
@@ -170,6 +180,16 @@ impl Journal {
             return None;
         }
         nth_made(&self.steps, (k - 1) as usize)
+    }
+
+    /// The effect at the position of an item, `None` exactly where no effect has it.
+    pub fn effect_at(&self, at: ItemAt) -> Option<&Effect>
+        ensures { option_copied result ≡ effect_at self.now.log.steps at }
+    {
+        match self.step(at.step) {
+            Some(step) => nth_effect(step, at.place),
+            None => None,
+        }
     }
 
     /// The step after the first ones, so many.

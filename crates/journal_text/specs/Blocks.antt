@@ -1,8 +1,7 @@
 -- The log of an incarnation.
-use Rattle.std.specs.Prelude.{ℕ, suc, zero, ◌++◌, List, [], ◌∷◌, flat_map, codes, slice_get, Option}
-use Rattle.std.specs.Prelude.{Some, None, if◌then◌else◌}
+use Rattle.std.specs.Prelude.{◌++◌, List, [], ◌∷◌, flat_map, codes, Option, Some, None}
+use Rattle.std.specs.Prelude.{if◌then◌else◌}
 use Rattle.linx_base.specs.declared.identity.Inc.{Inc}
-use Rattle.linx_base.specs.declared.identity.ItemAt.{ItemAt}
 use Rattle.linx_base.specs.declared.name.Names.{Names}
 use Rattle.linx_base.specs.Numbers.{node_of}
 use Rattle.journal.specs.declared.head.Head.{Head}
@@ -10,9 +9,10 @@ use Rattle.journal.specs.declared.head.Head.TheVariants.{Send, Take, TakeNone, H
 use Rattle.journal.specs.declared.effect.Effect.{Effect}
 use Rattle.journal.specs.declared.effect.Effect.TheVariants.{Closed, Arrived, Found, Notified}
 use Rattle.journal.specs.declared.effect.Step.{Step}
-use Rattle.journal.specs.Logs.{Log, step_at}
+use Rattle.journal.specs.Logs.{Log, effect_at}
 use Rattle.journal.specs.History.{opening_name, openings}
 use Rattle.journal_text.specs.Makers.{owner_by}
+use Rattle.journal.specs.Queues.{reached_by}
 use Rattle.journal.specs.Traffic.{is_endpoint}
 use Rattle.journal_text.specs.Values.{halves_text, name_or_mark, node_text, peer_signal_text}
 use Rattle.journal_text.specs.Values.{path_text, signal_text, reason_text, sent_text, detached_text}
@@ -23,16 +23,7 @@ title_text names i name =
     codes "log " ++ halves_text i.0 ++ codes " " ++ name_or_mark name ++ codes " "
     ++ node_text names (node_of i) ++ codes "\n"
 
--- the incarnation whose log has a line of the effect: the one that something came to, or that
--- closed
-abbrev pub concerned : Effect → Option Inc
-concerned (Closed i) = Some i
-concerned (Arrived i peer note) = Some i
-concerned (Found i peer note hunt) = Some i
-concerned (Notified i peer note reference reason) = Some i
-concerned _ = None
-
--- that line
+-- the line of an effect in the log of the incarnation that it reaches
 unfoldable pub effect_log : Names → Effect → List ℕ
 effect_log names (Closed i) = codes "closed\n"
 effect_log names (Arrived i peer note) =
@@ -43,16 +34,6 @@ effect_log names (Notified i peer note reference reason) =
     codes "notified " ++ peer_signal_text names peer note ++ codes " " ++ reason_text reason
     ++ codes "\n"
 effect_log names _ = []
-
--- the effect at a place, from 1
-abbrev pub nth_effect : ℕ → Option Step → Option Effect
-nth_effect place None = None
-nth_effect zero (Some s) = None
-nth_effect (suc k) (Some s) = slice_get s.effects k
-
--- the effect at an item's position
-abbrev pub effect_at : List Step → ItemAt → Option Effect
-effect_at P at = nth_effect at.place (step_at P at.step)
 
 -- the sender and the content of an item; `?` where no item is there
 unfoldable pub item_text : Names → Option Effect → List ℕ
@@ -82,7 +63,7 @@ if_for i owner line = if is_endpoint i owner then line else []
 
 -- the lines of some effects in the log of an incarnation
 abbrev pub effect_logs : Names → Inc → List Effect → List ℕ
-effect_logs names i effects = flat_map (λ e. if_for i (concerned e) (effect_log names e)) effects
+effect_logs names i effects = flat_map (λ e. if_for i (reached_by e) (effect_log names e)) effects
 
 -- the lines in the log of an incarnation that the steps P of a journal with these steps make: from
 -- each step that of its head, where the maker's endpoint is the incarnation, and those of its

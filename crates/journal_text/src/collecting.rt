@@ -10,11 +10,12 @@ ghost use Rattle.journal_text.specs.Makers.{owner_by};
 ghost use Rattle.journal_text.specs.Texts.{kept};
 ghost use Rattle.journal_text.specs.Known.{signal_in, signal_brought, AreOf, FitsStep, Fits};
 ghost use Rattle.journal.specs.History.{opens, name_in};
-ghost use Rattle.journal_text.specs.Blocks.{if_for, head_log, concerned, effect_log, effect_logs};
+ghost use Rattle.journal.specs.Queues.{reached_by};
+ghost use Rattle.journal_text.specs.Blocks.{if_for, head_log, effect_log, effect_logs};
 ghost use Rattle.journal_text.specs.Collected.{Collects};
 
 use crate::digests::{Digested, Digests};
-use crate::entries::{concerns, write_effect_log, write_head_log};
+use crate::entries::{write_effect_log, write_head_log};
 use crate::texts::{Text, Texts, kept_at};
 use journal::{Effect, Head, Journal, Step};
 use linx_base::{Inc, Name, Names, NoMemory, TryCopy};
@@ -186,7 +187,7 @@ fn add_effect_at(
     }
 }
 
-/// Adds the line of an effect to the log of the incarnation that it concerns.
+/// Adds the line of an effect to the log of the incarnation that it reaches.
 fn add_effect(
     alloc: Global,
     lines: &mut Texts,
@@ -196,9 +197,9 @@ fn add_effect(
 ) -> Result<(), NoMemory>
     requires { IfSome known (λ digested. AreOf (signal_brought effect.now) digested.now) }
     ensures { OnOk result ((q : ℕ) → kept lines.new q ≡ kept lines.old q
-        ++ if_for (record { 0 = q }) (concerned effect.now) (effect_log names.now effect.now)) }
+        ++ if_for (record { 0 = q }) (reached_by effect.now) (effect_log names.now effect.now)) }
 {
-    match concerns(effect) {
+    match effect.reached_by() {
         Some(inc) => add_effect_at(alloc, lines, names, inc, effect, known),
         None => Ok(()),
     }

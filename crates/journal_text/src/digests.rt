@@ -7,7 +7,7 @@ ghost use Rattle.std.specs.Option.{option_copied};
 ghost use Rattle.linx_base.specs.declared.signal.SigNote.{SigNote as SigNoteOf};
 ghost use Rattle.journal.specs.declared.effect.Step.{Step};
 ghost use Rattle.journal.specs.Logs.{step_at};
-ghost use Rattle.journal_text.specs.Blocks.{effect_at};
+ghost use Rattle.journal.specs.Logs.{effect_at};
 ghost use Rattle.journal_text.specs.Values.{digest_text};
 ghost use Rattle.journal_text.specs.Known.{signal_in, signal_brought, signal_of, signal_at, AreOf};
 ghost use Rattle.journal_text.specs.Known.{Keeps, FitsPlace, FitsStep, Fits};

@@ -2,7 +2,7 @@
 ghost use Rattle.std.specs.Prelude.{◌≡◌, ◌++◌, codes, OnOk, IfSome};
 ghost use Rattle.std.specs.Option.{option_copied};
 ghost use Rattle.journal_text.specs.Values.{peer_signal_text, reason_text};
-ghost use Rattle.journal_text.specs.Blocks.{title_text, concerned, effect_log};
+ghost use Rattle.journal_text.specs.Blocks.{title_text, effect_log};
 ghost use Rattle.journal_text.specs.Blocks.{item_text, head_log};
 ghost use Rattle.journal_text.specs.Known.{signal_in, signal_brought, signal_of, AreOf, Fits};
 
@@ -10,7 +10,6 @@ use crate::digests::{Digested, Digests};
 use crate::digits::{write_byte, write_word};
 use crate::heads::{write_hunt, write_sending, write_word_and_signal};
 use crate::peers::{write_halves, write_name_or_mark, write_node, write_peer_signal};
-use crate::reading::item_at;
 use crate::words::{write_detached, write_reason};
 use journal::{Effect, Head, Journal};
 use linx_base::{Inc, Name, Names, NoMemory, Peer, Reason, SigNote};
@@ -33,19 +32,6 @@ pub(crate) fn write_title(
     write_byte(out, b' ')?;
     write_node(out, names, inc.node())?;
     write_byte(out, b'\n')
-}
-
-/// The incarnation whose log has a line of the effect.
-pub(crate) fn concerns(effect: &Effect) -> Option<Inc>
-    ensures { result ≡ concerned effect.now }
-{
-    match effect {
-        Effect::Closed(inc)
-        | Effect::Arrived(inc, _, _)
-        | Effect::Found(inc, _, _, _)
-        | Effect::Notified(inc, _, _, _, _) => Some(*inc),
-        _ => None,
-    }
 }
 
 /// A line of a word, a peer and a signal.
@@ -84,7 +70,7 @@ fn write_notified(
     write_byte(out, b'\n')
 }
 
-/// The line of an effect in the log of the incarnation that it concerns.
+/// The line of an effect in the log of the incarnation that it reaches.
 #[tactic(auto, unfolding(crate::specs::Blocks::effect_log))]
 pub(crate) fn write_effect_log(
     out: &mut Vec<u8>,
@@ -169,7 +155,7 @@ pub(crate) fn write_head_log(
             write_sending(out, names, b"sent ", peer, note, known, *answer)?;
             write_byte(out, b'\n')
         }
-        Head::Take(_, at) => { write_took(out, names, item_at(journal, *at), digests.of_item(*at)) }
+        Head::Take(_, at) => { write_took(out, names, journal.effect_at(*at), digests.of_item(*at)) }
         Head::TakeNone(_) => write_word(out, b"none\n"),
         Head::Hunt(path, note) => {
             write_hunt(out, names, path, note, known)?;

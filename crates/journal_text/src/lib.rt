@@ -15,7 +15,6 @@ mod heads;
 mod logs;
 mod owners;
 mod peers;
-mod reading;
 mod steps;
 mod texts;
 mod whole_text;

@@ -419,7 +419,8 @@ module _ (shape : Shape) (P : List Step) (s : Step) (n : ℕ) (legal : IsLegal s
 
       effects : s.effects ≡ attached (is_alive P node q) a
       effects = subst (λ (t : Head). HasEffects shape P node (Some j) t s.effects) head
-          (subst (λ (m : Option Inc). HasEffects shape P node m s.head s.effects) me step.effects)
+          (subst (λ (m : Option Inc). HasEffects shape P node m s.head s.effects) me
+          step.nodes.effects)
 
       by_peer : node ≡ n → (t : Bool) → is_alive P node q ≡ t → Goes a
       by_peer at true alive kept =
@@ -457,7 +458,7 @@ of-living shape (s ∷ P) legal short n =
     (λ a alive open_. record { holder = open_; peer = alive }) (owed P n) was
     (holders-open shape P legal.0 before n))
     (node_by shape s.by) (endpoint_by P s.by) (maker-home shape P legal.0 before s.by) s.head
-    s.effects legal.1.effects legal.1.packets legal.1.ticks))
+    s.effects legal.1.nodes.effects legal.1.packets legal.1.ticks))
     (begun shape P s n legal.0 before legal.1 s.head refl (endpoint_by P s.by) refl))
 
 -- and of a holder that is open

@@ -253,7 +253,7 @@ closed-opened shape (s ∷ P) legal i is =
       | inl was ↦ opened-later P s i (inl (closed-opened shape P legal.0 i was))
       | inr now ↦ opened-later P s i (inl (head-closes shape P (node_by shape s.by)
           (endpoint_by P s.by) s.head s.effects i
-          legal.1.effects legal.1.packets legal.1.ticks (maker-opened P s.by) now))
+          legal.1.nodes.effects legal.1.packets legal.1.ticks (maker-opened P s.by) now))
     ]
 
 -- AN OPEN ENDPOINT was never closed

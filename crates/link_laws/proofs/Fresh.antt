@@ -110,14 +110,14 @@ head-opens shape P node me head es has packets ticks = ap (filter_map opened_in)
 pub step-opens : (shape : Shape) (P : List Step) (s : Step) → IsLegalStep shape P s
     → filter_map opened_in s.effects ≡ opened_next P (node_by shape s.by) s.head
 step-opens shape P s legal = head-opens shape P (node_by shape s.by) (endpoint_by P s.by) s.head
-    s.effects legal.effects legal.packets legal.ticks
+    s.effects legal.nodes.effects legal.packets legal.ticks
 
 -- so a legal step is orderly
 pub orderly-step : (shape : Shape) (P : List Step) (s : Step) → IsLegalStep shape P s
     → IsOrderlyStep shape P s
 orderly-step shape P s legal = record {
-  makers = legal.makers;
-  endpoints = legal.endpoints;
+  makers = legal.nodes.makers;
+  endpoints = legal.nodes.endpoints;
   opens = step-opens shape P s legal;
 }
 

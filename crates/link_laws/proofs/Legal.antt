@@ -25,9 +25,7 @@ use Rattle.journal.specs.declared.head.Head.TheVariants.{Restart, TakeNone, Tick
 use Rattle.link_laws.specs.Brought.{Brought, MayBring, brought_at}
 use Rattle.link_laws.specs.Ends.{IsLinkOf, node_at}
 use Rattle.link_laws.specs.Laws.{ArePacketEffects, HasEffects, IsHandedOver, IsLegalStep, IsTick}
-use Rattle.link_laws.specs.Laws.{KeepsCuts, KeepsLinks, KeepsPackets, KeepsRest, KeepsTicks}
-use Rattle.link_laws.specs.Laws.{actors_alone, delivers, loses, restarting}
-use Rattle.link_laws.specs.Moves.{KeepsNodeLaws}
+use Rattle.link_laws.specs.Laws.{KeepsLinks, KeepsNodeLaws, delivers, loses, restarting}
 use Rattle.link_laws.specs.Sessions.{is_cut, silent_ticks}
 
 -- no endpoint is needed for what is no opening and no step of an endpoint
@@ -45,54 +43,32 @@ is_plain_head (Wire l from verdict) = false
 is_plain_head (Tick l side) = false
 is_plain_head _ = true
 
--- so the laws of rest, links, packets, cuts and ticks ask nothing of it
-pub record AsksNothing (shape : Shape) (P : List Step) (head : Head) (effects : List Effect)
-    : Type 0 where
-  pub rest : KeepsRest shape P head
-  pub links : KeepsLinks shape head
-  pub packets : KeepsPackets shape P head effects
-  pub cuts : KeepsCuts P head
-  pub ticks : KeepsTicks shape P head effects
-
-pub asks-nothing : (shape : Shape) (P : List Step) (head : Head) (effects : List Effect)
-    → is_plain_head head ≡ true → AsksNothing shape P head effects
-asks-nothing shape P (TakeNone filter) effects plain = absurd (true≢false (sym plain))
-asks-nothing shape P (Wire k from verdict) effects plain = absurd (true≢false (sym plain))
-asks-nothing shape P (Tick k side) effects plain = absurd (true≢false (sym plain))
-asks-nothing shape P _ effects plain =
-    record { rest = tt; links = tt; packets = tt; cuts = tt; ticks = tt }
-
--- a step is legal that keeps the laws of nodes, and those of the links
-pub legal_with : (shape : Shape) (P : List Step) (s : Step) → KeepsNodeLaws shape P s
-    → AsksNothing shape P s.head s.effects → IsLegalStep shape P s
-legal_with shape P s laws asks = record {
-  makers = laws.makers;
-  endpoints = laws.endpoints;
-  bounds = laws.bounds;
-  effects = laws.effects;
-  sends = laws.sends;
-  receives = laws.receives;
-  rest = asks.rest;
-  links = asks.links;
-  packets = asks.packets;
-  cuts = asks.cuts;
-  ticks = asks.ticks;
-}
+-- such a step is legal where it keeps the laws of nodes, since the others ask nothing of it
+pub legal_plain : (shape : Shape) (P : List Step) (by : By) (head : Head) (es : List Effect)
+    → is_plain_head head ≡ true
+    → KeepsNodeLaws shape P (record { by = by; head = head; effects = es })
+    → IsLegalStep shape P (record { by = by; head = head; effects = es })
+legal_plain shape P by (TakeNone filter) es plain laws = absurd (true≢false (sym plain))
+legal_plain shape P by (Wire k from verdict) es plain laws = absurd (true≢false (sym plain))
+legal_plain shape P by (Tick k side) es plain laws = absurd (true≢false (sym plain))
+legal_plain shape P by head es plain laws =
+    record { nodes = laws; rest = tt; packets = tt; cuts = tt; ticks = tt }
 
 -- a step that needs no endpoint keeps the laws of nodes where what they ask of its head is kept
 pub node_laws : {shape : Shape} {P : List Step} {by : By} {head : Head} {es : List Effect}
     → KeepsMakers shape P by head → is_opening head ≡ false → is_endpoints head ≡ false
     → IsBounded head → HasEffects shape P (node_by shape by) (endpoint_by P by) head es
     → KeepsSends P (node_by shape by) head
-    → KeepsReceives (actors_alone shape) P (node_by shape by) by (endpoint_by P by) head
+    → KeepsReceives shape P (node_by shape by) by (endpoint_by P by) head → KeepsLinks shape head
     → KeepsNodeLaws shape P (record { by = by; head = head; effects = es })
-node_laws makers opens needs bounds effects sends receives = record {
+node_laws makers opens needs bounds effects sends receives links = record {
   makers = makers;
   endpoints = no_endpoint opens needs;
   bounds = bounds;
   effects = effects;
   sends = sends;
   receives = receives;
+  links = links;
 }
 
 -- a packet that meets a verdict
@@ -103,8 +79,13 @@ pub legal_passing : (shape : Shape) (P : List Step) (by : By) (l : LinkNo) (from
     es
     → IsLegalStep shape P (record { by = by; head = Wire l from verdict; effects = es })
 legal_passing shape P by l from verdict es maker of_shape cuts handed =
-    legal_with shape P _ (node_laws maker refl refl tt tt tt tt)
-    (record { rest = tt; links = of_shape; packets = handed; cuts = cuts; ticks = tt })
+    record {
+      nodes = node_laws maker refl refl tt tt tt tt of_shape;
+      rest = tt;
+      packets = handed;
+      cuts = cuts;
+      ticks = tt;
+    }
 
 -- the step of a packet that brings this
 abbrev pub wire_step : Shape → List Step → By → LinkNo → Side → Verdict → Brought → Step
@@ -134,8 +115,13 @@ pub legal_tick : (shape : Shape) (P : List Step) (by : By) (l : LinkNo) (side : 
     → IsTick P (node_at shape l side) l side es
     → IsLegalStep shape P (record { by = by; head = Tick l side; effects = es })
 legal_tick shape P by l side es maker of_shape tick =
-    legal_with shape P _ (node_laws maker refl refl tt tt tt tt)
-    (record { rest = tt; links = of_shape; packets = tt; cuts = tt; ticks = tick })
+    record {
+      nodes = node_laws maker refl refl tt tt tt tt of_shape;
+      rest = tt;
+      packets = tt;
+      cuts = tt;
+      ticks = tick;
+    }
 
 -- the step of a tick at which a session is lost
 abbrev pub lost_step : Shape → List Step → By → LinkNo → Side → Session → Step
@@ -166,5 +152,5 @@ pub legal_restart : (shape : Shape) (P : List Step) (by : By) (n : ℕ)
     → KeepsMakers shape P by (Restart (record { 0 = n }))
     → IsLegalStep shape P (restart_step shape P by n)
 legal_restart shape P by n maker =
-    legal_with shape P _ (node_laws maker refl refl tt refl tt tt)
-    (record { rest = tt; links = tt; packets = tt; cuts = tt; ticks = tt })
+    legal_plain shape P by (Restart (record { 0 = n })) (restarting shape P n) refl
+    (node_laws maker refl refl tt refl tt tt tt)

@@ -176,4 +176,4 @@ head-meets shape P node me head es has packets ticks =
 pub step-meets : (shape : Shape) (P : List Step) (s : Step) → IsLegalStep shape P s
     → MeetsNone s.effects ⊎ MeetsOne P s.effects
 step-meets shape P s legal = head-meets shape P (node_by shape s.by) (endpoint_by P s.by) s.head
-    s.effects legal.effects legal.packets legal.ticks
+    s.effects legal.nodes.effects legal.packets legal.ticks

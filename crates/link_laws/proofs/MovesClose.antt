@@ -29,7 +29,8 @@ use Rattle.journal.specs.declared.head.Head.TheVariants.{Close, Ended}
 use Rattle.link_laws.specs.Came.{signal_over}
 use Rattle.link_laws.specs.Ends.{IsLinkOf, node_at}
 use Rattle.link_laws.specs.Sides.{Links, records_of}
-use Rattle.link_laws.specs.Moves.{AllLeft, Closes, Ends, KeepsNodeLaws}
+use Rattle.link_laws.specs.Laws.{KeepsNodeLaws}
+use Rattle.link_laws.specs.Moves.{AllLeft, Closes, Ends}
 use Rattle.link_laws.specs.Promises.{PromisesOf}
 use Rattle.link_laws.specs.Sessions.{restarts}
 use Rattle.link_laws.specs.Still.{is_hunt_over}
@@ -38,7 +39,7 @@ use Rattle.link_laws.proofs.Done.{IsDone, opened-items}
 use Rattle.link_laws.proofs.Good.{IsGood, IsKnown, left_kept, short, step_of}
 use Rattle.link_laws.proofs.Hunted.{IsCalm, calm_here}
 use Rattle.link_laws.proofs.HuntsAll.{hunted_sayings}
-use Rattle.link_laws.proofs.Legal.{asks-nothing, is_plain_head, legal_with}
+use Rattle.link_laws.proofs.Legal.{is_plain_head, legal_plain}
 use Rattle.link_laws.proofs.MovesSay.{SaysWell}
 use Rattle.link_laws.proofs.MovesSayAll.{opened-say, trunks-say}
 use Rattle.link_laws.proofs.OneSide.{raises-none, silence-side, tells-none}
@@ -145,7 +146,7 @@ module _ (shape : Shape) (P : List Step) (before after : Links) (known : IsKnown
 
     close_good : IsGood shape P s after
     close_good = record {
-      legal = legal_with shape P s laws (asks-nothing shape P head es closes_it.plain);
+      legal = legal_plain shape P by head es closes_it.plain laws;
       kept = record {
         trunks = trunks-say shape (records_of before) (records_of after) ws said well
             known.kept.trunks;
@@ -171,7 +172,7 @@ module _ (shape : Shape) (P : List Step) (before after : Links) (known : IsKnown
   -- OF NO ENDPOINT
   none_good : es ≡ [] → AllLeft shape before after → IsGood shape P s after
   none_good none left = record {
-    legal = legal_with shape P s laws (asks-nothing shape P head es closes_it.plain);
+    legal = legal_plain shape P by head es closes_it.plain laws;
     kept = left_kept shape P s before after (record {
       es = [];
       items = [];

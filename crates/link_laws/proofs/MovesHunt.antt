@@ -37,7 +37,8 @@ use Rattle.journal.proofs.Lists.{list_any-filter}
 use Rattle.link_laws.specs.Ends.{node_at}
 use Rattle.link_laws.specs.Sides.{Links}
 use Rattle.link_laws.specs.Linked.{IsTrueOf, is_hunted}
-use Rattle.link_laws.specs.Moves.{AllLeft, AsksOver, Hunts, KeepsNodeLaws, is_up}
+use Rattle.link_laws.specs.Laws.{KeepsNodeLaws}
+use Rattle.link_laws.specs.Moves.{AllLeft, AsksOver, Hunts, is_up}
 use Rattle.link_laws.specs.Still.{is_hunt_over}
 use Rattle.link_laws.proofs.Done.{AreItems, IsDone, opened-items}
 use Rattle.link_laws.proofs.Good.{IsGood, IsKnown, TouchesNone, left_kept, opens-nothing, short}
@@ -45,7 +46,7 @@ use Rattle.link_laws.proofs.Good.{step_of}
 use Rattle.link_laws.proofs.Hunted.{BeginsNone, calm_here, names_were}
 use Rattle.link_laws.proofs.Hunts.{IsSameHere}
 use Rattle.link_laws.proofs.HuntsAll.{BeginsOne, hunted_asking, none-some}
-use Rattle.link_laws.proofs.Legal.{asks-nothing, legal_with}
+use Rattle.link_laws.proofs.Legal.{legal_plain}
 use Rattle.link_laws.proofs.MovesSay.{SaysWell, linked_says, said_kept}
 use Rattle.link_laws.proofs.Names.{bytes_eq-is, bytes_eq-itself}
 use Rattle.link_laws.proofs.OneSide.{raises-none, tells-none}
@@ -113,7 +114,7 @@ module _ (shape : Shape) (P : List Step) (before after : Links) (known : IsKnown
   good_left : ((n m : ℕ) (l : LinkNo) → IsSameHere P (s ∷ P) n m l) → AllLeft shape before after
       → IsGood shape P s after
   good_left same left = record {
-    legal = legal_with shape P s laws (asks-nothing shape P (Hunt path note) es refl);
+    legal = legal_plain shape P by (Hunt path note) es refl laws;
     kept = left_kept shape P s before after untouched same left known.kept;
     promised = tt;
   }
@@ -263,8 +264,7 @@ module _ (shape : Shape) (P : List Step) (before after : Links) (known : IsKnown
 
   pub asking_good : IsGood shape P step after
   asking_good = record {
-    legal = legal_with shape P step laws
-        (asks-nothing shape P (Hunt (Over l v) note) es refl);
+    legal = legal_plain shape P by (Hunt (Over l v) note) es refl laws;
     kept = said_kept shape P step before after l asks.at known.two asks.of_shape asks.others
         known.kept ws (record {
           made = asks.side;

@@ -34,9 +34,9 @@ use Rattle.journal.specs.declared.head.Head.TheVariants.{Open}
 use Rattle.journal.proofs.Openings.{next_on, same_inc-true}
 use Rattle.link_laws.specs.Ends.{IsLinkOf, node_at}
 use Rattle.link_laws.specs.Sides.{Links, records_of}
-use Rattle.link_laws.specs.Laws.{IsLegalStep}
+use Rattle.link_laws.specs.Laws.{IsLegalStep, KeepsNodeLaws}
 use Rattle.link_laws.specs.Linked.{HasNone}
-use Rattle.link_laws.specs.Moves.{KeepsNodeLaws, Opens, OpensAt, is_up, is_wanted}
+use Rattle.link_laws.specs.Moves.{Opens, OpensAt, is_up, is_wanted}
 use Rattle.link_laws.proofs.Alike.{linked-alike}
 use Rattle.link_laws.proofs.Brings.{published-opened}
 use Rattle.link_laws.proofs.Closings.{open-unclosed}
@@ -44,7 +44,7 @@ use Rattle.link_laws.proofs.Done.{IsDone, name-done, opened-items}
 use Rattle.link_laws.proofs.Fresh.{next_on-home, opens-new}
 use Rattle.link_laws.proofs.Good.{IsGood, IsKnown, short, short_after, step_of}
 use Rattle.link_laws.proofs.HuntsAll.{OpensOne, hunted_opening}
-use Rattle.link_laws.proofs.Legal.{asks-nothing, legal_with}
+use Rattle.link_laws.proofs.Legal.{legal_plain}
 use Rattle.link_laws.proofs.MovesSay.{SaysWell}
 use Rattle.link_laws.proofs.MovesSayAll.{opened-say, trunks-say}
 use Rattle.link_laws.proofs.OneSide.{raises-none, silence-side, tells-none}
@@ -182,7 +182,7 @@ module _ (shape : Shape) (P : List Step) (before after : Links) (known : IsKnown
 
   module _ (laws : KeepsNodeLaws shape P s) where
     legal : IsLegalStep shape P s
-    legal = legal_with shape P s laws (asks-nothing shape P (Open name) s.effects refl)
+    legal = legal_plain shape P by (Open name) s.effects refl laws
 
     open_now : (t : Bool) → AllByRecursion (IsOpenNow (s ∷ P)) (cond t (published i name ∷ []) [])
     open_now true = (

@@ -15,8 +15,8 @@ use Rattle.journal.specs.declared.head.Head.TheVariants.{Tick, Wire}
 use Rattle.link_laws.specs.Brought.{nothing}
 use Rattle.link_laws.specs.Ends.{IsLinkOf, node_at}
 use Rattle.link_laws.specs.Sides.{Links, records_of}
-use Rattle.link_laws.specs.Laws.{IsHandedOver, delivers, stays}
-use Rattle.link_laws.specs.Moves.{AllLeft, Delivers, HandsOver, IsLeft, IsTicked, KeepsNodeLaws}
+use Rattle.link_laws.specs.Laws.{IsHandedOver, KeepsNodeLaws, delivers, stays}
+use Rattle.link_laws.specs.Moves.{AllLeft, Delivers, HandsOver, IsLeft, IsTicked}
 use Rattle.link_laws.specs.Moves.{OthersLeft, Passes, TicksAt, TicksOver, brings_down}
 use Rattle.link_laws.specs.Moves.{brings_nothing, brings_up, gives, is_side, loses_it, ticks_on}
 use Rattle.link_laws.specs.Sessions.{same_side, silent_ticks, ticks}

@@ -31,17 +31,17 @@ use Rattle.journal.specs.declared.head.Head.TheVariants.{Take, TakeNone, Waits, 
 use Rattle.link_laws.specs.Came.{signal_over}
 use Rattle.link_laws.specs.Ends.{node_at}
 use Rattle.link_laws.specs.Sides.{AreLinksKept, Links}
-use Rattle.link_laws.specs.Laws.{HasEffects}
-use Rattle.link_laws.specs.Moves.{AllLeft, AllResting, FindsNone, IsResting, KeepsNodeLaws}
+use Rattle.link_laws.specs.Laws.{HasEffects, IsLegalStep, KeepsNodeLaws}
+use Rattle.link_laws.specs.Moves.{AllLeft, FindsNone, IsResting}
 use Rattle.link_laws.specs.Moves.{cut as rests_cut, quiet as rests_quiet}
 use Rattle.link_laws.specs.Promises.{PromisesOf}
+use Rattle.link_laws.specs.Runs.{RestsAreStill}
 use Rattle.link_laws.specs.Sessions.{restarts}
-use Rattle.link_laws.specs.Still.{AllStill, IsStill, cut as still_cut, whole as still_whole}
+use Rattle.link_laws.specs.Still.{IsStill, cut as still_cut, whole as still_whole}
 use Rattle.link_laws.specs.Still.{is_hunt_over}
 use Rattle.link_laws.proofs.Done.{AreItems, opened-items}
 use Rattle.link_laws.proofs.Good.{IsGood, IsKnown, TouchesNone, left_kept, step_of}
 use Rattle.link_laws.proofs.Hunted.{IsCalm, calm_here}
-use Rattle.link_laws.proofs.Legal.{AsksNothing, legal_with}
 use Rattle.link_laws.proofs.Sides.{no_signal}
 use Rattle.link_laws.proofs.Stillness.{still_half}
 
@@ -105,12 +105,13 @@ quiet-items shape P node me head es is has = absurd (true≢false (sym is))
 
 module _ (shape : Shape) (P : List Step) (before after : Links) (known : IsKnown shape P before)
     (by : By) (head : Head) (es : List Effect) (is : is_quiet_head head ≡ true)
-    (laws : KeepsNodeLaws shape P (step_of by head es)) (left : AllLeft shape before after) where
+    (legal : IsLegalStep shape P (step_of by head es)) (left : AllLeft shape before after) where
   abbrev s : Step
   s = step_of by head es
 
   items : AreItems es
-  items = quiet-items shape P (node_by shape by) (endpoint_by P by) head es is laws.effects
+  items = quiet-items shape P (node_by shape by) (endpoint_by P by) head es is
+      legal.nodes.effects
 
   untouched : TouchesNone P s
   untouched = record {
@@ -131,9 +132,9 @@ module _ (shape : Shape) (P : List Step) (before after : Links) (known : IsKnown
     opens_none = opened-items es items;
   }
 
-  pub quiet_good : AsksNothing shape P head es → IsGood shape P s after
-  quiet_good asks = record {
-    legal = legal_with shape P s laws asks;
+  pub quiet_good : IsGood shape P s after
+  quiet_good = record {
+    legal = legal;
     kept = left_kept shape P s before after untouched (λ n m l. calm_here P s calm n m l) left
         known.kept;
     promised = quiet-promised shape P head es is;
@@ -150,8 +151,8 @@ quiet_back A B quiet = record {
 
 -- LINKS THAT REST are still
 pub resting_still : (shape : Shape) (P : List Step) (links : Links) → AreLinksKept shape P links
-    → AllResting shape P links → AllStill shape P
-resting_still shape P links kept resting l of_shape = by_rest (resting l of_shape)
+    → RestsAreStill shape P links
+resting_still shape P links kept l of_shape resting = by_rest resting
   where
     down : (side : Side) → (links l.0 side).side.now.peer ≡ None
         → up_session P (node_at shape l side) l.0 ≡ None
@@ -181,10 +182,11 @@ pub finding_good : (shape : Shape) (P : List Step) (before after : Links)
     → KeepsNodeLaws shape P (step_of by (TakeNone filter) es) → FindsNone shape P before after
     → IsGood shape P (step_of by (TakeNone filter) es) after
 finding_good shape P before after known by filter es laws finds =
-    quiet_good shape P before after known by (TakeNone filter) es refl laws finds.left (record {
-      rest = resting_still shape P before known.kept finds.resting;
-      links = tt;
+    quiet_good shape P before after known by (TakeNone filter) es refl (record {
+      nodes = laws;
+      rest = λ l of_shape. resting_still shape P before known.kept l of_shape
+          (finds.resting l of_shape);
       packets = tt;
       cuts = tt;
       ticks = tt;
-    })
+    }) finds.left

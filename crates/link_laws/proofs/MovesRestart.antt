@@ -27,8 +27,8 @@ use Rattle.journal.specs.declared.head.Head.TheVariants.{Restart}
 use Rattle.journal.proofs.Lists.{all-impl}
 use Rattle.link_laws.specs.Ends.{IsLinkOf, node_at}
 use Rattle.link_laws.specs.Sides.{AllPublishedOpen, AllTrunks, Links, records_of}
-use Rattle.link_laws.specs.Laws.{downs_of, restarting}
-use Rattle.link_laws.specs.Moves.{KeepsNodeLaws, Restarts, RestartsAt}
+use Rattle.link_laws.specs.Laws.{KeepsNodeLaws, downs_of, restarting}
+use Rattle.link_laws.specs.Moves.{Restarts, RestartsAt}
 use Rattle.link_laws.specs.Promises.{ArePublishedOpen, ups}
 use Rattle.link_laws.specs.Sessions.{boots, downs, ends_session, own_session, restarts, tells_heard}
 use Rattle.link_laws.proofs.Alike.{linked-alike}
@@ -36,7 +36,7 @@ use Rattle.link_laws.proofs.Fresh.{restarting-opens_none}
 use Rattle.link_laws.proofs.Good.{IsGood, IsKnown, step_of}
 use Rattle.link_laws.proofs.Hunted.{IsCalm}
 use Rattle.link_laws.proofs.HuntsAll.{hunted_restarting}
-use Rattle.link_laws.proofs.Legal.{asks-nothing, legal_with}
+use Rattle.link_laws.proofs.Legal.{legal_plain}
 use Rattle.link_laws.proofs.OneSide.{silence-side}
 use Rattle.link_laws.proofs.Published.{RaisesNone, opened_step}
 use Rattle.link_laws.proofs.Restarted.{restarted, whole_restart}
@@ -174,7 +174,7 @@ module _ (shape : Shape) (P : List Step) (before after : Links) (known : IsKnown
 
   restart_good : KeepsNodeLaws shape P s → IsGood shape P s after
   restart_good laws = record {
-    legal = legal_with shape P s laws (asks-nothing shape P (Restart node) es refl);
+    legal = legal_plain shape P by (Restart node) es refl laws;
     kept = record {
       trunks = begun_trunks;
       linked = linked-alike shape (s ∷ P) (restarted shape (records_of before) n x)

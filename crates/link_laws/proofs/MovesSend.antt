@@ -32,9 +32,9 @@ use Rattle.link_laws.specs.Came.{signal_over}
 use Rattle.link_laws.specs.Ends.{node_at}
 use Rattle.link_laws.specs.Sides.{AllLinked, Links, records_of, with_side}
 use Rattle.link_laws.specs.Fits.{CanSend}
-use Rattle.link_laws.specs.Laws.{IsLegalStep}
+use Rattle.link_laws.specs.Laws.{IsLegalStep, KeepsNodeLaws}
 use Rattle.link_laws.specs.Linked.{IsLinked}
-use Rattle.link_laws.specs.Moves.{AllLeft, KeepsNodeLaws, Sends, SendsOver}
+use Rattle.link_laws.specs.Moves.{AllLeft, Sends, SendsOver}
 use Rattle.link_laws.proofs.Acts.{keeps_quiet, keeps_send}
 use Rattle.link_laws.proofs.Away.{touches}
 use Rattle.link_laws.proofs.Closings.{open-unclosed}
@@ -44,7 +44,7 @@ use Rattle.link_laws.proofs.Good.{step_of}
 use Rattle.link_laws.proofs.Hunted.{IsCalm, calm_here}
 use Rattle.link_laws.proofs.HuntsAll.{back_half}
 use Rattle.link_laws.proofs.HuntsOver.{hunted_sending}
-use Rattle.link_laws.proofs.Legal.{asks-nothing, legal_with}
+use Rattle.link_laws.proofs.Legal.{legal_plain}
 use Rattle.link_laws.proofs.LivingPeers.{alive-known, open-not_unpublished}
 use Rattle.link_laws.proofs.Makers.{maker-open}
 use Rattle.link_laws.proofs.MovesSay.{said_kept}
@@ -109,8 +109,7 @@ module _ (shape : Shape) (P : List Step) (before after : Links) (known : IsKnown
       → ((n h : ℕ) (x : Session) → signal_over n h x (Some j) (Send q note answer) ≡ [])
       → AllLeft shape before after → IsGood shape P (sent q answer) after
   left_good q answer laws touches_none opens_none closes_none says_none left = record {
-    legal = legal_with shape P (sent q answer) laws
-        (asks-nothing shape P (Send q note answer) es refl);
+    legal = legal_plain shape P by (Send q note answer) es refl laws;
     kept = left_kept shape P (sent q answer) before after (record {
       es = es;
       items = [];
@@ -189,8 +188,7 @@ module _ (shape : Shape) (P : List Step) (before after : Links) (known : IsKnown
         ∙ over-alive l x b (is_alive P node (There l x b)) laws.sends)
 
     over_legal : IsLegalStep shape P s
-    over_legal = legal_with shape P s laws
-        (asks-nothing shape P (Send (There l x b) note Link) es refl)
+    over_legal = legal_plain shape P by (Send (There l x b) note Link) es refl laws
 
     over_linked : AllLinked shape (s ∷ P) (with_side (records_of before) l.0 over.at (saying ws A))
     over_linked =

@@ -245,7 +245,7 @@ step-near : (shape : Shape) (P : List Step) (s : Step) → IsLegal shape P → I
     → KeepsNear P (node_by shape s.by) (endpoint_by P s.by) s.head s.effects
 step-near shape P s legal short step =
     near shape P (node_by shape s.by) (endpoint_by P s.by) (maker-open shape P legal short s.by)
-    s.head s.effects step.effects step.sends step.packets step.ticks
+    s.head s.effects step.nodes.effects step.nodes.sends step.packets step.ticks
 
 -- THE PROMISES
 arrived-sent : (i j : Inc) (shape : Shape) (P : List Step) → IsLegal shape P → IsShort P

@@ -1,7 +1,7 @@
 -- How a worked run is shown to be legal, step by step, and the words of worked runs over a link.
 use Rattle.std.proofs.Common.{◌≡◌, ℕ, true, false, List, [], ◌∷◌, refl, sym, ◌∙◌, ◌≤◌, ◌<◌}
-use Rattle.std.proofs.Common.{Bool, ◌&&◌, ap, arith, subst}
-use Rattle.std.proofs.lemmas.Bool.{and_parts, true≢false}
+use Rattle.std.proofs.Common.{Bool, ◌&&◌, ap, arith, length, nat_le, nat_lt, subst}
+use Rattle.std.proofs.lemmas.Bool.{and_parts, leb-true, ltb-true, true≢false}
 use Rattle.linx_base.specs.Numbers.{inc_of, session_of}
 use Rattle.linx_base.specs.Sides.{other_of}
 use Rattle.linx_base.specs.declared.frame.Verdict.{Verdict}
@@ -23,40 +23,71 @@ use Rattle.journal.specs.declared.effect.Effect.{Effect}
 use Rattle.journal.specs.declared.effect.Effect.TheVariants.{Up, Down, Met, Gone}
 use Rattle.journal.specs.declared.effect.Step.{Step}
 use Rattle.journal.specs.declared.head.Head.{Head}
-use Rattle.journal.specs.declared.head.Head.TheVariants.{Send, TakeNone, Wire, Tick}
+use Rattle.journal.specs.declared.head.Head.TheVariants.{Send, TakeNone, Cut, Mend, Settle}
+use Rattle.journal.specs.declared.head.Head.TheVariants.{Wire, Tick}
 use Rattle.journal.specs.declared.head.SentTo.TheVariants.{Link}
-use Rattle.journal.proofs.Playing.{endpoint_kept, has_endpoint, is_actor, made, made_by, on_node}
+use Rattle.journal.proofs.Playing.{endpoint_kept, has_endpoint, is_actor, made_by, on_node}
 use Rattle.link_laws.specs.Brought.{MayBring, Brought, brought_at}
 use Rattle.link_laws.specs.Ends.{IsLinkOf, node_at}
 use Rattle.link_laws.specs.Laws.{HasEffects, IsHandedOver, IsLegal, IsLegalStep, IsTick}
-use Rattle.link_laws.specs.Laws.{actors_alone, delivers}
-use Rattle.link_laws.specs.Moves.{KeepsNodeLaws}
+use Rattle.link_laws.specs.Laws.{KeepsLinks, KeepsNodeLaws, delivers}
 use Rattle.link_laws.specs.Sessions.{is_cut}
 use Rattle.link_laws.specs.Still.{AllStill, IsStill}
-use Rattle.link_laws.proofs.Legal.{asks-nothing, is_plain_head, legal_passing, legal_tick}
-use Rattle.link_laws.proofs.Legal.{legal_with, node_laws}
+use Rattle.link_laws.proofs.Legal.{is_plain_head, legal_passing, legal_plain, legal_tick}
+use Rattle.link_laws.proofs.Legal.{node_laws}
 
--- the test of a head for an actor: it may act, and its endpoint is as the head needs
+-- the test of a link: it is one of the shape
+abbrev is_link : Shape → LinkNo → Bool
+is_link shape k = nat_lt 0 k.0 && nat_le k.0 (length shape.links)
+
+is_link-of : (shape : Shape) (k : LinkNo) → is_link shape k ≡ true → IsLinkOf shape k
+is_link-of shape k is =
+    let parts = and_parts (nat_lt 0 k.0) (nat_le k.0 (length shape.links)) is in
+    (ltb-true 0 k.0 parts.0, leb-true k.0 (length shape.links) parts.1)
+
+-- the test of a head: if it is of a link, of one of the shape
+abbrev has_link : Shape → Head → Bool
+has_link shape (Wire k from verdict) = is_link shape k
+has_link shape (Tick k side) = is_link shape k
+has_link shape (Cut k) = is_link shape k
+has_link shape (Mend k) = is_link shape k
+has_link shape (Settle k) = is_link shape k
+has_link shape _ = true
+
+links_kept : (shape : Shape) (head : Head) → has_link shape head ≡ true → KeepsLinks shape head
+links_kept shape (Wire k from verdict) is = is_link-of shape k is
+links_kept shape (Tick k side) is = is_link-of shape k is
+links_kept shape (Cut k) is = is_link-of shape k is
+links_kept shape (Mend k) is = is_link-of shape k is
+links_kept shape (Settle k) is = is_link-of shape k is
+links_kept shape _ is = tt
+
+-- the test of a head for an actor: it may act, and its endpoint and its link are as the head needs
 abbrev may_act : Shape → List Step → ℕ → Head → Bool
-may_act shape P k head = is_actor shape P k && has_endpoint (endpoint_of P k) head
+may_act shape P k head =
+    is_actor shape P k && (has_endpoint (endpoint_of P k) head && has_link shape head)
 
 -- a step of an actor keeps the laws of nodes where that test, and what is said of its head, compute
 pub keeps_laws : {shape : Shape} {P : List Step} {k : ℕ} {head : Head} {effects : List Effect}
     → may_act shape P k head ≡ true → IsBounded head
     → HasEffects shape P (node_by shape (Actor k)) (endpoint_of P k) head effects
     → KeepsSends P (node_by shape (Actor k)) head
-    → KeepsReceives (actors_alone shape) P (node_by shape (Actor k)) (Actor k) (endpoint_of P k)
+    → KeepsReceives shape P (node_by shape (Actor k)) (Actor k) (endpoint_of P k)
     head
     → KeepsNodeLaws shape P (record { by = Actor k; head = head; effects = effects })
 keeps_laws {shape} {P} {k} {head} {effects} may bounds same sends receives =
-    let parts = and_parts (is_actor shape P k) (has_endpoint (endpoint_of P k) head) may in
+    let parts =
+    and_parts (is_actor shape P k) (has_endpoint (endpoint_of P k) head && has_link shape head) may
+    in
+    let others = and_parts (has_endpoint (endpoint_of P k) head) (has_link shape head) parts.1 in
     record {
       makers = made_by parts.0;
-      endpoints = endpoint_kept parts.1;
+      endpoints = endpoint_kept others.0;
       bounds = bounds;
       effects = same;
       sends = sends;
       receives = receives;
+      links = links_kept shape head others.1;
     }
 
 -- it is legal where its head is plain, too
@@ -64,23 +95,27 @@ pub acts : {shape : Shape} {P : List Step} {k : ℕ} {head : Head} {effects : Li
     → (may_act shape P k head && is_plain_head head) ≡ true → IsBounded head
     → HasEffects shape P (node_by shape (Actor k)) (endpoint_of P k) head effects
     → KeepsSends P (node_by shape (Actor k)) head
-    → KeepsReceives (actors_alone shape) P (node_by shape (Actor k)) (Actor k) (endpoint_of P k)
+    → KeepsReceives shape P (node_by shape (Actor k)) (Actor k) (endpoint_of P k)
     head
     → IsLegalStep shape P (record { by = Actor k; head = head; effects = effects })
 acts {shape} {P} {k} {head} {effects} may bounds same sends receives =
     let parts = and_parts (may_act shape P k head) (is_plain_head head) may in
-    legal_with shape P (made k head effects) (keeps_laws parts.0 bounds same sends receives)
-    (asks-nothing shape P head effects parts.1)
+    legal_plain shape P (Actor k) head effects parts.1
+    (keeps_laws parts.0 bounds same sends receives)
 
 -- a step of an actor that finds none, where the links are still
 pub finds_none : {shape : Shape} {P : List Step} {k : ℕ} {filter : Sigsel}
     → may_act shape P k (TakeNone filter) ≡ true
-    → KeepsReceives (actors_alone shape) P (node_by shape (Actor k)) (Actor k) (endpoint_of P k)
+    → KeepsReceives shape P (node_by shape (Actor k)) (Actor k) (endpoint_of P k)
     (TakeNone filter) → AllStill shape P → IsLegalStep shape P
     (record { by = Actor k; head = TakeNone filter; effects = [] })
-finds_none {shape} {P} {k} {filter} may receives still =
-    legal_with shape P (made k (TakeNone filter) []) (keeps_laws may tt refl tt receives)
-    (record { rest = still; links = tt; packets = tt; cuts = tt; ticks = tt })
+finds_none {shape} {P} {k} {filter} may receives still = record {
+  nodes = keeps_laws may tt refl tt receives;
+  rest = still;
+  packets = tt;
+  cuts = tt;
+  ticks = tt;
+}
 
 -- where there is no link, all are still
 pub no_links : {actors : List NodeNo} {P : List Step} → AllStill (on_node actors) P
@@ -163,11 +198,11 @@ ticked {P} {side} {es} tick = legal_tick two_ends P (Pump l) l side es (pumped r
 -- the laws of nodes ask little of a packet and of a tick
 pub wire_laws : {P : List Step} {from : Side} {verdict : Verdict} {es : List Effect}
     → KeepsNodeLaws two_ends P (record { by = Pump l; head = Wire l from verdict; effects = es })
-wire_laws = node_laws (pumped refl) refl refl tt tt tt tt
+wire_laws = node_laws (pumped refl) refl refl tt tt tt tt one_of
 
 pub tick_laws : {P : List Step} {side : Side} {es : List Effect}
     → KeepsNodeLaws two_ends P (record { by = Pump l; head = Tick l side; effects = es })
-tick_laws = node_laws (pumped refl) refl refl tt tt tt tt
+tick_laws = node_laws (pumped refl) refl refl tt tt tt tt one_of
 
 -- the first sessions of two boots, and the second of the first
 abbrev pub x11 : Session

@@ -98,8 +98,8 @@ module _ (shape : Shape) where
   step-reached : (P : List Step) (s : Step) → IsLegalStep shape P s
       → AllByRecursion (MeetsKnown (AreReached shape)) s.effects
   step-reached P s legal =
-      head-reached P (node_by shape s.by) (endpoint_by P s.by) s.head s.effects legal.effects
-      legal.packets legal.ticks legal.links
+      head-reached P (node_by shape s.by) (endpoint_by P s.by) s.head s.effects
+      legal.nodes.effects legal.packets legal.ticks legal.nodes.links
 
   all-reached : (P : List Step) → IsLegal shape P → (n : ℕ)
       → AllByRecursion (AreReached shape n) (living P n)

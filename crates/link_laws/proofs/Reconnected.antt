@@ -108,7 +108,7 @@ mended_is_legal =
     ▸ acts refl tt refl tt tt
     ▸ brings (goes_up x12 x12) refl refl (record { down = refl; own = refl; other_had = refl })
     ▸ brings (goes_up x12 x12) refl refl (record { down = refl; own = refl; other_had = refl })
-    ▸ acts refl (omega arith) refl tt tt
+    ▸ acts refl (refl, omega arith) refl tt tt
     ▸ brings (meets x12 b (codes "b")) refl refl
     (record { up = refl; opened = refl; named = refl; new = refl })
     ▸ acts refl tt refl tt refl

@@ -9,6 +9,7 @@ use Rattle.linx_base.specs.declared.identity.LinkNo.{LinkNo}
 use Rattle.linx_base.specs.declared.identity.Peer.TheVariants.{There}
 use Rattle.linx_base.specs.declared.identity.Session.{Session}
 use Rattle.linx_base.specs.declared.identity.Side.TheVariants.{First, Second}
+use Rattle.linx_base.specs.declared.name.Path.TheVariants.{Over}
 use Rattle.linx_base.specs.declared.signal.SigNote.{SigNote}
 use Rattle.linx_base.specs.declared.signal.Reason.TheVariants as reasons
 use Rattle.sigsel.specs.declared.sigsel.Sigsel.TheVariants.{Any}
@@ -16,7 +17,8 @@ use Rattle.journal.specs.Traffic.{arrived_from, sent_to}
 use Rattle.journal.specs.declared.effect.Effect.{Effect}
 use Rattle.journal.specs.declared.effect.Effect.TheVariants.{Arrived, Closed, Notified, Up}
 use Rattle.journal.specs.declared.effect.Step.{Step}
-use Rattle.journal.specs.declared.head.Head.TheVariants.{Restart, TakeNone, Tick, Waits, Wire}
+use Rattle.journal.specs.declared.head.Head.TheVariants.{Cut, Hunt, Mend, Restart, Settle}
+use Rattle.journal.specs.declared.head.Head.TheVariants.{TakeNone, Tick, Waits, Wire}
 use Rattle.journal.proofs.Playing.{at_rest, closes, endpoint_kept, made, made_by, note, ref}
 use Rattle.link_laws.specs.Brought.{IsArrival, IsGoingDown, IsGoingUp, IsMeeting, IsParting}
 use Rattle.link_laws.specs.Brought.{arrives, goes_up, meets, nothing}
@@ -26,8 +28,8 @@ use Rattle.link_laws.specs.Still.{IsStill, cut, whole as whole_link}
 use Rattle.link_laws.proofs.Playing.{acts, a, b, brings, down, gone_at, l, met_at, one_of, posts}
 use Rattle.link_laws.proofs.Playing.{pump, pumped, there, ticked, two_ends, up, x11, x21, ◌▸◌}
 use Rattle.link_laws.proofs.Reconnected.{cut_off, cut_off_is_legal}
-use Rattle.link_laws.proofs.Refusing.{Breaks, cutting, effects, linking, packets, resting, ticking}
-use Rattle.link_laws.proofs.Refusing.{unequal}
+use Rattle.link_laws.proofs.Refusing.{Breaks, bounds, cutting, effects, linking, packets, resting}
+use Rattle.link_laws.proofs.Refusing.{ticking, unequal}
 use Rattle.link_laws.proofs.Told.{may_told}
 use Rattle.link_laws.proofs.Worked.{closed_behind_data, closed_behind_data_is_legal, found_over}
 use Rattle.link_laws.proofs.Worked.{found_over_is_legal, one_answered, one_answered_is_legal}
@@ -185,6 +187,15 @@ down_for_nothing = brings_wrong found_over_is_legal refl (λ packet.
     let wrong : 4294967297 < 4294967297 = law.passed in
     omega arith)
 
+-- BOUNDS. A hunt over a link is for what is no name
+hunts_no_name_over : Breaks two_ends found_over
+    (made 1 (Hunt (Over l []) (note 251 [])) []) bounds
+hunts_no_name_over = record {
+  before = found_over_is_legal;
+  broken = λ kept. let wrong : false ≡ true = kept.0 in cc;
+  others = (made_by refl, endpoint_kept refl, tt, refl, tt, tt, tt, tt, tt, tt, tt);
+}
+
 -- LINKS. A packet and a tick are of a link that there isn't
 abbrev no_link : LinkNo
 no_link = record { 0 = 2 }
@@ -218,6 +229,28 @@ ticks_nowhere = record {
   before = tt;
   broken = λ there_is. let wrong : 2 ≤ 1 = there_is.1 in omega arith;
   others = (made_by refl, endpoint_kept refl, tt, tt, tt, tt, tt, tt, tt, tt, stays refl);
+}
+
+-- a link is cut, mended and settled that there isn't
+cuts_nowhere : Breaks two_ends [] (made 1 (Cut no_link) []) linking
+cuts_nowhere = record {
+  before = tt;
+  broken = λ there_is. let wrong : 2 ≤ 1 = there_is.1 in omega arith;
+  others = (made_by refl, endpoint_kept refl, tt, refl, tt, tt, tt, tt, tt, tt, tt);
+}
+
+mends_nowhere : Breaks two_ends [] (made 1 (Mend no_link) []) linking
+mends_nowhere = record {
+  before = tt;
+  broken = λ there_is. let wrong : 2 ≤ 1 = there_is.1 in omega arith;
+  others = (made_by refl, endpoint_kept refl, tt, refl, tt, tt, tt, tt, tt, tt, tt);
+}
+
+settles_nowhere : Breaks two_ends [] (made 1 (Settle no_link) []) linking
+settles_nowhere = record {
+  before = tt;
+  broken = λ there_is. let wrong : 2 ≤ 1 = there_is.1 in omega arith;
+  others = (made_by refl, endpoint_kept refl, tt, refl, tt, tt, tt, tt, tt, tt, tt);
 }
 
 -- CUTS. A packet passes a cut

@@ -126,6 +126,25 @@ opens_no_name = record {
   others = (made_by refl, endpoint_kept refl, tt, refl, tt, tt, tt, tt, tt, tt, tt);
 }
 
+-- a hunt is for what is no name
+hunts_no_name : Breaks one_actor one_open (made 1 (Hunt (Local []) (note 251 [])) []) bounds
+hunts_no_name = record {
+  before = one_open_is_legal;
+  broken = λ kept. let wrong : false ≡ true = kept.0 in cc;
+  others = (made_by refl, endpoint_kept refl, tt, refl, tt, tt, tt, tt, tt, tt, tt);
+}
+
+-- the signal of a hunt has too many bytes
+hunts_with_too_much : Breaks one_actor one_open
+    (made 1 (Hunt (Local (codes "b")) (note 251 (replicate 65533 0))) [])
+    bounds
+hunts_with_too_much = record {
+  before = one_open_is_legal;
+  broken = λ kept. let fits : length {A = ℕ} (replicate 65533 0) ≤ 65532 = kept.1 in
+      omega (arith, length-replicate {A = ℕ} 65533 0);
+  others = (made_by refl, endpoint_kept refl, tt, refl, tt, tt, tt, tt, tt, tt, tt);
+}
+
 -- the signal of an attach leaves no byte for the reason
 attaches_too_much : Breaks one_actor one_open
     (made 1 (Attach (Here first) (note 252 (replicate 65532 0))) [])
@@ -167,7 +186,7 @@ two_hunts = hunts 2 ∷ hunts 1 ∷ two_open
 two_hunts_is_legal : IsLegal three_actors two_hunts
 two_hunts_is_legal =
     tt ▸ acts refl refl refl tt tt ▸ acts refl refl refl tt tt
-    ▸ acts refl (omega arith) refl tt tt ▸ acts refl (omega arith) refl tt tt
+    ▸ acts refl (refl, omega arith) refl tt tt ▸ acts refl (refl, omega arith) refl tt tt
 
 -- the later one is answered first
 later_hunt_first : Breaks three_actors two_hunts

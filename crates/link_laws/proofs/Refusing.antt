@@ -7,7 +7,7 @@ use Rattle.journal.specs.Laws.{IsBounded, KeepsEndpoints, KeepsMakers, KeepsRece
 use Rattle.journal.specs.Shapes.{Shape, node_by}
 use Rattle.journal.specs.declared.effect.Step.{Step}
 use Rattle.link_laws.specs.Laws.{HasEffects, IsLegal, KeepsCuts, KeepsLinks, KeepsPackets}
-use Rattle.link_laws.specs.Laws.{KeepsRest, KeepsTicks, actors_alone}
+use Rattle.link_laws.specs.Laws.{KeepsRest, KeepsTicks}
 
 -- the laws of a step
 pub data Law : Type 0 where
@@ -45,7 +45,7 @@ KeepsLaw shape P s effects =
     HasEffects shape P (node_by shape s.by) (endpoint_by P s.by) s.head s.effects
 KeepsLaw shape P s sending = KeepsSends P (node_by shape s.by) s.head
 KeepsLaw shape P s receiving =
-    KeepsReceives (actors_alone shape) P (node_by shape s.by) s.by (endpoint_by P s.by) s.head
+    KeepsReceives shape P (node_by shape s.by) s.by (endpoint_by P s.by) s.head
 KeepsLaw shape P s resting = KeepsRest shape P s.head
 KeepsLaw shape P s linking = KeepsLinks shape s.head
 KeepsLaw shape P s packets = KeepsPackets shape P s.head s.effects

@@ -14,15 +14,15 @@ use Rattle.journal.specs.declared.head.Head.TheVariants.{TakeNone, Tick, Wire}
 use Rattle.journal.proofs.Openings.{IsShort}
 use Rattle.link_laws.specs.Ends.{HasTwoEnds, node_at}
 use Rattle.link_laws.specs.Sides.{AreLinksKept, Links, records_of}
-use Rattle.link_laws.specs.Laws.{IsLegal}
-use Rattle.link_laws.specs.Moves.{IsMove, KeepsNodeLaws, Moves}
+use Rattle.link_laws.specs.Laws.{IsLegal, KeepsNodeLaws}
+use Rattle.link_laws.specs.Moves.{IsMove, Moves}
 use Rattle.link_laws.specs.Promises.{KeepsLinkPromises}
 use Rattle.link_laws.specs.Runs.{IsBoundedRun, IsRun, KeepsPromises, KeepsThroughout}
 use Rattle.link_laws.specs.Runs.{NothingVanishesThere}
 use Rattle.link_laws.specs.Runs.{RunsAreLegal, RunsKeepPromises}
 use Rattle.link_laws.proofs.Carried.{all_carried}
 use Rattle.link_laws.proofs.Good.{IsGood, IsKnown, step_of}
-use Rattle.link_laws.proofs.Legal.{asks-nothing}
+use Rattle.link_laws.proofs.Legal.{legal_plain}
 use Rattle.link_laws.proofs.MovesClose.{close_head, ended_head, ending_good}
 use Rattle.link_laws.proofs.MovesHunt.{hunting_good}
 use Rattle.link_laws.proofs.MovesOpen.{opening_good}
@@ -64,8 +64,8 @@ module _ (shape : Shape) (P : List Step) (before after : Links) (known : IsKnown
       ending_good shape P before after known by Ended (ended_head shape P) es laws laws.effects
       moves
   by_head head es laws moves =
-      quiet_good shape P before after known by head es refl laws moves
-      (asks-nothing shape P head es refl)
+      quiet_good shape P before after known by head es refl
+      (legal_plain shape P by head es refl laws) moves
 
 pub move_good : (shape : Shape) (P : List Step) (before after : Links) → IsKnown shape P before
     → (s : Step) → IsMove shape P before s after → IsGood shape P s after

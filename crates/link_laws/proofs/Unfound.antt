@@ -314,7 +314,8 @@ module _ (shape : Shape) (P : List Step) (s : Step) (n : ℕ) (legal : IsLegal s
 
       effects : s.effects ≡ hunted (find P node path) h
       effects = subst (λ (t : Head). HasEffects shape P node (Some j) t s.effects) head
-          (subst (λ (m : Option Inc). HasEffects shape P node m s.head s.effects) me step.effects)
+          (subst (λ (m : Option Inc). HasEffects shape P node m s.head s.effects) me
+          step.nodes.effects)
 
       seeks : node ≡ n → not (ends_hunt s.effects h) ≡ true → IsSeeking (s ∷ P) n h
       seeks at kept = false_from_ne_true (list_any (is_at_path path) (living (s ∷ P) n)) (λ is.

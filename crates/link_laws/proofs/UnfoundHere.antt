@@ -87,7 +87,7 @@ module _ (shape : Shape) (P : List Step) (s : Step) (n : ℕ) (legal : IsLegal s
 
       effects : s.effects ≡ opening new name (hunting P node)
       effects = subst (λ (t : Head). HasEffects shape P node (endpoint_by P s.by) t s.effects) head
-          step.effects
+          step.nodes.effects
 
       is_new : (i : Inc) → IsOpened i → i ≡ new
       is_new i opened = same_inc-true i new
@@ -145,7 +145,8 @@ module _ (shape : Shape) (P : List Step) (s : Step) (n : ℕ) (legal : IsLegal s
 
       effects : s.effects ≡ hunted (find P node path) h
       effects = subst (λ (t : Head). HasEffects shape P node (Some j) t s.effects) head
-          (subst (λ (m : Option Inc). HasEffects shape P node m s.head s.effects) me step.effects)
+          (subst (λ (m : Option Inc). HasEffects shape P node m s.head s.effects) me
+          step.nodes.effects)
 
       seeks : node ≡ n → Goes h
       seeks at kept v for_v i alive =

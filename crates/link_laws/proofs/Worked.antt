@@ -42,7 +42,7 @@ pub found_over_is_legal : IsLegal two_ends found_over
 found_over_is_legal =
     tt ▸ acts refl refl refl tt tt
     ▸ acts refl refl refl tt tt
-    ▸ acts refl (omega arith) refl tt tt
+    ▸ acts refl (refl, omega arith) refl tt tt
     ▸ brings (goes_up x11 x11) refl refl (record { down = refl; own = refl; other_had = refl })
     ▸ brings (goes_up x11 x11) refl refl (record { down = refl; own = refl; other_had = refl })
     ▸ brings (meets x11 b (codes "b")) refl refl

@@ -143,7 +143,7 @@ answered_later =
 answered_later_is_legal : IsLegal two_actors answered_later
 answered_later_is_legal =
     tt ▸ acts refl refl refl tt tt ▸ acts refl refl refl tt tt
-    ▸ acts refl (omega arith) refl tt tt ▸ acts refl tt refl tt tt
+    ▸ acts refl (refl, omega arith) refl tt tt ▸ acts refl tt refl tt tt
     ▸ acts refl tt refl tt (refl, refl) ▸ acts refl refl refl tt tt
     ▸ acts refl tt refl tt refl ▸ acts refl tt refl tt tt ▸ acts refl tt refl tt tt
 
@@ -192,7 +192,7 @@ finds_the_open_one_is_legal : IsLegal three_actors finds_the_open_one
 finds_the_open_one_is_legal =
     tt ▸ acts refl refl refl tt tt ▸ acts refl refl refl tt tt ▸ acts refl refl refl tt tt
     ▸ acts refl tt refl tt tt ▸ acts refl tt refl tt (refl, refl)
-    ▸ acts refl (omega arith) refl tt tt ▸ acts refl tt refl tt tt ▸ acts refl tt refl tt refl
+    ▸ acts refl (refl, omega arith) refl tt tt ▸ acts refl tt refl tt tt ▸ acts refl tt refl tt refl
     ▸ acts refl tt refl tt tt ▸ finds_none refl (refl, at_rest refl) no_links
     ▸ acts refl tt refl tt tt
 
@@ -241,7 +241,7 @@ told_dead =
 attached_twice_is_legal : IsLegal two_actors attached_twice
 attached_twice_is_legal =
     tt ▸ acts refl refl refl tt tt ▸ acts refl refl refl tt tt
-    ▸ acts refl (omega arith) refl tt tt ▸ acts refl tt refl tt (refl, refl)
+    ▸ acts refl (refl, omega arith) refl tt tt ▸ acts refl tt refl tt (refl, refl)
     ▸ acts refl tt refl tt refl ▸ acts refl (omega arith) refl tt tt
     ▸ acts refl (omega arith) refl tt tt
 
@@ -338,7 +338,7 @@ both_told =
 pub two_holders_is_legal : IsLegal three_actors two_holders
 two_holders_is_legal =
     tt ▸ acts refl refl refl tt tt ▸ acts refl refl refl tt tt ▸ acts refl refl refl tt tt
-    ▸ acts refl (omega arith) refl tt tt ▸ acts refl (omega arith) refl tt tt
+    ▸ acts refl (refl, omega arith) refl tt tt ▸ acts refl (refl, omega arith) refl tt tt
     ▸ acts refl tt refl tt (refl, refl) ▸ acts refl tt refl tt refl ▸ acts refl tt refl tt refl
     ▸ acts refl (omega arith) refl tt tt ▸ acts refl (omega arith) refl tt tt
     ▸ acts refl (omega arith) refl refl tt ▸ acts refl (omega arith) refl refl tt

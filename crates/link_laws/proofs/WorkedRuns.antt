@@ -136,7 +136,7 @@ opens_b = record {
 hunts_b : IsMove two_ends both_open both_down
     (made 1 (Hunt (Over l (codes "b")) (note 251 [])) []) both_down
 hunts_b = record {
-  laws = keeps_laws refl (omega arith) refl tt tt;
+  laws = keeps_laws refl (refl, omega arith) refl tt tt;
   moves = record {
     at = First;
     of_shape = one_of;

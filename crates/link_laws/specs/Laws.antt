@@ -19,7 +19,8 @@ use Rattle.journal.specs.declared.effect.Effect.{Effect}
 use Rattle.journal.specs.declared.effect.Effect.TheVariants.{Down}
 use Rattle.journal.specs.declared.effect.Step.{Step}
 use Rattle.journal.specs.declared.head.Head.{Head}
-use Rattle.journal.specs.declared.head.Head.TheVariants.{TakeNone, Restart, Wire, Tick}
+use Rattle.journal.specs.declared.head.Head.TheVariants.{TakeNone, Restart, Cut, Mend, Settle}
+use Rattle.journal.specs.declared.head.Head.TheVariants.{Wire, Tick}
 use Rattle.link_laws.specs.Brought.{Brought, MayBring, brought_at}
 use Rattle.link_laws.specs.Ends.{IsLinkOf, node_at}
 use Rattle.link_laws.specs.Sessions.{is_cut, silent_ticks}
@@ -53,10 +54,14 @@ abbrev pub KeepsRest : Shape → List Step → Head → Type 0
 KeepsRest shape P (TakeNone filter) = AllStill shape P
 KeepsRest shape P _ = Unit {0}
 
--- LAW OF LINKS. A packet and a tick are of a link that there is
+-- LAW OF LINKS. A packet and a tick are of a link that there is, and what is cut, mended or settled
+-- is one
 abbrev pub KeepsLinks : Shape → Head → Type 0
 KeepsLinks shape (Wire l from verdict) = IsLinkOf shape l
 KeepsLinks shape (Tick l side) = IsLinkOf shape l
+KeepsLinks shape (Cut l) = IsLinkOf shape l
+KeepsLinks shape (Mend l) = IsLinkOf shape l
+KeepsLinks shape (Settle l) = IsLinkOf shape l
 KeepsLinks shape _ = Unit {0}
 
 -- the verdict hands the packet over
@@ -89,8 +94,9 @@ abbrev pub KeepsCuts : List Step → Head → Type 0
 KeepsCuts P (Wire l from verdict) = is_cut P l.0 ≡ true → verdict ≡ Lose
 KeepsCuts P _ = Unit {0}
 
--- LAW OF TICKS. A tick does nothing, or it is the third of its side in silence, and then the
--- session that is up is lost
+-- LAW OF TICKS. A tick does nothing, or its side was silent for two ticks or more, and then the
+-- session that is up is lost. A packet that brings nothing is heard too, and stands in no effect, so
+-- a side may stay longer
 pub data IsTick (P : List Step) (n : ℕ) (l : LinkNo) (side : Side) (es : List Effect) : Type 0
   where
     stays : es ≡ [] → IsTick P n l side es
@@ -102,22 +108,22 @@ abbrev pub KeepsTicks : Shape → List Step → Head → List Effect → Type 0
 KeepsTicks shape P (Tick l side) es = IsTick P (node_at shape l side) l side es
 KeepsTicks shape P _ es = Unit {0}
 
--- the actors of a shape, with no link
-abbrev pub actors_alone : Shape → Shape
-actors_alone shape = record { links = []; actors = shape.actors }
-
--- A STEP IS LEGAL after the steps P. The law of receiving asks that the other actors are at rest,
--- and the law of rest that the links are
-pub record IsLegalStep (shape : Shape) (P : List Step) (s : Step) : Type 0 where
+-- THE LAWS OF NODES, which the tables of the nodes keep without a look at what the links hold
+pub record KeepsNodeLaws (shape : Shape) (P : List Step) (s : Step) : Type 0 where
   pub makers : KeepsMakers shape P s.by s.head
   pub endpoints : KeepsEndpoints (endpoint_by P s.by) s.head
   pub bounds : IsBounded s.head
   pub effects : HasEffects shape P (node_by shape s.by) (endpoint_by P s.by) s.head s.effects
   pub sends : KeepsSends P (node_by shape s.by) s.head
-  pub receives :
-      KeepsReceives (actors_alone shape) P (node_by shape s.by) s.by (endpoint_by P s.by) s.head
-  pub rest : KeepsRest shape P s.head
+  pub receives : KeepsReceives shape P (node_by shape s.by) s.by (endpoint_by P s.by) s.head
   pub links : KeepsLinks shape s.head
+
+-- A STEP IS LEGAL after the steps P where it keeps the laws of nodes and those of what the links
+-- hold. Where a receive finds none, the law of receiving asks that its maker is at rest, and the
+-- law of rest that every link is still
+pub record IsLegalStep (shape : Shape) (P : List Step) (s : Step) : Type 0 where
+  pub nodes : KeepsNodeLaws shape P s
+  pub rest : KeepsRest shape P s.head
   pub packets : KeepsPackets shape P s.head s.effects
   pub cuts : KeepsCuts P s.head
   pub ticks : KeepsTicks shape P s.head s.effects

@@ -27,7 +27,6 @@ use Rattle.trunk_record.specs.Sayings.{is_live, met, published, unpublished}
 use Rattle.trunk_record.specs.Trunks.{FitsReceiver, IsQuiet}
 use Rattle.journal.specs.Effects.{losing}
 use Rattle.journal.specs.History.{endpoint_by, name_of, next_inc, opened_on}
-use Rattle.journal.specs.Laws.{IsBounded, KeepsEndpoints, KeepsMakers, KeepsReceives, KeepsSends}
 use Rattle.journal.specs.Living.{find, is_alive}
 use Rattle.journal.specs.Pending.{owed}
 use Rattle.journal.specs.Shapes.{Shape, node_by}
@@ -43,20 +42,10 @@ use Rattle.link_laws.specs.Brought.{nothing}
 use Rattle.link_laws.specs.Brought.{parts}
 use Rattle.link_laws.specs.Ends.{IsLinkOf, node_at}
 use Rattle.link_laws.specs.Sides.{Links, SideState}
-use Rattle.link_laws.specs.Laws.{HasEffects, actors_alone, delivers}
+use Rattle.link_laws.specs.Laws.{KeepsNodeLaws, delivers}
 use Rattle.link_laws.specs.Linked.{HasNone, is_hunted}
 use Rattle.link_laws.specs.Promises.{IsNotAbove}
 use Rattle.link_laws.specs.Sessions.{boots, is_cut, same_side}
-
--- THE LAWS OF NODES, which the tables of the nodes keep without a look at the links
-pub record KeepsNodeLaws (shape : Shape) (P : List Step) (s : Step) : Type 0 where
-  pub makers : KeepsMakers shape P s.by s.head
-  pub endpoints : KeepsEndpoints (endpoint_by P s.by) s.head
-  pub bounds : IsBounded s.head
-  pub effects : HasEffects shape P (node_by shape s.by) (endpoint_by P s.by) s.head s.effects
-  pub sends : KeepsSends P (node_by shape s.by) s.head
-  pub receives :
-      KeepsReceives (actors_alone shape) P (node_by shape s.by) s.by (endpoint_by P s.by) s.head
 
 -- A SIDE IS LEFT as it was, and was heard no longer ago
 pub record IsLeft (before after : SideState) : Type 0 where
@@ -296,7 +285,7 @@ pub record Passes (shape : Shape) (P : List Step) (before after : Links) (l : Li
   pub cuts : is_cut P l.0 ≡ true → verdict ≡ Lose
   pub handed : HandsOver (delivers verdict) shape P before after l from es
 
--- A SIDE IS LOST at its third tick in silence
+-- A SIDE IS LOST at its third tick in silence, or a later one
 pub record IsLost (P : List Step) (n : ℕ) (l : LinkNo) (before after : SideState)
     (es : List Effect) : Type 0 where
   pub y : Session
@@ -305,7 +294,7 @@ pub record IsLost (P : List Step) (n : ℕ) (l : LinkNo) (before after : SideSta
   pub effects : es ≡ losing (record { 0 = n }) l before.side.now.session (owed P n)
   pub begins : Begins (next_session before.side.now.session) before after
 
--- at any other it stays, and was heard one tick longer ago
+-- or it stays, and was heard one tick longer ago at most
 pub record IsTicked (before after : SideState) (es : List Effect) : Type 0 where
   pub effects : es ≡ []
   pub side : after.side ≡ before.side

@@ -8,6 +8,7 @@ use Rattle.linx_base.specs.declared.identity.Inc.{Inc}
 use Rattle.linx_base.specs.declared.identity.LinkNo.{LinkNo}
 use Rattle.linx_base.specs.declared.identity.Peer.TheVariants.{Here, There}
 use Rattle.linx_base.specs.declared.identity.Side.{Side}
+use Rattle.linx_base.specs.declared.identity.Side.TheVariants.{First, Second}
 use Rattle.linx_base.specs.declared.name.Path.TheVariants.{Local}
 use Rattle.linx_base.specs.declared.pending.PendingAttach.{PendingAttach}
 use Rattle.trunk_record.specs.Changes.{new_side}
@@ -24,9 +25,9 @@ use Rattle.link_laws.specs.Ends.{HasTwoEnds, IsLinkOf, node_at}
 use Rattle.link_laws.specs.Sides.{AreLinksKept, Links, SideState}
 use Rattle.link_laws.specs.Laws.{IsLegal}
 use Rattle.link_laws.specs.Linked.{HasNone, IsUnfound, is_hunted}
-use Rattle.link_laws.specs.Moves.{AllResting, IsLeft, IsMove}
+use Rattle.link_laws.specs.Moves.{IsLeft, IsMove, IsResting}
 use Rattle.link_laws.specs.Promises.{AllCarried, KeepsLinkPromises}
-use Rattle.link_laws.specs.Still.{AllStill}
+use Rattle.link_laws.specs.Still.{IsStill}
 
 -- a side before its first session went up
 abbrev pub first_side : SideRecord
@@ -97,6 +98,11 @@ pub record IsBetweenLiving (P : List Step) (n : ℕ) (a : PendingAttach) : Type 
 abbrev pub AllBetweenLiving : List Step → Type 0
 AllBetweenLiving P = (n : ℕ) → AllByRecursion (IsBetweenLiving P n) (owed P n)
 
+-- a link that rests is still
+abbrev pub RestsAreStill : Shape → List Step → Links → Type 0
+RestsAreStill shape P links = (l : LinkNo) → IsLinkOf shape l
+    → IsResting P l (links l.0 First) (links l.0 Second) → IsStill shape P l
+
 -- what is promised of the journal so far and of the links that it left
 pub record KeepsPromises (shape : Shape) (P : List Step) (links : Links) : Type 0 where
   -- on a node an endpoint has got just what another sent it
@@ -113,8 +119,8 @@ pub record KeepsPromises (shape : Shape) (P : List Step) (links : Links) : Type 
   -- each attach that is owed a notification is of a living peer, and its holder is open
   pub between_living : AllBetweenLiving P
   pub vanishes_none : NothingVanishesThere shape P links
-  -- links that rest are still
-  pub still : AllResting shape P links → AllStill shape P
+  -- each link that rests is still
+  pub still : RestsAreStill shape P links
 
 -- WHAT IS PROMISED HOLDS AFTER EACH STEP, and before the first one, of the links that the moves so
 -- far left

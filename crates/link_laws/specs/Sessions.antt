@@ -58,7 +58,8 @@ had_session [] node link y = (own_session [] node link).0 == y.0
 had_session (s ∷ P) node link y =
     (own_session (s ∷ P) node link).0 == y.0 || had_session P node link y
 
--- SILENCE. The effect tells that a node's side of a link heard: it went up, or was given something
+-- SILENCE. The effect tells that a node's side of a link heard: it went up, or a peer was met or
+-- parted or sent a signal. A question, or a packet that brings nothing, has no effect that tells
 abbrev pub tells_heard : ℕ → ℕ → Effect → Bool
 tells_heard node link (Up n l x y) = n.0 == node && l.0 == link
 tells_heard node link (Met n (There l x i) name) = n.0 == node && l.0 == link

@@ -1,5 +1,5 @@
 -- The maker of each step of a fabric's story.
-use Rattle.std.proofs.Common.{◌≡◌, ◌≢◌, ℕ, suc, ◌<◌, ◌≤◌, ◌-◌, cond, List, [], ◌∷◌, length}
+use Rattle.std.proofs.Common.{◌≡◌, ◌≢◌, ℕ, suc, ◌<◌, ◌≤◌, ◌+◌, ◌-◌, cond, List, [], ◌∷◌, length}
 use Rattle.std.proofs.Common.{map, Some, None, refl, sym, ◌∙◌, ap, subst, arith, eq-eqb}
 use Rattle.std.proofs.Common.{ne_eqb}
 use Rattle.std.specs.Prelude.{slice_get}
@@ -13,7 +13,7 @@ use Rattle.journal.specs.Logs.{step_at}
 use Rattle.journal.specs.Shapes.{Shape}
 use Rattle.link_laws.specs.Laws.{IsLegal}
 use Rattle.turn_lock.specs.declared.story.Made.{Made}
-use Rattle.linx_api.specs.Telling.{HasFewMakers, made_steps, maker_limit, maker_number}
+use Rattle.linx_api.specs.Telling.{made_steps, maker_number}
 
 -- the numbers of the makers that a history tells
 abbrev pub numbers : Shape → List Step → List ℕ
@@ -65,18 +65,22 @@ pub there-none : (shape : Shape) (P : List Step) (k : ℕ) → IsThere shape P k
 there-none shape P k there none =
     let bad : Some there.step ≡ None = sym there.stands ∙ none in cc
 
+-- the makers of a fabric are no more than the passes of a lock
+abbrev HasFewMakers : Shape → Type 0
+HasFewMakers shape = length shape.actors + length shape.links ≤ 96
+
 -- the number of a maker is small
 few : (shape : Shape) (P : List Step) → HasFewMakers shape → (by : By) → IsMaker shape P by
-    → maker_number shape by ≤ maker_limit
+    → maker_number shape by ≤ 96
 few shape P most (Actor a) maker = let within = maker.1 in omega arith
 few shape P most (Pump link) maker = let within = maker.1 in omega arith
 
 pub number-small : (shape : Shape) (P : List Step) (k : ℕ) (s : Step) → HasFewMakers shape
-    → IsLegal shape P → step_at P k ≡ Some s → maker_number shape s.by ≤ maker_limit
+    → IsLegal shape P → step_at P k ≡ Some s → maker_number shape s.by ≤ 96
 number-small shape [] k s most legal is = let bad : None ≡ Some s = is in cc
 number-small shape (x ∷ P) k s most legal is = dite (ℕ_discrete k (suc (length P)))
     (λ e. let both : Some x ≡ Some s = sym (at_top x P k e) ∙ is in
     let same : x ≡ s = cc in
-    subst (λ (y : Step). maker_number shape y.by ≤ maker_limit) same
-    (few shape P most x.by legal.1.makers.maker))
+    subst (λ (y : Step). maker_number shape y.by ≤ 96) same
+    (few shape P most x.by legal.1.nodes.makers.maker))
     (λ ne. number-small shape P k s most legal.0 (sym (below_top x P k ne) ∙ is))

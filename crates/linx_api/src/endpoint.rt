@@ -102,7 +102,7 @@ impl<'a> Endpoint<'a> {
     }
 
     /// Takes the first signal that the filter selects: linx_receive_w_tmo, once. `NotYet` says that
-    /// none is there yet, and `Nothing` that none comes.
+    /// none is there yet, and `Nothing` that none is there while the actor is at rest.
     pub fn receive<R: Wait>(self, rt: &R, filter: Sigsel) -> Told<'a>
         requires { IsRunning self }
         ensures asked { IsAsked self.entry (asking (Event.Look filter) None) result.1 result.0 }

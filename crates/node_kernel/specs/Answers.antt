@@ -1,5 +1,5 @@
 -- What heads name, and what steps answer.
-use Rattle.std.specs.Prelude.{ℕ, ◌+◌, ◌-◌, Bool, true, false, List, [], ◌∷◌, length, slice_get}
+use Rattle.std.specs.Prelude.{ℕ, ◌+◌, Bool, true, false, List, [], ◌∷◌, length}
 use Rattle.std.specs.Prelude.{Option, Some, None, if◌then◌else◌}
 use Rattle.linx_base.specs.declared.identity.Inc.{Inc}
 use Rattle.linx_base.specs.declared.identity.ItemAt.{ItemAt}
@@ -16,7 +16,7 @@ use Rattle.journal.specs.declared.head.Refusal.TheVariants.{NotOpen, IsOpen}
 use Rattle.journal.specs.declared.effect.Effect.{Effect}
 use Rattle.journal.specs.declared.effect.Step.{Step}
 use Rattle.journal.specs.History.{closed_step, endpoint_of, last_opened}
-use Rattle.journal.specs.Logs.{step_at}
+use Rattle.journal.specs.Logs.{effect_at}
 use Rattle.journal.specs.Queues.{items_from}
 use Rattle.node_kernel.specs.declared.answers.StepAnswer.{StepAnswer}
 use Rattle.node_kernel.specs.declared.answers.StepAnswer.TheVariants as answers
@@ -115,11 +115,6 @@ item_or_none at [] =
     }
 item_or_none at (item ∷ items) = item
 
--- the effect at a place, from 1, of a step
-abbrev pub effect_in : Option Step → ℕ → Option Effect
-effect_in None place = None
-effect_in (Some s) place = slice_get s.effects (place - 1)
-
 -- the items that the effect at a position put into a queue
 abbrev pub items_by : ItemAt → Option Effect → List Item
 items_by at None = []
@@ -127,7 +122,7 @@ items_by at (Some e) = items_from at e
 
 -- the item that came at a position
 abbrev pub item_at : List Step → ItemAt → Item
-item_at P at = item_or_none at (items_by at (effect_in (step_at P at.step) at.place))
+item_at P at = item_or_none at (items_by at (effect_at P at))
 
 -- the answer to an opening
 abbrev pub opened_as : Option Inc → StepAnswer

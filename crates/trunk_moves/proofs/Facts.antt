@@ -26,7 +26,7 @@ use Rattle.trunk_record.proofs.Sayings.{live-published, same_inc-itself}
 use Rattle.journal.specs.Effects.{send_answer}
 use Rattle.journal.specs.History.{effects_of, endpoint_by, name_in, name_of, name_or_none}
 use Rattle.journal.specs.History.{opened_in, openings, opening_name, opens}
-use Rattle.journal.specs.Laws.{IsBounded, is_opening}
+use Rattle.journal.specs.Laws.{IsBounded, is_opening, name_of_path}
 use Rattle.journal.specs.Living.{is_alive}
 use Rattle.journal.specs.Logs.{step_limit}
 use Rattle.journal.specs.Pending.{ends_hunt, hunt_in, hunting}
@@ -56,13 +56,8 @@ use Rattle.trunk.proofs.Trunks.{agree}
 use Rattle.trunk_moves.specs.Grants.{AreNames}
 use Rattle.linx_base.specs.Pending.{name_over}
 use Rattle.trunk_moves.specs.Packets.{names_hunted}
-use Rattle.trunk_moves.specs.Steps.{HuntsName}
 use Rattle.trunk_moves.specs.Trunks.{AllKept, AllUseUpTo, NodesFit, RunTrunks, links_of}
 use Rattle.trunk_moves.proofs.Told.{with_name}
-
--- each hunt so far is for a name
-abbrev pub AllNamed : List Step → Type 0
-AllNamed P = AllByRecursion (λ (s : Step). HuntsName s.head) P
 
 -- what is known before a step
 pub record IsKnown (shape : Shape) (P : List Step) (trunks : RunTrunks) : Type 0 where
@@ -73,7 +68,6 @@ pub record IsKnown (shape : Shape) (P : List Step) (trunks : RunTrunks) : Type 0
   pub sound : IsSoundRun shape P (links_of trunks)
   pub kept : AllKept shape trunks
   pub used : AllUseUpTo shape (length P) trunks
-  pub named : AllNamed P
 
 -- ---- names
 
@@ -98,7 +92,7 @@ opened_named shape (s ∷ P) legal i is =
 
     by_opening : (t : Bool) → is_opening s.head ≡ t → list_any (opens i) s.effects ≡ true
         → IsTrue (is_name (name_or_none (name_in s.head)))
-    by_opening true opening here = opens_named s.head opening legal.1.bounds
+    by_opening true opening here = opens_named s.head opening legal.1.nodes.bounds
     by_opening false none here =
         let nothing : list_any (opens i) s.effects ≡ false = sym (opened-any i s.effects)
         ∙ ap (list_any (same_inc i)) (step-opens shape P s legal.1
@@ -119,39 +113,35 @@ opened_named shape (s ∷ P) legal i is =
               absurd cc
         ]
 
--- the path of a hunt over a link has a name
-abbrev IsNamedPath : Path → Type 0
-IsNamedPath (Local v) = Unit {0}
-IsNamedPath (Over l v) = IsTrue (is_name v)
+-- a hunt is for a name
+abbrev IsNamed : PendingHunt → Type 0
+IsNamed h = IsTrue (is_name (name_of_path h.path))
 
-hunt_named : (node k : ℕ) (me : Option Inc) (head : Head) → HuntsName head
-    → AllByRecursion (λ (h : PendingHunt). IsNamedPath h.path) (hunt_in node k me head)
-hunt_named node k None (Hunt path note) named = tt
-hunt_named node k (Some j) (Hunt path note) named = by_node (is_on node j)
+-- what a legal step hunts for is one
+hunt_named : (node k : ℕ) (me : Option Inc) (head : Head) → IsBounded head
+    → AllByRecursion IsNamed (hunt_in node k me head)
+hunt_named node k None (Hunt path note) bounded = tt
+hunt_named node k (Some j) (Hunt path note) bounded = by_node (is_on node j)
   where
-    by_path : (p : Path) → HuntsName (Hunt p note) → IsNamedPath p
-    by_path (Local v) is = tt
-    by_path (Over l v) is = is
-
-    by_node : (t : Bool) → AllByRecursion (λ (h : PendingHunt). IsNamedPath h.path)
+    by_node : (t : Bool) → AllByRecursion IsNamed
         (cond t ((record { at = j; path = path; signal = note; number = k }) ∷ []) [])
-    by_node true = (by_path path named, tt)
+    by_node true = (bounded.0, tt)
     by_node false = tt
-hunt_named node k me head named = tt
+hunt_named node k me head bounded = tt
 
-hunts_named : (P : List Step) → AllNamed P → (n : ℕ)
-    → AllByRecursion (λ (h : PendingHunt). IsNamedPath h.path) (hunting P n)
-hunts_named [] named n = tt
-hunts_named (s ∷ P) named n =
-    all-filter (λ (h : PendingHunt). IsNamedPath h.path) (λ h. not (ends_hunt s.effects h))
+-- so each pending hunt is for a name
+hunts_named : (shape : Shape) (P : List Step) → IsLegal shape P → (n : ℕ)
+    → AllByRecursion IsNamed (hunting P n)
+hunts_named shape [] legal n = tt
+hunts_named shape (s ∷ P) legal n =
+    all-filter IsNamed (λ h. not (ends_hunt s.effects h))
     (hunting P n ++ hunt_in n (suc (length P)) (endpoint_by P s.by) s.head)
-    (all-append (λ (h : PendingHunt). IsNamedPath h.path) (hunting P n)
-    (hunt_in n (suc (length P)) (endpoint_by P s.by) s.head) (hunts_named P named.1 n)
-    (hunt_named n (suc (length P)) (endpoint_by P s.by) s.head named.0))
+    (all-append IsNamed (hunting P n)
+    (hunt_in n (suc (length P)) (endpoint_by P s.by) s.head) (hunts_named shape P legal.0 n)
+    (hunt_named n (suc (length P)) (endpoint_by P s.by) s.head legal.1.nodes.bounds))
 
--- so the names that a side asks for when it went up are names
-paths_named : (l : LinkNo) (hunts : List PendingHunt)
-    → AllByRecursion (λ (h : PendingHunt). IsNamedPath h.path) hunts
+-- and the names that a side asks for when it went up are names
+paths_named : (l : LinkNo) (hunts : List PendingHunt) → AllByRecursion IsNamed hunts
     → AreNames (filter_map (λ (h : PendingHunt). name_over l h.path) hunts)
 paths_named l [] all = tt
 paths_named l (h ∷ hunts) all = by_path h.path all.0 (paths_named l hunts all.1)
@@ -163,16 +153,16 @@ paths_named l (h ∷ hunts) all = by_path h.path all.0 (paths_named l hunts all.
     over v true named rest = (named, rest)
     over v false named rest = rest
 
-    by_path : (path : Path) → IsNamedPath path
+    by_path : (path : Path) → IsTrue (is_name (name_of_path path))
         → AreNames (filter_map (λ (k : PendingHunt). name_over l k.path) hunts)
         → AreNames (with_name (name_over l path)
         (filter_map (λ (k : PendingHunt). name_over l k.path) hunts))
     by_path (Local v) named rest = rest
     by_path (Over m v) named rest = over v (m.0 == l.0) named rest
 
-pub hunted_named : (P : List Step) → AllNamed P → (n : ℕ) (l : LinkNo)
+pub hunted_named : (shape : Shape) (P : List Step) → IsLegal shape P → (n : ℕ) (l : LinkNo)
     → AreNames (names_hunted P n l)
-hunted_named P named n l = paths_named l (hunting P n) (hunts_named P named n)
+hunted_named shape P legal n l = paths_named l (hunting P n) (hunts_named shape P legal n)
 
 -- ---- boots
 

@@ -2,10 +2,11 @@
 use Rattle.std.proofs.Common.{◌≡◌, ◌≤◌, ℕ, suc, Bool, true, false, cond, ◌&&◌, List, []}
 use Rattle.std.proofs.Common.{◌∷◌, Option}
 use Rattle.std.proofs.Common.{Some, None, length, refl, sym, ◌∙◌, ap, subst}
-use Rattle.std.specs.Prelude.{◌==◌, ◌+◌}
+use Rattle.std.specs.Prelude.{◌==◌, ◌+◌, IsTrue}
 use Rattle.std.specs.List.{list_any}
 use Rattle.std.specs.Str.{bytes_eq}
 use Rattle.std.proofs.lemmas.Bool.{eq-eqb}
+use Rattle.linx_base.specs.NameText.{is_name}
 use Rattle.linx_base.specs.Numbers.{first_session}
 use Rattle.linx_base.specs.Sides.{other_of}
 use Rattle.linx_base.specs.declared.identity.Inc.{Inc}
@@ -21,7 +22,7 @@ use Rattle.rlnh_end.specs.Calls.{close_of, opened_of, query_of, send_of}
 use Rattle.trunk_record.specs.Changes.{saying}
 use Rattle.trunk_record.specs.Sayings.{is_live, unpublished}
 use Rattle.journal.specs.History.{endpoint_by, name_of}
-use Rattle.journal.specs.Laws.{IsBounded, KeepsSends}
+use Rattle.journal.specs.Laws.{IsBounded, KeepsSends, name_of_path}
 use Rattle.journal.specs.Living.{find, is_alive}
 use Rattle.journal.specs.Shapes.{Shape, node_by}
 use Rattle.journal.specs.declared.by.By.{By}
@@ -45,7 +46,7 @@ use Rattle.trunk.specs.Events.{sent_at}
 use Rattle.trunk.specs.Keeping.{KeepsTrunk}
 use Rattle.trunk.specs.Tells.{noted_of, silent_of}
 use Rattle.trunk.proofs.Events.{events_keep}
-use Rattle.trunk_moves.specs.Steps.{AsksThere, Hunts, HuntsName, Sends, SendsThere, trunks_ending}
+use Rattle.trunk_moves.specs.Steps.{AsksThere, Hunts, Sends, SendsThere, trunks_ending}
 use Rattle.trunk_moves.specs.Steps.{trunks_opening, trunks_restarting}
 use Rattle.trunk_moves.specs.Trunks.{AllKept, AllUseUpTo, Become, RunTrunks, UsesUpTo, links_of}
 use Rattle.trunk_moves.specs.Trunks.{state_of}
@@ -319,8 +320,7 @@ module _ (shape : Shape) (P : List Step) (before after : RunTrunks) (known : IsK
 
     -- ---- a hunt
 
-    module _ (n : ℕ) (l : LinkNo) (v : List ℕ) (note : SigNote)
-        (named : HuntsName (Hunt (Over l v) note))
+    module _ (n : ℕ) (l : LinkNo) (v : List ℕ) (named : IsTrue (is_name v))
         (asks : AsksThere shape before after n l v) where
       abbrev asked : TrunkState
       asked = asked_at asks.at v (before l.0)
@@ -359,27 +359,27 @@ module _ (shape : Shape) (P : List Step) (before after : RunTrunks) (known : IsK
       kept : AllKept shape after
       used : AllUseUpTo shape (suc (length P)) after
 
-    hunting : (n : ℕ) (path : Path) (note : SigNote) → HuntsName (Hunt path note)
+    hunting : (n : ℕ) (path : Path) → IsTrue (is_name (name_of_path path))
         → (found : Option Peer) → Hunts shape before after n path found → IsHunted n path found
-    hunting n (Local v) note named found made = record {
+    hunting n (Local v) named found made = record {
       moves = all_left shape before after made;
       kept = stay_kept made;
       used = stay_used made;
     }
-    hunting n (Over l v) note named (Some q) made = record {
+    hunting n (Over l v) named (Some q) made = record {
       moves = all_left shape before after made;
       kept = stay_kept made;
       used = stay_used made;
     }
-    hunting n (Over l v) note named None made = record {
-      moves = asks_over n l v note named made;
-      kept = asked_kept n l v note named made;
-      used = asked_used n l v note named made;
+    hunting n (Over l v) named None made = record {
+      moves = asks_over n l v named made;
+      kept = asked_kept n l v named made;
+      used = asked_used n l v named made;
     }
 
     pub hunting_moved : (n : ℕ) (me : Option Inc) (path : Path) (note : SigNote)
-        → HuntsName (Hunt path note) → Hunts shape before after n path (find P n path)
+        → IsBounded (Hunt path note) → Hunts shape before after n path (find P n path)
         → (es : List Effect) → IsMoved shape P before after n me (Hunt path note) es
-    hunting_moved n me path note named made es =
-        let it = hunting n path note named (find P n path) made in
+    hunting_moved n me path note bounded made es =
+        let it = hunting n path bounded.0 (find P n path) made in
         record { moves = it.moves; kept = it.kept; used = it.used }

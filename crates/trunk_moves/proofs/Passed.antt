@@ -174,7 +174,7 @@ module _ (shape : Shape) (P : List Step) (before : RunTrunks) (known : IsKnown s
       → KeepsTrunk (answered P n l to up v)
   answered_keeps Nothing tells = v_kept
   answered_keeps (WentUp session peer) tells =
-      asks_keep to (names_hunted P n l) (hunted_named P known.named n l) v v_kept
+      asks_keep to (names_hunted P n l) (hunted_named shape P known.sound.legal n l) v v_kept
   answered_keeps (WentDown session) tells = v_kept
   answered_keeps (Arrived a b note) tells = v_kept
   answered_keeps (Met i name) tells = v_kept
@@ -260,7 +260,7 @@ module _ (shape : Shape) (P : List Step) (before after : RunTrunks) (known : IsK
               (state_of (other_of from) w) (state_of from t) es) (sym is_u)
               (packet_delivers P n l from keep comes.heard t (known.kept l of_shape)
               comes.reading es
-              (hunted_named P known.named n l) comes.effects),
+              (hunted_named shape P known.sound.legal n l) comes.effects),
           others_left shape before after l of_shape trunk made (other_of from)
               (subst (λ (w : TrunkState). IsLeft (state_of (other_of (other_of from)) t)
               (state_of (other_of (other_of from)) w)) (sym comes.makes)

@@ -17,7 +17,8 @@ use Rattle.journal.specs.declared.head.Head.{Head}
 use Rattle.journal.specs.declared.head.Head.TheVariants.{Close, Ended, Hunt, Open, Restart, Send}
 use Rattle.journal.specs.declared.head.Head.TheVariants.{TakeNone, Tick, Wire}
 use Rattle.link_laws.specs.Ends.{HasTwoEnds, IsLinkOf, node_at}
-use Rattle.link_laws.specs.Moves.{IsLeft, KeepsNodeLaws}
+use Rattle.link_laws.specs.Laws.{KeepsNodeLaws}
+use Rattle.link_laws.specs.Moves.{IsLeft}
 use Rattle.link_laws.specs.Runs.{AreFirst, IsRun, IsBoundedRun, first_state}
 use Rattle.link_laws.proofs.Good.{step_of}
 use Rattle.link_laws.proofs.Runs.{runs_are_legal, runs_keep_promises}
@@ -28,10 +29,10 @@ use Rattle.trunk.proofs.Events.{events_keep}
 use Rattle.trunk.proofs.Trunks.{events_tell}
 use Rattle.trunk_moves.specs.Grants.{GrantsAnswer, GrantsSide, TrunkRunsGrant}
 use Rattle.trunk_moves.specs.Laws.{TrunkRunsAreRuns, TrunkRunsKeepAll}
-use Rattle.trunk_moves.specs.Steps.{HuntsName, IsTrunkRun, IsTrunkStep, IsBoundedTrunkRun, Makes}
+use Rattle.trunk_moves.specs.Steps.{IsTrunkRun, IsTrunkStep, IsBoundedTrunkRun, Makes}
 use Rattle.trunk_moves.specs.Trunks.{AllKept, AllNew, AllUseUpTo, NodesFit, RunTrunks}
 use Rattle.trunk_moves.specs.Trunks.{UsesUpTo, links_of, state_of}
-use Rattle.trunk_moves.proofs.Facts.{AllNamed, IsKnown, boots_later, hunted_named, new_may}
+use Rattle.trunk_moves.proofs.Facts.{IsKnown, boots_later, hunted_named, new_may}
 use Rattle.trunk_moves.proofs.Facts.{open_may, peer_sent}
 use Rattle.trunk_moves.proofs.Moved.{IsMoved, close_moved, ended_moved, hunting_moved}
 use Rattle.trunk_moves.proofs.Moved.{opening_moved}
@@ -74,34 +75,33 @@ new_used shape trunks new l of_shape =
 module _ (shape : Shape) (P : List Step) (before after : RunTrunks) (known : IsKnown shape P before)
     (by : By) where
   by_head : (head : Head) (es : List Effect) → KeepsNodeLaws shape P (step_of by head es)
-      → HuntsName head
       → Makes shape P before after (node_by shape by) (endpoint_by P by) head es
       → IsMoved shape P before after (node_by shape by) (endpoint_by P by) head es
-  by_head (Open name) es laws named made =
+  by_head (Open name) es laws made =
       opening_moved shape P before after known (node_by shape by) name laws.bounds made
       (endpoint_by P by) es
-  by_head Close es laws named made =
+  by_head Close es laws made =
       close_moved shape P before after known (node_by shape by) (endpoint_by P by) made es
-  by_head (Send q note answer) es laws named made =
+  by_head (Send q note answer) es laws made =
       sending_moved shape P before after known by q note answer laws.sends made es
-  by_head (TakeNone filter) es laws named made =
+  by_head (TakeNone filter) es laws made =
       finding_moved shape P before after known (node_by shape by) (endpoint_by P by) filter es made
-  by_head (Hunt path note) es laws named made =
-      hunting_moved shape P before after known (node_by shape by) (endpoint_by P by) path note named
-      made es
-  by_head (Restart k) es laws named made = record {
+  by_head (Hunt path note) es laws made =
+      hunting_moved shape P before after known (node_by shape by) (endpoint_by P by) path note
+      laws.bounds made es
+  by_head (Restart k) es laws made = record {
     moves = restarts_all shape P before after known k.0 made;
     kept = restarted_kept shape P before after known k.0 made;
     used = restarted_used shape P before after known k.0 made;
   }
-  by_head (Wire l from verdict) es laws named made =
+  by_head (Wire l from verdict) es laws made =
       passing_moved shape P before after known (node_by shape by) (endpoint_by P by) l from verdict
       es made
-  by_head (Tick l side) es laws named made =
+  by_head (Tick l side) es laws made =
       ticking_moved shape P before after known (node_by shape by) (endpoint_by P by) l side es made
-  by_head Ended es laws named made =
+  by_head Ended es laws made =
       ended_moved shape P before after known (node_by shape by) (endpoint_by P by) made es
-  by_head head es laws named made = record {
+  by_head head es laws made = record {
     moves = all_left shape before after made;
     kept = stay_kept shape P before after known made;
     used = stay_used shape P before after known made;
@@ -112,7 +112,6 @@ record HasRun (shape : Shape) (P : List Step) (trunks : RunTrunks) : Type 0 wher
   run : IsRun shape P (links_of trunks)
   kept : AllKept shape trunks
   used : AllUseUpTo shape (length P) trunks
-  named : AllNamed P
 
 run_has : (shape : Shape) → HasTwoEnds shape → NodesFit shape → (P : List Step)
     (trunks : RunTrunks) → length P ≤ step_limit → IsTrunkRun shape P trunks
@@ -121,7 +120,6 @@ run_has shape two nodes [] trunks fits new = record {
   run = all_first shape trunks new;
   kept = new_kept shape trunks new;
   used = new_used shape trunks new;
-  named = tt;
 }
 run_has shape two nodes (s ∷ P) after fits run =
     let before : RunTrunks = run.0 in
@@ -138,15 +136,13 @@ run_has shape two nodes (s ∷ P) after fits run =
       sound = runs_are_legal shape P (links_of run.0) whole;
       kept = was.kept;
       used = was.used;
-      named = was.named;
     } in
-    let moved = by_head shape P run.0 after known s.by s.head s.effects step.laws step.named
+    let moved = by_head shape P run.0 after known s.by s.head s.effects step.laws
     step.makes in
     record {
       run = (links_of run.0, (was.run, record { laws = step.laws; moves = moved.moves }));
       kept = moved.kept;
       used = moved.used;
-      named = (step.named, was.named);
     }
 
 pub trunk_runs_are_runs : TrunkRunsAreRuns
@@ -181,7 +177,6 @@ known_of shape P trunks whole room =
           (record { two_ends = whole.two_ends; fits = whole.fits; run = has.run });
       kept = has.kept;
       used = has.used;
-      named = has.named;
     }
 
 module _ (shape : Shape) (P : List Step) (trunks : RunTrunks) (known : IsKnown shape P trunks)
@@ -199,7 +194,7 @@ module _ (shape : Shape) (P : List Step) (trunks : RunTrunks) (known : IsKnown s
           is_signal = is_signal;
         };
         boots = boots_later shape P trunks known l of_shape at n on;
-        asks = hunted_named P known.named n l;
+        asks = hunted_named shape P known.sound.legal n l;
       }
 
   answer_grants : (from : Side)

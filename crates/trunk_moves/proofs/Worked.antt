@@ -73,22 +73,19 @@ begins k of_shape = record {
 opens_a : IsTrunkStep two_ends [] (λ k. fresh) (opens 1 (codes "a") a) (λ k. fresh)
 opens_a = record {
   laws = keeps_laws refl refl refl tt tt;
-  named = tt;
   makes = all_of _ _ refl;
 }
 
 opens_b : IsTrunkStep two_ends opened_a (λ k. fresh) (opens 2 (codes "b") b) (λ k. fresh)
 opens_b = record {
   laws = keeps_laws refl refl refl tt tt;
-  named = tt;
   makes = all_of _ _ refl;
 }
 
 hunts_b : IsTrunkStep two_ends both_open (λ k. fresh)
     (made 1 (Hunt (Over l (codes "b")) (note 251 [])) []) (λ k. fresh)
 hunts_b = record {
-  laws = keeps_laws refl (omega arith) refl tt tt;
-  named = refl;
+  laws = keeps_laws refl (refl, omega arith) refl tt tt;
   makes = record { at = First; of_shape = one_of; node = refl; makes = all_of _ _ refl };
 }
 
@@ -114,7 +111,6 @@ came : {P : List Step} {from : Side} {es : List Effect} {t : TrunkState} → is_
     → IsTrunkStep two_ends P (λ k. t) (pump (Wire l from Deliver) es) (λ k. comes P from heard t)
 came {P} {from} {es} {t} whole flies heard read effects = record {
   laws = wire_laws;
-  named = tt;
   makes = record {
     of_shape = one_of;
     flies = ltb-true 0 (length (flight_from from t.link)) flies;
@@ -136,7 +132,6 @@ ticks_first : IsTrunkStep two_ends hunted (λ k. fresh) (pump (Tick l First) [])
 unfolding tick_of
 ticks_first = record {
   laws = tick_laws;
-  named = tt;
   makes = record {
     of_shape = one_of;
     trunk = asking;

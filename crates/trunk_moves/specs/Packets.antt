@@ -70,8 +70,7 @@ told_at P n l side t up = brought_at P n l (told_brings (kept_of side t).now.ses
 
 -- ---- a packet
 
--- the packet at place 0 comes, and stays in flight or is gone; where it makes a message whole, that
--- has one reading
+-- the packet at place 0 comes, by a reading of what it makes whole, and stays in flight or is gone
 pub record Comes (P : List Step) (n : ℕ) (l : LinkNo) (from : Side) (keep : Bool)
     (es : List Effect) (before after : TrunkState) : Type 0 where
   pub heard : Heard

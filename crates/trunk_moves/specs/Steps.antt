@@ -1,7 +1,6 @@
 -- What each step of a run makes of the trunks of its links, kind by kind, and runs of such steps.
-use Rattle.std.specs.Prelude.{ℕ, ◌+◌, ◌≡◌, ◌≤◌, ◌<◌, true, false, IsTrue, List, [], ◌∷◌, length}
+use Rattle.std.specs.Prelude.{ℕ, ◌+◌, ◌≡◌, ◌≤◌, ◌<◌, true, false, List, [], ◌∷◌, length}
 use Rattle.std.specs.Prelude.{Option, Some, None}
-use Rattle.linx_base.specs.NameText.{is_name}
 use Rattle.linx_base.specs.Sides.{other_of}
 use Rattle.linx_base.specs.declared.frame.Verdict.{Verdict}
 use Rattle.linx_base.specs.declared.frame.Verdict.TheVariants.{Lose}
@@ -27,7 +26,7 @@ use Rattle.journal.specs.declared.head.Head.TheVariants.{TakeNone, Tick, Wire}
 use Rattle.journal.specs.declared.head.SentTo.{SentTo}
 use Rattle.journal.specs.declared.head.SentTo.TheVariants.{Link}
 use Rattle.link_laws.specs.Ends.{HasTwoEnds, IsLinkOf, node_at}
-use Rattle.link_laws.specs.Moves.{KeepsNodeLaws}
+use Rattle.link_laws.specs.Laws.{KeepsNodeLaws}
 use Rattle.link_laws.specs.Sessions.{boots, is_cut}
 use Rattle.trunk.specs.Events.{TrunkState, asked_at, closed_at, opened_at, restarted_at}
 use Rattle.trunk.specs.Events.{sent_at}
@@ -127,16 +126,10 @@ Makes shape P before after n me (Tick l side) es = Ticks shape P before after l 
 Makes shape P before after n me Ended es = Become shape after (trunks_ending shape n me before)
 Makes shape P before after n me head es = Become shape after before
 
--- a hunt is for a name; the laws of nodes don't ask it of a hunt over a link
-abbrev pub HuntsName : Head → Type 0
-HuntsName (Hunt (Over l v) note) = IsTrue (is_name v)
-HuntsName _ = Unit {0}
-
 -- A STEP, after the steps P, from the trunks before it to the trunks after it
 pub record IsTrunkStep (shape : Shape) (P : List Step) (before : RunTrunks) (s : Step)
     (after : RunTrunks) : Type 0 where
   pub laws : KeepsNodeLaws shape P s
-  pub named : HuntsName s.head
   pub makes :
       Makes shape P before after (node_by shape s.by) (endpoint_by P s.by) s.head s.effects
 

@@ -7,7 +7,7 @@ use Rattle.journal.specs.declared.event.Event.TheVariants as asks
 use Rattle.node_kernel.specs.declared.answers.StepAnswer.TheVariants as answers
 use Rattle.fabric.specs.Actings.{HasMade, asking}
 use Rattle.fabric.specs.Run.{Layout}
-use Rattle.fabric.proofs.Placed.{acting, endpoint-seen, makes-seen, node-seen, own_open, sees}
+use Rattle.fabric.proofs.Placed.{acting, endpoint-seen, makes-seen, own_open, sees}
 use Rattle.fabric.proofs.Unchanged.{after_take-none, found-is, kept-same, still-vain}
 use Rattle.fabric.proofs.Unchanged.{take-none_log}
 use Rattle.fabric.proofs.Unchanged.{vain-filter, vain-is}

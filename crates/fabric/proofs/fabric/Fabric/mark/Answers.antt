@@ -1,14 +1,10 @@
-use Rattle.std.proofs.Common.{◌≡◌, None, ◌-◌}
-use Rattle.journal.specs.declared.by.By.TheVariants.{Actor}
+use Rattle.std.proofs.Common.{None}
 use Rattle.link_laws.specs.Ends.{IsLinkOf}
 use Rattle.node_kernel.specs.declared.answers.StepAnswer.TheVariants as answers
 use Rattle.fabric.specs.Actings.{asking}
 use Rattle.fabric.specs.Lines.{event_of_mark}
-use Rattle.fabric.specs.Machine.{signal_in}
 use Rattle.fabric.specs.Run.{Layout}
-use Rattle.journal.specs.Shapes.{node_by}
 use Rattle.fabric.proofs.Marking.{made-marked, mark-fits}
-use Rattle.fabric.proofs.OnLinks.{laid}
 use Rattle.fabric.proofs.Placed.{acting-home, back, makes-seen, sees}
 use Rattle.fabric.proofs.fabric.Fabric.mark.Goals as goal
 

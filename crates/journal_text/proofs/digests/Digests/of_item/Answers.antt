@@ -1,4 +1,4 @@
-use Rattle.journal_text.specs.Blocks.{effect_at}
+use Rattle.journal.specs.Logs.{effect_at}
 use Rattle.journal_text.specs.Known.{signal_of}
 use Rattle.journal_text.proofs.Fitting.{fits_item}
 use Rattle.journal_text.proofs.digests.Digests.of_item.Goals as goal
