@@ -1,7 +1,7 @@
 -- The turns of an actor: what holds between two turns holds after the next.
 use Rattle.std.proofs.Common.{◌≡◌, ℕ, ◌+◌, ◌<◌, ◌≤◌, arith, length-drop, Bool, true, false, List}
 use Rattle.std.proofs.Common.{[], ◌∷◌, length, Option, None, refl, sym, ◌∙◌, ap, eq-eqb, inl, inr}
-use Rattle.std.specs.Prelude.{slice_get, drop}
+use Rattle.std.specs.Prelude.{◌⊎◌, slice_get, drop}
 use Rattle.linx_base.specs.declared.identity.Inc.{Inc}
 use Rattle.journal.specs.declared.by.By.{By}
 use Rattle.journal.specs.declared.by.By.TheVariants.{Actor}
@@ -9,20 +9,43 @@ use Rattle.journal.specs.declared.effect.Step.{Step}
 use Rattle.journal.specs.History.{is_by, is_end, last_opened, last_endpoint, endpoint_of}
 use Rattle.journal.specs.History.{closed_step}
 use Rattle.script_words.specs.declared.command.Command.{Command}
-use Rattle.node_kernel.specs.Answers.{granted, is_pump_event, is_pumped, is_waits, is_not_yet}
-use Rattle.node_kernel.specs.Answers.{is_end_event}
+use Rattle.node_kernel.specs.Answers.{answer_of, granted, is_pump_event, is_pumped, is_waits}
+use Rattle.node_kernel.specs.Answers.{is_end_event, is_not_yet, named}
 use Rattle.node_kernel.specs.declared.answers.StepAnswer.{StepAnswer}
 use Rattle.node_kernel.specs.declared.answers.StepAnswer.TheVariants.{NotYet}
 use Rattle.node_kernel.specs.declared.ask.Ask.{Ask}
 use Rattle.actor_run.specs.Knowing.{Knows, told, learned, moved_on, knows_nothing, stopped_with}
 use Rattle.actor_run.specs.Asking.{asked_by, handed, is_sending}
 use Rattle.actor_run.specs.Following.{is_own, knows, endpoint_after, Follows, FollowsWhole, Playing}
-use Rattle.actor_run.specs.Following.{IsMadeFor, MakesAsked, IsTurned}
+use Rattle.actor_run.specs.Following.{IsTurned, last_waits}
 use Rattle.actor_run.proofs.Keeps.{past}
 use Rattle.actor_run.proofs.Heads.{is_look, granted_end, granted_pump, granted_look}
 use Rattle.actor_run.proofs.Heads.{is_end_by_event, waits_look, waits_by_answer, waits_by_filter}
 use Rattle.actor_run.proofs.Heads.{pumped_waits, pumped_end}
 use Rattle.actor_run.proofs.Commands.{asks_well, some_left, handed_place, handed_back}
+
+-- the step was made after P for what actor k asked, and was answered so
+pub record IsMadeFor (P : List Step) (k : ℕ) (ask : Ask) (answer : StepAnswer) (s : Step)
+    : Type 0 where
+  pub maker : s.by ≡ Actor k
+  pub names : named s.head ≡ granted P k ask
+  pub answered : answer ≡ answer_of P s.head s.effects
+  pub opened : (me : Option Inc) → last_opened me s.effects ≡ endpoint_after me answer
+  pub once : is_waits s.head ≡ true → last_waits P k ≡ false
+
+-- an ask that makes no step: a receive that has said that it waits, and finds nothing yet
+pub record MakesNone (P : List Step) (k : ℕ) (ask : Ask) (answer : StepAnswer) (new : List Step)
+    : Type 0 where
+  pub same : new ≡ P
+  pub answered : answer ≡ NotYet
+  pub goes_on : is_end_event ask.event ≡ false
+  pub keeps : is_sending ask.event ≡ false
+  pub waits : last_waits P k ≡ true
+
+-- what an ask makes of the history P: one step more, or none
+abbrev pub MakesAsked : List Step → ℕ → Ask → StepAnswer → List Step → Type 0
+MakesAsked P k ask answer new =
+    ((s : Step) × (new ≡ s ∷ P) × IsMadeFor P k ask answer s) ⊎ MakesNone P k ask answer new
 
 by_itself : (by : By) (k : ℕ) → by ≡ Actor k → is_by by k ≡ true
 by_itself by k is = ap (λ b. is_by b k) is ∙ eq-eqb k k refl

@@ -1,18 +1,17 @@
 -- How an actor's steps follow its commands.
-use Rattle.std.specs.Prelude.{is_some, ℕ, ◌≡◌, ◌≤◌, ◌⊎◌, Bool, true, false, not, ◌&&◌, List, []}
+use Rattle.std.specs.Prelude.{is_some, ℕ, ◌≡◌, ◌≤◌, Bool, true, false, not, ◌&&◌, List, []}
 use Rattle.std.specs.Prelude.{◌∷◌, length, Option, Some, if◌then◌else◌}
 use Rattle.linx_base.specs.declared.identity.Inc.{Inc}
-use Rattle.journal.specs.declared.by.By.TheVariants.{Actor}
 use Rattle.journal.specs.declared.effect.Step.{Step}
-use Rattle.journal.specs.History.{is_by, last_opened, last_endpoint, has_ended}
+use Rattle.journal.specs.History.{is_by, last_endpoint, has_ended}
 use Rattle.journal.specs.Rest.{waits_with}
 use Rattle.script_words.specs.declared.command.Command.{Command}
-use Rattle.node_kernel.specs.Answers.{named, granted, answer_of, is_pumped, is_waits, is_end_event}
+use Rattle.node_kernel.specs.Answers.{named, granted, answer_of, is_pumped, is_waits}
 use Rattle.node_kernel.specs.declared.answers.StepAnswer.{StepAnswer}
-use Rattle.node_kernel.specs.declared.answers.StepAnswer.TheVariants.{Opened, NotYet}
+use Rattle.node_kernel.specs.declared.answers.StepAnswer.TheVariants.{Opened}
 use Rattle.node_kernel.specs.declared.ask.Ask.{Ask}
 use Rattle.actor_run.specs.Knowing.{Knows, knows_nothing, told}
-use Rattle.actor_run.specs.Asking.{asked_by, handed, is_sending}
+use Rattle.actor_run.specs.Asking.{asked_by, handed}
 
 -- The step is one of the actor's commands. A step on a link, which an actor makes while it settles
 -- that link, is none
@@ -68,29 +67,6 @@ pub record Playing (commands : List Command) (k : ℕ) (P : List Step) (mind : K
 abbrev pub endpoint_after : Option Inc → StepAnswer → Option Inc
 endpoint_after me (Opened i) = Some i
 endpoint_after me _ = me
-
--- the step was made after P for what actor k asked, and was answered so
-pub record IsMadeFor (P : List Step) (k : ℕ) (ask : Ask) (answer : StepAnswer) (s : Step)
-    : Type 0 where
-  pub maker : s.by ≡ Actor k
-  pub names : named s.head ≡ granted P k ask
-  pub answered : answer ≡ answer_of P s.head s.effects
-  pub opened : (me : Option Inc) → last_opened me s.effects ≡ endpoint_after me answer
-  pub once : is_waits s.head ≡ true → last_waits P k ≡ false
-
--- an ask that makes no step: a receive that has said that it waits, and finds nothing yet
-pub record MakesNone (P : List Step) (k : ℕ) (ask : Ask) (answer : StepAnswer) (new : List Step)
-    : Type 0 where
-  pub same : new ≡ P
-  pub answered : answer ≡ NotYet
-  pub goes_on : is_end_event ask.event ≡ false
-  pub keeps : is_sending ask.event ≡ false
-  pub waits : last_waits P k ≡ true
-
--- what an ask makes of the history P: one step more, or none
-abbrev pub MakesAsked : List Step → ℕ → Ask → StepAnswer → List Step → Type 0
-MakesAsked P k ask answer new =
-    ((s : Step) × (new ≡ s ∷ P) × IsMadeFor P k ask answer s) ⊎ MakesNone P k ask answer new
 
 -- after a turn of actor k, by whether it asked for its end
 abbrev pub IsTurned : List Command → ℕ → List Step → Knows → Option Inc → Bool → Type 0

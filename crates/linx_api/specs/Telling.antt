@@ -1,5 +1,5 @@
 -- A fabric as a story: its steps with their makers' numbers, and what no step changes.
-use Rattle.std.specs.Prelude.{ℕ, ◌+◌, ◌≤◌, List, [], length, map}
+use Rattle.std.specs.Prelude.{ℕ, ◌+◌, List, [], length, map}
 use Rattle.linx_base.specs.declared.name.Names.{Names}
 use Rattle.journal.specs.declared.by.By.{By}
 use Rattle.journal.specs.declared.by.By.TheVariants.{Actor, Pump}
@@ -24,14 +24,6 @@ empty_plan = record {
   names = record { nodes = []; links = [] };
   shape = record { links = []; actors = [] };
 }
-
--- the makers of a fabric are at most this many, as many as a lock has passes
-abbrev pub maker_limit : ℕ
-maker_limit = 96
-
--- the actors and the links of a fabric are so few
-abbrev pub HasFewMakers : Shape → Type 0
-HasFewMakers shape = length shape.actors + length shape.links ≤ maker_limit
 
 -- THE NUMBER OF A MAKER: an actor's own, and for the pump of a link the link's, behind those of all
 -- actors

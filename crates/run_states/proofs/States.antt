@@ -22,16 +22,16 @@ step_same shape ends P one two s after_one after_two same first second =
 
 -- ---- a run
 
--- two runs that begin alike end alike
-ends_same : (shape : Shape) → HasTwoEnds shape → (begins_one begins_two : RunTrunks)
-    → Become shape begins_one begins_two → (P : List Step) (one two : RunTrunks)
-    → IsRunFrom shape begins_one P one → IsRunFrom shape begins_two P two → Become shape one two
-ends_same shape ends begins_one begins_two alike [] one two first second =
-    λ l of_shape. first l of_shape ∙ alike l of_shape ∙ sym (second l of_shape)
-ends_same shape ends begins_one begins_two alike (s ∷ P) one two first second =
-    step_same shape ends P first.0 second.0 s one two
-    (ends_same shape ends begins_one begins_two alike P first.0 second.0 first.1.0 second.1.0)
-    first.1.1 second.1.1
+-- two runs that begin with the same trunks end with the same trunks
+ends_same : (shape : Shape) → HasTwoEnds shape → (first : RunTrunks) (P : List Step)
+    (one two : RunTrunks) → IsRunFrom shape first P one → IsRunFrom shape first P two
+    → Become shape one two
+ends_same shape ends first [] one two run_one run_two =
+    λ l of_shape. run_one l of_shape ∙ sym (run_two l of_shape)
+ends_same shape ends first (s ∷ P) one two run_one run_two =
+    step_same shape ends P run_one.0 run_two.0 s one two
+    (ends_same shape ends first P run_one.0 run_two.0 run_one.1.0 run_two.1.0)
+    run_one.1.1 run_two.1.1
 
 begun : (shape : Shape) (P : List Step) (trunks : RunTrunks) → IsTrunkRun shape P trunks
     → HasBegun shape P trunks
@@ -43,32 +43,6 @@ begun shape (s ∷ P) after run =
 pub runs_reach_one_state : RunsReachOneState
 runs_reach_one_state = record {
   step = step_same;
-  same = λ shape ends first. ends_same shape ends first first (λ l of_shape. refl);
+  same = ends_same;
   begun = begun;
 }
-
--- ---- runs of any kind
-
--- runs of any kind are runs from these trunks on, whatever else holds of their steps
-pub record AreRunsFrom (shape : Shape) (first : RunTrunks)
-    (Runs : List Step → RunTrunks → Type 0) : Type 0 where
-  pub begin : (trunks : RunTrunks) → Runs [] trunks → Become shape trunks first
-  pub step :
-      (s : Step) (P : List Step) (after : RunTrunks) → Runs (s ∷ P) after
-      → (before : RunTrunks) × (Runs P before × IsTrunkStep shape P before s after)
-
-module _ (shape : Shape) (first : RunTrunks) (Runs : List Step → RunTrunks → Type 0)
-    (are : AreRunsFrom shape first Runs) where
-  pub runs_from : (P : List Step) (trunks : RunTrunks) → Runs P trunks
-      → IsRunFrom shape first P trunks
-  runs_from [] trunks run = are.begin trunks run
-  runs_from (s ∷ P) after run =
-      let last = are.step s P after run in
-      (last.0, (runs_from P last.0 last.1.0, last.1.1))
-
-  -- so a journal reaches one state by them
-  pub runs_reach_one : HasTwoEnds shape → (P : List Step) (one two : RunTrunks) → Runs P one
-      → Runs P two → Become shape one two
-  runs_reach_one ends P one two run_one run_two =
-      runs_reach_one_state.same shape ends first P one two (runs_from P one run_one)
-      (runs_from P two run_two)

@@ -37,7 +37,8 @@ use Rattle.node_kernel.specs.Answers.{is_end_event, is_pump_event, is_pumped, is
 use Rattle.node_kernel.specs.Answers.{needs_endpoint, opened_as, refused}
 use Rattle.script_words.specs.declared.command.Command.{Command}
 use Rattle.actor_run.specs.Asking.{is_sending}
-use Rattle.actor_run.specs.Following.{endpoint_after, next_ask, MakesAsked}
+use Rattle.actor_run.specs.Following.{endpoint_after, next_ask}
+use Rattle.actor_run.proofs.Turns.{MakesAsked}
 use Rattle.run_trunks.specs.States.{trunks_of}
 use Rattle.trunk.specs.Events.{TrunkState, kept_of, told_by}
 use Rattle.trunk.specs.Tells.{up_of_tick}

@@ -13,9 +13,9 @@ use Rattle.node_kernel.specs.declared.answers.StepAnswer.{StepAnswer}
 use Rattle.node_kernel.specs.declared.ask.Ask.{Ask}
 use Rattle.node_kernel.specs.Answers.{is_end_event}
 use Rattle.actor_run.specs.Asking.{asked_by, handed}
-use Rattle.actor_run.specs.Following.{IsTurned, endpoint_after, next_ask, MakesAsked, Playing}
+use Rattle.actor_run.specs.Following.{IsTurned, endpoint_after, next_ask, Playing}
 use Rattle.actor_run.specs.Knowing.{Knows, stopped_with, told}
-use Rattle.actor_run.proofs.Turns.{stopped_same, turned}
+use Rattle.actor_run.proofs.Turns.{MakesAsked, stopped_same, turned}
 use Rattle.fabric.specs.Asks.{MayAsk}
 use Rattle.fabric.specs.Machine.{hands_over}
 use Rattle.fabric.specs.Run.{IsStepped, Layout}

@@ -57,8 +57,7 @@ pub record IsActed (script : ScriptParts) (k : ℕ) (old new : Layout) (turn : T
   pub done : IsDone old new k (asked_next script k old) answer
   pub came : turn ≡ came_of answer
 
--- A TURN THAT STOPPED: nothing was done, or a settle is half done, and then no further turn is
--- taken
+-- A TURN THAT STOPPED: nothing was done, or a settle is half done
 abbrev pub IsTurnStopped : ScriptParts → ℕ → Layout → Layout → Type 0
 IsTurnStopped script k old new =
     (new ≡ old) ⊎ ((answer : StepAnswer) × IsHalfDone old new k (asked_next script k old) answer)

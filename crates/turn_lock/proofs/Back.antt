@@ -3,8 +3,14 @@ use Rattle.std.proofs.Common.{◌≡◌, ℕ, ◌+◌, ◌-◌, ◌<◌, List, l
 use Rattle.std.proofs.Common.{arith}
 use Rattle.std.proofs.lemmas.List.{length-map, get_or-map}
 use Rattle.std.proofs.lemmas.Option.{get_or_from_slice_get}
-use Rattle.turn_lock.specs.Passes.{PassView, LockView, IsPassOf, IsSamePass, AreDealt, AreBack}
+use Rattle.turn_lock.specs.Passes.{PassView, LockView, IsPassOf, IsSamePass, AreDealt}
 use Rattle.turn_lock.specs.Passes.{HasEach, IsLeastMissing, new_pass, numbers}
+
+-- these passes came back, each at its place
+pub record AreBack {E F : Type 0} (before now : List (PassView E F)) : Type 0 where
+  pub many : length now ≡ length before
+  pub each : (k : ℕ) (p q : PassView E F) → k < length before
+      → IsSamePass (get_or before k p) (get_or now k q)
 
 module _ {E F : Type 0} (lock : LockView) (fixed : F) (before now : List (PassView E F))
     (dealt : AreDealt lock fixed before) where

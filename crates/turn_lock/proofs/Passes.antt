@@ -12,7 +12,6 @@ use Rattle.atomic_table.specs.Table.{Me}
 use Rattle.turn_lock.specs.declared.story.Made.{Made}
 use Rattle.turn_lock.specs.declared.turns.Known.{Known}
 use Rattle.turn_lock.specs.Turns.{front, joined, fixed_first, seen_first, pass_view, HasFronts}
-use Rattle.turn_lock.specs.Turns.{Gathers}
 use Rattle.turn_lock.specs.Passes.{PassView, new_pass, AreFirst, numbers, Tells, TellsOfEach}
 use Rattle.turn_lock.specs.Stories.{RestsFor}
 use Rattle.turn_lock.proofs.Lists.{get_before, get_last}
@@ -71,6 +70,13 @@ module _ {E F : Type 0} where
       let first = each 1 (omega arith) (omega arith) in
       let there : first.0 < length (numbers passes) = first.1 in
       let long = as_many passes in omega arith
+
+  module _ {S : Type 0} where
+    -- of all these passes some are left, and the seat has the fronts of the others
+    abbrev pub Gathers : List (PassView E F) → List (PassView E F)
+        → Me (Option S) (Known E F) → Type 0
+    Gathers all left m =
+        (late : List (PassView E F)) × (all ≡ left ++ late) × HasFronts late m
 
   module _ {S : Type 0} (all left : List (PassView E F)) (p : PassView E F) where
     pub gathers_more : (less : List (PassView E F)) (m m' other : Me (Option S) (Known E F))

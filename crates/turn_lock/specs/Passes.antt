@@ -1,6 +1,6 @@
 -- What a pass and a lock are to a contract.
 use Rattle.std.specs.Prelude.{◌≡◌, ℕ, ◌+◌, ◌<◌, ◌≤◌, List, [], Some, length, slice_get}
-use Rattle.std.specs.Prelude.{slice_index_or, map, All, Contains}
+use Rattle.std.specs.Prelude.{map, All, Contains}
 use Rattle.atomic_table.specs.Seated.{TableId}
 use Rattle.turn_lock.specs.declared.story.Made.{Made}
 use Rattle.turn_lock.specs.Stories.{made_by, AllMadeUpTo, RestsFor}
@@ -44,12 +44,6 @@ module _ {E F : Type 0} where
   -- the same pass, which may have seen other steps
   abbrev pub IsSamePass : PassView E F → PassView E F → Type 0
   IsSamePass before now = now ≡ record before { front = now.front }
-
-  -- these passes came back, each at its place
-  pub record AreBack (before now : List (PassView E F)) : Type 0 where
-    pub many : length now ≡ length before
-    pub each : (k : ℕ) (p q : PassView E F) → k < length before
-        → IsSamePass (slice_index_or before k p) (slice_index_or now k q)
 
   -- the numbers of these passes
   abbrev pub numbers : List (PassView E F) → List ℕ

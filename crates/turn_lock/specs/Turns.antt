@@ -190,12 +190,6 @@ module _ {E F : Type 0} where
     HasFronts passes m =
         (m.1 ≡ []) × (m.0.holds ≡ false) × (m.0.fronts ≡ map front_of passes)
 
-    -- of all these passes some are left, and the seat has the fronts of the others
-    abbrev pub Gathers : List (PassView E F) → List (PassView E F)
-        → Me (Option S) (Known E F) → Type 0
-    Gathers all left m =
-        (late : List (PassView E F)) × (all ≡ left ++ late) × HasFronts late m
-
     -- the pass holds a state, and has seen its story, which goes on from what it had seen
     abbrev pub Wins : (S → List (Made E)) → (S → F) → PassView E F → PlaceView S E F → Type 0
     Wins story_of fixed_of p now = (x : S)

@@ -14,10 +14,9 @@ use Rattle.script_lang.specs.Fits.{IsScript}
 use Rattle.script_lang.specs.Parts.{ScriptParts}
 use Rattle.trunk_moves.specs.Trunks.{RunTrunks}
 use Rattle.turn_lock.specs.declared.story.Made.{Made}
-use Rattle.turn_lock.specs.Passes.{AreBack, AreDealt, IsSamePass, LockView, PassView}
-use Rattle.turn_lock.specs.Passes.{new_pass}
+use Rattle.turn_lock.specs.Passes.{AreDealt, IsSamePass, LockView, PassView, new_pass}
 use Rattle.turn_lock.specs.Stories.{AllMadeUpTo, RestsFor}
-use Rattle.turn_lock.proofs.Back.{dealt_at}
+use Rattle.turn_lock.proofs.Back.{AreBack, dealt_at}
 use Rattle.fabric.specs.Run.{IsReached, IsReachedBy, Layout}
 use Rattle.linx_api.specs.Telling.{PlanParts, made_steps, maker_number, numbered, plan_of, story_of}
 use Rattle.stage.specs.declared.player.Player.{Player}

@@ -9,10 +9,10 @@ use Rattle.journal.specs.declared.effect.Step.{Step}
 use Rattle.run_trunks.specs.States.{trunks_of}
 use Rattle.script_lang.specs.Fits.{IsScript}
 use Rattle.script_lang.specs.Parts.{ScriptParts}
-use Rattle.turn_lock.specs.Passes.{AreBack, AreDealt, IsLeastMissing, IsPassOf, LockView, PassView}
+use Rattle.turn_lock.specs.Passes.{AreDealt, IsLeastMissing, IsPassOf, LockView, PassView}
 use Rattle.turn_lock.specs.Passes.{new_pass}
 use Rattle.turn_lock.specs.Stories.{AllMadeUpTo, RestsFor}
-use Rattle.turn_lock.proofs.Back.{back_fixed, back_of_lock, dealt_at, none_missing}
+use Rattle.turn_lock.proofs.Back.{AreBack, back_fixed, back_of_lock, dealt_at, none_missing}
 use Rattle.fabric.specs.Run.{IsReachedBy, Layout}
 use Rattle.linx_api.specs.Telling.{PlanParts, plan_of, story_of}
 use Rattle.stage.specs.declared.player.Player.{Player}

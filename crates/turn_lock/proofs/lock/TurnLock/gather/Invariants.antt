@@ -1,6 +1,6 @@
 use Rattle.std.proofs.Common.{◌≡◌, vec_len, All}
 use Rattle.turn_lock.specs.Passes.{IsPassOf}
-use Rattle.turn_lock.specs.Turns.{Gathers}
+use Rattle.turn_lock.proofs.Passes.{Gathers}
 use Rattle.turn_lock.proofs.lock.TurnLock.gather.Given as goal
 
 abbrev pub invariant-loop-pass : goal.invariant-loop-pass
