@@ -30,6 +30,7 @@ use Rattle.journal.specs.Laws.{IsBounded, IsMaker, KeepsReceives, KeepsSends}
 use Rattle.journal.specs.Laws.{detached_as, effects_by, is_endpoints, is_opening, may_make}
 use Rattle.journal.specs.Laws.{name_of_path}
 use Rattle.journal.specs.Living.{is_alive}
+use Rattle.journal.specs.Logs.{is_full}
 use Rattle.journal.specs.Rest.{leaves_at_rest, queue_of, waits_with}
 use Rattle.journal.specs.Shapes.{Shape, node_by}
 use Rattle.node_kernel.specs.declared.ask.Ask.{Ask}
@@ -210,7 +211,7 @@ made-of_named shape P still k head opens_one needs_one of_named =
     ∙ of_named
 
 module _ (nodes : ℕ) (shape : Shape) (P : List Step) (trunks : RunTrunks) (k : ℕ)
-    (maker : IsMaker shape P (Actor k)) where
+    (maker : IsMaker shape P (Actor k)) (room : is_full P ≡ false) where
   abbrev home : ℕ
   home = node_by shape (Actor k)
 
@@ -244,6 +245,7 @@ module _ (nodes : ℕ) (shape : Shape) (P : List Step) (trunks : RunTrunks) (k :
       lawful-by nodes shape P trunks (effects_for shape P home me head) (Actor k) maker head refl
       opens_one needs_one bounds (has-effects shape P home me head) sends receives
       (record {
+        room = room;
         given = made-of_named shape P still k head opens_one needs_one of_named;
         fits = fits;
       })
@@ -322,7 +324,7 @@ module _ (nodes : ℕ) (shape : Shape) (P : List Step) (trunks : RunTrunks) (k :
 
 -- A STEP OF A LINK, by a maker that may make it, whatever its effects are
 module _ (nodes : ℕ) (shape : Shape) (P : List Step) (trunks : RunTrunks) (es : List Effect)
-    (by : By) (maker : IsMaker shape P by) where
+    (by : By) (maker : IsMaker shape P by) (room : is_full P ≡ false) where
   -- a head that needs no endpoint is given to an actor by what it names, and to a pump
   given : (head : Head) → is_opening head ≡ false → is_endpoints head ≡ false
       → ((k : ℕ) → IsOfNamed shape P (is_still shape P trunks) k head)
@@ -340,6 +342,7 @@ module _ (nodes : ℕ) (shape : Shape) (P : List Step) (trunks : RunTrunks) (es 
   wire-lawful l from verdict may meets =
       lawful-by nodes shape P trunks es by maker (heads.Wire l from verdict) may (fails refl)
       (fails refl) tt tt tt tt (record {
+        room = room;
         given = given (heads.Wire l from verdict) refl refl (λ k. refl) refl by;
         fits = meets;
       })
@@ -350,6 +353,7 @@ module _ (nodes : ℕ) (shape : Shape) (P : List Step) (trunks : RunTrunks) (es 
   tick-lawful l side may of_shape =
       lawful-by nodes shape P trunks es by maker (heads.Tick l side) may (fails refl) (fails refl)
       tt tt tt tt (record {
+        room = room;
         given = given (heads.Tick l side) refl refl (λ k. refl) refl by;
         fits = of_shape;
       })

@@ -104,7 +104,7 @@ module _ {f : Layout} {parts : Parts} {actor place home : ℕ} (acts : Acts f pa
         let head : Head = heads.Take filter item.pos in
         let legal : IsLawful (length f.log.names.nodes) shape P trunks (step_by head) =
         subst (λ (o : Option Item). LawfulIf (length f.log.names.nodes) shape P trunks actor
-        acts.maker (looks filter o)) of_me
+        acts.maker acts.room (looks filter o)) of_me
         (granted acts (asks.Look filter) (signal_in None) (granted-own acts (asks.Look filter)
         refl j mine) tt
         (omega arith) tt)
@@ -181,11 +181,11 @@ module _ {f : Layout} {parts : Parts} {actor place home : ℕ} (acts : Acts f pa
     vain-legal : (filter : Sigsel) → is_some me ≡ true → (rest waits : Bool)
         → (is_at_rest shape P actor && calm_links) ≡ rest → is_some (waits_with P actor) ≡ waits
         → first_selected filter (queue_of P me) ≡ None
-        → LawfulIf (length f.log.names.nodes) shape P trunks actor acts.maker (vain_look rest waits
+        → LawfulIf (length f.log.names.nodes) shape P trunks actor acts.maker acts.room (vain_look rest waits
         filter)
     vain-legal filter owns rest waits rest_is waits_is none =
         subst (λ (h : Option Head). LawfulIf (length f.log.names.nodes) shape P trunks actor
-        acts.maker h)
+        acts.maker acts.room h)
         (looked-vain filter rest waits rest_is waits_is none)
         (granted acts (asks.Look filter) (signal_in None)
         (record { opening = λ o. absurd (true≢false (sym o)); needing = λ n. owns }) tt
@@ -240,7 +240,7 @@ module _ {f : Layout} {parts : Parts} {actor place home : ℕ} (acts : Acts f pa
         × HasMade f (lay_still new) actor (refused reason) (answers.Refused reason)
     made-refuse reason standing then stands then_eq new new_eq =
         made-quiet (heads.Refused reason) refl (λ l. tt) at.home_is (λ n. refl) (λ x. refl) refl
-        (λ a. refl) refl (refused-lawful (length f.log.names.nodes) shape P trunks actor acts.maker
+        (λ a. refl) refl (refused-lawful (length f.log.names.nodes) shape P trunks actor acts.maker acts.room
         reason)
         (λ l of_shape. refl) standing then stands then_eq new new_eq (answers.Refused reason) refl
 

@@ -207,10 +207,10 @@ module _ {f : Layout} {parts : Parts} {actor place home : ℕ} (acts : Acts f pa
     -- what is granted is lawful
     pub granted : (event : Event) (note : SigNote) → IsGranted me event → IsNamedEvent event
         → length note.bytes ≤ data_limit → FitsEvent f (node_by shape (Actor actor)) event note
-        → LawfulIf (length f.log.names.nodes) shape P trunks actor acts.maker
+        → LawfulIf (length f.log.names.nodes) shape P trunks actor acts.maker acts.room
         (head_of shape P calm_links actor (node_by shape (Actor actor)) me event note)
     granted event note g named short fit =
-        granted-lawful (length f.log.names.nodes) shape P trunks actor acts.maker event note g
+        granted-lawful (length f.log.names.nodes) shape P trunks actor acts.maker acts.room event note g
         named short fit
 
     -- an event of the endpoint's is granted where there is one

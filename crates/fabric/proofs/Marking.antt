@@ -76,7 +76,7 @@ module _ {f : Layout} {parts : Parts} {actor place home : ℕ} (acts : Acts f pa
   -- what is asked for is lawful
   asked : (event : Event) → asks_to_open event ≡ false → needs_endpoint event ≡ false
       → IsNamedEvent event → FitsEvent f (node_by shape (Actor actor)) event (signal_in None)
-      → LawfulIf (length f.log.names.nodes) shape P trunks actor acts.maker
+      → LawfulIf (length f.log.names.nodes) shape P trunks actor acts.maker acts.room
       (head_of shape P (is_still shape P trunks) actor (node_by shape (Actor actor)) me event
       (signal_in None))
   asked event opens_not needs_not named fit =

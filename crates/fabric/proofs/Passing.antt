@@ -158,7 +158,7 @@ module _ {f : Layout} {parts : Parts} (kept : IsKept f parts) (by : By) (l : Lin
   lawful : (what : Brought) → IsLawful (length f.log.names.nodes) shape P trunks (step_of what)
   lawful what =
       wire-lawful (length f.log.names.nodes) shape P trunks (brought_at P n l what) by
-      asked.may.maker l from verdict
+      asked.may.maker asked.room l from verdict
       (makes-wire by l from verdict asked.may.may) meeting
 
   -- with what it makes of the trunk it is a step of a run

@@ -1,6 +1,6 @@
 -- Where the kernel and the standing of an actor stand, and what stands there.
-use Rattle.std.proofs.Common.{◌≡◌, ℕ, zero, suc, ◌+◌, ◌<◌, ◌≤◌, Bool, true, List, [], ◌∷◌, length}
-use Rattle.std.proofs.Common.{map}
+use Rattle.std.proofs.Common.{◌≡◌, ℕ, zero, suc, ◌+◌, ◌<◌, ◌≤◌, Bool, true, false, List, [], ◌∷◌}
+use Rattle.std.proofs.Common.{length, map}
 use Rattle.std.proofs.Common.{Option, Some, None, get_or, refl, sym, ◌∙◌, ap, subst, add-one, arith}
 use Rattle.std.proofs.Common.{is_none}
 use Rattle.std.specs.Prelude.{◌-◌, slice_get}
@@ -20,7 +20,7 @@ use Rattle.journal.proofs.Openings.{IsShort}
 use Rattle.linx_base.specs.Numbers.{inc_of}
 use Rattle.journal.specs.History.{endpoint_of, next_inc, open_endpoints, opened_on}
 use Rattle.journal.specs.Laws.{IsMaker}
-use Rattle.journal.specs.Logs.{step_limit}
+use Rattle.journal.specs.Logs.{is_full, step_limit}
 use Rattle.journal.specs.Rest.{is_idle, waits_in_vain, waits_with}
 use Rattle.journal.specs.Shapes.{node_by, number_or_0}
 use Rattle.link_laws.proofs.Places.{open-few, opened_on-few}
@@ -178,6 +178,7 @@ pub record Acts (f : Layout) (parts : Parts)
     (actor place home : ℕ) : Type 0 where
   pub at : IsAt f parts actor place home
   pub maker : IsMaker f.shape f.log.steps (Actor actor)
+  pub room : is_full f.log.steps ≡ false
   pub short : length f.log.steps < 200000
 
 -- WHAT IT FINDS: the trunks, what is left of its node and of itself, and the step by its next head
@@ -203,7 +204,7 @@ before {f = f} {parts = parts} {actor = actor} {home = home} acts = record {
   stood = standing_left f.log.steps actor;
   me = endpoint_of f.log.steps actor;
   step_by = λ head.
-      made_by (length f.log.names.nodes) f.shape f.log.steps (trunks_of f.trunks) actor acts.maker
+      made_by (length f.log.names.nodes) f.shape f.log.steps (trunks_of f.trunks) actor acts.maker acts.room
       head;
   legal_log = legal-kept f parts acts.at.kept;
   fits = acts.at.short;
@@ -272,14 +273,15 @@ module _ {f : Layout} {parts : Parts}
     acting {actor = actor} {home = home} may at = record {
       at = stands may.may.maker.0 may.may.maker.1 at;
       maker = back (λ l. IsMaker l.shape l.log.steps (Actor actor)) may.may.maker;
+      room = back (λ l. is_full l.log.steps ≡ false) may.room;
       short = back (λ l. length l.log.steps < step_limit) may.short;
     }
 
     -- the same where no kernel is looked up
     pub acting-home : (actor : ℕ) → IsMaker value.shape value.log.steps (Actor actor)
-        → length value.log.steps < 200000
+        → is_full value.log.steps ≡ false → length value.log.steps < 200000
         → Acts f parts actor (actor - 1) (node_by f.shape (Actor actor) - 1)
-    acting-home actor maker short =
+    acting-home actor maker room short =
         let is_maker : IsMaker f.shape f.log.steps (Actor actor) = back
         (λ l. IsMaker l.shape l.log.steps (Actor actor)) maker in
         let few : length f.log.steps < 200000 = back (λ l. length l.log.steps < 200000) short in
@@ -287,6 +289,7 @@ module _ {f : Layout} {parts : Parts}
           at = actor-home f parts seen.well
               (omega arith) actor is_maker.0 is_maker.1;
           maker = is_maker;
+          room = back (λ l. is_full l.log.steps ≡ false) room;
           short = few;
         }
 

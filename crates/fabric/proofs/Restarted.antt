@@ -136,12 +136,12 @@ module _ {f : Layout} {parts : Parts} {actor place own_home : ℕ}
   are_downs = downs-are_downs P n.0 (length shape.links)
 
   abbrev restarted : Step
-  restarted = made_by (length f.log.names.nodes) shape P (trunks_of f.trunks) actor acts.maker
+  restarted = made_by (length f.log.names.nodes) shape P (trunks_of f.trunks) actor acts.maker acts.room
       (heads.Restart n)
 
   lawful : IsLawful (length f.log.names.nodes) shape P (trunks_of f.trunks) restarted
   lawful =
-      granted-lawful (length f.log.names.nodes) shape P (trunks_of f.trunks) actor acts.maker
+      granted-lawful (length f.log.names.nodes) shape P (trunks_of f.trunks) actor acts.maker acts.room
       (asks.Restart n)
       (signal_in None) (granted-plain (endpoint_of P actor) (asks.Restart n) refl refl) tt
       (omega arith) (above, below)

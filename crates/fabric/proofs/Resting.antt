@@ -100,9 +100,10 @@ module _ (f : Layout) (parts : Parts) (kept : IsKept f parts) where
   all-still still =
       let trunks : RunTrunks = trunks_of f.trunks in
       let carried = trunk_runs_are_runs f.shape f.log.steps trunks (whole-run f parts kept) in
-      λ l of_shape.
-          (promised_now f.shape f.log.steps (links_of trunks) (keeps-all f parts kept).promises)
-          .still l of_shape (sides-rest f.log.steps l (trunks l.0) (carried.kept l of_shape)
+      let promised = promised_now f.shape f.log.steps (links_of trunks)
+      (keeps-all f parts kept).promises in
+      λ l of_shape. promised.still l of_shape
+          (sides-rest f.log.steps l (trunks l.0) (carried.kept l of_shape)
           (rests-all f.shape f.log.steps trunks still l of_shape))
 
   -- AND ALL HAVE ENDED: all is over

@@ -99,7 +99,7 @@ module _ {f : Layout} {parts : Parts} (kept : IsKept f parts) (by : By) (l : Lin
   lawful : IsLawful (length f.log.names.nodes) shape P (trunks_of f.trunks) step
   lawful =
       tick-lawful (length f.log.names.nodes) shape P (trunks_of f.trunks) (brought_at P n l what)
-      by asked.may.maker l side
+      by asked.may.maker asked.room l side
       (makes-tick by l side asked.may.may) of_shape
 
   run-step : IsTrunkStep shape P (trunks_of f.trunks) step (trunks_of becomes)

@@ -1,10 +1,10 @@
 -- What the fabric is asked for an actor, what it makes of that, and what a stop leaves.
-use Rattle.std.specs.Prelude.{ℕ, ◌≡◌, ◌+◌, ◌<◌, length, Option}
+use Rattle.std.specs.Prelude.{ℕ, ◌≡◌, ◌+◌, ◌<◌, false, length, Option}
 use Rattle.linx_base.specs.declared.signal.SigNote.{SigNote}
 use Rattle.journal.specs.declared.by.By.{By}
 use Rattle.journal.specs.declared.by.By.TheVariants.{Actor}
 use Rattle.journal.specs.declared.event.Event.{Event}
-use Rattle.journal.specs.Logs.{step_limit}
+use Rattle.journal.specs.Logs.{is_full, step_limit}
 use Rattle.journal.specs.Shapes.{node_by}
 use Rattle.node_kernel.specs.declared.answers.StepAnswer.{StepAnswer}
 use Rattle.node_kernel.specs.declared.ask.Ask.{Ask}
@@ -20,9 +20,10 @@ use Rattle.fabric.specs.declared.stop.StepStop.{StepStop}
 abbrev pub asking : Event → Option SigNote → Ask
 asking event hand = record { event = event; hand = hand }
 
--- a maker may ask this, and the journal takes a step
+-- a maker may ask this, and the journal takes a step, so it has fewer than 200,000
 pub record MayMake (f : Layout) (by : By) (ask : Ask) : Type 0 where
   pub may : MayAsk f by ask
+  pub room : is_full f.log.steps ≡ false
   pub short : length f.log.steps < step_limit
 
 -- the kernel of actor k's node stands at this place

@@ -1,7 +1,7 @@
 -- A run of the machine: what a step makes of the journal and of the trunks, and which runs there
 -- are.
-use Rattle.std.specs.Prelude.{ℕ, ◌≡◌, List, [], ◌∷◌, length, Option, Some, None}
-use Rattle.journal.specs.Logs.{Log}
+use Rattle.std.specs.Prelude.{ℕ, ◌≡◌, false, List, [], ◌∷◌, length, Option, Some, None}
+use Rattle.journal.specs.Logs.{Log, is_full}
 use Rattle.journal.specs.Shapes.{Shape, node_by}
 use Rattle.journal.specs.declared.by.By.{By}
 use Rattle.journal.specs.declared.effect.Effect.{Effect}
@@ -25,10 +25,11 @@ pub record Layout : Type 0 where
   pub log : Log
   pub trunks : List TrunkState
 
--- A STEP IS MADE on so many nodes where the machine gives its head to what that head names, and
--- what it speaks of is there
+-- A STEP IS MADE on so many nodes where the journal isn't full before it, the machine gives its head
+-- to what that head names, and what it speaks of is there
 pub record IsMade (nodes : ℕ) (shape : Shape) (P : List Step) (trunks : RunTrunks) (s : Step)
     : Type 0 where
+  pub room : is_full P ≡ false
   pub given : head_for shape P (is_still shape P trunks) s.by (named s.head) ≡ Some s.head
   pub fits :
       FitsRun nodes shape P trunks (node_by shape s.by) (event_of s.head)

@@ -627,6 +627,7 @@ impl Fabric {
         hand: Option<Signal>,
     ) -> Result<StepAnswer, StepStop>
         requires maker { IsMaker self.old.shape self.old.log.steps (By.Actor actor) }
+        requires room { is_full self.old.log.steps ≡ false }
         requires short { length self.old.log.steps < 200000 }
         ensures ok { IfOk result (HasMade self.old self.new actor (refused reason)) }
         ensures fixed { OnlyRuns self.old self.new }
@@ -641,6 +642,7 @@ impl Fabric {
     /// The step of a refusal.
     fn note_refusal(&mut self, actor: u32, reason: Refusal) -> Result<StepAnswer, NoMemory>
         requires maker { IsMaker self.old.shape self.old.log.steps (By.Actor actor) }
+        requires room { is_full self.old.log.steps ≡ false }
         requires short { length self.old.log.steps < 200000 }
         ensures ok { IfOk result (HasMade self.old self.new actor (refused reason)) }
         ensures fixed { OnlyRuns self.old self.new }

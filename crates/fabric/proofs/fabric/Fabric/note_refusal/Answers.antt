@@ -15,7 +15,7 @@ made : (c : After-wait) → IsMadeSeen (view c.self.inside) c.args.self.now
     }) c.args.actor (refused c.args.reason) (answers.Refused c.args.reason)
 made c =
     let acts = acting-home (sees c.self.invariant.0 c.self.view_is) c.args.actor c.requires.maker
-    c.requires.short in
+    c.requires.room c.requires.short in
     made-still c.self.inside c.self.view_is c.self.invariant.1 c.make_quiet.new.journal.log _
     c.args.actor (refused c.args.reason) (answers.Refused c.args.reason)
     (made-refuse acts c.args.reason c.index_mut.result.now c.wait.new.self c.index_mut.ensures.value
