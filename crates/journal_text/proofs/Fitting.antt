@@ -8,9 +8,8 @@ use Rattle.linx_base.specs.declared.signal.SigNote.{SigNote}
 use Rattle.linx_base.specs.declared.identity.ItemAt.{ItemAt}
 use Rattle.journal.specs.declared.effect.Effect.{Effect}
 use Rattle.journal.specs.declared.effect.Step.{Step}
-use Rattle.journal.specs.Logs.{step_at}
+use Rattle.journal.specs.Logs.{effect_at, nth_effect, step_at}
 use Rattle.journal.specs.Histories.{first_steps}
-use Rattle.journal.specs.Logs.{effect_at, nth_effect}
 use Rattle.journal_text.specs.Known.{signal_brought, signal_of, signal_at, AreOf}
 use Rattle.journal_text.specs.Known.{Keeps, FitsPlace, FitsStep, Fits}
 use Rattle.journal_text.specs.declared.digests.Placed.{Placed}

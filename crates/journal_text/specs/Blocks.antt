@@ -1,5 +1,5 @@
 -- The log of an incarnation.
-use Rattle.std.specs.Prelude.{◌++◌, List, [], ◌∷◌, flat_map, codes, Option, Some, None}
+use Rattle.std.specs.Prelude.{ℕ, ◌++◌, List, [], ◌∷◌, flat_map, codes, Option, Some, None}
 use Rattle.std.specs.Prelude.{if◌then◌else◌}
 use Rattle.linx_base.specs.declared.identity.Inc.{Inc}
 use Rattle.linx_base.specs.declared.name.Names.{Names}
@@ -11,9 +11,9 @@ use Rattle.journal.specs.declared.effect.Effect.TheVariants.{Closed, Arrived, Fo
 use Rattle.journal.specs.declared.effect.Step.{Step}
 use Rattle.journal.specs.Logs.{Log, effect_at}
 use Rattle.journal.specs.History.{opening_name, openings}
-use Rattle.journal_text.specs.Makers.{owner_by}
 use Rattle.journal.specs.Queues.{reached_by}
 use Rattle.journal.specs.Traffic.{is_endpoint}
+use Rattle.journal_text.specs.Makers.{owner_by}
 use Rattle.journal_text.specs.Values.{halves_text, name_or_mark, node_text, peer_signal_text}
 use Rattle.journal_text.specs.Values.{path_text, signal_text, reason_text, sent_text, detached_text}
 

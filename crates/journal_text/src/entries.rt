@@ -155,7 +155,9 @@ pub(crate) fn write_head_log(
             write_sending(out, names, b"sent ", peer, note, known, *answer)?;
             write_byte(out, b'\n')
         }
-        Head::Take(_, at) => { write_took(out, names, journal.effect_at(*at), digests.of_item(*at)) }
+        Head::Take(_, at) => {
+            write_took(out, names, journal.effect_at(*at), digests.of_item(*at))
+        }
         Head::TakeNone(_) => write_word(out, b"none\n"),
         Head::Hunt(path, note) => {
             write_hunt(out, names, path, note, known)?;

@@ -8,19 +8,29 @@ ghost use Rattle.linx_sim.specs.Statuses.{exit_of, line_of};
 
 use crate::outcome::Status;
 use linx_outside::{Sink, write_all};
+use std::marker::Model;
 use std::process::{ExitCode, Termination};
 
-/// The status that the program told, by which it ends. Only `program` gives one out.
+/// The status that the program told, by which it ends. Only `program` gives one out. Contracts see
+/// the status.
 #[derive(Drop)]
 pub struct Told {
-    pub(crate) status: Status,
+    status: Status,
+}
+
+impl Model for Told {
+    ghost use Rattle.linx_sim.specs.declared.outcome.Status.{Status};
+
+    ghost Value = { Status };
+
+    ghost view = { λ told. told.status };
 }
 
 impl Termination for Told {
     ghost use Rattle.std.specs.Process.{exit_status};
 
     fn report<R: Eprint>(self, _rt: &R) -> ExitCode
-        ensures { exit_status result ≡ exit_of self.status }
+        ensures { exit_status result ≡ exit_of self }
     {
         ExitCode::from(exit_code(self.status))
     }
@@ -43,7 +53,7 @@ fn exit_code(status: Status) -> u8
 
 /// Writes the line of a status; what it answers is the same where the line can't be written.
 pub(crate) fn tell<K: Sink>(status: Status, errors: &mut K) -> Told
-    ensures status { result.status ≡ status }
+    ensures status { result ≡ status }
     ensures line { ¬ (HasFaulted K.last_count (K.faults errors.old) (K.faults errors.new))
         → Appends (K.held errors.old) (K.held errors.new) (line_of status) }
     ensures takes { K.can_take errors.old (length (line_of status))

@@ -32,22 +32,22 @@ pub fn program<R: Threads + Wait + Sync, S: Source, K: Sink, L: Sink>(
     ensures served { IsServed (asked_by_line words)
         ((script.new ≡ script.old) × (text.new ≡ text.old))
         (λ asked. ReadsUnder asked S.left S.faults S.last_count S.is_faultless script.old
-        script.new result.status)
+        script.new result)
         (λ written. Writes K.held K.faults K.last_count K.can_take text.old text.new
-        result.status written)
-        (S.left script.old) result.status }
+        result written)
+        (S.left script.old) result }
 
     // Of words that can't be had.
-    ensures unread { IsToldUnread words result.status }
+    ensures unread { IsToldUnread words result }
 
     // Of the line that says how it ended.
     ensures line { ¬ (HasFaulted L.last_count (L.faults errors.old) (L.faults errors.new))
-        → Appends (L.held errors.old) (L.held errors.new) (line_of result.status) }
-    ensures takes { L.can_take errors.old (length (line_of result.status))
-        → Appends (L.held errors.old) (L.held errors.new) (line_of result.status) }
-    ensures front { Appends (L.held errors.old) (L.held errors.new) (line_of result.status)
-        ⊎ AppendsFront (L.held errors.old) (L.held errors.new) (line_of result.status) }
-    ensures silent { result.status ≡ Done → errors.new ≡ errors.old }
+        → Appends (L.held errors.old) (L.held errors.new) (line_of result) }
+    ensures takes { L.can_take errors.old (length (line_of result))
+        → Appends (L.held errors.old) (L.held errors.new) (line_of result) }
+    ensures front { Appends (L.held errors.old) (L.held errors.new) (line_of result)
+        ⊎ AppendsFront (L.held errors.old) (L.held errors.new) (line_of result) }
+    ensures silent { result ≡ Done → errors.new ≡ errors.old }
     ensures never_falls { NeverFalls L.last_count (L.faults errors.old) (L.faults errors.new) }
 {
     match words {

@@ -74,6 +74,17 @@ fn with(mut passes: Vec<Pass<Log>>, pass: Pass<Log>) -> Result<Vec<Pass<Log>>, A
     Ok(passes)
 }
 
+/// Closes a lock with these passes and one more.
+fn closed(lock: TurnLock<Log>, passes: Vec<Pass<Log>>, pass: Pass<Log>) -> Result<Log, Fail>
+    requires passes { All (IsPassOf lock) passes.items }
+    requires pass { IsPassOf lock pass }
+{
+    let Ok(log) = lock.close(with(passes, pass)?) else {
+        return Err(Fail::from("refused all passes"));
+    };
+    Ok(log)
+}
+
 #[test]
 fn a_lock_closes_with_all_its_passes_alone(rt: HostRuntime) -> Result<(), Fail> {
     let (lock, mut passes) = TurnLock::new(rt.alloc(), Log::new(rt.alloc(), 7), 2)?;
@@ -89,9 +100,7 @@ fn a_lock_closes_with_all_its_passes_alone(rt: HostRuntime) -> Result<(), Fail> 
         missing,
     } = refused;
     assert_eq!(rt; (missing, passes.len()), (2, 1));
-    let Ok(log) = lock.close(with(passes, two)?) else {
-        return Err(Fail::from("refused all passes"));
-    };
+    let log = closed(lock, passes, two)?;
     assert_eq!(rt; (log.steps(), log.title()), (0, 7));
     Ok(())
 }

@@ -7,6 +7,11 @@ use Rattle.turn_lock.specs.declared.story.Made.{Made}
 abbrev pub made : {E : Type 0} → ℕ → E → Made E
 made n e = record { maker = n; step = e }
 
+-- a title, which no step changes, and steps that say nothing but who made them, the newest first
+pub record LogParts : Type 0 where
+  pub title : ℕ
+  pub made : List (Made (Unit {0}))
+
 module _ {E : Type 0} where
   -- what the maker n made, the newest first
   abbrev pub made_by : ℕ → List (Made E) → List (Made E)

@@ -10,6 +10,7 @@ use crate::pass::Pass;
 use crate::story::{Made, Story};
 use std::alloc::{AllocError, Global};
 use std::collections::VecDeque;
+use std::marker::Model;
 use std::sync::Wait;
 
 /// Steps that say nothing but who made them, the newest first. No step changes the title.
@@ -19,12 +20,20 @@ pub struct Log {
     made: VecDeque<Made<()>>,
 }
 
+impl Model for Log {
+    ghost use Rattle.turn_lock.specs.Stories.{LogParts};
+
+    ghost Value = { LogParts };
+
+    ghost view = { λ l. record { title = l.title; made = l.made.items } };
+}
+
 impl Story for Log {
     type Step = ();
 
     type Fixed = u32;
 
-    ghost story = { λ l. l.made.items };
+    ghost story = { λ l. l.made };
 
     ghost fixed = { λ l. l.title };
 
@@ -42,7 +51,7 @@ impl Story for Log {
 impl Log {
     /// A log without steps. It takes no memory.
     pub fn new(alloc: Global, title: u32) -> Log
-        ensures { (result.title ≡ title) × (result.made.items ≡ []) }
+        ensures { result ≡ record { title = title; made = [] } }
     {
         Log {
             title,
@@ -60,8 +69,8 @@ impl Log {
     // A step of this maker, unless memory is refused.
     fn add(&mut self, maker: u32) -> Result<(), AllocError>
         ensures title { self.new.title ≡ self.old.title }
-        ensures added { OnOk result (self.new.made.items ≡ made maker tt ∷ self.old.made.items) }
-        ensures refused { OnErr result (self.new.made.items ≡ self.old.made.items) }
+        ensures added { OnOk result (self.new.made ≡ made maker tt ∷ self.old.made) }
+        ensures refused { OnErr result (self.new.made ≡ self.old.made) }
     {
         self.made.push_front(Made { maker, step: () })?;
         Ok(())

@@ -7,8 +7,8 @@ use Rattle.turn_lock.proofs.log.add_step.Goals as goal
 pub give-requires-clause-added : goal.give-requires-clause-added
 give-requires-clause-added g c =
     let turn = c.take-held.result.turn in
-    let before = c.state.result.now.made.items in
-    let after = c.add-added.new.self.made.items in
+    let before = c.state.result.now.made in
+    let after = c.add-added.new.self.made in
     let number : c.number-number.result ≡ turn.number = search rules in
     let found : before ≡ turn.front = search rules in
     subst (λ (n : ℕ). IsAddedBy n after turn.front) number
