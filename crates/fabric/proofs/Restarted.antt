@@ -19,7 +19,6 @@ use Rattle.journal.specs.Logs.{Log}
 use Rattle.journal.proofs.Openings.{IsShort}
 use Rattle.link_laws.specs.Laws.{downs_of}
 use Rattle.link_laws.specs.Sessions.{boots, restarts}
-use Rattle.link_laws.proofs.Places.{open-few}
 use Rattle.node_kernel.specs.declared.answers.StepAnswer.TheVariants as answers
 use Rattle.node_kernel.specs.Calls.{after_restart}
 use Rattle.node_kernel.specs.Nodes.{NodeState, OpenEndpoint}
@@ -102,19 +101,6 @@ module _ {f : Layout} {parts : Parts} (kept : IsKept f parts) (n : NodeNo) (abov
   -- one more boot of it fits
   pub boot-fits : (d : ℕ) → get_or parts.booted (n.0 - 1) d + 1 < 4294967296
   boot-fits d = omega (arith, boot-of d, boots-few f.log.steps n.0, kept.short)
-
-  -- it has no more endpoints than there are actors
-  pub endpoints-few : (kernel : NodeState) → kernel ≡ get_or parts.kernels (n.0 - 1) kernel
-      → length kernel.endpoints ≤ length f.shape.actors
-  endpoints-few kernel is =
-      let P : List Step = f.log.steps in
-      let short : IsShort P = let few = kept.short in omega arith in
-      let few : length (open_endpoints P n.0) ≤ length f.shape.actors =
-      open-few f.shape P (legal-kept f parts kept) short n.0 in
-      let all : length kernel.endpoints ≡ length (open_endpoints P n.0) =
-      ap (λ (k : NodeState). length k.endpoints) (kernel-of kernel is)
-      ∙ length-mapped (endpoint_left P) (open_endpoints P n.0) in
-      omega (arith, few, all)
 
 -- THE RESTART of a node
 module _ {f : Layout} {parts : Parts} {actor place own_home : ℕ}

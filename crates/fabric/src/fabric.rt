@@ -591,7 +591,8 @@ impl Fabric {
     {
         let place = node.0 as usize - 1;
         let boot = self.booted[place] + 1;
-        let Ok(downs) = downs_of(self.alloc, &self.trunks, node, self.actors.len()) else {
+        let open = self.kernels[place].open_count();
+        let Ok(downs) = downs_of(self.alloc, &self.trunks, node, open) else {
             return Err(no_memory(None));
         };
         let Ok(()) = self.trunks.restarted(node, boot) else {

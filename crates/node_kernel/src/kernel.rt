@@ -77,6 +77,13 @@ impl Kernel {
         self.roster.openings()
     }
 
+    /// How many endpoints are open.
+    pub fn open_count(&self) -> usize
+        ensures { result ≡ length self.now.endpoints }
+    {
+        self.roster.endpoints().len()
+    }
+
     pub fn is_open(&self, inc: Inc) -> bool
         ensures { result ≡ is_open self.now.endpoints inc }
     {

@@ -8,7 +8,7 @@ use Rattle.fabric.specs.declared.standing.Standing.{Standing}
 use Rattle.fabric.proofs.Counting.{take-front}
 use Rattle.fabric.proofs.Granted.{granted-restart}
 use Rattle.fabric.proofs.Placed.{acting-home, at-value, may-seen, sees}
-use Rattle.fabric.proofs.Restarted.{boot-fits, endpoints-few, made-restart}
+use Rattle.fabric.proofs.Restarted.{boot-fits, made-restart}
 use Rattle.fabric.proofs.Seen.{IsMadeSeen, made-told, parts_of, refilled}
 use Rattle.fabric.proofs.fabric.Fabric.restart.Goals as goal
 use Rattle.fabric.proofs.fabric.Fabric.restart.Goals.{After-wait}
@@ -27,13 +27,6 @@ restarted-requires c =
           asked.may.fits.1 c.index.result.now (c.index.result.now + 1)
           (ap (λ (b : ℕ). b + 1) c.index.ensures);
     }
-
-pub make_restart-made-requires-clause-room : goal.make_restart-made-requires-clause-room
-make_restart-made-requires-clause-room c =
-    let asked = may-seen (sees c.self.invariant.0 c.self.view_is) c.requires.asked in
-    let few = endpoints-few c.self.invariant.0 c.args.node asked.may.fits.0 asked.may.fits.1
-    c.index_mut.result.now c.index_mut.ensures.value in
-    omega (arith, few, c.in-Ok.ensures.room, c.len.ensures)
 
 -- the standings once those were lost that the restart closes
 abbrev lost : After-wait → List Standing
