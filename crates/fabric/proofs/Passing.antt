@@ -1,7 +1,7 @@
 -- The steps of a packet as the fabric's methods make them: what is kept, and that each is the one
 -- that was asked for.
 use Rattle.std.proofs.Common.{◌≡◌, ℕ, suc, ◌+◌, ◌<◌, Bool, true, false, List, [], ◌∷◌}
-use Rattle.std.proofs.Common.{length, Some, None, get_or, refl, sym, ◌∙◌, ap, subst}
+use Rattle.std.proofs.Common.{length, None, get_or, refl, sym, ◌∙◌, ap, subst}
 use Rattle.std.proofs.Common.{add-one}
 use Rattle.std.specs.Prelude.{◌-◌, slice_set}
 use Rattle.linx_base.specs.Sides.{other_of}
@@ -48,11 +48,12 @@ use Rattle.trunk_moves.specs.Steps.{IsTrunkStep}
 use Rattle.trunk_moves.specs.Trunks.{RunTrunks}
 use Rattle.fabric.specs.declared.bringing.At.{At}
 use Rattle.fabric.specs.declared.line.Line.{Line}
+use Rattle.fabric.specs.declared.wires.Coming.TheVariants.{Never}
 use Rattle.fabric.specs.Actings.{MayMake}
 use Rattle.fabric.specs.Asks.{MayMeet, may_ask}
 use Rattle.fabric.specs.Brings.{after_brought}
 use Rattle.fabric.specs.Bringings.{IsDelivered, IsThere, MayTellNode, answers_told, brought_on}
-use Rattle.fabric.specs.Bringings.{comes_by, node_told, passed_by, passes_by, told_on}
+use Rattle.fabric.specs.Bringings.{comes_by, coming_kept, node_told, passed_by, passes_by, told_on}
 use Rattle.fabric.specs.Lines.{counted}
 use Rattle.fabric.specs.Remains.{AreNodesLeft, IsKept, Parts, node_left}
 use Rattle.fabric.specs.Run.{IsStepOf, Layout}
@@ -77,27 +78,29 @@ makes-wire (Actor k) l from verdict may = refl
 makes-wire (Pump link) l from verdict may = may
 
 -- a verdict by which the packet comes, or passes
-comes-handed : (verdict : Verdict) (keep : Bool) → comes_by verdict ≡ Some keep
+comes-handed : (verdict : Verdict) (keep : Bool) → comes_by verdict ≡ coming_kept keep
     → delivers verdict ≡ true
 comes-handed Deliver keep comes = refl
 comes-handed Repeat keep comes = refl
-comes-handed Lose keep comes = absurd cc
-comes-handed (Swap k) keep comes = absurd cc
+comes-handed Lose true comes = absurd cc
+comes-handed Lose false comes = absurd cc
+comes-handed (Swap k) true comes = absurd cc
+comes-handed (Swap k) false comes = absurd cc
 
 comes-meets : (P : List Step) (n : ℕ) (l : LinkNo) (from : Side) (verdict : Verdict) (keep : Bool)
-    (es : List Effect) (before after : TrunkState) → comes_by verdict ≡ Some keep
+    (es : List Effect) (before after : TrunkState) → comes_by verdict ≡ coming_kept keep
     → Comes P n l from keep es before after → Meets P n l from verdict es before after
-comes-meets P n l from Deliver keep es before after comes come =
-    let same : keep ≡ false = cc in
-    subst (λ (b : Bool). Comes P n l from b es before after) same come
-comes-meets P n l from Repeat keep es before after comes come =
-    let same : keep ≡ true = cc in
-    subst (λ (b : Bool). Comes P n l from b es before after) same come
-comes-meets P n l from Lose keep es before after comes come = absurd cc
-comes-meets P n l from (Swap k) keep es before after comes come = absurd cc
+comes-meets P n l from Deliver false es before after comes come = come
+comes-meets P n l from Deliver true es before after comes come = absurd cc
+comes-meets P n l from Repeat true es before after comes come = come
+comes-meets P n l from Repeat false es before after comes come = absurd cc
+comes-meets P n l from Lose true es before after comes come = absurd cc
+comes-meets P n l from Lose false es before after comes come = absurd cc
+comes-meets P n l from (Swap k) true es before after comes come = absurd cc
+comes-meets P n l from (Swap k) false es before after comes come = absurd cc
 
 passes-meets : (P : List Step) (n : ℕ) (l : LinkNo) (from : Side) (verdict : Verdict)
-    (t : TrunkState) → comes_by verdict ≡ None
+    (t : TrunkState) → comes_by verdict ≡ Never
     → Meets P n l from verdict [] t (passed_by from verdict t)
 passes-meets P n l from Deliver t passes = absurd cc
 passes-meets P n l from Repeat t passes = absurd cc
@@ -198,7 +201,7 @@ module _ {f : Layout} {parts : Parts} (kept : IsKept f parts) (by : By) (l : Lin
       kernels count nodes new new_eq after after_eq
 
   -- A PACKET THAT IS LOST, or exchanged with another one
-  pub made-passed : comes_by verdict ≡ None → (line then : Line)
+  pub made-passed : comes_by verdict ≡ Never → (line then : Line)
       → line ≡ get_or parts.lines (l.0 - 1) line → then ≡ counted from line
       → (new : Log) → new ≡ record f.log {
         steps = record { by = by; head = head; effects = [] } ∷ P;
@@ -234,7 +237,7 @@ module _ {f : Layout} {parts : Parts} (kept : IsKept f parts) (by : By) (l : Lin
   abbrev becomes : Bool → Heard → TrunkState → TrunkState
   becomes keep heard u = answered P n l to (told heard) (delivered from 0 keep heard u)
 
-  module _ (keep : Bool) (comes : comes_by verdict ≡ Some keep) (heard : Heard)
+  module _ (keep : Bool) (comes : comes_by verdict ≡ coming_kept keep) (heard : Heard)
       (reading : IsReading (handed_by from 0 t.link) heard) where
     coming : Meets P n l from verdict (brought_at P n l (brings heard)) t (becomes keep heard t)
     coming =
@@ -346,7 +349,7 @@ across Second side is = ap other_of is
 module _ {f : Layout} {parts : Parts} (kept : IsKept f parts) (by : By) (l : LinkNo) (from : Side)
     (verdict : Verdict)
     (asked : MayMake f by (record { event = asks.Wire l from verdict; hand = None })) (keep : Bool)
-    (comes : comes_by verdict ≡ Some keep) (at : At) (there : IsThere f l (other_of from) at)
+    (comes : comes_by verdict ≡ coming_kept keep) (at : At) (there : IsThere f l (other_of from) at)
     (s : TrunksState) (same : s.is ≡ f.trunks) (kernel : NodeState)
     (kernel_is : kernel ≡ get_or parts.kernels (at.node.0 - 1) kernel) where
   abbrev here : At

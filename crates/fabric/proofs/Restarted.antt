@@ -16,7 +16,6 @@ use Rattle.journal.specs.declared.head.Head.TheVariants as heads
 use Rattle.journal.specs.Effects.{closings}
 use Rattle.journal.specs.History.{endpoint_of, is_by, open_endpoints, unless_closed}
 use Rattle.journal.specs.Logs.{Log}
-use Rattle.journal.proofs.Openings.{IsShort}
 use Rattle.link_laws.specs.Laws.{downs_of}
 use Rattle.link_laws.specs.Sessions.{boots, restarts}
 use Rattle.node_kernel.specs.declared.answers.StepAnswer.TheVariants as answers

@@ -33,6 +33,8 @@ use Rattle.trunk_moves.specs.Packets.{asks_for, place_of, told_brings}
 use Rattle.fabric.specs.Brings.{after_brought}
 use Rattle.fabric.specs.Run.{Layout}
 use Rattle.fabric.specs.declared.bringing.At.{At}
+use Rattle.fabric.specs.declared.wires.Coming.{Coming}
+use Rattle.fabric.specs.declared.wires.Coming.TheVariants.{Gone, Never, Stays}
 
 -- the effects at a node of what is brought over a link
 abbrev pub brought_on : NodeState → LinkNo → Brought → List Effect
@@ -91,11 +93,17 @@ pub record IsThere (f : Layout) (l : LinkNo) (side : Side) (at : At) : Type 0 wh
   pub side_is : at.side ≡ side
   pub session : at.session ≡ (kept_of side (trunks_of f.trunks l.0)).now.session
 
--- the verdict hands the packet over, and keeps it in flight or not
-abbrev pub comes_by : Verdict → Option Bool
-comes_by Deliver = Some false
-comes_by Repeat = Some true
-comes_by _ = None
+-- what a verdict makes of a packet: it comes and is gone, or comes and stays in flight, or doesn't
+-- come
+abbrev pub comes_by : Verdict → Coming
+comes_by Deliver = Gone
+comes_by Repeat = Stays
+comes_by _ = Never
+
+-- a packet comes, and is kept in flight or not
+abbrev pub coming_kept : Bool → Coming
+coming_kept true = Stays
+coming_kept false = Gone
 
 -- the trunk of a link after a verdict that hands no packet over
 abbrev pub passed_by : Side → Verdict → TrunkState → TrunkState

@@ -2,7 +2,7 @@
 //! and what becomes of the node's kernel. All memory that a trunk takes is taken first, and the
 //! kernel changes last.
 
-ghost use Rattle.std.specs.Prelude.{◌≡◌, ◌+◌, ◌<◌, [], ◌∷◌, length, None, IfOk, OnErr, OnOk};
+ghost use Rattle.std.specs.Prelude.{◌≡◌, ◌+◌, ◌<◌, [], ◌∷◌, length, IfOk, OnErr, OnOk};
 ghost use Rattle.linx_base.specs.Sides.{other_of};
 ghost use Rattle.carrier.specs.Events.{flight_from, handed_by, link_told_by};
 ghost use Rattle.journal.specs.declared.head.Head.TheVariants as heads;
@@ -17,6 +17,7 @@ ghost use Rattle.fabric.specs.Bringings.{passes_by};
 ghost use Rattle.fabric.specs.Bringings.{told_on};
 
 use crate::watched_journal::WatchedJournal;
+use crate::wires::Coming;
 use carrier::TickedSide;
 use journal::{By, Effect, Effects, Head, Step};
 use linx_base::{LinkNo, Name, NoMemory, NodeNo, Peer, Session, Side, Verdict};
@@ -285,7 +286,7 @@ pub(crate) fn pass_by(trunks: &mut RunTrunks, link: LinkNo, from: Side, verdict:
     requires of_run { HasLink trunks.old link }
     requires rests { trunks.old.was ≡ trunks.old.is }
     requires flies { 0 < length (flight_from from (trunks_of trunks.old.is link.0).link) }
-    requires passes { comes_by verdict ≡ None }
+    requires passes { comes_by verdict ≡ Coming.Never }
     ensures { trunks.new ≡ resting trunks.old.links (passes_by link from verdict trunks.old.is) }
 {
     match verdict {

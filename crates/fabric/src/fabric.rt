@@ -132,15 +132,10 @@ fn name_path(path: &Path)
     ensures { IsTrue (is_name (name_of_path path.now)) }
 {
     match path {
-        Path::Local(name) | Path::Over { name, .. } => is_named(name),
+        Path::Local(name) | Path::Over { name, .. } => {
+            let _bytes = name.bytes();
+        }
     }
-}
-
-/// A name is one. It does nothing.
-fn is_named(name: &Name)
-    ensures { IsTrue (is_name name.now) }
-{
-    let _bytes = name.bytes();
 }
 
 impl Fabric {
@@ -368,7 +363,7 @@ impl Fabric {
         let place = self.kernel_of(actor);
         let node = self.node_of(actor);
         let inc = self.next_inc(actor);
-        is_named(&name);
+        let _bytes = name.bytes();
         let Ok(()) = self.trunks.opened(node, inc, &name) else {
             return Err(no_memory(None));
         };

@@ -3,11 +3,11 @@
 
 ghost use Rattle.std.specs.Prelude.{◌≡◌, ◌<◌, true, false};
 ghost use Rattle.std.specs.Prelude.{IfOk, IfErr, OnErr, OnOk};
-ghost use Rattle.std.specs.Prelude.{Some, None};
+ghost use Rattle.std.specs.Prelude.{None};
 ghost use Rattle.journal.specs.declared.head.Head.TheVariants as heads;
 ghost use Rattle.link_laws.specs.Ends.{IsLinkOf};
 ghost use Rattle.fabric.specs.Actings.{HasMade, LeavesAll, MayMake, OnlyRuns, asking};
-ghost use Rattle.fabric.specs.Bringings.{IsThere, comes_by};
+ghost use Rattle.fabric.specs.Bringings.{IsThere, comes_by, coming_kept};
 ghost use Rattle.fabric.specs.Lines.{event_of_mark};
 ghost use Rattle.fabric.specs.Run.{IsStepOf};
 
@@ -21,14 +21,25 @@ use journal::{By, Event, Head};
 use linx_base::{LinkNo, NoMemory, Side, Verdict};
 use node_kernel::StepAnswer;
 
-/// Whether a packet stays in flight that a verdict hands over, if it does.
-fn comes_by(verdict: Verdict) -> Option<bool>
+/// What a verdict makes of a packet at the node across the link.
+#[derive(Clone, Copy)]
+pub(crate) enum Coming {
+    /// It comes there, and is gone from the flight.
+    Gone,
+    /// It comes there, and stays in flight.
+    Stays,
+    /// It doesn't come there.
+    Never,
+}
+
+/// What a verdict makes of a packet.
+fn comes_by(verdict: Verdict) -> Coming
     ensures { result ≡ comes_by verdict }
 {
     match verdict {
-        Verdict::Deliver => Some(false),
-        Verdict::Repeat => Some(true),
-        Verdict::Lose | Verdict::Swap(_) => None,
+        Verdict::Deliver => Coming::Gone,
+        Verdict::Repeat => Coming::Stays,
+        Verdict::Lose | Verdict::Swap(_) => Coming::Never,
     }
 }
 
@@ -85,8 +96,9 @@ impl Fabric {
         ensures err { OnErr result (self.new ≡ self.old) }
     {
         match comes_by(verdict) {
-            Some(keep) => self.deliver(by, link, from, verdict, keep),
-            None => self.pass(by, link, from, verdict),
+            Coming::Gone => self.deliver(by, link, from, verdict, false),
+            Coming::Stays => self.deliver(by, link, from, verdict, true),
+            Coming::Never => self.pass(by, link, from, verdict),
         }
     }
 
@@ -100,7 +112,7 @@ impl Fabric {
         keep: bool,
     ) -> Result<(), NoMemory>
         requires asked { MayMake self.old by (asking (Event.Wire link from verdict) None) }
-        requires comes { comes_by verdict ≡ Some keep }
+        requires comes { comes_by verdict ≡ coming_kept keep }
         ensures ok { OnOk result (IsStepOf self.old self.new by (heads.Wire link from verdict)
             StepAnswer.Done) }
         ensures fixed { OnlyRuns self.old self.new }
@@ -130,7 +142,7 @@ impl Fabric {
     /// A packet is lost, or exchanged with another one.
     fn pass(&mut self, by: By, link: LinkNo, from: Side, verdict: Verdict) -> Result<(), NoMemory>
         requires asked { MayMake self.old by (asking (Event.Wire link from verdict) None) }
-        requires passes { comes_by verdict ≡ None }
+        requires passes { comes_by verdict ≡ Coming.Never }
         ensures ok { OnOk result (IsStepOf self.old self.new by (heads.Wire link from verdict)
             StepAnswer.Done) }
         ensures fixed { OnlyRuns self.old self.new }

@@ -21,7 +21,7 @@ opened-requires c =
     let node = rw (← c.self.view_is) at c.node_of-node.ensures in
     record {
       may = rw node (granted-open _ _ c.self.invariant.0 acts.short _ c.next_inc-inc.result next
-          c.args.name c.is_named.ensures);
+          c.args.name c.bytes-bytes.ensures.name);
     }
 
 pub make_open-made-requires-clause-fits : goal.make_open-made-requires-clause-fits
@@ -53,7 +53,7 @@ made c =
     _ c.args.actor (asking (asks.Open c.args.name) None)
     (answers.Opened (next_of c.index_mut.result.now))
     (made-opened acts c.index_mut.result.now c.index_mut.ensures.value c.args.name
-    c.is_named.ensures c.next_inc-inc.result
+    c.bytes-bytes.ensures.name c.next_inc-inc.result
     (next-at acts.at c.index_mut.result.now c.index_mut.ensures.value
     (rw (← c.self.view_is) at c.next_inc-inc.ensures))
     (endpoint-seen seen c.args.actor _ c.requires.granted) c.make_open-made.new.kernel
