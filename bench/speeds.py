@@ -94,6 +94,25 @@ def middle(count, selection):
     return lines
 
 
+def behind(count):
+    """Ten actors fill a queue with 1s; the taker sends itself a 2 again and again, and takes it."""
+    takes = repeat(count, "send self 2", "recv not 1")
+    lines = ["node n", *actor("taker", "n", "open q", "recv 4", *takes)]
+    for k in range(10):
+        lines += actor(f"p{k}", "n", "open a", "hunt q", "recv 251", "keep q",
+                       *repeat(count, "send q 1"), "send q 4")
+    return lines
+
+
+def lower(count):
+    """Nine actors fill a queue with 2s, and then with as many 1s, each before all 2s by number."""
+    lines = ["node n", *actor("taker", "n", "open q", "recv 9")]
+    for k in range(9):
+        lines += actor(f"p{k}", "n", "open a", "hunt q", "recv 251", "keep q",
+                       *repeat(count, "send q 2"), *repeat(count, "send q 1"))
+    return lines
+
+
 def in_vain(count):
     """An actor that waits for what is no 5, while ten others send it 5s, takes the 6 at last."""
     lines = ["node n", *actor("taker", "n", "open q", "recv not 5")]
@@ -102,6 +121,12 @@ def in_vain(count):
         lines += actor(f"p{k}", "n", "open a", "hunt q", "recv 251", "keep q",
                        *repeat(count, "send q 5"), *ends)
     return lines
+
+
+def restarts(count):
+    """64 actors that each restart their node so often."""
+    return ["node n", *[line for k in range(64)
+                        for line in actor(f"p{k}", "n", *repeat(count, "restart n"))]]
 
 
 def hunters(rounds):
@@ -159,9 +184,12 @@ LINES = [
     ("200,000 steps in all queues", queues(10), queues(5)),
     ("the middle of 60,000 taken, by its number", middle(9990, "recv 2"), middle(4995, "recv 2")),
     ("the same, by what it isn't", middle(9990, "recv not 1 3"), middle(4995, "recv not 1 3")),
+    ("the end of up to 99,900 taken, by what it isn't", behind(9900), behind(4950)),
+    ("90,000 signals and then as many of a lower number", lower(9900), lower(4950)),
     ("99,900 signals that a waiting actor leaves", in_vain(9990), in_vain(4995)),
     ("60 hunters against openings and closings", hunters(1000), hunters(500)),
     ("100,000 attaches, 70,000 of them detached", attaches(10), attaches(5)),
+    ("190,000 restarts by 64 actors", restarts(3000), restarts(1500)),
     ("130,000 steps of ping-pong, windows of 1", ping_pong(6500), ping_pong(3250)),
     ("a script of 1 MB", long_script(1_000_000), long_script(500_000)),
     ("the text of 200,000 steps with long data", long_data(10), long_data(5)),
@@ -188,13 +216,13 @@ def measure(program, runs, name, whole, half):
     """Prints a line; whether all runs were done."""
     if whole is None:
         seconds, size, failed = measured([program, "gen", "7"], b"", runs)
-        print(f"{name:44} {seconds:7.3f} s{'':17} {size:9} kB{failed}", flush=True)
+        print(f"{name:50} {seconds:7.3f} s{'':17} {size:9} kB{failed}", flush=True)
         return not failed
     command = [program, "serial"]
     seconds, size, failed = measured(command, text_of(whole), runs)
     half_seconds, half_size, half_failed = measured(command, text_of(half), runs)
     times = seconds / max(half_seconds, 0.000_001)
-    print(f"{name:44} {seconds:7.3f} s {half_seconds:7.3f} s {times:6.2f}"
+    print(f"{name:50} {seconds:7.3f} s {half_seconds:7.3f} s {times:6.2f}"
           f" {size:9} kB {half_size:9} kB{failed or half_failed}", flush=True)
     return not failed and not half_failed
 
@@ -206,7 +234,7 @@ def main():
     arguments.add_program(parser)
     given = parser.parse_args()
     program = arguments.found_program(parser, given)
-    print(f"{'':44}     whole      half  times        whole         half")
+    print(f"{'':50}     whole      half  times        whole         half")
     done = [measure(program, given.runs, *line) for line in LINES]
     return 0 if all(done) else 1
 
