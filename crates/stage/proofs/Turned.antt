@@ -1,11 +1,12 @@
 -- A turn of an actor that hasn't ended.
-use Rattle.std.proofs.Common.{◌≡◌, ℕ, ◌<◌, ◌≤◌, Bool, false, List, length, Option, refl, sym, ◌∙◌}
-use Rattle.std.proofs.Common.{ap, subst, inl, inr}
-use Rattle.std.specs.Prelude.{is_some}
+use Rattle.std.proofs.Common.{◌≡◌, ℕ, ◌<◌, ◌≤◌, Bool, true, false, List, length, Option}
+use Rattle.std.proofs.Common.{refl, sym, ◌∙◌, ap, subst, inl, inr}
+use Rattle.std.specs.Prelude.{is_some, IfErr, IfOk, OnErr}
 use Rattle.linx_base.specs.declared.identity.Inc.{Inc}
 use Rattle.linx_base.specs.declared.signal.SigNote.{SigNote}
 use Rattle.journal.specs.declared.by.By.TheVariants.{Actor}
 use Rattle.journal.specs.declared.effect.Step.{Step}
+use Rattle.journal.specs.Logs.{is_full}
 use Rattle.script_words.specs.declared.command.Command.{Command}
 use Rattle.script_lang.specs.Fits.{IsScript}
 use Rattle.script_lang.specs.Parts.{ScriptParts}
@@ -17,15 +18,18 @@ use Rattle.actor_run.specs.Following.{IsTurned, endpoint_after, next_ask, Playin
 use Rattle.actor_run.specs.Knowing.{Knows, stopped_with, told}
 use Rattle.actor_run.proofs.Turns.{MakesAsked, stopped_same, turned}
 use Rattle.fabric.specs.Asks.{MayAsk}
+use Rattle.fabric.specs.declared.stop.StopCause.TheVariants.{JournalFull}
 use Rattle.fabric.specs.Machine.{hands_over}
 use Rattle.fabric.specs.Run.{IsStepped, Layout}
+use Rattle.stage.specs.declared.acting.Acted.{Acted}
+use Rattle.stage.specs.declared.acting.Acted.TheVariants.{Done, Halfway, Stopped}
 use Rattle.stage.specs.declared.player.Player.{Player}
 use Rattle.stage.specs.declared.stage.Turn.{Turn}
-use Rattle.stage.specs.Seats.{IsSeated}
-use Rattle.stage.specs.Settlings.{IsDone, IsHalfDone}
-use Rattle.stage.specs.Turns.{IsActed, IsTurnStopped, came_of, commands_of, shape_of}
+use Rattle.stage.specs.Seats.{IsSeated, Learns}
+use Rattle.stage.specs.Settlings.{IsActedAs, IsDone, IsHalfDone}
+use Rattle.stage.specs.Turns.{IsActed, IsTurnStopped, came_of, commands_of, shape_of, turn_by}
 use Rattle.stage.proofs.Asking.{may_ask, next-handed}
-use Rattle.stage.proofs.Going.{GoesFar, begun-calm, begun-runs, settle-made}
+use Rattle.stage.proofs.Going.{GoesFar, begun-calm, begun-runs, done-far, half-far, settle-made}
 use Rattle.stage.proofs.Makings.{makes}
 use Rattle.stage.proofs.Players.{settlings-playing}
 use Rattle.stage.proofs.Seats.{turned-seated}
@@ -116,3 +120,42 @@ module _ (script : ScriptParts) (declared : IsScript script) (old : Layout)
       ap (stopped_with (handed (commands_of script k) mind me))
       (back ∙ ap (λ (a : Ask). a.hand) is)
       ∙ stopped_same (commands_of script k) k old.log.steps mind me playing
+
+  -- WHAT IT MADE of its turn
+  pub turn-came : (new : Layout) (acted : Acted) → IsActedAs old new k ask acted
+      → IfOk (turn_by acted) (IsActed script k old new)
+  turn-came new (Done answer) came = turn-moves new answer (came_of answer) came refl
+  turn-came new (Halfway answer cause) came = tt
+  turn-came new (Stopped stop) came = tt
+
+  -- what a stop left
+  pub turn-stopped : (new : Layout) (acted : Acted) → IsActedAs old new k ask acted
+      → OnErr (turn_by acted) (IsTurnStopped script k old new)
+  turn-stopped new (Done answer) came = tt
+  turn-stopped new (Halfway answer cause) came = turn-stops new answer came.0
+  turn-stopped new (Stopped stop) came = inl came.0.same
+
+  -- a full journal is said to be met only where it is one
+  pub turn-full : (new : Layout) (acted : Acted) → IsActedAs old new k ask acted
+      → IfErr (turn_by acted) (λ cause. cause ≡ JournalFull → is_full new.log.steps ≡ true)
+  turn-full new (Done answer) came = tt
+  turn-full new (Halfway answer cause) came = λ full. came.1 full
+  turn-full new (Stopped stop) came = came.1
+
+  -- WHAT A TURN LEAVES, once the player learned what came of it
+  pub turn-learned : (new : Layout) (acted : Acted) → IsActedAs old new k ask acted
+      → (given next : Player) → given.mind ≡ handed (commands_of script k) mind me
+      → given.me ≡ me → Learns (commands_of script k) given acted next
+      → IsSeated script new.log.steps k next
+  turn-learned new (Done answer) came given next mind_is me_is learns =
+      let next_mind = rw mind_is at learns.0 in
+      let next_me = rw me_is at learns.1 in
+      turn-seated new answer (done-far old new k ask answer came) next next_mind next_me
+  turn-learned new (Halfway answer cause) came given next mind_is me_is learns =
+      let next_mind = rw mind_is at learns.0 in
+      let next_me = rw me_is at learns.1 in
+      turn-seated new answer (half-far old new k ask answer came.0) next next_mind next_me
+  turn-learned new (Stopped stop) came given next mind_is me_is learns =
+      let next_mind = rw mind_is at learns.0 in
+      turn-stays new came.0.same next (next_mind ∙ turn-back stop.hand came.0.hand)
+      (learns.1 ∙ me_is)

@@ -1,7 +1,7 @@
 -- The fixed order: turns, rounds and whole runs, each as what it makes of a run's state.
 use Rattle.std.specs.Prelude.{ℕ, zero, suc, ◌+◌, ◌-◌, ◌≡◌, ◌<◌, ◌⊎◌, Bool, true, false, ◌&&◌, List}
 use Rattle.std.specs.Prelude.{[], length, map, nat_le, slice_get, is_some, Option, Some, None}
-use Rattle.std.specs.Prelude.{if◌then◌else◌}
+use Rattle.std.specs.Prelude.{Result, Ok, Err, if◌then◌else◌}
 use Rattle.linx_base.specs.declared.identity.LinkNo.{LinkNo}
 use Rattle.journal.specs.declared.by.By.TheVariants.{Pump}
 use Rattle.journal.specs.declared.effect.Step.{Step}
@@ -17,10 +17,13 @@ use Rattle.script_lang.specs.declared.actor_script.ActorScript.{ActorScript}
 use Rattle.script_lang.specs.Parts.{ScriptParts}
 use Rattle.actor_run.specs.Following.{next_ask}
 use Rattle.run_trunks.specs.States.{new_trunks, trunks_of}
+use Rattle.fabric.specs.declared.stop.StopCause.{StopCause}
 use Rattle.fabric.specs.Actings.{OnlyRuns}
 use Rattle.fabric.specs.Links.{is_still}
 use Rattle.fabric.specs.Machine.{all_have_ended}
 use Rattle.fabric.specs.Run.{IsStepped, Layout}
+use Rattle.stage.specs.declared.acting.Acted.{Acted}
+use Rattle.stage.specs.declared.acting.Acted.TheVariants.{Done, Halfway, Stopped}
 use Rattle.stage.specs.declared.stage.Pump as pumps
 use Rattle.stage.specs.declared.stage.Pump.TheVariants as pumped
 use Rattle.stage.specs.declared.stage.Turn.{Turn}
@@ -46,6 +49,12 @@ commands_of script (suc k) = commands_in (slice_get script.actors k)
 -- what came of a turn that was answered so
 abbrev pub came_of : StepAnswer → Turn
 came_of answer = if is_not_yet answer then Waits else Moved
+
+-- what came of a turn, by what came of what the actor asked for
+abbrev pub turn_by : Acted → Result Turn StopCause
+turn_by (Done answer) = Ok (came_of answer)
+turn_by (Halfway answer cause) = Err cause
+turn_by (Stopped stop) = Err stop.cause
 
 -- what actor k's script asks for next
 abbrev pub asked_next : ScriptParts → ℕ → Layout → Ask

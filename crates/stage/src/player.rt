@@ -7,7 +7,8 @@ ghost use Rattle.actor_run.specs.Knowing.{told};
 ghost use Rattle.fabric.specs.Actings.{OnlyRuns};
 ghost use Rattle.script_lang.specs.Fits.{IsScript};
 ghost use Rattle.stage.specs.Turns.{IsActed, IsTurnStopped, came_of, commands_of, shape_of};
-ghost use Rattle.stage.specs.Seats.{IsSeated};
+ghost use Rattle.stage.specs.Turns.{turn_by};
+ghost use Rattle.stage.specs.Seats.{IsSeated, Learns};
 
 use crate::acting::{Acted, act};
 use crate::stage::Turn;
@@ -48,7 +49,7 @@ pub fn actor_of(script: &Script, actor: u32) -> &ActorScript
 
 impl Player {
     /// Learns what the answer to a command tells.
-    pub fn told(&mut self, script: &ActorScript, answer: StepAnswer)
+    fn told(&mut self, script: &ActorScript, answer: StepAnswer)
         requires runnable { AreRunnable script.now.commands }
         requires place { self.old.mind.place ≤ length script.now.commands }
         ensures mind { self.new.mind ≡ told script.now.commands self.old.mind answer }
@@ -56,6 +57,30 @@ impl Player {
     {
         self.me = endpoint_after(self.me, &answer);
         self.mind.told(script, answer);
+    }
+
+    /// Learns what came of what it asked for, and tells what that makes of its turn.
+    pub fn learn(&mut self, script: &ActorScript, acted: Acted) -> Result<Turn, StopCause>
+        requires runnable { AreRunnable script.now.commands }
+        requires place { self.old.mind.place ≤ length script.now.commands }
+        ensures learns { Learns script.now.commands self.old acted self.new }
+        ensures came { result ≡ turn_by acted }
+    {
+        match acted {
+            Acted::Done(answer) => {
+                let turn = came_of(&answer);
+                self.told(script, answer);
+                Ok(turn)
+            }
+            Acted::Halfway(answer, cause) => {
+                self.told(script, answer);
+                Err(cause)
+            }
+            Acted::Stopped(StepStop { cause, hand }) => {
+                self.mind.stopped(hand);
+                Err(cause)
+            }
+        }
     }
 }
 
@@ -86,19 +111,6 @@ pub(crate) fn turn_of(
     let Ok(ask) = player.mind.next(alloc, commands, player.me) else {
         return Err(StopCause::NoMemory);
     };
-    match act(fabric, actor, ask) {
-        Acted::Done(answer) => {
-            let turn = came_of(&answer);
-            player.told(commands, answer);
-            Ok(turn)
-        }
-        Acted::Halfway(answer, cause) => {
-            player.told(commands, answer);
-            Err(cause)
-        }
-        Acted::Stopped(StepStop { cause, hand }) => {
-            player.mind.stopped(hand);
-            Err(cause)
-        }
-    }
+    let acted = act(fabric, actor, ask);
+    player.learn(commands, acted)
 }

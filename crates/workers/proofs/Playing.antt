@@ -23,12 +23,11 @@ use Rattle.linx_api.specs.Telling.{PlanParts, plan_of, story_of}
 use Rattle.stage.specs.declared.acting.Acted.{Acted}
 use Rattle.stage.specs.declared.acting.Acted.TheVariants.{Done, Halfway, Stopped}
 use Rattle.stage.specs.declared.player.Player.{Player}
-use Rattle.stage.specs.Seats.{IsSeated}
+use Rattle.stage.specs.Seats.{IsSeated, Learns}
 use Rattle.stage.specs.Settlings.{IsActedAs}
-use Rattle.stage.specs.Turns.{commands_of, shape_of}
-use Rattle.stage.proofs.Going.{done-far, half-far}
-use Rattle.stage.proofs.Turned.{turn-asks, turn-back, turn-seated, turn-stays}
-use Rattle.workers.specs.Turning.{Asks, IsActedIn, IsRightlyFull, Learns, stop_of}
+use Rattle.stage.specs.Turns.{commands_of}
+use Rattle.stage.proofs.Turned.{turn-asks, turn-learned}
+use Rattle.workers.specs.Turning.{Asks, IsActedIn, IsRightlyFull, stop_of}
 use Rattle.workers.specs.Working.{IsPlayedBy, IsWorking, OwnPlanned, seen}
 use Rattle.workers.proofs.Planning.{IsOneState}
 use Rattle.workers.proofs.Resting.{as-actor, found-goes_on, found-names, found-planned}
@@ -79,40 +78,11 @@ module _ (script : ScriptParts) (declared : IsScript script) (p : PassView Step 
       → handed_player.mind ≡ handed commands player.mind player.me
       → handed_player.me ≡ player.me → Learns commands handed_player acted next
       → IsSeated script new.log.steps p.number next
-  found-seated new acted came given next mind me learns = go acted came learns
-    where
-      shape : f.shape ≡ shape_of script
-      shape = found-shape script p (Some player) asks.working f plan rests
-
-      go : (a : Acted) → IsActedAs f new p.number ask a → Learns commands given a next
-          → IsSeated script new.log.steps p.number next
-      go (Done answer) came learns =
-          let far = done-far f new p.number ask answer came in
-          let learns_mind = rw mind at learns.0 in
-          let learns_me = rw me at learns.1 in
-          turn-seated script declared f shape
-          (found-names script p (Some player) asks.working f plan rests) p.number
-          asks.working.above found-within player.mind player.me found-playing ask asks.is new
-          answer far next learns_mind learns_me
-      go (Halfway answer cause) came learns =
-          let far = half-far f new p.number ask answer came.0 in
-          let learns_mind = rw mind at learns.0 in
-          let learns_me = rw me at learns.1 in
-          turn-seated script declared f shape
-          (found-names script p (Some player) asks.working f plan rests) p.number
-          asks.working.above found-within player.mind player.me found-playing ask asks.is new
-          answer far next learns_mind learns_me
-      go (Stopped stop) came learns =
-          let learns_mind = rw mind at learns.0 in
-          turn-stays script declared f shape
-          (found-names script p (Some player) asks.working f plan rests) p.number
-          asks.working.above found-within player.mind player.me found-playing ask asks.is new
-          came.0.same next
-          (learns_mind ∙ turn-back script declared f shape
-          (found-names script p (Some player) asks.working f plan rests) p.number
-          asks.working.above found-within player.mind player.me found-playing ask asks.is
-          stop.hand came.0.hand)
-          (learns.1 ∙ me)
+  found-seated =
+      turn-learned script declared f
+      (found-shape script p (Some player) asks.working f plan rests)
+      (found-names script p (Some player) asks.working f plan rests) p.number asks.working.above
+      found-within player.mind player.me found-playing ask asks.is
 
 -- AFTER ITS TURN a worker knows what it is to know
 pub acted-knows : (script : ScriptParts) (declared : IsScript script) → IsOneState script

@@ -1,15 +1,12 @@
 -- One turn of a worker under the lock, seen from its pass.
-use Rattle.std.specs.Prelude.{ℕ, ◌≡◌, ◌-◌, ◌⊎◌, Bool, true, false, List, length, Option}
+use Rattle.std.specs.Prelude.{ℕ, ◌≡◌, ◌-◌, ◌⊎◌, Bool, true, false, length, Option}
 use Rattle.std.specs.Prelude.{Some, None, Result, Ok, Err}
 use Rattle.linx_base.specs.declared.identity.LinkNo.{LinkNo}
-use Rattle.script_words.specs.declared.command.Command.{Command}
 use Rattle.journal.specs.declared.effect.Step.{Step}
 use Rattle.journal.specs.History.{has_ended}
 use Rattle.journal.specs.Logs.{is_full}
 use Rattle.node_kernel.specs.declared.ask.Ask.{Ask}
 use Rattle.actor_run.specs.Asking.{asked_by}
-use Rattle.actor_run.specs.Following.{endpoint_after}
-use Rattle.actor_run.specs.Knowing.{stopped_with, told}
 use Rattle.script_lang.specs.Parts.{ScriptParts}
 use Rattle.turn_lock.specs.Passes.{PassView}
 use Rattle.turn_lock.specs.Stories.{RestsFor}
@@ -19,11 +16,11 @@ use Rattle.fabric.specs.Actings.{OnlyRuns}
 use Rattle.fabric.specs.Run.{IsReachedBy, Layout}
 use Rattle.linx_api.specs.Telling.{PlanParts, plan_of, story_of}
 use Rattle.stage.specs.declared.acting.Acted.{Acted}
-use Rattle.stage.specs.declared.acting.Acted.TheVariants.{Done, Halfway, Stopped}
 use Rattle.stage.specs.declared.player.Player.{Player}
 use Rattle.stage.specs.declared.stage.Pump.{Pump}
+use Rattle.stage.specs.declared.stage.Turn.{Turn}
 use Rattle.stage.specs.Settlings.{IsActedAs, settler_in}
-use Rattle.stage.specs.Turns.{IsPump, commands_of}
+use Rattle.stage.specs.Turns.{IsPump, commands_of, turn_by}
 use Rattle.workers.specs.declared.worker.Turned.{Turned}
 use Rattle.workers.specs.declared.worker.Turned.TheVariants as turns
 use Rattle.workers.specs.Working.{IsWorking, seen}
@@ -61,20 +58,14 @@ pub record IsActedIn (before : PassView Step PlanParts) (ask : Ask) (acted : Act
   pub came : IsActedAs found left before.number ask acted
   pub over : ended ≡ has_ended left.log.steps before.number
 
--- what a player learns of what came
-abbrev pub Learns : List Command → Player → Acted → Player → Type 0
-Learns commands old (Done answer) new =
-    (new.mind ≡ told commands old.mind answer) × (new.me ≡ endpoint_after old.me answer)
-Learns commands old (Halfway answer cause) new =
-    (new.mind ≡ told commands old.mind answer) × (new.me ≡ endpoint_after old.me answer)
-Learns commands old (Stopped stop) new =
-    (new.mind ≡ stopped_with old.mind stop.hand) × (new.me ≡ old.me)
+-- the stop that a turn met
+abbrev pub stop_met : Result Turn StopCause → Option StopCause
+stop_met (Ok turn) = None
+stop_met (Err cause) = Some cause
 
--- the stop that was met
+-- the stop that was met by what was asked for
 abbrev pub stop_of : Acted → Option StopCause
-stop_of (Done answer) = None
-stop_of (Halfway answer cause) = Some cause
-stop_of (Stopped stop) = Some stop.cause
+stop_of acted = stop_met (turn_by acted)
 
 -- ---- a link's
 

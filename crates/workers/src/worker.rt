@@ -4,7 +4,6 @@ ghost use Rattle.std.specs.Prelude.{Some, None};
 ghost use Rattle.journal.specs.declared.by.By.TheVariants.{Actor};
 ghost use Rattle.journal.specs.History.{has_ended};
 ghost use Rattle.journal.specs.Logs.{is_full};
-ghost use Rattle.actor_run.specs.Asking.{AreRunnable};
 ghost use Rattle.script_lang.specs.Fits.{IsScript};
 ghost use Rattle.turn_lock.specs.Passes.{IsPassOf, IsSamePass};
 ghost use Rattle.fabric.specs.Actings.{OnlyRuns};
@@ -14,7 +13,7 @@ ghost use Rattle.link_laws.specs.Ends.{IsLinkOf};
 ghost use Rattle.stage.specs.Settlings.{IsActedAs, settler_in};
 ghost use Rattle.stage.specs.Turns.{shape_of};
 ghost use Rattle.workers.specs.Turning.{Asks, IsActedIn, IsCalm, IsPumpTurn, IsPumpedAs};
-ghost use Rattle.workers.specs.Turning.{IsRightlyFull, IsRightlyFullOn, Learns, goes_on, stop_in};
+ghost use Rattle.workers.specs.Turning.{IsRightlyFull, IsRightlyFullOn, goes_on, stop_in, stop_met};
 ghost use Rattle.workers.specs.Turning.{stop_of};
 ghost use Rattle.workers.specs.Working.{AreWorkedJobs, IsReadyJob, IsWorked};
 ghost use Rattle.workers.specs.Working.{IsWorking, StillRuns, seen};
@@ -25,10 +24,10 @@ use fabric::{Fabric, StepStop, StopCause};
 use linx_api::SharedFabric;
 use linx_base::{LinkNo, NoMemory};
 use linx_outside::Gate;
-use node_kernel::{Ask, StepAnswer};
+use node_kernel::Ask;
 use run_states::runs_reach_one_state;
-use script_lang::{ActorScript, Script};
-use stage::{Acted, Player, Pump, act, actor_of, is_settling, pump_on, unsettled};
+use script_lang::Script;
+use stage::{Acted, Player, Pump, Turn, act, actor_of, is_settling, pump_on, unsettled};
 use std::alloc::Global;
 use std::sync::Wait;
 use std::thread;
@@ -37,7 +36,7 @@ use turn_lock::{Pass, TurnLock};
 
 /// A pass before its worker starts, with its player where it is an actor's.
 #[derive(Drop)]
-pub struct Job {
+pub(crate) struct Job {
     pub(crate) pass: Pass<SharedFabric>,
     pub(crate) player: Option<Player>,
 }
@@ -45,7 +44,7 @@ pub struct Job {
 /// A pass after its worker's last turn, with its player where it is an actor's, and the stop that
 /// the worker met.
 #[derive(Drop)]
-pub struct Worked {
+pub(crate) struct Worked {
     pub(crate) pass: Pass<SharedFabric>,
     pub(crate) player: Option<Player>,
     pub(crate) stop: Option<StopCause>,
@@ -181,42 +180,21 @@ fn note_no_memory<R: Wait>(
     lock.give(held)
 }
 
-/// What came of a turn that was answered so.
-fn turned_by(answer: &StepAnswer, ended: bool) -> Turned
+/// What came of the turn of an actor, which has ended or not.
+fn turned_by(came: Result<Turn, StopCause>, ended: bool) -> Turned
     ensures goes { goes_on result ≡ true → ended ≡ false }
-    ensures stop { stop_in result ≡ None }
+    ensures stop { stop_in result ≡ stop_met came }
 {
+    let turn = match came {
+        Ok(turn) => turn,
+        Err(cause) => return Turned::Done(Some(cause)),
+    };
     if ended {
         return Turned::Done(None);
     }
-    match answer {
-        StepAnswer::NotYet => Turned::Waits,
-        _ => Turned::Goes,
-    }
-}
-
-/// The player learns what came of its turn.
-fn learn(player: &mut Player, commands: &ActorScript, acted: Acted, ended: bool) -> Turned
-    requires runnable { AreRunnable commands.now.commands }
-    requires place { player.old.mind.place ≤ length commands.now.commands }
-    ensures learns { Learns commands.now.commands player.old acted player.new }
-    ensures goes { goes_on result ≡ true → ended ≡ false }
-    ensures stop { stop_in result ≡ stop_of acted }
-{
-    match acted {
-        Acted::Done(answer) => {
-            let turned = turned_by(&answer, ended);
-            player.told(commands, answer);
-            turned
-        }
-        Acted::Halfway(answer, cause) => {
-            player.told(commands, answer);
-            Turned::Done(Some(cause))
-        }
-        Acted::Stopped(StepStop { cause, hand }) => {
-            player.mind.stopped(hand);
-            Turned::Done(Some(cause))
-        }
+    match turn {
+        Turn::Waits => Turned::Waits,
+        Turn::Moved | Turn::Ended => Turned::Goes,
     }
 }
 
@@ -253,8 +231,8 @@ fn turn_of<R: Wait>(
         rings,
     } = turn;
     bells.ring(rings);
-    let turned = learn(player, commands, acted, ended);
-    (pass, turned)
+    let came = player.learn(commands, acted);
+    (pass, turned_by(came, ended))
 }
 
 /// Waits for the bell where nothing can be done before it rings. It answers whether further turns

@@ -1,13 +1,19 @@
-use Rattle.std.proofs.Common.{List, ◌∙◌, ap}
+use Rattle.std.proofs.Common.{◌≡◌, true, List, ◌∙◌, ap, refl, subst, sym}
+use Rattle.std.specs.Prelude.{IfErr, IfOk, IsErr, OnErr, Result}
+use Rattle.journal.specs.Logs.{is_full}
 use Rattle.script_words.specs.declared.command.Command.{Command}
 use Rattle.actor_run.specs.Asking.{asked_by, handed}
-use Rattle.actor_run.specs.Knowing.{Knows, told}
-use Rattle.stage.proofs.Going.{done-far, half-far}
-use Rattle.stage.proofs.Turned.{turn-asks, turn-seated}
+use Rattle.fabric.specs.declared.stop.StopCause.{StopCause}
+use Rattle.fabric.specs.declared.stop.StopCause.TheVariants.{JournalFull}
+use Rattle.stage.specs.declared.player.Player.{Player}
+use Rattle.stage.specs.declared.stage.Turn.{Turn}
+use Rattle.stage.specs.Seats.{Learns}
+use Rattle.stage.specs.Turns.{IsActed, IsTurnStopped, turn_by}
+use Rattle.stage.proofs.Turned.{turn-asks, turn-came, turn-full, turn-learned, turn-stopped}
 use Rattle.stage.proofs.player.turn_of.Goals as goal
 
-pub act-requires : goal.act-requires
-act-requires c =
+pub act-acted-requires : goal.act-acted-requires
+act-acted-requires c =
     let mind = c.args.player.now.mind in
     let me = c.args.player.now.me in
     record {
@@ -18,40 +24,67 @@ act-requires c =
           ∙ ap (λ (l : List Command). asked_by l mind me) c.actor_of-commands.ensures.commands);
     }
 
-pub returns-in-Done-clause-seated : goal.returns-in-Done-clause-seated
-returns-in-Done-clause-seated c =
+pub returns-clause-ok : goal.returns-clause-ok
+returns-clause-ok c =
     let mind = c.args.player.now.mind in
     let me = c.args.player.now.me in
+    let old = c.args.fabric.now in
+    let new = c.act-acted.new.fabric in
     let its = c.actor_of-commands.ensures.commands in
-    let answer = c.in-Done.answer in
-    turn-seated c.args.script.now c.actor_of-commands.ensures.script c.args.fabric.now
-    c.requires.shape c.requires.names c.args.actor c.requires.above c.requires.within mind me
-    c.requires.playing c.in-Ok.ask
-    (c.in-Ok.ensures.ask ∙ ap (λ (l : List Command). asked_by l mind me) its)
-    c.act.new.fabric answer
-    (done-far c.args.fabric.now c.act.new.fabric c.args.actor c.in-Ok.ask answer
-    c.in-Done.ensures.came)
-    c.told.new.self
-    (c.told.ensures.mind
-    ∙ ap (λ (m : Knows). told c.actor_of-commands.result.now.commands m answer) c.in-Ok.ensures.ok
-    ∙ ap (λ (l : List Command). told l (handed l mind me) answer) its)
-    c.told.ensures.me
+    subst (λ (r : Result Turn StopCause). IfOk r (IsActed c.args.script.now c.args.actor old new))
+    (sym c.learn.ensures.came)
+    (turn-came c.args.script.now c.actor_of-commands.ensures.script old c.requires.shape
+    c.requires.names c.args.actor c.requires.above c.requires.within mind me c.requires.playing
+    c.in-Ok.ask (c.in-Ok.ensures.ask ∙ ap (λ (l : List Command). asked_by l mind me) its) new
+    c.act-acted.result c.act-acted.ensures.came)
 
-pub returns-in-Halfway-clause-seated : goal.returns-in-Halfway-clause-seated
-returns-in-Halfway-clause-seated c =
+pub returns-clause-err : goal.returns-clause-err
+returns-clause-err c =
     let mind = c.args.player.now.mind in
     let me = c.args.player.now.me in
+    let old = c.args.fabric.now in
+    let new = c.act-acted.new.fabric in
     let its = c.actor_of-commands.ensures.commands in
-    let answer = c.in-Halfway.answer in
-    turn-seated c.args.script.now c.actor_of-commands.ensures.script c.args.fabric.now
+    subst (λ (r : Result Turn StopCause).
+    OnErr r (IsTurnStopped c.args.script.now c.args.actor old new))
+    (sym c.learn.ensures.came)
+    (turn-stopped c.args.script.now c.actor_of-commands.ensures.script old c.requires.shape
+    c.requires.names c.args.actor c.requires.above c.requires.within mind me c.requires.playing
+    c.in-Ok.ask (c.in-Ok.ensures.ask ∙ ap (λ (l : List Command). asked_by l mind me) its) new
+    c.act-acted.result c.act-acted.ensures.came)
+
+pub returns-clause-seated : goal.returns-clause-seated
+returns-clause-seated c =
+    let mind = c.args.player.now.mind in
+    let me = c.args.player.now.me in
+    let new = c.act-acted.new.fabric in
+    let its = c.actor_of-commands.ensures.commands in
+    let given : Player = record { mind = c.next.new.self; me = me } in
+    turn-learned c.args.script.now c.actor_of-commands.ensures.script c.args.fabric.now
     c.requires.shape c.requires.names c.args.actor c.requires.above c.requires.within mind me
     c.requires.playing c.in-Ok.ask
-    (c.in-Ok.ensures.ask ∙ ap (λ (l : List Command). asked_by l mind me) its)
-    c.act.new.fabric answer
-    (half-far c.args.fabric.now c.act.new.fabric c.args.actor c.in-Ok.ask answer
-    c.in-Halfway.ensures.came.0)
-    c.told-in-Halfway.new.self
-    (c.told-in-Halfway.ensures.mind
-    ∙ ap (λ (m : Knows). told c.actor_of-commands.result.now.commands m answer) c.in-Ok.ensures.ok
-    ∙ ap (λ (l : List Command). told l (handed l mind me) answer) its)
-    c.told-in-Halfway.ensures.me
+    (c.in-Ok.ensures.ask ∙ ap (λ (l : List Command). asked_by l mind me) its) new
+    c.act-acted.result c.act-acted.ensures.came given c.learn.new.self
+    (c.in-Ok.ensures.ok ∙ ap (λ (l : List Command). handed l mind me) its) refl
+    (subst (λ (l : List Command). Learns l given c.act-acted.result c.learn.new.self) its
+    c.learn.ensures.learns)
+
+pub returns-clause-full : goal.returns-clause-full
+returns-clause-full c is =
+    subst (λ (r : Result Turn StopCause). IsErr r)
+    (sym (c.learn.ensures.came ∙ ap turn_by (c.act-acted.ensures.full is))) refl
+
+pub returns-clause-full_only : goal.returns-clause-full_only
+returns-clause-full_only c =
+    let mind = c.args.player.now.mind in
+    let me = c.args.player.now.me in
+    let old = c.args.fabric.now in
+    let new = c.act-acted.new.fabric in
+    let its = c.actor_of-commands.ensures.commands in
+    subst (λ (r : Result Turn StopCause).
+    IfErr r (λ cause. cause ≡ JournalFull → is_full new.log.steps ≡ true))
+    (sym c.learn.ensures.came)
+    (turn-full c.args.script.now c.actor_of-commands.ensures.script old c.requires.shape
+    c.requires.names c.args.actor c.requires.above c.requires.within mind me c.requires.playing
+    c.in-Ok.ask (c.in-Ok.ensures.ask ∙ ap (λ (l : List Command). asked_by l mind me) its) new
+    c.act-acted.result c.act-acted.ensures.came)

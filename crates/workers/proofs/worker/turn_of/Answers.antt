@@ -3,8 +3,9 @@ use Rattle.script_words.specs.declared.command.Command.{Command}
 use Rattle.actor_run.specs.Asking.{asked_by, handed}
 use Rattle.actor_run.specs.Knowing.{Knows}
 use Rattle.stage.specs.declared.player.Player.{Player}
+use Rattle.stage.specs.Seats.{Learns}
 use Rattle.stage.specs.Turns.{commands_of}
-use Rattle.workers.specs.Turning.{Learns}
+use Rattle.workers.specs.Turning.{stop_met}
 use Rattle.workers.proofs.Planning.{one-state}
 use Rattle.workers.proofs.Playing.{acted-full, acted-knows, acted-runs, seat-within}
 use Rattle.workers.proofs.worker.turn_of.Goals as goal
@@ -26,8 +27,8 @@ act_in_turn-pass-requires-clause-asks g c =
       is = c.in-Ok.ensures.ask ∙ ap (λ (l : List Command). asked_by l mind me) its;
     }
 
-pub learn-turned-requires-clause-place : goal.learn-turned-requires-clause-place
-learn-turned-requires-clause-place g c =
+pub learn-came-requires-clause-place : goal.learn-came-requires-clause-place
+learn-came-requires-clause-place g c =
     let mind = c.args.player.now.mind in
     let me = c.args.player.now.me in
     let its = c.actor_of-commands.ensures.commands
@@ -56,19 +57,20 @@ returns-clause-working g c =
       running = c.requires.running;
       is = c.in-Ok.ensures.ask ∙ ap (λ (l : List Command). asked_by l mind me) its;
     })
-    turn.acted turn.ended c.act_in_turn-pass.ensures given c.learn-turned.new.player
+    turn.acted turn.ended c.act_in_turn-pass.ensures given c.learn-came.new.self
     (c.in-Ok.ensures.ok ∙ ap (λ (l : List Command). handed l mind me) its) refl
-    (subst (λ (l : List Command). Learns l given turn.acted c.learn-turned.new.player) its
-    c.learn-turned.ensures.learns)
+    (subst (λ (l : List Command). Learns l given turn.acted c.learn-came.new.self) its
+    c.learn-came.ensures.learns)
 
 pub returns-clause-running : goal.returns-clause-running
 returns-clause-running g c goes =
     let turn = c.act_in_turn-pass.result.1 in
     acted-runs c.args.pass c.act_in_turn-pass.result.0 c.in-Ok.ask turn.acted turn.ended
-    c.act_in_turn-pass.ensures (c.learn-turned.ensures.goes goes)
+    c.act_in_turn-pass.ensures (c.turned_by.ensures.goes goes)
 
 pub returns-clause-full : goal.returns-clause-full
 returns-clause-full g c met =
     let turn = c.act_in_turn-pass.result.1 in
     acted-full c.args.pass c.act_in_turn-pass.result.0 c.in-Ok.ask turn.acted turn.ended
-    c.act_in_turn-pass.ensures (sym c.learn-turned.ensures.stop ∙ met)
+    c.act_in_turn-pass.ensures
+    (sym (c.turned_by.ensures.stop ∙ ap stop_met c.learn-came.ensures.came) ∙ met)
