@@ -15,7 +15,7 @@ use std::marker::Model;
 /// the lists of the packets as they were when the event began, and as they are now, place 0 the
 /// oldest.
 #[derive(Drop)]
-pub struct Flight {
+pub(crate) struct Flight {
     wire: Wire<PacketBytes>,
 }
 
@@ -34,7 +34,7 @@ impl Model for Flight {
 
 impl Flight {
     /// Nothing is in flight. It takes no memory.
-    pub fn new(alloc: Global) -> Flight
+    pub(crate) fn new(alloc: Global) -> Flight
         ensures { result ≡ still [] }
     {
         Flight {
@@ -43,7 +43,7 @@ impl Flight {
     }
 
     /// A packet goes behind the others. A refusal frees it and changes nothing.
-    pub fn put(&mut self, bytes: PacketBytes) -> Result<(), NoMemory>
+    pub(crate) fn put(&mut self, bytes: PacketBytes) -> Result<(), NoMemory>
         requires { IsSpelled bytes }
         ensures is { OnOk result (self.new.is ≡ self.old.is ++ packet_at bytes ∷ []) }
         ensures was { self.new.was ≡ self.old.was }
@@ -56,20 +56,20 @@ impl Flight {
     }
 
     /// How many packets are in flight.
-    pub fn len(&self) -> usize
+    pub(crate) fn len(&self) -> usize
         ensures { result ≡ length self.now.is }
     {
         self.wire.len()
     }
 
-    pub fn is_empty(&self) -> bool
+    pub(crate) fn is_empty(&self) -> bool
         ensures { result ≡ (length self.now.is == 0) }
     {
         self.wire.is_empty()
     }
 
     /// The bytes of the packet at place k.
-    pub fn at(&self, k: usize) -> &PacketBytes
+    pub(crate) fn at(&self, k: usize) -> &PacketBytes
         requires { k < length self.now.is }
         ensures packet { slice_get self.now.is k ≡ Some (packet_at result.now) }
         ensures spelled { IsSpelled result.now }
@@ -79,7 +79,7 @@ impl Flight {
 
     /// Takes the packet at place k out of flight, in an event that has lost or exchanged none yet.
     /// It takes no memory.
-    pub fn lose(&mut self, k: usize)
+    pub(crate) fn lose(&mut self, k: usize)
         requires within { k < length self.old.is }
         requires grown { HasOnlyGrown self.old }
         ensures is { self.new.is ≡ remove self.old.is k }
@@ -90,7 +90,7 @@ impl Flight {
 
     /// Exchanges the packets at places k and n, in an event that has lost or exchanged none yet. It
     /// takes no memory.
-    pub fn swap(&mut self, k: usize, n: usize)
+    pub(crate) fn swap(&mut self, k: usize, n: usize)
         requires first { k < length self.old.is }
         requires second { n < length self.old.is }
         requires grown { HasOnlyGrown self.old }
@@ -101,14 +101,14 @@ impl Flight {
     }
 
     /// What is now stays. It takes no memory.
-    pub fn keep(&mut self)
+    pub(crate) fn keep(&mut self)
         ensures { self.new ≡ still self.old.is }
     {
         self.wire.keep();
     }
 
     /// What was is again. It takes no memory.
-    pub fn undo(&mut self)
+    pub(crate) fn undo(&mut self)
         ensures { self.new ≡ still self.old.was }
     {
         self.wire.undo();

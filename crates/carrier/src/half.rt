@@ -27,7 +27,7 @@ use std::marker::Model;
 /// were taken, oldest first. Contracts see the side as it was when the event began, and as it is
 /// now.
 #[derive(Drop)]
-pub struct Half {
+pub(crate) struct Half {
     end: End,
     notes: UndoList<Note>,
     /// Whether anything was done to the side since the event began.
@@ -76,7 +76,7 @@ fn went_up(session: Session, peer: Option<Session>) -> Handed
 
 impl Half {
     /// A side in the first session of boot 1. It takes no memory.
-    pub fn new(alloc: Global, window: u32, piece: u32) -> Half
+    pub(crate) fn new(alloc: Global, window: u32, piece: u32) -> Half
         requires { IsPiece piece }
         ensures { result ≡ still (new_half window piece) }
     {
@@ -89,7 +89,11 @@ impl Half {
 
     /// A packet comes. It is recorded what becomes of the session, and a message that is handed up;
     /// what the end sends goes into flight.
-    pub fn receive(&mut self, bytes: &PacketBytes, out: &mut Flight) -> Result<Handed, NoMemory>
+    pub(crate) fn receive(
+        &mut self,
+        bytes: &PacketBytes,
+        out: &mut Flight,
+    ) -> Result<Handed, NoMemory>
         requires spelled { IsSpelled bytes.now }
         requires counted { HasNext self.old.is.end.talk.mine }
         ensures half { let r = input_of self.old.is.end (packet_at bytes.now) in
@@ -123,7 +127,7 @@ impl Half {
     }
 
     /// A tick comes. It is recorded where it ends the session; what the end sends goes into flight.
-    pub fn tick(&mut self, out: &mut Flight) -> Result<TickedSide, NoMemory>
+    pub(crate) fn tick(&mut self, out: &mut Flight) -> Result<TickedSide, NoMemory>
         requires counted { HasNext self.old.is.end.talk.mine }
         ensures half { let r = tick_of self.old.is.end in
             OnOk result (self.new.is ≡ recorded_tick self.old.is (drained r.state) r.answer) }
@@ -149,7 +153,7 @@ impl Half {
     }
 
     /// A message is offered and recorded; what the end sends goes into flight.
-    pub fn offer(&mut self, message: &Message, out: &mut Flight) -> Result<(), NoMemory>
+    pub(crate) fn offer(&mut self, message: &Message, out: &mut Flight) -> Result<(), NoMemory>
         requires message { IsMessage message.now }
         requires left { 1024 ≤ left_of self.old.is.end.tx }
         ensures half { let s = offer_of self.old.is.end message.now in
@@ -167,7 +171,7 @@ impl Half {
     }
 
     /// The side boots again, with a later boot number; the session that thereby ends is recorded.
-    pub fn restart(&mut self, boot: u32) -> Result<(), NoMemory>
+    pub(crate) fn restart(&mut self, boot: u32) -> Result<(), NoMemory>
         requires { boot_of self.old.is.end.talk.mine < boot }
         ensures half { OnOk result
             (self.new.is ≡ with_next self.old.is (restart_of self.old.is.end boot)) }
@@ -182,21 +186,21 @@ impl Half {
     }
 
     /// The session of this side.
-    pub fn mine(&self) -> Session
+    pub(crate) fn mine(&self) -> Session
         ensures { result ≡ self.now.is.end.talk.mine }
     {
         self.end.mine()
     }
 
     /// The session of its peer, `None` exactly while connecting.
-    pub fn peer(&self) -> Option<Session>
+    pub(crate) fn peer(&self) -> Option<Session>
         ensures { result ≡ peer_of self.now.is.end }
     {
         self.end.peer()
     }
 
     /// How many numbers are left to give to frames.
-    pub fn frames_left(&self) -> u32
+    pub(crate) fn frames_left(&self) -> u32
         ensures { result ≡ left_of self.now.is.end.tx }
     {
         self.end.frames_left()
@@ -204,14 +208,14 @@ impl Half {
 
     /// Whether the end is connecting, or up and not confirmed, or has a frame that isn't
     /// acknowledged.
-    pub fn has_work(&self) -> bool
+    pub(crate) fn has_work(&self) -> bool
         ensures { result ≡ has_work_in self.now.is.end }
     {
         self.end.has_work()
     }
 
     /// What is now stays. It takes no memory.
-    pub fn keep(&mut self)
+    pub(crate) fn keep(&mut self)
         ensures { self.new ≡ still self.old.is }
     {
         if !self.touched {
@@ -223,7 +227,7 @@ impl Half {
     }
 
     /// What was is again. It takes no memory.
-    pub fn undo(&mut self)
+    pub(crate) fn undo(&mut self)
         ensures { self.new ≡ still self.old.was }
     {
         if !self.touched {

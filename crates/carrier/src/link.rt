@@ -27,7 +27,7 @@ use std::marker::Model;
 /// Both sides of a link and what is in flight between them, with a way back. Contracts see the link
 /// as it was when the event began, and as it is now.
 #[derive(Drop)]
-pub struct Link {
+pub(crate) struct Link {
     first: Half,
     second: Half,
     there: Flight,
@@ -100,7 +100,7 @@ fn come(
 
 impl Link {
     /// A link before anything happened. It takes no memory.
-    pub fn new(alloc: Global, window: u32, piece: u32) -> Link
+    pub(crate) fn new(alloc: Global, window: u32, piece: u32) -> Link
         requires { IsPiece piece }
         ensures { result ≡ still (new_link window piece) }
     {
@@ -139,7 +139,7 @@ impl Link {
     }
 
     /// The packet at place k from a side comes to the other one.
-    pub fn deliver(&mut self, from: Side, k: usize, keep: bool) -> Result<Handed, NoMemory>
+    pub(crate) fn deliver(&mut self, from: Side, k: usize, keep: bool) -> Result<Handed, NoMemory>
         requires within { k < length (flight_from from self.old.is) }
         requires grown { HasOnlyGrownFrom from self.old }
         requires counted { HasNextAt (other_of from) self.old.is }
@@ -154,7 +154,7 @@ impl Link {
     }
 
     /// A side is ticked.
-    pub fn tick(&mut self, side: Side) -> Result<TickedSide, NoMemory>
+    pub(crate) fn tick(&mut self, side: Side) -> Result<TickedSide, NoMemory>
         requires counted { HasNextAt side self.old.is }
         ensures is { OnOk result (self.new.is ≡ ticked_at side self.old.is) }
         ensures was { self.new.was ≡ self.old.was }
@@ -173,7 +173,7 @@ impl Link {
     }
 
     /// A message is offered to a side.
-    pub fn offer(&mut self, side: Side, message: &Message) -> Result<(), NoMemory>
+    pub(crate) fn offer(&mut self, side: Side, message: &Message) -> Result<(), NoMemory>
         requires message { IsMessage message.now }
         requires left { 1024 ≤ left_of (half_of side self.old.is).end.tx }
         ensures is { OnOk result (self.new.is ≡ offered_to side message.now self.old.is) }
@@ -192,7 +192,7 @@ impl Link {
     }
 
     /// A side boots again, with a later boot number.
-    pub fn restart(&mut self, side: Side, boot: u32) -> Result<(), NoMemory>
+    pub(crate) fn restart(&mut self, side: Side, boot: u32) -> Result<(), NoMemory>
         requires { boot_of (half_of side self.old.is).end.talk.mine < boot }
         ensures is { OnOk result (self.new.is ≡ restarted_at side boot self.old.is) }
         ensures was { self.new.was ≡ self.old.was }
@@ -210,7 +210,7 @@ impl Link {
     }
 
     /// The packet at place k from a side is lost.
-    pub fn lose(&mut self, from: Side, k: usize)
+    pub(crate) fn lose(&mut self, from: Side, k: usize)
         requires within { k < length (flight_from from self.old.is) }
         requires grown { HasOnlyGrownFrom from self.old }
         ensures is { self.new.is ≡ lost_from from k self.old.is }
@@ -223,7 +223,7 @@ impl Link {
     }
 
     /// The packets at places k and n from a side are exchanged.
-    pub fn swap(&mut self, from: Side, k: usize, n: usize)
+    pub(crate) fn swap(&mut self, from: Side, k: usize, n: usize)
         requires first { k < length (flight_from from self.old.is) }
         requires second { n < length (flight_from from self.old.is) }
         requires grown { HasOnlyGrownFrom from self.old }
@@ -237,7 +237,7 @@ impl Link {
     }
 
     /// How many packets from a side are in flight.
-    pub fn in_flight(&self, from: Side) -> usize
+    pub(crate) fn in_flight(&self, from: Side) -> usize
         ensures { result ≡ length (flight_from from self.now.is) }
     {
         match from {
@@ -257,28 +257,28 @@ impl Link {
     }
 
     /// The session of a side.
-    pub fn mine(&self, side: Side) -> Session
+    pub(crate) fn mine(&self, side: Side) -> Session
         ensures { result ≡ (half_of side self.now.is).end.talk.mine }
     {
         self.half(side).mine()
     }
 
     /// The session of a side's peer, `None` exactly while it is connecting.
-    pub fn peer(&self, side: Side) -> Option<Session>
+    pub(crate) fn peer(&self, side: Side) -> Option<Session>
         ensures { result ≡ peer_of (half_of side self.now.is).end }
     {
         self.half(side).peer()
     }
 
     /// How many numbers a side has left to give to frames.
-    pub fn frames_left(&self, side: Side) -> u32
+    pub(crate) fn frames_left(&self, side: Side) -> u32
         ensures { result ≡ left_of (half_of side self.now.is).end.tx }
     {
         self.half(side).frames_left()
     }
 
     /// Whether nothing is in flight, and neither end has work.
-    pub fn is_quiet(&self) -> bool
+    pub(crate) fn is_quiet(&self) -> bool
         ensures { result ≡ is_quiet self.now.is }
     {
         let still = self.there.is_empty() && self.back.is_empty();
@@ -286,7 +286,7 @@ impl Link {
     }
 
     /// What is now stays. It takes no memory.
-    pub fn keep(&mut self)
+    pub(crate) fn keep(&mut self)
         ensures { self.new ≡ still self.old.is }
     {
         self.first.keep();
@@ -296,7 +296,7 @@ impl Link {
     }
 
     /// What was is again. It takes no memory.
-    pub fn undo(&mut self)
+    pub(crate) fn undo(&mut self)
         ensures { self.new ≡ still self.old.was }
     {
         self.first.undo();

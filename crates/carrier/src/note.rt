@@ -2,7 +2,7 @@ use linx_base::{Message, Session};
 
 /// What is recorded of a side.
 #[derive(Drop)]
-pub enum Note {
+pub(crate) enum Note {
     /// A message was offered.
     Offered(Message),
     /// A message was handed up.

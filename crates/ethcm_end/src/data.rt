@@ -129,7 +129,7 @@ fn take_frame(parts: &mut Parts, peer: Session, seq: u32, frame: Frame) -> Resul
 
 /// The data rules, for an end that is up and heard its peer.
 #[tactic(auto, unfolding(crate::specs::Rules::data_in))]
-pub fn take_part(parts: &mut Parts, peer: Session, part: Part) -> Result<Input, NoMemory>
+pub(crate) fn take_part(parts: &mut Parts, peer: Session, part: Part) -> Result<Input, NoMemory>
     requires up { IsSome (peer_of parts.old.is) }
     requires counted { HasNext parts.old.is.talk.mine }
     requires within { IsPart part }

@@ -42,7 +42,7 @@ fn go_up(parts: &mut Parts, src: Session, reply: bool) -> Result<(), NoMemory>
 
 /// A packet comes.
 #[tactic(auto, unfolding(crate::specs::Rules::input_of))]
-pub fn take_packet(parts: &mut Parts, packet: Packet) -> Result<Input, NoMemory>
+pub(crate) fn take_packet(parts: &mut Parts, packet: Packet) -> Result<Input, NoMemory>
     requires counted { HasNext parts.old.is.talk.mine }
     requires within { IsPart packet.part }
     ensures reaction { let reaction = input_of parts.old.is packet in
@@ -92,7 +92,7 @@ fn put_again(parts: &mut Parts, peer: Session) -> Result<(), NoMemory>
 
 /// A tick comes.
 #[tactic(auto, unfolding(crate::specs::Rules::tick_of))]
-pub fn take_tick(parts: &mut Parts) -> Result<Ticked, NoMemory>
+pub(crate) fn take_tick(parts: &mut Parts) -> Result<Ticked, NoMemory>
     requires { HasNext parts.old.is.talk.mine }
     ensures reaction { IfOk result (λ ticked. gives parts.new.is ticked ≡ tick_of parts.old.is) }
     ensures was { parts.new.was ≡ parts.old.was }
@@ -117,7 +117,7 @@ pub fn take_tick(parts: &mut Parts) -> Result<Ticked, NoMemory>
 
 /// A message is offered; while connecting that does nothing.
 #[tactic(auto, unfolding(crate::specs::Rules::offer_of))]
-pub fn take_offer(parts: &mut Parts, message: &Message) -> Result<(), NoMemory>
+pub(crate) fn take_offer(parts: &mut Parts, message: &Message) -> Result<(), NoMemory>
     requires message { IsMessage message.now }
     requires left { 1024 ≤ left_of parts.old.is.tx }
     ensures is { OnOk result (parts.new.is ≡ offer_of parts.old.is message.now) }

@@ -20,7 +20,7 @@ use std::marker::Model;
 /// The parts of an end, each with a way back. Contracts see the state of the end as it was when an
 /// event began and as it is now.
 #[derive(Drop)]
-pub struct Parts {
+pub(crate) struct Parts {
     pub(crate) alloc: Global,
     pub(crate) talk: Talk,
     pub(crate) tx: Tx,
@@ -71,7 +71,7 @@ impl Parts {
     ghost use Rattle.ethcm_end.specs.Sound.{IsPiece};
 
     /// The parts of an end in the first session of a boot. It takes no memory.
-    pub fn new(alloc: Global, boot: u32, window: u32, piece: u32) -> Parts
+    pub(crate) fn new(alloc: Global, boot: u32, window: u32, piece: u32) -> Parts
         requires boot { 1 ≤ boot }
         requires piece { IsPiece piece }
         ensures { result ≡ still (new_end boot window piece) }
@@ -91,7 +91,7 @@ impl Parts {
     }
 
     /// The size of the pieces.
-    pub fn piece(&self) -> u32
+    pub(crate) fn piece(&self) -> u32
         ensures piece { result ≡ self.now.is.piece }
         ensures bounds { IsPiece self.now.is.piece }
     {
@@ -99,7 +99,7 @@ impl Parts {
     }
 
     /// The session of the peer, `None` exactly while connecting.
-    pub fn peer(&self) -> Option<Session>
+    pub(crate) fn peer(&self) -> Option<Session>
         ensures { result ≡ peer_of self.now.is }
     {
         self.talk.peer()
@@ -117,7 +117,7 @@ impl Parts {
     }
 
     /// A packet goes out behind the others.
-    pub fn put(&mut self, dst: Session, part: Part) -> Result<(), NoMemory>
+    pub(crate) fn put(&mut self, dst: Session, part: Part) -> Result<(), NoMemory>
         ensures is { OnOk result (self.new.is ≡ put self.old.is dst part) }
         ensures was { self.new.was ≡ self.old.was }
     {
@@ -127,7 +127,7 @@ impl Parts {
     }
 
     /// A packet of this kind is replied.
-    pub fn reply(&mut self, src: Session, kind: ConnKind) -> Result<(), NoMemory>
+    pub(crate) fn reply(&mut self, src: Session, kind: ConnKind) -> Result<(), NoMemory>
         ensures is { OnOk result (self.new.is ≡ replied self.old.is src kind) }
         ensures was { self.new.was ≡ self.old.was }
     {
@@ -135,7 +135,7 @@ impl Parts {
     }
 
     /// All that was taken is acknowledged.
-    pub fn put_ack(&mut self, peer: Session) -> Result<(), NoMemory>
+    pub(crate) fn put_ack(&mut self, peer: Session) -> Result<(), NoMemory>
         ensures is { OnOk result (self.new.is ≡ put_ack self.old.is peer) }
         ensures was { self.new.was ≡ self.old.was }
     {
@@ -144,7 +144,7 @@ impl Parts {
     }
 
     /// These frames go out behind the others, each as a piece.
-    pub fn put_pieces(&mut self, dst: Session, sent: SentFrames) -> Result<(), NoMemory>
+    pub(crate) fn put_pieces(&mut self, dst: Session, sent: SentFrames) -> Result<(), NoMemory>
         ensures is { OnOk result (self.new.is ≡ put_pieces self.old.is dst sent) }
         ensures was { self.new.was ≡ self.old.was }
     {
@@ -162,7 +162,7 @@ impl Parts {
 
     /// Takes out the next packet, as its bytes; `None` exactly where there is none. A refusal
     /// changes nothing.
-    pub fn out(&mut self) -> Result<Option<PacketBytes>, NoMemory>
+    pub(crate) fn out(&mut self) -> Result<Option<PacketBytes>, NoMemory>
         requires { All IsPacket self.old.is.out }
         ensures bytes { IfOk result (λ bytes. bytes ≡ next_bytes self.old.is) }
         ensures is { OnOk result (self.new.is ≡ after_out self.old.is) }
@@ -178,7 +178,7 @@ impl Parts {
     }
 
     /// The peer was heard: the watch begins anew.
-    pub fn hear(&mut self)
+    pub(crate) fn hear(&mut self)
         ensures is { self.new.is ≡ heard self.old.is }
         ensures was { self.new.was ≡ self.old.was }
     {
@@ -186,7 +186,7 @@ impl Parts {
     }
 
     /// The watch, the window and the joiner begin anew. It takes no memory.
-    pub fn begin(&mut self)
+    pub(crate) fn begin(&mut self)
         ensures is { self.new.is ≡ anew self.old.is }
         ensures was { self.new.was ≡ self.old.was }
     {
@@ -198,7 +198,7 @@ impl Parts {
     }
 
     /// The end goes down: the next session is connecting. It takes no memory.
-    pub fn go_down(&mut self)
+    pub(crate) fn go_down(&mut self)
         requires up { IsSome (peer_of self.old.is) }
         requires counted { HasNext self.old.is.talk.mine }
         ensures is { self.new.is ≡ gone_down self.old.is }
@@ -209,7 +209,7 @@ impl Parts {
     }
 
     /// The node boots again, with a later boot number. It takes no memory.
-    pub fn restart(&mut self, boot: u32)
+    pub(crate) fn restart(&mut self, boot: u32)
         requires { boot_of self.old.is.talk.mine < boot }
         ensures is { self.new.is ≡ restart_of self.old.is boot }
         ensures was { self.new.was ≡ self.old.was }
@@ -220,7 +220,7 @@ impl Parts {
     }
 
     /// What is now stays. It takes no memory.
-    pub fn keep(&mut self)
+    pub(crate) fn keep(&mut self)
         ensures { self.new ≡ still self.old.is }
     {
         self.talk.keep();
@@ -233,7 +233,7 @@ impl Parts {
     }
 
     /// What was is again. It takes no memory.
-    pub fn undo(&mut self)
+    pub(crate) fn undo(&mut self)
         ensures { self.new ≡ still self.old.was }
     {
         self.talk.undo();

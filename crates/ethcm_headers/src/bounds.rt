@@ -77,7 +77,7 @@ fn are_sessions(headers: &Headers) -> bool
 
 /// Whether these headers and this payload keep the bounds of a packet, with no payload behind a
 /// packet that is no piece.
-pub fn is_packet(headers: &Headers, payload: &[u8]) -> bool
+pub(crate) fn is_packet(headers: &Headers, payload: &[u8]) -> bool
     ensures { IsTrue result ↔ (IsWithinBounds (packet_with headers.now payload.now)
         × StandsBehind payload.now headers.now.chain) }
 {

@@ -7,7 +7,7 @@ const HEADERS_MOST: usize = 48;
 
 /// The bytes of some headers, one after the other.
 #[derive(Drop)]
-pub struct HeaderBytes {
+pub(crate) struct HeaderBytes {
     bytes: [u8; HEADERS_MOST],
     len: usize,
 }
@@ -23,7 +23,7 @@ impl Model for HeaderBytes {
 }
 
 impl HeaderBytes {
-    pub fn new() -> HeaderBytes
+    pub(crate) fn new() -> HeaderBytes
         ensures { result ≡ [] }
     {
         HeaderBytes {
@@ -33,7 +33,7 @@ impl HeaderBytes {
     }
 
     /// The bytes of two headers.
-    pub fn pair(first: &[u8], second: &[u8]) -> HeaderBytes
+    pub(crate) fn pair(first: &[u8], second: &[u8]) -> HeaderBytes
         requires { length first.now + length second.now ≤ 48 }
         ensures { result ≡ first.now ++ second.now }
     {
@@ -44,7 +44,7 @@ impl HeaderBytes {
     }
 
     /// The bytes of three headers.
-    pub fn triple(first: &[u8], second: &[u8], third: &[u8]) -> HeaderBytes
+    pub(crate) fn triple(first: &[u8], second: &[u8], third: &[u8]) -> HeaderBytes
         requires { length first.now + length second.now + length third.now ≤ 48 }
         ensures { result ≡ (first.now ++ second.now) ++ third.now }
     {
@@ -56,7 +56,7 @@ impl HeaderBytes {
     }
 
     /// Some headers come behind these.
-    pub fn push(&mut self, header: &[u8])
+    pub(crate) fn push(&mut self, header: &[u8])
         requires { length self.old + length header.now ≤ 48 }
         ensures { self.new ≡ self.old ++ header.now }
     {
@@ -66,7 +66,7 @@ impl HeaderBytes {
         self.len = end;
     }
 
-    pub fn as_slice(&self) -> &[u8]
+    pub(crate) fn as_slice(&self) -> &[u8]
         ensures { result.now ≡ self.now }
     {
         &self.bytes[..self.len]

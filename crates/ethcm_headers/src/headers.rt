@@ -6,23 +6,23 @@ use byteorder::{BigEndian, ByteOrder};
 use linx_base::ConnKind;
 
 /// The types of headers, as the header before names them.
-pub const NONE: u8 = 0;
+pub(crate) const NONE: u8 = 0;
 
-pub const CONN: u8 = 2;
+pub(crate) const CONN: u8 = 2;
 
-pub const UDATA: u8 = 3;
+pub(crate) const UDATA: u8 = 3;
 
-pub const FRAG: u8 = 4;
+pub(crate) const FRAG: u8 = 4;
 
-pub const ACK: u8 = 5;
+pub(crate) const ACK: u8 = 5;
 
-pub const NACK: u8 = 6;
+pub(crate) const NACK: u8 = 6;
 
 /// The version of the packets.
 const VERSION: u8 = 2;
 
 #[tactic(auto, unfolding(crate::specs::Headers::main_header))]
-pub fn main_header(next: u8, length: u16, src: u64, dst: u64) -> [u8; 20]
+pub(crate) fn main_header(next: u8, length: u16, src: u64, dst: u64) -> [u8; 20]
     ensures { result ≡ main_header next length src dst }
 {
     let mut bytes = [0; 20];
@@ -46,14 +46,14 @@ fn kind_number(kind: ConnKind) -> u8
 }
 
 #[tactic(auto, unfolding(crate::specs::Headers::conn_header))]
-pub fn conn_header(kind: ConnKind) -> [u8; 4]
+pub(crate) fn conn_header(kind: ConnKind) -> [u8; 4]
     ensures { result ≡ conn_header kind }
 {
     [NONE, kind_number(kind), 0, 0]
 }
 
 #[tactic(auto, unfolding(crate::specs::Headers::ack_header))]
-pub fn ack_header(following: u8, next: u32) -> [u8; 8]
+pub(crate) fn ack_header(following: u8, next: u32) -> [u8; 8]
     ensures { result ≡ ack_header following next }
 {
     let mut bytes = [0; 8];
@@ -63,7 +63,7 @@ pub fn ack_header(following: u8, next: u32) -> [u8; 8]
 }
 
 #[tactic(auto, unfolding(crate::specs::Headers::nack_header))]
-pub fn nack_header(next: u32, count: u16) -> [u8; 8]
+pub(crate) fn nack_header(next: u32, count: u16) -> [u8; 8]
     ensures { result ≡ nack_header next count }
 {
     let mut bytes = [0; 8];
@@ -73,7 +73,7 @@ pub fn nack_header(next: u32, count: u16) -> [u8; 8]
 }
 
 #[tactic(auto, unfolding(crate::specs::Headers::udata_header))]
-pub fn udata_header(more: bool, seq: u32, from: u32, to: u32, size: u32) -> [u8; 20]
+pub(crate) fn udata_header(more: bool, seq: u32, from: u32, to: u32, size: u32) -> [u8; 20]
     ensures { result ≡ udata_header more seq from to size }
 {
     let mut bytes = [0; 20];
@@ -86,7 +86,7 @@ pub fn udata_header(more: bool, seq: u32, from: u32, to: u32, size: u32) -> [u8;
 }
 
 #[tactic(auto, unfolding(crate::specs::Headers::frag_header))]
-pub fn frag_header(more: bool, seq: u32) -> [u8; 8]
+pub(crate) fn frag_header(more: bool, seq: u32) -> [u8; 8]
     ensures { result ≡ frag_header more seq }
 {
     let mut bytes = [0; 8];

@@ -29,7 +29,7 @@ impl Model for PacketBytes {
 }
 
 /// The bytes of a payload, where there is one.
-pub fn bytes_in(payload: &Option<Blob>) -> &[u8]
+pub(crate) fn bytes_in(payload: &Option<Blob>) -> &[u8]
     ensures { result.now ≡ bytes_in payload.now }
 {
     match payload {

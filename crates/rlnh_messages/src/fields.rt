@@ -7,7 +7,7 @@ ghost use Rattle.rlnh_messages.specs.Messages.{typed, IsAddress};
 use byteorder::{BigEndian, ByteOrder};
 
 /// The type of a message, and what stands behind it and the three zeros.
-pub fn type_in(bytes: &[u8]) -> Option<(u8, &[u8])>
+pub(crate) fn type_in(bytes: &[u8]) -> Option<(u8, &[u8])>
     ensures found { IfSome result (λ field. bytes.now ≡ typed field.0 field.1.now) }
     ensures none { IfNone result ((type : ℕ) (rest : List ℕ) → ¬ (bytes.now ≡ typed type rest)) }
 {
@@ -18,7 +18,7 @@ pub fn type_in(bytes: &[u8]) -> Option<(u8, &[u8])>
 }
 
 /// A number of four bytes, and what stands behind it.
-pub fn u32_in(bytes: &[u8]) -> Option<(u32, &[u8])>
+pub(crate) fn u32_in(bytes: &[u8]) -> Option<(u32, &[u8])>
     ensures found { IfSome result
         (λ field. (field.0 < 2 ^ 32) × (bytes.now ≡ big_bytes 4 field.0 ++ field.1.now)) }
     ensures none { IfNone result (length bytes.now < 4) }
@@ -30,7 +30,7 @@ pub fn u32_in(bytes: &[u8]) -> Option<(u32, &[u8])>
 }
 
 /// A number of eight bytes, and what stands behind it.
-pub fn u64_in(bytes: &[u8]) -> Option<(u64, &[u8])>
+pub(crate) fn u64_in(bytes: &[u8]) -> Option<(u64, &[u8])>
     ensures found { IfSome result
         (λ field. (field.0 < 2 ^ 64) × (bytes.now ≡ big_bytes 8 field.0 ++ field.1.now)) }
     ensures none { IfNone result (length bytes.now < 8) }
@@ -42,7 +42,7 @@ pub fn u64_in(bytes: &[u8]) -> Option<(u64, &[u8])>
 }
 
 /// An address, which isn't 0, and what stands behind it.
-pub fn address_in(bytes: &[u8]) -> Option<(u32, &[u8])>
+pub(crate) fn address_in(bytes: &[u8]) -> Option<(u32, &[u8])>
     ensures found { IfSome result
         (λ field. IsAddress field.0 × (bytes.now ≡ big_bytes 4 field.0 ++ field.1.now)) }
     ensures none { IfNone result

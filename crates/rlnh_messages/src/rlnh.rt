@@ -1,17 +1,17 @@
 use linx_base::{Inc, Name};
 
 /// The types of messages, each a message's first byte.
-pub const INIT: u8 = 1;
+pub(crate) const INIT: u8 = 1;
 
-pub const INIT_REPLY: u8 = 2;
+pub(crate) const INIT_REPLY: u8 = 2;
 
-pub const QUERY_NAME: u8 = 3;
+pub(crate) const QUERY_NAME: u8 = 3;
 
-pub const PUBLISH: u8 = 4;
+pub(crate) const PUBLISH: u8 = 4;
 
-pub const UNPUBLISH: u8 = 5;
+pub(crate) const UNPUBLISH: u8 = 5;
 
-pub const UNPUBLISH_ACK: u8 = 6;
+pub(crate) const UNPUBLISH_ACK: u8 = 6;
 
 /// What one node of a link says to the other about endpoints. Addresses are the sender's link
 /// addresses, and never 0.
