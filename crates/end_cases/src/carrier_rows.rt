@@ -2,29 +2,14 @@
 //! undone then.
 
 use crate::carrier_events::{deliver, lose, new_link, offer, restart, swap, tick};
-use crate::exchange::{Exchanges, follows, front, session_text, text_of};
 use carrier::{Carrier, Handed, TickedSide};
-use linx_base::{Blob, Message, Session, Side};
+use case_words::{
+    follow_sections, front, number_text, session_or_none, session_text, side_of, text_of,
+    went_down_text, went_up_text, yes_text,
+};
+use linx_base::{Blob, Message, Side};
 use std::alloc::Global;
 use std::test::Fail;
-
-fn side_of(word: &str) -> Result<Side, Fail> {
-    match word {
-        "F" => Ok(Side::First),
-        "T" => Ok(Side::Second),
-        _ => Err(Fail::from("no side")),
-    }
-}
-
-fn up_text(alloc: Global, session: Session, peer: Session) -> Result<String, Fail> {
-    let (mine, other) = (session_text(alloc, session)?, session_text(alloc, peer)?);
-    Ok(format!(in alloc; "up {mine} {other}")?)
-}
-
-fn down_text(alloc: Global, session: Session) -> Result<String, Fail> {
-    let mine = session_text(alloc, session)?;
-    Ok(format!(in alloc; "down {mine}")?)
-}
 
 fn got_text(alloc: Global, message: &Message) -> Result<String, Fail> {
     Ok(format!(in alloc; "got {}", message.body.len())?)
@@ -33,8 +18,8 @@ fn got_text(alloc: Global, message: &Message) -> Result<String, Fail> {
 fn handed_text(alloc: Global, handed: &Handed) -> Result<String, Fail> {
     match handed {
         Handed::Nothing => text_of(alloc, "nothing"),
-        Handed::WentUp { session, peer } => up_text(alloc, *session, *peer),
-        Handed::WentDown { session } => down_text(alloc, *session),
+        Handed::WentUp { session, peer } => went_up_text(alloc, *session, *peer),
+        Handed::WentDown { session } => went_down_text(alloc, *session),
         Handed::Got(message) => got_text(alloc, message),
     }
 }
@@ -54,7 +39,7 @@ fn deliver_text(
 fn ticked_text(alloc: Global, ticked: TickedSide) -> Result<String, Fail> {
     match ticked {
         TickedSide::Stays => text_of(alloc, "stays"),
-        TickedSide::WentDown { session } => down_text(alloc, session),
+        TickedSide::WentDown { session } => went_down_text(alloc, session),
     }
 }
 
@@ -98,29 +83,18 @@ fn restart_text(alloc: Global, c: &mut Carrier, side: Side, boot: &str) -> Resul
     text_of(alloc, "done")
 }
 
-fn peer_text(alloc: Global, peer: Option<Session>) -> Result<String, Fail> {
-    match peer {
-        None => text_of(alloc, "none"),
-        Some(peer) => session_text(alloc, peer),
-    }
-}
-
-fn count_text(alloc: Global, count: usize) -> Result<String, Fail> {
-    Ok(format!(in alloc; "{count}")?)
-}
-
 /// What a look at a side tells.
 fn look_text(alloc: Global, c: &Carrier, word: &str, side: Side) -> Result<String, Fail> {
     match word {
-        "flying" => count_text(alloc, c.in_flight(side)),
+        "flying" => number_text(alloc, c.in_flight(side) as u64),
         "mine" => session_text(alloc, c.mine(side)),
-        "peer" => peer_text(alloc, c.peer(side)),
+        "peer" => session_or_none(alloc, c.peer(side)),
         _ => Err(Fail::from("no such event")),
     }
 }
 
 /// What comes of an event at a side.
-fn side_text(
+fn at_side(
     alloc: Global,
     c: &mut Carrier,
     word: &str,
@@ -143,10 +117,10 @@ fn side_text(
 fn event_text(alloc: Global, c: &mut Carrier, event: &str) -> Result<String, Fail> {
     let (word, rest) = front(event);
     if word == "quiet" {
-        return text_of(alloc, if c.quiet() { "yes" } else { "no" });
+        return yes_text(alloc, c.quiet());
     }
     let (side, rest) = front(rest);
-    side_text(alloc, c, word, side_of(side)?, rest)
+    at_side(alloc, c, word, side_of(side)?, rest)
 }
 
 /// What comes of an event that may be `undone`, and is undone then.
@@ -159,20 +133,9 @@ fn any_text(alloc: Global, c: &mut Carrier, event: &str) -> Result<String, Fail>
     Ok(text)
 }
 
-impl Exchanges for Carrier {
-    fn anew(alloc: Global, window: u32) -> Carrier {
-        new_link(alloc, window)
-    }
-
-    fn goes_as(&mut self, alloc: Global, line: &str) -> Result<bool, Fail> {
-        let (event, wanted) = line.split_once(':').ok_or("no colon")?;
-        let text = any_text(alloc, self, event)?;
-        Ok(text.as_str() == wanted.trim())
-    }
-
-    fn is_over(&mut self) -> Result<bool, Fail> {
-        Ok(true)
-    }
+/// A new link with a window of 32 frames goes through each section.
+fn follows(alloc: Global, exchanges: &'static str) -> Result<(), Fail> {
+    follow_sections(alloc, &|alloc| new_link(alloc, 32), &any_text, exchanges)
 }
 
 const OLD_PACKETS: &str = "# an old packet is refused
@@ -222,7 +185,7 @@ const OLD_PACKETS: &str = "# an old packet is refused
 
 #[test]
 fn what_is_of_an_old_session_is_not_taken(rt: HostRuntime) -> Result<(), Fail> {
-    follows::<Carrier>(rt.alloc(), 32, OLD_PACKETS)
+    follows(rt.alloc(), OLD_PACKETS)
 }
 
 const MESSAGES: &str = "# a message comes once in one session
@@ -256,7 +219,7 @@ const MESSAGES: &str = "# a message comes once in one session
 
 #[test]
 fn a_message_comes_once_and_its_pieces_in_any_order(rt: HostRuntime) -> Result<(), Fail> {
-    follows::<Carrier>(rt.alloc(), 32, MESSAGES)
+    follows(rt.alloc(), MESSAGES)
 }
 
 const UNDONE: &str = "# an undone event leaves the link as it was
@@ -286,14 +249,15 @@ const UNDONE: &str = "# an undone event leaves the link as it was
 
 #[test]
 fn an_undone_event_leaves_the_link_as_it_was(rt: HostRuntime) -> Result<(), Fail> {
-    follows::<Carrier>(rt.alloc(), 32, UNDONE)
+    follows(rt.alloc(), UNDONE)
 }
 
 #[test]
 fn over_a_link_with_a_window_of_one_frame(rt: HostRuntime) -> Result<(), Fail> {
-    follows::<Carrier>(
+    follow_sections(
         rt.alloc(),
-        1,
+        &|alloc| new_link(alloc, 1),
+        &any_text,
         "# a lost link goes down at the third tick
         tick T: stays
         deliver T 0: nothing

@@ -5,6 +5,7 @@
 use crate::carrier_events::{deliver, lose, new_link, offer, restart, swap, tick};
 use crate::listed::{ListedLink, must};
 use carrier::{Carrier, Handed, TickedSide};
+use case_words::Random;
 use linx_base::Side;
 use std::alloc::Global;
 use std::mem;
@@ -15,37 +16,9 @@ const CROWD: usize = 40;
 
 /// Of so many numbers each chooses an event, 71 of them one that isn't the coming of a packet: a
 /// busy link fills up with packets, and a calm one often has none.
-const BUSY: usize = 150;
+const BUSY: u64 = 150;
 
-const CALM: usize = 600;
-
-/// Numbers that look random. Each state is the one before it, exclusive-or'd with itself shifted
-/// left by 13 bits, then so with itself shifted right by 7, then left by 17. A number is what the
-/// state's upper 32 bits leave when they are divided by the bound.
-#[derive(Drop)]
-struct Random {
-    state: u64,
-}
-
-impl Random {
-    /// The next number below the bound; 0 where that is 0.
-    fn below(&mut self, bound: usize) -> usize {
-        self.state ^= self.state << 13;
-        self.state ^= self.state >> 7;
-        self.state ^= self.state << 17;
-        ((self.state >> 32) as usize)
-            .checked_rem(bound)
-            .unwrap_or(0)
-    }
-
-    fn side(&mut self) -> Side {
-        if self.below(2) == 0 {
-            Side::First
-        } else {
-            Side::Second
-        }
-    }
-}
+const CALM: u64 = 600;
 
 /// A link, what is listed of it, and the numbers that choose its events. It is never dropped: to
 /// prove the drops of all the layers of a link takes longer than the test.
@@ -66,7 +39,7 @@ impl Run {
             alloc,
             carrier,
             listed: ListedLink::new(alloc, first, second),
-            random: Random { state: seed },
+            random: Random::new(seed),
         }
     }
 
@@ -77,21 +50,25 @@ impl Run {
         self.listed.told(self.alloc, from.other(), &handed, now)
     }
 
+    /// The place of any packet from a side.
+    fn any_place(&mut self, from: Side) -> usize {
+        self.random.below(self.carrier.in_flight(from) as u64) as usize
+    }
+
     /// Any packet from a side comes. One in four stays in flight.
     fn deliver_any(&mut self, from: Side) -> Result<(), Fail> {
-        let place = self.random.below(self.carrier.in_flight(from));
+        let place = self.any_place(from);
         let keep = self.random.below(4) == 0;
         self.deliver(from, place, keep)
     }
 
     fn lose_any(&mut self, from: Side) -> Result<(), Fail> {
-        let place = self.random.below(self.carrier.in_flight(from));
+        let place = self.any_place(from);
         lose(&mut self.carrier, from, place)
     }
 
     fn swap_any(&mut self, from: Side) -> Result<(), Fail> {
-        let flying = self.carrier.in_flight(from);
-        let (place, other) = (self.random.below(flying), self.random.below(flying));
+        let (place, other) = (self.any_place(from), self.any_place(from));
         swap(&mut self.carrier, from, place, other)
     }
 
@@ -142,7 +119,7 @@ impl Run {
     }
 
     /// Some event at some side, chosen by one of so many numbers.
-    fn any_event(&mut self, numbers: usize) -> Result<(), Fail> {
+    fn any_event(&mut self, numbers: u64) -> Result<(), Fail> {
         let side = self.random.side();
         let flying = self.carrier.in_flight(side);
         if flying > CROWD {
@@ -173,7 +150,7 @@ impl Run {
     }
 
     /// So many events. The answer is after how many of them the link was quiet.
-    fn goes_on(&mut self, events: u32, numbers: usize) -> Result<u32, Fail> {
+    fn goes_on(&mut self, events: u32, numbers: u64) -> Result<u32, Fail> {
         let mut quiet: u32 = 0;
         for _ in 0..events {
             self.any_event(numbers)?;

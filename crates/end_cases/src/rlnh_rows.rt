@@ -5,22 +5,14 @@
 //! `keep` and `undo` end an event; `met` and `unmet` say whether a peer is met; `used` how many
 //! addresses are in use.
 
-use crate::exchange::{Exchanges, bytes_of, follows, front, text_of};
-use linx_base::{Blob, Inc, Message, Name, NodeNo, Signal};
+use crate::exchange::{Exchanges, follows};
+use case_words::{
+    asked_text, bytes_of, front, gone_text, inc_of, inc_text, met_text, name_of, text_of,
+};
+use linx_base::{Blob, Inc, Message, Name, Signal};
 use rlnh_end::{RlnhEnd, Up};
 use std::alloc::Global;
-use std::str;
 use std::test::Fail;
-
-/// An incarnation, as `2.1`.
-fn inc_of(word: &str) -> Result<Inc, Fail> {
-    let (node, opening) = word.split_once('.').ok_or("an incarnation")?;
-    Ok(Inc::of(NodeNo(node.parse()?), opening.parse()?))
-}
-
-fn inc_text(alloc: Global, inc: Inc) -> Result<String, Fail> {
-    Ok(format!(in alloc; "{}.{}", inc.node().0, inc.0 % (1 << 32))?)
-}
 
 /// A message, as its two addresses and the digits of its body.
 fn message_of(alloc: Global, text: &str) -> Result<Message, Fail> {
@@ -66,21 +58,6 @@ fn signal_text(
     Ok(text)
 }
 
-fn met_text(alloc: Global, inc: Inc, name: &Name) -> Result<String, Fail> {
-    let (inc, name) = (inc_text(alloc, inc)?, str::from_utf8(name.bytes())?);
-    Ok(format!(in alloc; "met {inc} {name}")?)
-}
-
-fn gone_text(alloc: Global, inc: Inc) -> Result<String, Fail> {
-    let inc = inc_text(alloc, inc)?;
-    Ok(format!(in alloc; "gone {inc}")?)
-}
-
-fn asked_text(alloc: Global, name: &Name) -> Result<String, Fail> {
-    let name = str::from_utf8(name.bytes())?;
-    Ok(format!(in alloc; "asked {name}")?)
-}
-
 /// What is handed up.
 fn up_text(alloc: Global, up: &Up) -> Result<String, Fail> {
     match up {
@@ -122,7 +99,7 @@ fn send_words(alloc: Global, end: &mut RlnhEnd, text: &str) -> Result<(), Fail> 
     let (name, rest) = front(rest);
     let (receiver, rest) = front(rest);
     let (number, data) = front(rest);
-    let name = Name::of(alloc, name.as_bytes())?;
+    let name = name_of(alloc, name)?;
     let signal = Signal::alloc(alloc, number.parse()?, &bytes_of(alloc, data)?)?;
     send(end, inc_of(sender)?, &name, inc_of(receiver)?, &signal)
 }
@@ -147,7 +124,7 @@ fn opened(end: &mut RlnhEnd, inc: Inc, name: &Name) -> Result<(), Fail> {
 fn open_words(alloc: Global, end: &mut RlnhEnd, word: &str, text: &str) -> Result<(), Fail> {
     let (inc, name) = front(text);
     let inc = inc_of(inc)?;
-    let name = Name::of(alloc, name.as_bytes())?;
+    let name = name_of(alloc, name)?;
     if word == "opened" {
         opened(end, inc, &name)
     } else {
@@ -161,7 +138,7 @@ fn close(end: &mut RlnhEnd, inc: &str) -> Result<(), Fail> {
 }
 
 fn query(alloc: Global, end: &mut RlnhEnd, name: &str) -> Result<(), Fail> {
-    let name = Name::of(alloc, name.as_bytes())?;
+    let name = name_of(alloc, name)?;
     end.query(&name)?;
     Ok(())
 }

@@ -1,6 +1,6 @@
 //! The link addresses of one side.
 
-use crate::lines::{Called, follows, front, inc_of, number_text, opening_of, text_of};
+use case_words::{follow_sections, front, inc_of, inc_text, number_text, text_of};
 use link_addresses::{Addresses, Meaning};
 use linx_base::{Inc, NodeNo};
 use std::alloc::Global;
@@ -45,20 +45,14 @@ fn meaning_text(alloc: Global, meaning: Meaning) -> Result<String, Fail> {
         Meaning::Live(inc) => ("live", inc),
         Meaning::Closing(inc) => ("closing", inc),
     };
-    let (node, opening) = opening_of(inc);
-    Ok(format!(in alloc; "{word} {node}.{opening}")?)
+    Ok(format!(in alloc; "{word} {}", inc_text(alloc, inc)?)?)
 }
 
 fn addr_text(alloc: Global, addr: Option<u32>) -> Result<String, Fail> {
     match addr {
         None => text_of(alloc, "none"),
-        Some(addr) => number_text(alloc, addr),
+        Some(addr) => number_text(alloc, u64::from(addr)),
     }
-}
-
-fn inc_text(alloc: Global, inc: Option<Inc>) -> Result<String, Fail> {
-    let (node, opening) = opening_of(inc.unwrap_or(Inc(0)));
-    Ok(format!(in alloc; "{node}.{opening}")?)
 }
 
 /// What a call of an incarnation answers: an address.
@@ -86,7 +80,7 @@ fn changes(addresses: &mut Addresses, word: &str) -> Result<(), Fail> {
 
 fn used_text(alloc: Global, addresses: &mut Addresses, call: &str) -> Result<String, Fail> {
     changes(addresses, call)?;
-    number_text(alloc, addresses.used())
+    number_text(alloc, u64::from(addresses.used()))
 }
 
 fn call_text(alloc: Global, addresses: &mut Addresses, call: &str) -> Result<String, Fail> {
@@ -102,24 +96,18 @@ fn by_addr(alloc: Global, addresses: &mut Addresses, call: &str) -> Result<Strin
     if word == "meaning" {
         meaning_text(alloc, addresses.meaning(addr))
     } else {
-        inc_text(alloc, addresses.acked(addr))
+        inc_text(alloc, addresses.acked(addr).unwrap_or(Inc(0)))
     }
 }
 
-impl Called for Addresses {
-    fn anew(alloc: Global) -> Addresses {
-        Addresses::new(alloc)
+fn answer(alloc: Global, addresses: &mut Addresses, call: &str) -> Result<String, Fail> {
+    if call.contains('.') {
+        return call_text(alloc, addresses, call);
     }
-
-    fn answer(&mut self, alloc: Global, call: &str) -> Result<String, Fail> {
-        if call.contains('.') {
-            return call_text(alloc, self, call);
-        }
-        match front(call).0 {
-            "meaning" | "acked" => by_addr(alloc, self, call),
-            "used" => number_text(alloc, self.used()),
-            _ => used_text(alloc, self, call),
-        }
+    match front(call).0 {
+        "meaning" | "acked" => by_addr(alloc, addresses, call),
+        "used" => number_text(alloc, u64::from(addresses.used())),
+        _ => used_text(alloc, addresses, call),
     }
 }
 
@@ -127,8 +115,10 @@ impl Called for Addresses {
 /// 0.0 is no incarnation.
 #[test]
 fn addresses_are_given_closed_and_freed(rt: HostRuntime) -> Result<(), Fail> {
-    follows::<Addresses>(
+    follow_sections(
         rt.alloc(),
+        &Addresses::new,
+        &answer,
         "# an address is freed at its acknowledgement
         publish 1.1: 1
         meaning 1: live 1.1

@@ -8,7 +8,7 @@
 #[cfg(test)]
 mod addresses;
 #[cfg(test)]
-mod lines;
+mod frames;
 #[cfg(test)]
 mod messages;
 #[cfg(test)]

@@ -1,6 +1,6 @@
 //! The bytes of RLNH's messages, and the bodies of signals, as hexadecimal digits.
 
-use crate::lines::{Called, bytes_of, follows, opening_of, text_of};
+use case_words::{bytes_of, follow_sections, inc_text, text_of};
 use linx_base::{Blob, Inc, Signal};
 use rlnh_messages::{Rlnh, RlnhError, read, read_signal, write, write_signal};
 use std::alloc::Global;
@@ -9,9 +9,8 @@ use std::test::Fail;
 
 /// A message, as its type, its address, its incarnation and its name.
 fn text(alloc: Global, kind: &str, addr: u32, inc: Inc, name: &[u8]) -> Result<String, Fail> {
-    let (node, opening) = opening_of(inc);
-    let name = str::from_utf8(name)?;
-    Ok(format!(in alloc; "{kind} {addr} {node}.{opening} {name}")?)
+    let (inc, name) = (inc_text(alloc, inc)?, str::from_utf8(name)?);
+    Ok(format!(in alloc; "{kind} {addr} {inc} {name}")?)
 }
 
 fn message_text(alloc: Global, message: &Rlnh) -> Result<String, Fail> {
@@ -40,22 +39,13 @@ fn read_again(alloc: Global, bytes: &[u8]) -> Result<Rlnh, Fail> {
     Ok(message)
 }
 
-/// Reads the messages that words spell.
-#[derive(Drop)]
-struct Messages;
-
-impl Called for Messages {
-    fn anew(_alloc: Global) -> Messages {
-        Messages
+/// What is read of the bytes that words spell.
+fn answer(alloc: Global, _reader: &mut (), words: &str) -> Result<String, Fail> {
+    let bytes = bytes_of(alloc, words)?;
+    if is_bad(alloc, &bytes) {
+        return text_of(alloc, "bad");
     }
-
-    fn answer(&mut self, alloc: Global, words: &str) -> Result<String, Fail> {
-        let bytes = bytes_of(alloc, words)?;
-        if is_bad(alloc, &bytes) {
-            return text_of(alloc, "bad");
-        }
-        message_text(alloc, &read_again(alloc, &bytes)?)
-    }
+    message_text(alloc, &read_again(alloc, &bytes)?)
 }
 
 /// The signal that goes by this body, which must be written so again.
@@ -104,8 +94,10 @@ fn a_signal_has_4_to_65536_bytes(rt: HostRuntime) -> Result<(), Fail> {
 /// none. In the second section each is a message with one change.
 #[test]
 fn messages_and_their_bytes(rt: HostRuntime) -> Result<(), Fail> {
-    follows::<Messages>(
+    follow_sections(
         rt.alloc(),
+        &|_alloc| (),
+        &answer,
         "# each type is read
         01000000 00000001: INIT
         02000000 00000001: INIT_REPLY

@@ -1,6 +1,6 @@
 //! The bytes of packets, as words: sessions, and hexadecimal digits.
 
-use crate::lines::{Called, bytes_of, follows, front, text_of};
+use case_words::{bytes_of, follow_sections, front, session_text, text_of};
 use ethcm_headers::{Packet, PacketBytes, Part, ReadError, read, write};
 use linx_base::{Blob, Frame, Session};
 use std::alloc::Global;
@@ -38,9 +38,9 @@ fn part_text(alloc: Global, part: &Part) -> Result<String, Fail> {
 
 fn packet_text(alloc: Global, packet: &Packet) -> Result<String, Fail> {
     let part = part_text(alloc, &packet.part)?;
-    let (src, dst) = (packet.src, Session(packet.dst));
-    let (boot, count) = (src.boot(), src.count());
-    Ok(format!(in alloc; "{boot}.{count} to {}.{} {part}", dst.boot(), dst.count())?)
+    let src = session_text(alloc, packet.src)?;
+    let dst = session_text(alloc, Session(packet.dst))?;
+    Ok(format!(in alloc; "{src} to {dst} {part}")?)
 }
 
 fn is_bad(bytes: &PacketBytes) -> bool {
@@ -97,26 +97,27 @@ impl Reader {
     }
 }
 
-impl Called for Reader {
-    fn anew(alloc: Global) -> Reader {
-        Reader {
-            last: Vec::new(alloc),
-        }
+/// The reader before its first read.
+fn new_reader(alloc: Global) -> Reader {
+    Reader {
+        last: Vec::new(alloc),
     }
+}
 
-    fn answer(&mut self, alloc: Global, call: &str) -> Result<String, Fail> {
-        match call.strip_prefix("at ") {
-            None => self.read(alloc, call),
-            Some(change) => self.read_changed(alloc, change),
-        }
+fn answer(alloc: Global, reader: &mut Reader, call: &str) -> Result<String, Fail> {
+    match call.strip_prefix("at ") {
+        None => reader.read(alloc, call),
+        Some(change) => reader.read_changed(alloc, change),
     }
 }
 
 /// `at` reads the bytes above with others from a place on.
 #[test]
 fn packets_and_their_bytes(rt: HostRuntime) -> Result<(), Fail> {
-    follows::<Reader>(
+    follow_sections(
         rt.alloc(),
+        &new_reader,
+        &answer,
         "# a CONNECT, and changes that make it bad
         02020018 1.1 0.0 00010000: 1.1 to 0.0 Connect
         at 0 01: bad

@@ -1,6 +1,7 @@
 //! Messages cut into pieces, and pieces joined.
 
-use crate::lines::{Called, follows, front, payload, text_of};
+use crate::frames::payload;
+use case_words::{follow_sections, front, text_of};
 use fragmenter::{Joined, Joiner, pieces};
 use linx_base::{Blob, Frame, Frames, Message};
 use std::alloc::Global;
@@ -129,22 +130,20 @@ impl Cutting {
     }
 }
 
-impl Called for Cutting {
-    fn anew(alloc: Global) -> Cutting {
-        Cutting {
-            body: Vec::new(alloc),
-            frames: Frames::new(alloc),
-            joiner: Joiner::new(alloc),
-        }
+fn new_cutting(alloc: Global) -> Cutting {
+    Cutting {
+        body: Vec::new(alloc),
+        frames: Frames::new(alloc),
+        joiner: Joiner::new(alloc),
     }
+}
 
-    fn answer(&mut self, alloc: Global, call: &str) -> Result<String, Fail> {
-        let (word, rest) = front(call);
-        match word {
-            "cut" => self.cut(alloc, rest),
-            "add" => self.add_words(alloc, rest),
-            _ => self.inside_text(alloc, word),
-        }
+fn answer(alloc: Global, cutting: &mut Cutting, call: &str) -> Result<String, Fail> {
+    let (word, rest) = front(call);
+    match word {
+        "cut" => cutting.cut(alloc, rest),
+        "add" => cutting.add_words(alloc, rest),
+        _ => cutting.inside_text(alloc, word),
     }
 }
 
@@ -152,8 +151,10 @@ impl Called for Cutting {
 /// frames from a place on, so many; the other calls answer where the joiner is then.
 #[test]
 fn messages_are_cut_and_joined(rt: HostRuntime) -> Result<(), Fail> {
-    follows::<Cutting>(
+    follow_sections(
         rt.alloc(),
+        &new_cutting,
+        &answer,
         "# a body of 130 bytes has three pieces
         cut 130: 0 and 64 64 2
         add 0 1: more

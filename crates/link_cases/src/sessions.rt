@@ -1,6 +1,6 @@
 //! The session of an end. Session 5.1 is its own, and 9.4 a session of its peer.
 
-use crate::lines::{Called, follows, front, session_of};
+use case_words::{follow_sections, front, session_of, session_text};
 use ethcm_session::{Change, Standing, Talk};
 use linx_base::{ConnKind, Session};
 use std::alloc::Global;
@@ -50,9 +50,9 @@ fn state_text(alloc: Global, talk: &Talk) -> Result<String, Fail> {
         Standing::Up { .. } if talk.confirmed() => "confirmed",
         Standing::Up { .. } => "up",
     };
-    let (mine, peer) = (talk.mine(), talk.peer().unwrap_or(Session(0)));
-    let (boot, count) = (mine.boot(), mine.count());
-    Ok(format!(in alloc; "{boot}.{count} {word} {}.{}", peer.boot(), peer.count())?)
+    let mine = session_text(alloc, talk.mine())?;
+    let peer = session_text(alloc, talk.peer().unwrap_or(Session(0)))?;
+    Ok(format!(in alloc; "{mine} {word} {peer}")?)
 }
 
 /// What a packet means.
@@ -81,24 +81,20 @@ fn changes(talk: &mut Talk, word: &str) -> Result<bool, Fail> {
     Ok(true)
 }
 
-impl Called for Talk {
-    fn anew(_alloc: Global) -> Talk {
-        Talk::new(5)
+fn answer(alloc: Global, talk: &mut Talk, call: &str) -> Result<String, Fail> {
+    if changes(talk, call)? {
+        return state_text(alloc, talk);
     }
-
-    fn answer(&mut self, alloc: Global, call: &str) -> Result<String, Fail> {
-        if changes(self, call)? {
-            return state_text(alloc, self);
-        }
-        input_text(alloc, self, call)
-    }
+    input_text(alloc, talk, call)
 }
 
 /// Each call answers the state, and a packet, of two sessions and a kind, what it means.
 #[test]
 fn the_table_of_sessions(rt: HostRuntime) -> Result<(), Fail> {
-    follows::<Talk>(
+    follow_sections(
         rt.alloc(),
+        &|_alloc| Talk::new(5),
+        &answer,
         "# each row of a connecting end, which is undone before the next one
         9.4 0.0 CONNECT: 5.1 connecting 0.0, Reply(ConnectAck)
         undo: 5.1 connecting 0.0

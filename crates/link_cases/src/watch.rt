@@ -1,6 +1,6 @@
 //! The watch of a link's end.
 
-use crate::lines::{Called, follows, number_text, text_of};
+use case_words::{follow_sections, number_text, text_of};
 use link_supervisor::{Alive, Watch};
 use std::alloc::Global;
 use std::test::Fail;
@@ -12,29 +12,25 @@ fn tick_text(alloc: Global, watch: &mut Watch) -> Result<String, Fail> {
     }
 }
 
-impl Called for Watch {
-    fn anew(_alloc: Global) -> Watch {
-        Watch::new()
+fn answer(alloc: Global, watch: &mut Watch, call: &str) -> Result<String, Fail> {
+    match call {
+        "tick" => return tick_text(alloc, watch),
+        "heard" => watch.heard(),
+        "keep" => watch.keep(),
+        "undo" => watch.undo(),
+        "ticks" => {}
+        _ => return Err(Fail::from("no such call")),
     }
-
-    fn answer(&mut self, alloc: Global, call: &str) -> Result<String, Fail> {
-        match call {
-            "tick" => return tick_text(alloc, self),
-            "heard" => self.heard(),
-            "keep" => self.keep(),
-            "undo" => self.undo(),
-            "ticks" => {}
-            _ => return Err(Fail::from("no such call")),
-        }
-        number_text(alloc, self.ticks())
-    }
+    number_text(alloc, u64::from(watch.ticks()))
 }
 
 /// A call that isn't a tick answers the ticks since the peer was heard.
 #[test]
 fn a_watch_is_lost_at_the_third_tick(rt: HostRuntime) -> Result<(), Fail> {
-    follows::<Watch>(
+    follow_sections(
         rt.alloc(),
+        &|_alloc| Watch::new(),
+        &answer,
         "# lost at the third tick and at the sixth
         tick: alive
         tick: alive

@@ -1,7 +1,8 @@
 //! The two halves of a window. A frame carries its number as its one byte, but for number 256,
 //! which carries 0.
 
-use crate::lines::{Called, follows, front, number_text, payload, text_of};
+use crate::frames::payload;
+use case_words::{follow_sections, front, number_text, text_of, yes_text};
 use ethcm_window::{Accept, Rx, Tx};
 use linx_base::{Blob, Frame, Frames, NoMemory, SentFrame, SentFrames};
 use std::alloc::Global;
@@ -97,22 +98,16 @@ fn sends(alloc: Global, tx: &mut Tx, call: &str) -> Result<String, Fail> {
     sent_text(alloc, &sent)
 }
 
-impl Called for Tx {
-    fn anew(alloc: Global) -> Tx {
-        Tx::new(alloc, 2)
+fn tx_answer(alloc: Global, tx: &mut Tx, call: &str) -> Result<String, Fail> {
+    match call {
+        "begin" => tx.begin(),
+        "keep" => tx.keep(),
+        "undo" => tx.undo(),
+        "empty" => return yes_text(alloc, tx.is_empty()),
+        "left" => {}
+        _ => return sends(alloc, tx, call),
     }
-
-    fn answer(&mut self, alloc: Global, call: &str) -> Result<String, Fail> {
-        match call {
-            "begin" => self.begin(),
-            "keep" => self.keep(),
-            "undo" => self.undo(),
-            "empty" => return text_of(alloc, if self.is_empty() { "yes" } else { "no" }),
-            "left" => {}
-            _ => return sends(alloc, self, call),
-        }
-        number_text(alloc, self.left())
-    }
+    number_text(alloc, u64::from(tx.left()))
 }
 
 fn accept(rx: &mut Rx, number: u32, frame: Frame) -> Result<Accept, Fail> {
@@ -154,29 +149,25 @@ fn next_text(alloc: Global, rx: &mut Rx) -> Result<String, Fail> {
     text_of(alloc, "taken")
 }
 
-impl Called for Rx {
-    fn anew(alloc: Global) -> Rx {
-        Rx::new(alloc)
+fn rx_answer(alloc: Global, rx: &mut Rx, call: &str) -> Result<String, Fail> {
+    match call {
+        "begin" => rx.begin(),
+        "keep" => rx.keep(),
+        "undo" => rx.undo(),
+        "next" => return next_text(alloc, rx),
+        "expected" => {}
+        _ => return accept_text(alloc, rx, call),
     }
-
-    fn answer(&mut self, alloc: Global, call: &str) -> Result<String, Fail> {
-        match call {
-            "begin" => self.begin(),
-            "keep" => self.keep(),
-            "undo" => self.undo(),
-            "next" => return next_text(alloc, self),
-            "expected" => {}
-            _ => return accept_text(alloc, self, call),
-        }
-        number_text(alloc, self.expected())
-    }
+    number_text(alloc, u64::from(rx.expected()))
 }
 
 /// With a window of two frames. `begin`, `keep` and `undo` answer how many numbers are left.
 #[test]
 fn a_sender_sends_within_its_window(rt: HostRuntime) -> Result<(), Fail> {
-    follows::<Tx>(
+    follow_sections(
         rt.alloc(),
+        &|alloc| Tx::new(alloc, 2),
+        &tx_answer,
         "# frames follow into the window as others are acknowledged
         offer 0 1 2: sends 0 1
         acked 1: sends 2
@@ -207,8 +198,10 @@ fn a_sender_sends_within_its_window(rt: HostRuntime) -> Result<(), Fail> {
 /// and `undo` answer the expected number.
 #[test]
 fn a_receiver_takes_each_number_once_and_in_order(rt: HostRuntime) -> Result<(), Fail> {
-    follows::<Rx>(
+    follow_sections(
         rt.alloc(),
+        &Rx::new,
+        &rx_answer,
         "# numbers are taken in order, and what comes early is kept
         1: early 1
         3: early 1

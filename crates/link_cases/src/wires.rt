@@ -1,6 +1,6 @@
 //! The packets in flight on a wire.
 
-use crate::lines::{Called, follows, front};
+use case_words::{follow_sections, front};
 use linx_base::Blob;
 use lossy_wire::Wire;
 use std::alloc::Global;
@@ -72,23 +72,19 @@ fn call(alloc: Global, wire: &mut Wire<Blob>, word: &str, rest: &str) -> Result<
     }
 }
 
-impl Called for Wire<Blob> {
-    fn anew(alloc: Global) -> Wire<Blob> {
-        Wire::new(alloc)
-    }
-
-    fn answer(&mut self, alloc: Global, line: &str) -> Result<String, Fail> {
-        let (word, rest) = front(line);
-        call(alloc, self, word, rest)?;
-        flying(alloc, self)
-    }
+fn answer(alloc: Global, wire: &mut Wire<Blob>, line: &str) -> Result<String, Fail> {
+    let (word, rest) = front(line);
+    call(alloc, wire, word, rest)?;
+    flying(alloc, wire)
 }
 
 /// Each call answers the packets in flight, whose bytes are a letter.
 #[test]
 fn a_wire_has_what_was_put(rt: HostRuntime) -> Result<(), Fail> {
-    follows::<Wire<Blob>>(
+    follow_sections(
         rt.alloc(),
+        &|alloc| Wire::<Blob>::new(alloc),
+        &answer,
         "# packets are exchanged and lost
         put a: a
         put b: ab

@@ -2,20 +2,16 @@
 //! `docs/text.md` spells them, or an item by its sender, its kind, its signal and its position. A
 //! peer over a link is spelled by the link, the session and the incarnation, as `1:1.5:2.77`.
 
-use crate::follow::follows;
+use crate::kernel_lines::answer;
+use case_words::follow_anew;
 use linx_base::NodeNo;
 use node_kernel::Kernel;
 use std::alloc::Global;
-use std::mem;
 use std::test::Fail;
 
 /// A new kernel answers so.
 fn answers(alloc: Global, lines: &'static str) -> Result<(), Fail> {
-    // It is never dropped: to prove the drops of all its tables takes longer than the tests.
-    let mut kernel = Kernel::new(alloc, NodeNo(1));
-    let outcome = follows(alloc, &mut kernel, lines);
-    mem::forget(kernel);
-    outcome
+    follow_anew(alloc, Kernel::new(alloc, NodeNo(1)), &answer, lines)
 }
 
 #[test]

@@ -1,14 +1,14 @@
 //! What a kernel answers to a call that a line of text spells. A call that makes a step begins with
 //! the step's number.
 
-use crate::follow::Called;
 use crate::kernel_calls::{arrive, attach, close, detach, holds, hunt, open, send, take};
-use crate::texts::{
-    effects_text, inc_text, item_text, name_text, peer_text, signal_text, text_of, word, yes_text,
+use crate::texts::{effects_text, item_text, name_or_none, peer_text, signal_text};
+use case_words::{
+    filter_of, front, inc_of, inc_text, link_of, name_of, name_text, number_text, path_of, peer_of,
+    session_of, text_of, yes_text,
 };
-use crate::words::{filter_of, front, inc_of, name_of, path_of, peer_of, session_of, signal_of};
 use journal::Detached;
-use linx_base::{Inc, LinkNo, Peer};
+use linx_base::{Peer, Signal};
 use node_kernel::{Kernel, Sent};
 use std::alloc::Global;
 use std::test::Fail;
@@ -21,7 +21,7 @@ fn open_text(alloc: Global, kernel: &mut Kernel, rest: &str, step: u64) -> Resul
             let effects = effects_text(alloc, &opened.effects)?;
             Ok(format!(in alloc; "{inc}: {effects}")?)
         }
-        Err(name) => Ok(format!(in alloc; "full {}", text_of(&name))?),
+        Err(name) => Ok(format!(in alloc; "full {}", name_text(&name))?),
     }
 }
 
@@ -31,7 +31,15 @@ fn fill_text(alloc: Global, kernel: &mut Kernel, rest: &str, step: u64) -> Resul
     for _ in 0..count.parse::<u32>()? {
         let _ = open(kernel, name_of(alloc, name)?, step)?;
     }
-    Ok(format!(in alloc; "{}", kernel.openings())?)
+    number_text(alloc, u64::from(kernel.openings()))
+}
+
+/// A signal: its number, and its data as hexadecimal digits or `-` for none, as `252 aa`.
+fn signal_of(alloc: Global, text: &str) -> Result<Signal, Fail> {
+    let (number, digits) = front(text);
+    let digits = if digits == "-" { "" } else { digits };
+    let data = hex::decode(alloc, digits)?;
+    Ok(Signal::alloc(alloc, number.parse()?, data.as_slice())?)
 }
 
 /// `send FROM PEER SIGNAL`: what became of the signal; one that goes to a link is handed out.
@@ -40,8 +48,8 @@ fn send_text(alloc: Global, kernel: &mut Kernel, rest: &str, step: u64) -> Resul
     let (to, signal) = front(rest);
     let (from, to) = (inc_of(from)?, peer_of(to)?);
     match send(kernel, from, to, signal_of(alloc, signal)?, step)? {
-        Sent::Queued => word(alloc, "queued"),
-        Sent::Dead => word(alloc, "dead"),
+        Sent::Queued => text_of(alloc, "queued"),
+        Sent::Dead => text_of(alloc, "dead"),
         Sent::Link(signal) => {
             let signal = signal_text(alloc, signal.number(), signal.bytes())?;
             Ok(format!(in alloc; "link {signal}")?)
@@ -81,8 +89,7 @@ fn met_text(alloc: Global, kernel: &mut Kernel, rest: &str, step: u64) -> Result
 /// `down LINK SESSION`: the effects.
 fn down_text(alloc: Global, kernel: &mut Kernel, rest: &str, step: u64) -> Result<String, Fail> {
     let (link, session) = front(rest);
-    let link = LinkNo(link.parse()?);
-    let effects = kernel.down(link, session_of(session)?, step)?;
+    let effects = kernel.down(link_of(link)?, session_of(session)?, step)?;
     effects_text(alloc, &effects)
 }
 
@@ -116,9 +123,9 @@ fn queue_text(alloc: Global, kernel: &mut Kernel, call: &str, rest: &str) -> Res
         "take" => item_text(alloc, take(kernel, at, &filter_of(alloc, rest)?)?),
         "holds" => yes_text(alloc, holds(kernel, at, &filter_of(alloc, rest)?)?),
         _ => match detach(kernel, at, rest.parse()?)? {
-            Detached::Pending => word(alloc, "pending"),
-            Detached::Queued => word(alloc, "queued"),
-            Detached::None => word(alloc, "none"),
+            Detached::Pending => text_of(alloc, "pending"),
+            Detached::Queued => text_of(alloc, "queued"),
+            Detached::None => text_of(alloc, "none"),
         },
     }
 }
@@ -126,15 +133,14 @@ fn queue_text(alloc: Global, kernel: &mut Kernel, call: &str, rest: &str) -> Res
 /// `over LINK PLACE`: the name of a pending hunt over the link, by its place from 0.
 fn over_text(alloc: Global, kernel: &Kernel, rest: &str) -> Result<String, Fail> {
     let (link, place) = front(rest);
-    let link = LinkNo(link.parse()?);
-    name_text(alloc, kernel.nth_over(link, place.parse()?))
+    name_or_none(alloc, kernel.nth_over(link_of(link)?, place.parse()?))
 }
 
 /// `find PATH`: the peer that a hunt would find at once.
 fn find_text(alloc: Global, kernel: &Kernel, rest: &str) -> Result<String, Fail> {
     match kernel.find(&path_of(alloc, rest)?) {
         Some(peer) => peer_text(alloc, peer),
-        None => word(alloc, "none"),
+        None => text_of(alloc, "none"),
     }
 }
 
@@ -142,7 +148,7 @@ fn find_text(alloc: Global, kernel: &Kernel, rest: &str) -> Result<String, Fail>
 fn first_text(alloc: Global, kernel: &Kernel, rest: &str) -> Result<String, Fail> {
     match kernel.first(&name_of(alloc, rest)?) {
         Some(inc) => inc_text(alloc, inc),
-        None => word(alloc, "none"),
+        None => text_of(alloc, "none"),
     }
 }
 
@@ -151,7 +157,7 @@ fn look_text(alloc: Global, kernel: &Kernel, call: &str, rest: &str) -> Result<S
     match call {
         "alive" => yes_text(alloc, kernel.is_living(peer_of(rest)?)),
         "open" => yes_text(alloc, kernel.is_open(inc_of(rest)?)),
-        "name" => name_text(alloc, kernel.name_of(inc_of(rest)?)),
+        "name" => name_or_none(alloc, kernel.name_of(inc_of(rest)?)),
         "over" => over_text(alloc, kernel, rest),
         "find" => find_text(alloc, kernel, rest),
         "first" => first_text(alloc, kernel, rest),
@@ -159,16 +165,14 @@ fn look_text(alloc: Global, kernel: &Kernel, call: &str, rest: &str) -> Result<S
     }
 }
 
-impl Called for Kernel {
-    fn answer(&mut self, alloc: Global, call: &str) -> Result<String, Fail> {
-        let (call, rest) = front(call);
-        if let Ok(step) = call.parse::<u64>() {
-            let (call, rest) = front(rest);
-            return step_text(alloc, self, step, call, rest);
-        }
-        match call {
-            "take" | "holds" | "detach" => queue_text(alloc, self, call, rest),
-            _ => look_text(alloc, self, call, rest),
-        }
+pub fn answer(alloc: Global, kernel: &mut Kernel, call: &str) -> Result<String, Fail> {
+    let (call, rest) = front(call);
+    if let Ok(step) = call.parse::<u64>() {
+        let (call, rest) = front(rest);
+        return step_text(alloc, kernel, step, call, rest);
+    }
+    match call {
+        "take" | "holds" | "detach" => queue_text(alloc, kernel, call, rest),
+        _ => look_text(alloc, kernel, call, rest),
     }
 }

@@ -6,8 +6,6 @@
 #[cfg(test)]
 mod exchanges;
 #[cfg(test)]
-mod follow;
-#[cfg(test)]
 mod journals;
 #[cfg(test)]
 mod kernel_calls;
@@ -21,5 +19,3 @@ mod scanned;
 mod tables;
 #[cfg(test)]
 mod texts;
-#[cfg(test)]
-mod words;

@@ -1,12 +1,10 @@
 //! Calls of an endpoint's queue, each with what is answered.
 
-use crate::follow::{Called, follows};
-use crate::texts::{add_piece, item_text, or_nothing, word, yes_text};
-use crate::words::{filter_of, front};
+use crate::texts::{item_text, or_nothing};
+use case_words::{add_piece, filter_of, follow_anew, front, text_of, yes_text};
 use endpoint_queue::Queue;
 use linx_base::{AttRef, Inc, Item, ItemAt, Kind, Peer, Signal};
 use std::alloc::Global;
-use std::mem;
 use std::test::Fail;
 
 /// An item from the first endpoint, that the first effect of a step brought.
@@ -44,13 +42,13 @@ fn put_text(alloc: Global, queue: &mut Queue, rest: &str) -> Result<String, Fail
         queue,
         item(alloc, number.parse()?, kind_of(kind, step), step)?,
     )?;
-    word(alloc, "done")
+    text_of(alloc, "done")
 }
 
 /// `reserve COUNT`.
 fn reserve_text(alloc: Global, queue: &mut Queue, rest: &str) -> Result<String, Fail> {
     queue.reserve(rest.parse()?)?;
-    word(alloc, "done")
+    text_of(alloc, "done")
 }
 
 /// The numbers of the items, each with its ticket.
@@ -63,26 +61,24 @@ fn index_text(alloc: Global, queue: &Queue) -> Result<String, Fail> {
     or_nothing(alloc, text)
 }
 
-impl Called for Queue {
-    fn answer(&mut self, alloc: Global, call: &str) -> Result<String, Fail> {
-        let (call, rest) = front(call);
-        match call {
-            "reserve" => reserve_text(alloc, self, rest),
-            "put" => put_text(alloc, self, rest),
-            "take" => item_text(alloc, self.take(&filter_of(alloc, rest)?)),
-            "holds" => yes_text(alloc, self.holds(&filter_of(alloc, rest)?)),
-            "index" => index_text(alloc, self),
-            _ => Err(Fail::from("no such call")),
-        }
+fn answer(alloc: Global, queue: &mut Queue, call: &str) -> Result<String, Fail> {
+    let (call, rest) = front(call);
+    match call {
+        "reserve" => reserve_text(alloc, queue, rest),
+        "put" => put_text(alloc, queue, rest),
+        "take" => item_text(alloc, queue.take(&filter_of(alloc, rest)?)),
+        "holds" => yes_text(alloc, queue.holds(&filter_of(alloc, rest)?)),
+        "index" => index_text(alloc, queue),
+        _ => Err(Fail::from("no such call")),
     }
 }
 
 #[test]
 fn an_index_has_a_place_for_each_item(rt: HostRuntime) -> Result<(), Fail> {
-    let mut queue = Queue::new(rt.alloc());
-    let outcome = follows(
+    follow_anew(
         rt.alloc(),
-        &mut queue,
+        Queue::new(rt.alloc()),
+        &answer,
         "reserve 3 -> done
         put plain 7 1 -> done
         put plain 8 2 -> done
@@ -93,7 +89,5 @@ fn an_index_has_a_place_for_each_item(rt: HostRuntime) -> Result<(), Fail> {
         holds only:8 -> no
         put plain 6 4 -> done
         index -> 6@3 7@0 7@2",
-    );
-    mem::forget(queue);
-    outcome
+    )
 }

@@ -1,6 +1,7 @@
 //! A thousand calls of a queue, each compared with what a scan of a plain list gives.
 
 use crate::queues::{item, put};
+use case_words::Random;
 use endpoint_queue::Queue;
 use linx_base::{AttRef, Item, Kind};
 use sigsel::{Numbers, Sigsel};
@@ -153,18 +154,10 @@ fn make(alloc: Global, pair: &mut Pair, random: u64, call: u64) -> Result<(), Fa
     }
 }
 
-/// The next of a sequence of numbers of no use.
-fn next_random(random: u64) -> u64 {
-    let random = random ^ random << 13;
-    let random = random ^ random >> 7;
-    random ^ random << 17
-}
-
 fn thousand_calls(alloc: Global, pair: &mut Pair) -> Result<(), Fail> {
-    let mut random: u64 = 88_172_645_463_325_252;
+    let mut random = Random::new(88_172_645_463_325_252);
     for call in 0..1_000 {
-        random = next_random(random);
-        make(alloc, pair, random, call)?;
+        make(alloc, pair, random.next(), call)?;
         if pair.queue.index().len() != pair.list.len() {
             return Err(Fail::from("another number of places"));
         }

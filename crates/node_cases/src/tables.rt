@@ -1,21 +1,22 @@
 //! Calls of the tables of a node: its names, its pending hunts and its attaches.
 
-use crate::follow::{Called, follows};
-use crate::texts::{add_piece, inc_text, name_text, or_nothing, word, yes_text};
-use crate::words::{front, inc_of, name_of, path_of, peer_of, session_of};
+use crate::texts::{name_or_none, or_nothing};
 use attach_table::{AttachTable, AttachesUnder};
+use case_words::{
+    add_piece, follow_anew, front, inc_of, inc_text, link_of, name_of, number_text, path_of,
+    peer_of, session_of, text_of, yes_text,
+};
 use hunt_table::HuntTable;
-use linx_base::{AttRef, Inc, LinkNo, NodeNo, PendingAttach, PendingHunt, Signal};
+use linx_base::{AttRef, Inc, NodeNo, PendingAttach, PendingHunt, Signal};
 use name_table::NameTable;
 use std::alloc::Global;
-use std::mem;
 use std::test::Fail;
 
 /// `add INC NAME`.
 fn add(alloc: Global, table: &mut NameTable, rest: &str) -> Result<String, Fail> {
     let (inc, name) = front(rest);
     match table.add(name_of(alloc, name)?, inc_of(inc)?) {
-        Ok(()) => word(alloc, "done"),
+        Ok(()) => text_of(alloc, "done"),
         Err(_) => Err(Fail::from("out of memory")),
     }
 }
@@ -29,37 +30,35 @@ fn fill(alloc: Global, table: &mut NameTable, rest: &str) -> Result<String, Fail
             return Err(Fail::from("out of memory"));
         }
     }
-    word(alloc, "done")
+    text_of(alloc, "done")
 }
 
 /// `first NAME`: the first endpoint of the name.
 fn first(alloc: Global, table: &NameTable, rest: &str) -> Result<String, Fail> {
     match table.first(&name_of(alloc, rest)?) {
         Some(inc) => inc_text(alloc, inc),
-        None => word(alloc, "none"),
+        None => text_of(alloc, "none"),
     }
 }
 
-impl Called for NameTable {
-    fn answer(&mut self, alloc: Global, call: &str) -> Result<String, Fail> {
-        let (call, rest) = front(call);
-        match call {
-            "add" => add(alloc, self, rest),
-            "fill" => fill(alloc, self, rest),
-            "first" => first(alloc, self, rest),
-            "name" => name_text(alloc, self.name_of(inc_of(rest)?)),
-            "remove" => yes_text(alloc, self.remove(inc_of(rest)?)),
-            _ => Err(Fail::from("no such call")),
-        }
+fn names_answer(alloc: Global, table: &mut NameTable, call: &str) -> Result<String, Fail> {
+    let (call, rest) = front(call);
+    match call {
+        "add" => add(alloc, table, rest),
+        "fill" => fill(alloc, table, rest),
+        "first" => first(alloc, table, rest),
+        "name" => name_or_none(alloc, table.name_of(inc_of(rest)?)),
+        "remove" => yes_text(alloc, table.remove(inc_of(rest)?)),
+        _ => Err(Fail::from("no such call")),
     }
 }
 
 #[test]
 fn first_of_a_name_is_the_first_that_is_left(rt: HostRuntime) -> Result<(), Fail> {
-    let mut table = NameTable::new(rt.alloc());
-    let outcome = follows(
+    follow_anew(
         rt.alloc(),
-        &mut table,
+        NameTable::new(rt.alloc()),
+        &names_answer,
         "fill 99 server -> done
         add 1.100 client -> done
         first server -> 1.1
@@ -69,9 +68,7 @@ fn first_of_a_name_is_the_first_that_is_left(rt: HostRuntime) -> Result<(), Fail
         remove 1.1 -> no
         name 1.1 -> none
         first server -> 1.2",
-    );
-    mem::forget(table);
-    outcome
+    )
 }
 
 /// `pend NUMBER HUNTER PATH`: a hunt, with an empty signal.
@@ -85,7 +82,7 @@ fn pend(alloc: Global, table: &mut HuntTable, rest: &str) -> Result<String, Fail
         signal: Signal::alloc(alloc, 251, b"")?,
     };
     match table.pend(hunt) {
-        Ok(()) => word(alloc, "done"),
+        Ok(()) => text_of(alloc, "done"),
         Err(_) => Err(Fail::from("out of memory")),
     }
 }
@@ -99,11 +96,7 @@ fn hunts_for(alloc: Global, table: &HuntTable, rest: &str) -> Result<String, Fai
         let Some(hunt) = hunts.next_entry() else {
             break;
         };
-        add_piece(
-            &mut text,
-            " ",
-            format!(in alloc; "{}", hunt.number)?.as_str(),
-        )?;
+        add_piece(&mut text, " ", number_text(alloc, hunt.number)?.as_str())?;
     }
     or_nothing(alloc, text)
 }
@@ -111,31 +104,28 @@ fn hunts_for(alloc: Global, table: &HuntTable, rest: &str) -> Result<String, Fai
 /// `over LINK PLACE`: the name of the hunt over the link at that place, from 0.
 fn hunt_over(alloc: Global, table: &HuntTable, rest: &str) -> Result<String, Fail> {
     let (link, place) = front(rest);
-    let link = LinkNo(link.parse()?);
-    name_text(alloc, table.nth_over(link, place.parse()?))
+    name_or_none(alloc, table.nth_over(link_of(link)?, place.parse()?))
 }
 
-impl Called for HuntTable {
-    fn answer(&mut self, alloc: Global, call: &str) -> Result<String, Fail> {
-        let (call, rest) = front(call);
-        match call {
-            "pend" => return pend(alloc, self, rest),
-            "for" => return hunts_for(alloc, self, rest),
-            "over" => return hunt_over(alloc, self, rest),
-            "drop_of" => self.drop_of(inc_of(rest)?),
-            "drop_for" => self.drop_for(&path_of(alloc, rest)?),
-            _ => return Err(Fail::from("no such call")),
-        }
-        word(alloc, "done")
+fn hunts_answer(alloc: Global, table: &mut HuntTable, call: &str) -> Result<String, Fail> {
+    let (call, rest) = front(call);
+    match call {
+        "pend" => return pend(alloc, table, rest),
+        "for" => return hunts_for(alloc, table, rest),
+        "over" => return hunt_over(alloc, table, rest),
+        "drop_of" => table.drop_of(inc_of(rest)?),
+        "drop_for" => table.drop_for(&path_of(alloc, rest)?),
+        _ => return Err(Fail::from("no such call")),
     }
+    text_of(alloc, "done")
 }
 
 #[test]
 fn hunts_are_found_by_path_link_and_hunter(rt: HostRuntime) -> Result<(), Fail> {
-    let mut table = HuntTable::new(rt.alloc());
-    let outcome = follows(
+    follow_anew(
         rt.alloc(),
-        &mut table,
+        HuntTable::new(rt.alloc()),
+        &hunts_answer,
         "pend 10 1.1 1/a -> done
         pend 11 1.2 a -> done
         pend 12 1.1 2/a -> done
@@ -150,9 +140,7 @@ fn hunts_are_found_by_path_link_and_hunter(rt: HostRuntime) -> Result<(), Fail> 
         for 1/a -> nothing
         over 2 0 -> a
         for a -> 11",
-    );
-    mem::forget(table);
-    outcome
+    )
 }
 
 /// `attach HOLDER PEER REFERENCE`: an attach, whose signal has one byte.
@@ -169,7 +157,7 @@ fn attach(alloc: Global, table: &mut AttachTable, rest: &str) -> Result<String, 
         return Err(Fail::from("too long a signal"));
     }
     match table.attach(attach) {
-        Ok(()) => word(alloc, "done"),
+        Ok(()) => text_of(alloc, "done"),
         Err(_) => Err(Fail::from("out of memory")),
     }
 }
@@ -181,11 +169,8 @@ fn references(alloc: Global, mut attaches: AttachesUnder<'_>) -> Result<String, 
         let Some(attach) = attaches.next_entry() else {
             break;
         };
-        add_piece(
-            &mut text,
-            " ",
-            format!(in alloc; "{}", attach.reference.0)?.as_str(),
-        )?;
+        let number = number_text(alloc, attach.reference.0)?;
+        add_piece(&mut text, " ", number.as_str())?;
     }
     or_nothing(alloc, text)
 }
@@ -193,8 +178,8 @@ fn references(alloc: Global, mut attaches: AttachesUnder<'_>) -> Result<String, 
 /// `within LINK SESSION`: the references of the attaches to the peers of a session.
 fn within(alloc: Global, table: &AttachTable, rest: &str) -> Result<String, Fail> {
     let (link, session) = front(rest);
-    let link = LinkNo(link.parse()?);
-    references(alloc, table.attaches_within(link, session_of(session)?))
+    let attaches = table.attaches_within(link_of(link)?, session_of(session)?);
+    references(alloc, attaches)
 }
 
 /// `detach HOLDER REFERENCE`: whether there was one.
@@ -206,33 +191,31 @@ fn detach(alloc: Global, table: &mut AttachTable, rest: &str) -> Result<String, 
 /// `drop_within LINK SESSION`.
 fn drop_within(table: &mut AttachTable, rest: &str) -> Result<(), Fail> {
     let (link, session) = front(rest);
-    table.drop_within(LinkNo(link.parse()?), session_of(session)?);
+    table.drop_within(link_of(link)?, session_of(session)?);
     Ok(())
 }
 
-impl Called for AttachTable {
-    fn answer(&mut self, alloc: Global, call: &str) -> Result<String, Fail> {
-        let (call, rest) = front(call);
-        match call {
-            "attach" => return attach(alloc, self, rest),
-            "to" => return references(alloc, self.attaches_to(peer_of(rest)?)),
-            "within" => return within(alloc, self, rest),
-            "detach" => return detach(alloc, self, rest),
-            "drop_to" => self.drop_to(peer_of(rest)?),
-            "drop_of" => self.drop_of(inc_of(rest)?),
-            "drop_within" => drop_within(self, rest)?,
-            _ => return Err(Fail::from("no such call")),
-        }
-        word(alloc, "done")
+fn attaches_answer(alloc: Global, table: &mut AttachTable, call: &str) -> Result<String, Fail> {
+    let (call, rest) = front(call);
+    match call {
+        "attach" => return attach(alloc, table, rest),
+        "to" => return references(alloc, table.attaches_to(peer_of(rest)?)),
+        "within" => return within(alloc, table, rest),
+        "detach" => return detach(alloc, table, rest),
+        "drop_to" => table.drop_to(peer_of(rest)?),
+        "drop_of" => table.drop_of(inc_of(rest)?),
+        "drop_within" => drop_within(table, rest)?,
+        _ => return Err(Fail::from("no such call")),
     }
+    text_of(alloc, "done")
 }
 
 #[test]
 fn attaches_are_found_by_peer_session_holder_and_reference(rt: HostRuntime) -> Result<(), Fail> {
-    let mut table = AttachTable::new(rt.alloc());
-    let outcome = follows(
+    follow_anew(
         rt.alloc(),
-        &mut table,
+        AttachTable::new(rt.alloc()),
+        &attaches_answer,
         "attach 1.1 1:1.1:2.1 1 -> done
         attach 1.2 1.9 2 -> done
         attach 1.2 1:1.1:2.2 3 -> done
@@ -252,7 +235,5 @@ fn attaches_are_found_by_peer_session_holder_and_reference(rt: HostRuntime) -> R
         to 1:1.2:2.1 -> nothing
         drop_within 1 1.1 -> done
         to 1:1.1:2.1 -> nothing",
-    );
-    mem::forget(table);
-    outcome
+    )
 }

@@ -1,53 +1,22 @@
 //! What is answered, as text; effects in the words of `docs/text.md`.
 
+use case_words::{add_piece, inc_text, name_text, session_text, text_of};
 use journal::{Effect, Effects};
-use linx_base::{Inc, Item, ItemAt, Kind, Name, Peer, Reason, Session, SigNote};
+use linx_base::{Inc, Item, ItemAt, Kind, Name, Peer, Reason, SigNote};
 use std::alloc::Global;
 use std::test::Fail;
-
-pub fn word(alloc: Global, word: &str) -> Result<String, Fail> {
-    Ok(String::from_str(alloc, word)?)
-}
-
-/// Adds a piece, behind a mark where others stand before it.
-pub fn add_piece(text: &mut String, mark: &str, piece: &str) -> Result<(), Fail> {
-    if !text.is_empty() {
-        text.push_str(mark)?;
-    }
-    text.push_str(piece)?;
-    Ok(())
-}
 
 /// The text of some pieces, `nothing` where there are none.
 pub fn or_nothing(alloc: Global, text: String) -> Result<String, Fail> {
     if text.is_empty() {
-        return word(alloc, "nothing");
+        return text_of(alloc, "nothing");
     }
     Ok(text)
 }
 
-pub fn yes_text(alloc: Global, is_so: bool) -> Result<String, Fail> {
-    word(alloc, if is_so { "yes" } else { "no" })
-}
-
-pub fn text_of(name: &Name) -> &str {
-    str::from_utf8(name.bytes()).unwrap_or("?")
-}
-
 /// A name, or `none`.
-pub fn name_text(alloc: Global, name: Option<&Name>) -> Result<String, Fail> {
-    match name {
-        Some(name) => word(alloc, text_of(name)),
-        None => word(alloc, "none"),
-    }
-}
-
-pub fn inc_text(alloc: Global, inc: Inc) -> Result<String, Fail> {
-    Ok(format!(in alloc; "{}.{}", inc.node().0, inc.0 % (1 << 32))?)
-}
-
-fn session_text(alloc: Global, session: Session) -> Result<String, Fail> {
-    Ok(format!(in alloc; "{}.{}", session.boot(), session.count())?)
+pub fn name_or_none(alloc: Global, name: Option<&Name>) -> Result<String, Fail> {
+    text_of(alloc, name.map_or("none", name_text))
 }
 
 pub fn peer_text(alloc: Global, peer: Peer) -> Result<String, Fail> {
@@ -111,7 +80,7 @@ fn link_effect_text(alloc: Global, effect: &Effect) -> Result<String, Fail> {
     let text = match effect {
         Effect::Met(node, peer, name) => {
             let peer = peer_text(alloc, *peer)?;
-            format!(in alloc; "met {} {peer} {}", node.0, text_of(name))?
+            format!(in alloc; "met {} {peer} {}", node.0, name_text(name))?
         }
         Effect::Gone(node, peer) => {
             format!(in alloc; "gone {} {}", node.0, peer_text(alloc, *peer)?)?
@@ -136,7 +105,7 @@ pub fn effects_text(alloc: Global, effects: &Effects) -> Result<String, Fail> {
 
 fn kind_text(alloc: Global, kind: Kind) -> Result<String, Fail> {
     match kind {
-        Kind::Plain => word(alloc, "plain"),
+        Kind::Plain => text_of(alloc, "plain"),
         Kind::Found(hunt) => Ok(format!(in alloc; "found@{hunt}")?),
         Kind::Notice(attach) => Ok(format!(in alloc; "notice@{}", attach.0)?),
     }
@@ -153,7 +122,7 @@ pub fn item_text(alloc: Global, item: Option<Item>) -> Result<String, Fail> {
         },
     ) = item
     else {
-        return word(alloc, "none");
+        return text_of(alloc, "none");
     };
     let (from, kind) = (peer_text(alloc, from)?, kind_text(alloc, kind)?);
     let signal = signal_text(alloc, signal.number(), signal.bytes())?;

@@ -79,9 +79,10 @@ fn a_vector_is_a_sink(rt: HostRuntime) -> Result<(), Fail> {
 
 /// An error is a fault, and so is nothing taken of a piece that isn't empty.
 #[test]
-fn a_writer_is_a_sink(_rt: HostRuntime) -> Result<(), Fail> {
+fn a_writer_is_a_sink(rt: HostRuntime) -> Result<(), Fail> {
     let mut sink = WriteTo::new(Halting { calls: 0 });
     takes(
+        rt.alloc(),
         &mut sink,
         "ab: 1
         b: fails

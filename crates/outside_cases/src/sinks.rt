@@ -1,38 +1,28 @@
 //! What sinks take.
 
+use case_words::{follow, number_text, text_of};
 use linx_outside::{MemSink, Sink, WriteAnswer, WriteFault, write_all};
 use std::alloc::Global;
 use std::test::Fail;
 
-/// How much is wanted to be taken of a piece, or that it fails.
-fn wanted_of(word: &str) -> Result<WriteAnswer, Fail> {
-    match word {
-        "fails" => Ok(WriteAnswer::Failed),
-        count => Ok(WriteAnswer::Took(count.parse()?)),
+/// How much a write of a piece takes, or that it fails.
+fn write_text<K: Sink>(alloc: Global, sink: &mut K, piece: &str) -> Result<String, Fail> {
+    match sink.write(piece.as_bytes()) {
+        WriteAnswer::Took(count) => number_text(alloc, count as u64),
+        WriteAnswer::Failed => text_of(alloc, "fails"),
     }
 }
 
-/// Whether a write of the piece before the colon comes to what stands behind it.
-fn follows<K: Sink>(sink: &mut K, line: &str) -> Result<bool, Fail> {
-    let (piece, wanted) = line.split_once(':').ok_or("no colon")?;
-    let answer = sink.write(piece.as_bytes());
-    Ok(answer == wanted_of(wanted.trim())?)
-}
-
-/// A sink takes what the lines say. It fails at the first write that comes out otherwise.
-pub fn takes<K: Sink>(sink: &mut K, writes: &'static str) -> Result<(), Fail> {
-    for line in writes.lines() {
-        if !follows(sink, line.trim())? {
-            return Err(Fail::from(line));
-        }
-    }
-    Ok(())
+/// A sink takes what the lines say, each a piece and what comes of its write.
+pub fn takes<K: Sink>(alloc: Global, sink: &mut K, writes: &'static str) -> Result<(), Fail> {
+    follow(alloc, sink, &write_text::<K>, writes)
 }
 
 #[test]
 fn a_sink_in_memory_fails_where_it_is_named_or_full(rt: HostRuntime) -> Result<(), Fail> {
     let mut sink = MemSink::new(rt.alloc(), 3, 7, [2].to_vec(rt.alloc())?)?;
     takes(
+        rt.alloc(),
         &mut sink,
         "abcdef: 3
         defgh: fails

@@ -1,5 +1,6 @@
 //! What sources give.
 
+use case_words::follow;
 use linx_outside::{MemSource, PlainSource, Reached, ReadAnswer, ReadStop, Source, read_up_to};
 use std::alloc::Global;
 use std::test::Fail;
@@ -22,22 +23,16 @@ fn push(text: &mut String, bytes: &[u8]) -> Result<(), Fail> {
     Ok(())
 }
 
-/// Whether a read of so many bytes gives what stands behind the colon.
-fn follows<S: Source>(alloc: Global, source: &mut S, line: &str) -> Result<bool, Fail> {
-    let (size, wanted) = line.split_once(':').ok_or("no colon")?;
+/// What a read of at most so many bytes gives.
+fn read_text<S: Source>(alloc: Global, source: &mut S, size: &str) -> Result<String, Fail> {
     let mut text = String::new(alloc);
     read(source, size.parse()?, &mut text)?;
-    Ok(text.as_str() == wanted.trim())
+    Ok(text)
 }
 
-/// A source gives what the lines say. It fails at the first read that comes out otherwise.
+/// A source gives what the lines say, each how many bytes are read at most and what is given.
 pub fn gives<S: Source>(alloc: Global, source: &mut S, reads: &'static str) -> Result<(), Fail> {
-    for line in reads.lines() {
-        if !follows(alloc, source, line.trim())? {
-            return Err(Fail::from(line));
-        }
-    }
-    Ok(())
+    follow(alloc, source, &read_text::<S>, reads)
 }
 
 #[test]

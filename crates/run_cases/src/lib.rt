@@ -12,5 +12,3 @@ mod stage_rows;
 mod trunk_calls;
 #[cfg(test)]
 mod trunk_rows;
-#[cfg(test)]
-mod words;

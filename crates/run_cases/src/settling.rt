@@ -1,33 +1,22 @@
 //! The packets of a link come until none is in flight.
 
 use crate::trunk_calls::{deliver, deliver_to_open, sender};
-use crate::words::inc_text;
+use case_words::{add_piece, asked_text, met_text, side_text};
 use linx_base::{Inc, LinkNo, Name, Side};
 use run_trunks::RunTrunks;
 use std::alloc::Global;
 use std::test::Fail;
 use trunk::TrunkUp;
 
-fn name_text(name: &Name) -> &str {
-    str::from_utf8(name.bytes()).unwrap_or("?")
-}
-
 /// Writes behind the text whom a side met or which name it was asked for.
 fn add_told(alloc: Global, text: &mut String, from: Side, up: TrunkUp) -> Result<(), Fail> {
-    let to = match from {
-        Side::First => "T",
-        Side::Second => "F",
-    };
     let told = match up {
-        TrunkUp::Asked { name } => format!(in alloc; "{to} asked {} ", name_text(&name))?,
-        TrunkUp::Met { inc, name } => {
-            let inc = inc_text(alloc, inc)?;
-            format!(in alloc; "{to} met {inc} {} ", name_text(&name))?
-        }
+        TrunkUp::Asked { name } => asked_text(alloc, &name)?,
+        TrunkUp::Met { inc, name } => met_text(alloc, inc, &name)?,
         _ => return Ok(()),
     };
-    text.push_str(told.as_str())?;
-    Ok(())
+    let told = format!(in alloc; "{} {told}", side_text(from.other()))?;
+    add_piece(text, " ", told.as_str())
 }
 
 /// The next packet of a link comes. The answer is whether one was in flight.

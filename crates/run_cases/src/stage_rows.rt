@@ -2,11 +2,10 @@
 //! and what comes of it: the last step with its maker stands behind, if a step was made.
 
 use crate::played::Played;
-use crate::words::{front, parted, text_of, yes_text};
+use case_words::{follow_anew, front, number_text, text_of, yes_text};
 use journal::{By, Head, Journal};
 use stage::{Pump, Turn};
 use std::alloc::Global;
-use std::mem;
 use std::test::Fail;
 
 fn word_of(head: &Head) -> &'static str {
@@ -69,30 +68,15 @@ fn event_text(alloc: Global, played: &mut Played, event: &str) -> Result<String,
         "pump" => pump_text(alloc, played, number.parse()?),
         "round" => round_text(alloc, played),
         "over" => yes_text(alloc, played.stage.is_over()),
-        "steps" => Ok(format!(in alloc; "{}", played.stage.journal().len())?),
+        "steps" => number_text(alloc, played.stage.journal().len()),
         "step" => step_text(alloc, played.stage.journal(), number.parse()?),
         _ => Err(Fail::from("no such turn")),
     }
 }
 
-fn goes_through(alloc: Global, played: &mut Played, turns: &'static str) -> Result<(), Fail> {
-    for line in turns.lines() {
-        let (event, wanted) = parted(line)?;
-        let text = event_text(alloc, played, event)?;
-        if text.as_str() != wanted {
-            return Err(Fail::from(line));
-        }
-    }
-    Ok(())
-}
-
-/// The stage of a script goes through the turns. It is never dropped, since to prove the drops of
-/// all layers takes longer than the tests.
+/// The stage of a script goes through the turns.
 fn follows(alloc: Global, script: &str, turns: &'static str) -> Result<(), Fail> {
-    let mut played = Played::new(alloc, script)?;
-    let outcome = goes_through(alloc, &mut played, turns);
-    mem::forget(played);
-    outcome
+    follow_anew(alloc, Played::new(alloc, script)?, &event_text, turns)
 }
 
 /// The hunt waits for the opening, and a receive says once that it waits.

@@ -2,9 +2,12 @@
 
 use crate::settling::{settle, settle_to_open};
 use crate::trunk_calls::{ask, is_quiet, is_up, restart, talk, tick, two_links, used};
-use crate::words::{front, inc_of, link_of, parted, session_text, side_of, text_of, yes_text};
 use carrier::TickedSide;
-use linx_base::{LinkNo, Name, NodeNo, Session, Side};
+use case_words::{
+    follow, follow_anew, front, inc_of, link_of, name_of, number_text, session_or_none,
+    session_text, side_of, text_of, yes_text,
+};
+use linx_base::{LinkNo, NodeNo, Side};
 use run_trunks::RunTrunks;
 use std::alloc::Global;
 use std::mem;
@@ -24,18 +27,14 @@ fn tick_text(
 
 /// The session of a side and that of its peer.
 fn talk_text(alloc: Global, trunks: &RunTrunks, link: LinkNo, side: Side) -> Result<String, Fail> {
-    let (mine, peer): (Session, Option<Session>) = talk(trunks, link, side)?;
-    let peer = match peer {
-        None => text_of(alloc, "none")?,
-        Some(peer) => session_text(alloc, peer)?,
-    };
-    let mine = session_text(alloc, mine)?;
+    let (mine, peer) = talk(trunks, link, side)?;
+    let (mine, peer) = (session_text(alloc, mine)?, session_or_none(alloc, peer)?);
     Ok(format!(in alloc; "{mine} {peer}")?)
 }
 
 fn used_text(alloc: Global, trunks: &RunTrunks, link: LinkNo, side: Side) -> Result<String, Fail> {
     let used = used(trunks, link, side).ok_or("no such link")?;
-    Ok(format!(in alloc; "{used}")?)
+    number_text(alloc, u64::from(used))
 }
 
 fn ask_text(
@@ -45,7 +44,7 @@ fn ask_text(
     side: Side,
     name: &str,
 ) -> Result<String, Fail> {
-    ask(trunks, link, side, &Name::of(alloc, name.as_bytes())?)?;
+    ask(trunks, link, side, &name_of(alloc, name)?)?;
     text_of(alloc, "done")
 }
 
@@ -57,12 +56,12 @@ fn open_text(
     endpoint: &str,
 ) -> Result<String, Fail> {
     let (inc, name) = front(endpoint);
-    let name = Name::of(alloc, name.as_bytes())?;
+    let name = name_of(alloc, name)?;
     settle_to_open(alloc, trunks, link, inc_of(inc)?, &name)
 }
 
 /// What comes of an event at a side of a link.
-fn side_text(
+fn at_side(
     alloc: Global,
     trunks: &mut RunTrunks,
     word: &str,
@@ -94,7 +93,7 @@ fn link_text(
         "settle" => settle(alloc, trunks, link),
         "open" => open_text(alloc, trunks, link, rest),
         "quiet" => yes_text(alloc, is_quiet(trunks, link)),
-        _ => side_text(alloc, trunks, word, link, rest),
+        _ => at_side(alloc, trunks, word, link, rest),
     }
 }
 
@@ -116,38 +115,35 @@ fn event_text(alloc: Global, trunks: &mut RunTrunks, event: &str) -> Result<Stri
     text_of(alloc, "done")
 }
 
-fn goes_through(alloc: Global, trunks: &mut RunTrunks, events: &'static str) -> Result<(), Fail> {
-    for line in events.lines() {
-        let (event, wanted) = parted(line)?;
-        let text = event_text(alloc, trunks, event)?;
-        if text.as_str().trim() != wanted {
-            return Err(Fail::from(line));
-        }
-    }
-    Ok(())
+/// Both links come up.
+const BOTH_UP: &str = "tick 1 F: stays
+    tick 1 T: stays
+    settle 1:
+    tick 2 F: stays
+    tick 2 T: stays
+    settle 2:
+    keep: done";
+
+/// Both links come up, and the events follow.
+fn follow_up(alloc: Global, trunks: &mut RunTrunks, events: &'static str) -> Result<(), Fail> {
+    follow(alloc, trunks, &event_text, BOTH_UP)?;
+    follow(alloc, trunks, &event_text, events)
 }
 
-/// The trunks of two new links go through the events. They are never dropped, since to prove the
+/// Two new links come up, and go through the events. They are never dropped, since to prove the
 /// drops of all layers takes longer than the tests.
-fn follow(alloc: Global, events: &'static str) -> Result<(), Fail> {
+fn follow_both_up(alloc: Global, events: &'static str) -> Result<(), Fail> {
     let mut trunks = two_links(alloc)?;
-    let outcome = goes_through(alloc, &mut trunks, events);
+    let outcome = follow_up(alloc, &mut trunks, events);
     mem::forget(trunks);
     outcome
 }
 
 #[test]
 fn a_name_is_asked_for_over_one_link(rt: HostRuntime) -> Result<(), Fail> {
-    follow(
+    follow_both_up(
         rt.alloc(),
-        "tick 1 F: stays
-        tick 1 T: stays
-        settle 1:
-        tick 2 F: stays
-        tick 2 T: stays
-        settle 2:
-        keep: done
-        quiet 1: yes
+        "quiet 1: yes
         quiet 2: yes
         ask 1 F echo: done
         settle 1: T asked echo
@@ -157,16 +153,9 @@ fn a_name_is_asked_for_over_one_link(rt: HostRuntime) -> Result<(), Fail> {
 
 #[test]
 fn a_restart_is_undone_on_both_links(rt: HostRuntime) -> Result<(), Fail> {
-    follow(
+    follow_both_up(
         rt.alloc(),
-        "tick 1 F: stays
-        tick 1 T: stays
-        settle 1:
-        tick 2 F: stays
-        tick 2 T: stays
-        settle 2:
-        keep: done
-        sessions 1 F: 1.1 1.1
+        "sessions 1 F: 1.1 1.1
         sessions 1 T: 1.1 1.1
         sessions 2 F: 1.1 1.1
         sessions 2 T: 1.1 1.1
@@ -185,16 +174,9 @@ fn a_restart_is_undone_on_both_links(rt: HostRuntime) -> Result<(), Fail> {
 
 #[test]
 fn a_restart_that_is_kept_is_not_undone(rt: HostRuntime) -> Result<(), Fail> {
-    follow(
+    follow_both_up(
         rt.alloc(),
-        "tick 1 F: stays
-        tick 1 T: stays
-        settle 1:
-        tick 2 F: stays
-        tick 2 T: stays
-        settle 2:
-        keep: done
-        restart 2 2: done
+        "restart 2 2: done
         keep: done
         undo: done
         sessions 1 F: 1.1 1.1
@@ -206,8 +188,10 @@ fn a_restart_that_is_kept_is_not_undone(rt: HostRuntime) -> Result<(), Fail> {
 
 #[test]
 fn an_endpoint_is_met_over_one_link(rt: HostRuntime) -> Result<(), Fail> {
-    follow(
+    follow_anew(
         rt.alloc(),
+        two_links(rt.alloc())?,
+        &event_text,
         "tick 1 F: stays
         tick 1 T: stays
         open 1 2.1 echo: F met 2.1 echo

@@ -1,22 +1,18 @@
 //! What a script means, in a notation of its own: links and nodes by their numbers, data in
 //! brackets.
 
+use case_words::{name_text, text_of};
 use linx_base::{LinkDecl, LinkNo, Name, Path, Side, Verdict};
 use script_lang::{ActorScript, Command, Filling, Script, Target};
 use sigsel::Sigsel;
 use std::alloc::Global;
 use std::test::Fail;
 
-/// A name as text.
-fn text_of(name: &Name) -> &str {
-    str::from_utf8(name.bytes()).unwrap_or("?")
-}
-
 fn shown_target(to: &Target) -> &str {
     match to {
         Target::Me => "self",
         Target::Last => "last",
-        Target::Kept(name) => text_of(name),
+        Target::Kept(name) => name_text(name),
     }
 }
 
@@ -44,8 +40,8 @@ fn shown_send(alloc: Global, to: &Target, number: u32, bytes: &Filling) -> Resul
 
 fn shown_path(alloc: Global, path: &Path) -> Result<String, Fail> {
     match path {
-        Path::Local(name) => Ok(String::from_str(alloc, text_of(name))?),
-        Path::Over { link, name } => Ok(format!(in alloc; "{}/{}", link.0, text_of(name))?),
+        Path::Local(name) => text_of(alloc, name_text(name)),
+        Path::Over { link, name } => Ok(format!(in alloc; "{}/{}", link.0, name_text(name))?),
     }
 }
 
@@ -65,19 +61,19 @@ fn shown_attach(
     bytes: &Filling,
 ) -> Result<String, Fail> {
     let signal = shown_signal(alloc, number, bytes)?;
-    Ok(format!(in alloc; "attach {} {} {signal}", shown_target(to), text_of(r))?)
+    Ok(format!(in alloc; "attach {} {} {signal}", shown_target(to), name_text(r))?)
 }
 
 fn shown_recv(alloc: Global, filter: &Sigsel) -> Result<String, Fail> {
     match filter {
-        Sigsel::Any => Ok(String::from_str(alloc, "recv any")?),
+        Sigsel::Any => text_of(alloc, "recv any"),
         Sigsel::Only(listed) => Ok(format!(in alloc; "recv only {:?}", listed.as_slice())?),
         Sigsel::Not(listed) => Ok(format!(in alloc; "recv not {:?}", listed.as_slice())?),
     }
 }
 
 fn with_name(alloc: Global, word: &str, name: &Name) -> Result<String, Fail> {
-    Ok(format!(in alloc; "{word} {}", text_of(name))?)
+    Ok(format!(in alloc; "{word} {}", name_text(name))?)
 }
 
 fn with_number(alloc: Global, word: &str, number: u32) -> Result<String, Fail> {
@@ -87,7 +83,7 @@ fn with_number(alloc: Global, word: &str, number: u32) -> Result<String, Fail> {
 fn shown(alloc: Global, command: &Command) -> Result<String, Fail> {
     match command {
         Command::Open(name) => with_name(alloc, "open", name),
-        Command::Close => Ok(String::from_str(alloc, "close")?),
+        Command::Close => text_of(alloc, "close"),
         Command::Send { to, number, bytes } => shown_send(alloc, to, *number, bytes),
         Command::Forward(to) => Ok(format!(in alloc; "forward {}", shown_target(to))?),
         Command::Recv(filter) => shown_recv(alloc, filter),

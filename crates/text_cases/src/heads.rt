@@ -72,13 +72,13 @@ fn heads_of_links_and_nodes(rt: HostRuntime) -> Result<(), Fail> {
         settle 0 -> settle ?
         restart 1 -> restart n
         restart 2 -> restart ?
-        wire 1 First deliver -> wire l > deliver
-        wire 1 Second lose -> wire l < lose
-        wire 1 First repeat -> wire l > repeat
-        wire 1 First 1 -> wire l > swap1
-        wire 1 First 9 -> wire l > swap9
-        wire 1 First 10 -> wire l > swap?
-        tick 1 Second -> tick l <",
+        wire 1 F deliver -> wire l > deliver
+        wire 1 T lose -> wire l < lose
+        wire 1 F repeat -> wire l > repeat
+        wire 1 F 1 -> wire l > swap1
+        wire 1 F 9 -> wire l > swap9
+        wire 1 F 10 -> wire l > swap?
+        tick 1 T -> tick l <",
     )
 }
 

@@ -2,29 +2,15 @@
 
 use crate::events::{close, deliver, lose, publish, query, restart, send, swap, tick};
 use carrier::TickedSide;
-use linx_base::{Inc, Name, NodeNo, Session, Side, Signal};
+use case_words::{
+    add_piece, asked_text, front, gone_text, inc_of, inc_text, met_text, name_of, number_text,
+    session_or_none, session_text, side_of, side_text, text_of, went_down_text, went_up_text,
+    yes_text,
+};
+use linx_base::{Inc, Side, Signal};
 use std::alloc::Global;
 use std::test::Fail;
 use trunk::{Trunk, TrunkUp};
-
-/// The word in front, and what stands behind it.
-pub fn front(text: &str) -> (&str, &str) {
-    text.split_once(' ').unwrap_or((text, ""))
-}
-
-fn side_of(word: &str) -> Result<Side, Fail> {
-    match word {
-        "F" => Ok(Side::First),
-        "T" => Ok(Side::Second),
-        _ => Err(Fail::from("no side")),
-    }
-}
-
-/// An incarnation, as `2.1`.
-fn inc_of(word: &str) -> Result<Inc, Fail> {
-    let (node, opening) = word.split_once('.').ok_or("an incarnation")?;
-    Ok(Inc::of(NodeNo(node.parse()?), opening.parse()?))
-}
 
 /// Data as hexadecimal digits, two a byte, or so many bytes, as `#150`.
 fn data_of(alloc: Global, word: &str) -> Result<Vec<u8>, Fail> {
@@ -49,56 +35,10 @@ fn data_text(alloc: Global, data: &[u8]) -> Result<String, Fail> {
     Ok(hex::encode(alloc, data)?)
 }
 
-fn name_text(alloc: Global, name: &Name) -> Result<String, Fail> {
-    let mut text = String::new(alloc);
-    for byte in name.bytes() {
-        text.push(char::from(*byte))?;
-    }
-    Ok(text)
-}
-
-fn inc_text(alloc: Global, inc: Inc) -> Result<String, Fail> {
-    Ok(format!(in alloc; "{}.{}", inc.node().0, inc.0 % (1 << 32))?)
-}
-
-/// A session as its boot and its count.
-fn session_text(alloc: Global, session: Session) -> Result<String, Fail> {
-    Ok(format!(in alloc; "{}.{}", session.boot(), session.count())?)
-}
-
 fn arrival_text(alloc: Global, from: Inc, to: Inc, signal: &Signal) -> Result<String, Fail> {
     let (from, to) = (inc_text(alloc, from)?, inc_text(alloc, to)?);
     let data = data_text(alloc, signal.bytes())?;
     Ok(format!(in alloc; "arrived {from} {to} {} {data}", signal.number())?)
-}
-
-fn text_of(alloc: Global, word: &str) -> Result<String, Fail> {
-    Ok(String::from_str(alloc, word)?)
-}
-
-fn went_up_text(alloc: Global, session: Session, peer: Session) -> Result<String, Fail> {
-    let (mine, other) = (session_text(alloc, session)?, session_text(alloc, peer)?);
-    Ok(format!(in alloc; "up {mine} {other}")?)
-}
-
-fn went_down_text(alloc: Global, session: Session) -> Result<String, Fail> {
-    let mine = session_text(alloc, session)?;
-    Ok(format!(in alloc; "down {mine}")?)
-}
-
-fn met_text(alloc: Global, inc: Inc, name: &Name) -> Result<String, Fail> {
-    let (inc, name) = (inc_text(alloc, inc)?, name_text(alloc, name)?);
-    Ok(format!(in alloc; "met {inc} {name}")?)
-}
-
-fn gone_text(alloc: Global, inc: Inc) -> Result<String, Fail> {
-    let inc = inc_text(alloc, inc)?;
-    Ok(format!(in alloc; "gone {inc}")?)
-}
-
-fn asked_text(alloc: Global, name: &Name) -> Result<String, Fail> {
-    let name = name_text(alloc, name)?;
-    Ok(format!(in alloc; "asked {name}")?)
 }
 
 /// What is handed up of a packet.
@@ -137,32 +77,18 @@ fn tick_text(alloc: Global, t: &mut Trunk, side: Side) -> Result<String, Fail> {
     ticked_text(alloc, ticked)
 }
 
-/// What a packet means to the side that it comes to is written behind the text, unless it is
-/// nothing.
-fn add_up(text: &mut String, to: &str, up: &str) -> Result<(), Fail> {
-    if up == "nothing" {
-        return Ok(());
-    }
-    if !text.is_empty() {
-        text.push_str(", ")?;
-    }
-    text.push_str(to)?;
-    text.push(' ')?;
-    text.push_str(up)?;
-    Ok(())
-}
-
-/// The next packet from a side comes, where one flies; what it means is written behind the text.
+/// The next packet from a side comes, where one flies; what it means to the other side is written
+/// behind the text, unless it is nothing.
 fn come_next(alloc: Global, t: &mut Trunk, from: Side, text: &mut String) -> Result<(), Fail> {
     if t.in_flight(from) == 0 {
         return Ok(());
     }
     let up = deliver_text(alloc, t, from, "0", false)?;
-    let to = match from {
-        Side::First => "T",
-        Side::Second => "F",
-    };
-    add_up(text, to, up.as_str())
+    if up.as_str() == "nothing" {
+        return Ok(());
+    }
+    let piece = format!(in alloc; "{} {up}", side_text(from.other()))?;
+    add_piece(text, ", ", piece.as_str())
 }
 
 /// All packets come, in turn from each side, until none flies. The text is what they meant.
@@ -182,10 +108,6 @@ fn answer_text(alloc: Global, is_done: bool) -> Result<String, Fail> {
     text_of(alloc, if is_done { "done" } else { "may not" })
 }
 
-fn yes_text(alloc: Global, is_so: bool) -> Result<String, Fail> {
-    text_of(alloc, if is_so { "yes" } else { "no" })
-}
-
 /// A signal, as its number and its data.
 fn signal_of(alloc: Global, words: &str) -> Result<Signal, Fail> {
     let (number, data) = front(words);
@@ -198,14 +120,14 @@ fn send_text(alloc: Global, t: &mut Trunk, side: Side, rest: &str) -> Result<Str
     let (from, rest) = front(rest);
     let (name, rest) = front(rest);
     let (to, signal) = front(rest);
-    let name = Name::of(alloc, name.as_bytes())?;
+    let name = name_of(alloc, name)?;
     let signal = signal_of(alloc, signal)?;
     let is_sent = send(t, side, inc_of(from)?, &name, inc_of(to)?, &signal)?;
     answer_text(alloc, is_sent)
 }
 
 fn query_text(alloc: Global, t: &mut Trunk, side: Side, name: &str) -> Result<String, Fail> {
-    query(t, side, &Name::of(alloc, name.as_bytes())?)?;
+    query(t, side, &name_of(alloc, name)?)?;
     answer_text(alloc, true)
 }
 
@@ -223,7 +145,7 @@ fn publish_text(
     is_new: bool,
 ) -> Result<String, Fail> {
     let (inc, name) = front(rest);
-    let name = Name::of(alloc, name.as_bytes())?;
+    let name = name_of(alloc, name)?;
     let is_published = publish(t, side, inc_of(inc)?, &name, is_new)?;
     answer_text(alloc, is_published)
 }
@@ -244,17 +166,6 @@ fn restart_text(alloc: Global, t: &mut Trunk, side: Side, boot: &str) -> Result<
     answer_text(alloc, true)
 }
 
-fn peer_text(alloc: Global, peer: Option<Session>) -> Result<String, Fail> {
-    match peer {
-        None => text_of(alloc, "none"),
-        Some(peer) => session_text(alloc, peer),
-    }
-}
-
-fn count_text(alloc: Global, count: usize) -> Result<String, Fail> {
-    Ok(format!(in alloc; "{count}")?)
-}
-
 fn met_by_text(alloc: Global, t: &Trunk, side: Side, inc: &str) -> Result<String, Fail> {
     yes_text(alloc, t.is_met(side, inc_of(inc)?))
 }
@@ -266,10 +177,10 @@ fn live_text(alloc: Global, t: &Trunk, side: Side, inc: &str) -> Result<String, 
 /// What a look at a side tells.
 fn look_text(alloc: Global, t: &Trunk, word: &str, side: Side, rest: &str) -> Result<String, Fail> {
     match word {
-        "flying" => count_text(alloc, t.in_flight(side)),
-        "used" => count_text(alloc, t.used(side) as usize),
+        "flying" => number_text(alloc, t.in_flight(side) as u64),
+        "used" => number_text(alloc, u64::from(t.used(side))),
         "mine" => session_text(alloc, t.mine(side)),
-        "peer" => peer_text(alloc, t.peer(side)),
+        "peer" => session_or_none(alloc, t.peer(side)),
         "met" => met_by_text(alloc, t, side, rest),
         "live" => live_text(alloc, t, side, rest),
         _ => Err(Fail::from("no such event")),
@@ -296,7 +207,7 @@ fn call_text(
 }
 
 /// What comes of an event at a side.
-fn side_text(
+fn at_side(
     alloc: Global,
     t: &mut Trunk,
     word: &str,
@@ -321,7 +232,7 @@ pub fn event_text(alloc: Global, t: &mut Trunk, event: &str) -> Result<String, F
         "quiet" => yes_text(alloc, t.quiet()),
         _ => {
             let (side, rest) = front(rest);
-            side_text(alloc, t, word, side_of(side)?, rest)
+            at_side(alloc, t, word, side_of(side)?, rest)
         }
     }
 }

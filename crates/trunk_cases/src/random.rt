@@ -7,32 +7,12 @@ use crate::account::{
 };
 use crate::events::{close, deliver, lose, publish, query, restart, send, swap, tick};
 use carrier::TickedSide;
+use case_words::Random;
 use linx_base::{Inc, Name, NodeNo, Session, Side, Signal};
 use std::alloc::Global;
 use std::mem;
 use std::test::Fail;
 use trunk::{Trunk, TrunkUp};
-
-/// Numbers that look random, always the same ones.
-#[derive(Drop)]
-struct Dice {
-    state: u64,
-}
-
-impl Dice {
-    fn throw(&mut self) -> u64 {
-        self.state = self
-            .state
-            .wrapping_mul(6_364_136_223_846_793_005)
-            .wrapping_add(1_442_695_040_888_963_407);
-        self.state >> 33
-    }
-
-    /// A number below this one.
-    fn below(&mut self, end: u64) -> u64 {
-        self.throw() % end.max(1)
-    }
-}
 
 /// A run: the trunk, the nodes at its sides, and what is drawn. It is never dropped: to prove the
 /// drops of all the layers of a trunk takes longer than the test.
@@ -41,7 +21,7 @@ struct Run {
     trunk: Trunk,
     first: Node,
     second: Node,
-    dice: Dice,
+    random: Random,
     names: Vec<Name>,
     /// How many endpoints opened, and how many signals were sent.
     opened: u32,
@@ -60,7 +40,7 @@ fn new_run(alloc: Global, seed: u64) -> Result<Run, Fail> {
         trunk: Trunk::new(alloc, 4, 64),
         first,
         second,
-        dice: Dice { state: seed },
+        random: Random::new(seed),
         names,
         opened: 0,
         sent: 0,
@@ -97,9 +77,9 @@ fn packet(alloc: Global, run: &mut Run, from: Side, is_cut: bool) -> Result<(), 
     if flying == 0 {
         return Ok(());
     }
-    let place = run.dice.below(flying) as usize;
-    let other = run.dice.below(flying) as usize;
-    let chance = run.dice.below(50);
+    let place = run.random.below(flying) as usize;
+    let other = run.random.below(flying) as usize;
+    let chance = run.random.below(50);
     if is_cut || chance == 0 {
         return lose(&mut run.trunk, from, place);
     }
@@ -108,7 +88,7 @@ fn packet(alloc: Global, run: &mut Run, from: Side, is_cut: bool) -> Result<(), 
     }
     // Most packets come in order; one in twenty stays in flight, unless many do.
     let place = if chance < 5 { place } else { 0 };
-    let keep = flying < 40 && run.dice.below(20) == 0;
+    let keep = flying < 40 && run.random.below(20) == 0;
     comes(alloc, run, from, place, keep)
 }
 
@@ -273,9 +253,9 @@ fn calls(alloc: Global, run: &mut Run, side: Side) -> Result<(), Fail> {
         Side::Second => NodeNo(2),
     };
     let drawn = Drawn {
-        kind: run.dice.below(10),
-        place: run.dice.throw(),
-        peer: run.dice.throw(),
+        kind: run.random.below(10),
+        place: run.random.next(),
+        peer: run.random.next(),
         new: Inc::of(node, run.opened),
         number: run.sent,
     };
@@ -286,18 +266,10 @@ fn calls(alloc: Global, run: &mut Run, side: Side) -> Result<(), Fail> {
     }
 }
 
-fn drawn_side(dice: &mut Dice) -> Side {
-    if dice.below(2) == 0 {
-        Side::First
-    } else {
-        Side::Second
-    }
-}
-
 /// One event, whatever it is.
 fn event(alloc: Global, run: &mut Run, is_cut: bool) -> Result<(), Fail> {
-    let side = drawn_side(&mut run.dice);
-    match run.dice.below(400) {
+    let side = run.random.side();
+    match run.random.below(400) {
         0 => boots(alloc, run, side),
         1..=14 => ticks(alloc, run, side),
         15..=84 => calls(alloc, run, side),

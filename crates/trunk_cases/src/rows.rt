@@ -2,8 +2,8 @@
 //! behind a `#` and a line that says what it shows, and each is gone through by a new trunk.
 
 use crate::lines::event_text;
+use case_words::follow_sections;
 use std::alloc::Global;
-use std::mem;
 use std::test::Fail;
 use trunk::Trunk;
 
@@ -17,45 +17,14 @@ fn any_text(alloc: Global, t: &mut Trunk, event: &str) -> Result<String, Fail> {
     Ok(text)
 }
 
-/// Whether what stands behind the colon comes of the event before it.
-fn follows_line(alloc: Global, t: &mut Trunk, line: &str) -> Result<bool, Fail> {
-    let (event, wanted) = line.split_once(':').ok_or("no colon")?;
-    let text = any_text(alloc, t, event)?;
-    Ok(text.as_str() == wanted.trim())
-}
-
-/// A trunk goes through the events of a section.
-fn goes_through(alloc: Global, t: &mut Trunk, section: &'static str) -> Result<(), Fail> {
-    for line in section.trim().lines().skip(1) {
-        if !follows_line(alloc, t, line.trim())? {
-            return Err(Fail::from(line));
-        }
-    }
-    Ok(())
-}
-
-/// A trunk with this window, of one frame at least, and pieces of 64 bytes.
-fn new_trunk(alloc: Global, window: u32) -> Trunk {
-    if window == 0 {
-        return Trunk::new(alloc, 1, 64);
-    }
-    Trunk::new(alloc, window, 64)
-}
-
-/// A new trunk goes through a section. It is never dropped.
-fn follows_section(alloc: Global, window: u32, section: &'static str) -> Result<(), Fail> {
-    let mut t = new_trunk(alloc, window);
-    let outcome = goes_through(alloc, &mut t, section);
-    mem::forget(t);
-    outcome
-}
-
-/// All sections are gone through. It fails at the first line that comes out otherwise.
-fn follows(alloc: Global, window: u32, exchanges: &'static str) -> Result<(), Fail> {
-    for section in exchanges.split("# ").skip(1) {
-        follows_section(alloc, window, section)?;
-    }
-    Ok(())
+/// A new trunk with a window of 32 frames goes through each section. Pieces have 64 bytes.
+fn follows(alloc: Global, exchanges: &'static str) -> Result<(), Fail> {
+    follow_sections(
+        alloc,
+        &|alloc| Trunk::new(alloc, 32, 64),
+        &any_text,
+        exchanges,
+    )
 }
 
 const ANSWERED: &str = "# a question is answered by a meeting
@@ -94,7 +63,7 @@ const ANSWERED: &str = "# a question is answered by a meeting
 
 #[test]
 fn a_question_is_answered_by_a_meeting(rt: HostRuntime) -> Result<(), Fail> {
-    follows(rt.alloc(), 32, ANSWERED)
+    follows(rt.alloc(), ANSWERED)
 }
 
 const ASKED_AGAIN: &str = "# a name is asked for again in each connection
@@ -124,7 +93,7 @@ const ASKED_AGAIN: &str = "# a name is asked for again in each connection
 
 #[test]
 fn a_name_is_asked_for_again_in_each_connection(rt: HostRuntime) -> Result<(), Fail> {
-    follows(rt.alloc(), 32, ASKED_AGAIN)
+    follows(rt.alloc(), ASKED_AGAIN)
 }
 
 const SENDERS: &str = "# a sender is met before its first signal
@@ -146,7 +115,7 @@ const SENDERS: &str = "# a sender is met before its first signal
 
 #[test]
 fn a_sender_is_met_before_its_first_signal(rt: HostRuntime) -> Result<(), Fail> {
-    follows(rt.alloc(), 32, SENDERS)
+    follows(rt.alloc(), SENDERS)
 }
 
 const CLOSINGS: &str = "# an address is free once its closing is confirmed
@@ -188,7 +157,7 @@ const CLOSINGS: &str = "# an address is free once its closing is confirmed
 
 #[test]
 fn a_closing_frees_its_address_and_late_signals(rt: HostRuntime) -> Result<(), Fail> {
-    follows(rt.alloc(), 32, CLOSINGS)
+    follows(rt.alloc(), CLOSINGS)
 }
 
 const OLD_SESSION: &str = "# a packet of an old session shows nothing
@@ -221,7 +190,7 @@ const OLD_SESSION: &str = "# a packet of an old session shows nothing
 
 #[test]
 fn a_packet_of_an_old_session_shows_nothing(rt: HostRuntime) -> Result<(), Fail> {
-    follows(rt.alloc(), 32, OLD_SESSION)
+    follows(rt.alloc(), OLD_SESSION)
 }
 
 const RESTART: &str = "# a restart begins with nothing met
@@ -253,7 +222,7 @@ const RESTART: &str = "# a restart begins with nothing met
 
 #[test]
 fn a_restart_begins_with_nothing_met(rt: HostRuntime) -> Result<(), Fail> {
-    follows(rt.alloc(), 32, RESTART)
+    follows(rt.alloc(), RESTART)
 }
 
 const SILENCE: &str = "# a silent side goes down at the third tick
@@ -271,7 +240,7 @@ const SILENCE: &str = "# a silent side goes down at the third tick
 
 #[test]
 fn a_silent_side_goes_down_at_the_third_tick(rt: HostRuntime) -> Result<(), Fail> {
-    follows(rt.alloc(), 32, SILENCE)
+    follows(rt.alloc(), SILENCE)
 }
 
 const UNDONE: &str = "# an undone event leaves the trunk as it was
@@ -303,14 +272,15 @@ const UNDONE: &str = "# an undone event leaves the trunk as it was
 
 #[test]
 fn an_undone_event_leaves_the_trunk_as_it_was(rt: HostRuntime) -> Result<(), Fail> {
-    follows(rt.alloc(), 32, UNDONE)
+    follows(rt.alloc(), UNDONE)
 }
 
 #[test]
 fn over_a_trunk_with_a_window_of_one_frame(rt: HostRuntime) -> Result<(), Fail> {
-    follows(
+    follow_sections(
         rt.alloc(),
-        1,
+        &|alloc| Trunk::new(alloc, 1, 64),
+        &any_text,
         "# a peer goes after all its signals
         # Only one piece flies at a time, so the closing is said while the data wait.
         tick F: stays
