@@ -4,3 +4,4 @@ pub mod KeyLemmas
 pub mod QueueLemmas
 pub mod TakenLemmas
 pub mod DropLemmas
+pub mod CountLemmas

@@ -205,7 +205,7 @@ none_unlisted places listed at past all =
     (λ k d inside. ap not (all k d (omega arith) inside))
 
 -- one more listed number
-listed_more : (listed : List ℕ) (n m : ℕ)
+pub listed_more : (listed : List ℕ) (n m : ℕ)
     → selects (Only (listed ++ n ∷ [])) m ≡ (selects (Only listed) m || eqb n m)
 listed_more [] n m = grind (arith, nat_tests)
 listed_more (x ∷ listed) n m =

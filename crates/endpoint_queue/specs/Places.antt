@@ -74,6 +74,10 @@ IsLeastTicket p places (Some ticket) =
     Any (λ q. (q.ticket ≡ ticket) × (p q.number ≡ true)) places
     × All (λ q. p q.number ≡ true → ticket ≤ q.ticket) places
 
+-- how many places whose number passes a test have lower tickets than this one
+abbrev pub count_lower : (ℕ → Bool) → List Place → ℕ → ℕ
+count_lower p places ticket = count_by (λ q. p q.number && nat_lt q.ticket ticket) places
+
 -- the lower of two tickets, where each may be missing
 abbrev pub lower_of : Option ℕ → Option ℕ → Option ℕ
 lower_of None other = other

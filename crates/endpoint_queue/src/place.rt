@@ -1,9 +1,11 @@
-ghost use Rattle.std.specs.Prelude.{◌≡◌, ◌==◌, ◌≤◌, true, false, length, nat_le};
+ghost use Rattle.std.specs.Prelude.{◌≡◌, ◌==◌, ◌≤◌, ◌+◌, [], ◌∷◌, ◌++◌, true, false};
+ghost use Rattle.std.specs.Prelude.{length, nat_le};
 ghost use Rattle.std.specs.List.{AllPairs, list_any};
 ghost use Rattle.std.specs.List.Sorted.{IsPartitionPoint};
 ghost use Rattle.sigsel.specs.Selects.{selects};
 ghost use Rattle.sigsel.specs.declared.sigsel.Sigsel.TheVariants.{Not, Only};
-ghost use Rattle.endpoint_queue.specs.Places.{IsBefore, IsLeastTicket, is_before, lower_of};
+ghost use Rattle.endpoint_queue.specs.Places.{IsBefore, IsLeastTicket, count_lower, is_before};
+ghost use Rattle.endpoint_queue.specs.Places.{lower_of};
 ghost use Rattle.endpoint_queue.specs.IndexChanges.{Adds, CanTake, Has, TakesOut};
 
 use crate::index::Index;
@@ -94,10 +96,45 @@ fn count_up_to(places: &[Place], number: u64) -> usize
     places.partition_point(|place| place.number <= number)
 }
 
+/// How many places of a number have lower tickets.
+fn count_lower(places: &[Place], number: u64, ticket: u64) -> usize
+    requires { AllPairs IsBefore places.now }
+    ensures { result ≡ count_lower (λ n. number == n) places.now ticket }
+{
+    let end = count_before(places, &Place { number, ticket });
+    end - count_before(places, &Place { number, ticket: 0 })
+}
+
 fn lists(listed: &[u32], number: u64) -> bool
     ensures { result ≡ list_any (λ n. n == number) listed.now }
 {
     listed.iter().any(|one| *one as u64 == number)
+}
+
+/// How many places with lower tickets a number adds to those of the earlier numbers: none where it
+/// is among them.
+fn count_new(places: &[Place], earlier: &[u32], number: u64, ticket: u64) -> usize
+    requires { AllPairs IsBefore places.now }
+    ensures { count_lower (selects (Only (earlier.now ++ number ∷ []))) places.now ticket
+        ≡ count_lower (selects (Only earlier.now)) places.now ticket + result }
+{
+    let count = count_lower(places, number, ticket);
+    if count > 0 && lists(earlier, number) {
+        return 0;
+    }
+    count
+}
+
+/// How many places of listed numbers have lower tickets. It searches twice for each listed number.
+pub(crate) fn count_listed(places: &[Place], listed: &[u32], ticket: u64) -> usize
+    requires { AllPairs IsBefore places.now }
+    ensures { result ≡ count_lower (selects (Only listed.now)) places.now ticket }
+{
+    let mut count = 0;
+    for at in 0..listed.len() {
+        count += count_new(places, &listed[..at], listed[at] as u64, ticket);
+    }
+    count
 }
 
 /// Whether the number of a place isn't listed. It searches once for each listed number that it

@@ -1,7 +1,7 @@
 ghost use Rattle.std.specs.Prelude.{◌≡◌, ◌≤◌, ◌<◌, ◌+◌, ◌-◌, ◌^◌, [], ◌∷◌, ◌++◌, if◌then◌else◌};
 ghost use Rattle.std.specs.Prelude.{false, is_some, length, max, slice_get, slice_index_or, take};
-ghost use Rattle.std.specs.Prelude.{IfNone, IfSome, OnOk, OnErr, IsOk};
-ghost use Rattle.std.specs.List.{position, range_with_len, remove, All, AllPairs};
+ghost use Rattle.std.specs.Prelude.{true, Some, IfNone, IfSome, OnOk, OnErr, IsOk};
+ghost use Rattle.std.specs.List.{list_all, position, range_with_len, remove, All, AllPairs};
 ghost use Rattle.std.specs.List.Sorted.{IsPermutation};
 ghost use Rattle.std.specs.VecDeque.{deque_capacity, deque_len};
 ghost use Rattle.endpoint_queue.specs.Places.{IsIndexed, count_notices};
@@ -10,7 +10,7 @@ ghost use Rattle.linx_base.specs.FirstMatch.{TakesEarliest, first_match, without
 ghost use Rattle.linx_base.specs.FirstMatch.{without_beside};
 
 use crate::indexes::Indexes;
-use crate::place::{Place, first_ticket, has_unlisted, least_ticket};
+use crate::place::{Place, count_listed, first_ticket, has_unlisted, least_ticket};
 use linx_base::{AttRef, Item, NoMemory};
 use sigsel::Sigsel;
 use std::alloc::Global;
@@ -190,8 +190,47 @@ impl Queue {
         self.tickets.binary_search(&ticket).ok()
     }
 
+    /// Whether the items before this position are all of listed numbers: then so many places of
+    /// listed numbers have lower tickets than the item there. It looks at no item.
+    fn lists_all_before(&self, listed: &[u32], at: usize) -> bool
+        requires { at < length self.now.items }
+        ensures { result ≡ list_all (is_selected (Only listed.now)) (take at self.now.items) }
+    {
+        let places = self.indexes.numbers.as_slice();
+        count_listed(places, listed, self.tickets[at]) == at
+    }
+
+    /// The position of the first item of a number that isn't listed, where there is one.
+    fn search_unlisted(&self, listed: &[u32]) -> usize
+        requires { is_some (first_selected (Not listed.now) self.now.items) ≡ true }
+        ensures { position (is_selected (Not listed.now)) self.now.items ≡ Some result }
+    {
+        let mut low = 0;
+        let mut high = self.items.len();
+        while high - low > 1 {
+            let middle = low + (high - low) / 2;
+            if self.lists_all_before(listed, middle) {
+                low = middle;
+            } else {
+                high = middle;
+            }
+        }
+        low
+    }
+
+    /// The position of the first selected item, if it is among the foremost.
+    fn first_near(&self, sel: &Sigsel) -> Option<usize>
+        ensures { result ≡ position (is_selected sel.now) (take 16 self.now.items) }
+    {
+        self.items
+            .iter()
+            .take(16)
+            .position(|item| sel.selects(item.signal.number()))
+    }
+
     /// The position of the first item of a number that isn't listed. That there is none is told by the
-    /// index, so that who waits in vain costs no look at an item.
+    /// index, so that who waits in vain costs no look at an item. One far from the front is searched
+    /// for, without a look at those before it.
     fn first_unlisted(&self, sel: &Sigsel, listed: &[u32]) -> Option<usize>
         requires { sel.now ≡ Not listed.now }
         ensures { result ≡ position (is_selected sel.now) self.now.items }
@@ -199,9 +238,10 @@ impl Queue {
         if !has_unlisted(self.indexes.numbers.as_slice(), listed) {
             return None;
         }
-        self.items
-            .iter()
-            .position(|item| sel.selects(item.signal.number()))
+        if let Some(at) = self.first_near(sel) {
+            return Some(at);
+        }
+        Some(self.search_unlisted(listed))
     }
 
     /// The position of the first selected item.
