@@ -103,8 +103,8 @@ module _ (f : Layout) (parts : Parts) (kept : IsKept f parts) where
       let promised = promised_now f.shape f.log.steps (links_of trunks)
       (keeps-all f parts kept).promises in
       λ l of_shape. promised.still l of_shape
-          (sides-rest f.log.steps l (trunks l.0) (carried.kept l of_shape)
-          (rests-all f.shape f.log.steps trunks still l of_shape))
+      (sides-rest f.log.steps l (trunks l.0) (carried.kept l of_shape)
+      (rests-all f.shape f.log.steps trunks still l of_shape))
 
   -- AND ALL HAVE ENDED: all is over
   pub all-over : (all_have_ended f.shape f.log.steps

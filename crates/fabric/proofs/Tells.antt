@@ -1,10 +1,11 @@
 -- What a side is told of the names that are hunted for over its link, and what it needs for a send.
-use Rattle.std.proofs.Common.{ℕ, ◌≡◌, ◌+◌, ◌-◌, Bool, true, false, List, [], ◌∷◌, ◌++◌, take, set}
-use Rattle.std.proofs.Common.{Some, None, refl, sym, ◌∙◌, ap, subst}
+use Rattle.std.proofs.Common.{ℕ, ◌≡◌, ◌-◌, Bool, true, false, cond, List, [], ◌∷◌, drop, filter}
+use Rattle.std.proofs.Common.{Option, Some, None, is_some, refl, sym, ◌∙◌, ap, subst}
+use Rattle.std.specs.List.{cons_option}
 use Rattle.std.specs.Prelude.{slice_get}
 use Rattle.std.proofs.lemmas.Bool.{true≢false}
-use Rattle.std.proofs.lemmas.List.{take_more}
-use Rattle.std.proofs.lemmas.Option.{get_or_from_slice_get, slice_get_within}
+use Rattle.std.proofs.lemmas.List.{set-get_or}
+use Rattle.linx_base.specs.Pending.{name_over, names_over}
 use Rattle.linx_base.specs.declared.identity.Inc.{Inc}
 use Rattle.linx_base.specs.declared.identity.LinkNo.{LinkNo}
 use Rattle.linx_base.specs.declared.identity.NodeNo.{NodeNo}
@@ -12,12 +13,13 @@ use Rattle.linx_base.specs.declared.identity.Peer.{Peer}
 use Rattle.linx_base.specs.declared.identity.Peer.TheVariants.{There}
 use Rattle.linx_base.specs.declared.identity.Session.{Session}
 use Rattle.linx_base.specs.declared.identity.Side.{Side}
+use Rattle.linx_base.specs.declared.pending.PendingHunt.{PendingHunt}
 use Rattle.linx_base.specs.declared.signal.SigNote.{SigNote}
 use Rattle.rlnh_messages.specs.Signals.{IsSignal}
 use Rattle.journal.specs.History.{name_or_none}
 use Rattle.node_kernel.specs.Nodes.{NodeState, OpenEndpoint, is_at, is_living, is_open, name_at}
 use Rattle.run_trunks.specs.Changes.{at_link}
-use Rattle.run_trunks.specs.States.{TrunksState, over, trunk_at, trunks_of}
+use Rattle.run_trunks.specs.States.{TrunksState, no_trunk, over, trunks_of}
 use Rattle.run_trunks.proofs.Rested.{changes-again}
 use Rattle.trunk.specs.Events.{TrunkState, asked_at, side_of}
 use Rattle.trunk.specs.Laws.{MaySend}
@@ -25,33 +27,64 @@ use Rattle.trunk_moves.specs.Packets.{asks_for}
 use Rattle.trunk_moves.specs.Trunks.{side_on}
 use Rattle.fabric.specs.Tellings.{MaySendTo, MayTellSend}
 
--- one more name at the end
-asks-last : (side : Side) (names : List (List ℕ)) (v : List ℕ) (t : TrunkState)
-    → asks_for side (names ++ v ∷ []) t ≡ asked_at side v (asks_for side names t)
-asks-last side [] v t = refl
-asks-last side (w ∷ names) v t = asks-last side names v (asked_at side w t)
+-- THE HUNTS OVER A LINK have the names that are hunted for over it
+pub names-all : (l : LinkNo) (hs : List PendingHunt)
+    → names_over l (filter (λ (h : PendingHunt). is_some (name_over l h.path)) hs)
+    ≡ names_over l hs
+names-all l [] = refl
+names-all l (h ∷ hs) = go (name_over l h.path) refl (names-all l hs)
+  where
+    fs : List PendingHunt
+    fs = filter (λ (g : PendingHunt). is_some (name_over l g.path)) hs
 
--- one more element is read
-read_more : {X : Type 0} (xs : List X) (k : ℕ) (x : X) → slice_get xs k ≡ Some x
-    → take (k + 1) xs ≡ take k xs ++ x ∷ []
-read_more xs k x is =
-    take_more xs k x (slice_get_within xs k x is)
-    ∙ ap (λ y. take k xs ++ y ∷ []) (get_or_from_slice_get xs k x x is)
+    go : (o : Option (List ℕ)) → name_over l h.path ≡ o → names_over l fs ≡ names_over l hs
+        → names_over l (cond (is_some (name_over l h.path)) (h ∷ fs) fs)
+        ≡ cons_option (name_over l h.path) (names_over l hs)
+    go None is rest =
+        ap (λ (b : Bool). names_over l (cond b (h ∷ fs) fs)) (ap is_some is) ∙ rest
+        ∙ ap (λ (o : Option (List ℕ)). cons_option o (names_over l hs)) (sym is)
+    go (Some v) is rest =
+        ap (λ (b : Bool). names_over l (cond b (h ∷ fs) fs)) (ap is_some is)
+        ∙ ap (cons_option (name_over l h.path)) rest
 
--- THE NAMES that are asked for over a link, one after the other: one more
-module _ (l : LinkNo) (side : Side) (ts : List TrunkState) (names : List (List ℕ)) where
-  pub asks-more : (now : List TrunkState) (k : ℕ) (v : List ℕ)
-      → now ≡ at_link l (asks_for side (take k names)) ts → slice_get names k ≡ Some v
-      → at_link l (asked_at side v) now ≡ at_link l (asks_for side (take (k + 1) names)) ts
-  asks-more now k v before is =
-      let t : TrunkState = trunk_at ts (l.0 - 1) in
-      let one : asked_at side v (asks_for side (take k names) t)
-      ≡ asks_for side (take (k + 1) names) t =
-      sym (asks-last side (take k names) v t)
-      ∙ ap (λ (ns : List (List ℕ)). asks_for side ns t) (sym (read_more names k v is)) in
-      ap (at_link l (asked_at side v)) before
-      ∙ changes-again l (asks_for side (take k names)) (asked_at side v) ts
-      ∙ ap (set ts (l.0 - 1)) one
+-- a side asks for their names, hunt by hunt: what is left to ask for makes the same of the trunks
+module _ (l : LinkNo) (side : Side) (all : List TrunkState) where
+  abbrev AreLeft : List PendingHunt → List TrunkState → Type 0
+  AreLeft hunts now = at_link l (asks_for side (names_over l hunts)) now ≡ all
+
+  pub asks-next : (left rest : List PendingHunt) (h : PendingHunt) (v : List ℕ)
+      (now after : List TrunkState) → Some h ≡ slice_get left 0 → rest ≡ drop 1 left
+      → Some v ≡ name_over l h.path → after ≡ at_link l (asked_at side v) now
+      → AreLeft left now → AreLeft rest after
+  asks-next [] rest h v now after is next name asked left_so = cc is
+  asks-next (g ∷ left) rest h v now after is next name asked left_so =
+      let same : h ≡ g = cc is in
+      let one : Some v ≡ name_over l g.path =
+      name ∙ ap (λ (k : PendingHunt). name_over l k.path) same in
+      ap (λ (hs : List PendingHunt). at_link l (asks_for side (names_over l hs)) after) next
+      ∙ ap (at_link l (asks_for side (names_over l left))) asked
+      ∙ changes-again l (asked_at side v) (asks_for side (names_over l left)) now
+      ∙ ap (λ (o : Option (List ℕ)). at_link l
+      (asks_for side (cons_option o (names_over l left))) now) one
+      ∙ left_so
+
+  pub asks-none : (left rest : List PendingHunt) (h : PendingHunt) (now : List TrunkState)
+      → Some h ≡ slice_get left 0 → rest ≡ drop 1 left → None ≡ name_over l h.path
+      → AreLeft left now → AreLeft rest now
+  asks-none [] rest h now is next name left_so = cc
+  asks-none (g ∷ left) rest h now is next name left_so =
+      let same : h ≡ g = cc is in
+      let none : None ≡ name_over l g.path =
+      name ∙ ap (λ (k : PendingHunt). name_over l k.path) same in
+      ap (λ (hs : List PendingHunt). at_link l (asks_for side (names_over l hs)) now) next
+      ∙ ap (λ (o : Option (List ℕ)). at_link l
+      (asks_for side (cons_option o (names_over l left))) now) none
+      ∙ left_so
+
+  pub asks-done : (left : List PendingHunt) (now : List TrunkState) → None ≡ slice_get left 0
+      → AreLeft left now → now ≡ all
+  asks-done [] now none left_so = sym (set-get_or now (l.0 - 1) no_trunk) ∙ left_so
+  asks-done (g ∷ left) now none left_so = cc none
 
 -- AN OPEN ENDPOINT has a name
 pub open-named : (es : List OpenEndpoint) (j : Inc) → is_open es j ≡ true

@@ -3,6 +3,8 @@
 //! kernel changes last.
 
 ghost use Rattle.std.specs.Prelude.{◌≡◌, ◌+◌, ◌<◌, [], ◌∷◌, length, IfOk, OnErr, OnOk};
+ghost use Rattle.std.specs.Option.{option_copied};
+ghost use Rattle.linx_base.specs.Pending.{name_over};
 ghost use Rattle.linx_base.specs.Sides.{other_of};
 ghost use Rattle.carrier.specs.Events.{flight_from, handed_by, link_told_by};
 ghost use Rattle.journal.specs.declared.head.Head.TheVariants as heads;
@@ -20,7 +22,7 @@ use crate::watched_journal::WatchedJournal;
 use crate::wires::Coming;
 use carrier::TickedSide;
 use journal::{By, Effect, Effects, Head, Step};
-use linx_base::{LinkNo, Name, NoMemory, NodeNo, Peer, Session, Side, Verdict};
+use linx_base::{LinkNo, Name, NoMemory, NodeNo, Path, Peer, Session, Side, Verdict};
 use node_kernel::Kernel;
 use run_trunks::RunTrunks;
 use std::alloc::Global;
@@ -33,6 +35,16 @@ pub(crate) struct At {
     pub(crate) link: LinkNo,
     pub(crate) side: Side,
     pub(crate) session: Session,
+}
+
+/// The name that a path has over a link.
+fn name_over(link: LinkNo, path: &Path) -> Option<&Name>
+    ensures { option_copied result ≡ name_over link path.now }
+{
+    match path {
+        Path::Local(_) => None,
+        Path::Over { link: over, name } => { if over.0 == link.0 { Some(name) } else { None } }
+    }
 }
 
 /// A side that went up asks for the name of each hunt that is pending over the link.
@@ -48,15 +60,13 @@ fn ask_again(
     ensures links { trunks.new.links ≡ trunks.old.links }
     ensures err { OnErr result (trunks.new ≡ undone trunks.old) }
 {
-    for k in 0..usize::MAX {
-        let Some(name) = kernel.nth_over(link, k) else {
-            return Ok(());
-        };
-        trunks.asked(link, side, name)?;
+    let mut hunts = kernel.hunts_over(link);
+    while let Some(hunt) = hunts.next_entry() {
+        if let Some(name) = name_over(link, &hunt.path) {
+            trunks.asked(link, side, name)?;
+        }
     }
-    // No memory holds so many hunts.
-    trunks.undo_all();
-    Err(NoMemory)
+    Ok(())
 }
 
 /// A side that was asked for a name publishes the first endpoint of that name, if one is open.

@@ -1,11 +1,10 @@
-ghost use Rattle.std.specs.Prelude.{◌≡◌, [], ◌∷◌, ◌++◌, not, filter, slice_get, OnOk, OnErr, IfErr};
-ghost use Rattle.std.specs.Option.{option_copied};
+ghost use Rattle.std.specs.Prelude.{◌≡◌, [], ◌∷◌, ◌++◌, not, filter, is_some, OnOk, OnErr, IfErr};
 ghost use Rattle.linx_base.specs.Peers.{same_inc};
-ghost use Rattle.linx_base.specs.Pending.{is_for, name_over, names_over};
+ghost use Rattle.linx_base.specs.Pending.{is_for, name_over};
 
 use crate::hunt_key::{HuntKey, over_key, path_key};
 use keyed_list::{KeyedList, Under};
-use linx_base::{Inc, LinkNo, Name, NoMemory, Path, PendingHunt};
+use linx_base::{Inc, LinkNo, NoMemory, Path, PendingHunt};
 use std::alloc::Global;
 use std::marker::Model;
 
@@ -26,16 +25,6 @@ impl Model for HuntTable {
 
 /// A walk over hunts of a table, in order of hunting.
 pub type HuntsUnder<'a> = Under<'a, PendingHunt, HuntKey>;
-
-/// The name that a path has over a link.
-fn name_over(link: LinkNo, path: &Path) -> Option<&Name>
-    ensures { option_copied result ≡ name_over link path.now }
-{
-    match path {
-        Path::Local(_) => None,
-        Path::Over { link: over, name } => { if over.0 == link.0 { Some(name) } else { None } }
-    }
-}
 
 impl HuntTable {
     /// The table with no hunts. It takes no memory.
@@ -63,13 +52,11 @@ impl HuntTable {
         self.hunts.under(path_key(path))
     }
 
-    /// The name of the k-th hunt, from 0, whose path goes over a link. `None` exactly where there
-    /// are at most k.
-    pub fn nth_over(&self, link: LinkNo, k: usize) -> Option<&Name>
-        ensures { option_copied result ≡ slice_get (names_over link self.now) k }
+    /// The hunts whose path goes over a link, in order.
+    pub fn hunts_over(&self, link: LinkNo) -> HuntsUnder<'_>
+        ensures { result ≡ filter (λ hunt. is_some (name_over link hunt.path)) self.now }
     {
-        let hunt = self.hunts.nth(over_key(link), k)?;
-        name_over(link, &hunt.path)
+        self.hunts.under(over_key(link))
     }
 
     /// Frees the hunts for a path. It takes no memory.

@@ -1,5 +1,5 @@
 //! The hunts of a node that wait for their path, in order of hunting. The hunts for a path, the
-//! k-th hunt over a link, and the hunts of a hunter are found without a look at any other hunt.
+//! hunts over a link, and the hunts of a hunter are found without a look at any other hunt.
 #![tactic(auto)]
 
 mod hunt_key;

@@ -174,12 +174,12 @@ fn a_meeting_answers_the_hunts_for_its_name_alone(rt: HostRuntime) -> Result<(),
         5 hunt 1.1 1/x 251 - -> nothing
         6 hunt 1.1 2/x 251 - -> nothing
         7 hunt 1.2 x 251 - -> nothing
-        over 1 1 -> y
+        over 1 -> 3 4 5
         8 met 1:1.5:2.77 x -> met 1 1:1.5:2.77 x, \
         found 1.2 1:1.5:2.77 251 - @3, found 1.1 1:1.5:2.77 251 - @5
         take 1.2 any -> 1:1.5:2.77 found@3 251 - 8.2
         take 1.1 any -> 1:1.5:2.77 found@5 251 - 8.3
-        over 1 1 -> none
+        over 1 -> 4
         9 met 1:1.5:2.78 x -> met 1 1:1.5:2.78 x
         find 1/x -> 1:1.5:2.77
         find 2/x -> none",
@@ -236,7 +236,7 @@ fn a_restart_leaves_nothing_and_tells_nobody(rt: HostRuntime) -> Result<(), Fail
         6 attach 1.1 1.2 252 - -> nothing
         7 attach 1.2 1:1.5:2.77 252 - -> nothing
         8 restart -> closed 1.1, closed 1.2
-        over 1 0 -> none
+        over 1 -> nothing
         alive 1.1 -> no
         alive 1:1.5:2.77 -> no
         9 open c -> 1.3: opened 1.3

@@ -2,7 +2,7 @@
 //! the step's number.
 
 use crate::kernel_calls::{arrive, attach, close, detach, holds, hunt, open, send, take};
-use crate::texts::{effects_text, item_text, name_or_none, peer_text, signal_text};
+use crate::texts::{effects_text, hunts_text, item_text, name_or_none, peer_text, signal_text};
 use case_words::{
     filter_of, front, inc_of, inc_text, link_of, name_of, name_text, number_text, path_of, peer_of,
     session_of, text_of, yes_text,
@@ -130,12 +130,6 @@ fn queue_text(alloc: Global, kernel: &mut Kernel, call: &str, rest: &str) -> Res
     }
 }
 
-/// `over LINK PLACE`: the name of a pending hunt over the link, by its place from 0.
-fn over_text(alloc: Global, kernel: &Kernel, rest: &str) -> Result<String, Fail> {
-    let (link, place) = front(rest);
-    name_or_none(alloc, kernel.nth_over(link_of(link)?, place.parse()?))
-}
-
 /// `find PATH`: the peer that a hunt would find at once.
 fn find_text(alloc: Global, kernel: &Kernel, rest: &str) -> Result<String, Fail> {
     match kernel.find(&path_of(alloc, rest)?) {
@@ -158,7 +152,7 @@ fn look_text(alloc: Global, kernel: &Kernel, call: &str, rest: &str) -> Result<S
         "alive" => yes_text(alloc, kernel.is_living(peer_of(rest)?)),
         "open" => yes_text(alloc, kernel.is_open(inc_of(rest)?)),
         "name" => name_or_none(alloc, kernel.name_of(inc_of(rest)?)),
-        "over" => over_text(alloc, kernel, rest),
+        "over" => hunts_text(alloc, kernel.hunts_over(link_of(rest)?)),
         "find" => find_text(alloc, kernel, rest),
         "first" => first_text(alloc, kernel, rest),
         _ => Err(Fail::from("no such call")),

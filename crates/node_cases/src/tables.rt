@@ -1,6 +1,6 @@
 //! Calls of the tables of a node: its names, its pending hunts and its attaches.
 
-use crate::texts::{name_or_none, or_nothing};
+use crate::texts::{hunts_text, name_or_none, or_nothing};
 use attach_table::{AttachTable, AttachesUnder};
 use case_words::{
     add_piece, follow_anew, front, inc_of, inc_text, link_of, name_of, number_text, path_of,
@@ -90,21 +90,7 @@ fn pend(alloc: Global, table: &mut HuntTable, rest: &str) -> Result<String, Fail
 /// `for PATH`: the numbers of the hunts for the path.
 fn hunts_for(alloc: Global, table: &HuntTable, rest: &str) -> Result<String, Fail> {
     let path = path_of(alloc, rest)?;
-    let mut hunts = table.hunts_for(&path);
-    let mut text = String::new(alloc);
-    for _ in 0..u64::MAX {
-        let Some(hunt) = hunts.next_entry() else {
-            break;
-        };
-        add_piece(&mut text, " ", number_text(alloc, hunt.number)?.as_str())?;
-    }
-    or_nothing(alloc, text)
-}
-
-/// `over LINK PLACE`: the name of the hunt over the link at that place, from 0.
-fn hunt_over(alloc: Global, table: &HuntTable, rest: &str) -> Result<String, Fail> {
-    let (link, place) = front(rest);
-    name_or_none(alloc, table.nth_over(link_of(link)?, place.parse()?))
+    hunts_text(alloc, table.hunts_for(&path))
 }
 
 fn hunts_answer(alloc: Global, table: &mut HuntTable, call: &str) -> Result<String, Fail> {
@@ -112,7 +98,7 @@ fn hunts_answer(alloc: Global, table: &mut HuntTable, call: &str) -> Result<Stri
     match call {
         "pend" => return pend(alloc, table, rest),
         "for" => return hunts_for(alloc, table, rest),
-        "over" => return hunt_over(alloc, table, rest),
+        "over" => return hunts_text(alloc, table.hunts_over(link_of(rest)?)),
         "drop_of" => table.drop_of(inc_of(rest)?),
         "drop_for" => table.drop_for(&path_of(alloc, rest)?),
         _ => return Err(Fail::from("no such call")),
@@ -132,13 +118,14 @@ fn hunts_are_found_by_path_link_and_hunter(rt: HostRuntime) -> Result<(), Fail> 
         pend 13 1.3 1/b -> done
         pend 14 1.3 1/a -> done
         for 1/a -> 10 14
-        over 1 1 -> b
-        over 1 3 -> none
+        over 1 -> 10 13 14
+        over 3 -> nothing
         drop_of 1.3 -> done
         for 1/a -> 10
         drop_for 1/a -> done
         for 1/a -> nothing
-        over 2 0 -> a
+        over 2 -> 12
+        over 1 -> nothing
         for a -> 11",
     )
 }

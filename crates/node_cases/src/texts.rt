@@ -1,6 +1,7 @@
 //! What is answered, as text; effects in the words of `docs/text.md`.
 
-use case_words::{add_piece, inc_text, name_text, session_text, text_of};
+use case_words::{add_piece, inc_text, name_text, number_text, session_text, text_of};
+use hunt_table::HuntsUnder;
 use journal::{Effect, Effects};
 use linx_base::{Inc, Item, ItemAt, Kind, Name, Peer, Reason, SigNote};
 use std::alloc::Global;
@@ -12,6 +13,18 @@ pub fn or_nothing(alloc: Global, text: String) -> Result<String, Fail> {
         return text_of(alloc, "nothing");
     }
     Ok(text)
+}
+
+/// The numbers of the hunts that a walk goes over, or `nothing`.
+pub fn hunts_text(alloc: Global, mut hunts: HuntsUnder<'_>) -> Result<String, Fail> {
+    let mut text = String::new(alloc);
+    for _ in 0..u64::MAX {
+        let Some(hunt) = hunts.next_entry() else {
+            break;
+        };
+        add_piece(&mut text, " ", number_text(alloc, hunt.number)?.as_str())?;
+    }
+    or_nothing(alloc, text)
 }
 
 /// A name, or `none`.

@@ -1,8 +1,8 @@
-ghost use Rattle.std.specs.Prelude.{◌≡◌, ◌<◌, [], ◌∷◌, length, filter, map, slice_get, is_some};
+ghost use Rattle.std.specs.Prelude.{◌≡◌, ◌<◌, [], ◌∷◌, length, filter, map, is_some};
 ghost use Rattle.std.specs.Prelude.{IfOk, IfErr, OnOk, OnErr, IsTrue};
 ghost use Rattle.std.specs.Option.{option_copied};
 ghost use Rattle.linx_base.specs.Content.{data_limit};
-ghost use Rattle.linx_base.specs.Pending.{names_over};
+ghost use Rattle.linx_base.specs.Pending.{name_over};
 ghost use Rattle.linx_base.specs.declared.identity.Peer.TheVariants.{Here, There};
 ghost use Rattle.sigsel.specs.Selection.{first_selected, without_first};
 ghost use Rattle.journal.specs.declared.effect.Effect.TheVariants.{Arrived};
@@ -15,7 +15,7 @@ use crate::met::MetPeers;
 use crate::roster::Roster;
 use crate::rules::{closing, closings, losing, meeting, opening, parting};
 use attach_table::AttachTable;
-use hunt_table::HuntTable;
+use hunt_table::{HuntTable, HuntsUnder};
 use journal::{Detached, Effects};
 use linx_base::{
     AttRef, Inc, Item, LinkNo, MetPeer, Name, NoMemory, NodeNo, Path, Peer, PendingAttach,
@@ -105,12 +105,11 @@ impl Kernel {
         self.roster.name_of(inc)
     }
 
-    /// The name of the k-th pending hunt, from 0, whose path goes over the link. `None` exactly
-    /// where there are at most k.
-    pub fn nth_over(&self, link: LinkNo, k: usize) -> Option<&Name>
-        ensures { option_copied result ≡ slice_get (names_over link self.now.hunts) k }
+    /// The pending hunts whose path goes over the link, in order of hunting.
+    pub fn hunts_over(&self, link: LinkNo) -> HuntsUnder<'_>
+        ensures { result ≡ filter (λ hunt. is_some (name_over link hunt.path)) self.now.hunts }
     {
-        self.hunts.nth_over(link, k)
+        self.hunts.hunts_over(link)
     }
 
     /// What a hunt of the path would find at once. `None` exactly where it would stay pending.

@@ -1,18 +1,51 @@
-use Rattle.std.proofs.Common.{◌≡◌, ◌∙◌, ap, sym, List, ℕ, Some}
-use Rattle.std.specs.Prelude.{slice_get, option_copied}
+use Rattle.std.proofs.Common.{ℕ, List, refl, ◌∙◌, ap}
 use Rattle.linx_base.specs.Pending.{names_over}
-use Rattle.fabric.proofs.Tells.{asks-more}
+use Rattle.linx_base.specs.declared.pending.PendingHunt.{PendingHunt}
+use Rattle.node_kernel.proofs.Gathering.{falls}
+use Rattle.run_trunks.specs.Changes.{at_link}
+use Rattle.trunk_moves.specs.Packets.{asks_for}
+use Rattle.fabric.proofs.Tells.{asks-done, asks-next, asks-none, names-all}
 use Rattle.fabric.proofs.bringing.ask_again.Goals as goal
 
-pub loop-k-preserved : goal.loop-k-preserved
-loop-k-preserved c =
-    let names : List (List ℕ) = names_over c.args.link c.args.kernel.now.hunts in
-    let read : slice_get names c.loop-k.k ≡ Some c.in-Some.name.now =
-    sym c.nth_over.ensures ∙ ap option_copied c.in-Some.is in
-    record {
-      is = c.in_ok-asked.ensures.is
-          ∙ asks-more c.args.link c.args.side c.args.trunks.now.is names c.loop-k.trunks.is
-          c.loop-k.k c.in-Some.name.now c.loop-k.invariant.is read;
-      was = c.in_ok-asked.ensures.was ∙ c.loop-k.invariant.was;
-      links = c.in_ok-asked.ensures.links ∙ c.loop-k.invariant.links;
-    }
+pub loop-hunt-init : goal.loop-hunt-init
+loop-hunt-init c = record {
+  is = ap (λ (hs : List PendingHunt). at_link c.args.link
+      (asks_for c.args.side (names_over c.args.link hs)) c.args.trunks.now.is)
+      c.hunts_over-hunts.ensures
+      ∙ ap (λ (names : List (List ℕ)). at_link c.args.link (asks_for c.args.side names)
+      c.args.trunks.now.is) (names-all c.args.link c.args.kernel.now.hunts);
+  was = refl;
+  links = refl;
+}
+
+pub loop-hunt-smaller-in-Continue-1 : goal.loop-hunt-smaller-in-Continue-1
+loop-hunt-smaller-in-Continue-1 c =
+    falls c.loop-hunt.hunts _ c.in-Some.hunt.now c.in-Some.ensures.entry c.next_entry.ensures.rest
+
+pub loop-hunt-smaller : goal.loop-hunt-smaller
+loop-hunt-smaller c =
+    falls c.loop-hunt.hunts _ c.in-Some.hunt.now c.in-Some.ensures.entry c.next_entry.ensures.rest
+
+pub loop-hunt-preserved-in-Continue-1 : goal.loop-hunt-preserved-in-Continue-1
+loop-hunt-preserved-in-Continue-1 c = record {
+  is = asks-next c.args.link c.args.side _ c.loop-hunt.hunts _ c.in-Some.hunt.now
+      c.in-Some-name_over.name.now c.loop-hunt.trunks.is c.asked.new.self.is
+      c.in-Some.ensures.entry c.next_entry.ensures.rest c.in-Some-name_over.ensures
+      c.in_ok-asked.ensures.is c.loop-hunt.invariant.is;
+  was = c.in_ok-asked.ensures.was ∙ c.loop-hunt.invariant.was;
+  links = c.in_ok-asked.ensures.links ∙ c.loop-hunt.invariant.links;
+}
+
+pub loop-hunt-preserved : goal.loop-hunt-preserved
+loop-hunt-preserved c = record {
+  is = asks-none c.args.link c.args.side _ c.loop-hunt.hunts _ c.in-Some.hunt.now
+      c.loop-hunt.trunks.is c.in-Some.ensures.entry c.next_entry.ensures.rest
+      c.in_default-name_over.ensures c.loop-hunt.invariant.is;
+  was = c.loop-hunt.invariant.was;
+  links = c.loop-hunt.invariant.links;
+}
+
+pub returns-clause-is : goal.returns-clause-is
+returns-clause-is c =
+    asks-done c.args.link c.args.side _ c.loop-hunt.hunts _ c.in_default.ensures.entry
+    c.loop-hunt.invariant.is

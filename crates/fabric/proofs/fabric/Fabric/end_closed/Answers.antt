@@ -10,7 +10,7 @@ pub invariant_of-self : goal.invariant_of-self
 invariant_of-self c =
     let seen = sees c.self.invariant.0 c.self.view_is in
     let acts = acting-home seen c.args.actor c.requires.asked.may.maker
-        c.requires.asked.room c.requires.asked.short in
+    c.requires.asked.room c.requires.asked.short in
     let mine = endpoint-seen seen c.args.actor _ c.requires.granted in (
       (made-end_closed acts mine c.index_mut.result.now c.end.new.self c.index_mut.ensures.value
           c.end.ensures c.make_quiet.new.journal.log c.in-Ok.ensures.log).0,
@@ -21,7 +21,7 @@ pub returns-in-Ok-clause-ok : goal.returns-in-Ok-clause-ok
 returns-in-Ok-clause-ok c =
     let seen = sees c.self.invariant.0 c.self.view_is in
     let acts = acting-home seen c.args.actor c.requires.asked.may.maker
-        c.requires.asked.room c.requires.asked.short in
+    c.requires.asked.room c.requires.asked.short in
     let mine = endpoint-seen seen c.args.actor _ c.requires.granted in
     makes-seen seen (lay_still acts c.make_quiet.new.journal.log) c.args.actor
     (asking asks.End None) answers.Done

@@ -10,7 +10,7 @@ pub invariant_of-self : goal.invariant_of-self
 invariant_of-self c =
     let seen = sees c.self.invariant.0 c.self.view_is in
     let acts = acting-home seen c.args.actor c.requires.asked.may.maker
-        c.requires.asked.room c.requires.asked.short in
+    c.requires.asked.room c.requires.asked.short in
     let owns = rw (← c.self.view_is) at c.requires.granted in
     let vain = rw (← c.self.view_is) at c.requires.vain in
     let rest = rw (← c.self.view_is) at c.requires.rest in (
@@ -24,7 +24,7 @@ pub returns-in-Ok-clause-ok : goal.returns-in-Ok-clause-ok
 returns-in-Ok-clause-ok c =
     let seen = sees c.self.invariant.0 c.self.view_is in
     let acts = acting-home seen c.args.actor c.requires.asked.may.maker
-        c.requires.asked.room c.requires.asked.short in
+    c.requires.asked.room c.requires.asked.short in
     let owns = rw (← c.self.view_is) at c.requires.granted in
     let vain = rw (← c.self.view_is) at c.requires.vain in
     let rest = rw (← c.self.view_is) at c.requires.rest in

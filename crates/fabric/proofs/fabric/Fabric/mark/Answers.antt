@@ -12,7 +12,7 @@ pub invariant_of-self : goal.invariant_of-self
 invariant_of-self c =
     let seen = sees c.self.invariant.0 c.self.view_is in
     let acts = acting-home seen c.args.actor c.requires.asked.may.maker
-        c.requires.asked.room c.requires.asked.short in
+    c.requires.asked.room c.requires.asked.short in
     let of_shape = back seen (λ (v : Layout). IsLinkOf v.shape c.args.link)
     (mark-fits c.args.self.now _ _ c.args.mark c.args.link c.requires.asked.may.fits) in (
       (made-marked acts c.args.link of_shape c.args.mark c.index_mut.result.now c.mark.new.self
@@ -26,7 +26,7 @@ pub returns-in-Ok-clause-ok : goal.returns-in-Ok-clause-ok
 returns-in-Ok-clause-ok c =
     let seen = sees c.self.invariant.0 c.self.view_is in
     let acts = acting-home seen c.args.actor c.requires.asked.may.maker
-        c.requires.asked.room c.requires.asked.short in
+    c.requires.asked.room c.requires.asked.short in
     let of_shape = back seen (λ (v : Layout). IsLinkOf v.shape c.args.link)
     (mark-fits c.args.self.now _ _ c.args.mark c.args.link c.requires.asked.may.fits) in
     makes-seen seen _ c.args.actor (asking (event_of_mark c.args.mark c.args.link) None)

@@ -44,7 +44,7 @@ made : (c : After-wait) → IsMadeSeen (view c.self.inside) c.args.self.now
 made c =
     let seen = sees c.self.invariant.0 c.self.view_is in
     let acts = acting-home seen c.args.actor c.requires.asked.may.maker
-        c.requires.asked.room c.requires.asked.short in
+    c.requires.asked.room c.requires.asked.short in
     let asked = may-seen seen c.requires.asked in
     let counted : length c.make_restart-made.new.standings ≡ c.self.inside.standings.len =
     omega (arith, c.make_restart-made.auto.standings, c.deref_mut.ensures.len) in
