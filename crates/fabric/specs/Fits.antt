@@ -1,8 +1,9 @@
 -- That what an event speaks of is there, where a maker asks for it.
 use Rattle.std.specs.Prelude.{ℕ, ◌≡◌, ◌≤◌, ◌<◌, true, List, length}
 use Rattle.linx_base.specs.Content.{data_limit}
+use Rattle.linx_base.specs.Verdicts.{fits_verdict}
 use Rattle.linx_base.specs.declared.frame.Verdict.{Verdict}
-use Rattle.linx_base.specs.declared.frame.Verdict.TheVariants.{Lose, Swap}
+use Rattle.linx_base.specs.declared.frame.Verdict.TheVariants.{Lose}
 use Rattle.linx_base.specs.declared.identity.LinkNo.{LinkNo}
 use Rattle.linx_base.specs.declared.identity.Side.{Side}
 use Rattle.linx_base.specs.declared.name.Path.{Path}
@@ -28,18 +29,14 @@ abbrev pub LeavesBy : Shape → ℕ → Path → Type 0
 LeavesBy shape node (Over l name) = HasSideOn shape node l
 LeavesBy shape node _ = Unit {0}
 
--- a swap is with one of the nine places behind the first
-abbrev pub IsVerdict : Verdict → Type 0
-IsVerdict (Swap k) = (1 ≤ k) × (k ≤ 9)
-IsVerdict _ = Unit {0}
-
--- a packet may meet this verdict: one is in flight, and while the link is cut it is lost
+-- a packet may meet this verdict: one is in flight, while the link is cut it is lost, and the
+-- verdict can stand
 pub record MayMeetIn (shape : Shape) (P : List Step) (trunks : RunTrunks) (l : LinkNo) (from : Side)
     (verdict : Verdict) : Type 0 where
   pub of_shape : IsLinkOf shape l
   pub flies : 0 < length (flight_from from (trunks l.0).link)
   pub lost : is_cut P l.0 ≡ true → verdict ≡ Lose
-  pub fits : IsVerdict verdict
+  pub fits : fits_verdict verdict ≡ true
 
 -- WHAT AN EVENT SPEAKS OF IS THERE, on so many nodes, after these steps, where it is of a maker on
 -- this node

@@ -4,6 +4,7 @@ pub mod Numbers
 pub mod Sides
 pub mod Peers
 pub mod Frames
+pub mod Verdicts
 pub mod Both
 pub mod FirstMatch
 pub mod Fronts

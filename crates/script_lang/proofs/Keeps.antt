@@ -6,6 +6,7 @@ use Rattle.std.specs.Str.{bytes_eq}
 use Rattle.std.proofs.lemmas.Bool.{and_parts, and_from, or_parts, not_from_false, not-true}
 use Rattle.std.proofs.lemmas.Bool.{leb-true, le-leb}
 use Rattle.std.proofs.lemmas.List.Sums.{sum_by_push}
+use Rattle.linx_base.specs.Verdicts.{fits_verdict}
 use Rattle.linx_base.specs.declared.name.Path.{Path}
 use Rattle.linx_base.specs.declared.name.Path.TheVariants.{Local, Over}
 use Rattle.linx_base.specs.declared.identity.LinkNo.{LinkNo}
@@ -20,7 +21,6 @@ use Rattle.script_words.specs.declared.command.Command.TheVariants.{Keep, Cut, M
 use Rattle.script_words.specs.declared.command.Command.TheVariants.{Settle}
 use Rattle.script_lang.specs.Limits.{node_limit, link_limit, actor_limit, command_limit}
 use Rattle.script_lang.specs.Limits.{all_commands_limit, verdict_limit}
-use Rattle.script_words.specs.Verdicts.{fits_verdict}
 use Rattle.script_words.proofs.Lists.{list_all_push}
 use Rattle.script_lang.specs.declared.actor_script.ActorScript.{ActorScript}
 use Rattle.script_lang.specs.Parts.{ScriptParts, planned_verdicts, with_node, with_link}

@@ -9,6 +9,7 @@ use Rattle.linx_base.specs.declared.identity.NodeNo.{NodeNo}
 use Rattle.linx_base.specs.declared.frame.LinkDecl.{LinkDecl}
 use Rattle.linx_base.specs.declared.frame.Verdict.{Verdict}
 use Rattle.linx_base.specs.Content.{data_limit}
+use Rattle.linx_base.specs.Verdicts.{fits_verdict}
 use Rattle.script_words.specs.declared.command.Command.{Command}
 use Rattle.script_words.specs.declared.command.Command.TheVariants.{Open, Close, Send, Forward}
 use Rattle.script_words.specs.declared.command.Command.TheVariants.{Recv, Hunt, Attach, Detach}
@@ -18,7 +19,6 @@ use Rattle.script_words.specs.Limits.{attach_data_limit}
 use Rattle.script_words.specs.Numbers.{is_within}
 use Rattle.script_words.specs.Filling.{fits_data}
 use Rattle.script_words.specs.Filter.{fits_filter}
-use Rattle.script_words.specs.Verdicts.{fits_verdict}
 use Rattle.script_words.specs.Declaration.{has_link_size}
 use Rattle.script_lang.specs.declared.actor_script.ActorScript.{ActorScript}
 use Rattle.script_lang.specs.declared.plans.Plans.{Plans}

@@ -2,9 +2,9 @@
 
 ghost use Rattle.std.specs.Prelude.{◌≡◌, ◌+◌, ◌-◌, ◌<◌, ◌≤◌, length, IfOk, IsTrue, true};
 ghost use Rattle.std.specs.List.{list_all};
+ghost use Rattle.linx_base.specs.Verdicts.{fits_verdict};
 ghost use Rattle.script_lang.specs.Limits.{verdict_limit};
 ghost use Rattle.script_words.specs.Gives.{Gives};
-ghost use Rattle.script_words.specs.Verdicts.{fits_verdict};
 ghost use Rattle.script_words.specs.Declaration.{has_link_size, is_in_range};
 ghost use Rattle.script_lang.specs.Parts.{planned_verdicts, with_verdicts};
 ghost use Rattle.script_lang.specs.Fits.{is_link};

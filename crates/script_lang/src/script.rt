@@ -1,8 +1,8 @@
 ghost use Rattle.std.specs.Prelude.{◌≡◌, ◌+◌, ◌<◌, ◌≤◌, length, OnOk, OnErr, IsTrue, false};
 ghost use Rattle.std.specs.List.{list_all};
+ghost use Rattle.linx_base.specs.Verdicts.{fits_verdict};
 ghost use Rattle.script_lang.specs.Limits.{actor_limit, all_commands_limit, command_limit};
 ghost use Rattle.script_lang.specs.Limits.{link_limit, node_limit, verdict_limit};
-ghost use Rattle.script_words.specs.Verdicts.{fits_verdict};
 ghost use Rattle.script_lang.specs.Parts.{empty_script, planned_verdicts, with_node, with_link};
 ghost use Rattle.script_lang.specs.Parts.{with_verdict, with_actor};
 ghost use Rattle.script_lang.specs.Fits.{is_node, is_link, is_among, fits_link, fits_command};

@@ -3,6 +3,7 @@ use Rattle.std.specs.Prelude.{ℕ, Bool, true, ◌&&◌, Result, Ok, Err, List, 
 use Rattle.std.specs.Prelude.{if◌then◌else◌}
 use Rattle.std.specs.List.{list_all}
 use Rattle.std.specs.Str.{bytes_eq}
+use Rattle.linx_base.specs.Verdicts.{fits_verdict}
 use Rattle.script_words.specs.declared.bad_kind.BadKind.{BadKind}
 use Rattle.script_words.specs.declared.bad_kind.BadKind.TheVariants.{BadShape, UnknownWord}
 use Rattle.script_words.specs.declared.declaration.Declaration.{Declaration}
@@ -13,7 +14,7 @@ use Rattle.script_words.specs.Limits.{piece_unsaid}
 use Rattle.script_words.specs.Words.{alone}
 use Rattle.script_words.specs.Numbers.{is_within, within}
 use Rattle.script_words.specs.Names.{name_of, one_name_of}
-use Rattle.script_words.specs.Verdicts.{fits_verdict, side_in, verdicts_of}
+use Rattle.script_words.specs.Verdicts.{side_in, verdicts_of}
 
 -- a window of 1 to 256, and a piece of 64 to 8,192
 abbrev pub has_link_size : ℕ → ℕ → Bool

@@ -1,5 +1,5 @@
 -- words as the verdicts of a direction
-use Rattle.std.specs.Prelude.{ℕ, ◌-◌, Bool, true, ◌&&◌, ◌==◌, Result, Ok, Err, List, [], ◌∷◌, codes}
+use Rattle.std.specs.Prelude.{ℕ, ◌-◌, ◌&&◌, ◌==◌, Result, Ok, Err, List, [], ◌∷◌, codes}
 use Rattle.std.specs.Prelude.{if◌then◌else◌}
 use Rattle.std.specs.Str.{bytes_eq}
 use Rattle.linx_base.specs.declared.identity.Side.{Side}
@@ -10,13 +10,6 @@ use Rattle.script_words.specs.declared.bad_kind.BadKind.{BadKind}
 use Rattle.script_words.specs.declared.bad_kind.BadKind.TheVariants.{BadShape}
 use Rattle.script_words.specs.Words.{each_of}
 use Rattle.script_words.specs.Numbers.{is_within}
-
--- an exchange is with a place from 1 to 9
-abbrev pub fits_verdict : Verdict → Bool
-fits_verdict Deliver = true
-fits_verdict Lose = true
-fits_verdict Repeat = true
-fits_verdict (Swap place) = is_within 1 9 place
 
 -- the direction of a plan, by the side that sends
 unfoldable pub side_in : List ℕ → Result Side BadKind

@@ -2,8 +2,9 @@
 
 ghost use Rattle.std.specs.Prelude.{◌≡◌, map, IfOk, true};
 ghost use Rattle.std.specs.List.{list_all};
+ghost use Rattle.linx_base.specs.Verdicts.{fits_verdict};
 ghost use Rattle.script_words.specs.Gives.{Gives};
-ghost use Rattle.script_words.specs.Verdicts.{fits_verdict, side_in, swap_of, verdict_of};
+ghost use Rattle.script_words.specs.Verdicts.{side_in, swap_of, verdict_of};
 ghost use Rattle.script_words.specs.Verdicts.{verdicts_of};
 
 use crate::line_error::{BAD_SHAPE, LineError};

@@ -1,6 +1,6 @@
 -- The pump's rule: it asks for something exactly where its link stirs, for what it may ask, and its
 -- steps are as planned.
-use Rattle.std.proofs.Common.{◌≡◌, ◌≢◌, ℕ, zero, suc, ◌-◌, ◌%◌, ◌<◌, ◌≤◌, ◌⊎◌, Bool, true, false}
+use Rattle.std.proofs.Common.{◌≡◌, ◌≢◌, ℕ, zero, suc, ◌-◌, ◌%◌, ◌<◌, ◌⊎◌, Bool, true, false}
 use Rattle.std.proofs.Common.{not, List, [], ◌∷◌, length, Option, Some, None, refl, sym, ◌∙◌, ap}
 use Rattle.std.proofs.Common.{subst, inl, inr, arith}
 use Rattle.std.specs.Prelude.{◌&&◌, ◌||◌, ◌==◌, nat_le, nat_lt, is_some, slice_get}
@@ -8,8 +8,9 @@ use Rattle.std.specs.Prelude.{if◌then◌else◌}
 use Rattle.std.specs.List.{list_all}
 use Rattle.std.proofs.lemmas.Bool.{and_parts, eq-eqb, le-leb, ltb-true, ne_eqb}
 use Rattle.std.proofs.lemmas.Bool.Decides.{nat_tests}
+use Rattle.linx_base.specs.Verdicts.{fits_verdict}
 use Rattle.linx_base.specs.declared.frame.Verdict.{Verdict}
-use Rattle.linx_base.specs.declared.frame.Verdict.TheVariants.{Deliver, Lose, Repeat, Swap}
+use Rattle.linx_base.specs.declared.frame.Verdict.TheVariants.{Deliver, Lose}
 use Rattle.linx_base.specs.declared.identity.LinkNo.{LinkNo}
 use Rattle.linx_base.specs.declared.identity.Side.{Side}
 use Rattle.linx_base.specs.declared.identity.Side.TheVariants.{First, Second}
@@ -26,7 +27,6 @@ use Rattle.link_laws.specs.Sessions.{is_cut}
 use Rattle.node_kernel.specs.declared.answers.StepAnswer.{StepAnswer}
 use Rattle.node_kernel.specs.declared.ask.Ask.{Ask}
 use Rattle.run_trunks.specs.States.{trunks_of}
-use Rattle.script_words.specs.Verdicts.{fits_verdict}
 use Rattle.script_lang.specs.declared.plans.Plans.{Plans}
 use Rattle.script_lang.specs.Fits.{fits_plan, fits_plans, is_link, IsScript}
 use Rattle.script_lang.specs.Limits.{verdict_limit}
@@ -34,7 +34,6 @@ use Rattle.script_lang.specs.Parts.{ScriptParts, plan_in, planned_verdicts, side
 use Rattle.trunk.specs.Events.{TrunkState}
 use Rattle.trunk_moves.specs.Trunks.{RunTrunks}
 use Rattle.fabric.specs.Asks.{MayAsk, MayMeet}
-use Rattle.fabric.specs.Fits.{IsVerdict}
 use Rattle.fabric.specs.Links.{flies_from, is_settled, is_up_at, stirs, stirs_if, tick_steps}
 use Rattle.fabric.specs.Links.{wire_steps}
 use Rattle.fabric.specs.Machine.{pumped_head}
@@ -170,23 +169,12 @@ pub pump-asked : (script : ScriptParts) (P : List Step) (trunks : RunTrunks) (l 
 pump-asked script P trunks l event is = event-asked (verdict_for script P l) P trunks l event is
 
 -- ITS VERDICTS are in range
-verdict_fits : (v : Verdict) → fits_verdict v ≡ true → IsVerdict v
-verdict_fits Deliver fits = tt
-verdict_fits Lose fits = tt
-verdict_fits Repeat fits = tt
-verdict_fits (Swap place) fits =
-    let parts = and_parts (nat_le 1 place) (nat_le place 9) fits in
-    (below 1 place parts.0, below place 9 parts.1)
-  where
-    below : (a b : ℕ) → nat_le a b ≡ true → a ≤ b
-    below a b h = grind (arith, nat_tests)
-
 used_fits : (plan : List Verdict) (used : ℕ) → list_all fits_verdict plan ≡ true
-    → IsVerdict (verdict_or plan used)
-used_fits [] zero all = tt
-used_fits [] (suc used) all = tt
+    → fits_verdict (verdict_or plan used) ≡ true
+used_fits [] zero all = refl
+used_fits [] (suc used) all = refl
 used_fits (v ∷ rest) zero all =
-    verdict_fits v (and_parts (fits_verdict v) (list_all fits_verdict rest) all).0
+    (and_parts (fits_verdict v) (list_all fits_verdict rest) all).0
 used_fits (v ∷ rest) (suc used) all =
     used_fits rest used (and_parts (fits_verdict v) (list_all fits_verdict rest) all).1
 
@@ -211,9 +199,9 @@ plan_fits (plans ∷ rest) (suc place) from fits =
 
 verdict_with : (cut settled : Bool) (plan : List Verdict) (used : ℕ)
     → list_all fits_verdict plan ≡ true
-    → IsVerdict (if cut then Lose else if settled then Deliver else verdict_or plan used)
-verdict_with true settled plan used fits = tt
-verdict_with false true plan used fits = tt
+    → fits_verdict (if cut then Lose else if settled then Deliver else verdict_or plan used) ≡ true
+verdict_with true settled plan used fits = refl
+verdict_with false true plan used fits = refl
 verdict_with false false plan used fits = used_fits plan used fits
 
 -- IT MAY ASK for what it asks

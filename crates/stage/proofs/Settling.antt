@@ -287,7 +287,7 @@ module _ (f : Layout) (by : By) (l : LinkNo) (of_shape : IsLinkOf f.shape l)
                 of_shape = of_shape;
                 flies = wire.flies;
                 lost = λ cut. absurd (true≢false (sym cut ∙ whole));
-                fits = tt;
+                fits = refl;
               };
             })
         | inr tick ↦

@@ -6,13 +6,13 @@ use Rattle.std.specs.Fmt.{digits}
 use Rattle.std.proofs.lemmas.Bool.{cond_both}
 use Rattle.std.proofs.lemmas.List.FromFn.{map-range_with_len_more, length-map-range_with_len}
 use Rattle.std.proofs.lemmas.List.FromFn.{get_or-map-range_with_len}
+use Rattle.linx_base.specs.Verdicts.{fits_verdict}
 use Rattle.linx_base.specs.declared.identity.Side.{Side}
 use Rattle.linx_base.specs.declared.identity.Side.TheVariants.{First, Second}
 use Rattle.linx_base.specs.declared.frame.LinkDecl.{LinkDecl}
 use Rattle.linx_base.specs.declared.frame.Verdict.{Verdict}
 use Rattle.linx_base.specs.declared.frame.Verdict.TheVariants.{Deliver, Lose, Repeat, Swap}
 use Rattle.linx_base.specs.declared.name.Names.{Names}
-use Rattle.script_words.specs.Verdicts.{fits_verdict}
 use Rattle.script_lang.specs.declared.plans.Plans.{Plans}
 use Rattle.script_lang.specs.Limits.{link_limit}
 use Rattle.script_lang.specs.Parts.{ScriptParts, parts_of, planned, planned_at, with_link}

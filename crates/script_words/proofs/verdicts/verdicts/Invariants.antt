@@ -1,6 +1,7 @@
 use Rattle.std.proofs.Common.{◌≡◌, true, drop, map}
 use Rattle.std.specs.List.{list_all}
-use Rattle.script_words.specs.Verdicts.{fits_verdict, verdicts_of}
+use Rattle.linx_base.specs.Verdicts.{fits_verdict}
+use Rattle.script_words.specs.Verdicts.{verdicts_of}
 use Rattle.script_words.proofs.Fronts.{with_front}
 use Rattle.script_words.proofs.verdicts.verdicts.Given as goal
 
