@@ -8,6 +8,7 @@ use Rattle.linx_base.specs.declared.identity.NodeNo.{NodeNo}
 use Rattle.linx_base.specs.declared.identity.Side.{Side}
 use Rattle.journal.specs.declared.effect.Step.{Step}
 use Rattle.journal.specs.History.{open_endpoints}
+use Rattle.journal.specs.Living.{holder_of}
 use Rattle.journal.specs.Pending.{hunting}
 use Rattle.link_laws.specs.Brought.{Brought, arrives, brought_at, goes_down, goes_up, meets}
 use Rattle.link_laws.specs.Brought.{nothing, parts}
@@ -18,7 +19,7 @@ use Rattle.trunk.specs.Events.{TrunkState, published_at}
 use Rattle.trunk.specs.declared.up.TrunkUp.{TrunkUp}
 use Rattle.trunk.specs.declared.up.TrunkUp.TheVariants.{Nothing, WentUp, WentDown, Arrived, Met}
 use Rattle.trunk.specs.declared.up.TrunkUp.TheVariants.{Gone, Asked}
-use Rattle.trunk_moves.specs.Packets.{answered, asks_for, holder_of, publishes_if}
+use Rattle.trunk_moves.specs.Packets.{answered, asks_for, publishes_if}
 use Rattle.fabric.specs.declared.bringing.At.{At}
 use Rattle.fabric.specs.Bringings.{answers_told, brought_on, publishes_over}
 use Rattle.fabric.specs.Remains.{node_left}

@@ -61,9 +61,12 @@ met_peer (Some m) = Some m.peer
 abbrev pub is_named_over : LinkNo → List ℕ → MetPeer → Bool
 is_named_over l name m = is_peer_over l m.peer && bytes_eq name m.name
 
+-- the first opened endpoint of a node that has this name and is open
+abbrev pub holder_of : List Step → ℕ → List ℕ → Option Inc
+holder_of P node name = first_match (λ i. bytes_eq name (name_of P i)) (open_endpoints P node)
+
 -- what a path finds at a node: the first opened endpoint of the name that is open, or the first met
 -- peer of the name that lives
 abbrev pub find : List Step → ℕ → Path → Option Peer
-find P node (Local name) =
-    here (first_match (λ i. bytes_eq name (name_of P i)) (open_endpoints P node))
+find P node (Local name) = here (holder_of P node name)
 find P node (Over l name) = met_peer (first_match (is_named_over l name) (living P node))

@@ -7,6 +7,7 @@ use Rattle.linx_base.specs.declared.identity.Inc.{Inc}
 use Rattle.linx_base.specs.declared.identity.LinkNo.{LinkNo}
 use Rattle.linx_base.specs.declared.identity.Side.{Side}
 use Rattle.linx_base.specs.declared.identity.Side.TheVariants.{First, Second}
+use Rattle.journal.specs.Living.{holder_of}
 use Rattle.journal.specs.declared.effect.Effect.{Effect}
 use Rattle.journal.specs.declared.effect.Step.{Step}
 use Rattle.carrier.specs.Events.{LinkState, handed_by, near_handed, seen_from}
@@ -30,7 +31,7 @@ use Rattle.trunk.specs.Laws.{IsOffered, MayPublish}
 use Rattle.trunk.proofs.Events.{events_keep, near_tells, turned_keeps}
 use Rattle.trunk.proofs.Trunks.{agree, offers, understood}
 use Rattle.trunk_moves.specs.Grants.{AreNames, GrantsAnswer}
-use Rattle.trunk_moves.specs.Packets.{Comes, answered, holder_of, names_hunted}
+use Rattle.trunk_moves.specs.Packets.{Comes, answered, names_hunted}
 use Rattle.run_settling.proofs.Offering.{StillSettles, asks_settle, publishes_settles, still_says}
 
 -- ---- a packet to the first side of a trunk that is seen from this side

@@ -19,6 +19,7 @@ use Rattle.trunk_record.specs.Records.{SideRecord}
 use Rattle.trunk_record.specs.Sayings.{asked_for, was_unpublished}
 use Rattle.carrier.specs.Events.{flight_from, handed_by}
 use Rattle.journal.specs.History.{name_of, open_endpoints}
+use Rattle.journal.specs.Living.{holder_of}
 use Rattle.journal.specs.Shapes.{Shape}
 use Rattle.journal.specs.declared.effect.Effect.{Effect}
 use Rattle.journal.specs.declared.effect.Step.{Step}
@@ -43,7 +44,7 @@ use Rattle.trunk.proofs.Quiet.{quiet}
 use Rattle.trunk.proofs.Trunks.{events_tell}
 use Rattle.trunk_moves.specs.Grants.{AreNames}
 use Rattle.trunk_moves.specs.Packets.{Comes, IsBeat, IsLostThere, IsSwapped, Meets, answered}
-use Rattle.trunk_moves.specs.Packets.{asks_for, holder_of, names_hunted, place_of, publishes_if}
+use Rattle.trunk_moves.specs.Packets.{asks_for, names_hunted, place_of, publishes_if}
 use Rattle.trunk_moves.specs.Steps.{FindsNone, Passes, Rests, Ticks}
 use Rattle.trunk_moves.specs.Trunks.{Become, RunTrunks, UsesUpTo, links_of, state_of, with_trunk}
 use Rattle.trunk_moves.proofs.Calls.{left_itself, left_of, other_left}

@@ -37,6 +37,7 @@ use Rattle.trunk_record.proofs.Lists.{all-impl}
 use Rattle.trunk_record.proofs.Sayings.{same_inc-itself}
 use Rattle.journal.specs.Effects.{losing}
 use Rattle.journal.specs.History.{name_of, open_endpoints}
+use Rattle.journal.specs.Living.{holder_of}
 use Rattle.journal.specs.Pending.{hunting, owed}
 use Rattle.journal.specs.declared.effect.Effect.{Effect}
 use Rattle.journal.specs.declared.effect.Step.{Step}
@@ -69,7 +70,7 @@ use Rattle.trunk.proofs.Silence.{offers_ticks}
 use Rattle.trunk.proofs.Trunks.{events_tell}
 use Rattle.trunk_moves.specs.Grants.{AreNames}
 use Rattle.linx_base.specs.Pending.{name_over}
-use Rattle.trunk_moves.specs.Packets.{answered, asks_for, holder_of}
+use Rattle.trunk_moves.specs.Packets.{answered, asks_for}
 use Rattle.trunk_moves.specs.Packets.{names_hunted, publishes_if, told_at}
 use Rattle.trunk_moves.specs.Trunks.{state_of}
 use Rattle.trunk_moves.proofs.Beats.{lost_silent}

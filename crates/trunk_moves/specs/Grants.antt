@@ -14,7 +14,7 @@ use Rattle.rlnh_messages.specs.Signals.{IsSignal}
 use Rattle.rlnh_end.specs.declared.heard.Heard.{Heard}
 use Rattle.carrier.specs.Events.{half_of, handed_by}
 use Rattle.journal.specs.History.{name_of, next_inc, opened_on}
-use Rattle.journal.specs.Living.{is_alive}
+use Rattle.journal.specs.Living.{is_alive, holder_of}
 use Rattle.journal.specs.Logs.{step_limit}
 use Rattle.journal.specs.Shapes.{Shape}
 use Rattle.journal.specs.declared.effect.Step.{Step}
@@ -23,7 +23,7 @@ use Rattle.link_laws.specs.Sessions.{boots}
 use Rattle.trunk.specs.declared.up.TrunkUp.TheVariants.{Asked}
 use Rattle.trunk.specs.Events.{IsReading, TrunkState, delivered, side_of, told_by}
 use Rattle.trunk.specs.Laws.{MayPublish, MaySend}
-use Rattle.trunk_moves.specs.Packets.{holder_of, names_hunted}
+use Rattle.trunk_moves.specs.Packets.{names_hunted}
 use Rattle.trunk_moves.specs.Steps.{IsBoundedTrunkRun}
 use Rattle.trunk_moves.specs.Trunks.{RunTrunks}
 

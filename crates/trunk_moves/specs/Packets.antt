@@ -2,8 +2,6 @@
 use Rattle.std.specs.Prelude.{ℕ, ◌-◌, ◌≡◌, nat_lt, Bool, true, false, if◌then◌else◌}
 use Rattle.std.specs.Prelude.{List, [], ◌∷◌}
 use Rattle.std.specs.Prelude.{length, Option, Some, None}
-use Rattle.std.specs.Str.{bytes_eq}
-use Rattle.linx_base.specs.FirstMatch.{first_match}
 use Rattle.linx_base.specs.Pending.{names_over}
 use Rattle.linx_base.specs.Sides.{other_of}
 use Rattle.linx_base.specs.declared.frame.Verdict.{Verdict}
@@ -14,7 +12,7 @@ use Rattle.linx_base.specs.declared.identity.Session.{Session}
 use Rattle.linx_base.specs.declared.identity.Side.{Side}
 use Rattle.rlnh_end.specs.declared.heard.Heard.{Heard}
 use Rattle.carrier.specs.Events.{flight_from, handed_by, link_told_by}
-use Rattle.journal.specs.History.{name_of, open_endpoints}
+use Rattle.journal.specs.Living.{holder_of}
 use Rattle.journal.specs.Pending.{hunting}
 use Rattle.journal.specs.declared.effect.Effect.{Effect}
 use Rattle.journal.specs.declared.effect.Step.{Step}
@@ -37,10 +35,6 @@ names_hunted P n l = names_over l (hunting P n)
 abbrev pub asks_for : Side → List (List ℕ) → TrunkState → TrunkState
 asks_for side [] t = t
 asks_for side (name ∷ names) t = asks_for side names (asked_at side name t)
-
--- the first opened endpoint of a node that has this name and is open
-abbrev pub holder_of : List Step → ℕ → List ℕ → Option Inc
-holder_of P n name = first_match (λ i. bytes_eq name (name_of P i)) (open_endpoints P n)
 
 -- a side publishes an endpoint of this name, where there is one
 abbrev pub publishes_if : Side → List ℕ → Option Inc → TrunkState → TrunkState
