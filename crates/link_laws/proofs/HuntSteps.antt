@@ -6,10 +6,10 @@ use Rattle.std.specs.Prelude.{◌==◌}
 use Rattle.std.specs.List.{list_any, filter}
 use Rattle.std.specs.Str.{bytes_eq}
 use Rattle.std.proofs.lemmas.Bool.{or_cases, or_left, or_right, true≢false, false_from_ne_true}
-use Rattle.std.proofs.lemmas.Bool.{eq-eqb, eqb-true}
 use Rattle.std.proofs.lemmas.List.{append_cancel_right}
 use Rattle.std.proofs.lemmas.List.Folds.{list_any-append}
 use Rattle.linx_base.specs.Peers.{same_path}
+use Rattle.linx_base.specs.Pending.{is_for}
 use Rattle.linx_base.specs.declared.identity.Inc.{Inc}
 use Rattle.linx_base.specs.declared.identity.LinkNo.{LinkNo}
 use Rattle.linx_base.specs.declared.identity.Session.{Session}
@@ -24,7 +24,6 @@ use Rattle.journal.specs.Pending.{hunting}
 use Rattle.journal.specs.declared.effect.Step.{Step}
 use Rattle.link_laws.specs.Linked.{IsTalking, asks, offers, HuntStands, asking, waiting, coming}
 use Rattle.link_laws.specs.Linked.{AreHunted, HasNone}
-use Rattle.link_laws.specs.Still.{is_hunt_over, is_path_over}
 use Rattle.trunk_record.proofs.Lookups.{said-now}
 use Rattle.link_laws.proofs.Hunts.{IsSameHere, end-parts}
 use Rattle.link_laws.proofs.Names.{bytes_eq-is, bytes_eq-itself}
@@ -80,8 +79,8 @@ hunts_more P Q n m l A B noted wa wb same hunts were = record {
       (hunts.stand old v (was v is));
 }
   where
-    was : (v : List ℕ) → list_any (is_hunt_over l v) (hunting Q n) ≡ true
-        → list_any (is_hunt_over l v) (hunting P n) ≡ true
+    was : (v : List ℕ) → list_any (is_for (Over l v)) (hunting Q n) ≡ true
+        → list_any (is_for (Over l v)) (hunting P n) ≡ true
     was v is = same.hunts v is
 
     more : (far near old_far old_near : List Said) (v : List ℕ) → far ≡ wa ++ old_far
@@ -97,8 +96,8 @@ hunts_more P Q n m l A B noted wa wb same hunts were = record {
 
 -- A NEW HUNT that stays pending: its name is asked for at once
 pub hunts_new : (P Q : List Step) (n m : ℕ) (l : LinkNo) (A B : SideRecord) (noted : List (List ℕ))
-    (v : List ℕ) → ((w : List ℕ) → list_any (is_hunt_over l w) (hunting Q n) ≡ true
-    → (bytes_eq w v ≡ true) ⊎ (list_any (is_hunt_over l w) (hunting P n) ≡ true))
+    (v : List ℕ) → ((w : List ℕ) → list_any (is_for (Over l w)) (hunting Q n) ≡ true
+    → (bytes_eq w v ≡ true) ⊎ (list_any (is_for (Over l w)) (hunting P n) ≡ true))
     → ((w : List ℕ) → HasNone P m w → HasNone Q m w) → AreHunted P n m l A B noted
     → (A.now.peer ≡ Some B.now.session → B.now.peer ≡ Some A.now.session → IsTalking A B)
     → AreHunted Q n m l (saying (asked v ∷ []) A) B noted
@@ -144,8 +143,8 @@ before_met A B i v talk = record {
 
 -- A PEER IS MET: the hunts for its name are answered, so none is pending for it
 pub hunts_met : (P Q : List Step) (n m : ℕ) (l : LinkNo) (A B : SideRecord) (noted : List (List ℕ))
-    (i : Inc) (v : List ℕ) → ((w : List ℕ) → list_any (is_hunt_over l w) (hunting Q n) ≡ true
-    → (bytes_eq w v ≡ false) × (list_any (is_hunt_over l w) (hunting P n) ≡ true))
+    (i : Inc) (v : List ℕ) → ((w : List ℕ) → list_any (is_for (Over l w)) (hunting Q n) ≡ true
+    → (bytes_eq w v ≡ false) × (list_any (is_for (Over l w)) (hunting P n) ≡ true))
     → ((w : List ℕ) → HasNone P m w → HasNone Q m w) → AreHunted P n m l A B noted
     → AreHunted Q n m l (giving (met i v) A) B noted
 hunts_met P Q n m l A B noted i v left none_still hunts = record {
@@ -167,50 +166,49 @@ hunts_met P Q n m l A B noted i v left none_still hunts = record {
 
 -- of the hunts that a meeting leaves none is for the met name
 pub left-others : (l : LinkNo) (v w : List ℕ) (hs : List PendingHunt)
-    → list_any (is_hunt_over l w) (filter (λ h. not (same_path (Over l v) h.path)) hs) ≡ true
-    → (bytes_eq w v ≡ false) × (list_any (is_hunt_over l w) hs ≡ true)
+    → list_any (is_for (Over l w)) (filter (λ h. not (same_path (Over l v) h.path)) hs) ≡ true
+    → (bytes_eq w v ≡ false) × (list_any (is_for (Over l w)) hs ≡ true)
 left-others l v w [] is = absurd (true≢false (sym is))
 left-others l v w (h ∷ hs) is = by_test (same_path (Over l v) h.path) refl is (left-others l v w hs)
   where
-    apart : (path : Path) → same_path (Over l v) path ≡ false → is_path_over l w path ≡ true
+    apart : (path : Path) → same_path (Over l v) path ≡ false → same_path (Over l w) path ≡ true
         → bytes_eq w v ≡ false
     apart (Local u) e on = absurd (true≢false (sym on))
     apart (Over k u) e on =
-        let both = both_true (k.0 == l.0) (bytes_eq u w) on in
-        let u_is : u ≡ w = bytes_eq-is u w both.1 in
-        let link : (l.0 == k.0) ≡ true = eq-eqb l.0 k.0 (sym (eqb-true k.0 l.0 both.0)) in
+        let both = both_true (l.0 == k.0) (bytes_eq w u) on in
+        let w_is : w ≡ u = bytes_eq-is w u both.1 in
         false_from_ne_true (bytes_eq w v) (λ same.
         let v_is : w ≡ v = bytes_eq-is w v same in
-        true≢false (sym (ap (λ t. t && bytes_eq v u) link ∙ ap (bytes_eq v) (u_is ∙ v_is)
+        true≢false (sym (ap (λ t. t && bytes_eq v u) both.0 ∙ ap (bytes_eq v) (sym w_is ∙ v_is)
         ∙ bytes_eq-itself v) ∙ e))
 
     by_test : (t : Bool) → same_path (Over l v) h.path ≡ t
-        → list_any (is_hunt_over l w) (cond (not t) (h
+        → list_any (is_for (Over l w)) (cond (not t) (h
         ∷ filter (λ k. not (same_path (Over l v) k.path)) hs)
         (filter (λ k. not (same_path (Over l v) k.path)) hs)) ≡ true
-        → (list_any (is_hunt_over l w) (filter (λ k. not (same_path (Over l v) k.path)) hs) ≡ true
-        → (bytes_eq w v ≡ false) × (list_any (is_hunt_over l w) hs ≡ true)) → (bytes_eq w v ≡ false)
-        × (list_any (is_hunt_over l w) (h ∷ hs) ≡ true)
+        → (list_any (is_for (Over l w)) (filter (λ k. not (same_path (Over l v) k.path)) hs) ≡ true
+        → (bytes_eq w v ≡ false) × (list_any (is_for (Over l w)) hs ≡ true))
+        → (bytes_eq w v ≡ false) × (list_any (is_for (Over l w)) (h ∷ hs) ≡ true)
     by_test true e found rest = let later = rest found in
-        (later.0, or_right (is_hunt_over l w h) (list_any (is_hunt_over l w) hs) later.1)
+        (later.0, or_right (is_for (Over l w) h) (list_any (is_for (Over l w)) hs) later.1)
     by_test false e found rest =
-        elim (or_cases (is_hunt_over l w h) (list_any (is_hunt_over l w)
+        elim (or_cases (is_for (Over l w) h) (list_any (is_for (Over l w))
         (filter (λ k. not (same_path (Over l v) k.path)) hs)) found) [
           | inl on ↦ (
             apart h.path e on,
-            or_left (is_hunt_over l w h)
-                (list_any (is_hunt_over l w) hs) on,
+            or_left (is_for (Over l w) h)
+                (list_any (is_for (Over l w)) hs) on,
           )
           | inr more ↦ let later = rest more in (
             later.0,
-            or_right (is_hunt_over l w h) (list_any (is_hunt_over l w) hs) later.1,
+            or_right (is_for (Over l w) h) (list_any (is_for (Over l w)) hs) later.1,
           )
         ]
 
 -- THE NEAR SIDE GOES UP, and asks for the name of each pending hunt
 pub hunts_up_near : (Q : List Step) (n m : ℕ) (l : LinkNo) (A B : SideRecord)
     (noted : List (List ℕ)) (y : Session) (ws : List Said) → A.now.said ≡ []
-    → ((v : List ℕ) → list_any (is_hunt_over l v) (hunting Q n) ≡ true
+    → ((v : List ℕ) → list_any (is_for (Over l v)) (hunting Q n) ≡ true
     → list_any (asks v) ws ≡ true) → (B.now.peer ≡ Some A.now.session → B.now.given ≡ [])
     → AreHunted Q n m l (saying ws (going_up y A)) B noted
 hunts_up_near Q n m l A B noted y ws none asked_for_all fresh_there = record {
@@ -226,8 +224,8 @@ hunts_up_near Q n m l A B noted y ws none asked_for_all fresh_there = record {
 -- THE FAR SIDE GOES UP: it has heard nothing yet, so each question is on its way
 pub hunts_up_far : (P Q : List Step) (n m : ℕ) (l : LinkNo) (A B : SideRecord)
     (noted : List (List ℕ)) (y : Session) → ((v : List ℕ)
-    → list_any (is_hunt_over l v) (hunting Q n) ≡ true
-    → list_any (is_hunt_over l v) (hunting P n) ≡ true) → AreHunted P n m l A B noted
+    → list_any (is_for (Over l v)) (hunting Q n) ≡ true
+    → list_any (is_for (Over l v)) (hunting P n) ≡ true) → AreHunted P n m l A B noted
     → B.now.given ≡ [] → AreHunted Q n m l A (going_up y B) []
 hunts_up_far P Q n m l A B noted y was hunts none = record {
   asked_all = λ v up is. hunts.asked_all v up (was v is);
@@ -260,8 +258,8 @@ hunts_down_far P Q n m l A B noted noted' x same hunts = record {
 -- A NAME IS OPENED on the far node: where it was noted it is published
 pub hunts_opened : (P Q : List Step) (n m : ℕ) (l : LinkNo) (A B : SideRecord)
     (noted noted' : List (List ℕ)) (i : Inc) (v : List ℕ) → ((w : List ℕ)
-    → list_any (is_hunt_over l w) (hunting Q n) ≡ true
-    → list_any (is_hunt_over l w) (hunting P n) ≡ true)
+    → list_any (is_for (Over l w)) (hunting Q n) ≡ true
+    → list_any (is_for (Over l w)) (hunting P n) ≡ true)
     → ((w : List ℕ) → bytes_eq w v ≡ false → HasNone P m w → HasNone Q m w)
     → ((w : List ℕ) → bytes_eq w v ≡ false → list_any (bytes_eq w) noted ≡ true
     → list_any (bytes_eq w) noted' ≡ true) → AreHunted P n m l A B noted

@@ -9,7 +9,9 @@ use Rattle.std.proofs.lemmas.Bool.{or_cases, true≢false}
 use Rattle.std.proofs.lemmas.List.Folds.{list_any-append}
 use Rattle.linx_base.specs.Numbers.{is_on}
 use Rattle.linx_base.specs.Peers.{same_inc}
+use Rattle.linx_base.specs.Pending.{is_for}
 use Rattle.linx_base.specs.Sides.{other_of}
+use Rattle.linx_base.specs.declared.name.Path.TheVariants.{Over}
 use Rattle.linx_base.specs.declared.identity.LinkNo.{LinkNo}
 use Rattle.linx_base.specs.declared.identity.Peer.TheVariants.{Here}
 use Rattle.linx_base.specs.declared.identity.Session.{Session}
@@ -33,7 +35,6 @@ use Rattle.link_laws.specs.Sides.{AllHunted, Links, SideState, with_state}
 use Rattle.link_laws.specs.Linked.{AreHunted, HasNone, HuntStands, IsTalking, asking, asks, coming}
 use Rattle.link_laws.specs.Linked.{offers, waiting}
 use Rattle.link_laws.specs.Sessions.{same_side}
-use Rattle.link_laws.specs.Still.{is_hunt_over}
 use Rattle.link_laws.proofs.Hunts.{IsSameHere, end-parts}
 use Rattle.link_laws.proofs.HuntSteps.{hunts_down_far, hunts_down_near, hunts_more, talks}
 use Rattle.link_laws.proofs.Opened.{any-filter, open-on, opened-any, was_open_or_opened}
@@ -74,7 +75,7 @@ one_link shape Q links l at C near far elsewhere h of_h side = by_link (h.0 == l
 
 -- a step begins no hunt of node n over the link
 abbrev pub BeginsNone : List Step → Step → ℕ → LinkNo → Type 0
-BeginsNone P s n l = (w : List ℕ) → list_any (is_hunt_over l w)
+BeginsNone P s n l = (w : List ℕ) → list_any (is_for (Over l w))
     (hunt_in n (suc (length P)) (endpoint_by P s.by) s.head) ≡ false
 
 -- where a step opens none on a node, no open name is new there
@@ -101,9 +102,9 @@ pub same_here : (P : List Step) (s : Step) (n m : ℕ) (l : LinkNo) → BeginsNo
 same_here P s n m l begins_none opens_none = record {
   hunts = λ w is.
       let new : List PendingHunt = hunt_in n (suc (length P)) (endpoint_by P s.by) s.head in
-      elim (or_cases (list_any (is_hunt_over l w) (hunting P n)) (list_any (is_hunt_over l w) new)
-      (sym (list_any-append (is_hunt_over l w) (hunting P n) new)
-      ∙ list_any-filter (is_hunt_over l w) (λ h. not (ends_hunt s.effects h))
+      elim (or_cases (list_any (is_for (Over l w)) (hunting P n)) (list_any (is_for (Over l w)) new)
+      (sym (list_any-append (is_for (Over l w)) (hunting P n) new)
+      ∙ list_any-filter (is_for (Over l w)) (λ h. not (ends_hunt s.effects h))
       (hunting P n ++ new) is)) [
         | inl was ↦ was
         | inr begun ↦ absurd (true≢false (sym begun ∙ begins_none w))

@@ -8,6 +8,8 @@ use Rattle.std.proofs.lemmas.Bool.{or_cases, or_left, or_right, true≢false, eq
 use Rattle.std.proofs.lemmas.List.{append_cancel_right}
 use Rattle.std.proofs.lemmas.List.Folds.{list_any-append}
 use Rattle.linx_base.specs.Peers.{same_inc}
+use Rattle.linx_base.specs.Pending.{is_for}
+use Rattle.linx_base.specs.declared.name.Path.TheVariants.{Over}
 use Rattle.linx_base.specs.declared.identity.Inc.{Inc}
 use Rattle.linx_base.specs.declared.identity.LinkNo.{LinkNo}
 use Rattle.linx_base.specs.declared.identity.Peer.TheVariants.{Here, There}
@@ -22,7 +24,6 @@ use Rattle.journal.specs.declared.effect.Step.{Step}
 use Rattle.link_laws.specs.Linked.{IsLinked, IsTrueOf, is_session, IsTalking, asks, offers}
 use Rattle.link_laws.specs.Linked.{HuntStands, asking, waiting, coming, AreHunted, HasNone}
 use Rattle.link_laws.specs.Linked.{IsUnfound}
-use Rattle.link_laws.specs.Still.{is_hunt_over}
 use Rattle.trunk_record.proofs.Lookups.{given-now}
 use Rattle.trunk_record.proofs.Sayings.{same_inc-is}
 use Rattle.link_laws.proofs.Names.{bytes_eq-is, bytes_eq-itself}
@@ -58,8 +59,8 @@ live-parts P m i (unpublished j ∷ later) before truly is =
 
 -- a step after which no hunt over a link and no open name is new
 pub record IsSameHere (P Q : List Step) (n m : ℕ) (l : LinkNo) : Type 0 where
-  pub hunts : (w : List ℕ) → list_any (is_hunt_over l w) (hunting Q n) ≡ true
-      → list_any (is_hunt_over l w) (hunting P n) ≡ true
+  pub hunts : (w : List ℕ) → list_any (is_for (Over l w)) (hunting Q n) ≡ true
+      → list_any (is_for (Over l w)) (hunting P n) ≡ true
   pub none : (v : List ℕ) → HasNone P m v → HasNone Q m v
 
 -- the last to be heard of what was said
@@ -74,8 +75,8 @@ end-parts p later w is =
 
 module _ (P Q : List Step) (n m : ℕ) (l : LinkNo) (A B : SideRecord) (noted : List (List ℕ))
     (v : List ℕ) (same : IsSameHere P Q n m l) (hunts : AreHunted P n m l A B noted) where
-  hunts_were : (w : List ℕ) → list_any (is_hunt_over l w) (hunting Q n) ≡ true
-      → list_any (is_hunt_over l w) (hunting P n) ≡ true
+  hunts_were : (w : List ℕ) → list_any (is_for (Over l w)) (hunting Q n) ≡ true
+      → list_any (is_for (Over l w)) (hunting P n) ≡ true
   hunts_were w is = same.hunts w is
 
   -- before the question was heard it was on its way
@@ -115,7 +116,7 @@ module _ (P Q : List Step) (n m : ℕ) (l : LinkNo) (A B : SideRecord) (noted : 
   pub hunts_offered : (i : Inc) (near_before : List Said)
       → B.now.said ≡ near_before ++ map heard_as A.now.given → is_alive P m (Here i) ≡ true
       → name_of P i ≡ v → IsLinked P n l A → IsLinked P m l B
-      → ((w : List ℕ) → list_any (is_hunt_over l w) (hunting P n) ≡ true → IsUnfound P n l w)
+      → ((w : List ℕ) → list_any (is_for (Over l w)) (hunting P n) ≡ true → IsUnfound P n l w)
       → (noted' : List (List ℕ)) → ((w : List ℕ) → bytes_eq w v ≡ false
       → list_any (bytes_eq w) noted ≡ true → list_any (bytes_eq w) noted' ≡ true) →
       AreHunted Q n m l A (saying (cond (is_live i B.now.said) [] (published i v ∷ []))
@@ -137,7 +138,7 @@ module _ (P Q : List Step) (n m : ℕ) (l : LinkNo) (A B : SideRecord) (noted : 
 
       by_life : (t : Bool) → is_live i B.now.said ≡ t
           → (talk : IsTalking A (saying (cond t [] (published i v ∷ [])) (giving (asked_for v) B)))
-          (w : List ℕ) → list_any (is_hunt_over l w) (hunting P n) ≡ true
+          (w : List ℕ) → list_any (is_for (Over l w)) (hunting P n) ≡ true
           → HuntStands Q m noted' w talk.to_far talk.to_near
       by_life true live talk w is = stands (hunts.stand
           (before_asked [] talk talk.to_near talk.answered) w is)

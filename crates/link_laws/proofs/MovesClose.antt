@@ -5,7 +5,9 @@ use Rattle.std.specs.Prelude.{◌==◌}
 use Rattle.std.specs.List.{list_any, filter_map, AllByRecursion}
 use Rattle.std.proofs.lemmas.Bool.{true≢false}
 use Rattle.linx_base.specs.Peers.{same_peer}
+use Rattle.linx_base.specs.Pending.{is_for}
 use Rattle.linx_base.specs.Sides.{other_of}
+use Rattle.linx_base.specs.declared.name.Path.TheVariants.{Over}
 use Rattle.linx_base.specs.declared.identity.Inc.{Inc}
 use Rattle.linx_base.specs.declared.identity.LinkNo.{LinkNo}
 use Rattle.linx_base.specs.declared.identity.Peer.TheVariants.{Here}
@@ -33,7 +35,6 @@ use Rattle.link_laws.specs.Laws.{KeepsNodeLaws}
 use Rattle.link_laws.specs.Moves.{AllLeft, Closes, Ends}
 use Rattle.link_laws.specs.Promises.{PromisesOf}
 use Rattle.link_laws.specs.Sessions.{restarts}
-use Rattle.link_laws.specs.Still.{is_hunt_over}
 use Rattle.link_laws.proofs.Alike.{linked-alike}
 use Rattle.link_laws.proofs.Done.{IsDone, opened-items}
 use Rattle.link_laws.proofs.Good.{IsGood, IsKnown, left_kept, short, step_of}
@@ -139,7 +140,7 @@ module _ (shape : Shape) (P : List Step) (before after : Links) (known : IsKnown
 
     calm : IsCalm P s
     calm = record {
-      begins_none = λ k l w. ap (list_any (is_hunt_over l w))
+      begins_none = λ k l w. ap (list_any (is_for (Over l w)))
           (closes_it.hunts k (suc (length P)) (endpoint_by P by));
       opens_none = ap (filter_map opened_in) effects ∙ opened-items items done.items_only;
     }
@@ -183,7 +184,7 @@ module _ (shape : Shape) (P : List Step) (before after : Links) (known : IsKnown
       stays = closes_it.stays;
       says_none = λ k h x. closes_it.says k h x (endpoint_by P by);
     }) (λ k m l. calm_here P s (record {
-      begins_none = λ i h w. ap (list_any (is_hunt_over h w))
+      begins_none = λ i h w. ap (list_any (is_for (Over h w)))
           (closes_it.hunts i (suc (length P)) (endpoint_by P by));
       opens_none = ap (filter_map opened_in) none;
     }) k m l) left known.kept;

@@ -2,17 +2,17 @@
 -- asked for.
 use Rattle.std.proofs.Common.{◌≡◌, ℕ, suc, Bool, true, false, cond, not, ◌||◌, ◌&&◌, ◌⊎◌, inl, inr}
 use Rattle.std.proofs.Common.{List, [], ◌∷◌, ◌++◌, length, Option, Some, None, refl, sym, ◌∙◌, ap}
-use Rattle.std.proofs.Common.{subst, append-nil, arith}
+use Rattle.std.proofs.Common.{subst, append-nil}
 use Rattle.std.specs.Prelude.{◌==◌, is_some}
 use Rattle.std.specs.List.{list_any, filter, AllByRecursion}
 use Rattle.std.specs.Str.{bytes_eq}
 use Rattle.std.proofs.Math.Bool.{or-false}
 use Rattle.std.proofs.lemmas.Bool.{eq-eqb, eqb-true, or_cases, or_left, true≢false}
-use Rattle.std.proofs.lemmas.Bool.Decides.{nat_tests}
 use Rattle.std.proofs.lemmas.List.Elements.{filter-append}
 use Rattle.std.proofs.lemmas.List.Folds.{list_any-append}
 use Rattle.linx_base.specs.Numbers.{is_on, node_of}
 use Rattle.linx_base.specs.Peers.{same_inc}
+use Rattle.linx_base.specs.Pending.{is_for}
 use Rattle.linx_base.specs.declared.identity.Inc.{Inc}
 use Rattle.linx_base.specs.declared.identity.LinkNo.{LinkNo}
 use Rattle.linx_base.specs.declared.identity.Peer.{Peer}
@@ -39,7 +39,6 @@ use Rattle.link_laws.specs.Sides.{Links}
 use Rattle.link_laws.specs.Linked.{IsTrueOf, is_hunted}
 use Rattle.link_laws.specs.Laws.{KeepsNodeLaws}
 use Rattle.link_laws.specs.Moves.{AllLeft, AsksOver, Hunts, is_up}
-use Rattle.link_laws.specs.Still.{is_hunt_over}
 use Rattle.link_laws.proofs.Done.{AreItems, IsDone, opened-items}
 use Rattle.link_laws.proofs.Good.{IsGood, IsKnown, TouchesNone, left_kept, opens-nothing, short}
 use Rattle.link_laws.proofs.Good.{step_of}
@@ -48,7 +47,6 @@ use Rattle.link_laws.proofs.Hunts.{IsSameHere}
 use Rattle.link_laws.proofs.HuntsAll.{BeginsOne, hunted_asking, none-some}
 use Rattle.link_laws.proofs.Legal.{legal_plain}
 use Rattle.link_laws.proofs.MovesSay.{SaysWell, linked_says, said_kept}
-use Rattle.link_laws.proofs.Names.{bytes_eq-is, bytes_eq-itself}
 use Rattle.link_laws.proofs.OneSide.{raises-none, tells-none}
 use Rattle.link_laws.proofs.Opened.{both_true, open-more}
 use Rattle.link_laws.proofs.Promised.{IsOpenNow}
@@ -75,11 +73,11 @@ dropped p q xs ys none is = list_any-filter p q xs (sym (ap (list_any p) (append
 
 -- a hunt on the own node is none over a link
 local-none : (n k : ℕ) (me : Option Inc) (v : List ℕ) (note : SigNote) (l : LinkNo) (w : List ℕ)
-    → list_any (is_hunt_over l w) (hunt_at n k me (Local v) note) ≡ false
+    → list_any (is_for (Over l w)) (hunt_at n k me (Local v) note) ≡ false
 local-none n k None v note l w = refl
 local-none n k (Some j) v note l w = by_node (is_on n j)
   where
-    by_node : (t : Bool) → list_any (is_hunt_over l w)
+    by_node : (t : Bool) → list_any (is_for (Over l w))
         (cond t ((record { at = j; path = Local v; signal = note; number = k }) ∷ []) []) ≡ false
     by_node true = refl
     by_node false = refl
@@ -146,7 +144,7 @@ module _ (shape : Shape) (P : List Step) (before after : Links) (known : IsKnown
 
     found_same : (n m : ℕ) (l : LinkNo) → IsSameHere P (s ∷ P) n m l
     found_same n m l = record {
-      hunts = λ w is. dropped (is_hunt_over l w) (λ k. not (ends_hunt es k)) (hunting P n)
+      hunts = λ w is. dropped (is_for (Over l w)) (λ k. not (ends_hunt es k)) (hunting P n)
           (hunt_in n (suc (length P)) (endpoint_by P by) (Hunt path note)) (gone n) is;
       none = names_were P s m (opened_none m);
     }
@@ -192,26 +190,24 @@ module _ (shape : Shape) (P : List Step) (before after : Links) (known : IsKnown
   begins n = ap (λ (m : Option Inc). hunt_at n (suc (length P)) m (Over l v) note) mine
 
   elsewhere : (n : ℕ) (h : LinkNo) → ((n == k) && (h.0 == l.0)) ≡ false → BeginsNone P step n h
-  elsewhere n h apart w = ap (list_any (is_hunt_over h w)) (begins n) ∙ by_node (is_on n j) refl
+  elsewhere n h apart w = ap (list_any (is_for (Over h w))) (begins n) ∙ by_node (is_on n j) refl
     where
-      turned : (h.0 == l.0) ≡ false → (l.0 == h.0) ≡ false
-      turned off = grind (arith, nat_tests)
-
       by_node : (t : Bool) → is_on n j ≡ t
-          → list_any (is_hunt_over h w) (cond t (hunt ∷ []) []) ≡ false
+          → list_any (is_for (Over h w)) (cond t (hunt ∷ []) []) ≡ false
       by_node false e = refl
       by_node true e =
           let here : (n == k) ≡ true = eq-eqb n k (sym (eqb-true (node_of j) n e)
           ∙ eqb-true (node_of j) k on) in
           let off : (h.0 == l.0) ≡ false = sym (ap (λ t. t && (h.0 == l.0)) here) ∙ apart in
-          ap (λ t. (t && bytes_eq v w) || false) (turned off)
+          ap (λ t. (t && bytes_eq w v) || false) off
 
   new : (w : List ℕ) → is_hunted (step ∷ P) k l w ≡ true
       → (bytes_eq w v ≡ true) ⊎ (is_hunted P k l w ≡ true)
   new w is =
-      elim (or_cases (list_any (is_hunt_over l w) (hunting P k)) (list_any (is_hunt_over l w) begun)
-      (sym (list_any-append (is_hunt_over l w) (hunting P k) begun)
-      ∙ list_any-filter (is_hunt_over l w) (λ h. not (ends_hunt es h)) (hunting P k ++ begun) is)) [
+      elim (or_cases (is_hunted P k l w) (list_any (is_for (Over l w)) begun)
+      (sym (list_any-append (is_for (Over l w)) (hunting P k) begun)
+      ∙ list_any-filter (is_for (Over l w)) (λ h. not (ends_hunt es h)) (hunting P k ++ begun)
+      is)) [
         | inl was ↦ inr was
         | inr it ↦ inl (named it)
       ]
@@ -219,16 +215,15 @@ module _ (shape : Shape) (P : List Step) (before after : Links) (known : IsKnown
       begun : List PendingHunt
       begun = hunt_in k (suc (length P)) (endpoint_by P by) (Hunt (Over l v) note)
 
-      named : list_any (is_hunt_over l w)
+      named : list_any (is_for (Over l w))
           (hunt_in k (suc (length P)) (endpoint_by P by) (Hunt (Over l v) note)) ≡ true
           → bytes_eq w v ≡ true
       named it =
-          let one : ((l.0 == l.0 && bytes_eq v w) || false) ≡ true =
-          sym (ap (λ t. list_any (is_hunt_over l w) (cond t (hunt ∷ []) [])) on)
-          ∙ sym (ap (list_any (is_hunt_over l w)) (begins k)) ∙ it in
-          let both = both_true (l.0 == l.0) (bytes_eq v w)
-          (sym (or-false (l.0 == l.0 && bytes_eq v w)) ∙ one) in
-          ap (bytes_eq w) (bytes_eq-is v w both.1) ∙ bytes_eq-itself w
+          let one : ((l.0 == l.0 && bytes_eq w v) || false) ≡ true =
+          sym (ap (λ t. list_any (is_for (Over l w)) (cond t (hunt ∷ []) [])) on)
+          ∙ sym (ap (list_any (is_for (Over l w))) (begins k)) ∙ it in
+          (both_true (l.0 == l.0) (bytes_eq w v)
+          (sym (or-false (l.0 == l.0 && bytes_eq w v)) ∙ one)).1
 
   begins_one : BeginsOne P step k l v
   begins_one = record {

@@ -4,6 +4,8 @@ use Rattle.std.proofs.Common.{◌≡◌, ℕ, suc, Bool, true, false, List, [], 
 use Rattle.std.proofs.Common.{refl, sym, ◌∙◌, ap, subst}
 use Rattle.std.specs.List.{list_any}
 use Rattle.std.proofs.lemmas.Bool.{true≢false}
+use Rattle.linx_base.specs.Pending.{is_for}
+use Rattle.linx_base.specs.declared.name.Path.TheVariants.{Over}
 use Rattle.linx_base.specs.declared.identity.Inc.{Inc}
 use Rattle.linx_base.specs.declared.identity.Peer.{Peer}
 use Rattle.linx_base.specs.declared.identity.Session.{Session}
@@ -38,7 +40,6 @@ use Rattle.link_laws.specs.Promises.{PromisesOf}
 use Rattle.link_laws.specs.Runs.{RestsAreStill}
 use Rattle.link_laws.specs.Sessions.{restarts}
 use Rattle.link_laws.specs.Still.{IsStill, cut as still_cut, whole as still_whole}
-use Rattle.link_laws.specs.Still.{is_hunt_over}
 use Rattle.link_laws.proofs.Done.{AreItems, opened-items}
 use Rattle.link_laws.proofs.Good.{IsGood, IsKnown, TouchesNone, left_kept, step_of}
 use Rattle.link_laws.proofs.Hunted.{IsCalm, calm_here}
@@ -127,7 +128,7 @@ module _ (shape : Shape) (P : List Step) (before after : Links) (known : IsKnown
 
   calm : IsCalm P s
   calm = record {
-    begins_none = λ n l w. ap (list_any (is_hunt_over l w))
+    begins_none = λ n l w. ap (list_any (is_for (Over l w)))
         (quiet-hunts head is n (suc (length P)) (endpoint_by P by));
     opens_none = opened-items es items;
   }

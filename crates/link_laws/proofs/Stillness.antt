@@ -8,6 +8,8 @@ use Rattle.std.proofs.lemmas.Bool.{or_left, or_right, true≢false, false_from_n
 use Rattle.std.proofs.lemmas.Bool.{eqb-true}
 use Rattle.linx_base.specs.Numbers.{is_on}
 use Rattle.linx_base.specs.Peers.{same_peer}
+use Rattle.linx_base.specs.Pending.{is_for}
+use Rattle.linx_base.specs.declared.name.Path.TheVariants.{Over}
 use Rattle.linx_base.specs.declared.identity.Inc.{Inc}
 use Rattle.linx_base.specs.declared.identity.LinkNo.{LinkNo}
 use Rattle.linx_base.specs.declared.identity.Peer.{Peer}
@@ -24,7 +26,7 @@ use Rattle.journal.specs.Traffic.{sent_to, arrived_from}
 use Rattle.journal.specs.declared.effect.Step.{Step}
 use Rattle.link_laws.specs.Linked.{IsLinked, is_session, IsTalking, HuntStands, asking, waiting}
 use Rattle.link_laws.specs.Linked.{coming, AreHunted}
-use Rattle.link_laws.specs.Still.{IsStillHalf, is_hunt_over, is_open_there}
+use Rattle.link_laws.specs.Still.{IsStillHalf, is_open_there}
 use Rattle.trunk_record.proofs.Lookups.{given-now, peer-now, said-now}
 use Rattle.link_laws.proofs.Brings.{all-members, got-heard, sent-said}
 use Rattle.link_laws.proofs.LivingPeers.{open-not_unpublished}
@@ -73,7 +75,7 @@ module _ (P : List Step) (n m : ℕ) (l : LinkNo) (A B : SideRecord) (noted : Li
         (λ b open_b. nothing_vanishes a b (open-on P m a open_a) open_b));
     peers_open = peers (living P n) (λ p is. is);
     hunts_answered = all-members _ (open_endpoints P m)
-        (λ i open_. false_from_ne_true (list_any (is_hunt_over l (name_of P i)) (hunting P n))
+        (λ i open_. false_from_ne_true (list_any (is_for (Over l (name_of P i))) (hunting P n))
         (λ is.
         none_hunts (name_of P i) i open_ (bytes_eq-itself (name_of P i))
         (hunts.stand talking (name_of P i) is)));

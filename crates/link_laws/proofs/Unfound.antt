@@ -42,7 +42,6 @@ use Rattle.journal.proofs.Lists.{list_any-wider}
 use Rattle.journal.proofs.Openings.{IsShort, next_on}
 use Rattle.link_laws.specs.Laws.{HasEffects, IsLegal, IsLegalStep}
 use Rattle.link_laws.specs.Linked.{IsTrueOf, IsUnfound, is_hunted}
-use Rattle.link_laws.specs.Still.{is_hunt_over, is_path_over}
 use Rattle.trunk_record.proofs.Sayings.{same_inc-itself}
 use Rattle.link_laws.proofs.Away.{same_peer-is}
 use Rattle.link_laws.proofs.Done.{IsDone, any-items, is_item}
@@ -421,23 +420,22 @@ pub unfound : (shape : Shape) (P : List Step) → IsLegal shape P → IsShort P 
     (v : List ℕ) → is_hunted P n l v ≡ true → IsUnfound P n l v
 unfound shape P legal short n l v hunted_for x a lives =
     false_from_ne_true (bytes_eq v (name_of P a)) (λ same.
-    let one = any-one (IsSeeking P n) (is_hunt_over l v) (hunting P n)
+    let one = any-one (IsSeeking P n) (is_for (Over l v)) (hunting P n)
     (all-seeking shape P legal short n) hunted_for in
     true≢false (sym (any-with (IsTrulyNamed P) (λ m. same_peer (There l x a) m.peer)
     (is_at_path one.0.path) (λ m named is. passes one.0.path one.1.0 m.peer m.name named is same)
     (living P n) (all-named shape P legal short n) lives) ∙ one.1.1))
   where
-    passes : (path : Path) → is_path_over l v path ≡ true → (q : Peer) (name : List ℕ)
+    passes : (path : Path) → same_path (Over l v) path ≡ true → (q : Peer) (name : List ℕ)
         → IsNamed P q name → same_peer (There l x a) q ≡ true → bytes_eq v (name_of P a) ≡ true
         → is_at_path path (record { peer = q; name = name }) ≡ true
     passes (Local u) on q name named is same = absurd (true≢false (sym on))
     passes (Over k u) on q name named is same =
         let peer : q ≡ There l x a = same_peer-is l x a q is in
-        let both = both_true (k.0 == l.0) (bytes_eq u v) on in
+        let both = both_true (l.0 == k.0) (bytes_eq v u) on in
         let there : IsNamed P (There l x a) name =
         subst (λ (p : Peer). IsNamed P p name) peer named in
-        let name_is : u ≡ name = bytes_eq-is u v both.1 ∙ bytes_eq-is v (name_of P a) same
-        ∙ there.1.1 in
+        let name_is : u ≡ name =
+        sym (bytes_eq-is v u both.1) ∙ bytes_eq-is v (name_of P a) same ∙ there.1.1 in
         ap (λ p. is_peer_over k p && bytes_eq u name) peer
-        ∙ ap (λ t. t && bytes_eq u name) (eq-eqb l.0 k.0 (sym (eqb-true k.0 l.0 both.0)))
-        ∙ ap (bytes_eq u) (sym name_is) ∙ bytes_eq-itself u
+        ∙ ap (λ t. t && bytes_eq u name) both.0 ∙ ap (bytes_eq u) (sym name_is) ∙ bytes_eq-itself u

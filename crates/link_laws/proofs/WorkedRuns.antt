@@ -1,12 +1,11 @@
 -- A worked run, move by move, with the records of both sides of its link: a name is hunted over the
 -- link, asked for, published and met; a signal is sent and arrives; its sender closes and goes.
 use Rattle.std.proofs.Common.{◌≡◌, ℕ, suc, true, false, ◌&&◌, List, [], ◌∷◌, Some, refl, sym, ◌∙◌}
-use Rattle.std.proofs.Common.{ap, arith, subst}
+use Rattle.std.proofs.Common.{arith, subst}
 use Rattle.std.specs.Prelude.{codes, ◌==◌}
 use Rattle.std.specs.List.{list_any}
 use Rattle.std.specs.Str.{bytes_eq}
-use Rattle.std.proofs.Math.Bool.{or-false}
-use Rattle.std.proofs.lemmas.Bool.{or_left, true≢false}
+use Rattle.std.proofs.lemmas.Bool.{true≢false}
 use Rattle.linx_base.specs.Sides.{other_of}
 use Rattle.linx_base.specs.declared.identity.LinkNo.{LinkNo}
 use Rattle.linx_base.specs.declared.identity.Peer.TheVariants.{There}
@@ -35,7 +34,6 @@ use Rattle.link_laws.specs.Moves.{ticks_on}
 use Rattle.link_laws.specs.Runs.{IsRun, IsBoundedRun, first_state}
 use Rattle.link_laws.specs.Sessions.{is_cut}
 use Rattle.link_laws.specs.Still.{IsStill, whole}
-use Rattle.link_laws.proofs.Names.{bytes_eq-is, bytes_eq-itself}
 use Rattle.link_laws.proofs.Playing.{a, b, back, down, each, gone_at, keeps_laws, l, met_at}
 use Rattle.link_laws.proofs.Playing.{one_of, only_link, posts, pump, there, tick_laws, two_ends}
 use Rattle.link_laws.proofs.Playing.{up, wire_laws, x11, x12, x21}
@@ -194,10 +192,7 @@ second_goes_up =
 
 asks_b : (v : List ℕ) → is_hunted second_up 1 l v ≡ true
     → list_any (bytes_eq v) (codes "b" ∷ []) ≡ true
-asks_b v is =
-    let same : codes "b" ≡ v = bytes_eq-is (codes "b") v (sym (or-false (bytes_eq (codes "b") v))
-    ∙ is) in
-    or_left (bytes_eq v (codes "b")) false (ap (bytes_eq v) same ∙ bytes_eq-itself v)
+asks_b v is = is
 
 first_goes_up : IsMove two_ends second_up (pair first_state (up_with [] []))
     (back (up 1 x11 x11 ∷ [])) (pair asking (up_with [] []))

@@ -4,6 +4,8 @@ use Rattle.std.specs.Prelude.{filter, Option, Some, None}
 use Rattle.std.specs.List.{list_any, AllByRecursion}
 use Rattle.std.specs.Str.{bytes_eq}
 use Rattle.linx_base.specs.Numbers.{is_on}
+use Rattle.linx_base.specs.Pending.{is_for}
+use Rattle.linx_base.specs.declared.name.Path.TheVariants.{Over}
 use Rattle.linx_base.specs.declared.identity.Inc.{Inc}
 use Rattle.linx_base.specs.declared.identity.LinkNo.{LinkNo}
 use Rattle.linx_base.specs.declared.identity.NodeNo.{NodeNo}
@@ -24,7 +26,6 @@ use Rattle.journal.specs.declared.effect.Step.{Step}
 use Rattle.link_laws.specs.Brought.{was_opened}
 use Rattle.link_laws.specs.Came.{came_in, sent_in}
 use Rattle.link_laws.specs.Sessions.{had_session, own_session, paired_session}
-use Rattle.link_laws.specs.Still.{is_hunt_over}
 
 -- an incarnation of the node was closed, and isn't open again
 pub record IsClosedOn (P : List Step) (node : ℕ) (i : Inc) : Type 0 where
@@ -114,7 +115,7 @@ pub data HuntStands (P : List Step) (m : ℕ) (noted : List (List ℕ)) (v : Lis
 
 -- a hunt of node n over the link is pending for the name
 abbrev pub is_hunted : List Step → ℕ → LinkNo → List ℕ → Bool
-is_hunted P n l v = list_any (is_hunt_over l v) (hunting P n)
+is_hunted P n l v = list_any (is_for (Over l v)) (hunting P n)
 
 -- a node's hunts over a link, seen with the sides of the trunk and the names that the other side
 -- has noted

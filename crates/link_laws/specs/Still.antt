@@ -1,16 +1,14 @@
 -- A link that is still: nothing more comes over it unless somebody acts; and when all is over.
-use Rattle.std.specs.Prelude.{ℕ, ◌≡◌, ◌≤◌, ◌<◌, Bool, true, false, not, ◌&&◌, ◌||◌, ◌==◌, List}
+use Rattle.std.specs.Prelude.{ℕ, ◌≡◌, ◌≤◌, ◌<◌, Bool, true, false, not, ◌||◌, ◌==◌, List}
 use Rattle.std.specs.Prelude.{length, Some, None}
 use Rattle.std.specs.List.{list_any, AllByRecursion}
-use Rattle.std.specs.Str.{bytes_eq}
+use Rattle.linx_base.specs.Pending.{is_for}
 use Rattle.linx_base.specs.declared.identity.LinkNo.{LinkNo}
 use Rattle.linx_base.specs.declared.identity.Peer.{Peer}
 use Rattle.linx_base.specs.declared.identity.Peer.TheVariants.{Here, There}
 use Rattle.linx_base.specs.declared.identity.Session.{Session}
 use Rattle.linx_base.specs.declared.identity.Side.TheVariants.{First, Second}
-use Rattle.linx_base.specs.declared.name.Path.{Path}
-use Rattle.linx_base.specs.declared.name.Path.TheVariants.{Local, Over}
-use Rattle.linx_base.specs.declared.pending.PendingHunt.{PendingHunt}
+use Rattle.linx_base.specs.declared.name.Path.TheVariants.{Over}
 use Rattle.journal.specs.History.{has_ended, name_of, open_endpoints}
 use Rattle.journal.specs.Living.{is_alive, living}
 use Rattle.journal.specs.Pending.{hunting}
@@ -37,19 +35,10 @@ is_open_there P m l (There k x i) = not (k.0 == l.0) || is_alive P m (Here i)
 abbrev pub PeersOpen : List Step → (n m : ℕ) → LinkNo → Type 0
 PeersOpen P n m l = AllByRecursion (λ p. is_open_there P m l p.peer ≡ true) (living P n)
 
--- the path is this name over the link
-abbrev pub is_path_over : LinkNo → List ℕ → Path → Bool
-is_path_over l name (Local v) = false
-is_path_over l name (Over m v) = m.0 == l.0 && bytes_eq v name
-
--- the hunt is one for this name over the link
-abbrev pub is_hunt_over : LinkNo → List ℕ → PendingHunt → Bool
-is_hunt_over l name h = is_path_over l name h.path
-
 -- no hunt of node n over the link is pending for a name that is open on node m
 abbrev pub HuntsAnswered : List Step → (n m : ℕ) → LinkNo → Type 0
 HuntsAnswered P n m l =
-    AllByRecursion (λ i. list_any (is_hunt_over l (name_of P i)) (hunting P n) ≡ false)
+    AllByRecursion (λ i. list_any (is_for (Over l (name_of P i))) (hunting P n) ≡ false)
     (open_endpoints P m)
 
 -- one direction of a link that is still: session x of node n is up, with session y of node m

@@ -7,12 +7,12 @@ use Rattle.std.specs.Prelude.{◌==◌, is_some, slice_get, IsTrue}
 use Rattle.std.specs.List.{list_any, filter_map}
 use Rattle.std.specs.Option.{ForSome}
 use Rattle.std.specs.Str.{bytes_eq}
-use Rattle.std.proofs.lemmas.Bool.{or_cases, or_left, or_right}
+use Rattle.std.proofs.lemmas.Bool.{or_cases, or_left, or_right, eq-eqb, eqb-true}
 use Rattle.std.proofs.lemmas.List.Folds.{list_any-append}
 use Rattle.linx_base.specs.FirstMatch.{first_match}
 use Rattle.linx_base.specs.NameText.{is_name}
 use Rattle.linx_base.specs.Numbers.{next_session}
-use Rattle.linx_base.specs.Peers.{same_inc}
+use Rattle.linx_base.specs.Peers.{same_inc, same_path}
 use Rattle.linx_base.specs.Sides.{other_of}
 use Rattle.linx_base.specs.declared.frame.Message.{Message}
 use Rattle.linx_base.specs.declared.identity.Inc.{Inc}
@@ -54,8 +54,7 @@ use Rattle.link_laws.specs.Moves.{Delivers, IsAfter, IsQuestionAnswered, NotesNa
 use Rattle.link_laws.specs.Moves.{TicksAt, brings_down, brings_nothing, brings_up, brought_of}
 use Rattle.link_laws.specs.Moves.{gives, is_up, loses_it, questions, ticks_on}
 use Rattle.link_laws.specs.Promises.{IsNotAbove}
-use Rattle.link_laws.specs.Still.{is_hunt_over, is_path_over}
-use Rattle.link_laws.proofs.Names.{bytes_eq-is, bytes_eq-itself}
+use Rattle.link_laws.proofs.Names.{bytes_eq-is}
 use Rattle.link_laws.proofs.Opened.{both_true}
 use Rattle.trunk.specs.declared.up.TrunkUp.{TrunkUp}
 use Rattle.trunk.specs.declared.up.TrunkUp.TheVariants.{WentUp, WentDown}
@@ -69,7 +68,7 @@ use Rattle.trunk.proofs.Events.{events_keep, near_tells, turned_keeps}
 use Rattle.trunk.proofs.Silence.{offers_ticks}
 use Rattle.trunk.proofs.Trunks.{events_tell}
 use Rattle.trunk_moves.specs.Grants.{AreNames}
-use Rattle.linx_base.specs.Pending.{name_over}
+use Rattle.linx_base.specs.Pending.{is_for, name_over}
 use Rattle.trunk_moves.specs.Packets.{answered, asks_for}
 use Rattle.trunk_moves.specs.Packets.{names_hunted, publishes_if, told_at}
 use Rattle.trunk_moves.specs.Trunks.{state_of}
@@ -122,24 +121,21 @@ one_among v (Some x) here any names first later is =
     ]
 
 -- a hunt for the name over the link has it
-names_it : (l : LinkNo) (v : List ℕ) (path : Path) → is_path_over l v path ≡ true
+names_it : (l : LinkNo) (v : List ℕ) (path : Path) → same_path (Over l v) path ≡ true
     → (w : List ℕ) × (name_over l path ≡ Some w) × (bytes_eq v w ≡ true)
 names_it l v (Local w) is = absurd cc
 names_it l v (Over m w) is =
-    let both = both_true (m.0 == l.0) (bytes_eq w v) is in (
-      w,
-      ap (λ (t : Bool). cond t (Some w) None) both.0,
-      subst (λ (x : List ℕ). bytes_eq v x ≡ true) (sym (bytes_eq-is w v both.1))
-          (bytes_eq-itself v),
-    )
+    let both = both_true (l.0 == m.0) (bytes_eq v w) is in
+    let link : (m.0 == l.0) ≡ true = eq-eqb m.0 l.0 (sym (eqb-true l.0 m.0 both.0)) in
+    (w, ap (λ (t : Bool). cond t (Some w) None) link, both.1)
 
 -- the name of each pending hunt over the link is among those that are asked for
 hunted_among : (l : LinkNo) (v : List ℕ) (hunts : List PendingHunt)
-    → list_any (is_hunt_over l v) hunts ≡ true
+    → list_any (is_for (Over l v)) hunts ≡ true
     → list_any (bytes_eq v) (filter_map (λ (h : PendingHunt). name_over l h.path) hunts) ≡ true
 hunted_among l v [] is = absurd cc
 hunted_among l v (h ∷ hunts) is =
-    one_among v (name_over l h.path) (is_hunt_over l v h) (list_any (is_hunt_over l v) hunts)
+    one_among v (name_over l h.path) (is_for (Over l v) h) (list_any (is_for (Over l v)) hunts)
     (filter_map (λ (k : PendingHunt). name_over l k.path) hunts) (names_it l v h.path)
     (hunted_among l v hunts) is
 
