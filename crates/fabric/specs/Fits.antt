@@ -3,7 +3,6 @@ use Rattle.std.specs.Prelude.{ℕ, ◌≡◌, ◌≤◌, ◌<◌, true, List, le
 use Rattle.linx_base.specs.Content.{data_limit}
 use Rattle.linx_base.specs.Verdicts.{fits_verdict}
 use Rattle.linx_base.specs.declared.frame.Verdict.{Verdict}
-use Rattle.linx_base.specs.declared.frame.Verdict.TheVariants.{Lose}
 use Rattle.linx_base.specs.declared.identity.LinkNo.{LinkNo}
 use Rattle.linx_base.specs.declared.identity.Side.{Side}
 use Rattle.linx_base.specs.declared.name.Path.{Path}
@@ -15,7 +14,7 @@ use Rattle.journal.specs.declared.effect.Step.{Step}
 use Rattle.journal.specs.declared.event.Event.{Event}
 use Rattle.journal.specs.declared.event.Event.TheVariants as asks
 use Rattle.link_laws.specs.Ends.{IsLinkOf, node_at}
-use Rattle.link_laws.specs.Sessions.{is_cut}
+use Rattle.link_laws.specs.Sessions.{LosesIfCut}
 use Rattle.trunk_moves.specs.Trunks.{RunTrunks}
 
 -- a link of the shape has a side on the node
@@ -35,7 +34,7 @@ pub record MayMeetIn (shape : Shape) (P : List Step) (trunks : RunTrunks) (l : L
     (verdict : Verdict) : Type 0 where
   pub of_shape : IsLinkOf shape l
   pub flies : 0 < length (flight_from from (trunks l.0).link)
-  pub lost : is_cut P l.0 ≡ true → verdict ≡ Lose
+  pub lost : LosesIfCut P l verdict
   pub fits : fits_verdict verdict ≡ true
 
 -- WHAT AN EVENT SPEAKS OF IS THERE, on so many nodes, after these steps, where it is of a maker on

@@ -5,7 +5,6 @@ use Rattle.std.proofs.Common.{subst}
 use Rattle.std.proofs.lemmas.Bool.{true≢false}
 use Rattle.linx_base.specs.Sides.{other_of}
 use Rattle.linx_base.specs.declared.frame.Verdict.{Verdict}
-use Rattle.linx_base.specs.declared.frame.Verdict.TheVariants.{Lose}
 use Rattle.linx_base.specs.declared.identity.Inc.{Inc}
 use Rattle.linx_base.specs.declared.identity.LinkNo.{LinkNo}
 use Rattle.linx_base.specs.declared.identity.Session.{Session}
@@ -26,7 +25,7 @@ use Rattle.link_laws.specs.Brought.{Brought, MayBring, brought_at}
 use Rattle.link_laws.specs.Ends.{IsLinkOf, node_at}
 use Rattle.link_laws.specs.Laws.{ArePacketEffects, HasEffects, IsHandedOver, IsLegalStep, IsTick}
 use Rattle.link_laws.specs.Laws.{KeepsLinks, KeepsNodeLaws, delivers, loses, restarting}
-use Rattle.link_laws.specs.Sessions.{is_cut, silent_ticks}
+use Rattle.link_laws.specs.Sessions.{LosesIfCut, is_cut, silent_ticks}
 
 -- no endpoint is needed for what is no opening and no step of an endpoint
 pub no_endpoint : {me : Option Inc} {head : Head} → is_opening head ≡ false
@@ -74,7 +73,7 @@ node_laws makers opens needs bounds effects sends receives links = record {
 -- a packet that meets a verdict
 pub legal_passing : (shape : Shape) (P : List Step) (by : By) (l : LinkNo) (from : Side)
     (verdict : Verdict) (es : List Effect) → KeepsMakers shape P by (Wire l from verdict)
-    → IsLinkOf shape l → (is_cut P l.0 ≡ true → verdict ≡ Lose)
+    → IsLinkOf shape l → LosesIfCut P l verdict
     → IsHandedOver (delivers verdict) P (node_at shape l (other_of from)) (node_at shape l from) l
     es
     → IsLegalStep shape P (record { by = by; head = Wire l from verdict; effects = es })

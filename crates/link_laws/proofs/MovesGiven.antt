@@ -8,7 +8,6 @@ use Rattle.std.proofs.lemmas.Bool.{eq-eqb, false_from_ne_true, or_left, true≢f
 use Rattle.linx_base.specs.Peers.{same_inc}
 use Rattle.linx_base.specs.Sides.{other_of}
 use Rattle.linx_base.specs.declared.frame.Verdict.{Verdict}
-use Rattle.linx_base.specs.declared.frame.Verdict.TheVariants.{Lose}
 use Rattle.linx_base.specs.declared.identity.Inc.{Inc}
 use Rattle.linx_base.specs.declared.identity.LinkNo.{LinkNo}
 use Rattle.linx_base.specs.declared.identity.Peer.TheVariants.{Here, There}
@@ -38,7 +37,7 @@ use Rattle.link_laws.specs.Linked.{HasNone, IsLinked, asks, is_session, offers, 
 use Rattle.link_laws.specs.Moves.{IsRecorded, IsTold, KeepsNotes, NotesName, OthersLeft}
 use Rattle.link_laws.specs.Moves.{PacketGives, Receives, brought_of, notes, publishes}
 use Rattle.link_laws.specs.Promises.{ups}
-use Rattle.link_laws.specs.Sessions.{is_cut, silent_ticks, tells_heard}
+use Rattle.link_laws.specs.Sessions.{LosesIfCut, is_cut, silent_ticks, tells_heard}
 use Rattle.link_laws.proofs.Answers.{offers_linked, offers_opened}
 use Rattle.link_laws.proofs.Brings.{legal_meeting}
 use Rattle.link_laws.proofs.Closings.{open-unclosed}
@@ -62,7 +61,7 @@ use Rattle.link_laws.proofs.Unfound.{unfound}
 
 -- while its link is cut no packet is handed over
 pub whole_link : (P : List Step) (l : LinkNo) (verdict : Verdict)
-    → (is_cut P l.0 ≡ true → verdict ≡ Lose) → delivers verdict ≡ true → is_cut P l.0 ≡ false
+    → LosesIfCut P l verdict → delivers verdict ≡ true → is_cut P l.0 ≡ false
 whole_link P l verdict cuts hands = false_from_ne_true (is_cut P l.0) (λ cut.
     true≢false (sym hands ∙ ap delivers (cuts cut)))
 

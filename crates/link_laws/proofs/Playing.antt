@@ -5,7 +5,7 @@ use Rattle.std.proofs.lemmas.Bool.{and_parts, leb-true, ltb-true, true≢false}
 use Rattle.linx_base.specs.Numbers.{inc_of, session_of}
 use Rattle.linx_base.specs.Sides.{other_of}
 use Rattle.linx_base.specs.declared.frame.Verdict.{Verdict}
-use Rattle.linx_base.specs.declared.frame.Verdict.TheVariants.{Deliver, Lose}
+use Rattle.linx_base.specs.declared.frame.Verdict.TheVariants.{Deliver}
 use Rattle.linx_base.specs.declared.identity.Inc.{Inc}
 use Rattle.linx_base.specs.declared.identity.LinkNo.{LinkNo}
 use Rattle.linx_base.specs.declared.identity.NodeNo.{NodeNo}
@@ -31,7 +31,7 @@ use Rattle.link_laws.specs.Brought.{MayBring, Brought, brought_at}
 use Rattle.link_laws.specs.Ends.{IsLinkOf, node_at}
 use Rattle.link_laws.specs.Laws.{HasEffects, IsHandedOver, IsLegal, IsLegalStep, IsTick}
 use Rattle.link_laws.specs.Laws.{KeepsLinks, KeepsNodeLaws, delivers}
-use Rattle.link_laws.specs.Sessions.{is_cut}
+use Rattle.link_laws.specs.Sessions.{LosesIfCut, is_cut}
 use Rattle.link_laws.specs.Still.{AllStill, IsStill}
 use Rattle.link_laws.proofs.Legal.{is_plain_head, legal_passing, legal_plain, legal_tick}
 use Rattle.link_laws.proofs.Legal.{node_laws}
@@ -168,7 +168,7 @@ pumped {P} {head} may = record { maker = (omega arith, omega arith); may = may }
 
 -- a step of the pump: a packet that meets a verdict
 pub passes : {P : List Step} {from : Side} {verdict : Verdict} {es : List Effect}
-    → (is_cut P 1 ≡ true → verdict ≡ Lose)
+    → LosesIfCut P l verdict
     → IsHandedOver (delivers verdict) P (node_at two_ends l (other_of from))
     (node_at two_ends l from) l es
     → IsLegalStep two_ends P (record { by = Pump l; head = Wire l from verdict; effects = es })

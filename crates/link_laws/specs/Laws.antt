@@ -23,7 +23,7 @@ use Rattle.journal.specs.declared.head.Head.TheVariants.{TakeNone, Restart, Cut,
 use Rattle.journal.specs.declared.head.Head.TheVariants.{Wire, Tick}
 use Rattle.link_laws.specs.Brought.{Brought, MayBring, brought_at}
 use Rattle.link_laws.specs.Ends.{IsLinkOf, node_at}
-use Rattle.link_laws.specs.Sessions.{is_cut, silent_ticks}
+use Rattle.link_laws.specs.Sessions.{LosesIfCut, silent_ticks}
 use Rattle.link_laws.specs.Still.{AllStill}
 
 -- EFFECTS. The session of a node on a link that a restart ends, if it is up
@@ -91,7 +91,7 @@ KeepsPackets shape P _ es = Unit {0}
 
 -- LAW OF CUTS. While a link is cut, its packets are lost
 abbrev pub KeepsCuts : List Step → Head → Type 0
-KeepsCuts P (Wire l from verdict) = is_cut P l.0 ≡ true → verdict ≡ Lose
+KeepsCuts P (Wire l from verdict) = LosesIfCut P l verdict
 KeepsCuts P _ = Unit {0}
 
 -- LAW OF TICKS. A tick does nothing, or its side was silent for two ticks or more, and then the

@@ -7,7 +7,6 @@ use Rattle.std.specs.Str.{bytes_eq}
 use Rattle.linx_base.specs.Numbers.{first_session, next_session}
 use Rattle.linx_base.specs.Sides.{other_of}
 use Rattle.linx_base.specs.declared.frame.Verdict.{Verdict}
-use Rattle.linx_base.specs.declared.frame.Verdict.TheVariants.{Lose}
 use Rattle.linx_base.specs.declared.identity.Inc.{Inc}
 use Rattle.linx_base.specs.declared.identity.LinkNo.{LinkNo}
 use Rattle.linx_base.specs.declared.identity.Peer.{Peer}
@@ -45,7 +44,7 @@ use Rattle.link_laws.specs.Sides.{Links, SideState}
 use Rattle.link_laws.specs.Laws.{KeepsNodeLaws, delivers}
 use Rattle.link_laws.specs.Linked.{HasNone, is_hunted}
 use Rattle.link_laws.specs.Promises.{IsNotAbove}
-use Rattle.link_laws.specs.Sessions.{boots, is_cut, same_side}
+use Rattle.link_laws.specs.Sessions.{LosesIfCut, boots, is_cut, same_side}
 
 -- A SIDE IS LEFT as it was, and was heard no longer ago
 pub record IsLeft (before after : SideState) : Type 0 where
@@ -282,7 +281,7 @@ HandsOver false shape P before after l from es = (es ≡ []) × AllLeft shape be
 pub record Passes (shape : Shape) (P : List Step) (before after : Links) (l : LinkNo) (from : Side)
     (verdict : Verdict) (es : List Effect) : Type 0 where
   pub of_shape : IsLinkOf shape l
-  pub cuts : is_cut P l.0 ≡ true → verdict ≡ Lose
+  pub cuts : LosesIfCut P l verdict
   pub handed : HandsOver (delivers verdict) shape P before after l from es
 
 -- A SIDE IS LOST at its third tick in silence, or a later one

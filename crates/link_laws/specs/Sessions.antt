@@ -1,8 +1,11 @@
 -- The sessions of a node's side of a link, its silence, and cut links, cut out of the history.
-use Rattle.std.specs.Prelude.{ℕ, suc, ◌+◌, Bool, true, false, ◌&&◌, ◌||◌, ◌==◌, List, [], ◌∷◌}
-use Rattle.std.specs.Prelude.{Option, Some, None, if◌then◌else◌}
+use Rattle.std.specs.Prelude.{ℕ, suc, ◌+◌, ◌≡◌, Bool, true, false, ◌&&◌, ◌||◌, ◌==◌, List, []}
+use Rattle.std.specs.Prelude.{◌∷◌, Option, Some, None, if◌then◌else◌}
 use Rattle.std.specs.List.{list_any, fold}
 use Rattle.linx_base.specs.Numbers.{is_on, session_of}
+use Rattle.linx_base.specs.declared.frame.Verdict.{Verdict}
+use Rattle.linx_base.specs.declared.frame.Verdict.TheVariants.{Lose}
+use Rattle.linx_base.specs.declared.identity.LinkNo.{LinkNo}
 use Rattle.linx_base.specs.declared.identity.Peer.TheVariants.{There}
 use Rattle.linx_base.specs.declared.identity.Session.{Session}
 use Rattle.linx_base.specs.declared.identity.Side.{Side}
@@ -97,3 +100,7 @@ cut_after link before _ = before
 abbrev pub is_cut : List Step → ℕ → Bool
 is_cut [] link = false
 is_cut (s ∷ P) link = cut_after link (is_cut P link) s.head
+
+-- the verdict on a packet of the link is to lose it while the link is cut
+abbrev pub LosesIfCut : List Step → LinkNo → Verdict → Type 0
+LosesIfCut P l verdict = is_cut P l.0 ≡ true → verdict ≡ Lose

@@ -29,7 +29,7 @@ use Rattle.link_laws.specs.Ends.{IsLinkOf, node_at}
 use Rattle.link_laws.specs.Moves.{Delivers, IsLeft, IsResting}
 use Rattle.link_laws.specs.Laws.{delivers}
 use Rattle.link_laws.specs.Moves as moves
-use Rattle.link_laws.specs.Sessions.{is_cut}
+use Rattle.link_laws.specs.Sessions.{LosesIfCut}
 use Rattle.link_laws.proofs.Names.{bytes_eq-is}
 use Rattle.trunk.specs.declared.up.TrunkUp.{TrunkUp}
 use Rattle.trunk.specs.declared.up.TrunkUp.TheVariants.{Nothing, WentUp, WentDown, Arrived, Met}
@@ -364,7 +364,7 @@ module _ (shape : Shape) (P : List Step) (before after : RunTrunks) (known : IsK
       → IsMoved shape P before after n me (Wire l from verdict) es
   passing_moved l from verdict es passes = by_verdict verdict passes.cuts passes.meets
     where
-      moved : (sort : Verdict) → (is_cut P l.0 ≡ true → sort ≡ Lose)
+      moved : (sort : Verdict) → LosesIfCut P l sort
           → IsPassed shape P before after known l passes.of_shape passes.trunk passes.makes
           (delivers sort) from es → IsMoved shape P before after n me (Wire l from sort) es
       moved sort cuts it = record {
@@ -379,7 +379,7 @@ module _ (shape : Shape) (P : List Step) (before after : RunTrunks) (known : IsK
             it.used;
       }
 
-      by_verdict : (sort : Verdict) → (is_cut P l.0 ≡ true → sort ≡ Lose)
+      by_verdict : (sort : Verdict) → LosesIfCut P l sort
           → Meets P (node_at shape l (other_of from)) l from sort es (before l.0) passes.trunk
           → IsMoved shape P before after n me (Wire l from sort) es
       by_verdict Deliver cuts meets =

@@ -3,7 +3,6 @@ use Rattle.std.specs.Prelude.{ℕ, ◌+◌, ◌≡◌, ◌≤◌, ◌<◌, true,
 use Rattle.std.specs.Prelude.{Option, Some, None}
 use Rattle.linx_base.specs.Sides.{other_of}
 use Rattle.linx_base.specs.declared.frame.Verdict.{Verdict}
-use Rattle.linx_base.specs.declared.frame.Verdict.TheVariants.{Lose}
 use Rattle.linx_base.specs.declared.identity.Inc.{Inc}
 use Rattle.linx_base.specs.declared.identity.LinkNo.{LinkNo}
 use Rattle.linx_base.specs.declared.identity.Peer.{Peer}
@@ -27,7 +26,7 @@ use Rattle.journal.specs.declared.head.SentTo.{SentTo}
 use Rattle.journal.specs.declared.head.SentTo.TheVariants.{Link}
 use Rattle.link_laws.specs.Ends.{HasTwoEnds, IsLinkOf, node_at}
 use Rattle.link_laws.specs.Laws.{KeepsNodeLaws}
-use Rattle.link_laws.specs.Sessions.{boots, is_cut}
+use Rattle.link_laws.specs.Sessions.{LosesIfCut, boots, is_cut}
 use Rattle.trunk.specs.Events.{TrunkState, asked_at, closed_at, opened_at, restarted_at}
 use Rattle.trunk.specs.Events.{sent_at}
 use Rattle.trunk_moves.specs.Packets.{IsBeat, Meets}
@@ -82,7 +81,7 @@ pub record Passes (shape : Shape) (P : List Step) (before after : RunTrunks) (l 
     (from : Side) (verdict : Verdict) (es : List Effect) : Type 0 where
   pub of_shape : IsLinkOf shape l
   pub flies : 0 < length (flight_from from (before l.0).link)
-  pub cuts : is_cut P l.0 ≡ true → verdict ≡ Lose
+  pub cuts : LosesIfCut P l verdict
   pub trunk : TrunkState
   pub meets : Meets P (node_at shape l (other_of from)) l from verdict es (before l.0) trunk
   pub makes : Become shape after (with_trunk before l.0 trunk)
