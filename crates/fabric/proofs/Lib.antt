@@ -21,6 +21,7 @@ pub mod Kept
 pub mod Placed
 pub mod Told
 pub mod Made
+pub mod InVain
 pub mod Looking
 pub mod OnLinks
 pub mod Answered

@@ -1,5 +1,5 @@
 -- The machine: the head of the step that an event makes after a history.
-use Rattle.std.specs.Prelude.{ℕ, ◌≡◌, zero, suc, Bool, true, false, ◌&&◌, ◌||◌, ◌==◌}
+use Rattle.std.specs.Prelude.{ℕ, zero, suc, Bool, true, false, ◌&&◌, ◌||◌, ◌==◌}
 use Rattle.std.specs.Prelude.{List, [], length, is_some, Option, Some, None}
 use Rattle.linx_base.specs.declared.identity.Inc.{Inc}
 use Rattle.linx_base.specs.declared.item.Item.{Item}
@@ -49,15 +49,6 @@ abbrev pub look : Shape → List Step → Bool → ℕ → Sigsel → Option Ite
 look shape P still k filter None =
     vain_look (is_at_rest shape P k && still) (is_some (waits_with P k)) filter
 look shape P still k filter (Some item) = Some (heads.Take filter item.pos)
-
--- a look that finds nothing yet, of an actor that has said that it waits
-pub record LooksInVain (shape : Shape) (P : List Step) (still : Bool) (k : ℕ) (me : Option Inc)
-    (event : Event) : Type 0 where
-  pub filter : Sigsel
-  pub looks : event ≡ asks.Look filter
-  pub none : first_selected filter (queue_of P me) ≡ None
-  pub stirs : (is_at_rest shape P k && still) ≡ false
-  pub waits : is_some (waits_with P k) ≡ true
 
 -- the head of the step that an event of actor k makes on its node, with this endpoint and this hand
 abbrev pub head_of : Shape → List Step → Bool → ℕ → ℕ → Option Inc → Event → SigNote → Option Head

@@ -10,11 +10,11 @@ use Rattle.journal.specs.Shapes.{Shape}
 use Rattle.journal.specs.declared.effect.Step.{Step}
 use Rattle.link_laws.specs.Ends.{IsLinkOf, node_at}
 use Rattle.link_laws.specs.Sides.{AllHunted, AllLinked, AllPublishedOpen, AllTrunks, Links}
-use Rattle.link_laws.specs.Sides.{SideState, Trunks, records_of, with_side, with_state}
+use Rattle.link_laws.specs.Sides.{SideState, Trunks, records_of}
 use Rattle.link_laws.specs.Linked.{AreHunted, IsLinked}
 use Rattle.link_laws.specs.Moves.{AllLeft, IsLeft, OthersLeft, is_side}
 use Rattle.link_laws.specs.Promises.{ArePublishedOpen}
-use Rattle.link_laws.proofs.Sides.{at-side}
+use Rattle.link_laws.proofs.Sides.{at-side, with_side, with_state}
 
 -- the records are the same
 abbrev pub AreAlike : Shape → Trunks → Trunks → Type 0

@@ -17,7 +17,7 @@ use Rattle.journal.specs.Shapes.{Shape}
 use Rattle.journal.specs.declared.effect.Step.{Step}
 use Rattle.journal.proofs.Openings.{same_inc-true}
 use Rattle.link_laws.specs.Ends.{IsLinkOf, node_at}
-use Rattle.link_laws.specs.Sides.{AllLinked, AllPublishedOpen, Trunks, with_side}
+use Rattle.link_laws.specs.Sides.{AllLinked, AllPublishedOpen, Trunks}
 use Rattle.link_laws.specs.Linked.{IsLinked, IsTrueOf}
 use Rattle.link_laws.specs.Moves.{questions}
 use Rattle.link_laws.specs.Promises.{ArePublishedOpen}
@@ -25,6 +25,7 @@ use Rattle.link_laws.proofs.Keeps.{says_now}
 use Rattle.link_laws.proofs.OneSide.{one_restated}
 use Rattle.link_laws.proofs.Opened.{open-opened}
 use Rattle.link_laws.proofs.Promised.{IsOpenNow, published-saying}
+use Rattle.link_laws.proofs.Sides.{with_side}
 
 questions-no_signal : (names : List (List ℕ)) → filter is_signal (questions names) ≡ []
 questions-no_signal [] = refl

@@ -26,7 +26,7 @@ use Rattle.journal.specs.declared.effect.Step.{Step}
 use Rattle.journal.specs.declared.head.Head.TheVariants.{Wire}
 use Rattle.link_laws.specs.Brought.{Brought, brought_at, goes_up, goes_down}
 use Rattle.link_laws.specs.Ends.{node_at, IsLinkOf, HasTwoEnds}
-use Rattle.link_laws.specs.Sides.{Trunks, with_side, AllLinked}
+use Rattle.link_laws.specs.Sides.{Trunks, AllLinked}
 use Rattle.link_laws.specs.Laws.{delivers, IsLegalStep}
 use Rattle.link_laws.specs.Linked.{IsLinked}
 use Rattle.link_laws.specs.Sessions.{is_cut}
@@ -35,7 +35,7 @@ use Rattle.link_laws.proofs.Away.{touches}
 use Rattle.link_laws.proofs.Brings.{legal_going_up, legal_going_down}
 use Rattle.link_laws.proofs.Done.{IsDone}
 use Rattle.link_laws.proofs.Legal.{legal_wire}
-use Rattle.link_laws.proofs.Sides.{notices-items, no_signal, one_side}
+use Rattle.link_laws.proofs.Sides.{notices-items, no_signal, one_side, with_side}
 use Rattle.link_laws.proofs.Turns.{keeps_up, keeps_beginning, keeps_down}
 use Rattle.linx_base.specs.declared.signal.Reason.TheVariants as reasons
 

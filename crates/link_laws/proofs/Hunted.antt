@@ -31,14 +31,14 @@ use Rattle.journal.specs.declared.effect.Step.{Step}
 use Rattle.journal.proofs.Lists.{list_any-filter}
 use Rattle.journal.proofs.Openings.{same_inc-true}
 use Rattle.link_laws.specs.Ends.{IsLinkOf, node_at}
-use Rattle.link_laws.specs.Sides.{AllHunted, Links, SideState, with_state}
+use Rattle.link_laws.specs.Sides.{AllHunted, Links, SideState}
 use Rattle.link_laws.specs.Linked.{AreHunted, HasNone, HuntStands, IsTalking, asking, asks, coming}
 use Rattle.link_laws.specs.Linked.{offers, waiting}
 use Rattle.link_laws.specs.Sessions.{same_side}
 use Rattle.link_laws.proofs.Hunts.{IsSameHere, end-parts}
 use Rattle.link_laws.proofs.HuntSteps.{hunts_down_far, hunts_down_near, hunts_more, talks}
 use Rattle.link_laws.proofs.Opened.{any-filter, open-on, opened-any, was_open_or_opened}
-use Rattle.link_laws.proofs.Sides.{same_link}
+use Rattle.link_laws.proofs.Sides.{same_link, with_state}
 
 -- a side's hunts, seen with the other side's state
 abbrev pub IsHuntedAt : Shape → List Step → LinkNo → Side → SideState → SideState → Type 0

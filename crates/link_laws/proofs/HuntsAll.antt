@@ -21,7 +21,6 @@ use Rattle.journal.specs.Shapes.{Shape}
 use Rattle.journal.specs.declared.effect.Step.{Step}
 use Rattle.link_laws.specs.Ends.{HasTwoEnds, IsLinkOf, node_at}
 use Rattle.link_laws.specs.Sides.{AllHunted, AllTrunks, Links, SideState, Trunks, records_of}
-use Rattle.link_laws.specs.Sides.{with_state}
 use Rattle.link_laws.specs.Linked.{AreHunted, HasNone, IsTalking, is_hunted}
 use Rattle.link_laws.specs.Moves.{AsksOver, IsLeft, Opens, OpensAt}
 use Rattle.link_laws.specs.Moves.{PublishesOpened, RestartsAt, is_up, is_wanted, opening_side}
@@ -31,7 +30,7 @@ use Rattle.link_laws.proofs.Hunted.{same_here}
 use Rattle.link_laws.proofs.Hunts.{IsSameHere}
 use Rattle.link_laws.proofs.HuntSteps.{hunts_down_far, hunts_down_near, hunts_more, hunts_new}
 use Rattle.link_laws.proofs.HuntSteps.{hunts_opened, talks}
-use Rattle.link_laws.proofs.Sides.{other_twice}
+use Rattle.link_laws.proofs.Sides.{other_twice, with_state}
 
 -- what a trunk keeps of the other side
 pub back_half : (shape : Shape) (trunks : Trunks) → AllTrunks shape trunks → (l : LinkNo)

@@ -19,7 +19,7 @@ use Rattle.journal.specs.Living.{is_alive}
 use Rattle.journal.specs.Shapes.{Shape}
 use Rattle.journal.specs.declared.effect.Step.{Step}
 use Rattle.link_laws.specs.Ends.{IsLinkOf, node_at}
-use Rattle.link_laws.specs.Sides.{AllHunted, Links, SideState, with_state}
+use Rattle.link_laws.specs.Sides.{AllHunted, Links, SideState}
 use Rattle.link_laws.specs.Linked.{AreHunted, HasNone, HuntStands, IsLinked, IsUnfound, asking}
 use Rattle.link_laws.specs.Linked.{asks, coming, is_hunted, waiting}
 use Rattle.link_laws.specs.Moves.{KeepsNotes, NotesName, questions}
@@ -27,6 +27,7 @@ use Rattle.trunk_record.proofs.Lookups.{peer-now}
 use Rattle.link_laws.proofs.Hunted.{IsCalm, calm_here, far, hunts_given, hunts_heard, near, whole}
 use Rattle.link_laws.proofs.Hunts.{IsSameHere, hunts_noted, hunts_offered}
 use Rattle.link_laws.proofs.HuntSteps.{hunts_met, hunts_more, hunts_up_far, hunts_up_near, talks}
+use Rattle.link_laws.proofs.Sides.{with_state}
 
 -- MORE NAMES ARE NOTED
 pub hunts_noting : (P : List Step) (n m : ℕ) (l : LinkNo) (A B : SideRecord)

@@ -30,7 +30,7 @@ use Rattle.journal.specs.declared.effect.Effect.TheVariants.{Arrived, Met, Gone}
 use Rattle.journal.specs.declared.effect.Step.{Step}
 use Rattle.journal.proofs.Lists.{all-append, all-impl}
 use Rattle.link_laws.specs.Came.{came_after, came_in, sent_in, signal_over}
-use Rattle.link_laws.specs.Linked.{IsLinked, IsTrueOf, is_session, shown_by, IsAt}
+use Rattle.link_laws.specs.Linked.{IsLinked, IsTrueOf, is_session}
 use Rattle.link_laws.specs.Sessions.{paired_session, own_session, had_session, paired_after}
 use Rattle.link_laws.specs.Sessions.{ends_session, restarts}
 use Rattle.trunk_record.proofs.Lookups.{saying-said, saying-given, saying-peer, giving-said}
@@ -39,6 +39,7 @@ use Rattle.link_laws.proofs.Away.{touches, up-away, paired-away, came-away, aliv
 use Rattle.link_laws.proofs.Away.{alive_in, same_peer-is}
 use Rattle.link_laws.proofs.Done.{IsDone, came-done, living-done, up-done, paired-done, own-done}
 use Rattle.link_laws.proofs.Opened.{any-filter, OpensNew, open-more, still-true}
+use Rattle.link_laws.proofs.Sides.{shown_by, IsAt}
 
 pub had-more : (P : List Step) (s : Step) (n l : ℕ) (y : Session) → had_session P n l y ≡ true
     → had_session (s ∷ P) n l y ≡ true

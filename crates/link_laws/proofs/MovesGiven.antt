@@ -31,9 +31,9 @@ use Rattle.journal.specs.declared.head.Head.TheVariants.{Wire}
 use Rattle.link_laws.specs.Brought.{brought_at}
 use Rattle.link_laws.specs.Ends.{IsLinkOf, node_at}
 use Rattle.link_laws.specs.Sides.{AllHunted, AllLinked, AllPublishedOpen, Links, SideState}
-use Rattle.link_laws.specs.Sides.{records_of, with_side, with_state}
+use Rattle.link_laws.specs.Sides.{records_of}
 use Rattle.link_laws.specs.Laws.{IsLegalStep, delivers}
-use Rattle.link_laws.specs.Linked.{HasNone, IsLinked, asks, is_session, offers, shown_by}
+use Rattle.link_laws.specs.Linked.{HasNone, IsLinked, asks, is_session, offers}
 use Rattle.link_laws.specs.Moves.{IsRecorded, IsTold, KeepsNotes, NotesName, OthersLeft}
 use Rattle.link_laws.specs.Moves.{PacketGives, Receives, brought_of, notes, publishes}
 use Rattle.link_laws.specs.Promises.{ups}
@@ -56,7 +56,8 @@ use Rattle.link_laws.proofs.Packets.{IsGiven, given-done, given_at, given_here, 
 use Rattle.link_laws.proofs.Packets.{legal_giving, quiet_given}
 use Rattle.link_laws.proofs.Promising.{promised_giving}
 use Rattle.link_laws.proofs.Published.{RaisesNone, opened_giving}
-use Rattle.link_laws.proofs.Sides.{IsElsewhere, other_twice, shown-away}
+use Rattle.link_laws.proofs.Sides.{IsElsewhere, other_twice, shown-away, with_side, with_state}
+use Rattle.link_laws.proofs.Sides.{shown_by}
 use Rattle.link_laws.proofs.Unfound.{unfound}
 
 -- while its link is cut no packet is handed over

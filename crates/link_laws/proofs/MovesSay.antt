@@ -16,7 +16,7 @@ use Rattle.journal.specs.Living.{is_alive}
 use Rattle.journal.specs.Shapes.{Shape}
 use Rattle.journal.specs.declared.effect.Step.{Step}
 use Rattle.link_laws.specs.Ends.{HasTwoEnds, IsLinkOf, node_at}
-use Rattle.link_laws.specs.Sides.{AllHunted, AllLinked, AreLinksKept, Links, records_of, with_side}
+use Rattle.link_laws.specs.Sides.{AllHunted, AllLinked, AreLinksKept, Links, records_of}
 use Rattle.link_laws.specs.Linked.{IsTrueOf}
 use Rattle.link_laws.specs.Moves.{OthersLeft}
 use Rattle.link_laws.specs.Sessions.{tells_heard}
@@ -27,7 +27,7 @@ use Rattle.link_laws.proofs.Keeps.{keeps_saying}
 use Rattle.link_laws.proofs.OneSide.{one_kept, silence-side}
 use Rattle.link_laws.proofs.Promised.{IsOpenNow}
 use Rattle.link_laws.proofs.Published.{RaisesNone, opened_saying}
-use Rattle.link_laws.proofs.Sides.{one_side}
+use Rattle.link_laws.proofs.Sides.{one_side, with_side}
 
 -- a side says nothing, or is up and says what is proper
 abbrev pub SaysWell : SideRecord → List Said → Type 0

@@ -30,7 +30,7 @@ use Rattle.journal.specs.declared.head.SentTo.{SentTo}
 use Rattle.journal.specs.declared.head.SentTo.TheVariants.{Dead, Link, Queued}
 use Rattle.link_laws.specs.Came.{signal_over}
 use Rattle.link_laws.specs.Ends.{node_at}
-use Rattle.link_laws.specs.Sides.{AllLinked, Links, records_of, with_side}
+use Rattle.link_laws.specs.Sides.{AllLinked, Links, records_of}
 use Rattle.link_laws.specs.Fits.{CanSend}
 use Rattle.link_laws.specs.Laws.{IsLegalStep, KeepsNodeLaws}
 use Rattle.link_laws.specs.Linked.{IsLinked}
@@ -51,7 +51,7 @@ use Rattle.link_laws.proofs.MovesSay.{said_kept}
 use Rattle.link_laws.proofs.OneSide.{one_hunted, raises-none, tells-none}
 use Rattle.link_laws.proofs.Opened.{open-more, open-on}
 use Rattle.link_laws.proofs.Promised.{IsOpenNow}
-use Rattle.link_laws.proofs.Sides.{one_side}
+use Rattle.link_laws.proofs.Sides.{one_side, with_side}
 
 -- what a send on the own node brings touches, opens and closes nothing
 arrivals-test : (p : Effect → Bool) (j i : Inc) (note : SigNote)

@@ -32,7 +32,6 @@ use Rattle.journal.proofs.Lists.{all-impl}
 use Rattle.link_laws.specs.Brought.{brought_at, goes_down, goes_up}
 use Rattle.link_laws.specs.Ends.{IsLinkOf, node_at}
 use Rattle.link_laws.specs.Sides.{AllLinked, Links, records_of}
-use Rattle.link_laws.specs.Sides.{with_side}
 use Rattle.link_laws.specs.Laws.{IsLegalStep, delivers}
 use Rattle.link_laws.specs.Linked.{IsLinked}
 use Rattle.link_laws.specs.Linked.{is_hunted}
@@ -53,7 +52,7 @@ use Rattle.link_laws.proofs.OneSide.{tells-none}
 use Rattle.link_laws.proofs.Promising.{promised_down, promised_up}
 use Rattle.link_laws.proofs.Published.{opened_beginning, opened_up}
 use Rattle.link_laws.proofs.Quiet.{lost_legal, whole_lost}
-use Rattle.link_laws.proofs.Sides.{IsElsewhere, notices-items}
+use Rattle.link_laws.proofs.Sides.{IsElsewhere, notices-items, with_side}
 
 -- the next session is above all of a side
 pub next-above : (A : SideRecord) → AllFall (all A)

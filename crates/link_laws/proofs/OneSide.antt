@@ -20,7 +20,7 @@ use Rattle.journal.specs.declared.effect.Effect.TheVariants.{Up}
 use Rattle.journal.specs.declared.effect.Step.{Step}
 use Rattle.link_laws.specs.Ends.{HasTwoEnds, IsLinkOf, node_at}
 use Rattle.link_laws.specs.Sides.{AllHunted, AllLinked, AllPublishedOpen, AreLinksKept}
-use Rattle.link_laws.specs.Sides.{Links, Trunks, records_of, with_side, with_state}
+use Rattle.link_laws.specs.Sides.{Links, Trunks, records_of}
 use Rattle.link_laws.specs.Moves.{AllLeft, OthersLeft, is_side}
 use Rattle.link_laws.specs.Promises.{ups}
 use Rattle.link_laws.specs.Sessions.{same_side, silent_ticks, tells_heard}
@@ -31,6 +31,8 @@ use Rattle.link_laws.proofs.Done.{IsDone, any-done, is_item}
 use Rattle.link_laws.proofs.Pairs.{one_trunk}
 use Rattle.link_laws.proofs.Published.{RaisesNone}
 use Rattle.link_laws.proofs.Sides.{IsElsewhere, at-side, other_side, other_twice, same_link}
+use Rattle.link_laws.proofs.Sides.{with_state}
+use Rattle.link_laws.proofs.Sides.{with_side}
 use Rattle.link_laws.proofs.Sides.{same_side-itself}
 use Rattle.link_laws.proofs.Silence.{silence-other}
 

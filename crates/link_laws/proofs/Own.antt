@@ -27,14 +27,14 @@ use Rattle.journal.specs.declared.head.Head.TheVariants.{Send}
 use Rattle.journal.specs.declared.head.SentTo.TheVariants.{Link}
 use Rattle.link_laws.specs.Came.{signal_over}
 use Rattle.link_laws.specs.Ends.{node_at, IsLinkOf, HasTwoEnds}
-use Rattle.link_laws.specs.Sides.{Trunks, with_side, AllLinked}
+use Rattle.link_laws.specs.Sides.{Trunks, AllLinked}
 use Rattle.link_laws.specs.Linked.{IsLinked}
 use Rattle.link_laws.specs.Moves.{closing_side}
 use Rattle.link_laws.specs.Sessions.{restarts}
 use Rattle.link_laws.proofs.Acts.{keeps_close, keeps_close_elsewhere, keeps_quiet, keeps_send}
 use Rattle.link_laws.proofs.Done.{IsDone}
 use Rattle.link_laws.proofs.Opened.{open-on}
-use Rattle.link_laws.proofs.Sides.{notices-items, one_side}
+use Rattle.link_laws.proofs.Sides.{notices-items, one_side, with_side}
 use Rattle.linx_base.specs.declared.signal.Reason.TheVariants as reasons
 
 -- A CLOSE: every link of the node on which the endpoint is live is told

@@ -31,9 +31,9 @@ use Rattle.journal.specs.declared.effect.Step.{Step}
 use Rattle.journal.specs.declared.head.Head.TheVariants.{Wire}
 use Rattle.link_laws.specs.Brought.{MayBring, brought_at}
 use Rattle.link_laws.specs.Ends.{node_at, IsLinkOf, HasTwoEnds}
-use Rattle.link_laws.specs.Sides.{Trunks, with_side, AllLinked}
+use Rattle.link_laws.specs.Sides.{Trunks, AllLinked}
 use Rattle.link_laws.specs.Laws.{delivers, IsLegalStep}
-use Rattle.link_laws.specs.Linked.{IsLinked, shown_by, IsAt}
+use Rattle.link_laws.specs.Linked.{IsLinked}
 use Rattle.link_laws.specs.Moves.{brought_of}
 use Rattle.link_laws.specs.Sessions.{is_cut}
 use Rattle.link_laws.proofs.Acts.{keeps_quiet}
@@ -43,6 +43,9 @@ use Rattle.link_laws.proofs.Keeps.{keeps_giving}
 use Rattle.link_laws.proofs.Legal.{legal_wire}
 use Rattle.link_laws.proofs.Opened.{open-on}
 use Rattle.link_laws.proofs.Sides.{shown-away, founds-items, notices-items, no_signal, one_side}
+use Rattle.link_laws.proofs.Sides.{IsAt}
+use Rattle.link_laws.proofs.Sides.{shown_by}
+use Rattle.link_laws.proofs.Sides.{with_side}
 use Rattle.linx_base.specs.declared.signal.Reason.TheVariants as reasons
 
 -- its effects are what shows it, and then items

@@ -9,8 +9,9 @@ use Rattle.linx_base.specs.declared.identity.Side.TheVariants.{First, Second}
 use Rattle.trunk_record.specs.Records.{SideRecord}
 use Rattle.trunk_record.specs.Trunks.{IsHalf}
 use Rattle.journal.specs.Shapes.{Shape}
-use Rattle.link_laws.specs.Sides.{AllTrunks, Trunks, with_side}
+use Rattle.link_laws.specs.Sides.{AllTrunks, Trunks}
 use Rattle.link_laws.specs.Sessions.{same_side}
+use Rattle.link_laws.proofs.Sides.{with_side}
 
 -- what its own trunk keeps of the changed side, and what all others kept
 pub one_trunk : (shape : Shape) (trunks : Trunks) (l : LinkNo) (at : Side) (A : SideRecord)

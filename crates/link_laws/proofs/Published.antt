@@ -13,11 +13,11 @@ use Rattle.journal.specs.Shapes.{Shape}
 use Rattle.journal.specs.declared.effect.Effect.TheVariants.{Up}
 use Rattle.journal.specs.declared.effect.Step.{Step}
 use Rattle.link_laws.specs.Ends.{HasTwoEnds, IsLinkOf, node_at}
-use Rattle.link_laws.specs.Sides.{AllPublishedOpen, Trunks, with_side}
+use Rattle.link_laws.specs.Sides.{AllPublishedOpen, Trunks}
 use Rattle.link_laws.specs.Promises.{ArePublishedOpen, ups}
 use Rattle.link_laws.proofs.Promised.{IsOpenNow, earlier-stay, published-saying, published-step}
 use Rattle.link_laws.proofs.Promised.{published-up}
-use Rattle.link_laws.proofs.Sides.{one_side_of}
+use Rattle.link_laws.proofs.Sides.{one_side_of, with_side}
 
 -- a step in which nothing goes up
 abbrev pub RaisesNone : Step → Type 0

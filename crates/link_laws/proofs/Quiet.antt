@@ -32,7 +32,7 @@ use Rattle.journal.specs.declared.head.Head.TheVariants.{Open, Tick}
 use Rattle.link_laws.specs.Brought.{was_opened}
 use Rattle.link_laws.specs.Came.{signal_over}
 use Rattle.link_laws.specs.Ends.{node_at, IsLinkOf, HasTwoEnds}
-use Rattle.link_laws.specs.Sides.{Trunks, with_side, AllLinked}
+use Rattle.link_laws.specs.Sides.{Trunks, AllLinked}
 use Rattle.link_laws.specs.Laws.{IsLegalStep}
 use Rattle.link_laws.specs.Linked.{IsLinked}
 use Rattle.link_laws.specs.Moves.{opening_side}
@@ -43,7 +43,7 @@ use Rattle.link_laws.proofs.Done.{AreItems, IsDone, openings-done, name-done}
 use Rattle.link_laws.proofs.Keeps.{keeps_saying}
 use Rattle.link_laws.proofs.Legal.{legal_lost, lost_step}
 use Rattle.link_laws.proofs.Opened.{OpensNew, both_true, open-more, open-new}
-use Rattle.link_laws.proofs.Sides.{founds-items, notices-items, no_signal, one_side}
+use Rattle.link_laws.proofs.Sides.{founds-items, notices-items, no_signal, one_side, with_side}
 use Rattle.link_laws.proofs.Turns.{keeps_beginning, keeps_down}
 use Rattle.linx_base.specs.declared.signal.Reason.TheVariants as reasons
 

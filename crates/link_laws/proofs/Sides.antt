@@ -1,7 +1,7 @@
 -- One side of one link changes, and all others stay.
 use Rattle.std.proofs.Common.{◌≡◌, ℕ, Bool, true, false, cond, ◌||◌, ◌&&◌, List, [], ◌∷◌, Option}
 use Rattle.std.proofs.Common.{Some, None, map, refl, sym, ◌∙◌, ap, subst, arith, ◌/◌}
-use Rattle.std.specs.Prelude.{◌==◌}
+use Rattle.std.specs.Prelude.{◌==◌, if◌then◌else◌}
 use Rattle.std.specs.List.{list_any}
 use Rattle.std.proofs.lemmas.Bool.{true≢false, eqb-true}
 use Rattle.std.proofs.lemmas.Bool.Decides.{nat_tests}
@@ -9,7 +9,9 @@ use Rattle.linx_base.specs.Numbers.{is_on}
 use Rattle.linx_base.specs.Sides.{other_of}
 use Rattle.linx_base.specs.declared.identity.Inc.{Inc}
 use Rattle.linx_base.specs.declared.identity.LinkNo.{LinkNo}
+use Rattle.linx_base.specs.declared.identity.NodeNo.{NodeNo}
 use Rattle.linx_base.specs.declared.identity.Peer.{Peer}
+use Rattle.linx_base.specs.declared.identity.Peer.TheVariants.{There}
 use Rattle.linx_base.specs.declared.identity.Session.{Session}
 use Rattle.linx_base.specs.declared.identity.Side.{Side}
 use Rattle.linx_base.specs.declared.identity.Side.TheVariants.{First, Second}
@@ -21,17 +23,42 @@ use Rattle.trunk_record.specs.Records.{SideRecord}
 use Rattle.trunk_record.specs.Sayings.{Given, met, asked_for, arrived, freed, gone}
 use Rattle.journal.specs.Effects.{founds, notices, notice, found}
 use Rattle.journal.specs.Shapes.{Shape}
+use Rattle.journal.specs.declared.effect.Effect.{Effect}
+use Rattle.journal.specs.declared.effect.Effect.TheVariants.{Arrived, Gone, Met}
 use Rattle.journal.specs.declared.effect.Step.{Step}
 use Rattle.journal.specs.declared.head.Head.{Head}
 use Rattle.link_laws.specs.Came.{signal_over}
 use Rattle.link_laws.specs.Ends.{node_at, IsLinkOf, HasTwoEnds}
-use Rattle.link_laws.specs.Sides.{Trunks, with_side, AllLinked}
-use Rattle.link_laws.specs.Linked.{IsLinked, shown_by, IsAt}
+use Rattle.link_laws.specs.Sides.{AllLinked, Links, SideState, Trunks}
+use Rattle.link_laws.specs.Linked.{IsLinked}
 use Rattle.link_laws.specs.Moves.{is_side}
 use Rattle.link_laws.specs.Sessions.{same_side}
 use Rattle.link_laws.proofs.Away.{touches}
 use Rattle.link_laws.proofs.Done.{AreItems}
 use Rattle.link_laws.proofs.Opened.{both_true}
+
+-- one side is another now
+abbrev pub with_side : Trunks → ℕ → Side → SideRecord → Trunks
+with_side trunks link side A k at =
+    if k == link && same_side side at then A else trunks k at
+
+-- one side is in another state now
+abbrev pub with_state : Links → ℕ → Side → SideState → Links
+with_state links link side C k at =
+    if k == link && same_side side at then C else links k at
+
+-- the effects that show what a node was given in a session of a link
+abbrev pub shown_by : NodeNo → LinkNo → Session → Given → List Effect
+shown_by n l x (met a name) = Met n (There l x a) name ∷ []
+shown_by n l x (asked_for name) = []
+shown_by n l x (arrived a b note) = Arrived b (There l x a) note ∷ []
+shown_by n l x (freed a b note) = []
+shown_by n l x (gone a) = Gone n (There l x a) ∷ []
+
+-- an arrival is at an endpoint of the node
+abbrev pub IsAt : ℕ → Given → Type 0
+IsAt node (arrived a b note) = is_on node b ≡ true
+IsAt node _ = Unit {0}
 
 pub founds-items : (path : Path) (q : Peer) (hunts : List PendingHunt)
     → AreItems (founds path q hunts)

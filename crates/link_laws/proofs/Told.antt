@@ -1,11 +1,22 @@
 -- What the effects of a packet tell of what it brought.
-use Rattle.std.proofs.Common.{◌≡◌, ℕ, List, refl, sym, ap, ◌∙◌, subst}
+use Rattle.std.proofs.Common.{◌≡◌, ℕ, List, ◌∷◌, refl, sym, ap, ◌∙◌, subst}
 use Rattle.linx_base.specs.declared.identity.LinkNo.{LinkNo}
+use Rattle.linx_base.specs.declared.identity.Peer.TheVariants.{There}
 use Rattle.journal.specs.declared.effect.Effect.{Effect}
+use Rattle.journal.specs.declared.effect.Effect.TheVariants.{Arrived, Down, Gone, Met, Up}
 use Rattle.journal.specs.declared.effect.Step.{Step}
-use Rattle.link_laws.specs.Brought.{Brought, MayBring, arrives, brought_at, brought_by, goes_down}
-use Rattle.link_laws.specs.Brought.{goes_up, meets, nothing, parts}
+use Rattle.link_laws.specs.Brought.{Brought, MayBring, arrives, brought_at, goes_down, goes_up}
+use Rattle.link_laws.specs.Brought.{meets, nothing, parts}
 use Rattle.link_laws.specs.Laws.{ArePacketEffects}
+
+-- what effects tell of what was brought: the first of them decides
+abbrev pub brought_by : List Effect → Brought
+brought_by (Up n l x y ∷ rest) = goes_up x y
+brought_by (Down n l x ∷ rest) = goes_down x
+brought_by (Arrived b (There l x a) note ∷ rest) = arrives x a b note
+brought_by (Met n (There l x a) name ∷ rest) = meets x a name
+brought_by (Gone n (There l x a) ∷ rest) = parts x a
+brought_by _ = nothing
 
 -- what was brought is told by its effects
 pub told_back : (P : List Step) (n : ℕ) (l : LinkNo) (what : Brought)

@@ -18,7 +18,7 @@ use Rattle.journal.specs.Pending.{hunting, owed}
 use Rattle.journal.specs.Sessions.{up_session}
 use Rattle.journal.specs.Traffic.{arrived_from, sent_to}
 use Rattle.journal.specs.declared.effect.Effect.{Effect}
-use Rattle.journal.specs.declared.effect.Effect.TheVariants.{Arrived, Down, Gone, Met, Up}
+use Rattle.journal.specs.declared.effect.Effect.TheVariants.{Arrived, Met, Up}
 use Rattle.journal.specs.declared.effect.Step.{Step}
 use Rattle.link_laws.specs.Sessions.{had_session, own_session, paired_session}
 
@@ -42,15 +42,6 @@ brought_at P n l (arrives x a b note) = Arrived b (There l x a) note ∷ []
 brought_at P n l (meets x a name) =
     meeting (record { 0 = n }) l (There l x a) name (hunting P n)
 brought_at P n l (parts x a) = parting (record { 0 = n }) (There l x a) (owed P n)
-
--- what effects tell of it: the first of them decides
-abbrev pub brought_by : List Effect → Brought
-brought_by (Up n l x y ∷ rest) = goes_up x y
-brought_by (Down n l x ∷ rest) = goes_down x
-brought_by (Arrived b (There l x a) note ∷ rest) = arrives x a b note
-brought_by (Met n (There l x a) name ∷ rest) = meets x a name
-brought_by (Gone n (There l x a) ∷ rest) = parts x a
-brought_by _ = nothing
 
 -- the incarnation was opened on the node, closed or not
 abbrev pub was_opened : List Step → ℕ → Inc → Bool

@@ -1,27 +1,23 @@
 -- How a history and the record of a trunk hang together.
-use Rattle.std.specs.Prelude.{ℕ, ◌≡◌, ◌≢◌, Bool, true, false, ◌&&◌, ◌==◌, List, [], ◌∷◌, ◌++◌, map}
+use Rattle.std.specs.Prelude.{ℕ, ◌≡◌, ◌≢◌, Bool, true, false, ◌&&◌, ◌==◌, List, ◌++◌, map}
 use Rattle.std.specs.Prelude.{filter, Option, Some, None}
 use Rattle.std.specs.List.{list_any, AllByRecursion}
 use Rattle.std.specs.Str.{bytes_eq}
-use Rattle.linx_base.specs.Numbers.{is_on}
 use Rattle.linx_base.specs.Pending.{is_for}
 use Rattle.linx_base.specs.declared.name.Path.TheVariants.{Over}
 use Rattle.linx_base.specs.declared.identity.Inc.{Inc}
 use Rattle.linx_base.specs.declared.identity.LinkNo.{LinkNo}
-use Rattle.linx_base.specs.declared.identity.NodeNo.{NodeNo}
 use Rattle.linx_base.specs.declared.identity.Peer.TheVariants.{Here, There}
 use Rattle.linx_base.specs.declared.identity.Session.{Session}
 use Rattle.trunk_record.specs.Records.{SessionRecord, SideRecord, all, given_in, peer_in, said_in}
 use Rattle.trunk_record.specs.Records.{up_in}
-use Rattle.trunk_record.specs.Sayings.{Given, Said, arrived, asked, asked_for, freed, gone}
-use Rattle.trunk_record.specs.Sayings.{heard_as, is_live, is_shown, is_signal, met, published}
+use Rattle.trunk_record.specs.Sayings.{Said, asked}
+use Rattle.trunk_record.specs.Sayings.{heard_as, is_live, is_shown, is_signal, published}
 use Rattle.trunk_record.specs.Sayings.{signaled, unpublished}
 use Rattle.journal.specs.History.{is_closed, name_of}
 use Rattle.journal.specs.Living.{is_alive}
 use Rattle.journal.specs.Pending.{hunting}
 use Rattle.journal.specs.Sessions.{up_session}
-use Rattle.journal.specs.declared.effect.Effect.{Effect}
-use Rattle.journal.specs.declared.effect.Effect.TheVariants.{Arrived, Gone, Met}
 use Rattle.journal.specs.declared.effect.Step.{Step}
 use Rattle.link_laws.specs.Brought.{was_opened}
 use Rattle.link_laws.specs.Came.{came_in, sent_in}
@@ -65,19 +61,6 @@ pub record IsLinked (P : List Step) (node : ℕ) (l : LinkNo) (A : SideRecord) :
   pub live : (i : Inc) → is_live i A.now.said ≡ true → is_alive P node (Here i) ≡ true
   pub living : (x : Session) (a : Inc) → is_alive P node (There l x a)
       ≡ (is_session x (up_in A) && is_live a (map heard_as (given_in A x)))
-
--- the effects that show what a node was given in a session of a link
-abbrev pub shown_by : NodeNo → LinkNo → Session → Given → List Effect
-shown_by n l x (met a name) = Met n (There l x a) name ∷ []
-shown_by n l x (asked_for name) = []
-shown_by n l x (arrived a b note) = Arrived b (There l x a) note ∷ []
-shown_by n l x (freed a b note) = []
-shown_by n l x (gone a) = Gone n (There l x a) ∷ []
-
--- an arrival is at an endpoint of the node
-abbrev pub IsAt : ℕ → Given → Type 0
-IsAt node (arrived a b note) = is_on node b ≡ true
-IsAt node _ = Unit {0}
 
 -- WHAT IS ON ITS WAY. Both sides are up with each other; of what each said, the other has yet to
 -- hear the newest part

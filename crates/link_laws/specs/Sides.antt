@@ -1,5 +1,5 @@
 -- What a run keeps of its links: the states of their sides.
-use Rattle.std.specs.Prelude.{ℕ, ◌≤◌, ◌&&◌, ◌==◌, List, if◌then◌else◌}
+use Rattle.std.specs.Prelude.{ℕ, ◌≤◌, List}
 use Rattle.linx_base.specs.Sides.{other_of}
 use Rattle.linx_base.specs.declared.identity.LinkNo.{LinkNo}
 use Rattle.linx_base.specs.declared.identity.Side.{Side}
@@ -10,16 +10,11 @@ use Rattle.journal.specs.declared.effect.Step.{Step}
 use Rattle.link_laws.specs.Ends.{IsLinkOf, node_at}
 use Rattle.link_laws.specs.Linked.{AreHunted, IsLinked}
 use Rattle.link_laws.specs.Promises.{ArePublishedOpen}
-use Rattle.link_laws.specs.Sessions.{same_side, silent_ticks}
+use Rattle.link_laws.specs.Sessions.{silent_ticks}
 
 -- the sides of a run's trunks, by the number of the link
 abbrev pub Trunks : Type 0
 Trunks = ℕ → Side → SideRecord
-
--- one side is another now
-abbrev pub with_side : Trunks → ℕ → Side → SideRecord → Trunks
-with_side trunks link side A k at =
-    if k == link && same_side side at then A else trunks k at
 
 -- each pair of sides is what a trunk keeps
 abbrev pub AllTrunks : Shape → Trunks → Type 0
@@ -41,11 +36,6 @@ pub record SideState : Type 0 where
 -- the sides of a run's links, by the number of the link
 abbrev pub Links : Type 0
 Links = ℕ → Side → SideState
-
--- one side is in another state now
-abbrev pub with_state : Links → ℕ → Side → SideState → Links
-with_state links link side C k at =
-    if k == link && same_side side at then C else links k at
 
 -- their records
 abbrev pub records_of : Links → Trunks

@@ -31,9 +31,10 @@ use Rattle.fabric.specs.declared.stop.StopCause.TheVariants.{JournalFull}
 use Rattle.fabric.specs.Asks.{FitsEvent, may_ask}
 use Rattle.fabric.specs.Fits.{LeavesBy}
 use Rattle.fabric.specs.Links.{is_still}
-use Rattle.fabric.specs.Machine.{LooksInVain, head_for, head_of, is_at_rest, look, pumped_head}
+use Rattle.fabric.specs.Machine.{head_for, head_of, is_at_rest, look, pumped_head}
 use Rattle.fabric.specs.Machine.{signal_in, vain_look}
 use Rattle.fabric.specs.Run.{IsStepFor, IsStepOf, IsStepped, Layout}
+use Rattle.fabric.proofs.InVain.{LooksInVain}
 use Rattle.linx_api.specs.Asked.{FindsNothing, Gives, IsAnswered, MakesStep}
 
 -- the head, if there is one, is an end

@@ -47,9 +47,10 @@ use Rattle.trunk_moves.specs.Steps.{Makes as MakesOfTrunks}
 use Rattle.trunk_moves.specs.Trunks.{RunTrunks}
 use Rattle.carrier.specs.Events.{link_told_by}
 use Rattle.fabric.specs.Links.{is_still}
-use Rattle.fabric.specs.Machine.{LooksInVain, hands_over, head_for, head_of, is_at_rest, look}
+use Rattle.fabric.specs.Machine.{hands_over, head_for, head_of, is_at_rest, look}
 use Rattle.fabric.specs.Machine.{signal_in, vain_look}
 use Rattle.fabric.specs.Run.{IsStepFor, IsStepOf, IsStepped, Layout}
+use Rattle.fabric.proofs.InVain.{LooksInVain}
 use Rattle.stage.proofs.Asking.{next-actors}
 
 -- THE HAND of what was asked

@@ -31,8 +31,9 @@ use Rattle.run_trunks.specs.States.{trunks_of}
 use Rattle.trunk_moves.specs.Trunks.{RunTrunks}
 use Rattle.fabric.specs.Links.{is_still, none_stirs, stirs}
 use Rattle.fabric.specs.Machine.{all_have_ended, all_leave_at_rest, hands_over, have_ended}
-use Rattle.fabric.specs.Machine.{LooksInVain, head_for, is_at_rest, pumped_head}
+use Rattle.fabric.specs.Machine.{head_for, is_at_rest, pumped_head}
 use Rattle.fabric.specs.Run.{IsStepFor, Layout}
+use Rattle.fabric.proofs.InVain.{LooksInVain}
 use Rattle.fabric.proofs.Resting.{ended-each}
 use Rattle.stage.specs.Plays.{AllFollow}
 use Rattle.stage.specs.Pumps.{pump_event}

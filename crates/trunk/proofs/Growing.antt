@@ -10,10 +10,18 @@ use Rattle.rlnh_laws.specs.Meanings.{heard_of}
 use Rattle.rlnh_laws.specs.Ties.{Alone, Pair, Talk}
 use Rattle.rlnh_laws.specs.Talks.{Grows, Right, heard_word}
 use Rattle.rlnh_laws.proofs.Hearing.{hears_right}
-use Rattle.trunk.specs.Talks.{KeepBothTalks, FallBelow, HoldAll, Talks, all_talks, is_peer, partner}
-use Rattle.trunk.specs.Talks.{with_now}
+use Rattle.trunk.specs.Talks.{FallBelow, HoldAll, KeepsTalks, Talks, all_talks, is_peer, partner}
 use Rattle.trunk.proofs.Partners.{holds_with, none_below, pair_apart, pair_sym, pair_with}
 use Rattle.trunk.proofs.Partners.{partner_alone, peer_sym, same_peer}
+
+-- what holds of each side against the other
+pub record KeepBothTalks (A B : Talks) : Type 0 where
+  pub near : KeepsTalks A B
+  pub far : KeepsTalks B A
+
+-- the present session went on to this
+abbrev pub with_now : Talks → Talk → Talks
+with_now A g = record { now = g; earlier = A.earlier }
 
 pub both_turned : (A B : Talks) → KeepBothTalks A B → KeepBothTalks B A
 both_turned A B k = record { near = k.far; far = k.near }

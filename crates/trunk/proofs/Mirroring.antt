@@ -14,7 +14,8 @@ use Rattle.carrier.proofs.Fronts.{either}
 use Rattle.rlnh_end.specs.Words.{Word, message_of}
 use Rattle.rlnh_laws.specs.Ties.{Talk}
 use Rattle.trunk.specs.Keeping.{AllMirror, messages_of}
-use Rattle.trunk.specs.Talks.{KeepBothTalks, FallBelow, Talks, all_talks, partner}
+use Rattle.trunk.specs.Talks.{FallBelow, Talks, all_talks, partner}
+use Rattle.trunk.proofs.Growing.{KeepBothTalks}
 use Rattle.trunk.proofs.Partners.{down_partner, no_partner, nothing}
 
 pub messages-append : (xs ys : List Word)

@@ -17,8 +17,9 @@ use Rattle.trunk_record.proofs.Lists.{all-impl}
 use Rattle.rlnh_laws.specs.Meanings.{saids}
 use Rattle.rlnh_laws.specs.Ties.{Pair, Talk}
 use Rattle.rlnh_laws.proofs.Speaking.{saids-append}
-use Rattle.trunk.specs.Talks.{KeepBothTalks, FallBelow, KeepsTalks, HoldAll, Holds, IsSoundSession}
+use Rattle.trunk.specs.Talks.{FallBelow, KeepsTalks, HoldAll, Holds, IsSoundSession}
 use Rattle.trunk.specs.Talks.{Talks, all_talks, partner, record_of, side_record}
+use Rattle.trunk.proofs.Growing.{KeepBothTalks}
 use Rattle.trunk.proofs.Mirroring.{eq_turned}
 use Rattle.trunk.proofs.Partners.{down_partner, named, no_partner, nothing}
 

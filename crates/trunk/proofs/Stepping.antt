@@ -33,17 +33,16 @@ use Rattle.trunk.specs.Events.{IsReading, TrunkSide, TrunkState, given_for_heard
 use Rattle.trunk.specs.Events.{near_down, near_heard, near_offers, near_pumped, near_said}
 use Rattle.trunk.specs.Events.{near_says, near_took, near_up, with_link}
 use Rattle.trunk.specs.Keeping.{AllMirror, KeepsSide, KeepsTrunk, messages_of}
-use Rattle.trunk.specs.Talks.{KeepBothTalks, FitsWord, KeepsTalks, IsSoundSession, MeetsLive, Talks}
-use Rattle.trunk.specs.Talks.{all_talks, is_peer, next_talks, partner, record_of, side_record}
-use Rattle.trunk.specs.Talks.{up_with, with_now}
-use Rattle.trunk.proofs.Growing.{both_hears, both_says, next_right}
+use Rattle.trunk.specs.Talks.{FitsWord, KeepsTalks, IsSoundSession, MeetsLive, Talks}
+use Rattle.trunk.specs.Talks.{all_talks, is_peer, partner, record_of, side_record}
+use Rattle.trunk.proofs.Growing.{KeepBothTalks, both_hears, both_says, next_right, with_now}
 use Rattle.trunk.proofs.Meeting.{meets_none}
 use Rattle.trunk.proofs.Mirroring.{got_word, messages-append}
 use Rattle.trunk.proofs.Offering.{Offered, offers, out_words}
 use Rattle.trunk.proofs.Reading.{given_word, messages_fit, read_word, reply_silent}
 use Rattle.trunk.proofs.Sounding.{SaysSoundly, all_words, fits_none, fresh_sound, heard_sound}
 use Rattle.trunk.proofs.Sounding.{hears_word, said_sound}
-use Rattle.trunk.proofs.Turning.{both_begin, both_next}
+use Rattle.trunk.proofs.Turning.{both_begin, both_next, next_talks, up_with}
 
 -- ---- the words of a trunk
 

@@ -12,12 +12,20 @@ use Rattle.rlnh_end.specs.Calls.{begin_of}
 use Rattle.rlnh_laws.specs.Ties.{Pair, Talk}
 use Rattle.rlnh_laws.specs.Talks.{said_more}
 use Rattle.rlnh_laws.proofs.Uttering.{utter_grows}
-use Rattle.trunk.specs.Talks.{KeepBothTalks, FallBelow, HoldAll, IsBlank, Talks, all_talks}
+use Rattle.trunk.specs.Talks.{FallBelow, HoldAll, IsBlank, Talks, all_talks}
 use Rattle.trunk.specs.Talks.{fresh_talk}
-use Rattle.trunk.specs.Talks.{is_peer, next_talks, partner, up_with, with_now}
-use Rattle.trunk.proofs.Growing.{both_says}
+use Rattle.trunk.specs.Talks.{is_peer, partner}
+use Rattle.trunk.proofs.Growing.{KeepBothTalks, both_says, with_now}
 use Rattle.trunk.proofs.Partners.{alone_fresh, holds_with, no_partner, nothing, pair_blank}
 use Rattle.trunk.proofs.Partners.{pair_fresh, pair_sym, down_partner}
+
+-- a session went up
+abbrev pub up_with : Talk → Session → Talk
+up_with e y = record e { peer = Some y }
+
+-- the present session ended, and another one began
+abbrev pub next_talks : Talks → Session → Talks
+next_talks A x = record { now = fresh_talk x; earlier = all_talks A }
 
 -- ---- a new session
 

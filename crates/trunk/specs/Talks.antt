@@ -42,18 +42,6 @@ abbrev pub fresh_talk : Session → Talk
 fresh_talk x =
     record { number = x; peer = None; words = []; heard = []; given = []; end = no_tables }
 
--- the present session went on to this
-abbrev pub with_now : Talks → Talk → Talks
-with_now A g = record { now = g; earlier = A.earlier }
-
--- a session went up
-abbrev pub up_with : Talk → Session → Talk
-up_with e y = record e { peer = Some y }
-
--- the present session ended, and another one began
-abbrev pub next_talks : Talks → Session → Talks
-next_talks A x = record { now = fresh_talk x; earlier = all_talks A }
-
 -- ---- two sides
 
 -- two sessions have each other as their peer
@@ -93,11 +81,6 @@ FallBelow n (e ∷ es) = (e.number.0 < n) × FallBelow e.number.0 es
 pub record KeepsTalks (A B : Talks) : Type 0 where
   pub falls : FallBelow A.now.number.0 A.earlier
   pub holds : HoldAll (all_talks B) (all_talks A)
-
--- and both ways
-pub record KeepBothTalks (A B : Talks) : Type 0 where
-  pub near : KeepsTalks A B
-  pub far : KeepsTalks B A
 
 -- ---- what holds of a session, whatever the other side does
 
