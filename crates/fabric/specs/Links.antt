@@ -1,6 +1,6 @@
 -- What a run's links are like after a history: whether one stirs, and what was counted of it.
 use Rattle.std.specs.Prelude.{ℕ, zero, suc, Bool, true, false, not, ◌&&◌, ◌||◌, ◌==◌, nat_lt}
-use Rattle.std.specs.Prelude.{List, [], ◌∷◌, length, is_some, if◌then◌else◌}
+use Rattle.std.specs.Prelude.{List, [], ◌∷◌, length, if◌then◌else◌}
 use Rattle.std.specs.List.{list_any}
 use Rattle.linx_base.specs.declared.identity.Side.{Side}
 use Rattle.linx_base.specs.declared.identity.Side.TheVariants.{First, Second}
@@ -9,6 +9,7 @@ use Rattle.journal.specs.Shapes.{Shape}
 use Rattle.journal.specs.declared.effect.Step.{Step}
 use Rattle.journal.specs.declared.head.Head.{Head}
 use Rattle.journal.specs.declared.head.Head.TheVariants.{Settle, Tick, Wire}
+use Rattle.link_laws.specs.Moves.{is_up}
 use Rattle.link_laws.specs.Sessions.{is_cut, same_side}
 use Rattle.trunk.specs.Events.{TrunkState, kept_of}
 use Rattle.trunk_moves.specs.Trunks.{RunTrunks}
@@ -20,7 +21,7 @@ flies_from from t = nat_lt 0 (length (flight_from from t.link))
 
 -- a side is up
 abbrev pub is_up_at : Side → TrunkState → Bool
-is_up_at side t = is_some (kept_of side t).now.peer
+is_up_at side t = is_up (kept_of side t)
 
 -- a link stirs: where it is cut, while a packet is in flight or a side is up; else while a packet
 -- is in flight or an end of it has work
