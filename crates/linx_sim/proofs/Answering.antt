@@ -1,6 +1,6 @@
 -- From what a play and the writing of its text say to the answer of a status.
-use Rattle.std.proofs.Common.{◌≡◌, ◌∙◌, ℕ, true, false, List, [], ap, inl, inr, refl, sym, subst}
-use Rattle.std.specs.Prelude.{Some, None, Result, Ok, Err, IfOk}
+use Rattle.std.proofs.Common.{◌≡◌, ℕ, true, false, List, [], inl, inr, sym, subst}
+use Rattle.std.specs.Prelude.{Option, Some, None, Result, Ok, Err, IfOk, IfSome, OnSome}
 use Rattle.linx_base.specs.declared.memory.NoMemory.{NoMemory as Refused}
 use Rattle.journal.specs.declared.effect.Step.{Step}
 use Rattle.journal.specs.Logs.{Log, is_full}
@@ -12,6 +12,7 @@ use Rattle.fabric.specs.declared.stop.StopCause.{StopCause}
 use Rattle.fabric.specs.declared.stop.StopCause.TheVariants as stops
 use Rattle.script_lang.specs.Parts.{ScriptParts}
 use Rattle.stage.specs.Plays.{AllFollowWhole, IsSoFar, Play}
+use Rattle.stage.specs.Stops.{IsCauseOf}
 use Rattle.stage.specs.Turns.{is_over, shape_of}
 use Rattle.workers.specs.declared.ran.Ran.{Ran}
 use Rattle.linx_sim.specs.Causes.{is_of_writing, stop_status}
@@ -68,19 +69,23 @@ whole-under (Gen n) script run log whole over = (run, whole over)
 -- a run that stopped
 answers-stopped : (asked : Asked) (cause : StopCause) (script : ScriptParts) (run : Layout)
     (log : Log) → IsRunAs script run log → IsStoppedUnder asked script run
-    → (cause ≡ stops.JournalFull → (is_full run.log.steps ≡ true) × (is_over run ≡ false))
+    → IsCauseOf cause run.log.steps → is_over run ≡ false
     → IsAnswerTo asked (stop_status cause) script log
-answers-stopped asked stops.JournalFull script run log so_far order full = record {
+answers-stopped asked stops.JournalFull script run log so_far order full turn = record {
   run = run;
   so_far = so_far;
-  full = subst (λ (l : Log). is_full l.steps ≡ true) so_far.logged (full refl).0;
-  turn = (full refl).1;
+  full = subst (λ (l : Log). is_full l.steps ≡ true) so_far.logged full;
+  turn = turn;
   order = order;
 }
-answers-stopped asked stops.NoMemory script run log so_far order full = record {
+answers-stopped asked stops.NoMemory script run log so_far order room turn = record {
   run = run;
   so_far = so_far;
-  order = inr order;
+  order = inr (record {
+    room = room;
+    turn = turn;
+    order = order;
+  });
 }
 
 -- what a stage hands out is a run so far of the script that was played
@@ -127,7 +132,11 @@ pub answers-halted : (asked : Asked) (cause : StopCause) (script : ScriptParts) 
 answers-halted asked cause script ran log is_ran stopped so_far is =
     answers-stopped asked cause script ran.stage.run log
     (run-as script ran.stage log is_ran.of so_far is)
-    (is_ran.order cause stopped) (λ full. is_ran.full (stopped ∙ ap Some full))
+    (is_ran.order cause stopped)
+    (subst (λ (stop : Option StopCause).
+    IfSome stop (λ met. IsCauseOf met ran.stage.run.log.steps)) stopped is_ran.cause)
+    (subst (λ (stop : Option StopCause). OnSome stop (is_over ran.stage.run ≡ false)) stopped
+    is_ran.turn)
 
 -- a generated script is run as any other one
 pub ran-generated : (n : ℕ) (script : ScriptParts) (played : Result Ran Refused)
@@ -136,7 +145,8 @@ ran-generated n script (Ok ran) is = record {
   of = is.of;
   over = is.over;
   order = is.order;
-  full = is.full;
+  cause = is.cause;
+  turn = is.turn;
 }
 ran-generated n script (Err refused) is = tt
 

@@ -1,18 +1,18 @@
 -- What a run of a script is, and what each status says of it.
 use Rattle.std.specs.Prelude.{ℕ, ◌≡◌, ◌≢◌, ◌⊎◌, true, false, List, [], take, Option}
-use Rattle.std.specs.Prelude.{Some, None, Result, Ok, Err, IfSome, IsOk}
+use Rattle.std.specs.Prelude.{Some, None, Result, Ok, Err, IfSome, OnSome, IsOk}
 use Rattle.journal.specs.declared.effect.Step.{Step}
 use Rattle.journal.specs.Logs.{Log, is_full}
 use Rattle.journal.specs.Shapes.{Shape}
 use Rattle.link_laws.specs.Laws.{IsLegal}
 use Rattle.link_laws.specs.Still.{IsOver}
 use Rattle.fabric.specs.declared.stop.StopCause.{StopCause}
-use Rattle.fabric.specs.declared.stop.StopCause.TheVariants as stops
 use Rattle.fabric.specs.Run.{Layout}
 use Rattle.script_lang.specs.Parts.{ScriptParts}
 use Rattle.script_lang.specs.Reading.{script_of}
 use Rattle.script_words.specs.declared.bad_kind.BadKind.{BadKind}
 use Rattle.stage.specs.Plays.{AllFollowWhole, IsSoFar}
+use Rattle.stage.specs.Stops.{IsCauseOf}
 use Rattle.stage.specs.Turns.{IsStoppedRun, IsWhole, first_layout, is_over, shape_of}
 use Rattle.workers.specs.declared.ran.Ran.{Ran}
 use Rattle.linx_sim.specs.Statuses.{IsDoneOrRefused}
@@ -71,8 +71,8 @@ pub record IsRan (asked : Asked) (script : ScriptParts) (ran : Ran) : Type 0 whe
   pub over : ran.stop ≡ None → IsOverUnder asked script ran.stage.run
   pub order : (cause : StopCause) → ran.stop ≡ Some cause
       → IsStoppedUnder asked script ran.stage.run
-  pub full : ran.stop ≡ Some stops.JournalFull
-      → (is_full ran.stage.run.log.steps ≡ true) × (is_over ran.stage.run ≡ false)
+  pub cause : IfSome ran.stop (λ cause. IsCauseOf cause ran.stage.run.log.steps)
+  pub turn : OnSome ran.stop (is_over ran.stage.run ≡ false)
 
 -- a run of a script stopped where an actor or a link has a turn to take, and the journal takes no
 -- further step; under `serial` in the fixed order
@@ -83,11 +83,19 @@ pub record IsStoppedFull (asked : Asked) (script : ScriptParts) (log : Log) : Ty
   pub turn : is_over run ≡ false
   pub order : IsStoppedUnder asked script run
 
--- A JOURNAL IS THAT OF A RUN SO FAR of a script: under `serial` of the fixed order, whole or stopped
+-- memory was refused to a run where an actor or a link has a turn to take, and the journal has room;
+-- under `serial` in the fixed order
+pub record IsRefusedUnder (asked : Asked) (script : ScriptParts) (run : Layout) : Type 0 where
+  pub room : is_full run.log.steps ≡ false
+  pub turn : is_over run ≡ false
+  pub order : IsStoppedUnder asked script run
+
+-- A JOURNAL IS THAT OF A RUN SO FAR of a script, to which memory was refused: a whole run, before
+-- its text was made, or one that stopped
 pub record IsRunSoFar (asked : Asked) (script : ScriptParts) (log : Log) : Type 0 where
   pub run : Layout
   pub so_far : IsRunAs script run log
-  pub order : IsOverUnder asked script run ⊎ IsStoppedUnder asked script run
+  pub order : IsOverUnder asked script run ⊎ IsRefusedUnder asked script run
 
 -- an empty journal: it has no names and no steps
 abbrev pub IsEmptyLog : Log → Type 0

@@ -13,4 +13,5 @@ pub mod Planned
 pub mod Players
 pub mod Seats
 pub mod Turned
+pub mod Stops
 mod Whole

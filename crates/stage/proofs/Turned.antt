@@ -1,12 +1,11 @@
 -- A turn of an actor that hasn't ended.
-use Rattle.std.proofs.Common.{◌≡◌, ℕ, ◌<◌, ◌≤◌, Bool, true, false, List, length, Option}
+use Rattle.std.proofs.Common.{◌≡◌, ℕ, ◌<◌, ◌≤◌, Bool, false, List, length, Option}
 use Rattle.std.proofs.Common.{refl, sym, ◌∙◌, ap, subst, inl, inr}
 use Rattle.std.specs.Prelude.{is_some, IfErr, IfOk, OnErr}
 use Rattle.linx_base.specs.declared.identity.Inc.{Inc}
 use Rattle.linx_base.specs.declared.signal.SigNote.{SigNote}
 use Rattle.journal.specs.declared.by.By.TheVariants.{Actor}
 use Rattle.journal.specs.declared.effect.Step.{Step}
-use Rattle.journal.specs.Logs.{is_full}
 use Rattle.script_words.specs.declared.command.Command.{Command}
 use Rattle.script_lang.specs.Fits.{IsScript}
 use Rattle.script_lang.specs.Parts.{ScriptParts}
@@ -18,7 +17,6 @@ use Rattle.actor_run.specs.Following.{IsTurned, endpoint_after, next_ask, Playin
 use Rattle.actor_run.specs.Knowing.{Knows, stopped_with, told}
 use Rattle.actor_run.proofs.Turns.{MakesAsked, stopped_same, turned}
 use Rattle.fabric.specs.Asks.{MayAsk}
-use Rattle.fabric.specs.declared.stop.StopCause.TheVariants.{JournalFull}
 use Rattle.fabric.specs.Machine.{hands_over}
 use Rattle.fabric.specs.Run.{IsStepped, Layout}
 use Rattle.stage.specs.declared.acting.Acted.{Acted}
@@ -27,6 +25,7 @@ use Rattle.stage.specs.declared.player.Player.{Player}
 use Rattle.stage.specs.declared.stage.Turn.{Turn}
 use Rattle.stage.specs.Seats.{IsSeated, Learns}
 use Rattle.stage.specs.Settlings.{IsActedAs, IsDone, IsHalfDone}
+use Rattle.stage.specs.Stops.{IsCauseOf}
 use Rattle.stage.specs.Turns.{IsActed, IsTurnStopped, came_of, commands_of, shape_of, turn_by}
 use Rattle.stage.proofs.Asking.{may_ask, next-handed}
 use Rattle.stage.proofs.Going.{GoesFar, begun-calm, begun-runs, done-far, half-far, settle-made}
@@ -135,12 +134,12 @@ module _ (script : ScriptParts) (declared : IsScript script) (old : Layout)
   turn-stopped new (Halfway answer cause) came = turn-stops new answer came.0
   turn-stopped new (Stopped stop) came = inl came.0.same
 
-  -- a full journal is said to be met only where it is one
-  pub turn-full : (new : Layout) (acted : Acted) → IsActedAs old new k ask acted
-      → IfErr (turn_by acted) (λ cause. cause ≡ JournalFull → is_full new.log.steps ≡ true)
-  turn-full new (Done answer) came = tt
-  turn-full new (Halfway answer cause) came = λ full. came.1 full
-  turn-full new (Stopped stop) came = came.1
+  -- and why
+  pub turn-cause : (new : Layout) (acted : Acted) → IsActedAs old new k ask acted
+      → IfErr (turn_by acted) (λ cause. IsCauseOf cause new.log.steps)
+  turn-cause new (Done answer) came = tt
+  turn-cause new (Halfway answer cause) came = came.1
+  turn-cause new (Stopped stop) came = came.1
 
   -- WHAT A TURN LEAVES, once the player learned what came of it
   pub turn-learned : (new : Layout) (acted : Acted) → IsActedAs old new k ask acted

@@ -1,6 +1,6 @@
 -- Turns make a round, and rounds a whole run.
-use Rattle.std.proofs.Common.{◌≡◌, ℕ, zero, suc, ◌+◌, ◌-◌, ◌<◌, ◌≤◌, ◌⊎◌, Bool, true, false, List}
-use Rattle.std.proofs.Common.{length, Result, Ok, Err, IfErr, OnErr, OnOk, Option, Some, None, refl}
+use Rattle.std.proofs.Common.{◌≡◌, ℕ, zero, suc, ◌+◌, ◌-◌, ◌<◌, ◌≤◌, Bool, true, false, List}
+use Rattle.std.proofs.Common.{length, Result, Ok, Err, OnErr, Option, Some, None, refl}
 use Rattle.std.proofs.Common.{sym, ◌∙◌, ap, subst, inl, inr, arith}
 use Rattle.std.specs.Prelude.{not, ◌&&◌, is_some, nat_le, nat_lt, if◌then◌else◌}
 use Rattle.std.proofs.lemmas.Bool.{and_parts, cases_order, le-leb, leb-true, lt-leb, ltb-true}
@@ -11,7 +11,6 @@ use Rattle.journal.specs.declared.by.By.TheVariants.{Actor}
 use Rattle.journal.specs.declared.effect.Step.{Step}
 use Rattle.journal.specs.declared.event.Event.TheVariants as asks
 use Rattle.journal.specs.History.{has_ended}
-use Rattle.journal.specs.Logs.{is_full}
 use Rattle.journal.specs.Shapes.{Shape}
 use Rattle.link_laws.specs.Ends.{IsLinkOf}
 use Rattle.node_kernel.specs.declared.answers.StepAnswer.{StepAnswer}
@@ -26,11 +25,10 @@ use Rattle.fabric.specs.Machine.{all_have_ended}
 use Rattle.fabric.specs.Run.{Layout}
 use Rattle.fabric.proofs.Resting.{ended-each}
 use Rattle.fabric.specs.declared.stop.StopCause.{StopCause}
-use Rattle.fabric.specs.declared.stop.StopCause.TheVariants.{JournalFull}
 use Rattle.stage.specs.declared.stage.Pump.{Pump}
 use Rattle.stage.specs.declared.stage.Turn.{Turn}
 use Rattle.stage.specs.Settlings.{IsHalfDone, Settler, if_stirs, settler_in, settler_of, stirs_on}
-use Rattle.stage.specs.Turns.{AreRounds, AreTurns, IsFullForActor, IsFullForLink, IsPump, IsRound}
+use Rattle.stage.specs.Turns.{AreRounds, AreTurns, IsDueForActor, IsDueForLink, IsPump, IsRound}
 use Rattle.stage.specs.Turns.{IsStoppedBy, IsStoppedOf, IsStoppedRound, IsStoppedRun, IsTurn}
 use Rattle.stage.specs.Turns.{IsTurnBy, IsTurnOf, IsTurnStopped, asked_next, is_over}
 use Rattle.stage.specs.Turns.{makers, shape_of}
@@ -145,21 +143,21 @@ module _ (script : ScriptParts) (f : Layout) (shape : f.shape ≡ shape_of scrip
               parts.1
           on w false stirs_so is = absurd (true≢false (sym is))
 
-  -- so a full journal is only said to be full before the end
-  pub full-actor : (k : ℕ) → 0 < k → k ≤ length script.actors → IsFullForActor f k
-      → (is_full f.log.steps ≡ true) × (is_over f ≡ false)
-  full-actor k above within full =
-      elim full.1 [
-        | inl running ↦ (full.0, running-not_over k above within running)
-        | inr settles ↦ (full.0, settling-not_over settles)
+  -- so where a step is due, not all is over
+  pub due-actor : (k : ℕ) → 0 < k → k ≤ length script.actors → IsDueForActor f k
+      → is_over f ≡ false
+  due-actor k above within due =
+      elim due [
+        | inl running ↦ running-not_over k above within running
+        | inr settles ↦ settling-not_over settles
       ]
 
-  pub full-link : (l : LinkNo) → IsLinkOf (shape_of script) l → IsFullForLink f l
-      → (is_full f.log.steps ≡ true) × (is_over f ≡ false)
-  full-link l of_shape full =
-      elim full.1 [
-        | inl moves ↦ (full.0, stirring-not_over l of_shape moves)
-        | inr settles ↦ (full.0, settling-not_over settles)
+  pub due-link : (l : LinkNo) → IsLinkOf (shape_of script) l → IsDueForLink f l
+      → is_over f ≡ false
+  due-link l of_shape due =
+      elim due [
+        | inl moves ↦ stirring-not_over l of_shape moves
+        | inr settles ↦ settling-not_over settles
       ]
 
 -- WHERE A SETTLE IS HALF DONE its actor settles the link
@@ -187,21 +185,18 @@ half-settles old new k ask answer may half =
 -- so where an actor's turn stopped, its turn is due
 pub stopped-due : (script : ScriptParts) (old new : Layout) (k : ℕ)
     → MayAsk old (Actor k) (asked_next script k old) → has_ended old.log.steps k ≡ false
-    → IsTurnStopped script k old new
-    → (has_ended new.log.steps k ≡ false) ⊎ (is_some (settler_in new) ≡ true)
+    → IsTurnStopped script k old new → IsDueForActor new k
 stopped-due script old new k may running (inl same) =
     inl (subst (λ (f : Layout). has_ended f.log.steps k ≡ false) (sym same) running)
 stopped-due script old new k may running (inr half) =
     inr (half-settles old new k (asked_next script k old) half.0 may half.1)
 
-pub turn-full : (script : ScriptParts) (old new : Layout) (k : ℕ) (r : Result Turn StopCause)
+pub turn-due : (script : ScriptParts) (old new : Layout) (k : ℕ) (r : Result Turn StopCause)
     → MayAsk old (Actor k) (asked_next script k old) → has_ended old.log.steps k ≡ false
-    → IfErr r (λ cause. cause ≡ JournalFull → is_full new.log.steps ≡ true)
-    → OnErr r (IsTurnStopped script k old new)
-    → IfErr r (λ cause. cause ≡ JournalFull → IsFullForActor new k)
-turn-full script old new k (Ok turn) may running full stopped = tt
-turn-full script old new k (Err cause) may running full stopped =
-    λ is. (full is, stopped-due script old new k may running stopped)
+    → OnErr r (IsTurnStopped script k old new) → OnErr r (IsDueForActor new k)
+turn-due script old new k (Ok turn) may running stopped = tt
+turn-due script old new k (Err cause) may running stopped =
+    stopped-due script old new k may running stopped
 
 -- what a stop changes is the run alone
 pub stopped-shape : (script : ScriptParts) (k : ℕ) (old new : Layout)
@@ -217,24 +212,20 @@ stopped-shape script k old new (inr half) =
 -- so not all is over
 pub turn-not_over : (script : ScriptParts) (old new : Layout) (k : ℕ) (r : Result Turn StopCause)
     → old.shape ≡ shape_of script → 0 < k → k ≤ length script.actors
-    → IfErr r (λ cause. cause ≡ JournalFull → IsFullForActor new k)
-    → OnErr r (IsTurnStopped script k old new)
-    → IfErr r (λ cause. cause ≡ JournalFull → is_over new ≡ false)
-turn-not_over script old new k (Ok turn) shape above within full stopped = tt
-turn-not_over script old new k (Err cause) shape above within full stopped =
-    λ is. (full-actor script new (stopped-shape script k old new stopped ∙ shape) k above within
-    (full is)).1
+    → OnErr r (IsDueForActor new k) → OnErr r (IsTurnStopped script k old new)
+    → OnErr r (is_over new ≡ false)
+turn-not_over script old new k (Ok turn) shape above within due stopped = tt
+turn-not_over script old new k (Err cause) shape above within due stopped =
+    due-actor script new (stopped-shape script k old new stopped ∙ shape) k above within due
 
 -- nor is it where a link's turn stopped
 pub pump-not_over : (script : ScriptParts) (old new : Layout) (l : LinkNo)
     (r : Result Pump StopCause) → old.shape ≡ shape_of script → IsLinkOf (shape_of script) l
-    → IfErr r (λ cause. cause ≡ JournalFull → IsFullForLink old l) → OnErr r (new ≡ old)
-    → IfErr r (λ cause. cause ≡ JournalFull
-    → (is_full new.log.steps ≡ true) × (is_over new ≡ false))
-pump-not_over script old new l (Ok pump) shape of_shape full same = tt
-pump-not_over script old new l (Err cause) shape of_shape full same =
-    λ is. subst (λ (f : Layout). (is_full f.log.steps ≡ true) × (is_over f ≡ false)) (sym same)
-    (full-link script old shape l of_shape (full is))
+    → OnErr r (IsDueForLink old l) → OnErr r (new ≡ old) → OnErr r (is_over new ≡ false)
+pump-not_over script old new l (Ok pump) shape of_shape due same = tt
+pump-not_over script old new l (Err cause) shape of_shape due same =
+    subst (λ (f : Layout). is_over f ≡ false) (sym same)
+    (due-link script old shape l of_shape due)
 
 -- A TURN OF THE MAKER of this number
 pub turn-of_actor : (script : ScriptParts) (k : ℕ) (old new : Layout)

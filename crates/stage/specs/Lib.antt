@@ -1,4 +1,5 @@
 pub mod Pumps
+pub mod Stops
 pub mod Settlings
 pub mod Turns
 pub mod Plays

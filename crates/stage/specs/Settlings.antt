@@ -12,7 +12,6 @@ use Rattle.journal.specs.declared.event.Event.TheVariants as asks
 use Rattle.journal.specs.declared.head.Head.{Head}
 use Rattle.journal.specs.declared.head.Head.TheVariants.{Settle, Tick, Wire}
 use Rattle.journal.specs.Laws.{IsMaker}
-use Rattle.journal.specs.Logs.{is_full}
 use Rattle.journal.specs.Shapes.{Shape}
 use Rattle.link_laws.specs.Ends.{IsLinkOf}
 use Rattle.link_laws.specs.Sessions.{is_cut}
@@ -24,12 +23,12 @@ use Rattle.trunk_moves.specs.Trunks.{RunTrunks}
 use Rattle.trunk_record.specs.Trunks.{IsQuiet}
 use Rattle.fabric.specs.Actings.{OnlyRuns}
 use Rattle.fabric.specs.declared.stop.StepStop.{StepStop}
-use Rattle.fabric.specs.declared.stop.StopCause.TheVariants.{JournalFull}
 use Rattle.fabric.specs.Links.{is_settled, stirs, tick_steps}
 use Rattle.fabric.specs.Run.{IsStepped, Layout}
 use Rattle.stage.specs.declared.acting.Acted.{Acted}
 use Rattle.stage.specs.declared.acting.Acted.TheVariants.{Done, Halfway, Stopped}
 use Rattle.stage.specs.Pumps.{settling_event}
+use Rattle.stage.specs.Stops.{IsCauseOf}
 
 -- ---- what settling a link is
 
@@ -137,16 +136,11 @@ module _ (old new : Layout) (k : ℕ) (ask : Ask) where
     pub same : new ≡ old
     pub hand : stop.hand ≡ ask.hand
 
-  -- what came of it, by what is said of it. Only a full journal is said to be full, and where it
-  -- is full a settling stops for that
+  -- what came of it, by what is said of it, with the cause of a stop
   abbrev pub IsActedAs : Acted → Type 0
   IsActedAs (Done answer) = IsDone answer
-  IsActedAs (Halfway answer cause) =
-      IsHalfDone answer
-      × (cause ≡ JournalFull → is_full new.log.steps ≡ true)
-      × (is_full new.log.steps ≡ true → cause ≡ JournalFull)
-  IsActedAs (Stopped stop) =
-      IsNotDone stop × (stop.cause ≡ JournalFull → is_full new.log.steps ≡ true)
+  IsActedAs (Halfway answer cause) = IsHalfDone answer × IsCauseOf cause new.log.steps
+  IsActedAs (Stopped stop) = IsNotDone stop × IsCauseOf stop.cause new.log.steps
 
 -- ---- in a journal
 

@@ -78,12 +78,14 @@ pub record IsBehind (P : List Step) (k : ℕ) : Type 0 where
   pub less : first < k
   pub running : has_ended P first ≡ false
 
--- the journal takes no further step, and one is due: of an actor that hasn't ended, or of one that
--- settles a link
+-- a step is due at the turn of an actor: of this one, which hasn't ended, or of one that settles a
+-- link
+abbrev pub IsDueForActor : Layout → ℕ → Type 0
+IsDueForActor f k = (has_ended f.log.steps k ≡ false) ⊎ (is_some (settler_in f) ≡ true)
+
+-- and the journal takes no further step
 abbrev pub IsFullForActor : Layout → ℕ → Type 0
-IsFullForActor f k =
-    (is_full f.log.steps ≡ true)
-    × ((has_ended f.log.steps k ≡ false) ⊎ (is_some (settler_in f) ≡ true))
+IsFullForActor f k = (is_full f.log.steps ≡ true) × IsDueForActor f k
 
 -- a turn of an actor, by whether it had ended
 abbrev pub IsTurnIf : Bool → ScriptParts → ℕ → Layout → Layout → Turn → Type 0
@@ -104,11 +106,13 @@ pub record IsPumped (l : LinkNo) (event : Event) (old new : Layout) (pump : pump
   pub fixed : OnlyRuns old new
   pub came : pump ≡ pumped.Moved
 
--- the journal takes no further step, and one is due: of a link that stirs, or of an actor that
--- settles one
+-- a step is due at the turn of a link: of this one, which stirs, or of an actor that settles one
+abbrev pub IsDueForLink : Layout → LinkNo → Type 0
+IsDueForLink f l = (stirs_in f l ≡ true) ⊎ (is_some (settler_in f) ≡ true)
+
+-- and the journal takes no further step
 abbrev pub IsFullForLink : Layout → LinkNo → Type 0
-IsFullForLink f l =
-    (is_full f.log.steps ≡ true) × ((stirs_in f l ≡ true) ⊎ (is_some (settler_in f) ≡ true))
+IsFullForLink f l = (is_full f.log.steps ≡ true) × IsDueForLink f l
 
 -- a turn of a link, by what its pump asks for
 abbrev pub IsPumpIf : Option Event → LinkNo → Layout → Layout → pumps.Pump → Type 0

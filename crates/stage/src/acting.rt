@@ -16,6 +16,7 @@ ghost use Rattle.fabric.specs.Run.{IsStepped};
 ghost use Rattle.stage.specs.Settlings.{GoesOnAfter, IsActedAs, IsSettled, MayGoOn, MaySettle};
 ghost use Rattle.stage.specs.Settlings.{StopsAfter, StopsSettling, if_stirs, settled_by};
 ghost use Rattle.stage.specs.Settlings.{settler_after, settler_by, settler_in, stirs_on, ticks_of};
+ghost use Rattle.stage.specs.Stops.{IsCauseOf};
 ghost use Rattle.stage.specs.Turns.{shape_of};
 
 use crate::pump::settling_event;
@@ -98,14 +99,13 @@ fn ticks_of(event: &Event) -> u32
 }
 
 /// Makes the step of an event, with nothing in hand.
-fn make_step(fabric: &mut Fabric, by: By, event: Event) -> Result<StepAnswer, StopCause>
+pub(crate) fn make_step(fabric: &mut Fabric, by: By, event: Event) -> Result<StepAnswer, StopCause>
     requires asked { MayAsk fabric.old by (record { event = event; hand = None }) }
     ensures ok { IfOk result (IsStepped fabric.old fabric.new by
         (record { event = event; hand = None })) }
     ensures fixed { OnlyRuns fabric.old fabric.new }
     ensures full { is_full fabric.old.log.steps ≡ true → result ≡ Err StopCause.JournalFull }
-    ensures full_only { IfErr result (λ cause. cause ≡ StopCause.JournalFull
-        → is_full fabric.old.log.steps ≡ true) }
+    ensures cause { IfErr result (λ cause. IsCauseOf cause fabric.new.log.steps) }
     ensures err { OnErr result (fabric.new ≡ fabric.old) }
 {
     match fabric.step(by, event, None) {
@@ -125,10 +125,7 @@ pub fn settle(fabric: &mut Fabric, by: By, link: LinkNo) -> Result<u32, StopCaus
     requires settled { is_settled fabric.old.log.steps link.0 ≡ true }
     ensures ok { IfOk result (λ ticks. IsSettled by link ticks fabric.old fabric.new) }
     ensures err { OnErr result (StopsSettling by link fabric.old fabric.new) }
-    ensures full { IfErr result (λ cause. is_full fabric.new.log.steps ≡ true
-        → cause ≡ StopCause.JournalFull) }
-    ensures full_only { IfErr result (λ cause. cause ≡ StopCause.JournalFull
-        → is_full fabric.new.log.steps ≡ true) }
+    ensures cause { IfErr result (λ cause. IsCauseOf cause fabric.new.log.steps) }
     ensures fixed { OnlyRuns fabric.old fabric.new }
 {
     runs_settle();
@@ -157,10 +154,7 @@ fn go_on(fabric: &mut Fabric, actor: u32, settled: Option<LinkNo>) -> Result<(),
     requires may { MayGoOn settled actor fabric.old }
     ensures ok { OnOk result (GoesOnAfter settled actor fabric.old fabric.new) }
     ensures err { OnErr result (StopsAfter settled actor fabric.old fabric.new) }
-    ensures full { IfErr result (λ cause. is_full fabric.new.log.steps ≡ true
-        → cause ≡ StopCause.JournalFull) }
-    ensures full_only { IfErr result (λ cause. cause ≡ StopCause.JournalFull
-        → is_full fabric.new.log.steps ≡ true) }
+    ensures cause { IfErr result (λ cause. IsCauseOf cause fabric.new.log.steps) }
     ensures fixed { OnlyRuns fabric.old fabric.new }
 {
     let Some(link) = settled else {
@@ -195,8 +189,7 @@ pub fn act(fabric: &mut Fabric, actor: u32, ask: Ask) -> Acted
 
 /// The cause of the stop of a turn that is to wait until a link is settled.
 pub fn unsettled(fabric: &Fabric) -> StopCause
-    ensures full_only { result ≡ StopCause.JournalFull → is_full fabric.now.log.steps ≡ true }
-    ensures full { is_full fabric.now.log.steps ≡ true → result ≡ StopCause.JournalFull }
+    ensures { IsCauseOf result fabric.now.log.steps }
 {
     if fabric.journal().full() {
         StopCause::JournalFull

@@ -1,11 +1,12 @@
 //! An actor of a script: what it does in a turn, and what it learns.
-ghost use Rattle.std.specs.Prelude.{◌≡◌, ◌<◌, ◌≤◌, true, length, None, IfOk, IfErr, OnErr, IsErr};
+ghost use Rattle.std.specs.Prelude.{◌≡◌, ◌<◌, ◌≤◌, true, length, None, Err, IfOk, IfErr, OnErr};
 ghost use Rattle.journal.specs.Logs.{is_full};
 ghost use Rattle.actor_run.specs.Asking.{AreRunnable};
 ghost use Rattle.actor_run.specs.Following.{Playing, endpoint_after};
 ghost use Rattle.actor_run.specs.Knowing.{told};
 ghost use Rattle.fabric.specs.Actings.{OnlyRuns};
 ghost use Rattle.script_lang.specs.Fits.{IsScript};
+ghost use Rattle.stage.specs.Stops.{IsCauseOf};
 ghost use Rattle.stage.specs.Turns.{IsActed, IsTurnStopped, came_of, commands_of, shape_of};
 ghost use Rattle.stage.specs.Turns.{turn_by};
 ghost use Rattle.stage.specs.Seats.{IsSeated, Learns};
@@ -85,7 +86,7 @@ impl Player {
 }
 
 /// A turn of an actor that hasn't ended. A stop leaves it to be made and nothing changed, or a
-/// settle is half done.
+/// settle is half done. A full journal is seen before any memory is asked for.
 pub(crate) fn turn_of(
     alloc: Global,
     fabric: &mut Fabric,
@@ -102,11 +103,13 @@ pub(crate) fn turn_of(
     ensures ok { IfOk result (IsActed script.now actor fabric.old fabric.new) }
     ensures err { OnErr result (IsTurnStopped script.now actor fabric.old fabric.new) }
     ensures seated { IsSeated script.now fabric.new.log.steps actor player.new }
-    ensures full { is_full fabric.old.log.steps ≡ true → IsErr result }
-    ensures full_only { IfErr result (λ cause. cause ≡ StopCause.JournalFull
-        → is_full fabric.new.log.steps ≡ true) }
+    ensures full { is_full fabric.old.log.steps ≡ true → result ≡ Err StopCause.JournalFull }
+    ensures cause { IfErr result (λ cause. IsCauseOf cause fabric.new.log.steps) }
     ensures fixed { OnlyRuns fabric.old fabric.new }
 {
+    if fabric.journal().full() {
+        return Err(StopCause::JournalFull);
+    }
     let commands = actor_of(script, actor);
     let Ok(ask) = player.mind.next(alloc, commands, player.me) else {
         return Err(StopCause::NoMemory);

@@ -10,9 +10,10 @@ ghost use Rattle.fabric.specs.Actings.{OnlyRuns};
 ghost use Rattle.stage.specs.Pumps.{flying_side, in_turn, next_ticking, pump_event};
 ghost use Rattle.stage.specs.Pumps.{settling_event, ticked_by, up_side, verdict_for, verdict_or};
 ghost use Rattle.stage.specs.Settlings.{settler_in, stirs_in};
-ghost use Rattle.stage.specs.Turns.{IsFullForLink, IsPump, shape_of};
+ghost use Rattle.stage.specs.Stops.{IsCauseOf};
+ghost use Rattle.stage.specs.Turns.{IsDueForLink, IsFullForLink, IsPump, shape_of};
 
-use crate::acting::{is_settling, unsettled};
+use crate::acting::{is_settling, make_step, unsettled};
 use crate::stage::Pump;
 use fabric::{Fabric, StopCause};
 use journal::{By, Event};
@@ -157,8 +158,8 @@ pub fn pump_on(fabric: &mut Fabric, script: &Script, link: LinkNo) -> Result<Pum
     ensures ok { IfOk result (IsPump script.now link fabric.old fabric.new) }
     ensures settling { is_some (settler_in fabric.old) ≡ true → IsErr result }
     ensures full { IsFullForLink fabric.old link → result ≡ Err StopCause.JournalFull }
-    ensures full_only { IfErr result (λ cause. cause ≡ StopCause.JournalFull
-        → IsFullForLink fabric.old link) }
+    ensures cause { IfErr result (λ cause. IsCauseOf cause fabric.new.log.steps) }
+    ensures due { OnErr result (IsDueForLink fabric.old link) }
     ensures fixed { OnlyRuns fabric.old fabric.new }
     ensures err { OnErr result (fabric.new ≡ fabric.old) }
 {
@@ -180,8 +181,8 @@ pub(crate) fn pump_turn(
     ensures ok { IfOk result (IsPump script.now link fabric.old fabric.new) }
     ensures full { is_full fabric.old.log.steps ≡ true → stirs_in fabric.old link ≡ true
         → result ≡ Err StopCause.JournalFull }
-    ensures full_only { IfErr result (λ cause. cause ≡ StopCause.JournalFull
-        → IsFullForLink fabric.old link) }
+    ensures cause { IfErr result (λ cause. IsCauseOf cause fabric.new.log.steps) }
+    ensures due { OnErr result (IsDueForLink fabric.old link) }
     ensures fixed { OnlyRuns fabric.old fabric.new }
     ensures err { OnErr result (fabric.new ≡ fabric.old) }
 {
@@ -190,8 +191,6 @@ pub(crate) fn pump_turn(
     let Some(event) = pump_event(fabric, script, link) else {
         return Ok(Pump::NoWork);
     };
-    match fabric.step(By::Pump(link), event, None) {
-        Ok(_) => Ok(Pump::Moved),
-        Err(stop) => Err(stop.cause),
-    }
+    make_step(fabric, By::Pump(link), event)?;
+    Ok(Pump::Moved)
 }

@@ -1,7 +1,6 @@
 //! The actors and the links of a script on a fabric: their turns, rounds and whole runs.
 ghost use Rattle.std.specs.Prelude.{◌≡◌, ℕ, ◌<◌, ◌≤◌, true, false, [], length, map, IfOk, IfErr};
 ghost use Rattle.std.specs.Prelude.{OnOk, OnErr, IsErr, Err, is_some, not, ◌&&◌, ◌||◌, ◌+◌, None};
-ghost use Rattle.journal.specs.Logs.{is_full};
 ghost use Rattle.journal.specs.History.{has_ended};
 ghost use Rattle.journal.specs.Rest.{is_idle};
 ghost use Rattle.link_laws.specs.Ends.{IsLinkOf};
@@ -13,7 +12,9 @@ ghost use Rattle.fabric.specs.Run.{Layout};
 ghost use Rattle.stage.specs.Plays.{AllFollowWhole, IsSoFar};
 ghost use Rattle.stage.specs.Seats.{IsStaged, unstarted};
 ghost use Rattle.stage.specs.Settlings.{settler_in};
-ghost use Rattle.stage.specs.Turns.{AreRounds, AreTurns, IsBehind, IsFullForActor, IsFullForLink};
+ghost use Rattle.stage.specs.Stops.{IsCauseOf};
+ghost use Rattle.stage.specs.Turns.{AreRounds, AreTurns, IsBehind, IsDueForActor, IsDueForLink};
+ghost use Rattle.stage.specs.Turns.{IsFullForActor, IsFullForLink};
 ghost use Rattle.stage.specs.Turns.{IsPump, IsRound};
 ghost use Rattle.stage.specs.Turns.{IsStoppedRound, IsStoppedRun, IsTurn};
 ghost use Rattle.stage.specs.Turns.{IsTurnStopped};
@@ -171,14 +172,10 @@ impl Stage {
         ensures script { self.new.script ≡ self.old.script }
         ensures settling { is_some (settler_in self.old.run) ≡ true
             → IsErr result × (self.new ≡ self.old) }
-        ensures full { is_full self.old.run.log.steps ≡ true
-            → has_ended self.old.run.log.steps actor ≡ false → IsErr result }
-        ensures full_settling { is_full self.old.run.log.steps ≡ true
-            → is_some (settler_in self.old.run) ≡ true → result ≡ Err StopCause.JournalFull }
-        ensures full_only { IfErr result (λ cause. cause ≡ StopCause.JournalFull
-            → IsFullForActor self.new.run actor) }
-        ensures not_over { IfErr result (λ cause. cause ≡ StopCause.JournalFull
-            → is_over self.new.run ≡ false) }
+        ensures full { IsFullForActor self.old.run actor → result ≡ Err StopCause.JournalFull }
+        ensures cause { IfErr result (λ cause. IsCauseOf cause self.new.run.log.steps) }
+        ensures due { OnErr result (IsDueForActor self.new.run actor) }
+        ensures not_over { OnErr result (is_over self.new.run ≡ false) }
         ensures err { OnErr result
             (IsTurnStopped self.old.script actor self.old.run self.new.run) }
     {
@@ -199,8 +196,8 @@ impl Stage {
         ensures script { self.new.script ≡ self.old.script }
         ensures settling { is_some (settler_in self.old.run) ≡ true → IsErr result }
         ensures full { IsFullForLink self.old.run link → result ≡ Err StopCause.JournalFull }
-        ensures full_only { IfErr result (λ cause. cause ≡ StopCause.JournalFull
-            → IsFullForLink self.old.run link) }
+        ensures cause { IfErr result (λ cause. IsCauseOf cause self.new.run.log.steps) }
+        ensures due { OnErr result (IsDueForLink self.old.run link) }
         ensures err { OnErr result (self.new ≡ self.old) }
     {
         let _ = &self.players;
@@ -311,8 +308,8 @@ impl Stage {
         ensures ok { OnOk result (AreTurns self.old.script (length self.old.script.actors)
             self.old.run self.new.run) }
         ensures script { self.new.script ≡ self.old.script }
-        ensures full_only { IfErr result (λ cause. cause ≡ StopCause.JournalFull
-            → (is_full self.new.run.log.steps ≡ true) × (is_over self.new.run ≡ false)) }
+        ensures cause { IfErr result (λ cause. IsCauseOf cause self.new.run.log.steps) }
+        ensures not_over { OnErr result (is_over self.new.run ≡ false) }
         ensures front { OnErr result ((n : ℕ) × (n < makers self.old.script)
             × IsStoppedRound self.old.script n self.old.run self.new.run) }
     {
@@ -332,8 +329,8 @@ impl Stage {
         ensures ok { IfOk result (IsPump self.old.script link self.old.run self.new.run) }
         ensures calm { settler_in self.new.run ≡ None }
         ensures script { self.new.script ≡ self.old.script }
-        ensures full_only { IfErr result (λ cause. cause ≡ StopCause.JournalFull
-            → (is_full self.new.run.log.steps ≡ true) × (is_over self.new.run ≡ false)) }
+        ensures cause { IfErr result (λ cause. IsCauseOf cause self.new.run.log.steps) }
+        ensures not_over { OnErr result (is_over self.new.run ≡ false) }
         ensures err { OnErr result (self.new.run ≡ self.old.run) }
     {
         let _ = &self.players;
@@ -347,8 +344,8 @@ impl Stage {
             → AreTurns self.old.script (length self.old.script.actors) start self.old.run
             → IsRound self.old.script start self.new.run) }
         ensures script { self.new.script ≡ self.old.script }
-        ensures full_only { IfErr result (λ cause. cause ≡ StopCause.JournalFull
-            → (is_full self.new.run.log.steps ≡ true) × (is_over self.new.run ≡ false)) }
+        ensures cause { IfErr result (λ cause. IsCauseOf cause self.new.run.log.steps) }
+        ensures not_over { OnErr result (is_over self.new.run ≡ false) }
         ensures front { OnErr result ((start : Layout)
             → AreTurns self.old.script (length self.old.script.actors) start self.old.run
             → (n : ℕ) × (n < makers self.old.script)
@@ -369,8 +366,8 @@ impl Stage {
         ensures script { self.new.script ≡ self.old.script }
         ensures front { OnErr result ((n : ℕ) × (n < makers self.old.script)
             × IsStoppedRound self.old.script n self.old.run self.new.run) }
-        ensures full_only { IfErr result (λ cause. cause ≡ StopCause.JournalFull
-            → (is_full self.new.run.log.steps ≡ true) × (is_over self.new.run ≡ false)) }
+        ensures cause { IfErr result (λ cause. IsCauseOf cause self.new.run.log.steps) }
+        ensures not_over { OnErr result (is_over self.new.run ≡ false) }
         ensures few { OnOk result (length self.new.run.log.steps ≤ 200000) }
     {
         self.actor_turns()?;
@@ -390,8 +387,8 @@ impl Stage {
         ensures script { self.new.script ≡ self.old.script }
         ensures front { OnErr result
             (IsStoppedRun self.old.script self.old.run self.new.run) }
-        ensures full_only { IfErr result (λ cause. cause ≡ StopCause.JournalFull
-            → (is_full self.new.run.log.steps ≡ true) × (is_over self.new.run ≡ false)) }
+        ensures cause { IfErr result (λ cause. IsCauseOf cause self.new.run.log.steps) }
+        ensures not_over { OnErr result (is_over self.new.run ≡ false) }
     {
         'rounds: while !self.is_over() {
             self.round()?;
@@ -406,8 +403,8 @@ impl Stage {
         ensures script { self.new.script ≡ self.old.script }
         ensures front { OnErr result
             (IsStoppedRun self.old.script self.old.run self.new.run) }
-        ensures full_only { IfErr result (λ cause. cause ≡ StopCause.JournalFull
-            → (is_full self.new.run.log.steps ≡ true) × (is_over self.new.run ≡ false)) }
+        ensures cause { IfErr result (λ cause. IsCauseOf cause self.new.run.log.steps) }
+        ensures not_over { OnErr result (is_over self.new.run ≡ false) }
     {
         self.finish()
     }

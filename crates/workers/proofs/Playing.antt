@@ -26,6 +26,7 @@ use Rattle.stage.specs.declared.player.Player.{Player}
 use Rattle.stage.specs.Seats.{IsSeated, Learns}
 use Rattle.stage.specs.Settlings.{IsActedAs}
 use Rattle.stage.specs.Turns.{commands_of}
+use Rattle.stage.proofs.Stops.{stops-full}
 use Rattle.stage.proofs.Turned.{turn-asks, turn-learned}
 use Rattle.workers.specs.Turning.{Asks, IsActedIn, IsRightlyFull, stop_of}
 use Rattle.workers.specs.Working.{IsPlayedBy, IsWorking, OwnPlanned, seen}
@@ -141,8 +142,9 @@ acted-full before after ask acted ended turn met =
     go : (a : Acted) → IsActedAs turn.found turn.left before.number ask a
         → stop_of a ≡ Some JournalFull → is_full turn.left.log.steps ≡ true
     go (Done answer) came is = cc
-    go (Halfway answer cause) came is = came.1 (inner is)
-    go (Stopped stop) came is = came.1 (inner is)
+    go (Halfway answer cause) came is =
+        stops-full cause turn.left.log.steps came.1 (inner is)
+    go (Stopped stop) came is = stops-full stop.cause turn.left.log.steps came.1 (inner is)
 
 -- ---- what it asks with
 

@@ -20,6 +20,7 @@ use Rattle.stage.specs.declared.player.Player.{Player}
 use Rattle.stage.specs.declared.stage.Pump.{Pump}
 use Rattle.stage.specs.declared.stage.Turn.{Turn}
 use Rattle.stage.specs.Settlings.{IsActedAs, settler_in}
+use Rattle.stage.specs.Stops.{IsCauseOf}
 use Rattle.stage.specs.Turns.{IsPump, commands_of, turn_by}
 use Rattle.workers.specs.declared.worker.Turned.{Turned}
 use Rattle.workers.specs.declared.worker.Turned.TheVariants as turns
@@ -73,7 +74,7 @@ stop_of acted = stop_met (turn_by acted)
 abbrev pub IsPumpedAs : ScriptParts → LinkNo → Layout → Layout → Result Pump StopCause → Type 0
 IsPumpedAs script l old new (Ok pump) = IsPump script l old new pump
 IsPumpedAs script l old new (Err cause) =
-    (new ≡ old) × (cause ≡ JournalFull → is_full old.log.steps ≡ true)
+    (new ≡ old) × IsCauseOf cause new.log.steps
 
 -- the turn of the pump of this number
 abbrev pub IsPumpTurn : ScriptParts → ℕ → Layout → Layout → Type 0

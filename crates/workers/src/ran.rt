@@ -1,8 +1,10 @@
 //! A whole run: deals out the passes, runs the workers, closes the lock, and does what is left in
 //! the fixed order.
-ghost use Rattle.std.specs.Prelude.{◌≡◌, ◌<◌, ◌≤◌, None, Some, true, false, IfOk};
+ghost use Rattle.std.specs.Prelude.{◌≡◌, ◌<◌, ◌≤◌, None, true, false, IfOk, IfSome};
+ghost use Rattle.std.specs.Prelude.{OnSome};
 ghost use Rattle.journal.specs.Logs.{is_full};
 ghost use Rattle.stage.specs.Seats.{IsStaged, unstarted};
+ghost use Rattle.stage.specs.Stops.{IsCauseOf};
 ghost use Rattle.stage.specs.Turns.{first_layout, is_over, makers};
 ghost use Rattle.workers.specs.Running.{jobs_with, passes_in, players_in};
 
@@ -152,6 +154,14 @@ fn worked<R: Threads + Wait + Sync, G: Gate + Sync>(
     left_by_workers(rt, alloc, script, gate, shared, players, seats)
 }
 
+/// Whether a refusal of memory stops a run: somebody has a turn to take, and the journal has room.
+fn is_cut_short(stage: &Stage) -> bool
+    ensures { result ≡ true → (is_full stage.now.run.log.steps ≡ false)
+        × (is_over stage.now.run ≡ false) }
+{
+    !stage.journal().full() && !stage.is_over()
+}
+
 /// Runs a script, with a thread for each actor and each link.
 pub fn run<R: Threads + Wait + Sync, G: Gate + Sync>(
     rt: &R,
@@ -161,8 +171,9 @@ pub fn run<R: Threads + Wait + Sync, G: Gate + Sync>(
 ) -> Result<Ran, NoMemory>
     ensures script { IfOk result (λ ran. ran.stage.script ≡ script) }
     ensures over { IfOk result (λ ran. ran.stop ≡ None → is_over ran.stage.run ≡ true) }
-    ensures full { IfOk result (λ ran. ran.stop ≡ Some StopCause.JournalFull
-        → (is_full ran.stage.run.log.steps ≡ true) × (is_over ran.stage.run ≡ false)) }
+    ensures cause { IfOk result (λ ran. IfSome ran.stop (λ cause.
+        IsCauseOf cause ran.stage.run.log.steps)) }
+    ensures not_over { IfOk result (λ ran. OnSome ran.stop (is_over ran.stage.run ≡ false)) }
 {
     let Left {
         fabric,
@@ -170,7 +181,7 @@ pub fn run<R: Threads + Wait + Sync, G: Gate + Sync>(
         refused,
     } = worked(rt, alloc, &script, gate)?;
     let mut stage = Stage::resume(alloc, script, fabric, players);
-    if refused {
+    if refused && is_cut_short(&stage) {
         return Ok(Ran {
             stage,
             stop: Some(StopCause::NoMemory),

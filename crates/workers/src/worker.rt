@@ -1,6 +1,6 @@
 //! A worker: what it does in a turn, and its turns until it is done.
 ghost use Rattle.std.specs.Prelude.{◌≡◌, ◌<◌, ◌≤◌, ◌+◌, true, false, length, IfOk, IfErr, All};
-ghost use Rattle.std.specs.Prelude.{Some, None};
+ghost use Rattle.std.specs.Prelude.{Some, None, IfSome};
 ghost use Rattle.journal.specs.declared.by.By.TheVariants.{Actor};
 ghost use Rattle.journal.specs.History.{has_ended};
 ghost use Rattle.journal.specs.Logs.{is_full};
@@ -11,6 +11,7 @@ ghost use Rattle.fabric.specs.Asks.{MayAsk};
 ghost use Rattle.fabric.specs.Run.{IsReachedBy};
 ghost use Rattle.link_laws.specs.Ends.{IsLinkOf};
 ghost use Rattle.stage.specs.Settlings.{IsActedAs, settler_in};
+ghost use Rattle.stage.specs.Stops.{IsCauseOf};
 ghost use Rattle.stage.specs.Turns.{shape_of};
 ghost use Rattle.workers.specs.Turning.{Asks, IsActedIn, IsCalm, IsPumpTurn, IsPumpedAs};
 ghost use Rattle.workers.specs.Turning.{IsRightlyFull, IsRightlyFullOn, goes_on, stop_in, stop_met};
@@ -73,7 +74,7 @@ struct InTurn {
 fn stop_before(fabric: &Fabric, script: &Script) -> Option<StopCause>
     requires shape { fabric.now.shape ≡ shape_of script.now }
     ensures calm { result ≡ None → settler_in fabric.now ≡ None }
-    ensures full { result ≡ Some StopCause.JournalFull → is_full fabric.now.log.steps ≡ true }
+    ensures cause { IfSome result (λ cause. IsCauseOf cause fabric.now.log.steps) }
 {
     if fabric.stopped().is_none() && !is_settling(fabric, script) {
         return None;
@@ -274,8 +275,7 @@ fn pump_in(fabric: &mut Fabric, script: &Script, link: LinkNo) -> Result<Pump, S
 /// What came of a pump's turn: it is done once all actors have ended and its link doesn't stir. A
 /// stop is noted.
 fn pumped_by(fabric: &mut Fabric, pumped: Result<Pump, StopCause>) -> Turned
-    requires { IfErr pumped (λ cause. cause ≡ StopCause.JournalFull
-        → is_full fabric.old.log.steps ≡ true) }
+    requires { IfErr pumped (λ cause. IsCauseOf cause fabric.old.log.steps) }
     ensures same { fabric.new ≡ fabric.old }
     ensures full { stop_in result ≡ Some StopCause.JournalFull
         → is_full fabric.old.log.steps ≡ true }

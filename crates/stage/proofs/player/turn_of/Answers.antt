@@ -1,15 +1,14 @@
-use Rattle.std.proofs.Common.{◌≡◌, true, List, ◌∙◌, ap, refl, subst, sym}
-use Rattle.std.specs.Prelude.{IfErr, IfOk, IsErr, OnErr, Result}
-use Rattle.journal.specs.Logs.{is_full}
+use Rattle.std.proofs.Common.{List, ◌∙◌, ap, refl, subst, sym}
+use Rattle.std.specs.Prelude.{IfErr, IfOk, OnErr, Result}
 use Rattle.script_words.specs.declared.command.Command.{Command}
 use Rattle.actor_run.specs.Asking.{asked_by, handed}
 use Rattle.fabric.specs.declared.stop.StopCause.{StopCause}
-use Rattle.fabric.specs.declared.stop.StopCause.TheVariants.{JournalFull}
 use Rattle.stage.specs.declared.player.Player.{Player}
 use Rattle.stage.specs.declared.stage.Turn.{Turn}
 use Rattle.stage.specs.Seats.{Learns}
-use Rattle.stage.specs.Turns.{IsActed, IsTurnStopped, turn_by}
-use Rattle.stage.proofs.Turned.{turn-asks, turn-came, turn-full, turn-learned, turn-stopped}
+use Rattle.stage.specs.Stops.{IsCauseOf}
+use Rattle.stage.specs.Turns.{IsActed, IsTurnStopped}
+use Rattle.stage.proofs.Turned.{turn-asks, turn-came, turn-cause, turn-learned, turn-stopped}
 use Rattle.stage.proofs.player.turn_of.Goals as goal
 
 pub act-acted-requires : goal.act-acted-requires
@@ -69,22 +68,17 @@ returns-clause-seated c =
     (subst (λ (l : List Command). Learns l given c.act-acted.result c.learn.new.self) its
     c.learn.ensures.learns)
 
-pub returns-clause-full : goal.returns-clause-full
-returns-clause-full c is =
-    subst (λ (r : Result Turn StopCause). IsErr r)
-    (sym (c.learn.ensures.came ∙ ap turn_by (c.act-acted.ensures.full is))) refl
-
-pub returns-clause-full_only : goal.returns-clause-full_only
-returns-clause-full_only c =
+pub returns-clause-cause : goal.returns-clause-cause
+returns-clause-cause c =
     let mind = c.args.player.now.mind in
     let me = c.args.player.now.me in
     let old = c.args.fabric.now in
     let new = c.act-acted.new.fabric in
     let its = c.actor_of-commands.ensures.commands in
     subst (λ (r : Result Turn StopCause).
-    IfErr r (λ cause. cause ≡ JournalFull → is_full new.log.steps ≡ true))
+    IfErr r (λ cause. IsCauseOf cause new.log.steps))
     (sym c.learn.ensures.came)
-    (turn-full c.args.script.now c.actor_of-commands.ensures.script old c.requires.shape
+    (turn-cause c.args.script.now c.actor_of-commands.ensures.script old c.requires.shape
     c.requires.names c.args.actor c.requires.above c.requires.within mind me c.requires.playing
     c.in-Ok.ask (c.in-Ok.ensures.ask ∙ ap (λ (l : List Command). asked_by l mind me) its) new
     c.act-acted.result c.act-acted.ensures.came)

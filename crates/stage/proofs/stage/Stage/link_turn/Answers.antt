@@ -25,11 +25,11 @@ returns-clause-calm c =
     c.pump_turn.ensures.fixed c.pump_turn.result c.args.link calm c.pump_turn.ensures.ok
     c.pump_turn.ensures.err
 
-pub returns-clause-full_only : goal.returns-clause-full_only
-returns-clause-full_only c =
+pub returns-clause-not_over : goal.returns-clause-not_over
+returns-clause-not_over c =
     let s = c.self.inside in
     let of_shape : IsLinkOf (shape_of s.script) c.args.link =
     subst (λ (p : Play). IsLinkOf (shape_of p.script) c.args.link) (sym c.self.view_is)
     c.requires.declared in
     pump-not_over s.script s.fabric c.pump_turn.new.fabric c.args.link c.pump_turn.result
-    c.self.invariant.shape of_shape c.pump_turn.ensures.full_only c.pump_turn.ensures.err
+    c.self.invariant.shape of_shape c.pump_turn.ensures.due c.pump_turn.ensures.err

@@ -1,15 +1,11 @@
-use Rattle.std.proofs.Common.{false, ◌<◌, ◌≡◌, ◌+◌, ℕ, true, None, length, refl, sym, ◌∙◌, subst, arith}
-use Rattle.std.specs.Prelude.{is_some}
-use Rattle.std.proofs.lemmas.Bool.{true≢false}
+use Rattle.std.proofs.Common.{false, ◌<◌, ◌≡◌, ◌+◌, ℕ, true, length, refl, sym, ◌∙◌, subst, arith}
 use Rattle.script_lang.specs.Parts.{ScriptParts}
 use Rattle.fabric.specs.Run.{Layout}
-use Rattle.stage.specs.Settlings.{settler_in}
+use Rattle.stage.specs.Stops.{IsCauseOf}
 use Rattle.stage.specs.Turns.{AreTurns, IsRound, is_over}
-use Rattle.stage.proofs.Seats.{none-settles}
 use Rattle.stage.proofs.Whole.{HasFront, front-of_link, on_err-said}
 use Rattle.stage.proofs.Whole.{settling-linked, settling-not_over}
 use Rattle.stage.specs.Plays.{Play}
-use Rattle.journal.specs.Logs.{is_full}
 use Rattle.stage.proofs.stage.Stage.round.Goals as goal
 
 pub returns-clause-ok : goal.returns-clause-ok
@@ -33,15 +29,17 @@ returns-in_err-link_turns-clause-front c =
     → HasFront s start now) c.actor_turns.ensures.script (c.in_err-link_turns.ensures.front start)
     c.in_ok-actor_turns.ensures.ok)
 
-pub returns-then-is_settling-clause-full_only : goal.returns-then-is_settling-clause-full_only
-returns-then-is_settling-clause-full_only c = λ full.
-    let s = c.self.inside in (
-      subst (λ (p : Play). is_full p.run.log.steps ≡ true) c.self.view_is
-          (c.unsettled.ensures.full_only full),
-      subst (λ (p : Play). is_over p.run ≡ false) c.self.view_is
-          (settling-not_over s.script s.fabric c.self.invariant.shape
-          (sym c.is_settling.ensures ∙ c.if-is_settling.true)),
-    )
+pub returns-then-is_settling-clause-cause : goal.returns-then-is_settling-clause-cause
+returns-then-is_settling-clause-cause c =
+    subst (λ (p : Play). IsCauseOf c.unsettled.result p.run.log.steps) c.self.view_is
+    c.unsettled.ensures
+
+pub returns-then-is_settling-clause-not_over : goal.returns-then-is_settling-clause-not_over
+returns-then-is_settling-clause-not_over c =
+    let s = c.self.inside in
+    subst (λ (p : Play). is_over p.run ≡ false) c.self.view_is
+    (settling-not_over s.script s.fabric c.self.invariant.shape
+    (sym c.is_settling.ensures ∙ c.if-is_settling.true))
 
 pub returns-then-is_settling-clause-front : goal.returns-then-is_settling-clause-front
 returns-then-is_settling-clause-front c =

@@ -6,7 +6,7 @@ use Rattle.stage.specs.Settlings.{settler_in}
 use Rattle.stage.specs.Turns.{is_over}
 use Rattle.stage.proofs.Asking.{may_ask}
 use Rattle.stage.proofs.Seats.{none-settles, seat-playing, staged-turned}
-use Rattle.stage.proofs.Whole.{settling-not_over, turn-full, turn-not_over}
+use Rattle.stage.proofs.Whole.{settling-not_over, turn-due, turn-not_over}
 use Rattle.stage.proofs.stage.Stage.turn.Goals as goal
 
 pub turn_of-requires-clause-playing : goal.turn_of-requires-clause-playing
@@ -39,17 +39,17 @@ invariant_of-self c =
     c.turn_of.result calm running c.turn_of.ensures.ok c.turn_of.ensures.err
     c.turn_of.ensures.seated
 
-pub returns-clause-full_only : goal.returns-clause-full_only
-returns-clause-full_only c =
+pub returns-clause-due : goal.returns-clause-due
+returns-clause-due c =
     let s = c.self.inside in
     let within : c.args.actor ≤ length s.script.actors =
     subst (λ (p : Play). c.args.actor ≤ length p.script.actors) (sym c.self.view_is)
     c.requires.within in
     let running = sym c.has_ended.ensures ∙ c.if-has_ended.false in
-    turn-full s.script s.fabric c.turn_of.new.fabric c.args.actor c.turn_of.result
+    turn-due s.script s.fabric c.turn_of.new.fabric c.args.actor c.turn_of.result
     (may_ask s.script c.self.invariant.declared s.fabric c.self.invariant.shape
     c.self.invariant.names c.args.actor c.requires.above within running) running
-    c.turn_of.ensures.full_only c.turn_of.ensures.err
+    c.turn_of.ensures.err
 
 pub returns-clause-not_over : goal.returns-clause-not_over
 returns-clause-not_over c =
@@ -60,13 +60,13 @@ returns-clause-not_over c =
     let running = sym c.has_ended.ensures ∙ c.if-has_ended.false in
     turn-not_over s.script s.fabric c.turn_of.new.fabric c.args.actor c.turn_of.result
     c.self.invariant.shape c.requires.above within
-    (turn-full s.script s.fabric c.turn_of.new.fabric c.args.actor c.turn_of.result
+    (turn-due s.script s.fabric c.turn_of.new.fabric c.args.actor c.turn_of.result
     (may_ask s.script c.self.invariant.declared s.fabric c.self.invariant.shape
     c.self.invariant.names c.args.actor c.requires.above within running) running
-    c.turn_of.ensures.full_only c.turn_of.ensures.err) c.turn_of.ensures.err
+    c.turn_of.ensures.err) c.turn_of.ensures.err
 
 pub returns-then-is_settling-clause-not_over : goal.returns-then-is_settling-clause-not_over
-returns-then-is_settling-clause-not_over c = λ full.
+returns-then-is_settling-clause-not_over c =
     let s = c.self.inside in
     subst (λ (p : Play). is_over p.run ≡ false) c.self.view_is
     (settling-not_over s.script s.fabric c.self.invariant.shape
