@@ -45,7 +45,7 @@ use Rattle.trunk_moves.specs.Trunks.{Become, RunTrunks, all_do, does, side_on, w
 
 -- ---- a packet has one reading
 
-told_once : (t : RlnhTables) (h g : Heard) (x : Handed) → IsReading x h → IsReading x g
+pub told_once : (t : RlnhTables) (h g : Heard) (x : Handed) → IsReading x h → IsReading x g
     → told_of t h x ≡ told_of t g x
 told_once t h g handed.Nothing r q = refl
 told_once t h g (handed.WentUp session peer) r q = refl

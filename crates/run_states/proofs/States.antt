@@ -1,13 +1,17 @@
 -- A JOURNAL REACHES ONE STATE: by induction over its steps.
-use Rattle.std.proofs.Common.{List, [], ◌∷◌, refl, sym, ◌∙◌}
+use Rattle.std.proofs.Common.{◌≡◌, List, [], ◌∷◌, refl, sym, ◌∙◌}
 use Rattle.journal.specs.History.{endpoint_by}
 use Rattle.journal.specs.Shapes.{Shape, node_by}
+use Rattle.journal.specs.declared.by.By.{By}
+use Rattle.journal.specs.declared.effect.Effect.{Effect}
 use Rattle.journal.specs.declared.effect.Step.{Step}
+use Rattle.journal.specs.declared.head.Head.{Head}
 use Rattle.link_laws.specs.Ends.{HasTwoEnds}
 use Rattle.trunk_moves.specs.Steps.{IsTrunkRun, IsTrunkStep}
 use Rattle.trunk_moves.specs.Trunks.{Become, RunTrunks}
 use Rattle.run_states.specs.Laws.{HasBegun, RunsReachOneState}
 use Rattle.run_states.specs.Runs.{IsRunFrom}
+use Rattle.run_states.proofs.Effects.{effects_alike}
 use Rattle.run_states.proofs.Making.{makes_same}
 
 -- ---- a step
@@ -19,6 +23,14 @@ step_same : (shape : Shape) → HasTwoEnds shape → (P : List Step) (one two : 
 step_same shape ends P one two s after_one after_two same first second =
     makes_same shape ends P one two after_one after_two same (node_by shape s.by)
     (endpoint_by P s.by) s.head s.effects first.makes second.makes
+
+step_effects : (shape : Shape) (P : List Step) (one two : RunTrunks) (by : By) (head : Head)
+    (es fs : List Effect) (after_one after_two : RunTrunks) → Become shape one two
+    → IsTrunkStep shape P one (record { by = by; head = head; effects = es }) after_one
+    → IsTrunkStep shape P two (record { by = by; head = head; effects = fs }) after_two → es ≡ fs
+step_effects shape P one two by head es fs after_one after_two same first second =
+    effects_alike shape P one two after_one after_two same es fs (node_by shape by)
+    (endpoint_by P by) head first.laws.effects second.laws.effects first.makes second.makes
 
 -- ---- a run
 
@@ -43,6 +55,7 @@ begun shape (s ∷ P) after run =
 pub runs_reach_one_state : RunsReachOneState
 runs_reach_one_state = record {
   step = step_same;
+  effects = step_effects;
   same = ends_same;
   begun = begun;
 }

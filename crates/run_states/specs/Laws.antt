@@ -1,7 +1,10 @@
--- That the steps of a journal leave no choice.
-use Rattle.std.specs.Prelude.{List}
+-- That the steps of a journal leave no choice of the trunks, and their heads none of the effects.
+use Rattle.std.specs.Prelude.{◌≡◌, List}
 use Rattle.journal.specs.Shapes.{Shape}
+use Rattle.journal.specs.declared.by.By.{By}
+use Rattle.journal.specs.declared.effect.Effect.{Effect}
 use Rattle.journal.specs.declared.effect.Step.{Step}
+use Rattle.journal.specs.declared.head.Head.{Head}
 use Rattle.link_laws.specs.Ends.{HasTwoEnds}
 use Rattle.trunk_moves.specs.Steps.{IsTrunkRun, IsTrunkStep}
 use Rattle.trunk_moves.specs.Trunks.{AllNew, Become, RunTrunks}
@@ -13,7 +16,7 @@ pub record HasBegun (shape : Shape) (P : List Step) (trunks : RunTrunks) : Type 
   pub new : AllNew shape first
   pub run : IsRunFrom shape first P trunks
 
--- A JOURNAL REACHES ONE STATE, on links between two nodes each
+-- A JOURNAL REACHES ONE STATE, on links between two nodes each, and its heads decide their effects
 pub record RunsReachOneState : Type 0 where
   -- a step makes the same of the same trunks
   pub step :
@@ -21,6 +24,13 @@ pub record RunsReachOneState : Type 0 where
       (after_one after_two : RunTrunks) → Become shape one two
       → IsTrunkStep shape P one s after_one → IsTrunkStep shape P two s after_two
       → Become shape after_one after_two
+  -- the head of a step leaves no choice of its effects
+  pub effects :
+      (shape : Shape) (P : List Step) (one two : RunTrunks) (by : By) (head : Head)
+      (es fs : List Effect) (after_one after_two : RunTrunks) → Become shape one two
+      → IsTrunkStep shape P one (record { by = by; head = head; effects = es }) after_one
+      → IsTrunkStep shape P two (record { by = by; head = head; effects = fs }) after_two
+      → es ≡ fs
   -- so two runs that begin with the same trunks end with the same trunks
   pub same :
       (shape : Shape) → HasTwoEnds shape → (first : RunTrunks) (P : List Step)

@@ -3,7 +3,8 @@
 
 ghost use Rattle.run_states.specs.Laws.{RunsReachOneState};
 
-/// Two runs of one journal that begin with the same trunks end with the same trunks.
+/// Two runs of one journal that begin with the same trunks end with the same trunks, and the head
+/// of a step leaves no choice of its effects.
 pub fn runs_reach_one_state()
     ensures { RunsReachOneState }
 {}
