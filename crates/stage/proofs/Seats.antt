@@ -348,6 +348,7 @@ module _ (script : ScriptParts) (fabric : Layout) (players : List Player)
       → KeepsThroughout fabric.shape fabric.log.steps (links_of (trunks_of fabric.trunks))
       → IsReachedBy fabric → IsSoFar script fabric
   staged-so_far legal promises reached = record {
+    declared = staged.declared;
     shape = staged.shape;
     names = staged.names;
     legal = subst (λ (s : Shape). IsLegal s fabric.log.steps) staged.shape legal;

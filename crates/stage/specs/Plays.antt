@@ -11,6 +11,7 @@ use Rattle.link_laws.specs.Runs.{KeepsThroughout}
 use Rattle.node_kernel.specs.Answers.{event_of, is_pumped}
 use Rattle.actor_run.specs.Following.{Follows, FollowsWhole}
 use Rattle.run_trunks.specs.States.{trunks_of}
+use Rattle.script_lang.specs.Fits.{IsScript}
 use Rattle.script_lang.specs.Parts.{ScriptParts}
 use Rattle.trunk_moves.specs.Steps.{IsTrunkStep}
 use Rattle.trunk_moves.specs.Trunks.{RunTrunks, links_of}
@@ -68,10 +69,11 @@ IsPlanned script (s ∷ P) after =
     × (IsPlanned script P before × (IsTrunkStep (shape_of script) P before s after
     × IsPlannedStep script P before s))
 
--- A RUN OF THE SCRIPT SO FAR: it has its names, is legal by the laws of nodes and links, keeps what
--- is promised of such runs after each of its steps, each actor follows its commands, and the links
--- do as is planned
+-- A RUN OF THE SCRIPT SO FAR: the script is within its limits, and the run has its names, is legal
+-- by the laws of nodes and links, keeps what is promised of such runs after each of its steps, each
+-- actor follows its commands, and the links do as is planned
 pub record IsSoFar (script : ScriptParts) (run : Layout) : Type 0 where
+  pub declared : IsScript script
   pub shape : run.shape ≡ shape_of script
   pub names : run.log.names ≡ script.names
   pub legal : IsLegal (shape_of script) run.log.steps
