@@ -1,5 +1,5 @@
 -- How far an actor goes in its turn: its step, and after a settle the steps that settle the link.
-use Rattle.std.proofs.Common.{◌≡◌, ℕ, suc, ◌<◌, ◌≤◌, ◌⊎◌, Bool, true, false, List, ◌∷◌, length}
+use Rattle.std.proofs.Common.{◌≡◌, ℕ, suc, ◌<◌, ◌⊎◌, Bool, true, false, List, ◌∷◌, length}
 use Rattle.std.proofs.Common.{Option, Some, None, refl, sym, ◌∙◌, ap, subst, inl, inr, arith}
 use Rattle.std.specs.Prelude.{◌&&◌, nat_le}
 use Rattle.std.proofs.lemmas.Bool.{cases_lt, eq-eqb, le-leb, or_left}
@@ -28,7 +28,6 @@ use Rattle.fabric.specs.Actings.{OnlyRuns, asking}
 use Rattle.fabric.specs.Asks.{FitsEvent, MayAsk}
 use Rattle.fabric.specs.Links.{is_settled}
 use Rattle.fabric.specs.Machine.{granted_head, head_for, signal_in}
-use Rattle.fabric.specs.Remains.{IsLaidOut}
 use Rattle.fabric.specs.Run.{IsStepFor, IsStepOf, IsStepped, Layout}
 use Rattle.stage.specs.Settlings.{AreSettlings, GoesOnAfter, IsDone, IsHalfDone, MayGoOn}
 use Rattle.stage.specs.Settlings.{SettlesIf, settled_by}

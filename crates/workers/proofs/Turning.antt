@@ -46,7 +46,8 @@ use Rattle.stage.proofs.Pumping.{pump-planned}
 use Rattle.stage.proofs.Settling.{HasMoved, IsUnder, by-move, due-stirs, has-moved, pump-settles}
 use Rattle.stage.proofs.Settling.{settles-now, under-moved}
 use Rattle.workers.specs.Working.{IsPlayedBy, IsWorking, OwnPlanned}
-use Rattle.workers.proofs.Planning.{IsOneState, IsRunOf, planned-then, reached-run}
+use Rattle.run_orders.proofs.OneState.{IsOneState, IsRunOf, reached_run}
+use Rattle.workers.proofs.Planning.{planned-then}
 use Rattle.workers.proofs.Resting.{found-names, found-planned, found-shape, having_seen}
 use Rattle.workers.proofs.Resting.{working-after}
 
@@ -311,7 +312,7 @@ module _ (script : ScriptParts) (one-state : IsOneState script) (p : PassView St
       found-names script p player working old plan rests in
       record {
         shape = shape;
-        run = reached-run script old.log.steps (trunks_of old.trunks)
+        run = reached_run script old.log.steps (trunks_of old.trunks)
             (subst (λ (names : Names). IsReached (length names.nodes) (shape_of script)
             old.log.steps (trunks_of old.trunks)) names
             (subst (λ (x : Shape). IsReached (length old.log.names.nodes) x old.log.steps

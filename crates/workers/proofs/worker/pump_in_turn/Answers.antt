@@ -5,7 +5,7 @@ use Rattle.turn_lock.specs.Passes.{PassView}
 use Rattle.linx_api.specs.Telling.{PlanParts}
 use Rattle.workers.specs.Working.{seen}
 use Rattle.workers.proofs.Giving.{pumped-gives, pumped-knows}
-use Rattle.workers.proofs.Planning.{one-state}
+use Rattle.run_orders.proofs.OneState.{one_state}
 use Rattle.workers.proofs.Resting.{found-shape, given-back, seen-all}
 use Rattle.workers.proofs.worker.pump_in_turn.Goals as goal
 
@@ -34,7 +34,7 @@ returns-clause-working g c =
     ∙ ap (λ (p : PassView Step PlanParts). p.number) c.take-held.ensures.turn in
     let came = rw (c.fabric_mut.ensures.value, c.state.ensures.value, number) at here.came in
     pumped-knows c.args.script.now
-    (one-state c.runs_reach_one_state.ensures c.args.script.now c.actors.ensures.script)
+    (one_state c.runs_reach_one_state.ensures c.args.script.now c.actors.ensures.script)
     c.args.pass c.give-pass.result c.requires.working found left
     (record {
       plan = c.take-held.ensures.fixed;

@@ -6,7 +6,7 @@ use Rattle.stage.specs.declared.player.Player.{Player}
 use Rattle.stage.specs.Seats.{Learns}
 use Rattle.stage.specs.Turns.{commands_of}
 use Rattle.workers.specs.Turning.{stop_met}
-use Rattle.workers.proofs.Planning.{one-state}
+use Rattle.run_orders.proofs.OneState.{one_state}
 use Rattle.workers.proofs.Playing.{acted-full, acted-knows, acted-runs, seat-within}
 use Rattle.workers.proofs.worker.turn_of.Goals as goal
 
@@ -49,7 +49,7 @@ returns-clause-working g c =
     let its = c.actor_of-commands.ensures.commands ∙ ap (commands_of script) c.number.ensures in
     let given : Player = record { mind = c.next.new.self; me = me } in
     let turn = c.act_in_turn-pass.result.1 in
-    acted-knows script declared (one-state c.runs_reach_one_state.ensures script declared)
+    acted-knows script declared (one_state c.runs_reach_one_state.ensures script declared)
     c.args.pass c.act_in_turn-pass.result.0 c.in-Ok.ask
     (record {
       player = c.args.player.now;
