@@ -14,7 +14,7 @@ import sys
 
 CRATES = pathlib.Path(__file__).resolve().parent.parent / "crates"
 DOCUMENT = CRATES.parent / "docs/definitions.md"
-CALLS = ["run", "serial", "tell", "report", "program"]
+CALLS = ["run", "serial", "tell", "report", "program", "journals_are_decided"]
 BEGINS = re.compile(r" *(?:abbrev pub|unfoldable pub|pub record|pub data|abbrev) ([\w']+)")
 IMPORT = re.compile(r"use\s+(Rattle\.[\w.]+?)(?:\.\{([^}]*)\}|\s+as\s+([\w']+))")
 CITED = re.compile(r"(?:([A-Za-z_][\w']*)\.)?([A-Za-z_][\w']*)")

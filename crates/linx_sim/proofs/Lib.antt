@@ -3,3 +3,4 @@ mod Numbers
 mod Causes
 mod Answering
 mod Scanning
+mod Decided

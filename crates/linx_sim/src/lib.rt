@@ -6,6 +6,7 @@
 #![tactic(auto)]
 
 mod asked;
+mod laws;
 mod outcome;
 mod serving;
 mod told;
@@ -13,6 +14,7 @@ mod whole_program;
 mod words;
 
 pub use asked::Asked;
+pub use laws::journals_are_decided;
 pub use outcome::{Outcome, Status};
 pub use serving::{run, serial};
 pub use told::Told;
