@@ -1,17 +1,18 @@
 #!/usr/bin/env python3
 """Runs the built program on crowded scripts, each of 64 actors on 16 nodes with 32 links that lose.
 
-Goes on with the next seed until the runs have taken so many processor seconds together, or one was
-wrong: in the fixed order, or with --threads with a thread for each actor and each link. Each must
-end within a minute. One that is done has a log and, in order, as many steps as its journal says;
-with --model its whole text must be that of bench/model, which in threads takes the turns in the
-order of that journal. One may say that its journal is full only where the model's is in the fixed
-order, asked for or not. Prints how many runs were as they should be, how many lines they wrote, and
-the one that was wrong.
+Goes on with the next seeds, as many side by side as there are processors, until the runs have taken
+so many processor seconds together, or one was wrong: in the fixed order, or with --threads with a
+thread for each actor and each link. Each must end within a minute. One that is done has a log and,
+in order, as many steps as its journal says; with --model its whole text must be that of
+bench/model, which in threads takes the turns in the order of that journal. One may say that its
+journal is full only where the model's is in the fixed order, asked for or not. Prints how many runs
+were as they should be, how many lines they wrote, and the one that was wrong.
 
     bench/crowds.py [--threads] [--model] [SECONDS [PROGRAM]]       SECONDS is 600 if unsaid
     bench/crowds.py --write SEED                        writes the script of a seed
 """
+import multiprocessing
 import re
 import sys
 import tempfile
@@ -22,6 +23,8 @@ import arguments
 import judge
 import random_script
 import timed
+
+BATCH = 256
 
 
 class Crowd(random_script.Writer):
@@ -75,17 +78,30 @@ def run(program, word, script):
         return (took.status, said.read(), written.read()), took.processor
 
 
-def tried(program, word, with_model, seconds):
-    """Runs them until the time is over or one is wrong: how many, time, lines, what is wrong."""
-    seed, taken, lines, wrong = 0, 0, 0, None
-    while taken < seconds and not wrong:
-        seed += 1
+class Crowds:
+    """Runs of the program under a word."""
+
+    def __init__(self, program, word, with_model):
+        self.program, self.word, self.with_model = program, word, with_model
+
+    def __call__(self, seed):
+        """The run of a seed: the time that it took, its lines, and what is wrong with it."""
         script = Crowd(seed).script().encode()
-        end, used = run(program, word, script)
-        wrong = fault(word, script, end, with_model)
-        taken += used
-        lines += end[2].count(b"\n") - end[2].count(b"\n+ ")
-    return seed, taken, lines, wrong
+        end, used = run(self.program, self.word, script)
+        lines = end[2].count(b"\n") - end[2].count(b"\n+ ")
+        return used, lines, fault(self.word, script, end, self.with_model)
+
+
+def tried(crowds, seconds):
+    """Runs them until the time is over or one is wrong: how many, time, lines, what is wrong."""
+    seed, taken, lines = 0, 0, 0
+    with multiprocessing.Pool() as pool:
+        while taken < seconds:
+            for used, written, wrong in pool.map(crowds, range(seed + 1, seed + BATCH + 1)):
+                seed, taken, lines = seed + 1, taken + used, lines + written
+                if wrong:
+                    return seed, taken, lines, wrong
+    return seed, taken, lines, None
 
 
 def main():
@@ -102,7 +118,7 @@ def main():
         return 0
     program = arguments.found_program(parser, given)
     word = "run" if given.threads else "serial"
-    count, taken, lines, wrong = tried(program, word, given.model, given.seconds)
+    count, taken, lines, wrong = tried(Crowds(program, word, given.model), given.seconds)
     print(f"{count - bool(wrong)} of {count} crowded runs as they should be, {lines} lines of logs "
           f"and steps, {taken:.0f} s")
     if wrong:
