@@ -3,7 +3,7 @@ import argparse
 import os
 import pathlib
 
-PROGRAM = pathlib.Path(__file__).resolve().parent.parent / "crates/linx_program/out/linx_program"
+PROGRAM = pathlib.Path(__file__).resolve().parent.parent / "crates/linx_sim/out/linx_sim"
 
 
 def count(word):
@@ -22,7 +22,7 @@ def parser(document):
 def add_program(to):
     """Adds the program, which is the built one if unsaid."""
     to.add_argument("program", type=pathlib.Path, nargs="?", default=PROGRAM,
-                    help="the one that `rt run` leaves in crates/linx_program/out, if unsaid")
+                    help="the one that `rt run` leaves in crates/linx_sim/out, if unsaid")
 
 
 def found_program(to, given):

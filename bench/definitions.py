@@ -1,7 +1,7 @@
 #!/usr/bin/env python3
 """Holds docs/definitions.md beside the definitions that the program's contracts rest on.
 
-Each definition of a crate's `specs/` that the clauses of linx_sim's calls reach through other
+Each definition of a crate's `specs/` that the clauses of linx_commands' calls reach through other
 definitions, and that another file than its own cites, must stand in the document with its file; the
 parts that it is made of in its own file need not. Each word with a file there must be defined in
 that file. Prints how many are as they should be, and each one that isn't.
@@ -105,7 +105,7 @@ def cited_by_calls(specs):
     """The definitions that the clauses of the calls cite."""
     found = set()
     for name in ("serving", "told", "whole_program"):
-        text = (CRATES / f"linx_sim/src/{name}.rt").read_text()
+        text = (CRATES / f"linx_commands/src/{name}.rt").read_text()
         for clause in clauses(text):
             found |= specs.cited(Imports(text), clause)
     return found

@@ -1,12 +1,12 @@
 #!/usr/bin/env bash
 # Runs the built program for each status: with a standard error that is read, one that is closed
 # and one that is full, each for at most a minute. The exit status must be the same each time, and
-# what is read exactly the line of the status. `rt run` in crates/linx_program builds the program,
+# what is read exactly the line of the status. `rt run` in crates/linx_sim builds the program,
 # and leaves it in out/.
 #   bench/statuses.sh [PROGRAM]
 set -uo pipefail
 top="$(cd "$(dirname "$0")/.." && pwd)"
-program="$(realpath -m "${1:-$top/crates/linx_program/out/linx_program}")"
+program="$(realpath -m "${1:-$top/crates/linx_sim/out/linx_sim}")"
 [ -x "$program" ] || { echo "no program at $program" >&2; exit 1; }
 work="$(mktemp -d)"
 trap 'rm -rf "$work"' EXIT
@@ -52,7 +52,7 @@ named() {
     timeout 60 bash -c 'exec -a "$0" "$@"' "$1" "$program" "${@:2}"
 }
 
-script="$top/crates/linx_self_send/stdin"
+script="$top/crates/self_send_program/stdin"
 printf 'node n\nnod m\n' > "$work/bad"
 # an actor shares a filling with the one before it where they are equal: so these take turns
 printf '%s\n' 'node n' 'actor p n' 'open a' 'repeat 300' 'send self 1 fill:65532:00' \
@@ -60,9 +60,9 @@ printf '%s\n' 'node n' 'actor p n' 'open a' 'repeat 300' 'send self 1 fill:65532
 usage=$'linx_sim: usage: linx_sim run, serial or gen N\n'
 
 row 'done' 0 '' "$script" "$work/text" plain run
-cmp -s "$work/text" "$top/crates/linx_self_send/stdout" || complain 'done: another text'
+cmp -s "$work/text" "$top/crates/self_send_program/stdout" || complain 'done: another text'
 row 'another name' 0 '' "$script" "$work/text" named $'\xff' run
-cmp -s "$work/text" "$top/crates/linx_self_send/stdout" || complain 'another name: another text'
+cmp -s "$work/text" "$top/crates/self_send_program/stdout" || complain 'another name: another text'
 row 'a generated script' 0 '' / "$work/text" plain gen 7
 [ "$(wc -l < "$work/text")" = 10 ] || complain 'a generated script: no summary'
 row 'no words' 1 "$usage" "$script" "$work/text" plain

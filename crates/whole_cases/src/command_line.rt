@@ -2,8 +2,8 @@
 
 use crate::failing_streams::{failing_sink, failing_source};
 use crate::runs::{Ended, run_of};
+use linx_commands::Status;
 use linx_outside::MemSink;
-use linx_sim::Status;
 use std::alloc::Global;
 use std::sync::Wait;
 use std::test::Fail;

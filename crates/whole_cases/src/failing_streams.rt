@@ -5,8 +5,8 @@ use crate::requests::{log_of_client, log_of_server, script_of_requests};
 use crate::runs::{Ended, end_of, roomy_sink, source_of};
 use crate::signals::SELF_SEND;
 use crate::texts::unindented;
+use linx_commands::{Status, serial};
 use linx_outside::{MemSink, MemSource};
-use linx_sim::{Status, serial};
 use std::alloc::Global;
 use std::test::Fail;
 

@@ -1,5 +1,5 @@
 //! Whole runs in memory: scripts with the texts of their runs, what is told of runs in threads,
-//! streams that fail, and how the program ends. They stand apart from `linx_sim`, so that it, and
+//! streams that fail, and how the program ends. They stand apart from `linx_commands`, so that it, and
 //! the programs that stand on it, are proved once.
 #![tactic(auto)]
 

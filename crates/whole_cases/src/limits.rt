@@ -3,12 +3,12 @@ ghost use Rattle.std.specs.Prelude.{◌≡◌, ◌+◌, ◌≤◌, [], false, le
 ghost use Rattle.journal.specs.Logs.{is_full};
 ghost use Rattle.journal_text.specs.Text.{text_of};
 ghost use Rattle.script_lang.specs.Reading.{script_of};
-ghost use Rattle.linx_sim.specs.Statuses.{IsDoneOrRefused};
+ghost use Rattle.linx_commands.specs.Statuses.{IsDoneOrRefused};
 
 use crate::runs::{Ended, end_of, end_without_text, source_of};
 use crate::texts::unindented;
+use linx_commands::{Outcome, Status, serial};
 use linx_outside::{MemSink, PlainSource};
-use linx_sim::{Outcome, Status, serial};
 use std::alloc::Global;
 use std::test::Fail;
 

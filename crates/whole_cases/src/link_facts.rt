@@ -5,7 +5,7 @@
 
 use crate::runs::{Ended, RUN_AND_SERIAL, end_without_text, text_under};
 use crate::texts::{compare, count_ending, lines_of, unindented};
-use linx_sim::Status;
+use linx_commands::Status;
 use std::alloc::Global;
 use std::sync::Wait;
 use std::test::Fail;

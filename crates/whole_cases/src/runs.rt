@@ -1,8 +1,8 @@
 //! Runs over streams in memory: how they end, and what they write.
 
 use crate::texts::{compare, unindented};
+use linx_commands::{Outcome, Status, run};
 use linx_outside::{MemSink, OpenGate, PlainSource, Source};
-use linx_sim::{Outcome, Status, run};
 use std::alloc::Global;
 use std::sync::Wait;
 use std::test::Fail;

@@ -1,0 +1,17 @@
+use Rattle.std.proofs.Common.{subst}
+use Rattle.std.specs.Prelude.{IfOk}
+use Rattle.script_lang.specs.Parts.{ScriptParts}
+use Rattle.work_gen.specs.Generated.{generated}
+use Rattle.linx_commands.specs.Runs.{IsRan}
+use Rattle.linx_commands.specs.declared.asked.Asked.TheVariants.{Run}
+use Rattle.linx_commands.proofs.Answering.{ran-generated}
+use Rattle.linx_commands.proofs.serving.generate.Goals as goal
+
+pub returns-in-Ok-clause-cause : goal.returns-in-Ok-clause-cause
+returns-in-Ok-clause-cause g c =
+    let number = c.args.number in
+    let played = c.play_in_threads-played.result in
+    c.conclude.ensures.answer (generated number)
+    (ran-generated number (generated number) played
+    (subst (λ (s : ScriptParts). IfOk played (IsRan Run s)) c.in-Ok.ensures.is
+    c.play_in_threads-played.ensures))

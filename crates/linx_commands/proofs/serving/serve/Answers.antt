@@ -1,0 +1,16 @@
+use Rattle.std.proofs.Common.{subst, sym}
+use Rattle.work_gen.specs.Generated.{generated}
+use Rattle.linx_commands.specs.Commands.{CompletesUnder}
+use Rattle.linx_commands.specs.declared.asked.Asked.{Asked}
+use Rattle.linx_commands.specs.declared.asked.Asked.TheVariants.{Gen}
+use Rattle.linx_commands.proofs.Causes.{completes_outcome}
+use Rattle.linx_commands.proofs.serving.serve.Goals as goal
+
+pub returns-in-Gen-clause-complete : goal.returns-in-Gen-clause-complete
+returns-in-Gen-clause-complete g c =
+    let number = c.in-Gen.number in
+    let status = c.generate.result.status in
+    let log = c.generate.result.journal.log in
+    let left = g.S.Source.left c.args.script.now in
+    subst (λ (a : Asked). CompletesUnder a left status log) (sym c.in-Gen.is)
+    (completes_outcome (Gen number) status (generated number) log c.generate.ensures.cause)

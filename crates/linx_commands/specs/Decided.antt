@@ -1,0 +1,31 @@
+-- That nothing but whose step is next is left open in what a script's run writes.
+use Rattle.std.specs.Prelude.{◌≡◌}
+use Rattle.journal.specs.Logs.{Log}
+use Rattle.run_orders.specs.Laws.{makers_of}
+use Rattle.script_lang.specs.Parts.{ScriptParts}
+use Rattle.fabric.specs.Run.{Layout}
+use Rattle.linx_commands.specs.Runs.{IsRunAs, IsRunInOrder, IsStoppedFull}
+use Rattle.linx_commands.specs.declared.asked.Asked.TheVariants.{Serial}
+
+-- a journal is that of a run of a script, whole or stopped, in whichever order the turns came
+abbrev pub IsRunOrFront : ScriptParts → Log → Type 0
+IsRunOrFront script log = (run : Layout) × IsRunAs script run log
+
+-- THE ORDER OF THE STEPS' MAKERS DECIDES A JOURNAL, and `serial` leaves no choice of it
+pub record JournalsAreDecided : Type 0 where
+  -- two journals of runs, whose steps were made by the same makers in the same order, are one
+  pub run :
+      (script : ScriptParts) (one two : Log) → IsRunOrFront script one
+      → IsRunOrFront script two → makers_of one.steps ≡ makers_of two.steps → one ≡ two
+  -- two journals of the whole run in the fixed order are one, so `serial` has one text
+  pub serial :
+      (script : ScriptParts) (one two : Log) → IsRunInOrder script one → IsRunInOrder script two
+      → one ≡ two
+  -- so are two that were full before the end
+  pub full :
+      (script : ScriptParts) (one two : Log) → IsStoppedFull Serial script one
+      → IsStoppedFull Serial script two → one ≡ two
+  -- and no script has one of each kind, so `serial` has one status of both
+  pub apart :
+      (script : ScriptParts) (one two : Log) → IsRunInOrder script one
+      → IsStoppedFull Serial script two → ⊥

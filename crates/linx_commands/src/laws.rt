@@ -1,0 +1,10 @@
+//! What follows from the definitions of what a run answers alone. This function does nothing; its
+//! contract is the law.
+
+ghost use Rattle.linx_commands.specs.Decided.{JournalsAreDecided};
+
+/// A script, and the order in which the makers of its run made their steps, decide the journal, and
+/// so the text; under `serial` the script alone does. Memory and the streams are left aside.
+pub fn journals_are_decided()
+    ensures { JournalsAreDecided }
+{}

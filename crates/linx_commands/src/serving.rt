@@ -1,0 +1,306 @@
+//! The top call: words, script, run, text.
+
+ghost use Rattle.std.specs.Prelude.{◌≡◌, true, Ok};
+ghost use Rattle.std.specs.Prelude.{IfOk, IfErr, OnOk, IfSome, IfNone};
+ghost use Rattle.std.specs.Io.KnownBytes.{IsAtEnd};
+ghost use Rattle.journal_text.specs.Text.{text_of};
+ghost use Rattle.script_lang.specs.Parts.{ScriptParts};
+ghost use Rattle.script_lang.specs.Reading.{script_of};
+ghost use Rattle.work_gen.specs.Generated.{generated};
+ghost use Rattle.linx_commands.specs.CommandLine.{asked_of};
+ghost use Rattle.linx_commands.specs.Statuses.{IsUsageOrRefused};
+ghost use Rattle.linx_commands.specs.Streams.{Reads, Writes, TakesAtMost, read_most};
+ghost use Rattle.linx_commands.specs.Runs.{Completes, IsCaused, IsEmptyLog, IsLegalSomehow};
+ghost use Rattle.linx_commands.specs.Runs.{IsOutcomeOf, IsRan};
+ghost use Rattle.linx_commands.specs.Commands.{IsCausedUnder, CompletesUnder, ReadsUnder, written_under};
+ghost use Rattle.linx_commands.specs.Causes.{IsUnread, is_of_writing, read_status, script_status};
+ghost use Rattle.linx_commands.specs.Causes.{stop_status, report_status};
+
+use crate::asked::{Asked, asked_for};
+use crate::outcome::{Outcome, Status};
+use fabric::StopCause;
+use journal::Journal;
+use linx_base::{NameList, Names, NoMemory};
+use linx_outside::{Gate, ReadStop, Sink, Source, read_up_to};
+use report::{ReportError, write_report, write_summary};
+use script_lang::{Script, ScriptError, parse};
+use stage::Stage;
+use std::alloc::Global;
+use std::sync::Wait;
+use std::thread::Threads;
+use workers::Ran;
+
+/// One byte more than a script may have.
+const READ_MOST: usize = 1_048_577;
+
+/// A run that made no step, and why.
+fn unstarted(alloc: Global, status: Status) -> Outcome
+    ensures status { result.status ≡ status }
+    ensures empty { IsEmptyLog result.journal.log }
+    ensures legal { IsLegalSomehow result.journal.log.steps }
+{
+    let names = Names {
+        nodes: NameList::new(alloc),
+        links: NameList::new(alloc),
+    };
+    let journal = Journal::new(alloc, names);
+    Outcome { status, journal }
+}
+
+fn status_of_read(stop: ReadStop) -> Status
+    ensures { result ≡ read_status stop }
+{
+    match stop {
+        ReadStop::ReadFault => Status::ReadFault,
+        ReadStop::NoMemory => Status::NoMemory,
+    }
+}
+
+fn status_of_script(error: ScriptError) -> Status
+    ensures { result ≡ script_status error }
+{
+    match error {
+        ScriptError::Bad { line, .. } => Status::Script { line },
+        ScriptError::NoMemory => Status::NoMemory,
+    }
+}
+
+fn status_of_stop(cause: StopCause) -> Status
+    ensures { result ≡ stop_status cause }
+{
+    match cause {
+        StopCause::JournalFull => Status::JournalFull,
+        StopCause::NoMemory => Status::NoMemory,
+    }
+}
+
+fn status_of_report(written: Result<(), ReportError>) -> Status
+    ensures { result ≡ report_status written }
+{
+    match written {
+        Ok(()) => Status::Done,
+        Err(ReportError::WriteFault) => Status::WriteFault,
+        Err(ReportError::NoMemory) => Status::NoMemory,
+    }
+}
+
+/// What is asked for of a whole run goes to the sink: its text, or its summary.
+fn write_run<K: Sink>(alloc: Global, asked: Asked, journal: &Journal, out: &mut K) -> Status
+    ensures kinds { is_of_writing result ≡ true }
+    ensures sink { Writes K.held K.faults K.last_count K.can_take out.old out.new
+        result (written_under asked journal.now.log) }
+{
+    match asked {
+        Asked::Run | Asked::Serial => status_of_report(write_report(alloc, journal, out)),
+        Asked::Gen(_) => status_of_report(write_summary(alloc, journal, out)),
+    }
+}
+
+/// Plays a script in the fixed order.
+fn play_in_order(alloc: Global, script: Script) -> Result<Ran, NoMemory>
+    ensures { IfOk result (IsRan Asked.Serial script) }
+{
+    let mut stage = Stage::new(alloc, script)?;
+    let stop = match stage.play() {
+        Ok(()) => None,
+        Err(cause) => Some(cause),
+    };
+    Ok(Ran { stage, stop })
+}
+
+/// Plays a script with a thread for each actor and each link.
+fn play_in_threads<R: Threads + Wait + Sync, G: Gate + Sync>(
+    rt: &R,
+    alloc: Global,
+    script: Script,
+    gate: &G,
+) -> Result<Ran, NoMemory>
+    ensures { IfOk result (IsRan Asked.Run script) }
+{
+    workers::run(rt, alloc, script, gate)
+}
+
+/// What is asked for of a run that came to its end goes to the sink.
+fn conclude<K: Sink>(
+    alloc: Global,
+    asked: Asked,
+    played: Result<Ran, NoMemory>,
+    out: &mut K,
+) -> Outcome
+    ensures answer { (script : ScriptParts) → IfOk played (IsRan asked script)
+        → IsOutcomeOf asked result.status script result.journal.log }
+    ensures legal { IsLegalSomehow result.journal.log.steps }
+    ensures sink { Writes K.held K.faults K.last_count K.can_take out.old out.new
+        result.status (written_under asked result.journal.log) }
+{
+    let Ok(Ran { stage, stop }) = played else {
+        return unstarted(alloc, Status::NoMemory);
+    };
+    let journal = stage.into_journal();
+    match stop {
+        None => Outcome {
+            status: write_run(alloc, asked, &journal, out),
+            journal,
+        },
+        Some(cause) => Outcome {
+            status: status_of_stop(cause),
+            journal,
+        },
+    }
+}
+
+/// Reads a source to its end, and gives the script that its bytes spell, or the status that says
+/// why there is none.
+#[tactic(auto, using(crate::proofs::Scanning::scanned))]
+fn read_script<S: Source>(alloc: Global, source: &mut S) -> Result<Script, Status>
+    ensures spelled { IfOk result (λ script.
+        IfSome (S.left source.old) (λ told. script_of told ≡ Ok script)) }
+    ensures whole { OnOk result (IsAtEnd (S.left source.new)) }
+    ensures taken { TakesAtMost read_most (S.left source.old) (S.left source.new) }
+    ensures counts_nothing { OnOk result (S.faults source.new ≡ S.faults source.old) }
+    ensures faultless { S.is_faultless source.old → S.is_faultless source.new }
+
+    ensures unread { IfErr result (λ status. IsUnread status (S.left source.old)) }
+    ensures source { IfErr result (λ status.
+        Reads S.left S.faults S.last_count S.is_faultless source.old source.new status) }
+{
+    let mut bytes = Vec::new(alloc);
+    if let Err(stop) = read_up_to(source, &mut bytes, READ_MOST) {
+        return Err(status_of_read(stop));
+    }
+    // A large buffer that is freed would let the C library copy what grows, up to that size.
+    bytes.shrink_to_fit();
+    match parse(alloc, bytes.as_slice()) {
+        Ok(script) => Ok(script),
+        Err(error) => Err(status_of_script(error)),
+    }
+}
+
+/// Reads a script, runs it in the fixed order, and writes the text of the whole run.
+pub fn serial<S: Source, K: Sink>(alloc: Global, script: &mut S, out: &mut K) -> Outcome
+    ensures cause { IsCaused Asked.Serial result.status (S.left script.old) result.journal.log }
+    ensures legal { IsLegalSomehow result.journal.log.steps }
+    ensures complete { IfSome (S.left script.old) (λ told.
+        Completes told result.status result.journal.log) }
+    ensures source { Reads S.left S.faults S.last_count S.is_faultless script.old script.new
+        result.status }
+    ensures sink { Writes K.held K.faults K.last_count K.can_take out.old out.new
+        result.status (text_of result.journal.log) }
+{
+    match read_script(alloc, script) {
+        Ok(script) => conclude(alloc, Asked::Serial, play_in_order(alloc, script), out),
+        Err(status) => unstarted(alloc, status),
+    }
+}
+
+/// Reads a script, runs it with a thread for each actor and each link, and writes the text of the
+/// whole run.
+fn threaded<R: Threads + Wait + Sync, G: Gate + Sync, S: Source, K: Sink>(
+    rt: &R,
+    alloc: Global,
+    script: &mut S,
+    out: &mut K,
+    gate: &G,
+) -> Outcome
+    ensures cause { IsCaused Asked.Run result.status (S.left script.old) result.journal.log }
+    ensures legal { IsLegalSomehow result.journal.log.steps }
+    ensures complete { IfSome (S.left script.old) (λ told.
+        Completes told result.status result.journal.log) }
+    ensures source { Reads S.left S.faults S.last_count S.is_faultless script.old script.new
+        result.status }
+    ensures sink { Writes K.held K.faults K.last_count K.can_take out.old out.new
+        result.status (text_of result.journal.log) }
+{
+    match read_script(alloc, script) {
+        Ok(script) => {
+            let played = play_in_threads(rt, alloc, script, gate);
+            conclude(alloc, Asked::Run, played, out)
+        }
+        Err(status) => unstarted(alloc, status),
+    }
+}
+
+/// Runs the generated script of a number with a thread for each actor and each link, and writes the
+/// summary of the whole run.
+fn generate<R: Threads + Wait + Sync, G: Gate + Sync, K: Sink>(
+    rt: &R,
+    alloc: Global,
+    number: u32,
+    out: &mut K,
+    gate: &G,
+) -> Outcome
+    ensures cause { IsOutcomeOf (Asked.Gen number) result.status (generated number)
+        result.journal.log }
+    ensures legal { IsLegalSomehow result.journal.log.steps }
+    ensures sink { Writes K.held K.faults K.last_count K.can_take out.old out.new
+        result.status (written_under (Asked.Gen number) result.journal.log) }
+{
+    match work_gen::script(alloc, number) {
+        Ok(script) => {
+            let played = play_in_threads(rt, alloc, script, gate);
+            conclude(alloc, Asked::Gen(number), played, out)
+        }
+        Err(NoMemory) => unstarted(alloc, Status::NoMemory),
+    }
+}
+
+/// Does what is asked for.
+fn serve<R: Threads + Wait + Sync, G: Gate + Sync, S: Source, K: Sink>(
+    rt: &R,
+    alloc: Global,
+    asked: Asked,
+    script: &mut S,
+    out: &mut K,
+    gate: &G,
+) -> Outcome
+    ensures cause { IsCausedUnder asked result.status (S.left script.old) result.journal.log }
+    ensures legal { IsLegalSomehow result.journal.log.steps }
+    ensures complete { CompletesUnder asked (S.left script.old) result.status result.journal.log }
+    ensures source { ReadsUnder asked S.left S.faults S.last_count S.is_faultless script.old
+        script.new result.status }
+    ensures sink { Writes K.held K.faults K.last_count K.can_take out.old out.new
+        result.status (written_under asked result.journal.log) }
+{
+    match asked {
+        Asked::Run => threaded(rt, alloc, script, out, gate),
+        Asked::Serial => serial(alloc, script, out),
+        Asked::Gen(number) => generate(rt, alloc, number, out, gate),
+    }
+}
+
+/// Does what the words of the command line ask for.
+pub fn run<S: Source, K: Sink, G: Gate + Sync, R: Threads + Wait + Sync>(
+    rt: &R,
+    alloc: Global,
+    words: &[String],
+    script: &mut S,
+    out: &mut K,
+    gate: &G,
+) -> Outcome
+    // Of words that are those of no command. Those of one are never told Usage (`IsCausedUnder`).
+    ensures other_words { IfNone (asked_of words.now)
+        (IsUsageOrRefused result.status × IsEmptyLog result.journal.log) }
+    ensures untouched { IfNone (asked_of words.now)
+        ((script.new ≡ script.old) × (out.new ≡ out.old)) }
+
+    // Of the script that is asked for, the run and the journal.
+    ensures cause { IfSome (asked_of words.now) (λ asked.
+        IsCausedUnder asked result.status (S.left script.old) result.journal.log) }
+    ensures legal { IsLegalSomehow result.journal.log.steps }
+    ensures complete { IfSome (asked_of words.now) (λ asked.
+        CompletesUnder asked (S.left script.old) result.status result.journal.log) }
+
+    // Of the source and the sink.
+    ensures source { IfSome (asked_of words.now) (λ asked.
+        ReadsUnder asked S.left S.faults S.last_count S.is_faultless script.old script.new
+        result.status) }
+    ensures sink { IfSome (asked_of words.now) (λ asked.
+        Writes K.held K.faults K.last_count K.can_take out.old out.new
+        result.status (written_under asked result.journal.log)) }
+{
+    match asked_for(alloc, words) {
+        Ok(Some(asked)) => serve(rt, alloc, asked, script, out, gate),
+        Ok(None) => unstarted(alloc, Status::Usage),
+        Err(NoMemory) => unstarted(alloc, Status::NoMemory),
+    }
+}

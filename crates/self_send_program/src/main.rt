@@ -1,0 +1,13 @@
+//! A test: the program `linx_sim` over a script of a self send, by the streams of this process.
+#![tactic(auto)]
+
+use linx_commands::{Told, Words, program};
+use linx_outside::{ReadFrom, WriteTo};
+
+fn main(rt: HostRuntime) -> Told {
+    let words = Words::of(&rt, rt.alloc());
+    let mut script = ReadFrom::new(rt.stdin());
+    let mut text = WriteTo::new(rt.stdout());
+    let mut errors = WriteTo::new(rt.stderr());
+    program(&rt, rt.alloc(), words, &mut script, &mut text, &mut errors)
+}
