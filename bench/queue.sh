@@ -34,6 +34,13 @@ fn item(alloc: Global, number: u32, kind: Kind, step: u64) -> anyhow::Result<Ite
     })
 }
 
+fn put(queue: &mut Queue, item: Item) -> anyhow::Result<()> {
+    if queue.push(item).is_err() {
+        anyhow::bail!("out of memory");
+    }
+    Ok(())
+}
+
 fn only(alloc: Global, number: u32) -> anyhow::Result<Sigsel> {
     let numbers = Vec::from_slice(alloc, &[number])?;
     Ok(Sigsel::Only(Numbers::of(numbers).context("numbers")?))
@@ -48,8 +55,7 @@ fn measured(rt: &HostRuntime, waiting: u64, numbers: u32, any: bool) -> anyhow::
     let alloc = rt.alloc();
     let mut queue = Queue::new(alloc);
     for step in 0..waiting {
-        queue.reserve(1).context("reserve")?;
-        queue.put(item(alloc, (step % numbers as u64) as u32, Kind::Plain, step)?);
+        put(&mut queue, item(alloc, (step % numbers as u64) as u32, Kind::Plain, step)?)?;
     }
     let start = Instant::now(rt).context("clock")?;
     let mut taken: usize = 0;
@@ -62,8 +68,7 @@ fn measured(rt: &HostRuntime, waiting: u64, numbers: u32, any: bool) -> anyhow::
         };
         if let Some(found) = found {
             taken = taken.saturating_add(1);
-            queue.reserve(1).context("reserve")?;
-            queue.put(found);
+            put(&mut queue, found)?;
         }
     }
     let spent = start.elapsed(rt).context("clock")?.as_nanos() / u128::from(MOST.max(1));
@@ -77,8 +82,7 @@ fn detached(rt: &HostRuntime, waiting: u64, queued: bool) -> anyhow::Result<()> 
     let alloc = rt.alloc();
     let mut queue = Queue::new(alloc);
     for step in 0..waiting {
-        queue.reserve(1).context("reserve")?;
-        queue.put(item(alloc, 1, Kind::Plain, step)?);
+        put(&mut queue, item(alloc, 1, Kind::Plain, step)?)?;
     }
     for reference in 0..DETACHES {
         let kind = if queued {
@@ -86,8 +90,7 @@ fn detached(rt: &HostRuntime, waiting: u64, queued: bool) -> anyhow::Result<()> 
         } else {
             Kind::Plain
         };
-        queue.reserve(1).context("reserve")?;
-        queue.put(item(alloc, 2, kind, reference)?);
+        put(&mut queue, item(alloc, 2, kind, reference)?)?;
     }
     let start = Instant::now(rt).context("clock")?;
     let mut removed: usize = 0;

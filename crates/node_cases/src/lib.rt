@@ -12,8 +12,6 @@ mod kernel_calls;
 #[cfg(test)]
 mod kernel_lines;
 #[cfg(test)]
-mod queues;
-#[cfg(test)]
 mod scanned;
 #[cfg(test)]
 mod tables;

@@ -24,12 +24,12 @@ impl Model for Endpoint {
 
     ghost Value = { OpenEndpoint };
 
-    ghost view = { λ e. record { inc = e.inc; name = e.name; items = e.queue.items } };
+    ghost view = { λ e. record { inc = e.inc; name = e.name; items = e.queue } };
 }
 
 /// Frees the notices of an attach that are left.
 fn drop_rest(queue: &mut Queue, attach: AttRef)
-    ensures { queue.new.items ≡ filter (λ item. not (is_notice_of attach item)) queue.old.items }
+    ensures { queue.new ≡ filter (λ item. not (is_notice_of attach item)) queue.old }
 {
     while let Some(_notice) = queue.remove_ref(attach) {}
 }
@@ -64,11 +64,10 @@ impl Endpoint {
             { items = self.old.items ++ item ∷ [] }) }
         ensures err { IfErr result (λ back. (back ≡ item) × (self.new ≡ self.old)) }
     {
-        if self.queue.reserve(1).is_err() {
-            return Err(item);
+        match self.queue.push(item) {
+            Ok(()) => Ok(()),
+            Err((_, item)) => Err(item),
         }
-        self.queue.put(item);
-        Ok(())
     }
 
     /// Takes out the first item that the filter selects.

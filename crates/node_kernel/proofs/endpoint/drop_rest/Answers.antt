@@ -7,5 +7,5 @@ pub returns : goal.returns
 returns c =
     let p = is_notice_of c.args.attach in
     let none = sym c.in_default.ensures.item in
-    c.in_default.ensures.others ∙ without_none_first p c.loop-notice.queue.items none
-    ∙ sym (others_none p c.loop-notice.queue.items none) ∙ c.loop-notice.invariant
+    c.in_default.ensures.others ∙ without_none_first p c.loop-notice.queue none
+    ∙ sym (others_none p c.loop-notice.queue none) ∙ c.loop-notice.invariant

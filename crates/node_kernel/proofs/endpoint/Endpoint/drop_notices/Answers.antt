@@ -10,14 +10,14 @@ pub returns-in-None-clause-any : goal.returns-in-None-clause-any
 returns-in-None-clause-any c =
     let p = is_notice_of c.args.attach in
     rw (← c.self.view_is) (ap is_some c.in-None.ensures.item
-    ∙ is_some-first_match p c.self.inside.queue.items)
+    ∙ is_some-first_match p c.self.inside.queue)
 
 pub returns-in-None-clause-others : goal.returns-in-None-clause-others
 returns-in-None-clause-others c =
     let p = is_notice_of c.args.attach in
     let none = sym c.in-None.ensures.item in
-    let same = c.in-None.ensures.others ∙ without_none_first p c.self.inside.queue.items none
-    ∙ sym (others_none p c.self.inside.queue.items none) in
+    let same = c.in-None.ensures.others ∙ without_none_first p c.self.inside.queue none
+    ∙ sym (others_none p c.self.inside.queue none) in
     rw (← c.self.view_is) (ap (λ (l : List Item). record {
       inc = c.self.inside.inc;
       name = c.self.inside.name;
