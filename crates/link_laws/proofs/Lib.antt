@@ -67,3 +67,5 @@ pub mod MetPeers
 pub mod Reached
 pub mod UnfoundHere
 pub mod BetweenLiving
+pub mod NotifiedCloses
+pub mod ToldClosed

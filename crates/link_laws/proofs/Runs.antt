@@ -36,6 +36,8 @@ use Rattle.link_laws.proofs.Stillness.{nothing_vanishes}
 use Rattle.link_laws.proofs.BetweenLiving.{between_living}
 use Rattle.link_laws.proofs.Unfound.{unfound}
 use Rattle.link_laws.proofs.UnfoundHere.{unfound_here}
+use Rattle.link_laws.proofs.ToldClosed.{EachIsSoFar, IsSoFar, all_got_fronts, all_told_whole}
+use Rattle.link_laws.proofs.ToldClosed.{never_after_told}
 
 -- EACH MOVE is legal, keeps the links and what is promised
 module _ (shape : Shape) (P : List Step) (before after : Links) (known : IsKnown shape P before)
@@ -117,14 +119,38 @@ vanishes_none shape P links kept l of_shape side quiet a b on open_ =
 short : (P : List Step) → length P ≤ step_limit → IsShort P
 short P fits = omega arith
 
+-- what each front of a run has kept
+so_far : (shape : Shape) (P : List Step) (links : Links) → IsBoundedRun shape P links
+    → IsSoFar shape P
+so_far shape P links whole =
+    let kept = has_kept shape P links whole in
+    record {
+      legal = kept.legal;
+      short = short P whole.fits;
+      carried = all_carried shape P (records_of links) kept.kept.trunks kept.kept.linked;
+    }
+
+each_so_far : (shape : Shape) → HasTwoEnds shape → (P : List Step) (links : Links)
+    → length P ≤ step_limit → IsRun shape P links → EachIsSoFar shape P
+each_so_far shape two [] links fits first =
+    so_far shape [] links (record { two_ends = two; fits = fits; run = first })
+each_so_far shape two (s ∷ P) after fits run = (
+  so_far shape (s ∷ P) after (record { two_ends = two; fits = fits; run = run }),
+  each_so_far shape two P run.0 (omega arith) run.1.0,
+)
+
 -- what is promised of the last state
 promises_now : (shape : Shape) (P : List Step) (links : Links) → IsBoundedRun shape P links
     → KeepsPromises shape P links
 promises_now shape P links whole =
     let kept = has_kept shape P links whole in
+    let each = each_so_far shape whole.two_ends P links whole.fits whole.run in
     record {
       nodes = keeps-node_promises shape P kept.legal (short P whole.fits);
       carried = all_carried shape P (records_of links) kept.kept.trunks kept.kept.linked;
+      fronts = all_got_fronts shape P each;
+      told_whole = all_told_whole shape P each;
+      told_last = never_after_told shape P each;
       packets = kept.promised;
       unfound = unfound shape P kept.legal (short P whole.fits);
       unfound_here = unfound_here shape P kept.legal (short P whole.fits);

@@ -6,6 +6,7 @@ pub mod Still
 pub mod Laws
 pub mod Linked
 pub mod Promises
+pub mod NotifiedCloses
 pub mod Sides
 pub mod Moves
 pub mod Runs

@@ -2,7 +2,7 @@
 use Rattle.std.specs.Prelude.{ℕ, ◌≡◌, ◌≤◌, Bool, true, false, ◌&&◌, ◌==◌, List, [], ◌∷◌, Option}
 use Rattle.std.specs.Prelude.{Some, None, if◌then◌else◌}
 use Rattle.std.specs.List.{list_any, AllByRecursion}
-use Rattle.linx_base.specs.Numbers.{is_on}
+use Rattle.linx_base.specs.Numbers.{is_on, node_of}
 use Rattle.linx_base.specs.Peers.{same_peer}
 use Rattle.linx_base.specs.Sides.{other_of}
 use Rattle.linx_base.specs.declared.identity.Inc.{Inc}
@@ -37,6 +37,16 @@ GotFront P l x a b (Some y) =
 abbrev pub GotAll : List Step → LinkNo → Session → (a b : Inc) → Option Session → Type 0
 GotAll P l x a b None = ⊥
 GotAll P l x a b (Some y) = arrived_from P b (There l x a) ≡ sent_to P a (There l y b)
+
+-- WHAT ARRIVED at an endpoint from any peer is the front of what that one sent it: on the node all
+-- of it, over a link what it sent in the session that the peer's is paired with
+abbrev pub GotFrontOf : List Step → Inc → Peer → Type 0
+GotFrontOf P j (Here i) = arrived_from P j (Here i) ≡ sent_to P i (Here j)
+GotFrontOf P j (There l x i) = GotFront P l x i j (paired_session P (node_of j) l.0 x)
+
+-- of all endpoints and all peers
+abbrev pub AllGotFronts : List Step → Type 0
+AllGotFronts P = (j : Inc) (q : Peer) → GotFrontOf P j q
 
 -- a node parted from a peer
 abbrev pub parts_peer : ℕ → Peer → Effect → Bool

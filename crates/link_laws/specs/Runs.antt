@@ -26,7 +26,8 @@ use Rattle.link_laws.specs.Sides.{AreLinksKept, Links, SideState}
 use Rattle.link_laws.specs.Laws.{IsLegal}
 use Rattle.link_laws.specs.Linked.{HasNone, IsUnfound, is_hunted}
 use Rattle.link_laws.specs.Moves.{IsLeft, IsMove, IsResting}
-use Rattle.link_laws.specs.Promises.{AllCarried, KeepsLinkPromises}
+use Rattle.link_laws.specs.NotifiedCloses.{AllToldWhole, NeverAfterTold}
+use Rattle.link_laws.specs.Promises.{AllCarried, AllGotFronts, KeepsLinkPromises}
 use Rattle.link_laws.specs.Still.{IsStill}
 
 -- a side before its first session went up
@@ -110,6 +111,11 @@ pub record KeepsPromises (shape : Shape) (P : List Step) (links : Links) : Type 
   -- arrivals are fronts of what was sent, at an endpoint that is still open complete once the
   -- close was told, and then over
   pub carried : AllCarried shape P
+  -- so they are from any peer at any endpoint, complete when its close is notified, and never
+  -- followed by more
+  pub fronts : AllGotFronts P
+  pub told_whole : AllToldWhole P
+  pub told_last : NeverAfterTold P
   -- sessions pair both ways and go forward, and whoever is met was not closed before the paired
   -- session went up
   pub packets : KeepsLinkPromises shape P

@@ -13,10 +13,11 @@ pub fn runs_are_legal()
 
 /// So every run keeps its promises, before its first step and after each: what arrives over a link
 /// is a front of what was sent, all of it, at an endpoint that is still open, once the sender's
-/// close was told, and nothing after that; sessions pair both ways and don't go back; whoever is
-/// met was not closed before the paired session went up; no pending hunt names a living peer, over
-/// a link or on its own node; each attach that is owed a notification is of a living peer, and its
-/// holder is open; over a quiet link nothing vanishes; and links that rest are still.
+/// close was told, and nothing after that; whoever is notified of a close has all that the peer
+/// sent, and gets no more of it; sessions pair both ways and don't go back; whoever is met was not
+/// closed before the paired session went up; no pending hunt names a living peer, over a link or on
+/// its own node; each attach that is owed a notification is of a living peer, and its holder is
+/// open; over a quiet link nothing vanishes; and links that rest are still.
 pub fn runs_keep_promises()
     ensures { RunsKeepPromises }
 {}
