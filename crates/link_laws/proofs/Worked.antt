@@ -18,6 +18,7 @@ use Rattle.journal.specs.declared.head.SentTo.TheVariants.{Link}
 use Rattle.journal.proofs.Playing.{at_rest, made, note, at, ref, opens, closes, takes, ends}
 use Rattle.link_laws.specs.Brought.{nothing, goes_up, arrives, meets, parts}
 use Rattle.link_laws.specs.Laws.{IsLegal}
+use Rattle.link_laws.specs.NotifiedCloses.{HasAllOf, IsOfUntold, was_told_closed}
 use Rattle.link_laws.specs.Runs.{IsBetweenLiving}
 use Rattle.link_laws.specs.Still.{whole as whole_link, IsStill}
 use Rattle.link_laws.proofs.Playing.{acts, l, a, b, c, pump, there, back, posts, up, brings}
@@ -233,6 +234,26 @@ told_after_all_data = refl
 
 attached_between_living : AllByRecursion (IsBetweenLiving one_answered 2) (owed one_answered 2)
 attached_between_living = (record { holder = refl; peer = refl }, tt)
+
+close_told_whole : HasAllOf told_of_close b (There l x11 a)
+close_told_whole = refl
+
+close_was_told : was_told_closed told_of_close b (There l x11 a) ≡ true
+close_was_told = refl
+
+none_arrives_after : IsOfUntold told_of_close (Arrived b (There l x11 a) (note 5 [])) → ⊥
+none_arrives_after is = cc
+
+-- told before the last signal arrived
+abbrev told_early : List Step
+told_early =
+    there (gone_at 2 x11 a ∷ Notified b (There l x11 a) (note 252 (0 ∷ [])) (ref 12)
+    reasons.Closed ∷ [])
+    ∷ there (Arrived b (There l x11 a) (note 3 []) ∷ [])
+    ∷ there (Arrived b (There l x11 a) (note 2 []) ∷ []) ∷ closed_behind_data
+
+early_lacks_one : HasAllOf told_early b (There l x11 a) → ⊥
+early_lacks_one is = cc
 
 told_once : owed told_of_close 2 ≡ []
 told_once = refl

@@ -111,10 +111,11 @@ pub record KeepsPromises (shape : Shape) (P : List Step) (links : Links) : Type 
   -- arrivals are fronts of what was sent, at an endpoint that is still open complete once the
   -- close was told, and then over
   pub carried : AllCarried shape P
-  -- so they are from any peer at any endpoint, complete when its close is notified, and never
-  -- followed by more
+  -- so they are at any endpoint from any peer
   pub fronts : AllGotFronts P
+  -- complete when its close is notified
   pub told_whole : AllToldWhole P
+  -- and never followed by more
   pub told_last : NeverAfterTold P
   -- sessions pair both ways and go forward, and whoever is met was not closed before the paired
   -- session went up
