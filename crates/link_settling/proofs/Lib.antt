@@ -1,6 +1,7 @@
 pub mod Sent
 pub mod Steps
 pub mod Counting
+mod Weighing
 pub mod Lowering
 pub mod Inducting
 pub mod Ending
@@ -12,6 +13,10 @@ pub mod Flowing
 pub mod Ordering
 pub mod Hearing
 pub mod Ticking
+pub mod Fresh
 pub mod Left
+pub mod Turns
 pub mod Settling
+pub mod Moving
+pub mod Rounds
 pub mod Worked

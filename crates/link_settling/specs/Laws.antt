@@ -1,5 +1,5 @@
 -- That a link settles.
-use Rattle.std.specs.Prelude.{◌≡◌, ℕ, suc, ◌<◌, ◌≤◌, true, false, IsSome, List, [], ◌∷◌, length}
+use Rattle.std.specs.Prelude.{◌≡◌, ℕ, suc, ◌+◌, ◌<◌, ◌≤◌, true, false, IsSome, List, [], ◌∷◌, length}
 use Rattle.linx_base.specs.Frames.{IsMessage}
 use Rattle.linx_base.specs.Sides.{other_of}
 use Rattle.linx_base.specs.declared.frame.Message.{Message}
@@ -10,8 +10,8 @@ use Rattle.carrier.specs.Events.{LinkState, delivered, flight_from, half_of, is_
 use Rattle.carrier.specs.Events.{handed_by, ticked_at}
 use Rattle.carrier.specs.Keeping.{KeepsLink}
 use Rattle.carrier.specs.Laws.{IsComplete}
-use Rattle.carrier.specs.declared.handed.Handed.TheVariants.{WentUp}
-use Rattle.link_settling.specs.Runs.{IsEmpty, SettlesIn}
+use Rattle.carrier.specs.declared.handed.Handed.TheVariants.{Got, WentUp}
+use Rattle.link_settling.specs.Runs.{IsEmpty, SettlesIn, SettlesInRounds}
 use Rattle.link_settling.specs.Measure.{Falls, measure}
 
 -- A LINK SETTLES IN SIX TICKS, whatever happened to it
@@ -37,6 +37,10 @@ pub record LinksSettle : Type 0 where
       (side : Side) (v : LinkState) → KeepsLink v → IsEmpty v → SettlesIn 0 side v
       → IsComplete v
 
+-- AND IN SIX ROUNDS OR MORE, in each of which both sides tick once, whichever is the first
+abbrev pub LinksSettleInRounds : Type 0
+LinksSettleInRounds = (n : ℕ) (v : LinkState) → 6 ≤ n → KeepsLink v → SettlesInRounds n v
+
 -- the first packet from each of these sides comes, one after the other
 abbrev pub AreInFlight : LinkState → List Side → Type 0
 AreInFlight v [] = Unit {0}
@@ -47,22 +51,32 @@ abbrev pub come_all : LinkState → List Side → LinkState
 come_all v [] = v
 come_all v (from ∷ sides) = come_all (delivered from 0 false v) sides
 
--- WITHOUT TICKS AND OFFERS ALL PACKETS IN FLIGHT COME TO AN END
-pub record DeliveriesEnd : Type 0 where
+-- WITHOUT TICKS AND OFFERS ALL PACKETS IN FLIGHT COME TO AN END, whatever the messages weigh
+pub record DeliveriesEnd (weight : Message → ℕ) : Type 0 where
   -- a packet that comes and leaves its place, whichever that is, lowers the measure
   pub falls :
       (from : Side) (k : ℕ) (v : LinkState) → KeepsLink v → k < length (flight_from from v)
-      → Falls (measure (delivered from k false v)) (measure v)
+      → Falls (measure weight (delivered from k false v)) (measure weight v)
   -- one that takes an end up lowers the first number
   pub goes_up :
       (from : Side) (k : ℕ) (session peer : Session) (v : LinkState) → KeepsLink v
       → handed_by from k v ≡ WentUp session peer
-      → (measure (delivered from k false v)).connecting < (measure v).connecting
+      → (measure weight (delivered from k false v)).connecting < (measure weight v).connecting
+  -- and a message that is handed up is no longer due
+  pub handed :
+      (from : Side) (k : ℕ) (m : Message) (v : LinkState) → KeepsLink v
+      → k < length (flight_from from v) → handed_by from k v ≡ Got m
+      → (measure weight (delivered from k false v)).due + weight m ≤ (measure weight v).due
   -- an offer leaves the first two numbers, those of connections and of ends that are up
   pub offered :
       (to : Side) (m : Message) (v : LinkState) → KeepsLink v
-      → ((measure (offered_to to m v)).connecting ≡ (measure v).connecting)
-      × ((measure (offered_to to m v)).up ≡ (measure v).up)
+      → ((measure weight (offered_to to m v)).connecting ≡ (measure weight v).connecting)
+      × ((measure weight (offered_to to m v)).up ≡ (measure weight v).up)
+  -- and its message is due
+  pub is_due :
+      (to : Side) (m : Message) (v : LinkState) → IsSome (peer_of (half_of to v).end)
+      → IsMessage m → KeepsLink v
+      → (measure weight (offered_to to m v)).due ≤ (measure weight v).due + weight m
   -- so not more than so many packets come
   pub bounded :
       (v : LinkState) → KeepsLink v

@@ -36,13 +36,25 @@ moved_all v (m ∷ ms) = moved_all (moved v m) ms
 abbrev pub IsEmpty : LinkState → Type 0
 IsEmpty v = (v.there ≡ []) × (v.back ≡ [])
 
--- A LINK SETTLES IN N TICKS, the next of which is of this side: whatever is offered, once all
--- packets have come the side may tick, then all packets come again, then the other side may tick,
--- and so on; after n ticks, once all packets have come, the link is quiet
+-- ONCE NOTHING IS IN FLIGHT: whatever is offered, and once all packets have come, this holds
+abbrev pub OnceEmpty : LinkState → (LinkState → Type 0) → Type 0
+OnceEmpty v holds =
+    (moves : List Move) → MayAllBe v moves → IsEmpty (moved_all v moves)
+    → holds (moved_all v moves)
+
+-- A LINK SETTLES IN N TICKS, the next of which is of this side: once nothing is in flight the side
+-- may tick, then, once nothing is again, the other side may, and so on; after n ticks, once nothing
+-- is in flight, the link is quiet
 unfoldable pub SettlesIn : ℕ → Side → LinkState → Type 0
-SettlesIn zero side v =
-    (moves : List Move) → MayAllBe v moves → IsEmpty (moved_all v moves)
-    → is_quiet (moved_all v moves) ≡ true
+SettlesIn zero side v = OnceEmpty v (λ w. is_quiet w ≡ true)
 SettlesIn (suc n) side v =
-    (moves : List Move) → MayAllBe v moves → IsEmpty (moved_all v moves)
-    → SettlesIn n (other_of side) (ticked_at side (moved_all v moves))
+    OnceEmpty v (λ w. SettlesIn n (other_of side) (ticked_at side w))
+
+-- IT SETTLES IN N ROUNDS, in each of which both sides tick once, whichever is the first this time:
+-- once nothing is in flight a side may tick, then, once nothing is again, the other side may, and
+-- so on; after n rounds, once nothing is in flight, the link is quiet
+unfoldable pub SettlesInRounds : ℕ → LinkState → Type 0
+SettlesInRounds zero v = OnceEmpty v (λ w. is_quiet w ≡ true)
+SettlesInRounds (suc n) v =
+    OnceEmpty v (λ w. (side : Side) → OnceEmpty (ticked_at side w) (λ x.
+    SettlesInRounds n (ticked_at (other_of side) x)))
