@@ -4,8 +4,8 @@ use Rattle.std.specs.Prelude.{if◌then◌else◌}
 use Rattle.std.specs.List.{list_all}
 use Rattle.std.specs.Str.{bytes_eq}
 use Rattle.linx_base.specs.Verdicts.{fits_verdict}
-use Rattle.script_words.specs.declared.bad_kind.BadKind.{BadKind}
-use Rattle.script_words.specs.declared.bad_kind.BadKind.TheVariants.{BadShape, UnknownWord}
+use Rattle.script_words.specs.declared.fault.Fault.{Fault}
+use Rattle.script_words.specs.Faults.{bad_shape, unknown_word}
 use Rattle.script_words.specs.declared.declaration.Declaration.{Declaration}
 use Rattle.script_words.specs.declared.declaration.Declaration.TheVariants.{Node, Link, Plan, Actor}
 use Rattle.script_words.specs.Gives.{◌>>=◌, made}
@@ -14,7 +14,7 @@ use Rattle.script_words.specs.Limits.{piece_unsaid}
 use Rattle.script_words.specs.Words.{alone}
 use Rattle.script_words.specs.Numbers.{is_within, within}
 use Rattle.script_words.specs.Names.{name_of, one_name_of}
-use Rattle.script_words.specs.Verdicts.{side_in, verdicts_of}
+use Rattle.script_words.specs.Verdicts.{side_in, some_verdicts_of}
 
 -- a window of 1 to 256, and a piece of 64 to 8,192
 abbrev pub has_link_size : ℕ → ℕ → Bool
@@ -30,7 +30,7 @@ is_in_range (Actor name node) = true
 
 -- a size behind its word, if the word stands here, and the words behind it
 unfoldable pub size_behind : List ℕ → ℕ → ℕ → ℕ → List (List ℕ)
-    → Result (ℕ × List (List ℕ)) BadKind
+    → Result (ℕ × List (List ℕ)) Fault
 size_behind keyword low high unsaid [] = Ok (unsaid, [])
 size_behind keyword low high unsaid (word ∷ []) = Ok (unsaid, word ∷ [])
 size_behind keyword low high unsaid (word ∷ value ∷ words) =
@@ -38,38 +38,38 @@ size_behind keyword low high unsaid (word ∷ value ∷ words) =
     else Ok (unsaid, word ∷ value ∷ words)
 
 -- `link NAME NODE NODE`, then perhaps `window W`, then perhaps `piece P`
-unfoldable pub link_of : List (List ℕ) → Result Declaration BadKind
-link_of (name ∷ first ∷ second ∷ words) = do
+unfoldable pub link_of : List ℕ → List (List ℕ) → Result Declaration Fault
+link_of statement (name ∷ first ∷ second ∷ words) = do
   n ← name_of name
   a ← name_of first
   b ← name_of second
   window ← size_behind (codes "window") 1 window_limit window_unsaid words
   piece ← size_behind (codes "piece") piece_least piece_limit piece_unsaid window.1
   alone piece.1 (Link n a b window.0 piece.0)
-link_of _ = Err BadShape
+link_of statement _ = Err (bad_shape statement)
 
 -- `plan LINK DIR V ..V`
-unfoldable pub plan_of : List (List ℕ) → Result Declaration BadKind
-plan_of (link ∷ direction ∷ verdict ∷ verdicts) = do
+unfoldable pub plan_of : List ℕ → List (List ℕ) → Result Declaration Fault
+plan_of statement (link ∷ direction ∷ verdicts) = do
   l ← name_of link
   from ← side_in direction
-  vs ← verdicts_of (verdict ∷ verdicts)
+  vs ← some_verdicts_of statement verdicts
   Ok (Plan l from vs)
-plan_of _ = Err BadShape
+plan_of statement _ = Err (bad_shape statement)
 
 -- `actor NAME NODE`
-unfoldable pub actor_of : List (List ℕ) → Result Declaration BadKind
-actor_of (name ∷ node ∷ []) = do
+unfoldable pub actor_of : List ℕ → List (List ℕ) → Result Declaration Fault
+actor_of statement (name ∷ node ∷ words) = do
   n ← name_of name
   m ← name_of node
-  Ok (Actor n m)
-actor_of _ = Err BadShape
+  alone words (Actor n m)
+actor_of statement _ = Err (bad_shape statement)
 
 -- the declaration of a line's first word and the words behind it
-unfoldable pub declaration_of : List ℕ → List (List ℕ) → Result Declaration BadKind
+unfoldable pub declaration_of : List ℕ → List (List ℕ) → Result Declaration Fault
 declaration_of first words =
-    if bytes_eq first (codes "node") then made Node (one_name_of words)
-    else if bytes_eq first (codes "link") then link_of words
-    else if bytes_eq first (codes "plan") then plan_of words
-    else if bytes_eq first (codes "actor") then actor_of words
-    else Err UnknownWord
+    if bytes_eq first (codes "node") then made Node (one_name_of first words)
+    else if bytes_eq first (codes "link") then link_of first words
+    else if bytes_eq first (codes "plan") then plan_of first words
+    else if bytes_eq first (codes "actor") then actor_of first words
+    else Err (unknown_word first)

@@ -3,13 +3,14 @@ use Rattle.std.specs.Prelude.{length, take, drop, replicate, codes, if◌then◌
 use Rattle.std.specs.Str.{bytes_eq}
 use Rattle.hex.specs.declared.error.FromHexError.{FromHexError}
 use Rattle.hex.specs.Hex.{decode_of, decode_sized}
-use Rattle.script_words.specs.declared.bad_kind.BadKind.{BadKind}
-use Rattle.script_words.specs.declared.bad_kind.BadKind.TheVariants.{BadShape}
+use Rattle.script_words.specs.declared.fault.Fault.{Fault}
+use Rattle.script_words.specs.Faults.{bad_shape}
 use Rattle.script_words.specs.declared.filling.Filling.{Filling}
 use Rattle.script_words.specs.declared.filling.Filling.TheVariants.{Bytes, Repeat}
 use Rattle.script_words.specs.Gives.{◌>>=◌}
-use Rattle.script_words.specs.Words.{cut_at, only}
-use Rattle.script_words.specs.Numbers.{any_number}
+use Rattle.script_words.specs.Words.{cut_at}
+use Rattle.script_words.specs.Limits.{number_limit}
+use Rattle.script_words.specs.Numbers.{number_in}
 
 -- the data bytes that a filling stands for
 abbrev pub data_of : Filling → List ℕ
@@ -29,41 +30,41 @@ abbrev pub after : List ℕ → List ℕ → Option (List ℕ)
 after text word =
     if bytes_eq (take (length text) word) text then Some (drop (length text) word) else None
 
--- at least one byte in hexadecimal digits
-abbrev pub some_bytes : Result (List ℕ) FromHexError → Result Filling BadKind
-some_bytes (Ok []) = Err BadShape
-some_bytes (Ok (b ∷ bs)) = Ok (Bytes (b ∷ bs))
-some_bytes (Err e) = Err BadShape
+-- at least one byte in hexadecimal digits, which stand in the word
+abbrev pub some_bytes : List ℕ → Result (List ℕ) FromHexError → Result Filling Fault
+some_bytes word (Ok []) = Err (bad_shape word)
+some_bytes word (Ok (b ∷ bs)) = Ok (Bytes (b ∷ bs))
+some_bytes word (Err e) = Err (bad_shape word)
 
--- one byte in hexadecimal digits
-abbrev pub one_byte : Result (List ℕ) FromHexError → Result ℕ BadKind
-one_byte (Ok []) = Err BadShape
-one_byte (Ok (b ∷ [])) = Ok b
-one_byte (Ok (b ∷ c ∷ bs)) = Err BadShape
-one_byte (Err e) = Err BadShape
+-- one byte in hexadecimal digits, which stand in the word
+abbrev pub one_byte : List ℕ → Result (List ℕ) FromHexError → Result ℕ Fault
+one_byte word (Ok []) = Err (bad_shape word)
+one_byte word (Ok (b ∷ [])) = Ok b
+one_byte word (Ok (b ∷ c ∷ bs)) = Err (bad_shape word)
+one_byte word (Err e) = Err (bad_shape word)
 
--- `N:HH`, cut at its colon
-abbrev pub repeated_of : Option (List ℕ × List ℕ) → Result Filling BadKind
-repeated_of None = Err BadShape
-repeated_of (Some parts) = do
-  count ← any_number parts.0
-  byte ← one_byte (decode_sized parts.1 1)
+-- `N:HH`, cut at its colon, which stands in the word
+abbrev pub repeated_of : List ℕ → Option (List ℕ × List ℕ) → Result Filling Fault
+repeated_of word None = Err (bad_shape word)
+repeated_of word (Some parts) = do
+  count ← number_in word parts.0 0 number_limit
+  byte ← one_byte word (decode_sized parts.1 1)
   Ok (Repeat count byte)
 
 -- what follows `hex:`, or else what follows `fill:`
-abbrev pub filling_in : Option (List ℕ) → Option (List ℕ) → Result Filling BadKind
-filling_in (Some digits) repeated = some_bytes (decode_of digits)
-filling_in None (Some repeated) = repeated_of (cut_at 58 repeated)
-filling_in None None = Err BadShape
+abbrev pub filling_in : List ℕ → Option (List ℕ) → Option (List ℕ) → Result Filling Fault
+filling_in word (Some digits) repeated = some_bytes word (decode_of digits)
+filling_in word None (Some repeated) = repeated_of word (cut_at 58 repeated)
+filling_in word None None = Err (bad_shape word)
 
 -- the data that a word spells
-unfoldable pub filling_of : List ℕ → Result Filling BadKind
-filling_of word = filling_in (after (codes "hex:") word) (after (codes "fill:") word)
+unfoldable pub filling_of : List ℕ → Result Filling Fault
+filling_of word = filling_in word (after (codes "hex:") word) (after (codes "fill:") word)
 
 -- the data that the words spell, at most so many bytes; none where there are no words
-abbrev pub data_in : ℕ → List (List ℕ) → Result Filling BadKind
+abbrev pub data_in : ℕ → List (List ℕ) → Result Filling Fault
 data_in most [] = Ok no_data
-data_in most (word ∷ words) = do
-  only_word ← only (word ∷ words)
-  bytes ← filling_of only_word
-  if fits_data most bytes then Ok bytes else Err BadShape
+data_in most (word ∷ more ∷ words) = Err (bad_shape more)
+data_in most (word ∷ []) = do
+  bytes ← filling_of word
+  if fits_data most bytes then Ok bytes else Err (bad_shape word)

@@ -4,8 +4,8 @@ use Rattle.std.specs.Prelude.{if◌then◌else◌}
 use Rattle.std.specs.Str.{bytes_eq}
 use Rattle.sigsel.specs.declared.sigsel.Sigsel.{Sigsel}
 use Rattle.sigsel.specs.declared.sigsel.Sigsel.TheVariants.{Any, Only, Not}
-use Rattle.script_words.specs.declared.bad_kind.BadKind.{BadKind}
-use Rattle.script_words.specs.declared.bad_kind.BadKind.TheVariants.{BadShape}
+use Rattle.script_words.specs.declared.fault.Fault.{Fault}
+use Rattle.script_words.specs.Faults.{bad_shape}
 use Rattle.script_words.specs.Gives.{◌>>=◌, made}
 use Rattle.script_words.specs.Limits.{filter_limit}
 use Rattle.script_words.specs.Words.{alone}
@@ -21,16 +21,16 @@ fits_filter Any = true
 fits_filter (Only numbers) = lists_few numbers
 fits_filter (Not numbers) = lists_few numbers
 
--- the numbers that a filter lists
-abbrev pub listed_of : List (List ℕ) → Result (List ℕ) BadKind
-listed_of words = do
+-- the numbers that a filter lists behind a word
+abbrev pub listed_of : List ℕ → List (List ℕ) → Result (List ℕ) Fault
+listed_of word words = do
   numbers ← numbers_of words
-  if lists_few numbers then Ok numbers else Err BadShape
+  if lists_few numbers then Ok numbers else Err (bad_shape word)
 
--- `any`, or numbers, or `not` and numbers
-unfoldable pub filter_of : List (List ℕ) → Result Sigsel BadKind
-filter_of [] = Err BadShape
-filter_of (first ∷ words) =
+-- `any`, or numbers, or `not` and numbers, behind the statement
+unfoldable pub filter_of : List ℕ → List (List ℕ) → Result Sigsel Fault
+filter_of statement [] = Err (bad_shape statement)
+filter_of statement (first ∷ words) =
     if bytes_eq first (codes "any") then alone words Any
-    else if bytes_eq first (codes "not") then made Not (listed_of words)
-    else made Only (listed_of (first ∷ words))
+    else if bytes_eq first (codes "not") then made Not (listed_of first words)
+    else made Only (listed_of statement (first ∷ words))

@@ -1,4 +1,5 @@
 pub mod Limits
+pub mod Faults
 pub mod Failures
 pub mod Gives
 pub mod Lines

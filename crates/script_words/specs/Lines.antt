@@ -2,8 +2,9 @@ use Rattle.std.specs.Prelude.{ℕ, Bool, false, not, ◌&&◌, ◌||◌, ◌==�
 use Rattle.std.specs.Prelude.{Err, List, [], ◌∷◌, length, filter, take_while, if◌then◌else◌}
 use Rattle.std.specs.List.{list_all, onto_first, slice_split}
 use Rattle.std.specs.Io.BufRead.{strip_last}
-use Rattle.script_words.specs.declared.bad_kind.BadKind.{BadKind}
+use Rattle.script_words.specs.declared.fault.Fault.{Fault}
 use Rattle.script_words.specs.declared.bad_kind.BadKind.TheVariants.{LineTooLong, BadByte}
+use Rattle.script_words.specs.Faults.{bad}
 use Rattle.script_words.specs.Limits.{line_limit}
 
 -- the lines of a text, each with its line feed where it has one
@@ -31,12 +32,12 @@ words_of text =
     (filter (λ word. not (length word == 0)) (slice_split is_space text))
 
 -- the words of a text, without the carriage return at its end
-abbrev pub words_in_text : List ℕ → Result (List (List ℕ)) BadKind
+abbrev pub words_in_text : List ℕ → Result (List (List ℕ)) Fault
 words_in_text text =
-    if nat_lt line_limit (length text) then Err LineTooLong
+    if nat_lt line_limit (length text) then Err (bad LineTooLong [])
     else if list_all is_plain (strip_last 13 text) then Ok (words_of (strip_last 13 text))
-    else Err BadByte
+    else Err (bad BadByte [])
 
 -- the words of a line, without the line feed at its end
-unfoldable pub words_in : List ℕ → Result (List (List ℕ)) BadKind
+unfoldable pub words_in : List ℕ → Result (List (List ℕ)) Fault
 words_in line = words_in_text (strip_last 10 line)

@@ -1,3 +1,6 @@
+ghost use Rattle.std.specs.Prelude.{◌≡◌, ◌≤◌, length};
+ghost use Rattle.script_words.specs.Failures.{phrase_of};
+
 use std::fmt;
 
 /// What is wrong with a line. Where several hold, it is the first of these.
@@ -23,23 +26,32 @@ pub enum BadKind {
     Unfinished,
 }
 
+impl BadKind {
+    /// What is wrong, in words.
+    pub fn phrase(self) -> &'static str
+        ensures phrase { result.now ≡ phrase_of self }
+        ensures short { length result.now ≤ 62 }
+    {
+        match self {
+            BadKind::ScriptTooLong => "the script is longer than 1,048,576 bytes",
+            BadKind::LineTooLong => "the line is longer than 4,096 bytes",
+            BadKind::BadByte => "the line has a byte that is no printable character",
+            BadKind::UnknownWord => "no statement begins with this word here",
+            BadKind::BadShape => "a word is wrong, missing or one too many",
+            BadKind::UnknownName => "no node or link has this name here",
+            BadKind::TwiceNamed => "this name stands twice",
+            BadKind::OverLimit => "this is more than a script may have",
+            BadKind::Unfinished => "an `end` is missing behind this line",
+        }
+    }
+}
+
 impl fmt::Display for BadKind {
     ghost use Rattle.std.specs.Prelude.{Some};
-    ghost use Rattle.script_words.specs.Failures.{kind_text};
 
-    ghost output = { λ kind. Some (kind_text kind) };
+    ghost output = { λ kind. Some (phrase_of kind) };
 
     fn fmt<W: fmt::Write>(&self, f: &mut fmt::Formatter<W>) -> fmt::Result {
-        f.write_str(match self {
-            BadKind::ScriptTooLong => "the script is too long",
-            BadKind::LineTooLong => "the line is too long",
-            BadKind::BadByte => "a byte that isn't printable",
-            BadKind::UnknownWord => "no statement begins so here",
-            BadKind::BadShape => "not the words of the statement",
-            BadKind::UnknownName => "a name that isn't declared here",
-            BadKind::TwiceNamed => "a name that stands twice",
-            BadKind::OverLimit => "over a limit",
-            BadKind::Unfinished => "a block isn't ended",
-        })
+        f.write_str(self.phrase())
     }
 }

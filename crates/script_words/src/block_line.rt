@@ -37,7 +37,7 @@ impl ActorLine {
         ensures sized { IfOk result (λ l. is_sized_in_actor l ≡ true) }
     {
         if is_text(first, b"repeat") {
-            let times = number_within(only(words)?, 1, COPIES_MOST)?;
+            let times = number_within(only(first, words)?, 1, COPIES_MOST)?;
             return Ok(ActorLine::Repeat(times));
         }
         if is_text(first, b"end") {

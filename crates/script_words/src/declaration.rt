@@ -4,10 +4,10 @@ ghost use Rattle.script_words.specs.Numbers.{is_within};
 ghost use Rattle.script_words.specs.Declaration.{size_behind, link_of, plan_of, actor_of};
 ghost use Rattle.script_words.specs.Declaration.{declaration_of, is_in_range};
 
-use crate::line_error::{BAD_SHAPE, LineError, UNKNOWN_WORD};
+use crate::line_error::{LineError, bad_shape, unknown_word};
 use crate::names::{name, one_name};
 use crate::numbers::number_within;
-use crate::verdicts::{Verdicts, side, verdicts};
+use crate::verdicts::{Verdicts, side, some_verdicts};
 use crate::words::{alone, is_text};
 use linx_base::{Name, Side};
 use std::alloc::Global;
@@ -80,12 +80,12 @@ fn sized<'a, 'b>(
 }
 
 #[tactic(auto, unfolding(crate::specs::Declaration::link_of))]
-fn link(alloc: Global, words: &[&[u8]]) -> Result<Declaration, LineError>
-    ensures gives { Gives (λ d. d) result (link_of (map (λ w. w.now) words.now)) }
+fn link(alloc: Global, statement: &[u8], words: &[&[u8]]) -> Result<Declaration, LineError>
+    ensures gives { Gives (λ d. d) result (link_of statement.now (map (λ w. w.now) words.now)) }
     ensures range { IfOk result (λ d. is_in_range d ≡ true) }
 {
     let [link, first, second, rest @ ..] = words else {
-        return Err(BAD_SHAPE);
+        return Err(bad_shape(statement));
     };
     let link = name(alloc, link)?;
     let first = name(alloc, first)?;
@@ -103,19 +103,16 @@ fn link(alloc: Global, words: &[&[u8]]) -> Result<Declaration, LineError>
 }
 
 #[tactic(auto, unfolding(crate::specs::Declaration::plan_of))]
-fn plan(alloc: Global, words: &[&[u8]]) -> Result<Declaration, LineError>
-    ensures gives { Gives (λ d. d) result (plan_of (map (λ w. w.now) words.now)) }
+fn plan(alloc: Global, statement: &[u8], words: &[&[u8]]) -> Result<Declaration, LineError>
+    ensures gives { Gives (λ d. d) result (plan_of statement.now (map (λ w. w.now) words.now)) }
     ensures range { IfOk result (λ d. is_in_range d ≡ true) }
 {
     let [link, direction, planned @ ..] = words else {
-        return Err(BAD_SHAPE);
+        return Err(bad_shape(statement));
     };
-    if planned.is_empty() {
-        return Err(BAD_SHAPE);
-    }
     let link = name(alloc, link)?;
     let from = side(direction)?;
-    let verdicts = verdicts(alloc, planned)?;
+    let verdicts = some_verdicts(alloc, statement, planned)?;
     Ok(Declaration::Plan {
         link,
         from,
@@ -124,16 +121,16 @@ fn plan(alloc: Global, words: &[&[u8]]) -> Result<Declaration, LineError>
 }
 
 #[tactic(auto, unfolding(crate::specs::Declaration::actor_of))]
-fn actor(alloc: Global, words: &[&[u8]]) -> Result<Declaration, LineError>
-    ensures gives { Gives (λ d. d) result (actor_of (map (λ w. w.now) words.now)) }
+fn actor(alloc: Global, statement: &[u8], words: &[&[u8]]) -> Result<Declaration, LineError>
+    ensures gives { Gives (λ d. d) result (actor_of statement.now (map (λ w. w.now) words.now)) }
     ensures range { IfOk result (λ d. is_in_range d ≡ true) }
 {
-    let [actor, node] = words else {
-        return Err(BAD_SHAPE);
+    let [actor, node, rest @ ..] = words else {
+        return Err(bad_shape(statement));
     };
     let actor = name(alloc, actor)?;
     let node = name(alloc, node)?;
-    Ok(Declaration::Actor { name: actor, node })
+    alone(rest, Declaration::Actor { name: actor, node })
 }
 
 impl Declaration {
@@ -145,18 +142,18 @@ impl Declaration {
         ensures range { IfOk result (λ d. is_in_range d ≡ true) }
     {
         if is_text(first, b"node") {
-            let node = one_name(alloc, words)?;
+            let node = one_name(alloc, first, words)?;
             return Ok(Declaration::Node(node));
         }
         if is_text(first, b"link") {
-            return link(alloc, words);
+            return link(alloc, first, words);
         }
         if is_text(first, b"plan") {
-            return plan(alloc, words);
+            return plan(alloc, first, words);
         }
         if is_text(first, b"actor") {
-            return actor(alloc, words);
+            return actor(alloc, first, words);
         }
-        Err(UNKNOWN_WORD)
+        Err(unknown_word(first))
     }
 }

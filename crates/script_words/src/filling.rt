@@ -5,9 +5,9 @@ ghost use Rattle.script_words.specs.Words.{cut_at};
 ghost use Rattle.script_words.specs.Filling.{data_of, fits_data, after, some_bytes, one_byte};
 ghost use Rattle.script_words.specs.Filling.{repeated_of, filling_of, data_in};
 
-use crate::line_error::{BAD_SHAPE, LineError};
-use crate::numbers::any_number;
-use crate::words::{cut, only};
+use crate::line_error::{LineError, bad_shape};
+use crate::numbers::number_in;
+use crate::words::cut;
 use hex::FromHexError;
 use linx_base::{Blob, NoMemory, TryCopy};
 use std::alloc::Global;
@@ -27,42 +27,42 @@ fn behind<'a>(word: &'a [u8], text: &[u8]) -> Option<&'a [u8]>
     word.strip_prefix(text)
 }
 
-/// At least one byte in hexadecimal digits.
-fn hex_bytes(alloc: Global, digits: &[u8]) -> Result<Filling, LineError>
-    ensures { Gives (λ f. f) result (some_bytes (decode_of digits.now)) }
+/// At least one byte in hexadecimal digits, which stand in the word.
+fn hex_bytes(alloc: Global, word: &[u8], digits: &[u8]) -> Result<Filling, LineError>
+    ensures { Gives (λ f. f) result (some_bytes word.now (decode_of digits.now)) }
 {
     match hex::decode(alloc, digits) {
         Ok(bytes) => {
             if bytes.is_empty() {
-                return Err(BAD_SHAPE);
+                return Err(bad_shape(word));
             }
             Ok(Filling::Bytes(Blob::shared(bytes)?))
         }
         Err(FromHexError::OutOfMemory) => Err(LineError::NoMemory),
-        Err(_) => Err(BAD_SHAPE),
+        Err(_) => Err(bad_shape(word)),
     }
 }
 
-/// One byte in hexadecimal digits.
-fn hex_byte(digits: &[u8]) -> Result<u8, LineError>
-    ensures { Gives (λ b. b) result (one_byte (decode_sized digits.now 1)) }
+/// One byte in hexadecimal digits, which stand in the word.
+fn hex_byte(word: &[u8], digits: &[u8]) -> Result<u8, LineError>
+    ensures { Gives (λ b. b) result (one_byte word.now (decode_sized digits.now 1)) }
 {
     let mut byte = [0u8; 1];
     match hex::decode_to_slice(digits, &mut byte) {
         Ok(()) => Ok(byte[0]),
-        Err(_) => Err(BAD_SHAPE),
+        Err(_) => Err(bad_shape(word)),
     }
 }
 
-/// `N:HH`, so many bytes of one value.
-fn repeated(word: &[u8]) -> Result<Filling, LineError>
-    ensures { Gives (λ f. f) result (repeated_of (cut_at 58 word.now)) }
+/// `N:HH`, so many bytes of one value, which stands in the word.
+fn repeated(word: &[u8], part: &[u8]) -> Result<Filling, LineError>
+    ensures { Gives (λ f. f) result (repeated_of word.now (cut_at 58 part.now)) }
 {
-    match cut(word, b':') {
-        None => Err(BAD_SHAPE),
+    match cut(part, b':') {
+        None => Err(bad_shape(word)),
         Some((count, byte)) => {
-            let count = any_number(count)?;
-            let byte = hex_byte(byte)?;
+            let count = number_in(word, count, 0, u32::MAX)?;
+            let byte = hex_byte(word, byte)?;
             Ok(Filling::Repeat { count, byte })
         }
     }
@@ -74,10 +74,10 @@ fn spelled(alloc: Global, word: &[u8]) -> Result<Filling, LineError>
     ensures { Gives (λ f. f) result (filling_of word.now) }
 {
     match behind(word, b"hex:") {
-        Some(digits) => hex_bytes(alloc, digits),
+        Some(digits) => hex_bytes(alloc, word, digits),
         None => match behind(word, b"fill:") {
-            Some(rest) => repeated(rest),
-            None => Err(BAD_SHAPE),
+            Some(rest) => repeated(word, rest),
+            None => Err(bad_shape(word)),
         },
     }
 }
@@ -110,10 +110,11 @@ impl Filling {
     {
         match words {
             [] => Ok(Filling::EMPTY),
-            _ => {
-                let bytes = spelled(alloc, only(words)?)?;
+            [_word, more, ..] => Err(bad_shape(more)),
+            [word] => {
+                let bytes = spelled(alloc, word)?;
                 if bytes.len() > most {
-                    return Err(BAD_SHAPE);
+                    return Err(bad_shape(word));
                 }
                 Ok(bytes)
             }

@@ -1,7 +1,9 @@
 ghost use Rattle.std.specs.Prelude.{◌≡◌};
+ghost use Rattle.script_words.specs.Faults.{bad_shape, unknown_word};
 ghost use Rattle.script_words.specs.declared.line_error.LineError.TheVariants as errors;
 
 use crate::bad_kind::BadKind;
+use crate::fault::Fault;
 use linx_base::NoMemory;
 use std::alloc::AllocError;
 use std::error::Error;
@@ -10,15 +12,23 @@ use std::fmt;
 /// Why a line wasn't taken.
 #[derive(Clone, Copy, Debug, PartialEq, Eq, Hash)]
 pub enum LineError {
-    Bad(BadKind),
+    Bad(Fault),
     NoMemory,
 }
 
-/// The words' number, spelling or range isn't that of the statement.
-pub(crate) const BAD_SHAPE: LineError = LineError::Bad(BadKind::BadShape);
+/// The word isn't as the statement needs it.
+pub(crate) fn bad_shape(word: &[u8]) -> LineError
+    ensures { result ≡ errors.Bad (bad_shape word.now) }
+{
+    LineError::Bad(Fault::about(BadKind::BadShape, word))
+}
 
-/// The first word is no statement of this place.
-pub(crate) const UNKNOWN_WORD: LineError = LineError::Bad(BadKind::UnknownWord);
+/// The word begins no statement of this place.
+pub(crate) fn unknown_word(word: &[u8]) -> LineError
+    ensures { result ≡ errors.Bad (unknown_word word.now) }
+{
+    LineError::Bad(Fault::about(BadKind::UnknownWord, word))
+}
 
 impl fmt::Display for LineError {
     ghost use Rattle.std.specs.Prelude.{Some};
@@ -28,7 +38,7 @@ impl fmt::Display for LineError {
 
     fn fmt<W: fmt::Write>(&self, f: &mut fmt::Formatter<W>) -> fmt::Result {
         match self {
-            LineError::Bad(kind) => write!(f, "{kind}"),
+            LineError::Bad(fault) => write!(f, "{fault}"),
             LineError::NoMemory => f.write_str("out of memory"),
         }
     }

@@ -8,6 +8,7 @@ ghost use Rattle.script_words.specs.Lines.{lines_of, is_space, is_plain, is_comm
 ghost use Rattle.script_words.specs.Lines.{words_in};
 
 use crate::bad_kind::BadKind;
+use crate::fault::Fault;
 use crate::line_error::LineError;
 use crate::words::place_of_byte;
 use std::alloc::{AllocError, Global};
@@ -85,11 +86,11 @@ pub fn words_of_line(alloc: Global, line: &[u8]) -> Result<Vec<&[u8]>, LineError
 {
     let text = without_last(line, b'\n');
     if text.len() > LINE_MOST {
-        return Err(LineError::Bad(BadKind::LineTooLong));
+        return Err(LineError::Bad(Fault::of(BadKind::LineTooLong)));
     }
     let text = without_last(text, b'\r');
     if !are_plain(text) {
-        return Err(LineError::Bad(BadKind::BadByte));
+        return Err(LineError::Bad(Fault::of(BadKind::BadByte)));
     }
     Ok(words(alloc, text)?)
 }

@@ -7,7 +7,7 @@ ghost use Rattle.script_words.specs.NamedCommand.{is_sized};
 use crate::command::Command;
 use crate::filling::Filling;
 use crate::filter::filter;
-use crate::line_error::{BAD_SHAPE, LineError, UNKNOWN_WORD};
+use crate::line_error::{LineError, bad_shape, unknown_word};
 use crate::names::{kept_name, name, one_name};
 use crate::numbers::{any_number, number_or};
 use crate::route::Route;
@@ -45,12 +45,12 @@ pub enum NamedCommand {
 }
 
 #[tactic(auto, unfolding(crate::specs::NamedCommand::send_of))]
-fn send(alloc: Global, words: &[&[u8]]) -> Result<NamedCommand, LineError>
-    ensures gives { Gives (λ c. c) result (send_of (map (λ w. w.now) words.now)) }
+fn send(alloc: Global, statement: &[u8], words: &[&[u8]]) -> Result<NamedCommand, LineError>
+    ensures gives { Gives (λ c. c) result (send_of statement.now (map (λ w. w.now) words.now)) }
     ensures sized { IfOk result (λ c. is_sized c ≡ true) }
 {
     let [to, number, rest @ ..] = words else {
-        return Err(BAD_SHAPE);
+        return Err(bad_shape(statement));
     };
     let to = Target::of(alloc, to)?;
     let number = any_number(number)?;
@@ -59,12 +59,12 @@ fn send(alloc: Global, words: &[&[u8]]) -> Result<NamedCommand, LineError>
 }
 
 #[tactic(auto, unfolding(crate::specs::NamedCommand::hunt_of))]
-fn hunt(alloc: Global, words: &[&[u8]]) -> Result<NamedCommand, LineError>
-    ensures gives { Gives (λ c. c) result (hunt_of (map (λ w. w.now) words.now)) }
+fn hunt(alloc: Global, statement: &[u8], words: &[&[u8]]) -> Result<NamedCommand, LineError>
+    ensures gives { Gives (λ c. c) result (hunt_of statement.now (map (λ w. w.now) words.now)) }
     ensures sized { IfOk result (λ c. is_sized c ≡ true) }
 {
     let [path, rest @ ..] = words else {
-        return Err(BAD_SHAPE);
+        return Err(bad_shape(statement));
     };
     let route = Route::of(alloc, path)?;
     let (number, rest) = number_or(HUNT_SIGNAL, rest);
@@ -77,12 +77,12 @@ fn hunt(alloc: Global, words: &[&[u8]]) -> Result<NamedCommand, LineError>
 }
 
 #[tactic(auto, unfolding(crate::specs::NamedCommand::attach_command_of))]
-fn attach(alloc: Global, words: &[&[u8]]) -> Result<NamedCommand, LineError>
-    ensures gives { Gives (λ c. c) result (attach_command_of (map (λ w. w.now) words.now)) }
+fn attach(alloc: Global, statement: &[u8], words: &[&[u8]]) -> Result<NamedCommand, LineError>
+    ensures gives { Gives (λ c. c) result (attach_command_of statement.now (map (λ w. w.now) words.now)) }
     ensures sized { IfOk result (λ c. is_sized c ≡ true) }
 {
     let [to, reference, rest @ ..] = words else {
-        return Err(BAD_SHAPE);
+        return Err(bad_shape(statement));
     };
     let to = Target::of(alloc, to)?;
     let r = name(alloc, reference)?;
@@ -104,18 +104,18 @@ fn layout_command(alloc: Global, first: &[u8], words: &[&[u8]]) -> Result<NamedC
     ensures sized { IfOk result (λ c. is_sized c ≡ true) }
 {
     if is_text(first, b"cut") {
-        return Ok(NamedCommand::Cut(one_name(alloc, words)?));
+        return Ok(NamedCommand::Cut(one_name(alloc, first, words)?));
     }
     if is_text(first, b"mend") {
-        return Ok(NamedCommand::Mend(one_name(alloc, words)?));
+        return Ok(NamedCommand::Mend(one_name(alloc, first, words)?));
     }
     if is_text(first, b"settle") {
-        return Ok(NamedCommand::Settle(one_name(alloc, words)?));
+        return Ok(NamedCommand::Settle(one_name(alloc, first, words)?));
     }
     if is_text(first, b"restart") {
-        return Ok(NamedCommand::Restart(one_name(alloc, words)?));
+        return Ok(NamedCommand::Restart(one_name(alloc, first, words)?));
     }
-    Err(UNKNOWN_WORD)
+    Err(unknown_word(first))
 }
 
 /// A command on what the actor has: its endpoint, the item taken last, its references and names.
@@ -125,22 +125,22 @@ fn own_command(alloc: Global, first: &[u8], words: &[&[u8]]) -> Result<NamedComm
     ensures sized { IfOk result (λ c. is_sized c ≡ true) }
 {
     if is_text(first, b"open") {
-        let endpoint = one_name(alloc, words)?;
+        let endpoint = one_name(alloc, first, words)?;
         return Ok(NamedCommand::Plain(Command::Open(endpoint)));
     }
     if is_text(first, b"close") {
         return alone(words, NamedCommand::Plain(Command::Close));
     }
     if is_text(first, b"forward") {
-        let to = Target::of(alloc, only(words)?)?;
+        let to = Target::of(alloc, only(first, words)?)?;
         return Ok(NamedCommand::Plain(Command::Forward(to)));
     }
     if is_text(first, b"detach") {
-        let reference = one_name(alloc, words)?;
+        let reference = one_name(alloc, first, words)?;
         return Ok(NamedCommand::Plain(Command::Detach(reference)));
     }
     if is_text(first, b"keep") {
-        let variable = kept_name(alloc, only(words)?)?;
+        let variable = kept_name(alloc, only(first, words)?)?;
         return Ok(NamedCommand::Plain(Command::Keep(variable)));
     }
     layout_command(alloc, first, words)
@@ -158,17 +158,17 @@ impl NamedCommand {
         ensures sized { IfOk result (λ c. is_sized c ≡ true) }
     {
         if is_text(first, b"send") {
-            return send(alloc, words);
+            return send(alloc, first, words);
         }
         if is_text(first, b"recv") {
-            let filter = filter(alloc, words)?;
+            let filter = filter(alloc, first, words)?;
             return Ok(NamedCommand::Plain(Command::Recv(filter)));
         }
         if is_text(first, b"hunt") {
-            return hunt(alloc, words);
+            return hunt(alloc, first, words);
         }
         if is_text(first, b"attach") {
-            return attach(alloc, words);
+            return attach(alloc, first, words);
         }
         own_command(alloc, first, words)
     }

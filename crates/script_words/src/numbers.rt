@@ -5,11 +5,11 @@ ghost use Rattle.std.specs.Char.{is_ascii_digit};
 ghost use Rattle.std.specs.List.{list_all};
 ghost use Rattle.script_words.specs.Limits.{digit_limit};
 ghost use Rattle.script_words.specs.Gives.{Gives};
-ghost use Rattle.script_words.specs.Numbers.{decimal_of, number_spelled, is_within, within};
+ghost use Rattle.script_words.specs.Numbers.{decimal_of, number_spelled, is_within, number_in, within};
 ghost use Rattle.script_words.specs.Numbers.{any_number};
 ghost use Rattle.script_words.specs.Numbers.{numbers_of, number_or};
 
-use crate::line_error::{BAD_SHAPE, LineError};
+use crate::line_error::{LineError, bad_shape};
 use linx_base::Sequence;
 use std::alloc::Global;
 
@@ -53,15 +53,23 @@ pub(crate) fn number(word: &[u8]) -> Option<u32>
     }
 }
 
+/// The number of a part of the word, in a range.
+pub(crate) fn number_in(word: &[u8], part: &[u8], low: u32, high: u32) -> Result<u32, LineError>
+    ensures gives { Gives (λ n. n) result (number_in word.now part.now low high) }
+    ensures within { IfOk result (λ n. is_within low high n ≡ true) }
+{
+    match number(part) {
+        Some(number) if low <= number && number <= high => Ok(number),
+        _ => Err(bad_shape(word)),
+    }
+}
+
 /// The word as a number in a range.
 pub(crate) fn number_within(word: &[u8], low: u32, high: u32) -> Result<u32, LineError>
     ensures gives { Gives (λ n. n) result (within low high word.now) }
     ensures within { IfOk result (λ n. is_within low high n ≡ true) }
 {
-    match number(word) {
-        Some(number) if low <= number && number <= high => Ok(number),
-        _ => Err(BAD_SHAPE),
-    }
+    number_in(word, word, low, high)
 }
 
 /// The word as a number.

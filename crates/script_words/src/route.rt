@@ -1,5 +1,5 @@
 use crate::line_error::LineError;
-use crate::names::name;
+use crate::names::{name, name_in};
 use crate::words::cut;
 use linx_base::Name;
 use std::alloc::Global;
@@ -28,8 +28,8 @@ impl Route {
                 Ok(Route::Local(name))
             }
             Some((link, behind)) => {
-                let link = name(alloc, link)?;
-                let name = name(alloc, behind)?;
+                let link = name_in(alloc, word, link)?;
+                let name = name_in(alloc, word, behind)?;
                 Ok(Route::Over { link, name })
             }
         }

@@ -5,9 +5,9 @@ ghost use Rattle.std.specs.List.{list_all};
 ghost use Rattle.linx_base.specs.Verdicts.{fits_verdict};
 ghost use Rattle.script_words.specs.Gives.{Gives};
 ghost use Rattle.script_words.specs.Verdicts.{side_in, swap_of, verdict_of};
-ghost use Rattle.script_words.specs.Verdicts.{verdicts_of};
+ghost use Rattle.script_words.specs.Verdicts.{verdicts_of, some_verdicts_of};
 
-use crate::line_error::{BAD_SHAPE, LineError};
+use crate::line_error::{LineError, bad_shape};
 use crate::words::is_text;
 use linx_base::{Sequence, Side, Verdict};
 use std::alloc::Global;
@@ -26,7 +26,7 @@ pub(crate) fn side(word: &[u8]) -> Result<Side, LineError>
     if is_text(word, b"<") {
         return Ok(Side::Second);
     }
-    Err(BAD_SHAPE)
+    Err(bad_shape(word))
 }
 
 /// `S1` to `S9`.
@@ -36,7 +36,7 @@ fn swap(word: &[u8]) -> Result<Verdict, LineError>
 {
     match word {
         [b'S', digit @ b'1'..=b'9'] => Ok(Verdict::Swap(*digit - b'0')),
-        _ => Err(BAD_SHAPE),
+        _ => Err(bad_shape(word)),
     }
 }
 
@@ -59,7 +59,7 @@ fn verdict(word: &[u8]) -> Result<Verdict, LineError>
 
 /// The words as verdicts.
 #[tactic(auto, using(crate::proofs::Lists::list_all_push))]
-pub(crate) fn verdicts(alloc: Global, words: &[&[u8]]) -> Result<Verdicts, LineError>
+fn verdicts(alloc: Global, words: &[&[u8]]) -> Result<Verdicts, LineError>
     ensures gives { Gives (λ v. v) result (verdicts_of (map (λ w. w.now) words.now)) }
     ensures fit { IfOk result (λ v. list_all fits_verdict v ≡ true) }
 {
@@ -69,4 +69,20 @@ pub(crate) fn verdicts(alloc: Global, words: &[&[u8]]) -> Result<Verdicts, LineE
         verdicts.push(planned)?;
     }
     Ok(verdicts)
+}
+
+/// The words behind that statement as verdicts, one at least.
+pub(crate) fn some_verdicts(
+    alloc: Global,
+    statement: &[u8],
+    words: &[&[u8]],
+) -> Result<Verdicts, LineError>
+    ensures gives { Gives (λ v. v) result
+        (some_verdicts_of statement.now (map (λ w. w.now) words.now)) }
+    ensures fit { IfOk result (λ v. list_all fits_verdict v ≡ true) }
+{
+    match words {
+        [] => Err(bad_shape(statement)),
+        _ => verdicts(alloc, words),
+    }
 }

@@ -5,7 +5,7 @@ ghost use Rattle.std.specs.Str.{bytes_eq};
 ghost use Rattle.script_words.specs.Gives.{Gives};
 ghost use Rattle.script_words.specs.Words.{cut_at, only, alone};
 
-use crate::line_error::{BAD_SHAPE, LineError};
+use crate::line_error::{LineError, bad_shape};
 
 /// Whether the word is this text.
 pub(crate) fn is_text(word: &[u8], text: &[u8]) -> bool
@@ -14,13 +14,14 @@ pub(crate) fn is_text(word: &[u8], text: &[u8]) -> bool
     word == text
 }
 
-/// The word, where it is the only one.
-pub(crate) fn only<'a>(words: &[&'a [u8]]) -> Result<&'a [u8], LineError>
-    ensures { Gives (λ w. w.now) result (only (map (λ w. w.now) words.now)) }
+/// The word, where it is the only one behind that statement.
+pub(crate) fn only<'a>(statement: &[u8], words: &[&'a [u8]]) -> Result<&'a [u8], LineError>
+    ensures { Gives (λ w. w.now) result (only statement.now (map (λ w. w.now) words.now)) }
 {
     match words {
         [word] => Ok(*word),
-        _ => Err(BAD_SHAPE),
+        [_word, more, ..] => Err(bad_shape(more)),
+        [] => Err(bad_shape(statement)),
     }
 }
 
@@ -30,7 +31,7 @@ pub(crate) fn alone<T: Drop>(words: &[&[u8]], value: T) -> Result<T, LineError>
 {
     match words {
         [] => Ok(value),
-        _ => Err(BAD_SHAPE),
+        [word, ..] => Err(bad_shape(word)),
     }
 }
 
