@@ -1,7 +1,7 @@
 -- the lines of a script, one after the other
 use Rattle.std.proofs.Common.{◌≡◌, ℕ, ◌+◌, ◌-◌, ◌≤◌, List, [], ◌∷◌, Result, Ok, Err, length, sym}
 use Rattle.std.proofs.Common.{subst, arith}
-use Rattle.script_words.specs.declared.bad_kind.BadKind.{BadKind}
+use Rattle.script_words.specs.declared.fault.Fault.{Fault}
 use Rattle.script_words.specs.declared.line_error.LineError.{LineError}
 use Rattle.script_words.specs.declared.line_error.LineError.TheVariants as errors
 use Rattle.script_words.specs.Gives.{Fails}
@@ -10,7 +10,7 @@ use Rattle.script_lang.specs.declared.reading.Reading.{Reading}
 use Rattle.script_lang.specs.Parts.{ScriptParts}
 use Rattle.script_lang.specs.Reading.{lined, finished, read_from, error_in, IsBadOf}
 
-module _ (r : Reading) (line : ℕ) (total : Result ScriptParts (ℕ × BadKind)) where
+module _ (r : Reading) (line : ℕ) (total : Result ScriptParts (ℕ × Fault)) where
   module _ (before : ℕ) (next : List ℕ) (rest : List (List ℕ)) where
     -- a good line, and then the rest
     goes_on : (s : Reading) → lined r before next ≡ Ok s
@@ -20,10 +20,10 @@ module _ (r : Reading) (line : ℕ) (total : Result ScriptParts (ℕ × BadKind)
     goes_on s good h = rw good at h
 
     -- a bad line
-    stops : (kind : BadKind) → lined r before next ≡ Err kind
-        → read_from r before line (next ∷ rest) ≡ total → total ≡ Err (line + 1, kind)
+    stops : (fault : Fault) → lined r before next ≡ Err fault
+        → read_from r before line (next ∷ rest) ≡ total → total ≡ Err (line + 1, fault)
     unfolding read_from
-    stops kind bad h = sym (rw bad at h)
+    stops fault bad h = sym (rw bad at h)
 
   -- no byte is left
   pub last_line : (before : ℕ) (rest : List ℕ) → length rest ≡ 0
@@ -52,5 +52,5 @@ module _ (r : Reading) (line : ℕ) (total : Result ScriptParts (ℕ × BadKind)
     pub bad_line : (error : LineError) → Fails error (lined r (length bytes - length rest) next)
         → IsBadOf total (error_in error (line + 1))
     bad_line errors.NoMemory bad = tt
-    bad_line (errors.Bad kind) bad =
-        stops (length bytes - length rest) next (lines_of after) kind bad cut_up
+    bad_line (errors.Bad fault) bad =
+        stops (length bytes - length rest) next (lines_of after) fault bad cut_up

@@ -4,8 +4,9 @@ use Rattle.std.proofs.Common.{Err, length, refl, arith}
 use Rattle.std.specs.Prelude.{sum_by, nat_lt}
 use Rattle.std.proofs.lemmas.Bool.{ltb-false}
 use Rattle.std.proofs.lemmas.List.Sums.{sum_by-cons}
-use Rattle.script_words.specs.declared.bad_kind.BadKind.{BadKind}
+use Rattle.script_words.specs.declared.fault.Fault.{Fault}
 use Rattle.script_words.specs.declared.bad_kind.BadKind.TheVariants.{ScriptTooLong}
+use Rattle.script_words.specs.Faults.{bad}
 use Rattle.script_words.specs.Gives.{◌>>=◌}
 use Rattle.script_words.specs.Lines.{lines_of, words_in}
 use Rattle.script_words.proofs.Cuts.{sum_by-lines_of}
@@ -14,8 +15,8 @@ use Rattle.script_lang.specs.Limits.{script_limit}
 use Rattle.script_lang.specs.Parts.{ScriptParts}
 use Rattle.script_lang.specs.Reading.{nothing_read, lined, worded, behind, read_from, script_of}
 
-within_limit : (long : Bool) (total : ℕ) (text : Result Reading BadKind) (s : Reading)
-    → nat_lt script_limit total ≡ long → cond long (Err ScriptTooLong) text ≡ Ok s
+within_limit : (long : Bool) (total : ℕ) (text : Result Reading Fault) (s : Reading)
+    → nat_lt script_limit total ≡ long → cond long (Err (bad ScriptTooLong [])) text ≡ Ok s
     → total ≤ script_limit
 within_limit true total text s is good = absurd cc
 within_limit false total text s is good = ltb-false script_limit total is
@@ -30,13 +31,13 @@ taken r s before line good =
 
 -- the rest of the lines, behind one
 module _ (before line : ℕ) (next : List ℕ) (rest : List (List ℕ)) (s : ScriptParts) where
-  on : (r : Reading) (one : Result Reading BadKind) → lined r before next ≡ one
+  on : (r : Reading) (one : Result Reading Fault) → lined r before next ≡ one
       → behind one (line + 1) (λ t. read_from t (before + length next) (line + 1) rest) ≡ Ok s
       → ((t : Reading) → read_from t (before + length next) (line + 1) rest ≡ Ok s
       → before + length next ≤ script_limit
       → before + length next + sum_by length rest ≤ script_limit)
       → before + sum_by length (next ∷ rest) ≤ script_limit
-  on r (Err kind) is good more = absurd cc
+  on r (Err fault) is good more = absurd cc
   on r (Ok t) is good more =
       let here : before + length next ≤ script_limit = taken r t before next is in
       omega (arith, more t good here, sum_by-cons length next rest)

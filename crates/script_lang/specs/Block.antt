@@ -1,9 +1,8 @@
 -- lines of an actor's block
 use Rattle.std.specs.Prelude.{ℕ, ◌+◌, ◌*◌, ◌≡◌, ◌<◌, ◌≤◌, Bool, true, ◌&&◌, nat_le, Result, Ok, Err}
-use Rattle.std.specs.Prelude.{List, [], ◌∷◌, ◌++◌, length, if◌then◌else◌}
+use Rattle.std.specs.Prelude.{List, [], ◌∷◌, ◌++◌, length, codes, if◌then◌else◌}
 use Rattle.std.specs.List.{list_all}
-use Rattle.script_words.specs.declared.bad_kind.BadKind.{BadKind}
-use Rattle.script_words.specs.declared.bad_kind.BadKind.TheVariants.{OverLimit}
+use Rattle.script_words.specs.declared.fault.Fault.{Fault}
 use Rattle.script_words.specs.declared.command.Command.{Command}
 use Rattle.script_words.specs.declared.block_line.ActorLine.{ActorLine}
 use Rattle.script_words.specs.declared.block_line.ActorLine.TheVariants as actor_lines
@@ -17,6 +16,7 @@ use Rattle.script_lang.specs.declared.reading.Place.TheVariants.{Outside, InActo
 use Rattle.script_lang.specs.declared.reading.Reading.{Reading}
 use Rattle.script_lang.specs.Parts.{ScriptParts, with_actor}
 use Rattle.script_lang.specs.Fits.{is_node, command_count, fits_command}
+use Rattle.script_lang.specs.Declaring.{over_limit}
 use Rattle.script_lang.specs.Resolving.{resolved}
 use Rattle.script_lang.specs.Copies.{copies}
 
@@ -45,19 +45,23 @@ has_room s commands more =
     nat_le (length commands + more) command_limit
     && nat_le (command_count s.actors + (length commands + more)) all_commands_limit
 
+-- the limits of an actor's commands and of all, in words
+abbrev pub commands_text : List ℕ
+commands_text = codes "20,000 commands of an actor, 400,000 in all"
+
 -- the actor with these commands more, so many
-abbrev pub with_commands : ScriptParts → ActorScript → ℕ → List Command → Result ActorScript BadKind
+abbrev pub with_commands : ScriptParts → ActorScript → ℕ → List Command → Result ActorScript Fault
 with_commands s a more commands =
     if has_room s a.commands more then Ok (record a { commands = a.commands ++ commands })
-    else Err OverLimit
+    else Err (over_limit commands_text)
 
 -- one command more
-unfoldable pub command_added : ScriptParts → ActorScript → Command → Result ActorScript BadKind
+unfoldable pub command_added : ScriptParts → ActorScript → Command → Result ActorScript Fault
 command_added s a command = with_commands s a 1 (command ∷ [])
 
 -- a repeated block written out
 unfoldable pub written_out : ScriptParts → ActorScript → ℕ → List Command
-    → Result ActorScript BadKind
+    → Result ActorScript Fault
 written_out s a times commands = with_commands s a (times * length commands) (copies times commands)
 
 -- the script with an actor's open block
@@ -66,7 +70,7 @@ at_place s actors place = record { script = s; actors = actors; place = place }
 
 -- a line of an actor's block, outside a repeated one
 unfoldable pub in_actor : ScriptParts → List (List ℕ) → ActorScript → ActorLine
-    → Result Reading BadKind
+    → Result Reading Fault
 in_actor s actors a (actor_lines.Command named) = do
   command ← resolved s a.node named
   b ← command_added s a command
@@ -76,7 +80,7 @@ in_actor s actors a actor_lines.End = Ok (at_place (with_actor s a.node a.comman
 
 -- a line of a repeated block
 unfoldable pub in_repeat : ScriptParts → List (List ℕ) → ActorScript → ℕ → List Command
-    → RepeatLine → Result Reading BadKind
+    → RepeatLine → Result Reading Fault
 in_repeat s actors a times commands (repeat_lines.Command named) = do
   command ← resolved s a.node named
   Ok (at_place s actors (InRepeat a times (commands ++ command ∷ [])))

@@ -2,8 +2,7 @@
 use Rattle.std.specs.Prelude.{ℕ, Result, Ok, Err, if◌then◌else◌}
 use Rattle.linx_base.specs.declared.name.Path.TheVariants as paths
 use Rattle.linx_base.specs.declared.identity.NodeNo.{NodeNo}
-use Rattle.script_words.specs.declared.bad_kind.BadKind.{BadKind}
-use Rattle.script_words.specs.declared.bad_kind.BadKind.TheVariants.{UnknownName}
+use Rattle.script_words.specs.declared.fault.Fault.{Fault}
 use Rattle.script_words.specs.declared.command.Command.{Command}
 use Rattle.script_words.specs.declared.command.Command.TheVariants as commands
 use Rattle.script_words.specs.declared.filling.Filling.{Filling}
@@ -16,17 +15,17 @@ use Rattle.script_words.specs.declared.named_command.NamedCommand.TheVariants.{R
 use Rattle.script_words.specs.Gives.{◌>>=◌, made}
 use Rattle.script_lang.specs.Parts.{ScriptParts}
 use Rattle.script_lang.specs.Fits.{has_end}
-use Rattle.script_lang.specs.Naming.{node_named, link_named}
+use Rattle.script_lang.specs.Naming.{unknown_name, node_named, link_named}
 
 -- a hunt over a link that has an end on the actor's node
-unfoldable pub hunt_resolved : ScriptParts → NodeNo → Route → ℕ → Filling → Result Command BadKind
+unfoldable pub hunt_resolved : ScriptParts → NodeNo → Route → ℕ → Filling → Result Command Fault
 hunt_resolved s node (Local name) number bytes = Ok (commands.Hunt (paths.Local name) number bytes)
 hunt_resolved s node (Over link name) number bytes = do
   l ← link_named s link
-  if has_end s l node then Ok (commands.Hunt (paths.Over l name) number bytes) else Err UnknownName
+  if has_end s l node then Ok (commands.Hunt (paths.Over l name) number bytes) else Err (unknown_name link)
 
 -- a command of an actor on the node, with its names looked up
-unfoldable pub resolved : ScriptParts → NodeNo → NamedCommand → Result Command BadKind
+unfoldable pub resolved : ScriptParts → NodeNo → NamedCommand → Result Command Fault
 resolved s node (Plain command) = Ok command
 resolved s node (Hunt route number bytes) = hunt_resolved s node route number bytes
 resolved s node (Cut link) = made commands.Cut (link_named s link)

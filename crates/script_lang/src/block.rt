@@ -3,15 +3,17 @@
 ghost use Rattle.std.specs.Prelude.{◌≡◌, ◌≤◌, length, IfOk, true};
 ghost use Rattle.std.specs.List.{list_all};
 ghost use Rattle.script_lang.specs.Limits.{all_commands_limit, command_limit};
+ghost use Rattle.script_words.specs.declared.line_error.LineError.TheVariants as errors;
 ghost use Rattle.script_words.specs.Gives.{Gives};
 ghost use Rattle.script_words.specs.BlockLine.{is_sized_in_actor, is_sized_in_repeat};
 ghost use Rattle.script_lang.specs.Fits.{command_count, fits_command};
 ghost use Rattle.script_lang.specs.Block.{CanEnd, CanGoOn, has_room as room_for, command_added};
-ghost use Rattle.script_lang.specs.Block.{written_out, in_actor, in_repeat};
+ghost use Rattle.script_lang.specs.Declaring.{over_limit};
+ghost use Rattle.script_lang.specs.Block.{commands_text, written_out, in_actor, in_repeat};
 
 use crate::actor_script::{ActorScript, Commands};
 use crate::copying::add_copies;
-use crate::declaring::OVER_LIMIT;
+use crate::declaring::over_limit;
 use crate::reading::{Place, Reading};
 use crate::resolving::resolve;
 use crate::script::Script;
@@ -24,6 +26,13 @@ const COMMANDS_MOST: usize = 20_000;
 
 /// The most commands of all actors.
 const ALL_COMMANDS_MOST: usize = 400_000;
+
+/// The line, or the repeated block that it ends, passes one of these two limits.
+fn too_many_commands() -> LineError
+    ensures { result ≡ errors.Bad (over_limit commands_text) }
+{
+    over_limit(b"20,000 commands of an actor, 400,000 in all")
+}
 
 /// The commands of all actors.
 #[tactic(auto, using(crate::proofs::Room::counted))]
@@ -65,7 +74,7 @@ fn add_command(
 {
     let ActorScript { node, mut commands } = actor;
     if !has_room(script, &commands, 1) {
-        return Err(OVER_LIMIT);
+        return Err(too_many_commands());
     }
     commands.push(command)?;
     Ok(ActorScript { node, commands })
@@ -86,10 +95,10 @@ fn write_out(
 {
     let ActorScript { node, mut commands } = actor;
     let Some(more) = (times as usize).checked_mul(repeated.len()) else {
-        return Err(OVER_LIMIT);
+        return Err(too_many_commands());
     };
     if !has_room(script, &commands, more) {
-        return Err(OVER_LIMIT);
+        return Err(too_many_commands());
     }
     add_copies(&mut commands, times, repeated)?;
     Ok(ActorScript { node, commands })

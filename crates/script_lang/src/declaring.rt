@@ -4,12 +4,13 @@ ghost use Rattle.std.specs.Prelude.{◌≡◌, ◌+◌, ◌-◌, ◌<◌, ◌≤
 ghost use Rattle.std.specs.List.{list_all};
 ghost use Rattle.linx_base.specs.Verdicts.{fits_verdict};
 ghost use Rattle.script_lang.specs.Limits.{verdict_limit};
+ghost use Rattle.script_words.specs.declared.line_error.LineError.TheVariants as errors;
 ghost use Rattle.script_words.specs.Gives.{Gives};
 ghost use Rattle.script_words.specs.Declaration.{has_link_size, is_in_range};
 ghost use Rattle.script_lang.specs.Parts.{planned_verdicts, with_verdicts};
 ghost use Rattle.script_lang.specs.Fits.{is_link};
 ghost use Rattle.script_lang.specs.Block.{CanGoOn};
-ghost use Rattle.script_lang.specs.Declaring.{node_added, link_added, plan_added};
+ghost use Rattle.script_lang.specs.Declaring.{twice_named, over_limit, node_added, link_added, plan_added};
 ghost use Rattle.script_lang.specs.Declaring.{actor_begun, declared};
 
 use crate::actor_script::{ActorScript, Commands};
@@ -17,7 +18,7 @@ use crate::naming::{is_taken, link_of_name, node_of_name};
 use crate::reading::{Place, Reading};
 use crate::script::Script;
 use linx_base::{LinkDecl, LinkNo, Name, NameList, NoMemory, Side, Verdict};
-use script_words::{BadKind, Declaration, LineError};
+use script_words::{BadKind, Declaration, Fault, LineError};
 use std::alloc::Global;
 
 /// The most nodes of a script.
@@ -32,11 +33,19 @@ const ACTORS_MOST: usize = 64;
 /// The most verdicts of a direction of a link.
 const VERDICTS_MOST: usize = 10_000;
 
-/// An earlier line gave this name to another of the kind, or a link's two nodes are one.
-const TWICE_NAMED: LineError = LineError::Bad(BadKind::TwiceNamed);
+/// An earlier line gave this name to another of the kind, or a link's two nodes have it.
+fn twice_named(name: &Name) -> LineError
+    ensures { result ≡ errors.Bad (twice_named name.now) }
+{
+    LineError::Bad(Fault::about(BadKind::TwiceNamed, name.bytes()))
+}
 
-/// The line passes a limit.
-pub(crate) const OVER_LIMIT: LineError = LineError::Bad(BadKind::OverLimit);
+/// The line passes this limit.
+pub(crate) fn over_limit(limit: &[u8]) -> LineError
+    ensures { result ≡ errors.Bad (over_limit limit.now) }
+{
+    LineError::Bad(Fault::about(BadKind::OverLimit, limit))
+}
 
 #[tactic(auto, unfolding(crate::specs::Declaring::node_added))]
 fn add_node(script: Script, name: Name) -> Result<Script, LineError>
@@ -44,10 +53,10 @@ fn add_node(script: Script, name: Name) -> Result<Script, LineError>
 {
     let mut script = script;
     if is_taken(script.names().nodes.as_slice(), &name) {
-        return Err(TWICE_NAMED);
+        return Err(twice_named(&name));
     }
     if script.names().nodes.len() >= NODES_MOST {
-        return Err(OVER_LIMIT);
+        return Err(over_limit(b"16 nodes"));
     }
     script.add_node(name)?;
     Ok(script)
@@ -66,22 +75,22 @@ fn add_link(
     ensures { Gives (λ s. s) result (link_added script name first.now second.now window piece) }
 {
     let mut script = script;
-    let first = node_of_name(&script, first)?;
-    let second = node_of_name(&script, second)?;
+    let first_node = node_of_name(&script, first)?;
+    let second_node = node_of_name(&script, second)?;
     if is_taken(script.names().links.as_slice(), &name) {
-        return Err(TWICE_NAMED);
+        return Err(twice_named(&name));
     }
-    if first.0 == second.0 {
-        return Err(TWICE_NAMED);
+    if first_node.0 == second_node.0 {
+        return Err(twice_named(second));
     }
     if script.names().links.len() >= LINKS_MOST {
-        return Err(OVER_LIMIT);
+        return Err(over_limit(b"32 links"));
     }
     script.add_link(
         name,
         LinkDecl {
-            first,
-            second,
+            first: first_node,
+            second: second_node,
             window,
             piece,
         },
@@ -124,7 +133,7 @@ fn add_plan(
     let link = link_of_name(&script, link)?;
     let planned = script.plan(link, from).len();
     if verdicts.len() > VERDICTS_MOST || planned > VERDICTS_MOST - verdicts.len() {
-        return Err(OVER_LIMIT);
+        return Err(over_limit(b"10,000 verdicts of a direction"));
     }
     let script = add_verdicts(script, link, from, verdicts)?;
     Ok(script)
@@ -145,10 +154,10 @@ fn begin_actor(
     let mut actors = actors;
     let node = node_of_name(&script, node)?;
     if is_taken(actors.as_slice(), &name) {
-        return Err(TWICE_NAMED);
+        return Err(twice_named(&name));
     }
     if script.actors().len() >= ACTORS_MOST {
-        return Err(OVER_LIMIT);
+        return Err(over_limit(b"64 actors"));
     }
     actors.push(name)?;
     Ok(Reading {

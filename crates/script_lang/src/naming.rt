@@ -3,16 +3,22 @@
 ghost use Rattle.std.specs.Prelude.{◌≡◌, ◌<◌, ◌≤◌, length, position, IfOk, IfSome, IsTrue};
 ghost use Rattle.std.specs.Str.{bytes_eq};
 ghost use Rattle.script_lang.specs.Limits.{link_limit};
+ghost use Rattle.script_words.specs.declared.line_error.LineError.TheVariants as errors;
 ghost use Rattle.script_words.specs.Gives.{Gives};
 ghost use Rattle.script_lang.specs.Fits.{is_among, is_numbered, is_node, is_link};
-ghost use Rattle.script_lang.specs.Naming.{number_among, node_named, link_named};
+ghost use Rattle.script_lang.specs.Naming.{unknown_name, number_among, node_named, link_named};
 
 use crate::script::Script;
 use linx_base::{LinkNo, Name, NodeNo};
-use script_words::{BadKind, LineError};
+use script_words::{BadKind, Fault, LineError};
 
-/// No earlier line declares this node or link, or the link has no end on the actor's node.
-pub(crate) const UNKNOWN_NAME: LineError = LineError::Bad(BadKind::UnknownName);
+/// No earlier line declares a node or a link of this name, or the link has no end on the actor's
+/// node.
+pub(crate) fn unknown_name(name: &Name) -> LineError
+    ensures { result ≡ errors.Bad (unknown_name name.now) }
+{
+    LineError::Bad(Fault::about(BadKind::UnknownName, name.bytes()))
+}
 
 /// The place of a name among those.
 fn place_of_name(names: &[Name], name: &Name) -> Option<usize>
@@ -37,7 +43,7 @@ fn number_of_name(names: &[Name], name: &Name) -> Result<u32, LineError>
 {
     match place_of_name(names, name) {
         Some(place) => Ok(place as u32 + 1),
-        None => Err(UNKNOWN_NAME),
+        None => Err(unknown_name(name)),
     }
 }
 

@@ -11,7 +11,7 @@ use script_words::first_line;
 use std::alloc::Global;
 
 /// The script that the bytes spell, at most 1,048,576. Where they spell none, `Bad` has the first
-/// bad line, from 1, and the first kind that holds for it.
+/// bad line, from 1, with the first kind that holds for it and the word that it is about.
 #[tactic(auto, unfolding(crate::specs::Reading::script_of))]
 pub fn parse(alloc: Global, bytes: &[u8]) -> Result<Script, ScriptError>
     ensures read { IfOk result (λ script. script_of bytes.now ≡ Ok script) }

@@ -12,7 +12,7 @@ use crate::declaring::declare;
 use crate::script::Script;
 use crate::script_error::ScriptError;
 use linx_base::NameList;
-use script_words::{ActorLine, BadKind, Declaration, LineError, RepeatLine, words_of_line};
+use script_words::{ActorLine, BadKind, Declaration, Fault, LineError, RepeatLine, words_of_line};
 use std::alloc::Global;
 
 /// The most bytes of a script.
@@ -102,7 +102,7 @@ impl Reading {
         ensures short { IsOk result → before + length line.now ≤ script_limit }
     {
         if line.len() > SCRIPT_MOST - before {
-            return Err(LineError::Bad(BadKind::ScriptTooLong));
+            return Err(LineError::Bad(Fault::of(BadKind::ScriptTooLong)));
         }
         let words = words_of_line(alloc, line)?;
         self.take_words(alloc, words.as_slice())
@@ -117,7 +117,7 @@ impl Reading {
             Place::Outside => Ok(self.script),
             _ => Err(ScriptError::Bad {
                 line,
-                kind: BadKind::Unfinished,
+                fault: Fault::of(BadKind::Unfinished),
             }),
         }
     }

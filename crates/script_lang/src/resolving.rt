@@ -8,7 +8,7 @@ ghost use Rattle.script_words.specs.NamedCommand.{is_sized};
 ghost use Rattle.script_lang.specs.Fits.{is_link, has_end, fits_command};
 ghost use Rattle.script_lang.specs.Resolving.{hunt_resolved, resolved};
 
-use crate::naming::{UNKNOWN_NAME, link_of_name, node_of_name};
+use crate::naming::{link_of_name, node_of_name, unknown_name};
 use crate::script::Script;
 use linx_base::{LinkNo, NodeNo, Path};
 use script_words::{Command, Filling, LineError, NamedCommand, Route};
@@ -43,12 +43,15 @@ fn resolve_hunt(
             bytes,
         }),
         Route::Over { link, name } => {
-            let link = link_of_name(script, &link)?;
-            if !joins_node(script, link, node) {
-                return Err(UNKNOWN_NAME);
+            let number_of_link = link_of_name(script, &link)?;
+            if !joins_node(script, number_of_link, node) {
+                return Err(unknown_name(&link));
             }
             Ok(Command::Hunt {
-                path: Path::Over { link, name },
+                path: Path::Over {
+                    link: number_of_link,
+                    name,
+                },
                 number,
                 bytes,
             })

@@ -1,7 +1,7 @@
 ghost use Rattle.std.specs.Prelude.{◌≡◌};
 ghost use Rattle.script_lang.specs.Reading.{error_in};
 
-use script_words::{BadKind, LineError};
+use script_words::{Fault, LineError};
 use std::error::Error;
 use std::fmt;
 
@@ -9,7 +9,7 @@ use std::fmt;
 #[derive(Clone, Copy, Debug, PartialEq, Eq, Hash)]
 pub enum ScriptError {
     /// The first bad line, from 1, and what is wrong with it.
-    Bad { line: u32, kind: BadKind },
+    Bad { line: u32, fault: Fault },
     NoMemory,
 }
 
@@ -21,7 +21,7 @@ impl fmt::Display for ScriptError {
 
     fn fmt<W: fmt::Write>(&self, f: &mut fmt::Formatter<W>) -> fmt::Result {
         match self {
-            ScriptError::Bad { line, kind } => write!(f, "line {line}: {kind}"),
+            ScriptError::Bad { line, fault } => write!(f, "line {line}: {fault}"),
             ScriptError::NoMemory => f.write_str("out of memory"),
         }
     }
@@ -35,7 +35,7 @@ impl ScriptError {
         ensures { result ≡ error_in error line }
     {
         match error {
-            LineError::Bad(kind) => ScriptError::Bad { line, kind },
+            LineError::Bad(fault) => ScriptError::Bad { line, fault },
             LineError::NoMemory => ScriptError::NoMemory,
         }
     }
