@@ -4,7 +4,7 @@ use Rattle.std.proofs.Common.{◌∙◌, subst, arith}
 use Rattle.std.specs.Prelude.{◌≢◌, Option, Some, None, Result, Ok, Err, IfSome, IsOk}
 use Rattle.std.proofs.lemmas.List.{take_all}
 use Rattle.journal.specs.Logs.{Log, is_full}
-use Rattle.script_words.specs.declared.bad_kind.BadKind.{BadKind}
+use Rattle.script_words.specs.declared.fault.Fault.{Fault}
 use Rattle.script_lang.specs.Parts.{ScriptParts}
 use Rattle.script_lang.specs.Reading.{script_of}
 use Rattle.script_lang.proofs.Sizes.{script_within}
@@ -29,12 +29,12 @@ caused_unread asked Done told log unread empty = absurd unread
 caused_unread asked WriteFault told log unread empty = absurd unread
 caused_unread asked JournalFull told log unread empty = absurd unread
 
-spelled_not_bad : (line : ℕ) (spells : Result ScriptParts (ℕ × BadKind)) → IsOk spells
+spelled_not_bad : (line : ℕ) (spells : Result ScriptParts (ℕ × Fault)) → IsOk spells
     → IsBadAt line spells → ⊥
 spelled_not_bad line (Ok s) spelled bad = bad
 spelled_not_bad line (Err fault) spelled bad = cc
 
-read_whole : (bytes : List ℕ) (spells : Result ScriptParts (ℕ × BadKind)) → script_of bytes ≡ spells
+read_whole : (bytes : List ℕ) (spells : Result ScriptParts (ℕ × Fault)) → script_of bytes ≡ spells
     → IsOk spells → read_of bytes ≡ bytes
 read_whole bytes (Ok s) is spelled =
     take_all read_most bytes (let short : length bytes ≤ 1048576 = script_within bytes s is in omega

@@ -38,7 +38,7 @@ read_status reads.NoMemory = NoMemory
 
 -- the status of bytes that are no script
 abbrev pub script_status : ScriptError → Status
-script_status (scripts.Bad line kind) = Script line
+script_status (scripts.Bad line fault) = Script line
 script_status scripts.NoMemory = NoMemory
 
 -- the status of a step that wasn't made

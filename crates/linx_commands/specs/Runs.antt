@@ -10,7 +10,7 @@ use Rattle.fabric.specs.declared.stop.StopCause.{StopCause}
 use Rattle.fabric.specs.Run.{Layout}
 use Rattle.script_lang.specs.Parts.{ScriptParts}
 use Rattle.script_lang.specs.Reading.{script_of}
-use Rattle.script_words.specs.declared.bad_kind.BadKind.{BadKind}
+use Rattle.script_words.specs.declared.fault.Fault.{Fault}
 use Rattle.stage.specs.Plays.{AllFollowWhole, IsSoFar}
 use Rattle.stage.specs.Stops.{IsCauseOf}
 use Rattle.stage.specs.Turns.{IsStoppedRun, IsWhole, first_layout, is_over, shape_of}
@@ -132,7 +132,7 @@ abbrev pub read_of : List ℕ → List ℕ
 read_of bytes = take read_most bytes
 
 -- no script, and the first bad line
-abbrev pub IsBadAt : ℕ → Result ScriptParts (ℕ × BadKind) → Type 0
+abbrev pub IsBadAt : ℕ → Result ScriptParts (ℕ × Fault) → Type 0
 IsBadAt line (Ok script) = ⊥
 IsBadAt line (Err bad) = bad.0 ≡ line
 
