@@ -2,8 +2,8 @@
 # Runs the built program and the model of bench/model on the random scripts of the seeds 1 to COUNT
 # (500 if unsaid) and on every script in examples/, and compares what they write, byte by byte. It
 # says how many were alike, and the first that wasn't. `rt run` in crates/linx_sim builds the
-# program, and leaves it in out/; `python3 bench/random_script.py SEED` writes the script of a seed.
-#   bench/beside_model.sh [COUNT] [PROGRAM]
+# program, and leaves it in out/; `bench/try random_script SEED` writes the script of a seed.
+#   bench/try beside_model [COUNT] [PROGRAM]
 set -euo pipefail
 top="$(cd "$(dirname "$0")/.." && pwd)"
 count="${1:-500}"

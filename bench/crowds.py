@@ -9,8 +9,8 @@ bench/model, which in threads takes the turns in the order of that journal. One 
 journal is full only where the model's is in the fixed order, asked for or not. Prints how many runs
 were as they should be, how many lines they wrote, and the one that was wrong.
 
-    bench/crowds.py [--threads] [--model] [SECONDS [PROGRAM]]       SECONDS is 600 if unsaid
-    bench/crowds.py --write SEED                        writes the script of a seed
+    bench/try crowds [--threads] [--model] [SECONDS [PROGRAM]]       SECONDS is 600 if unsaid
+    bench/try crowds --write SEED                        writes the script of a seed
 """
 import multiprocessing
 import re

@@ -2,7 +2,7 @@
 # What a piece of 1,400 bytes costs on its way from one end of a link to the other, in memory: cut,
 # sent, written, read, taken, joined and acknowledged. The sender has twice its window ahead, so the
 # window is always full; a message has 40 pieces. COUNT pieces are sent, 1,000,000 if unsaid.
-#   bench/end.sh [run|try [COUNT]]
+#   bench/try end [run|try [COUNT]]
 set -euo pipefail
 # shellcheck source-path=SCRIPTDIR source=copied.sh
 . "$(dirname "$0")/copied.sh"

@@ -3,7 +3,7 @@
 
 Run it after each change of an example, whose text is that of bench/model:
 
-    bench/example_rows.py > crates/whole_cases/src/example_rows.rt
+    bench/try example_rows > crates/whole_cases/src/example_rows.rt
 """
 import pathlib
 import sys

@@ -1,4 +1,4 @@
-"""How a run of the program must end, by bench/model and its rules of docs/script.md.
+"""How a run of the program must end, by bench/model and its rules of docs/use/script.md.
 
 An end is an exit status, what was said on standard error and what was written. The status is None
 where the run didn't end in its time and was stopped.

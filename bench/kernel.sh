@@ -2,7 +2,7 @@
 # What a hunt, an attach, a detach, a found hunt and a notification cost a kernel in which others
 # are pending: COUNT hunts and as many attaches, 100,000 if unsaid, a hundredth of these, and a
 # hundredth of that. Of each kind a hundredth of COUNT calls is measured.
-#   bench/kernel.sh [run|try [COUNT]]
+#   bench/try kernel [run|try [COUNT]]
 set -euo pipefail
 # shellcheck source-path=SCRIPTDIR source=copied.sh
 . "$(dirname "$0")/copied.sh"

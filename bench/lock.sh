@@ -1,7 +1,7 @@
 #!/usr/bin/env bash
 # What a turn of the lock costs, a take and a give that add nothing: on one thread, and on several
 # that want it at once. They take COUNT turns together, 1,000,000 if unsaid.
-#   bench/lock.sh [run|try [COUNT]]
+#   bench/try lock [run|try [COUNT]]
 set -euo pipefail
 # shellcheck source-path=SCRIPTDIR source=copied.sh
 . "$(dirname "$0")/copied.sh"

@@ -2,7 +2,7 @@
 # A signal that was sent is no longer the sender's: shows that a crate which reads one after
 # `Endpoint::send` isn't compiled, and that it is without that line. Works on a copy of what is
 # committed, without proofs, for a minute or two.
-#   bench/misuse.sh
+#   bench/try misuse
 set -euo pipefail
 top="$(cd "$(dirname "$0")/.." && pwd)"
 work="$(mktemp -d)"

@@ -1,14 +1,14 @@
 #!/usr/bin/env python3
 """Runs the built program on the spoiled scripts of mutated_script.py, at most ten seconds on each.
 
-On a script with a bad line, which is the first one by the rules of docs/script.md as
+On a script with a bad line, which is the first one by the rules of docs/use/script.md as
 bench/model/lines.py has them, it must name that line and write nothing. On a good one it must be
 done, and may say that the journal is full only where that of bench/model is; what is written of a
 good script is looked at with --model alone, and must then be what the model writes. Prints how many
 runs were as they should be, how many ended with each exit status, and the first one that was wrong:
 mutated_script.py writes the script of its seed.
 
-    bench/mutants.py [--model] [COUNT [PROGRAM]]       COUNT is 100,000 if unsaid
+    bench/try mutants [--model] [COUNT [PROGRAM]]       COUNT is 100,000 if unsaid
 """
 import collections
 import sys

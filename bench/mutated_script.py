@@ -5,7 +5,7 @@ were altered, lost or added, lines were lost, doubled, exchanged or taken from a
 were exchanged for words of the language or for numbers at a limit, or the end was cut off. So some
 are still scripts, and most have a bad line somewhere.
 
-    python3 bench/mutated_script.py SEED
+    bench/try mutated_script SEED
 """
 import pathlib
 import random

@@ -3,11 +3,12 @@
 
 They are made field by field, often with a number at its limit or one behind it, and in most of them
 some bytes are altered, lost or added. `read` of ethcm_headers and of rlnh_messages, and
-`read_signal`, must call bad just those that aren't one by docs/wire.md, as the rules below have it.
-The program that reads them is built in a copy of the crates, so that the gate knows nothing of it;
-`try` builds it unproved. Prints how many answers were right, and the first that wasn't.
+`read_signal`, must call bad just those that aren't one by docs/change/wire.md, as the rules below
+have it. The program that reads them is built in a copy of the crates, so that the gate knows
+nothing of it; `try` builds it unproved. Prints how many answers were right, and the first that
+wasn't.
 
-    bench/packets.py [run|try] [COUNT]       COUNT is 100,000 if unsaid
+    bench/try packets [run|try] [COUNT]       COUNT is 100,000 if unsaid
 """
 import pathlib
 import random

@@ -2,7 +2,7 @@
 # How a receive of one number grows with the number of waiting items, and what a detach costs behind
 # them, where the queue has its notice and where it has none. Up to COUNT items wait, 30,000 if
 # unsaid; as many receives are measured, and half as many detaches.
-#   bench/queue.sh [run|try [COUNT]]
+#   bench/try queue [run|try [COUNT]]
 set -euo pipefail
 # shellcheck source-path=SCRIPTDIR source=copied.sh
 . "$(dirname "$0")/copied.sh"

@@ -7,7 +7,7 @@ sense then; one a varied one: they do anything, and more of it is refused; and o
 nodes restart and endpoints open and close again and again, while packets are repeated and
 exchanged.
 
-    python3 bench/random_script.py SEED
+    bench/try random_script SEED
 """
 import random
 import sys

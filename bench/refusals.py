@@ -11,7 +11,7 @@ any text is right that the model has in the order of its journal, and of a front
 at how it begins. Prints for each how many calls were refused, and the first run that didn't end as
 it should.
 
-    bench/refusals.py [PROGRAM]
+    bench/try refusals [PROGRAM]
 """
 import itertools
 import os

@@ -12,7 +12,7 @@ didn't. With --without WORD a step with that head, or an item that came by that 
 nobody: then a missing ring must be found, but for the words attach, detach, tick and settle, whose
 own calls no run needs.
 
-    bench/rings.py [COUNT [FIRST]] [--without WORD]     scripts of COUNT seeds, 200 if unsaid
+    bench/try rings [COUNT [FIRST]] [--without WORD]     scripts of COUNT seeds, 200 if unsaid
 """
 import pathlib
 import random

@@ -7,7 +7,7 @@ long the whole takes, and the most memory with each. Time that grows with the wo
 about 2, or less where starting counts. Memory below that of Python, some 20 MB, is told as that. A
 run has a minute. One that isn't done is said, and the exit status is 1.
 
-    bench/speeds.py [RUNS [PROGRAM]]       RUNS is 3 if unsaid
+    bench/try speeds [RUNS [PROGRAM]]       RUNS is 3 if unsaid
 """
 import sys
 

@@ -3,7 +3,7 @@
 # and one that is full, each for at most a minute. The exit status must be the same each time, and
 # what is read exactly the line of the status. `rt run` in crates/linx_sim builds the program,
 # and leaves it in out/.
-#   bench/statuses.sh [PROGRAM]
+#   bench/try statuses [PROGRAM]
 set -uo pipefail
 top="$(cd "$(dirname "$0")/.." && pwd)"
 program="$(realpath -m "${1:-$top/crates/linx_sim/out/linx_sim}")"

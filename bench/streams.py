@@ -7,7 +7,7 @@ and of a script that is cut off the line is the first bad one by bench/model. Ea
 seconds, and is ended with 124 then. Prints how many rows were as they should be, and each one that
 wasn't.
 
-    bench/streams.py [PROGRAM]
+    bench/try streams [PROGRAM]
 """
 import contextlib
 import os

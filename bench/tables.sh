@@ -2,7 +2,7 @@
 # What a call on the tables of names, hunts and attaches costs with entries that it doesn't touch:
 # COUNT of them, 100,000 if unsaid, a hundredth of these, and a hundredth of that. On each table a
 # fifth of COUNT calls is measured.
-#   bench/tables.sh [run|try [COUNT]]
+#   bench/try tables [run|try [COUNT]]
 set -euo pipefail
 # shellcheck source-path=SCRIPTDIR source=copied.sh
 . "$(dirname "$0")/copied.sh"

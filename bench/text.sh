@@ -2,7 +2,7 @@
 # How long the text of a journal of COUNT steps takes, 200,000 if unsaid, by the number of
 # incarnations in it, and that of large signals, one for 400 or 800 of these steps, of which digests
 # are printed, by how many kinds they are of.
-#   bench/text.sh [run|try [COUNT]]
+#   bench/try text [run|try [COUNT]]
 set -euo pipefail
 # shellcheck source-path=SCRIPTDIR source=copied.sh
 . "$(dirname "$0")/copied.sh"

@@ -6,7 +6,7 @@ run, under `serial` and under `run` (of the generated load: under `gen 7`). The 
 for what comes at the end alone, so they should cost next to nothing. A run has a minute. One that
 isn't done is said, and the exit status is 1.
 
-    bench/thread_speeds.py [RUNS [PROGRAM]]       RUNS is 10 if unsaid
+    bench/try thread_speeds [RUNS [PROGRAM]]       RUNS is 10 if unsaid
 """
 import pathlib
 import sys

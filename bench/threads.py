@@ -9,7 +9,7 @@ must be the run's, byte by byte. A run may say that its journal is full only whe
 the fixed order. Each run must end within ten seconds. Prints how many runs of how many scripts were
 as they should be, in how many ways they ended, and the first that was wrong.
 
-    bench/threads.py [RUNS [SEEDS [PROGRAM]]]       1,000 runs and 2,000 seeds if unsaid
+    bench/try threads [RUNS [SEEDS [PROGRAM]]]       1,000 runs and 2,000 seeds if unsaid
 """
 import multiprocessing
 import pathlib

@@ -3,7 +3,7 @@
 # taken, joined, read, recorded again and acknowledged. COUNT signals are sent, 100,000 if unsaid,
 # and a quarter of them before, each over a trunk of its own. The second half of the signals is
 # measured by itself too: it costs what the first half does, however much was said before.
-#   bench/trunk.sh [run|try [COUNT]]
+#   bench/try trunk [run|try [COUNT]]
 set -euo pipefail
 # shellcheck source-path=SCRIPTDIR source=copied.sh
 . "$(dirname "$0")/copied.sh"

@@ -1,10 +1,10 @@
 """Reads a script on standard input, and writes the text that `linx_sim serial` writes for it.
 
-A plain interpreter of the scripts of docs/script.md, beside which bench/beside_model.sh runs the
-program. It is made for reading: no rule here is taken from the program's code. The script must be a
-good one; one that fills a journal is refused with exit status 2.
+A plain interpreter of the scripts of docs/use/script.md, beside which bench/beside_model.sh runs
+the program. It is made for reading: no rule here is taken from the program's code. The script must
+be a good one; one that fills a journal is refused with exit status 2.
 
-    python3 bench/model < SCRIPT
+    bench/try model < SCRIPT
 """
 import sys
 

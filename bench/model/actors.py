@@ -1,4 +1,4 @@
-"""Turns: what an actor's next command does (docs/script.md)."""
+"""Turns: what an actor's next command does (docs/use/script.md)."""
 from values import Here, filter_of, signal_of
 
 NEED_PEER = ("send", "forward", "attach")

@@ -1,6 +1,6 @@
 """Links' ends: the packets, and how an end makes sessions and moves messages in pieces.
 
-The rules are those of docs/wire.md: the table of sessions, windows, and an end of a link.
+The rules are those of docs/change/wire.md: the table of sessions, windows, and an end of a link.
 """
 from dataclasses import dataclass
 from enum import Enum

@@ -1,4 +1,4 @@
-"""The first bad line of a script, by the rules of docs/script.md, whichever kind it is of."""
+"""The first bad line of a script, by the rules of docs/use/script.md, whichever kind it is of."""
 import re
 
 MOST_BYTES, MOST_IN_LINE = 1_048_576, 4_096

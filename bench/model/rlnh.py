@@ -1,4 +1,4 @@
-"""RLNH ends: what the two nodes of a link tell each other of their endpoints (docs/wire.md)."""
+"""RLNH ends: what two nodes tell each other of their endpoints (docs/change/wire.md)."""
 from typing import NamedTuple
 
 from ends import Message

@@ -1,4 +1,4 @@
-"""Values: incarnations, sessions, peers, signals and filters, each spelled as docs/text.md says."""
+"""Values: incarnations, sessions, peers, signals and filters, each spelled as docs/use/text.md says."""
 import hashlib
 from typing import NamedTuple
 
