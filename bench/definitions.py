@@ -1,23 +1,61 @@
 #!/usr/bin/env python3
-"""Holds docs/definitions.md beside the definitions that the program's contracts rest on.
+"""Writes docs/audit/definitions.md from the comments at the definitions, and says what it lacks.
 
-Each definition of a crate's `specs/` that the clauses of linx_commands' calls reach through other
-definitions, and that another file than its own cites, must stand in the document with its file; the
-parts that it is made of in its own file need not. Each word with a file there must be defined in
-that file. Prints how many are as they should be, and each one that isn't.
+On the page stands, layer by layer, each definition of a crate's `specs/` that the clauses of a
+public call reach through other definitions, where a clause or another file than its own cites it;
+the parts that it is made of in its own file need not. A word without a comment of its own shares
+that of the definition above it, or of the section or the file that begins there. Words that the
+clauses of linx_commands' calls reach are marked. Each file and each word that the pages of
+docs/audit name must be there. Prints how many words stand on the page, how many of these have no
+comment of their own, and each thing that is wrong: ends with 1 where there is one, or where the
+page isn't the one that would be written.
 
-    bench/definitions.py
+    bench/try definitions [--write | --uncommented]
+        --write writes the page; --uncommented lists the words that share a comment
 """
 import pathlib
 import re
 import sys
 
 CRATES = pathlib.Path(__file__).resolve().parent.parent / "crates"
-DOCUMENT = CRATES.parent / "docs/definitions.md"
-CALLS = ["run", "serial", "tell", "report", "program", "journals_are_decided"]
+AUDIT = CRATES.parent / "docs/audit"
+PAGE = AUDIT / "definitions.md"
+TOP = "linx_commands"
+TOP_CALLS = ["run", "serial", "tell", "report", "program", "journals_are_decided"]
+LAYERS = [
+    ("Values", "linx_base sigsel"),
+    ("The world outside", "linx_outside"),
+    ("A journal and the laws of a node", "journal"),
+    ("A node", "sorted_set keyed_list name_key name_table hunt_table attach_table endpoint_queue"
+               " node_kernel"),
+    ("The laws of links", "trunk_record link_laws"),
+    ("One end of a link", "ethcm_headers fragmenter ethcm_window link_supervisor ethcm_session"
+                          " ethcm_end"),
+    ("A link", "lossy_wire carrier link_settling"),
+    ("What two nodes tell each other", "rlnh_messages link_addresses rlnh_end rlnh_laws trunk"),
+    ("All links of a run", "trunk_moves run_trunks run_settling run_states"),
+    ("The machine", "fabric"),
+    ("The script", "script_words script_lang work_gen"),
+    ("A run of a script", "actor_run stage run_orders"),
+    ("Threads", "turn_lock linx_api workers"),
+    ("The text", "journal_text report"),
+    ("The program", "linx_commands"),
+]
 BEGINS = re.compile(r" *(?:abbrev pub|unfoldable pub|pub record|pub data|abbrev) ([\w']+)")
+SECTION = re.compile(r"-- -+ (.*)")
 IMPORT = re.compile(r"use\s+(Rattle\.[\w.]+?)(?:\.\{([^}]*)\}|\s+as\s+([\w']+))")
 CITED = re.compile(r"(?:([A-Za-z_][\w']*)\.)?([A-Za-z_][\w']*)")
+COMMIT = re.compile(r"[0-9a-f]{7}")
+PUBLIC = re.compile(r"\n *pub fn (\w+).*?\n *{|\nimpl[^\n]* Model .*?\n}", re.S)
+HEAD = """\
+# Definitions
+
+What a reader has to believe, layer by layer from below. Each word stands with the comment at its definition, and with its file in the `specs/` of its crate. A sentence that leans on another ("the same", "then", "of it") is about the word above it in that file.
+
+Words marked • are reached from the clauses of the top call, which [claims.md](claims.md) unfolds from above; the others are those that the layers' own public calls and laws cite. The parts that a word is made of stand beside it, in its file.
+
+`bench/try definitions --write` writes this page; without a word it says whether the page is the one that it would write.
+"""
 
 
 def definitions(text):
@@ -33,6 +71,32 @@ def definitions(text):
             if name:
                 found[name] += line + "\n"
     return found
+
+
+def comments(text):
+    """What is said of each definition of a file, and whether that stands right above it.
+
+    Else it is what is said of the definition above, or of the section or the file that begins.
+    """
+    found, comment, above = {}, [], head_of(text)
+    for line in text.split("\n"):
+        begun = BEGINS.match(line)
+        if begun:
+            above = " ".join(comment) or above
+            found.setdefault(begun[1], (above, bool(comment)))
+        if SECTION.match(line):
+            above, comment = SECTION.match(line)[1], []
+        elif line.lstrip().startswith("--"):
+            comment.append(line.strip()[2:].strip())
+        else:
+            comment = []
+    return found
+
+
+def head_of(text):
+    """The comment at the head of a file."""
+    head = re.match(r"(?:--.*\n)*", text)[0]
+    return " ".join(line[2:].strip() for line in head.split("\n") if line)
 
 
 class Imports:
@@ -61,13 +125,14 @@ class Specs:
     """All definitions of the crates."""
 
     def __init__(self):
-        self.defined, self.imports = {}, {}
+        self.defined, self.imports, self.comments = {}, {}, {}
         for path in sorted(CRATES.glob("*/specs/**/*.antt")):
             crate = path.relative_to(CRATES).parts[0]
             rest = path.relative_to(CRATES / crate / "specs").with_suffix("")
             module = ".".join(["Rattle", crate, "specs", *rest.parts])
             text = path.read_text()
             self.defined[module], self.imports[module] = definitions(text), Imports(text)
+            self.comments[module] = comments(text)
 
     def cited(self, imports, text, here=None):
         """The definitions, each by its file and its word, that a text cites by these imports."""
@@ -88,59 +153,108 @@ class Specs:
         return shared
 
 
-def path_of(module):
-    """The file of a module as the document has it."""
-    return "/".join(module.split(".")[1:]) + ".antt"
-
-
-def clauses(text):
-    """The clauses of the calls in a source file."""
-    for call in CALLS:
-        found = re.search(rf"\n *(?:pub|pub\(crate\))? ?fn {call}\b.*?\n *{{", text, re.S)
-        if found:
-            yield found[0]
-
-
-def cited_by_calls(specs):
-    """The definitions that the clauses of the calls cite."""
+def cited_by_calls(specs, crates, calls=None):
+    """The definitions that the clauses of public calls cite: of these, or of all."""
     found = set()
-    for name in ("serving", "told", "whole_program"):
-        text = (CRATES / f"linx_commands/src/{name}.rt").read_text()
-        for clause in clauses(text):
-            found |= specs.cited(Imports(text), clause)
+    for crate in crates:
+        for path in sorted((CRATES / crate / "src").glob("**/*.rt")):
+            text = path.read_text()
+            for clauses in PUBLIC.finditer(text):
+                if calls is None or clauses[1] in calls:
+                    found |= specs.cited(Imports(text), clauses[0])
     return found
 
 
-def documented():
-    """The words of each row of the document, each with the files of its row."""
+def all_crates():
+    """The crates of the layers, from below."""
+    return [crate for _, crates in LAYERS for crate in crates.split()]
+
+
+def modules_of(specs, crate):
+    """The files of a crate's specs that have definitions of their own."""
+    return [module for module in specs.defined if module.split(".")[1] == crate]
+
+
+def file_of(module):
+    """The name of a module's file in its crate's specs."""
+    return "/".join(module.split(".")[3:]) + ".antt"
+
+
+def rows_of(specs, module, wanted):
+    """The words of a file that are wanted, in order, each group with the comment that it shares."""
     rows = []
-    for line in DOCUMENT.read_text().split("\n"):
-        cells = [cell.strip() for cell in line.strip("|").split(" | ")]
-        if line.startswith("| ") and len(cells) == 4 and cells[3].startswith("`"):
-            files, folder = [], ""
-            for name in re.findall(r"`([^`]+)`", cells[3]):
-                folder = name.rpartition("/")[0] or folder
-                files.append(f"{folder}/{name.rpartition('/')[2]}")
-            rows += [(word, tuple(files)) for word in re.findall(r"`([\w']+)`", cells[2])]
+    for word, (said, own) in specs.comments[module].items():
+        if (module, word) not in wanted:
+            continue
+        if rows and not own and rows[-1][1] == said:
+            rows[-1][0].append(word)
+        else:
+            rows.append(([word], said))
     return rows
 
 
-def main():
-    """Says what isn't as it should be."""
+def page(specs, wanted, top):
+    """The whole page."""
+    text = HEAD
+    for title, crates in LAYERS:
+        text += f"\n## {title}\n"
+        for crate in crates.split():
+            table = ""
+            for module in modules_of(specs, crate):
+                for words, said in rows_of(specs, module, wanted):
+                    names = ", ".join(f"`{word}`" + (" •" if (module, word) in top else "")
+                                      for word in words)
+                    said = said.replace("|", "\\|")
+                    table += f"| {names} | {said} | `{file_of(module)}` |\n"
+            if table:
+                text += f"\n### {crate}\n\n| word | what it is | file |\n|---|---|---|\n{table}"
+    return text
+
+
+def named_wrongly(specs):
+    """What the pages of the folder name that isn't there."""
+    words = {word for defined in specs.defined.values() for word in defined}
+    for path in CRATES.glob("*/*/**/*"):
+        if path.suffix in (".rt", ".antt") and "out" not in path.parts:
+            words |= set(re.findall(r"\w+", path.read_text()))
+    for path in sorted(AUDIT.glob("*.md")):
+        if path == PAGE:
+            continue
+        for name in re.findall(r"`([^`\n]+)`", path.read_text()):
+            if re.fullmatch(r"[\w/]+\.(antt|rt)", name):
+                if not (CRATES / name).is_file():
+                    yield f"{path.name}: no file {name}"
+            elif re.fullmatch(r"[A-Za-z]\w+(::\w+)*", name) and not COMMIT.fullmatch(name):
+                for word in name.split("::"):
+                    if word not in words and not (CRATES / word).is_dir():
+                        yield f"{path.name}: no word {word}"
+
+
+def main(words):
+    """Writes the page, or says what isn't as it should be."""
     specs = Specs()
-    rows = documented()
-    files = {path_of(module): set(words) for module, words in specs.defined.items()}
-    wrongs = [f"{word} isn't defined in {' or '.join(named)}" for word, named in rows
-              if not any(word in files.get(name, ()) for name in named)]
-    known = {(name, word) for word, named in rows for name in named}
-    reached = {(path_of(module), word) for module, word in specs.reached(cited_by_calls(specs))}
-    wrongs += [f"{word} of {name} isn't there" for name, word in sorted(reached - known)]
-    print(f"{len(reached & known)} of {len(reached)} reached definitions are there, "
-          f"{len(rows)} words stand there, {len(wrongs)} things are wrong")
+    top = specs.reached(cited_by_calls(specs, [TOP], TOP_CALLS))
+    wanted = top | specs.reached(cited_by_calls(specs, all_crates()))
+    bare = [one for one in sorted(wanted) if not specs.comments[one[0]][one[1]][1]]
+    if words == ["--uncommented"]:
+        for module, word in bare:
+            mark = "•" if (module, word) in top else " "
+            print(f"{mark} {word} of {module.split('.')[1]}/specs/{file_of(module)}")
+        return 0
+    written = page(specs, wanted, top)
+    if words == ["--write"]:
+        PAGE.write_text(written)
+    wrongs = list(named_wrongly(specs))
+    wrongs += [f"{crate} is in no layer" for crate in
+               sorted({module.split(".")[1] for module, _ in wanted} - set(all_crates()))]
+    if PAGE.read_text() != written:
+        wrongs.append("docs/audit/definitions.md isn't what --write would write")
+    print(f"{len(wanted)} words stand there, {len(top)} of them reached from the top call, "
+          f"{len(bare)} without a comment of their own; {len(wrongs)} things are wrong")
     for wrong in wrongs:
         print(wrong)
     return 1 if wrongs else 0
 
 
 if __name__ == "__main__":
-    sys.exit(main())
+    sys.exit(main(sys.argv[1:]))
