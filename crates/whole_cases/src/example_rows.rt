@@ -8,9 +8,10 @@ use std::test::Fail;
 const EXAMPLES: [(&str, &str); 15] = [
     // chain.linx
     (
-        "# Three nodes in a chain of two links. A link joins two nodes, and nothing is passed on \
-         by itself: a\n# router on the middle node hunts the server, forwards what the client \
-         sends, and answers for it.\nnode station\nnode exchange\nnode office\nlink west station \
+        "# Look for signal 1 as it goes over two links, and who each end says it came from.\n# \
+         Three nodes in a chain of two links. A link joins two nodes, and nothing is passed on by \
+         itself: a\n# router on the middle node hunts the server, forwards what the client sends, \
+         and answers for it.\nnode station\nnode exchange\nnode office\nlink west station \
          exchange\nlink east exchange office\nplan west > D D D L D     # west loses a packet\n\
          plan east > D D R D S1    # east repeats one, and exchanges two\n\nactor client \
          station\n  open client\n  hunt west/router\n  recv 251\n  keep router\n  attach router \
@@ -70,7 +71,8 @@ const EXAMPLES: [(&str, &str); 15] = [
     ),
     // filters.linx
     (
-        "# Three ways to receive: by number, any, and all but some. Whatever isn't selected stays \
+        "# Look for which item each `take` of the journal names, and for the `none` at the end.\n\
+         # Three ways to receive: by number, any, and all but some. Whatever isn't selected stays \
          in order.\nnode station\n\nactor client station\n  open mailbox\n  send self 7\n  send \
          self 8\n  send self 7 hex:01\n  recv 8          # the earliest signal 8: the two signals \
          7 keep their places\n  recv any        # the first signal 7\n  recv not 7      # nothing \
@@ -84,17 +86,18 @@ const EXAMPLES: [(&str, &str); 15] = [
     ),
     // hunt_and_attach.linx
     (
-        "# A client hunts for a server by name, attaches to it, and is told when it closes. Two \
-         actors of one\n# node, which take their turns in this order.\nnode station\n\nactor \
-         client station\n  open client\n  hunt server               # answered with signal 251 \
-         when the name is found\n  recv 251                  # its sender, `last`, is the server \
-         from now on\n  attach last first         # signal 252 comes back when the server ends \
-         ..\n  attach last second 300 hex:aa   # .. and so does signal 300, with data of our \
-         own\n  detach first              # the first attach is taken back\n  send last 1\n  recv \
-         300                  # waits: the server closes, and its end is told, with 00 for \
-         `closed`\n  attach last third         # the server is dead already: told at once, with \
-         02 for `dead`\n  recv 252\nend\n\nactor server station\n  open server\n  recv 1\n  \
-         close\nend\n",
+        "# Look for the two notifications: 00 behind the data of the one, 02 alone behind the \
+         other.\n# A client hunts for a server by name, attaches to it, and is told when it \
+         closes. Two actors of one\n# node; under `serial` they take their turns in this order.\n\
+         node station\n\nactor client station\n  open client\n  hunt server               # \
+         answered with signal 251 when the name is found\n  recv 251                  # its \
+         sender, `last`, is the server from now on\n  attach last first         # signal 252 \
+         comes back when the server ends ..\n  attach last second 300 hex:aa   # .. and so does \
+         signal 300, with data of our own\n  detach first              # the first attach is \
+         taken back\n  send last 1\n  recv 300                  # waits: the server closes, and \
+         its end is told, with 00 for `closed`\n  attach last third         # the server is dead \
+         already: told at once, with 02 for `dead`\n  recv 252\nend\n\nactor server station\n  \
+         open server\n  recv 1\n  close\nend\n",
         "log 1.1 client station\nhunt server 251 -\nfound 1.2 251 -\ntook 1.2 251 -\nattach 1.2 \
          252 -\nattach 1.2 300 aa\ndetach pending\nsent 1.2 1 - queued\nnotified 1.2 300 aa00 \
          closed\ntook 1.2 300 aa00\nattach 1.2 252 -\nnotified 1.2 252 02 dead\ntook 1.2 252 02\n\
@@ -109,18 +112,21 @@ const EXAMPLES: [(&str, &str); 15] = [
     ),
     // hunts.linx
     (
-        "# Hunts: for a name that is open, for one that opens later, for one that two endpoints \
-         have, with\n# signals of our own as answers, and over a link. Each is answered once, to \
-         the endpoint that hunts.\nnode station\nnode office\nlink line station office\n\nactor \
-         client station\n  open client\n  hunt desk                   # nobody has this name yet: \
-         it stays pending\n  hunt client                 # our own name is open: answered at \
-         once, with signal 251\n  recv 251\n  recv 251                    # the desk has opened \
-         meanwhile, which answered the pending hunt\n  keep desk\n  hunt desk 7                 # \
-         the answer may have another number ..\n  recv 7\n  hunt desk 8 hex:0102        # .. and \
-         data, which the hunter chooses\n  recv 8\n  hunt desk                   # both desks \
-         have the name: the one that opened first is found\n  recv 251\n  send last 1\n  hunt \
-         line/archive           # over the link: asked there, and answered when the name is \
-         met\n  recv 251\n  send last 1\n  hunt line/nobody            # never answered\n  hunt \
+        "# Look for the step that each `found` names behind its `@`: that of its hunt.\n# Hunts: \
+         for a name that is open, for one that opens later, for one that two endpoints have, \
+         with\n# signals of our own as answers, and over a link. Each is answered once, to the \
+         endpoint that hunts.\n# Which of the desks opens first, and whether a hunt waits, is \
+         left to the order of the turns: the\n# comments say what comes under `serial`.\nnode \
+         station\nnode office\nlink line station office\n\nactor client station\n  open client\n  \
+         hunt desk                   # nobody has this name yet: it stays pending\n  hunt \
+         client                 # our own name is open: answered at once, with signal 251\n  recv \
+         251\n  recv 251                    # the desk has opened meanwhile, which answered the \
+         pending hunt\n  keep desk\n  hunt desk 7                 # the answer may have another \
+         number ..\n  recv 7\n  hunt desk 8 hex:0102        # .. and data, which the hunter \
+         chooses\n  recv 8\n  hunt desk                   # both desks have the name: the one \
+         that opened first is found\n  recv 251\n  send last 1\n  hunt line/archive           # \
+         over the link: asked there, and answered when the name is met\n  recv 251\n  send last \
+         1\n  hunt line/nobody            # never answered, in any order\n  hunt \
          archive                # the archive is on the other node: nothing of that name is \
          here\n  recv 251                    # all else ends or waits in vain: it finds none\n\
          end\n\nactor first station\n  open other\n  close\n  open desk\n  recv 1\nend\n\nactor \
@@ -164,17 +170,18 @@ const EXAMPLES: [(&str, &str); 15] = [
     ),
     // link.linx
     (
-        "# A client asks a server over a link that loses, repeats and exchanges packets. Each \
-         signal arrives\n# once, in order, and before the end of its sender is told.\nnode \
-         station\nnode office\nlink line station office window 4 piece 64\nplan line > D D L D R \
-         D S2 D L   # what the station sends\nplan line < D R D L              # what the office \
-         sends\n\nactor client station\n  open client\n  hunt line/server              # answered \
-         with signal 251 when the name is met over the link\n  recv 251                      # \
-         its sender, `last`, is the server as it is reached in this session\n  send last 1\n  \
-         send last 2 fill:150:2a       # goes in three pieces\n  recv 3\n  close\nend\n\nactor \
-         server office\n  open server\n  recv 1\n  attach last end\n  recv 2\n  send last 3 \
-         hex:07\n  recv 252                      # comes with 00, for `closed`, behind all that \
-         the client sent\nend\n",
+        "# Look for the packets that are lost and repeated, and that each signal arrives once all \
+         the same.\n# A client asks a server over a link that loses, repeats and exchanges \
+         packets. Each signal arrives\n# once, in order, and before the end of its sender is \
+         told.\nnode station\nnode office\nlink line station office window 4 piece 64\nplan line \
+         > D D L D R D S2 D L   # what the station sends\nplan line < D R D L              # what \
+         the office sends\n\nactor client station\n  open client\n  hunt line/server              \
+         # answered with signal 251 when the name is met over the link\n  recv \
+         251                      # its sender, `last`, is the server as it is reached in this \
+         session\n  send last 1\n  send last 2 fill:150:2a       # goes in three pieces\n  recv \
+         3\n  close\nend\n\nactor server office\n  open server\n  recv 1\n  attach last end\n  \
+         recv 2\n  send last 3 hex:07\n  recv 252                      # comes with 00, for \
+         `closed`, behind all that the client sent\nend\n",
         "log 1.1 client station\nhunt line/server 251 -\nfound line:1.1:2.1 251 -\ntook \
          line:1.1:2.1 251 -\nsent line:1.1:2.1 1 - link\nsent line:1.1:2.1 2 \
          150:2cd24be653f8916a96d81e4b17fa0c4042c0232344c27b4b202df499bcd46c22 link\narrived \
@@ -214,22 +221,26 @@ const EXAMPLES: [(&str, &str); 15] = [
     ),
     // losses.linx
     (
-        "# What a plan does to packets. The link makes up for it: what isn't acknowledged is sent \
-         again, and\n# what comes twice or out of turn is known by its number. Only where a side \
-         hears nothing up to the\n# third tick of its clock is the session lost, and with it \
-         every peer behind the link.\nnode station\nnode office\nlink line station office window \
-         4 piece 64\nplan line > D D D D D D D D D R L S1 D L D D D D D  # what the station \
-         sends: some is repeated,\nplan line > L L L L L L                             # lost, \
-         exchanged; then all is lost\nplan line < D D L D R                               # what \
-         the office sends\n\nactor client station\n  open client\n  hunt line/server\n  recv \
-         251\n  keep server\n  attach server watch\n  send server 1\n  send server 2 \
-         fill:200:2a   # goes in four pieces\n  send server 3\n  recv 4                      # \
-         the answer to them: all three came, in order, each once\n  send server 5               # \
-         said into silence: the session is lost before it comes\n  recv 252                    # \
-         01, for `lost`\n  hunt line/server            # answered in the next session, with the \
-         server as a new peer\n  recv 251\n  send last 6\nend\n\nactor server office\n  open \
-         server\n  recv any\n  recv any\n  recv any\n  send last 4\n  recv any                    \
-         # a 6, and never the 5\nend\n",
+        "# Look for the first `down`, and for the signal that was sent before it and never \
+         arrives.\n# What a plan does to packets. The link makes up for it: what isn't \
+         acknowledged is sent again, and\n# what comes twice or out of turn is known by its \
+         number. Only where a side hears nothing up to the\n# third tick of its clock is the \
+         session lost, and with it every peer behind the link. Which packet\n# meets which \
+         verdict is left to the order of the turns: the comments at the plans and the commands\n# \
+         say what comes under `serial`. In threads the session may be lost, and up again, before \
+         signal 5\n# is sent: it is answered `dead` then.\nnode station\nnode office\nlink line \
+         station office window 4 piece 64\nplan line > D D D D D D D D D R L S1 D L D D D D D  # \
+         what the station sends: some is repeated,\nplan line > L L L L L \
+         L                             # lost, exchanged; then all is lost\nplan line < D D L D \
+         R                               # what the office sends\n\nactor client station\n  open \
+         client\n  hunt line/server\n  recv 251\n  keep server\n  attach server watch\n  send \
+         server 1\n  send server 2 fill:200:2a   # goes in four pieces\n  send server 3\n  recv \
+         4                      # the answer to them: all three came, in order, each once\n  send \
+         server 5               # said into silence: the session is lost before it comes\n  recv \
+         252                    # 01, for `lost`\n  hunt line/server            # answered in the \
+         next session, with the server as a new peer\n  recv 251\n  send last 6\nend\n\nactor \
+         server office\n  open server\n  recv any\n  recv any\n  recv any\n  send last 4\n  recv \
+         any                    # a 6, and never the 5\nend\n",
         "log 1.1 client station\nhunt line/server 251 -\nfound line:1.1:2.1 251 -\ntook \
          line:1.1:2.1 251 -\nattach line:1.1:2.1 252 -\nsent line:1.1:2.1 1 - link\nsent \
          line:1.1:2.1 2 200:65c16504dd0dbd70f5c4e43865f85cbdb1639b42bcdd192408f96b38fba4b8d6 \
@@ -287,13 +298,14 @@ const EXAMPLES: [(&str, &str); 15] = [
     ),
     // lost_link.linx
     (
-        "# A link is cut, and both sides are told that their peers are lost. Once it is mended a \
-         hunt finds\n# the same server again, as a new peer in a new session; the old peer stays \
+        "# Look for the peers: the server is another one in each session of the link.\n# A link \
+         is cut, and both sides are told that their peers are lost. Once it is mended a hunt \
+         finds\n# the same server again, as a new peer in a new session; the old peer stays \
          dead.\nnode station\nnode office\nlink line station office\n\nactor client station\n  \
          open client\n  hunt line/server\n  recv 251\n  keep old\n  attach old end\n  send old \
          1\n  recv 2\n  cut line\n  recv 252                # comes with 01, for `lost`\n  send \
-         old 1              # dead\n  mend line\n  hunt line/server        # stays pending until \
-         the link is up again\n  recv 251\n  attach last end\n  send last 3\n  recv \
+         old 1              # dead\n  mend line\n  hunt line/server        # answered once the \
+         link is up again\n  recv 251\n  attach last end\n  send last 3\n  recv \
          252                # comes with 00, for `closed`\nend\n\nactor server office\n  open \
          server\n  recv 1\n  attach last end\n  send last 2\n  recv 252                # comes \
          with 01 too\n  recv 3\n  close\nend\n",
@@ -345,12 +357,13 @@ const EXAMPLES: [(&str, &str); 15] = [
     ),
     // question.linx
     (
-        "# The first script to read: a client finds a server by its name, asks it, and reads the \
-         answer.\nnode station\n\nactor client station\n  open client\n  hunt server          # \
-         answered with signal 251, from whoever has the name\n  recv 251\n  send last 1 hex:2a   \
-         # `last` is who sent what was received last: the server\n  recv 2\nend\n\nactor server \
-         station\n  open server\n  recv 1               # waits for the question\n  send last \
-         2          # the client, now\nend\n",
+        "# Look for the answer: each endpoint's log has what it sent, what arrived and what it \
+         took.\n# The first script to read: a client finds a server by its name, asks it, and \
+         reads the answer.\nnode station\n\nactor client station\n  open client\n  hunt \
+         server          # answered with signal 251, from whoever has the name\n  recv 251\n  \
+         send last 1 hex:2a   # `last` is who sent what was received last: the server\n  recv 2\n\
+         end\n\nactor server station\n  open server\n  recv 1               # waits for the \
+         question\n  send last 2          # the client, now\nend\n",
         "log 1.1 client station\nhunt server 251 -\nfound 1.2 251 -\ntook 1.2 251 -\nsent 1.2 1 \
          2a queued\narrived 1.2 2 -\ntook 1.2 2 -\nclosed\nlog 1.2 server station\narrived 1.1 1 \
          2a\ntook 1.1 1 2a\nsent 1.1 2 - queued\nclosed\njournal 12\n1 A1 open client\n+ opened \
@@ -361,23 +374,23 @@ const EXAMPLES: [(&str, &str); 15] = [
     ),
     // reasons.linx
     (
-        "# An attach is answered once, when its peer ends, and the last byte of the signal says \
-         why: 00 where\n# the peer closed, 01 where the link to it was lost, 02 where it was dead \
-         already. A detach takes an\n# attach back, or its answer out of the queue.\nnode \
-         station\nnode office\nlink line station office\n\nactor client station\n  open client\n  \
-         hunt line/server\n  recv 251\n  keep server\n  attach server by_number 300          # \
-         answered with signal 300 in place of 252 ..\n  attach server with_data 301 hex:aabb # .. \
-         and with data of our own before the reason's byte\n  attach server taken_back\n  detach \
-         taken_back                    # pending: it is never answered\n  send server 1\n  recv \
-         300                             # the server closed: 00\n  recv \
-         301                             # the same end, told to the second attach: aabb00\n  \
-         attach server late\n  recv 252                             # dead already: 02, in the \
-         attach's own step\n  attach server later\n  detach later                         # \
-         queued: the answer is taken out of the queue\n  detach later                         # \
-         none: nothing is left of it\n  hunt line/other\n  recv 251\n  attach last watch\n  cut \
-         line\n  recv 252                             # the session is lost: 01; whether the peer \
-         lives isn't known\nend\n\nactor server office\n  open server\n  recv 1\n  close\nend\n\n\
-         actor other office\n  open other\n  recv 9\nend\n",
+        "# Look for the last byte of each notification: 00, 01 or 02.\n# An attach is answered \
+         once, when its peer ends, and the last byte of the signal says why: 00 where\n# the peer \
+         closed, 01 where the link to it was lost, 02 where it was dead already. A detach takes \
+         an\n# attach back, or its answer out of the queue.\nnode station\nnode office\nlink line \
+         station office\n\nactor client station\n  open client\n  hunt line/server\n  recv 251\n  \
+         keep server\n  attach server by_number 300          # answered with signal 300 in place \
+         of 252 ..\n  attach server with_data 301 hex:aabb # .. and with data of our own before \
+         the reason's byte\n  attach server taken_back\n  detach taken_back                    # \
+         pending: it is never answered\n  send server 1\n  recv 300                             # \
+         the server closed: 00\n  recv 301                             # the same end, told to \
+         the second attach: aabb00\n  attach server late\n  recv 252                             \
+         # dead already: 02, in the attach's own step\n  attach server later\n  detach \
+         later                         # queued: the answer is taken out of the queue\n  detach \
+         later                         # none: nothing is left of it\n  hunt line/other\n  recv \
+         251\n  attach last watch\n  cut line\n  recv 252                             # the \
+         session is lost: 01; whether the peer lives isn't known\nend\n\nactor server office\n  \
+         open server\n  recv 1\n  close\nend\n\nactor other office\n  open other\n  recv 9\nend\n",
         "log 1.1 client station\nhunt line/server 251 -\nfound line:1.1:2.1 251 -\ntook \
          line:1.1:2.1 251 -\nattach line:1.1:2.1 300 -\nattach line:1.1:2.1 301 aabb\nattach \
          line:1.1:2.1 252 -\ndetach pending\nsent line:1.1:2.1 1 - link\nnotified line:1.1:2.1 \
@@ -420,20 +433,20 @@ const EXAMPLES: [(&str, &str); 15] = [
     ),
     // refusals.linx
     (
-        "# Each reason for which a command is refused, and the same command once it can be done. \
-         A refused\n# command is a step, `refused` and the reason, and the actor goes on with the \
-         next one.\nnode station\n\nactor client station\n  send self 1     # no-peer: no \
-         endpoint was opened, so `self` is nobody\n  recv any        # not-open: an endpoint is \
-         needed to receive\n  open mailbox\n  open another    # is-open: an actor has one \
-         endpoint at a time\n  send last 1     # no-peer: nothing was taken yet, so `last` is \
-         nobody\n  send friend 1   # no-peer: no `keep` gave this name\n  forward self    # \
-         no-signal: nothing was taken yet\n  detach watch    # no-ref: no `attach` gave this \
-         name\n  send self 1\n  recv 1\n  forward friend  # no-peer: no `keep` gave this name; \
-         the taken signal is still held\n  forward last    # so now it goes on ..\n  forward \
-         last    # .. but only once: no-signal\n  keep friend\n  send friend 2\n  attach friend \
-         watch\n  detach watch\n  close\n  send friend 3   # not-open: the mailbox is closed\n  \
-         open another    # now it can be opened\n  send friend 3   # and this is sent, to a \
-         mailbox that is dead\nend\n",
+        "# Look for the steps `refused`, each with its reason.\n# Each reason for which a command \
+         is refused, and the same command once it can be done. A refused\n# command is a step, \
+         `refused` and the reason, and the actor goes on with the next one.\nnode station\n\n\
+         actor client station\n  send self 1     # no-peer: no endpoint was opened, so `self` is \
+         nobody\n  recv any        # not-open: an endpoint is needed to receive\n  open \
+         mailbox\n  open another    # is-open: an actor has one endpoint at a time\n  send last \
+         1     # no-peer: nothing was taken yet, so `last` is nobody\n  send friend 1   # \
+         no-peer: no `keep` gave this name\n  forward self    # no-signal: nothing was taken \
+         yet\n  detach watch    # no-ref: no `attach` gave this name\n  send self 1\n  recv 1\n  \
+         forward friend  # no-peer: no `keep` gave this name; the taken signal is still held\n  \
+         forward last    # so now it goes on ..\n  forward last    # .. but only once: \
+         no-signal\n  keep friend\n  send friend 2\n  attach friend watch\n  detach watch\n  \
+         close\n  send friend 3   # not-open: the mailbox is closed\n  open another    # now it \
+         can be opened\n  send friend 3   # and this is sent, to a mailbox that is dead\nend\n",
         "log 1.1 mailbox station\nsent 1.1 1 - queued\narrived 1.1 1 -\ntook 1.1 1 -\nsent 1.1 1 \
          - queued\narrived 1.1 1 -\nsent 1.1 2 - queued\narrived 1.1 2 -\nattach 1.1 252 -\n\
          detach pending\nclosed\nlog 1.2 another station\nsent 1.1 3 - dead\nclosed\njournal 21\n\
@@ -447,13 +460,14 @@ const EXAMPLES: [(&str, &str); 15] = [
     ),
     // repeated_send.linx
     (
-        "# A client writes to itself: comments, a repeated block, and data of both spellings.\n\
-         node station\n\nactor client station     # it is actor 1, and runs on the node above\n  \
-         open mailbox\n  repeat 2\n    send self 7 fill:40:5a   # 40 bytes of the value 5a: \
-         printed as their number and digest\n    send self 8 hex:00FF     # two bytes: printed as \
-         they are\n    recv any                 # the signal that has waited longest\n  end\n  \
-         recv any\n  recv any\n  send self 9\n  close                      # signal 9 is never \
-         received\nend\n",
+        "# Look for how data are printed: as they are up to 32 bytes, else as their number and \
+         digest.\n# A client writes to itself: comments, a repeated block, and data of both \
+         spellings.\nnode station\n\nactor client station     # it is actor 1, and runs on the \
+         node above\n  open mailbox\n  repeat 2\n    send self 7 fill:40:5a   # 40 bytes of the \
+         value 5a: printed as their number and digest\n    send self 8 hex:00FF     # two bytes: \
+         printed as they are\n    recv any                 # the signal that has waited \
+         longest\n  end\n  recv any\n  recv any\n  send self 9\n  close                      # \
+         signal 9 is never received\nend\n",
         "log 1.1 mailbox station\nsent 1.1 7 \
          40:b12d7f19ef41511dad76b52309860aa4fb12f10bc769634dae3618918c252925 queued\narrived 1.1 \
          7 40:b12d7f19ef41511dad76b52309860aa4fb12f10bc769634dae3618918c252925\nsent 1.1 8 00ff \
@@ -475,13 +489,15 @@ const EXAMPLES: [(&str, &str); 15] = [
     ),
     // restart.linx
     (
-        "# An actor of one node restarts another: its endpoints are closed, with their queues, \
-         hunts and\n# attaches, and nobody there is told. The actors go on; what needs an \
-         endpoint is refused.\nnode station\nnode office\n\nactor client station\n  open \
-         mailbox\n  hunt nobody       # stays pending, and is gone with the endpoint\n  send self \
-         7\n  recv 5            # waits when the node is restarted, and is then refused\n  send \
-         self 1       # the same\nend\n\nactor operator office\n  open desk\n  send self 1\n  \
-         recv any\n  restart station\nend\n",
+        "# Look for the effects `closed` of the restart, and for the refusals behind it.\n# An \
+         actor of one node restarts another: its endpoints are closed, with their queues, hunts \
+         and\n# attaches, and nobody there is told. The actors go on; what needs an endpoint is \
+         refused.\n# How far the client is when its node is restarted is left to the order of the \
+         turns: the comments\n# say what comes under `serial`.\nnode station\nnode office\n\n\
+         actor client station\n  open mailbox\n  hunt nobody       # stays pending, and is gone \
+         with the endpoint\n  send self 7\n  recv 5            # waits when the node is \
+         restarted, and is then refused\n  send self 1       # the same\nend\n\nactor operator \
+         office\n  open desk\n  send self 1\n  recv any\n  restart station\nend\n",
         "log 1.1 mailbox station\nhunt nobody 251 -\nsent 1.1 7 - queued\narrived 1.1 7 -\n\
          closed\nlog 2.1 desk office\nsent 2.1 1 - queued\narrived 2.1 1 -\ntook 2.1 1 -\nclosed\n\
          journal 12\n1 A1 open mailbox\n+ opened 1.1\n2 A2 open desk\n+ opened 2.1\n3 A1 hunt \
@@ -492,7 +508,8 @@ const EXAMPLES: [(&str, &str); 15] = [
     ),
     // restarted_node.linx
     (
-        "# The node of a server is restarted while a client across a link waits for its answer. \
+        "# Look for the two peers `2.1` and `2.2`: the server before the restart, and after it.\n\
+         # The node of a server is restarted while a client across a link waits for its answer. \
          The client is\n# told that the link's session is lost; a hunt finds the new server once \
          it is open.\nnode station\nnode office\nlink line station office\n\nactor client \
          station\n  open client\n  hunt line/server\n  recv 251\n  attach last watch\n  send last \
@@ -543,7 +560,8 @@ const EXAMPLES: [(&str, &str); 15] = [
     ),
     // self_send.linx
     (
-        "# The smallest exchange: an actor opens an endpoint, sends a signal to it, and takes the \
+        "# Look for how one signal is sent, arrives and is taken, in the log and in the journal.\n\
+         # The smallest exchange: an actor opens an endpoint, sends a signal to it, and takes the \
          signal.\nnode n            # a computer\nactor p n         # a program on it, whose \
          commands follow\n  open a          # an endpoint with the name `a`, and a queue; now it \
          is `self`\n  send self 5     # a signal of number 5, without data: it comes into that \
@@ -556,17 +574,19 @@ const EXAMPLES: [(&str, &str); 15] = [
     ),
     // settle.linx
     (
-        "# A line loses most of what it carries. A settle ends its plans, and the actor makes the \
+        "# Look for the steps that the client makes of the line, `A1 wire` and `A1 tick`.\n# A \
+         line loses most of what it carries. A settle ends its plans, and the actor makes the \
          steps of the\n# line until it is at rest: both ends are up with each other, and all that \
-         was said has come. So the\n# hunt is answered before the next command, and what was sent \
-         isn't lost by the cut.\nnode station\nnode office\nlink line station office window 2 \
-         piece 64\nplan line > L L L D L R S2 L    # the rest of it is never used\nplan line < L \
-         D L L\n\nactor client station\n  open client\n  hunt line/server\n  settle line\n  recv \
-         251                      # doesn't wait\n  attach last end\n  send last 1 \
-         fill:150:2a       # goes in three pieces\n  settle line\n  cut line\n  settle \
-         line                   # one step: a line that is cut isn't settled\n  recv \
-         252                      # comes with 01, for `lost`\nend\n\nactor server office\n  open \
-         server\n  recv 1\n  recv any                      # finds none\nend\n",
+         was said has come. So what\n# was sent isn't lost by the cut; and under `serial`, where \
+         the server is open by then, the hunt is\n# answered before the next command.\nnode \
+         station\nnode office\nlink line station office window 2 piece 64\nplan line > L L L D L \
+         R S2 L    # the rest of it is never used\nplan line < L D L L\n\nactor client station\n  \
+         open client\n  hunt line/server\n  settle line\n  recv 251                      # under \
+         `serial` it doesn't wait\n  attach last end\n  send last 1 fill:150:2a       # goes in \
+         three pieces\n  settle line\n  cut line\n  settle line                   # one step: a \
+         line that is cut isn't settled\n  recv 252                      # comes with 01, for \
+         `lost`\nend\n\nactor server office\n  open server\n  recv 1\n  recv \
+         any                      # finds none\nend\n",
         "log 1.1 client station\nhunt line/server 251 -\nfound line:1.1:2.1 251 -\ntook \
          line:1.1:2.1 251 -\nattach line:1.1:2.1 252 -\nsent line:1.1:2.1 1 \
          150:2cd24be653f8916a96d81e4b17fa0c4042c0232344c27b4b202df499bcd46c22 link\nnotified \
