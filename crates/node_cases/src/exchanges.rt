@@ -1,6 +1,6 @@
 //! Exchanges at a node, each line a call of its kernel and what is answered: effects as
-//! `docs/text.md` spells them, or an item by its sender, its kind, its signal and its position. A
-//! peer over a link is spelled by the link, the session and the incarnation, as `1:1.5:2.77`.
+//! `docs/use/text.md` spells them, or an item by its sender, its kind, its signal and its position.
+//! A peer over a link is spelled by the link, the session and the incarnation, as `1:1.5:2.77`.
 
 use crate::kernel_lines::answer;
 use case_words::follow_anew;

@@ -1,4 +1,4 @@
-//! What is answered, as text; effects in the words of `docs/text.md`.
+//! What is answered, as text; effects in the words of `docs/use/text.md`.
 
 use case_words::{add_piece, inc_text, name_text, number_text, session_text, text_of};
 use hunt_table::HuntsUnder;
