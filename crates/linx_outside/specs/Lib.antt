@@ -4,3 +4,4 @@ pub mod Reading
 pub mod Writing
 pub mod Contents
 pub mod Failures
+pub mod Opening
