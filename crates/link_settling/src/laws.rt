@@ -19,8 +19,8 @@ pub fn links_settle()
     ensures { LinksSettle }
 {}
 
-/// So does every link in six rounds, or in eight: in each of them a side ticks, and all packets come,
-/// then the other ticks, and all packets come; which side is the first is free in each round.
+/// So does every link in six rounds, or in eight: in each of them a side ticks, and all packets
+/// come, then the other ticks, and all packets come; which side is the first is free in each round.
 pub fn links_settle_in_rounds()
     ensures { LinksSettleInRounds }
 {}

@@ -1,3 +1,13 @@
 pub mod Offering
+pub mod Settled
 pub mod Coming
 pub mod Settling
+pub mod Adding
+pub mod Replying
+pub mod Lessening
+pub mod Falling
+pub mod Elsewhere
+pub mod Going
+pub mod InRounds
+pub mod Resting
+pub mod Worked

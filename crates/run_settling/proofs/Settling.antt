@@ -1,5 +1,5 @@
 -- Every link of a run settles in six ticks.
-use Rattle.std.proofs.Common.{◌≡◌, ℕ, suc, List, refl, sym, ◌∙◌, ap, subst}
+use Rattle.std.proofs.Common.{◌≡◌, ℕ, zero, suc, true, List, refl, sym, ◌∙◌, ap, subst}
 use Rattle.linx_base.specs.Sides.{other_of}
 use Rattle.linx_base.specs.declared.frame.Verdict.TheVariants.{Deliver}
 use Rattle.linx_base.specs.declared.identity.LinkNo.{LinkNo}
@@ -12,19 +12,23 @@ use Rattle.journal.specs.declared.head.Head.{Head}
 use Rattle.journal.specs.declared.head.Head.TheVariants.{Tick, Wire}
 use Rattle.link_laws.specs.Ends.{IsLinkOf, node_at}
 use Rattle.ethcm_end.specs.Rules.{tick_of}
-use Rattle.carrier.specs.Events.{LinkState, ticked_as}
+use Rattle.carrier.specs.Events.{LinkState, is_quiet, ticked_as}
 use Rattle.carrier.specs.Events as links
 use Rattle.carrier.specs.declared.handed.TickedSide.{TickedSide}
 use Rattle.carrier.specs.declared.handed.TickedSide.TheVariants as tells
-use Rattle.link_settling.specs.Runs.{SettlesIn}
+use Rattle.link_settling.specs.Runs.{OnceEmpty, SettlesIn}
 use Rattle.link_settling.proofs.Settling.{links_settle}
 use Rattle.trunk.specs.Events.{TrunkState, near_beat, ticked_at, turned, with_link}
 use Rattle.trunk.proofs.Quiet.{quiet}
+use Rattle.trunk.specs.Keeping.{KeepsTrunk}
+use Rattle.trunk_moves.specs.Grants.{AreNames, GrantsAnswer}
+use Rattle.trunk_moves.specs.Packets.{names_hunted}
 use Rattle.trunk_moves.specs.Steps.{IsBoundedTrunkRun, Makes, Passes, Ticks}
 use Rattle.trunk_moves.specs.Trunks.{RunTrunks}
 use Rattle.trunk_moves.proofs.Runs.{trunk_runs_are_runs, trunk_runs_grant}
 use Rattle.trunk_moves.proofs.Sides.{is_trunk}
-use Rattle.run_settling.specs.Laws.{LinkSettlesIn, NoneFlies, RunGoesOn, RunsSettle}
+use Rattle.run_settling.specs.Laws.{LinkSettlesIn, RunGoesOn, RunsSettle}
+use Rattle.run_settling.specs.Resting.{NoneFlies}
 use Rattle.run_settling.proofs.Coming.{comes_settles}
 
 begins : (shape : Shape) (P : List Step) (trunks : RunTrunks) → IsBoundedTrunkRun shape P trunks
@@ -60,31 +64,58 @@ module _ (shape : Shape) (P : List Step) (before : RunTrunks) (s : Step) (after 
       subst (λ (h : Head). Makes shape P before after (node_by shape s.by) (endpoint_by P s.by) h
       s.effects) is goes.step.makes
 
-  pub comes : (from : Side) → s.head ≡ Wire l from Deliver → (n : ℕ) (side : Side)
-      → LinkSettlesIn n side l before → LinkSettlesIn n side l after
-  comes from is n side h =
+  -- what is known of a packet from a side that comes
+  pub record Came (from : Side) : Type 0 where
+    pub passes : Passes shape P before after l from Deliver s.effects
+    pub kept : KeepsTrunk (before l.0)
+    pub named : AreNames (names_hunted P (node_at shape l (other_of from)) l)
+    pub grants : GrantsAnswer P (node_at shape l (other_of from)) from (before l.0)
+
+  pub came : (from : Side) → s.head ≡ Wire l from Deliver → Came from
+  came from is =
       let passes : Passes shape P before after l from Deliver s.effects =
       makes (Wire l from Deliver) is in
-      let kept = (trunk_runs_are_runs shape P before goes.run).kept l passes.of_shape in
-      let node : ℕ = node_at shape l (other_of from) in
       let asked =
       trunk_runs_grant shape P before goes.run goes.room l passes.of_shape (other_of from) in
       let answers = trunk_runs_grant shape P before goes.run goes.room l passes.of_shape from in
-      subst (λ (t : TrunkState). SettlesIn n side t.link)
-      (sym (is_trunk shape before after l passes.of_shape passes.trunk passes.makes))
-      (comes_settles P node l from s.effects (before l.0) passes.trunk kept asked.0.asks answers.1
-      passes.meets n side h)
+      record {
+        passes = passes;
+        kept = (trunk_runs_are_runs shape P before goes.run).kept l passes.of_shape;
+        named = asked.0.asks;
+        grants = answers.1;
+      }
+
+  -- what holds once nothing is in flight does so too after a packet from a side came
+  pub still_comes : (from : Side) → s.head ≡ Wire l from Deliver → (holds : LinkState → Type 0)
+      → OnceEmpty (before l.0).link holds → OnceEmpty (after l.0).link holds
+  still_comes from is holds h =
+      let c = came from is in
+      subst (λ (t : TrunkState). OnceEmpty t.link holds)
+      (sym (is_trunk shape before after l c.passes.of_shape c.passes.trunk c.passes.makes))
+      (comes_settles holds P (node_at shape l (other_of from)) l from s.effects (before l.0)
+      c.passes.trunk c.kept c.named c.grants c.passes.meets h)
+
+  pub comes : (from : Side) → s.head ≡ Wire l from Deliver → (n : ℕ) (side : Side)
+      → LinkSettlesIn n side l before → LinkSettlesIn n side l after
+  unfolding SettlesIn
+  comes from is zero side h = still_comes from is (λ w. is_quiet w ≡ true) h
+  comes from is (suc n) side h =
+      still_comes from is (λ w. SettlesIn n (other_of side) (links.ticked_at side w)) h
+
+  -- a tick ticks the link
+  pub ticked_is : (side : Side) → s.head ≡ Tick l side
+      → (after l.0).link ≡ links.ticked_at side (before l.0).link
+  ticked_is side is =
+      let ticks : Ticks shape P before after l side s.effects = makes (Tick l side) is in
+      ap (λ (t : TrunkState). t.link)
+      (is_trunk shape before after l ticks.of_shape ticks.trunk ticks.makes ∙ ticks.beat.makes)
+      ∙ ticked_link side (before l.0)
 
   pub ticked : (side : Side) → s.head ≡ Tick l side → NoneFlies l before → (n : ℕ)
       → LinkSettlesIn (suc n) side l before → LinkSettlesIn n (other_of side) l after
   ticked side is none n h =
-      let ticks : Ticks shape P before after l side s.effects = makes (Tick l side) is in
-      subst (λ (t : TrunkState). SettlesIn n (other_of side) t.link)
-      (sym (is_trunk shape before after l ticks.of_shape ticks.trunk ticks.makes
-      ∙ ticks.beat.makes))
-      (subst (λ (v : LinkState). SettlesIn n (other_of side) v)
-      (sym (ticked_link side (before l.0)))
-      (links_settle.ticked n side (before l.0).link none h))
+      subst (λ (v : LinkState). SettlesIn n (other_of side) v) (sym (ticked_is side is))
+      (links_settle.ticked n side (before l.0).link none h)
 
 -- ---- all of it
 
