@@ -339,8 +339,13 @@ way-ends law by l start now ticks way none =
       counted = way.counted;
       few = way.left.few;
       still = still;
-      joined = law.joined now.shape now.log.steps (trunks_of now.trunks) way.run l way.of_shape
-          (true_from_not (is_quiet (trunks_of now.trunks l.0).link) calm);
+      joined =
+          let quiet = true_from_not (is_quiet (trunks_of now.trunks l.0).link) calm in
+          record {
+            quiet = quiet;
+            sides = law.joined now.shape now.log.steps (trunks_of now.trunks) way.run l
+                way.of_shape quiet;
+          };
     }
 
 -- IT STOPS where one is

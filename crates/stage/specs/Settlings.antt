@@ -3,7 +3,6 @@
 use Rattle.std.specs.Prelude.{ℕ, zero, suc, ◌+◌, ◌≡◌, ◌≤◌, Bool, true, false, ◌&&◌, List, []}
 use Rattle.std.specs.Prelude.{◌∷◌, length, nat_le, nat_lt, Option, Some, None, if◌then◌else◌}
 use Rattle.linx_base.specs.declared.identity.LinkNo.{LinkNo}
-use Rattle.linx_base.specs.declared.identity.Side.TheVariants.{First, Second}
 use Rattle.journal.specs.declared.by.By.{By}
 use Rattle.journal.specs.declared.by.By.TheVariants.{Actor, Pump}
 use Rattle.journal.specs.declared.effect.Step.{Step}
@@ -18,9 +17,8 @@ use Rattle.link_laws.specs.Sessions.{is_cut}
 use Rattle.node_kernel.specs.declared.answers.StepAnswer.{StepAnswer}
 use Rattle.node_kernel.specs.declared.ask.Ask.{Ask}
 use Rattle.run_trunks.specs.States.{trunks_of}
-use Rattle.trunk.specs.Events.{TrunkState, kept_of}
 use Rattle.trunk_moves.specs.Trunks.{RunTrunks}
-use Rattle.trunk_record.specs.Trunks.{IsQuiet}
+use Rattle.run_settling.specs.Resting.{IsJoined}
 use Rattle.fabric.specs.Actings.{OnlyRuns}
 use Rattle.fabric.specs.declared.stop.StepStop.{StepStop}
 use Rattle.fabric.specs.Links.{is_settled, stirs, tick_steps}
@@ -60,19 +58,14 @@ AreSettlings by l (suc n) old new =
 abbrev pub stirs_in : Layout → LinkNo → Bool
 stirs_in f l = stirs f.log.steps (trunks_of f.trunks) l.0
 
--- both sides of a link are up with each other, and all that was said was given
-abbrev pub IsJoined : TrunkState → Type 0
-IsJoined t = IsQuiet (kept_of First t) (kept_of Second t)
-
--- A LINK WAS SETTLED, with so many ticks: at most six. It doesn't stir, and both sides are up with
--- each other
+-- A LINK WAS SETTLED, with so many ticks: at most six. It doesn't stir, and is joined
 pub record IsSettled (by : By) (l : LinkNo) (ticks : ℕ) (old new : Layout) : Type 0 where
   pub steps : ℕ
   pub made : AreSettlings by l steps old new
   pub counted : tick_steps new.log.steps l.0 ≡ tick_steps old.log.steps l.0 + ticks
   pub few : ticks ≤ 6
   pub still : stirs_in new l ≡ false
-  pub joined : IsJoined (trunks_of new.trunks l.0)
+  pub joined : IsJoined l (trunks_of new.trunks)
 
 -- a settling stopped: a step of it is due
 pub record StopsSettling (by : By) (l : LinkNo) (old new : Layout) : Type 0 where

@@ -115,8 +115,8 @@ pub(crate) fn make_step(fabric: &mut Fabric, by: By, event: Event) -> Result<Ste
 }
 
 /// Settles a link: makes the steps of its pump, as this maker, until the link doesn't stir. It
-/// answers how many ticks that took: six at most, and then both sides are up with each other. A
-/// stop leaves the steps that were made.
+/// answers how many ticks that took: six at most, and then both sides are up with each other and
+/// were given all that was said. A stop leaves the steps that were made.
 pub fn settle(fabric: &mut Fabric, by: By, link: LinkNo) -> Result<u32, StopCause>
     requires declared { IsLinkOf fabric.old.shape link }
     requires maker { IsMaker fabric.old.shape fabric.old.log.steps by }
