@@ -8,6 +8,7 @@ pub mod Settling
 mod Settled
 mod Latest
 pub mod Going
+mod Resting
 mod Rounds
 pub mod Planned
 pub mod Players

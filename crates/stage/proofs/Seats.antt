@@ -16,6 +16,7 @@ use Rattle.journal.specs.declared.head.Head.{Head}
 use Rattle.journal.specs.History.{has_ended}
 use Rattle.journal.specs.Shapes.{Shape}
 use Rattle.link_laws.specs.Laws.{IsLegal}
+use Rattle.link_laws.specs.Moves.{AllResting}
 use Rattle.link_laws.specs.Runs.{KeepsThroughout}
 use Rattle.link_laws.specs.Still.{IsOver}
 use Rattle.run_trunks.specs.States.{new_trunks, trunks_of}
@@ -33,6 +34,7 @@ use Rattle.fabric.specs.Links.{is_still}
 use Rattle.fabric.specs.Machine.{all_have_ended, have_ended}
 use Rattle.fabric.specs.Asks.{MayAsk}
 use Rattle.fabric.specs.Machine.{pumped_head}
+use Rattle.fabric.specs.Remains.{IsLaidOut}
 use Rattle.fabric.specs.Run.{IsReached, IsReachedBy, IsStepFor, Layout}
 use Rattle.fabric.specs.declared.stop.StopCause.{StopCause}
 use Rattle.fabric.proofs.Kept.{get-set, get-set-other}
@@ -50,6 +52,7 @@ use Rattle.stage.proofs.Asking.{may_ask, next-handed}
 use Rattle.stage.proofs.Going.{GoesFar, done-far, half-far}
 use Rattle.stage.proofs.Planned.{far-planned, new-planned, planned-pumped}
 use Rattle.stage.proofs.Players.{after-goes_on, far-goes_on, none-goes_on, seated-other}
+use Rattle.stage.proofs.Resting.{over-rests}
 use Rattle.stage.proofs.Rounds.{round-moves}
 
 -- BEFORE THE FIRST TURNS
@@ -364,6 +367,17 @@ module _ (script : ScriptParts) (fabric : Layout) (players : List Player)
   pub staged-over : (is_over fabric ≡ true → IsOver fabric.shape fabric.log.steps)
       → is_over fabric ≡ true → IsOver (shape_of script) fabric.log.steps
   staged-over over is = subst (λ (s : Shape). IsOver s fabric.log.steps) staged.shape (over is)
+
+  -- and each link rests
+  pub staged-rest : IsLaidOut (length fabric.log.names.nodes) fabric.shape
+      → length fabric.log.steps ≤ 200000 → IsReachedBy fabric → is_over fabric ≡ true
+      → AllResting (shape_of script) fabric.log.steps (links_of (trunks_of fabric.trunks))
+  staged-rest laid few reached over =
+      subst (λ (s : Shape). AllResting s fabric.log.steps (links_of (trunks_of fabric.trunks)))
+      staged.shape
+      (over-rests fabric laid few reached
+      (and_parts (all_have_ended fabric.shape fabric.log.steps)
+      (is_still fabric.shape fabric.log.steps (trunks_of fabric.trunks)) over).1)
 
   pub staged-moves : is_over fabric ≡ false → (next : Layout) → IsRound script fabric next
       → length fabric.log.steps < length next.log.steps

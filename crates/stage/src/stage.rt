@@ -4,8 +4,10 @@ ghost use Rattle.std.specs.Prelude.{OnOk, OnErr, IsErr, Err, is_some, not, ◌&&
 ghost use Rattle.journal.specs.History.{has_ended};
 ghost use Rattle.journal.specs.Rest.{is_idle};
 ghost use Rattle.link_laws.specs.Ends.{IsLinkOf};
+ghost use Rattle.link_laws.specs.Moves.{AllResting};
 ghost use Rattle.link_laws.specs.Still.{IsOver};
 ghost use Rattle.run_trunks.specs.States.{trunks_of};
+ghost use Rattle.trunk_moves.specs.Trunks.{links_of};
 ghost use Rattle.fabric.specs.Links.{is_still};
 ghost use Rattle.fabric.specs.Machine.{is_at_rest};
 ghost use Rattle.fabric.specs.Run.{Layout};
@@ -140,12 +142,15 @@ impl Stage {
     }
 
     /// The journal. Where all is over, each actor has followed its commands to their end, and every
-    /// link is still.
+    /// link is still and rests: it is cut and up at neither end, or both sides are up with each
+    /// other, and what each said is what the other was given.
     pub fn into_journal(self) -> Journal
         ensures log { result.log ≡ self.run.log }
         ensures so_far { IsSoFar self.script self.run }
         ensures whole { is_over self.run ≡ true → AllFollowWhole self.script self.run.log.steps }
         ensures over { is_over self.run ≡ true → IsOver (shape_of self.script) self.run.log.steps }
+        ensures rest { is_over self.run ≡ true → AllResting (shape_of self.script)
+            self.run.log.steps (links_of (trunks_of self.run.trunks)) }
     {
         self.fabric.into_journal()
     }

@@ -1,5 +1,5 @@
 use Rattle.std.proofs.Common.{sym}
-use Rattle.stage.proofs.Seats.{staged-over, staged-so_far, staged-whole}
+use Rattle.stage.proofs.Seats.{staged-over, staged-rest, staged-so_far, staged-whole}
 use Rattle.stage.proofs.stage.Stage.into_journal.Goals as goal
 
 pub returns-clause-so_far : goal.returns-clause-so_far
@@ -20,3 +20,10 @@ returns-clause-over c =
     let s = c.self.inside in
     rw (sym c.self.view_is)
     (staged-over s.script s.fabric s.players.items c.self.invariant c.into_journal.ensures.over)
+
+pub returns-clause-rest : goal.returns-clause-rest
+returns-clause-rest c =
+    let s = c.self.inside in
+    rw (sym c.self.view_is)
+    (staged-rest s.script s.fabric s.players.items c.self.invariant
+    c.into_journal.ensures.laid_out c.into_journal.ensures.few c.into_journal.ensures.reached)
