@@ -1,6 +1,6 @@
 -- One call: what was taken, what was made of it, and what was given back.
 use Rattle.std.proofs.Common.{◌≡◌, ℕ, Bool, true, false, ◌&&◌, ◌||◌, List, [], ◌∷◌, ◌++◌}
-use Rattle.std.proofs.Common.{refl, sym, ◌∙◌, ap, subst, inl, inr}
+use Rattle.std.proofs.Common.{length, Option, Some, None, refl, sym, ◌∙◌, ap, subst, inl, inr, arith}
 use Rattle.std.specs.Prelude.{Result, Ok, Err}
 use Rattle.std.proofs.lemmas.List.Elements.{All-nil, All-cons}
 use Rattle.journal.specs.declared.by.By.{By}
@@ -20,9 +20,9 @@ use Rattle.fabric.specs.Machine.{signal_in}
 use Rattle.fabric.specs.Run.{Layout}
 use Rattle.turn_lock.specs.declared.story.Made.{Made}
 use Rattle.turn_lock.specs.Passes.{PassView, own_steps}
-use Rattle.turn_lock.specs.Stories.{IsAddedBy, RestsFor, made_by}
+use Rattle.turn_lock.specs.Stories.{IsAddedBy, RestsFor, made, made_by}
 use Rattle.linx_api.specs.Asked.{CanAsk, Gives, IsAnswered, IsAsked, IsLawful, IsRunning}
-use Rattle.linx_api.specs.Asked.{own_layout}
+use Rattle.linx_api.specs.Asked.{own_layout, own_with, steps_with}
 use Rattle.linx_api.specs.Telling.{PlanParts, made_steps, maker_number, numbered, plan_of, steps_in}
 use Rattle.linx_api.specs.Telling.{story_of}
 use Rattle.linx_api.proofs.Answering.{fits-there, head-runs}
@@ -99,6 +99,28 @@ module _ (pass turn : PassView Step PlanParts) (x y : Layout) (ask : Ask)
       plan-stays x y only
       ∙ (plan ∙ sym (ap (λ (p : PassView Step PlanParts). p.fixed) turn_is))
 
+  -- what the pass made of it
+  own-made : (after : PassView Step PlanParts)
+      → ((added : List (Made Step)) → story_of y ≡ added ++ story_of x
+      → own_steps after ≡ added ++ own_steps pass)
+      → (r : Result StepAnswer StepStop) → Gives x y (Actor pass.number) ask r
+      → (s : Option Step)
+      × ((y.log.steps ≡ steps_with x s) × (own_steps after ≡ own_with pass s))
+  own-made after mine (Err stop) stopped =
+      (None, (ap (λ (f : Layout). f.log.steps) stopped.same, mine [] (ap story_of stopped.same)))
+  own-made after mine (Ok answer) (inr nothing) =
+      (None, (ap (λ (f : Layout). f.log.steps) nothing.same, mine [] (ap story_of nothing.same)))
+  own-made after mine (Ok answer) (inl one) =
+      let number : maker_number x.shape one.step.by ≡ pass.number =
+      ap (λ (by : By). maker_number x.shape by) one.made_by in (
+        Some one.step,
+        (
+          one.added,
+          mine (numbered x.shape one.step ∷ []) (story-one x y only one.step one.added)
+              ∙ ap (λ (n : ℕ). made n one.step ∷ own_steps pass) number,
+        ),
+      )
+
   -- ONE CALL
   pub is-asked : (after : PassView Step PlanParts) → RestsFor pass.number (story_of x) pass.front
       → own_steps turn ≡ own_steps pass → IsLawful x → IsLawful y
@@ -108,10 +130,11 @@ module _ (pass turn : PassView Step PlanParts) (x y : Layout) (ask : Ask)
       → own_steps after ≡ added ++ own_steps turn)
       → IsAsked pass ask result after
   is-asked after rests own lawful remains answered after_is mine =
-      let front : after.front ≡ story_of y =
-      ap (λ (p : PassView Step PlanParts). p.front) after_is in
       let found : story_of x ≡ turn.front =
       sym (ap (λ (p : PassView Step PlanParts). p.front) turn_is) in
+      let its = own-made after
+      (λ added e. mine added (e ∙ ap (λ l. added ++ l) found) ∙ ap (λ l. added ++ l) own)
+      result answered.gives in
       record {
         found = x;
         left = y;
@@ -124,9 +147,9 @@ module _ (pass turn : PassView Step PlanParts) (x y : Layout) (ask : Ask)
         same = after_is
             ∙ ap (λ (p : PassView Step PlanParts).
             let q : PassView Step PlanParts = record p { front = story_of y } in q) turn_is;
-        own = λ added e.
-            mine added (sym front ∙ (e ∙ ap (λ l. added ++ l) found))
-            ∙ ap (λ l. added ++ l) own;
+        step = its.0;
+        adds = its.1.0;
+        own = its.1.1;
       }
 
 -- a step more that is no end
@@ -155,13 +178,25 @@ module _ (before after : PassView Step PlanParts) (ask : Ask)
   front-is = ap (λ (p : PassView Step PlanParts). p.front) asked.same
 
   -- what its own steps are after the call
-  own-after : (added : List (Made Step)) → story_of asked.left ≡ added ++ story_of found
-      → own-in after.front ≡ added ++ own_steps before
-  own-after added e =
-      sym (ap (λ (n : ℕ). made_by n after.front) same-number) ∙ asked.own added (front-is ∙ e)
+  own-after : (s : Option Step) → asked.step ≡ s → own-in after.front ≡ own_with before s
+  own-after s is =
+      sym (ap (λ (n : ℕ). made_by n after.front) same-number)
+      ∙ (asked.own ∙ ap (own_with before) is)
+
+  -- the step that was made, if one was
+  no-step : (o : Option Step) → steps_with found o ≡ found.log.steps → o ≡ None
+  no-step None is = refl
+  no-step (Some s) is = let long = ap (λ (P : List Step). length P) is in absurd (omega arith)
+
+  that-step : (o : Option Step) (s : Step) → steps_with found o ≡ s ∷ found.log.steps
+      → o ≡ Some s
+  that-step None s is = let long = ap (λ (P : List Step). length P) is in absurd (omega arith)
+  that-step (Some t) s is = let it : t ≡ s = cc in ap (λ (x : Step). Some x) it
 
   same-own : asked.left ≡ found → own-in after.front ≡ own_steps before
-  same-own same = own-after [] (ap story_of same)
+  same-own same =
+      own-after None
+      (no-step asked.step (sym asked.adds ∙ ap (λ (f : Layout). f.log.steps) same))
 
   gives-runs : (r : Result StepAnswer StepStop)
       → Gives found asked.left (Actor before.number) ask r
@@ -169,15 +204,15 @@ module _ (before after : PassView Step PlanParts) (ask : Ask)
       → ends-in (own-in after.front)
   gives-runs (Err stop) stopped goes runs = rw (same-own stopped.same) runs
   gives-runs (Ok answer) (inr nothing) goes runs = rw (same-own nothing.same) runs
-  gives-runs (Ok answer) (inl made) goes runs =
-      let mine = own-after (numbered found.shape made.step ∷ [])
-      (story-one found asked.left asked.stays made.step made.added) in
-      let goes_on : is_end made.step.head ≡ false =
+  gives-runs (Ok answer) (inl one) goes runs =
+      let mine = own-after (Some one.step)
+      (that-step asked.step one.step (sym asked.adds ∙ one.added)) in
+      let goes_on : is_end one.step.head ≡ false =
       head-runs found.shape found.log.steps
       (is_still found.shape found.log.steps (trunks_of found.trunks)) before.number ask
-      made.step.head made.head goes in
+      one.step.head one.head goes in
       ap (λ l. has_ended (steps_in l) before.number) mine
-      ∙ more-ends (is_by made.step.by before.number) (is_end made.step.head)
+      ∙ more-ends (is_by one.step.by before.number) (is_end one.step.head)
       (has_ended (steps_in (own_steps before)) before.number) goes_on runs
 
   pub runs-on : is_end_event ask.event ≡ false → IsRunning before → IsRunning after

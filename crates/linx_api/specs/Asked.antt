@@ -1,6 +1,6 @@
 -- What one call under the lock did, seen from the caller's pass.
-use Rattle.std.specs.Prelude.{ℕ, ◌≡◌, ◌<◌, ◌≤◌, ◌⊎◌, ◌&&◌, true, false, List, [], ◌∷◌, ◌++◌}
-use Rattle.std.specs.Prelude.{length, is_some, Some, None, Result, Ok, Err}
+use Rattle.std.specs.Prelude.{ℕ, ◌≡◌, ◌<◌, ◌≤◌, ◌⊎◌, ◌&&◌, true, false, List, [], ◌∷◌, length}
+use Rattle.std.specs.Prelude.{is_some, Option, Some, None, Result, Ok, Err}
 use Rattle.sigsel.specs.Selection.{first_selected}
 use Rattle.sigsel.specs.declared.sigsel.Sigsel.{Sigsel}
 use Rattle.journal.specs.declared.by.By.{By}
@@ -28,7 +28,7 @@ use Rattle.fabric.specs.Machine.{head_for, is_at_rest}
 use Rattle.fabric.specs.Run.{IsReachedBy, Layout}
 use Rattle.turn_lock.specs.declared.story.Made.{Made}
 use Rattle.turn_lock.specs.Passes.{PassView, own_steps}
-use Rattle.turn_lock.specs.Stories.{RestsFor}
+use Rattle.turn_lock.specs.Stories.{RestsFor, made}
 use Rattle.linx_api.specs.Telling.{PlanParts, plan_of, steps_in, story_of}
 
 -- the pass is an actor's
@@ -116,10 +116,20 @@ module _ (old new : Layout) (by : By) (ask : Ask) where
     pub full : is_full old.log.steps ≡ true
         → result ≡ Err (record { cause = JournalFull; hand = ask.hand })
 
+-- the steps of a fabric, and this one where one was made
+abbrev pub steps_with : Layout → Option Step → List Step
+steps_with f None = f.log.steps
+steps_with f (Some s) = s ∷ f.log.steps
+
+-- the own steps of a pass, and this one where one was made
+abbrev pub own_with : PassView Step PlanParts → Option Step → List (Made Step)
+own_with p None = own_steps p
+own_with p (Some s) = made p.number s ∷ own_steps p
+
 -- ONE CALL. It found a lawful run, whose journal goes on from what the pass had seen with no step
 -- of this pass. It gave what the event gives there, and what it left is lawful and has the same
--- fixed part. The pass has seen all of that journal; its own steps are those it had, and what this
--- call added
+-- fixed part. The pass has seen all of that journal; its own steps are the old ones, and this one
+-- where one was made
 pub record IsAsked (before : PassView Step PlanParts) (ask : Ask)
     (result : Result StepAnswer StepStop) (after : PassView Step PlanParts) : Type 0 where
   pub found : Layout
@@ -131,5 +141,6 @@ pub record IsAsked (before : PassView Step PlanParts) (ask : Ask)
   pub stays : OnlyRuns found left
   pub remains : IsLawful left
   pub same : after ≡ record before { front = story_of left }
-  pub own : (added : List (Made Step)) → after.front ≡ added ++ story_of found
-      → own_steps after ≡ added ++ own_steps before
+  pub step : Option Step
+  pub adds : left.log.steps ≡ steps_with found step
+  pub own : own_steps after ≡ own_with before step
