@@ -2,8 +2,8 @@
 ghost use Rattle.std.specs.Prelude.{◌≡◌, ◌<◌, [], true};
 ghost use Rattle.linx_base.specs.Numbers.{boot_of};
 ghost use Rattle.linx_base.specs.declared.identity.Side.TheVariants as AnySide;
-ghost use Rattle.carrier.specs.Events.{half_of};
-ghost use Rattle.trunk.specs.Events.{kept_of};
+ghost use Rattle.carrier.specs.Events.{HasNextAt, half_of};
+ghost use Rattle.trunk.specs.Events.{HasNumbersLeft, kept_of};
 ghost use Rattle.run_trunks.specs.States.{HasLink, trunks_of};
 
 use carrier::TickedSide;
@@ -42,10 +42,29 @@ fn has_link(trunks: &RunTrunks, link: LinkNo) -> bool
     0 < link.0 && link.0 as usize <= trunks.count()
 }
 
+/// Whether a side has numbers left for what it says in an event.
+fn has_numbers(trunks: &RunTrunks, link: LinkNo, side: Side) -> bool
+    requires of_run { HasLink trunks.now link }
+    ensures { result ≡ true → HasNumbersLeft side (trunks_of trunks.now.is link.0) }
+{
+    trunks.frames_left(link, side) >= 4_096
+}
+
+/// Whether a session of the same boot may come after a side's present one.
+fn has_session(trunks: &RunTrunks, link: LinkNo, side: Side) -> bool
+    requires of_run { HasLink trunks.now link }
+    ensures { result ≡ true → HasNextAt side (trunks_of trunks.now.is link.0).link }
+{
+    trunks.session(link, side).count() < u32::MAX
+}
+
 /// A side is ticked.
 pub fn tick(trunks: &mut RunTrunks, link: LinkNo, side: Side) -> Result<TickedSide, Fail> {
     if !has_link(trunks, link) {
         return Err(Fail::from("no such link"));
+    }
+    if !has_session(trunks, link, side) {
+        return Err(Fail::from("no session follows"));
     }
     let ticked = trunks.tick(link, side)?;
     Ok(ticked)
@@ -56,6 +75,9 @@ pub fn ask(trunks: &mut RunTrunks, link: LinkNo, side: Side, name: &Name) -> Res
     if !has_link(trunks, link) {
         return Err(Fail::from("no such link"));
     }
+    if !has_numbers(trunks, link, side) {
+        return Err(Fail::from("no numbers are left"));
+    }
     trunks.asked(link, side, name)?;
     Ok(())
 }
@@ -65,6 +87,10 @@ pub fn deliver(trunks: &mut RunTrunks, link: LinkNo, from: Side) -> Result<Trunk
     trunks.keep_all();
     if !has_link(trunks, link) || trunks.in_flight(link, from) == 0 {
         return Err(Fail::from("no such packet"));
+    }
+    let to = from.other();
+    if !has_numbers(trunks, link, to) || !has_session(trunks, link, to) {
+        return Err(Fail::from("no numbers are left"));
     }
     let up = trunks.deliver(link, from, false)?;
     Ok(up)
@@ -86,6 +112,9 @@ fn publish(
     if trunks.used(link, side) == u32::MAX {
         return Err(Fail::from("no address"));
     }
+    if !has_numbers(trunks, link, side) {
+        return Err(Fail::from("no numbers are left"));
+    }
     trunks.published(link, side, inc, name)?;
     Ok(())
 }
@@ -104,6 +133,10 @@ pub fn deliver_to_open(
     }
     let _count = trunks.count();
     trunks.promises(link);
+    let to = Side::Second;
+    if !has_numbers(trunks, link, to) || !has_session(trunks, link, to) {
+        return Err(Fail::from("no numbers are left"));
+    }
     match trunks.deliver(link, Side::First, false)? {
         TrunkUp::WentUp { .. } => publish(trunks, link, Side::Second, inc, name),
         _ => Ok(()),

@@ -3,8 +3,8 @@ use Rattle.std.specs.Prelude.{◌<◌}
 use Rattle.linx_base.specs.Numbers.{boot_of}
 use Rattle.linx_base.specs.declared.identity.Side.{Side}
 use Rattle.carrier.specs.Events.{half_of}
-use Rattle.trunk.specs.Events.{TrunkState, asked_at, closed_at, opened_at, published_at}
-use Rattle.trunk.specs.Events.{restarted_at, sent_at, side_of}
+use Rattle.trunk.specs.Events.{HasNumbersLeft, TrunkState, asked_at, closed_at, opened_at}
+use Rattle.trunk.specs.Events.{published_at, restarted_at, sent_at, side_of}
 use Rattle.trunk.specs.Laws.{MayPublish, MaySend}
 use Rattle.run_trunks.specs.declared.call.SideCall.{SideCall}
 use Rattle.run_trunks.specs.declared.call.SideCall.TheVariants.{Asked, Closed, Opened, Published}
@@ -28,3 +28,12 @@ MayCall (Restarted boot) side t = boot_of (half_of side t.link).end.talk.mine < 
 MayCall (Published inc name) side t = MayPublish (side_of side t) inc name.now
 MayCall (Asked name) side t = Unit {0}
 MayCall (Sent from name to signal) side t = MaySend (side_of side t) from name.now to signal.now
+
+-- and the numbers that it asks for: those of what the side says; one that boots again says nothing
+abbrev pub HasNumbersFor : SideCall → Side → TrunkState → Type 0
+HasNumbersFor (Opened inc name) side t = HasNumbersLeft side t
+HasNumbersFor (Closed inc) side t = HasNumbersLeft side t
+HasNumbersFor (Restarted boot) side t = Unit {0}
+HasNumbersFor (Published inc name) side t = HasNumbersLeft side t
+HasNumbersFor (Asked name) side t = HasNumbersLeft side t
+HasNumbersFor (Sent from name to signal) side t = HasNumbersLeft side t

@@ -5,7 +5,6 @@
 
 mod call;
 mod laws;
-mod limits;
 mod links;
 mod run_trunks;
 mod slots;

@@ -3,13 +3,17 @@
 ghost use Rattle.std.specs.Prelude.{◌≡◌, ◌<◌, ◌-◌, length, map, is_some, IfOk, OnErr, OnOk};
 ghost use Rattle.linx_base.specs.Both.{still};
 ghost use Rattle.linx_base.specs.Numbers.{boot_of};
+ghost use Rattle.linx_base.specs.Sides.{other_of};
 ghost use Rattle.link_addresses.specs.Meanings.{used_in};
 ghost use Rattle.ethcm_end.specs.States.{peer_of};
-ghost use Rattle.carrier.specs.Events.{flight_from, half_of, handed_by, is_quiet, link_told_by};
+ghost use Rattle.ethcm_window.specs.Sending.{left_of};
+ghost use Rattle.carrier.specs.Events.{HasNextAt, flight_from, half_of, handed_by, is_quiet};
+ghost use Rattle.carrier.specs.Events.{link_told_by};
 ghost use Rattle.rlnh_end.specs.declared.heard.Heard.{Heard as AnyHeard};
 ghost use Rattle.trunk.specs.Events.{IsReading, asked_at, closed_at, delivered, kept_of, lost_from};
 ghost use Rattle.trunk.specs.Events.{new_trunk, opened_at, published_at, restarted_at, sent_at};
-ghost use Rattle.trunk.specs.Events.{side_of, swapped_from, tables_of, ticked_at, told_by};
+ghost use Rattle.trunk.specs.Events.{HasNumbersLeft, side_of, swapped_from, tables_of, ticked_at};
+ghost use Rattle.trunk.specs.Events.{told_by};
 ghost use Rattle.trunk.specs.Keeping.{KeepsTrunk};
 ghost use Rattle.trunk.specs.Laws.{MayPublish, MaySend};
 ghost use Rattle.trunk.specs.Parts.{HasOnlyGrownAt};
@@ -18,7 +22,7 @@ ghost use Rattle.trunk_record.specs.Trunks.{IsTrunk};
 ghost use Rattle.link_laws.specs.Ends.{node_at};
 ghost use Rattle.trunk_moves.specs.Packets.{place_of};
 ghost use Rattle.trunk_moves.specs.Trunks.{side_on};
-ghost use Rattle.run_trunks.specs.Calls.{MayCall, makes};
+ghost use Rattle.run_trunks.specs.Calls.{HasNumbersFor, MayCall, makes};
 ghost use Rattle.run_trunks.specs.Changes.{AllGrant, at_link, each_does};
 ghost use Rattle.run_trunks.specs.States.{AllFit, HasLink, both_at, kept, kept_at, new_trunks};
 ghost use Rattle.run_trunks.specs.States.{over, resting, trunks_of, undone};
@@ -33,9 +37,9 @@ use trunk::{Trunk, TrunkUp};
 
 /// The links of a run, each with its trunk, with a way back. An event is a keep or an undo of all
 /// and the calls since the one before it. Contracts see the trunks as they were when the event
-/// began, and as they are now. A call that is refused undoes the event, on all links. It is also
-/// refused where the numbers of a side run out: a session has 2^32 numbers for frames, and a boot
-/// as many sessions. No run of 200,000 steps comes to that.
+/// began, and as they are now. A call that is refused undoes the event, on all links. A session has
+/// 2^32 numbers for frames, and a boot as many sessions: whoever calls has some left, as every run
+/// of 200,000 steps has.
 #[derive(Drop)]
 pub struct RunTrunks {
     links: Vec<LinkDecl>,
@@ -94,6 +98,7 @@ impl RunTrunks {
     fn call(&mut self, link: LinkNo, side: Side, call: SideCall<'_>) -> Result<(), NoMemory>
         requires of_run { HasLink self.old link }
         requires may { MayCall call side (trunks_of self.old.is link.0) }
+        requires numbers { HasNumbersFor call side (trunks_of self.old.is link.0) }
         ensures is { OnOk result
             (self.new.is ≡ at_link link (makes call.entry side) self.old.is) }
         ensures was { self.new.was ≡ self.old.was }
@@ -106,6 +111,7 @@ impl RunTrunks {
     /// The side of each link that is on a node is called.
     fn call_all(&mut self, node: NodeNo, call: SideCall<'_>) -> Result<(), NoMemory>
         requires may { AllGrant self.old.links node.0 self.old.is (MayCall call) }
+        requires numbers { AllGrant self.old.links node.0 self.old.is (HasNumbersFor call) }
         ensures is { OnOk result
             (self.new.is ≡ each_does self.old.links node.0 (makes call.entry) self.old.is) }
         ensures was { self.new.was ≡ self.old.was }
@@ -120,6 +126,7 @@ impl RunTrunks {
     pub fn opened(&mut self, node: NodeNo, inc: Inc, name: &Name) -> Result<(), NoMemory>
         requires may { AllGrant self.old.links node.0 self.old.is
             (λ side t. MayPublish (side_of side t) inc name.now) }
+        requires numbers { AllGrant self.old.links node.0 self.old.is HasNumbersLeft }
         ensures is { OnOk result (self.new.is
             ≡ each_does self.old.links node.0 (λ side. opened_at side inc name.now) self.old.is) }
         ensures was { self.new.was ≡ self.old.was }
@@ -132,6 +139,7 @@ impl RunTrunks {
     /// An endpoint of a node closed: the side of each link that is on the node says so where it is
     /// published.
     pub fn closed(&mut self, node: NodeNo, inc: Inc) -> Result<(), NoMemory>
+        requires numbers { AllGrant self.old.links node.0 self.old.is HasNumbersLeft }
         ensures is { OnOk result (self.new.is
             ≡ each_does self.old.links node.0 (λ side. closed_at side inc) self.old.is) }
         ensures was { self.new.was ≡ self.old.was }
@@ -164,6 +172,7 @@ impl RunTrunks {
     ) -> Result<(), NoMemory>
         requires of_run { HasLink self.old link }
         requires may { MayPublish (side_of side (trunks_of self.old.is link.0)) inc name.now }
+        requires numbers { HasNumbersLeft side (trunks_of self.old.is link.0) }
         ensures is { OnOk result
             (self.new.is ≡ at_link link (published_at side inc name.now) self.old.is) }
         ensures was { self.new.was ≡ self.old.was }
@@ -176,6 +185,7 @@ impl RunTrunks {
     /// A side asks the other one for a name.
     pub fn asked(&mut self, link: LinkNo, side: Side, name: &Name) -> Result<(), NoMemory>
         requires of_run { HasLink self.old link }
+        requires numbers { HasNumbersLeft side (trunks_of self.old.is link.0) }
         ensures is { OnOk result (self.new.is ≡ at_link link (asked_at side name.now) self.old.is) }
         ensures was { self.new.was ≡ self.old.was }
         ensures links { self.new.links ≡ self.old.links }
@@ -197,6 +207,7 @@ impl RunTrunks {
         requires of_run { HasLink self.old link }
         requires may { MaySend (side_of side (trunks_of self.old.is link.0)) from name.now to
             signal.now }
+        requires numbers { HasNumbersLeft side (trunks_of self.old.is link.0) }
         ensures is { OnOk result (self.new.is
             ≡ at_link link (sent_at side from name.now to signal.now) self.old.is) }
         ensures was { self.new.was ≡ self.old.was }
@@ -212,6 +223,8 @@ impl RunTrunks {
         requires of_run { HasLink self.old link }
         requires flies { 0 < length (flight_from from (trunks_of self.old.is link.0).link) }
         requires grown { HasOnlyGrownAt from (both_at self.old link) }
+        requires counted { HasNextAt (other_of from) (trunks_of self.old.is link.0).link }
+        requires numbers { HasNumbersLeft (other_of from) (trunks_of self.old.is link.0) }
         // What comes has a reading; the trunk and what is handed up are those of each.
         ensures is_read { OnOk result ((heard : AnyHeard)
             × IsReading (handed_by from 0 (trunks_of self.old.is link.0).link) heard) }
@@ -231,6 +244,7 @@ impl RunTrunks {
     /// A side is ticked.
     pub fn tick(&mut self, link: LinkNo, side: Side) -> Result<TickedSide, NoMemory>
         requires of_run { HasLink self.old link }
+        requires counted { HasNextAt side (trunks_of self.old.is link.0).link }
         ensures is { OnOk result (self.new.is ≡ at_link link (ticked_at side) self.old.is) }
         ensures ticked { IfOk result (λ ticked. ticked
             ≡ link_told_by side (trunks_of self.old.is link.0).link) }
@@ -367,6 +381,14 @@ impl RunTrunks {
         ensures { result ≡ used_in (tables_of side (trunks_of self.now.is link.0)).own }
     {
         self.trunk(link).used(side)
+    }
+
+    /// How many numbers are left to a side in its session.
+    pub fn frames_left(&self, link: LinkNo, side: Side) -> u32
+        requires of_run { HasLink self.now link }
+        ensures { result ≡ left_of (half_of side (trunks_of self.now.is link.0).link).end.tx }
+    {
+        self.trunk(link).frames_left(side)
     }
 
     /// Whether nothing of a link is in flight, and neither of its ends has work.

@@ -1,18 +1,18 @@
 //! The trunks by the places of their links: what happens to one of them, or to those of a node,
 //! and what a refusal leaves, which is what all were when the event began.
 ghost use Rattle.std.specs.Prelude.{◌≡◌, ◌<◌, length, slice_set, IfOk, OnErr, OnOk};
-ghost use Rattle.carrier.specs.Events.{flight_from, handed_by, link_told_by};
+ghost use Rattle.linx_base.specs.Sides.{other_of};
+ghost use Rattle.carrier.specs.Events.{HasNextAt, flight_from, handed_by, link_told_by};
 ghost use Rattle.rlnh_end.specs.declared.heard.Heard.{Heard as AnyHeard};
 ghost use Rattle.trunk.specs.Events.{IsReading, delivered, lost_from, swapped_from, ticked_at};
-ghost use Rattle.trunk.specs.Events.{told_by};
+ghost use Rattle.trunk.specs.Events.{HasNumbersLeft, told_by};
 ghost use Rattle.trunk.specs.Parts.{HasOnlyGrownAt};
 ghost use Rattle.trunk_moves.specs.Packets.{place_of};
-ghost use Rattle.run_trunks.specs.Calls.{MayCall, makes};
+ghost use Rattle.run_trunks.specs.Calls.{HasNumbersFor, MayCall, makes};
 ghost use Rattle.run_trunks.specs.Changes.{AllGrant, at_place, each_does};
 ghost use Rattle.run_trunks.specs.States.{is_of, trunk_at, was_of};
 
-use crate::call::SideCall;
-use crate::limits;
+use crate::call::{SideCall, call_side, call_side_if};
 use crate::links::side_on;
 use carrier::TickedSide;
 use linx_base::{LinkDecl, NoMemory, NodeNo, Side};
@@ -47,12 +47,13 @@ pub(crate) fn call(
 ) -> Result<(), NoMemory>
     requires within { place < length trunks.old }
     requires may { MayCall call side (trunk_at (is_of trunks.old) place) }
+    requires numbers { HasNumbersFor call side (trunk_at (is_of trunks.old) place) }
     ensures is { OnOk result
         (is_of trunks.new ≡ at_place place (makes call.entry side) (is_of trunks.old)) }
     ensures was { was_of trunks.new ≡ was_of trunks.old }
     ensures err { OnErr result (is_of trunks.new ≡ was_of trunks.old) }
 {
-    match limits::call_side(&mut trunks[place], side, call) {
+    match call_side(&mut trunks[place], side, call) {
         Ok(()) => Ok(()),
         Err(_) => {
             undo_all(trunks);
@@ -70,12 +71,13 @@ fn call_each(
 ) -> Result<(), NoMemory>
     requires same { length trunks.old ≡ length links.now }
     requires may { AllGrant links.now node.0 (is_of trunks.old) (MayCall call) }
+    requires numbers { AllGrant links.now node.0 (is_of trunks.old) (HasNumbersFor call) }
     ensures is { OnOk result (is_of trunks.new
         ≡ each_does links.now node.0 (makes call.entry) (is_of trunks.old)) }
     ensures was { was_of trunks.new ≡ was_of trunks.old }
 {
     for (place, link) in links.iter().enumerate() {
-        limits::call_side_if(&mut trunks[place], side_on(link, node), call)?;
+        call_side_if(&mut trunks[place], side_on(link, node), call)?;
     }
     Ok(())
 }
@@ -89,6 +91,7 @@ pub(crate) fn call_all(
 ) -> Result<(), NoMemory>
     requires same { length trunks.old ≡ length links.now }
     requires may { AllGrant links.now node.0 (is_of trunks.old) (MayCall call) }
+    requires numbers { AllGrant links.now node.0 (is_of trunks.old) (HasNumbersFor call) }
     ensures is { OnOk result (is_of trunks.new
         ≡ each_does links.now node.0 (makes call.entry) (is_of trunks.old)) }
     ensures was { was_of trunks.new ≡ was_of trunks.old }
@@ -116,6 +119,8 @@ pub(crate) fn deliver(
       was = trunk_at (was_of trunks.old) place;
       is = trunk_at (is_of trunks.old) place;
     }) }
+    requires counted { HasNextAt (other_of from) (trunk_at (is_of trunks.old) place).link }
+    requires numbers { HasNumbersLeft (other_of from) (trunk_at (is_of trunks.old) place) }
     ensures is_read { OnOk result ((heard : AnyHeard)
         × IsReading (handed_by from 0 (trunk_at (is_of trunks.old) place).link) heard) }
     ensures is { OnOk result ((heard : AnyHeard)
@@ -127,7 +132,7 @@ pub(crate) fn deliver(
     ensures was { was_of trunks.new ≡ was_of trunks.old }
     ensures err { OnErr result (is_of trunks.new ≡ was_of trunks.old) }
 {
-    match limits::deliver(&mut trunks[place], from, keep) {
+    match trunks[place].deliver(from, 0, keep) {
         Ok(up) => Ok(up),
         Err(_) => {
             undo_all(trunks);
@@ -139,6 +144,7 @@ pub(crate) fn deliver(
 /// A side of the link at a place is ticked.
 pub(crate) fn tick(trunks: &mut [Trunk], place: usize, side: Side) -> Result<TickedSide, NoMemory>
     requires within { place < length trunks.old }
+    requires counted { HasNextAt side (trunk_at (is_of trunks.old) place).link }
     ensures is { OnOk result
         (is_of trunks.new ≡ at_place place (ticked_at side) (is_of trunks.old)) }
     ensures ticked { IfOk result (λ ticked. ticked
@@ -146,7 +152,7 @@ pub(crate) fn tick(trunks: &mut [Trunk], place: usize, side: Side) -> Result<Tic
     ensures was { was_of trunks.new ≡ was_of trunks.old }
     ensures err { OnErr result (is_of trunks.new ≡ was_of trunks.old) }
 {
-    match limits::tick(&mut trunks[place], side) {
+    match trunks[place].tick(side) {
         Ok(ticked) => Ok(ticked),
         Err(_) => {
             undo_all(trunks);
@@ -169,6 +175,16 @@ pub(crate) fn lose(trunks: &mut [Trunk], place: usize, from: Side)
     trunks[place].lose(from, 0);
 }
 
+/// The place of a packet that a swap names, or the last one of so many where there are fewer.
+fn place_within(k: u8, count: usize) -> usize
+    requires { 0 < count }
+    ensures place { result ≡ place_of k count }
+    ensures within { result < count }
+{
+    let named = usize::from(k);
+    if named < count { named } else { count - 1 }
+}
+
 /// The packet at place 0 from a side of the link at a place is exchanged with the one at place k,
 /// or with the last one where there are fewer.
 pub(crate) fn swap(trunks: &mut [Trunk], place: usize, from: Side, k: u8)
@@ -183,7 +199,9 @@ pub(crate) fn swap(trunks: &mut [Trunk], place: usize, from: Side, k: u8)
         ≡ at_place place (swapped_from from 0 (place_of k count)) (is_of trunks.old) }
     ensures was { was_of trunks.new ≡ was_of trunks.old }
 {
-    limits::swap(&mut trunks[place], from, k);
+    let trunk = &mut trunks[place];
+    let count = trunk.in_flight(from);
+    trunk.swap(from, 0, place_within(k, count));
 }
 
 /// What the trunk at a place is now stays.
