@@ -1,29 +1,29 @@
 //! Numbers that look random, always the same ones.
 
 use linx_base::Side;
+use rand_core::{Rng, SeedableRng};
+use rand_xoshiro::Xoshiro256PlusPlus;
 
-/// Each state is the one before it, exclusive-or'd with itself shifted left by 13 bits, then so
-/// with itself shifted right by 7, then left by 17.
+/// The numbers by which a long run chooses what happens.
 #[derive(Drop)]
 pub struct Random {
-    state: u64,
+    words: Xoshiro256PlusPlus,
 }
 
 impl Random {
-    /// The numbers that follow this one, which isn't 0.
+    /// The numbers of this seed.
     pub fn new(seed: u64) -> Random {
-        Random { state: seed }
+        Random {
+            words: Xoshiro256PlusPlus::seed_from_u64(seed),
+        }
     }
 
-    /// The next state.
+    /// The next number.
     pub fn next(&mut self) -> u64 {
-        self.state ^= self.state << 13;
-        self.state ^= self.state >> 7;
-        self.state ^= self.state << 17;
-        self.state
+        self.words.next_u64()
     }
 
-    /// What the upper 32 bits of the next state leave when they are divided by the bound; 0 where
+    /// What the upper 32 bits of the next number leave when they are divided by the bound; 0 where
     /// that is 0.
     pub fn below(&mut self, bound: u64) -> u64 {
         (self.next() >> 32).checked_rem(bound).unwrap_or(0)
