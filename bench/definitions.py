@@ -33,7 +33,7 @@ LAYERS = [
                           " ethcm_end"),
     ("A link", "lossy_wire carrier link_settling"),
     ("What two nodes tell each other", "rlnh_messages link_addresses rlnh_end rlnh_laws trunk"),
-    ("All links of a run", "trunk_moves run_trunks run_settling run_states"),
+    ("All links of a run", "trunk_moves run_trunks run_settling run_numbers run_states"),
     ("The machine", "fabric"),
     ("The script", "script_words script_lang work_gen"),
     ("A run of a script", "actor_run stage run_orders"),
