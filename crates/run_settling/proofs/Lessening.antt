@@ -18,7 +18,7 @@ use Rattle.carrier.specs.Laws.{TellsRightly}
 use Rattle.carrier.specs.declared.handed.Handed.{Handed}
 use Rattle.carrier.specs.declared.handed.Handed.TheVariants as handed
 use Rattle.carrier.proofs.Links as link_events
-use Rattle.link_settling.specs.Measure.{Falls, Measure}
+use Rattle.link_settling.specs.Measure.{Falls}
 use Rattle.link_settling.proofs.Ending.{deliveries_end, turned_measure}
 use Rattle.rlnh_end.specs.Calls.{begin_of, query_of, with_words}
 use Rattle.rlnh_end.specs.Hearing.{hears}
