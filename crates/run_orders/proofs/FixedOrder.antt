@@ -108,7 +108,7 @@ module _ (script : ScriptParts) (is : IsScript script) where
   no-step : (one two : Layout) → is_full one.log.steps ≡ true → IsSoFar script two
       → GoesOn shape one two → AreAlike shape one two
   no-step one two full so_far on =
-      full-stays (length script.names.nodes) shape one two full so_far.reached on
+      full-stays script one two full so_far.run on
 
   -- SO TWO that a full journal stopped have one log
   pub filled-same : (one two : Layout) → IsFilled script one → IsFilled script two

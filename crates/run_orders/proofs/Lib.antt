@@ -1,5 +1,3 @@
-pub mod Alike
-pub mod OneState
 pub mod States
 pub mod Settlings
 pub mod Turns

@@ -31,15 +31,15 @@ use Rattle.trunk_moves.specs.Steps.{IsTrunkStep}
 use Rattle.trunk_moves.specs.Trunks.{Become, RunTrunks}
 use Rattle.fabric.specs.Links.{is_still}
 use Rattle.fabric.specs.Machine.{head_for, pumped_head}
-use Rattle.fabric.specs.Run.{IsReached, Layout}
-use Rattle.stage.specs.Plays.{AllFollow, IsInTurn, IsPlanned, IsPlannedHead, IsSoFar}
+use Rattle.fabric.specs.Run.{Layout}
+use Rattle.stage.specs.Plays.{AllFollow, IsInTurn, IsPlannedHead, IsScriptRun, IsSoFar}
 use Rattle.stage.specs.Pumps.{event_with, flying_side, next_ticking, pump_event, ticked_by}
 use Rattle.stage.specs.Pumps.{verdict_for}
 use Rattle.stage.specs.Settlings.{Settler, settler_now, settler_of}
 use Rattle.stage.specs.Turns.{commands_of, shape_of}
 use Rattle.run_orders.specs.Laws.{makers_of}
-use Rattle.run_orders.proofs.Alike.{pump_alike, settled_there, settler_alike, still_alike}
-use Rattle.run_orders.proofs.OneState.{IsRunOf, one_state, planned_run, reached_run}
+use Rattle.stage.proofs.Alike.{pump_alike, settled_there, settler_alike, still_alike}
+use Rattle.stage.proofs.OneState.{IsRunOf, one_state, script_run}
 
 -- ---- a head of a pump is told by its event
 
@@ -152,9 +152,7 @@ module _ (script : ScriptParts) (P : List Step) (one two : RunTrunks)
 -- of the run after these steps
 record IsKnown (script : ScriptParts) (P : List Step) : Type 0 where
   there : RunTrunks
-  reached : IsReached (length script.names.nodes) (shape_of script) P there
-  plan : RunTrunks
-  planned : IsPlanned script P plan
+  run : IsScriptRun script P there
   follows : AllFollow script P
 
 -- of its last step
@@ -169,34 +167,25 @@ record IsLast (script : ScriptParts) (P : List Step) (s : Step) : Type 0 where
 known_before : (script : ScriptParts) (s : Step) (P : List Step) → IsKnown script (s ∷ P)
     → IsKnown script P
 known_before script s P known = record {
-  there = known.reached.0;
-  reached = known.reached.1.0;
-  plan = known.planned.0;
-  planned = known.planned.1.0;
+  there = known.run.0;
+  run = known.run.1.0;
   follows = λ k above within. (known.follows k above within).0;
 }
 
-last_of : (script : ScriptParts) → IsScript script → (s : Step) (P : List Step)
-    → IsKnown script (s ∷ P) → IsLast script P s
-last_of script declared s P known =
-    let shape : Shape = shape_of script in
-    let run = planned_run script P known.planned.0 known.planned.1.0 in
-    let same : Become shape known.planned.0 known.reached.0 =
-    one_state runs_reach_one_state script declared P known.planned.0 known.reached.0 run
-    (reached_run script P known.reached.0 known.reached.1.0) in
+last_of : (script : ScriptParts) (s : Step) (P : List Step) → IsKnown script (s ∷ P)
+    → IsLast script P s
+last_of script s P known =
+    let step = known.run.1.1 in
     record {
-      before = known.planned.0;
-      after = known.plan;
-      run = run;
-      step = known.planned.1.1.0;
+      before = known.run.0;
+      after = known.there;
+      run = script_run script P known.run.0 known.run.1.0;
+      step = step.makes;
       next = record {
-        makers = known.planned.1.1.0.laws.makers;
-        given =
-            ap (λ (b : Bool). head_for shape P b s.by (named s.head))
-            (still_alike shape P known.planned.0 known.reached.0 same)
-            ∙ known.reached.1.1.1.given;
-        planned = known.planned.1.1.1.planned;
-        in_turn = known.planned.1.1.1.in_turn;
+        makers = step.makes.laws.makers;
+        given = step.made.given;
+        planned = step.planned.planned;
+        in_turn = step.planned.in_turn;
         asked = λ k above within own. ((known.follows k above within).1 own).names;
       };
     }
@@ -258,15 +247,13 @@ module _ (script : ScriptParts) (declared : IsScript script) where
       let parts = taken_apart s r P Q is in
       joined P Q s r
       (one_journal P Q (known_before script s P one) (known_before script r Q two) parts.1) parts.0
-      (last_of script declared s P one) (last_of script declared r Q two)
+      (last_of script s P one) (last_of script r Q two)
 
 known_of : (script : ScriptParts) (run : Layout) → IsSoFar script run
     → IsKnown script run.log.steps
 known_of script run so_far = record {
   there = trunks_of run.trunks;
-  reached = so_far.reached;
-  plan = trunks_of run.trunks;
-  planned = so_far.planned;
+  run = so_far.run;
   follows = so_far.follows;
 }
 

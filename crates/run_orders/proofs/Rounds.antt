@@ -11,7 +11,7 @@ use Rattle.fabric.specs.Machine.{all_have_ended}
 use Rattle.fabric.specs.Run.{Layout}
 use Rattle.stage.specs.Turns.{AreRounds, AreTurns, IsRound, IsStoppedRound, IsTurnOf, is_over}
 use Rattle.stage.specs.Turns.{makers, shape_of}
-use Rattle.run_orders.proofs.Alike.{still_alike}
+use Rattle.stage.proofs.Alike.{still_alike}
 use Rattle.run_orders.proofs.States.{AreAlike, GoesOn, Grows, alike-as, alike-turned, by-alike}
 use Rattle.run_orders.proofs.States.{goes-grows, grows-on}
 use Rattle.run_orders.proofs.Turns.{stop-stop, stop-turn, stopped-grows, turn-alike, turn-grows}

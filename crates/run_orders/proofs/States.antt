@@ -1,5 +1,5 @@
 -- States of two runs that are alike, and states that go on from others.
-use Rattle.std.proofs.Common.{◌≡◌, ℕ, ◌⊎◌, true, List, [], ◌∷◌, ◌++◌, refl, sym, ◌∙◌, ap}
+use Rattle.std.proofs.Common.{◌≡◌, ◌⊎◌, true, List, [], ◌∷◌, ◌++◌, refl, sym, ◌∙◌, ap}
 use Rattle.std.proofs.Common.{subst, inl, inr, append_assoc}
 use Rattle.std.proofs.lemmas.Bool.{true≢false}
 use Rattle.journal.specs.Logs.{Log, is_full}
@@ -8,7 +8,10 @@ use Rattle.journal.specs.declared.effect.Step.{Step}
 use Rattle.trunk.specs.Events.{TrunkState}
 use Rattle.trunk_moves.specs.Trunks.{Become, RunTrunks}
 use Rattle.run_trunks.specs.States.{trunks_of}
-use Rattle.fabric.specs.Run.{IsReached, Layout}
+use Rattle.script_lang.specs.Parts.{ScriptParts}
+use Rattle.fabric.specs.Run.{Layout}
+use Rattle.stage.specs.Plays.{IsScriptRun}
+use Rattle.stage.specs.Turns.{shape_of}
 
 -- two states that are alike: on this shape, with one log and the same trunks of its links
 pub record AreAlike (shape : Shape) (one two : Layout) : Type 0 where
@@ -119,20 +122,17 @@ module _ (shape : Shape) where
 
 -- ---- a full journal
 
--- a run that was reached goes on from no full journal
-full-ends : (nodes : ℕ) (shape : Shape) (s : Step) (more P : List Step) (trunks : RunTrunks)
-    → IsReached nodes shape (s ∷ (more ++ P)) trunks → is_full P ≡ true → ⊥
-full-ends nodes shape s [] P trunks reached full =
-    true≢false (sym full ∙ reached.1.1.1.room)
-full-ends nodes shape s (t ∷ more) P trunks reached full =
-    full-ends nodes shape t more P reached.0 reached.1.0 full
+-- a run of a script goes on from no full journal
+full-ends : (script : ScriptParts) (s : Step) (more P : List Step) (trunks : RunTrunks)
+    → IsScriptRun script (s ∷ (more ++ P)) trunks → is_full P ≡ true → ⊥
+full-ends script s [] P trunks run full = true≢false (sym full ∙ run.1.1.made.room)
+full-ends script s (t ∷ more) P trunks run full = full-ends script t more P run.0 run.1.0 full
 
 -- so what goes on from one is alike
-pub full-stays : (nodes : ℕ) (shape : Shape) (one two : Layout) → is_full one.log.steps ≡ true
-    → IsReached nodes shape two.log.steps (trunks_of two.trunks) → GoesOn shape one two
-    → AreAlike shape one two
-full-stays nodes shape one two full reached (inl alike) = alike
-full-stays nodes shape one two full reached (inr more) =
-    absurd (full-ends nodes shape more.step more.more one.log.steps (trunks_of two.trunks)
-    (subst (λ (P : List Step). IsReached nodes shape P (trunks_of two.trunks)) more.steps reached)
-    full)
+pub full-stays : (script : ScriptParts) (one two : Layout) → is_full one.log.steps ≡ true
+    → IsScriptRun script two.log.steps (trunks_of two.trunks)
+    → GoesOn (shape_of script) one two → AreAlike (shape_of script) one two
+full-stays script one two full run (inl alike) = alike
+full-stays script one two full run (inr more) =
+    absurd (full-ends script more.step more.more one.log.steps (trunks_of two.trunks)
+    (subst (λ (P : List Step). IsScriptRun script P (trunks_of two.trunks)) more.steps run) full)

@@ -27,7 +27,7 @@ use Rattle.stage.specs.Turns.{IsActed, IsPumpIf, IsStoppedBy, IsStoppedOf, IsTur
 use Rattle.stage.specs.Turns.{IsTurnIf, IsTurnOf, IsTurnStopped, asked_next, commands_of, makers}
 use Rattle.stage.specs.Turns.{shape_of}
 use Rattle.stage.proofs.Going.{GoesFar, SettlesOn, done-far, half-far, settle-made, settles_it}
-use Rattle.run_orders.proofs.Alike.{pump_alike}
+use Rattle.stage.proofs.Alike.{pump_alike}
 use Rattle.run_orders.proofs.States.{AreAlike, GoesOn, Grows, IsLonger, alike-as, alike-grows}
 use Rattle.run_orders.proofs.States.{alike-turned, by-alike, grows-on}
 use Rattle.run_orders.proofs.Settlings.{abreast, longer, settlings-compared, settlings-grow}

@@ -17,7 +17,6 @@ use Rattle.journal.specs.History.{has_ended}
 use Rattle.journal.specs.Shapes.{Shape}
 use Rattle.link_laws.specs.Laws.{IsLegal}
 use Rattle.link_laws.specs.Moves.{AllResting}
-use Rattle.link_laws.specs.Runs.{KeepsThroughout}
 use Rattle.link_laws.specs.Still.{IsOver}
 use Rattle.run_trunks.specs.States.{new_trunks, trunks_of}
 use Rattle.script_lang.specs.declared.actor_script.ActorScript.{ActorScript}
@@ -28,7 +27,6 @@ use Rattle.actor_run.specs.Following.{Follows, IsTurned, Playing}
 use Rattle.actor_run.specs.Knowing.{knows_nothing}
 use Rattle.actor_run.proofs.Others.{GoesOn}
 use Rattle.actor_run.proofs.Turns.{playing_first}
-use Rattle.trunk_moves.specs.Trunks.{links_of}
 use Rattle.fabric.specs.Actings.{OnlyRuns}
 use Rattle.fabric.specs.Links.{is_still}
 use Rattle.fabric.specs.Machine.{all_have_ended, have_ended}
@@ -50,6 +48,7 @@ use Rattle.stage.specs.Turns.{IsActed, IsPump, IsPumpIf, IsRound, IsTurnStopped,
 use Rattle.stage.specs.Turns.{commands_in, commands_of, first_layout, is_over, shape_of}
 use Rattle.stage.proofs.Asking.{may_ask, next-handed}
 use Rattle.stage.proofs.Going.{GoesFar, done-far, half-far}
+use Rattle.stage.proofs.OneRun.{one-run}
 use Rattle.stage.proofs.Planned.{far-planned, new-planned, planned-pumped}
 use Rattle.stage.proofs.Players.{after-goes_on, far-goes_on, none-goes_on, seated-other}
 use Rattle.stage.proofs.Resting.{over-rests}
@@ -347,20 +346,16 @@ module _ (script : ScriptParts) (fabric : Layout) (players : List Player)
       (subst (λ (s : Shape). IsReached (length fabric.log.names.nodes) s fabric.log.steps
       (trunks_of fabric.trunks)) staged.shape reached)
 
-  pub staged-so_far : IsLegal fabric.shape fabric.log.steps
-      → KeepsThroughout fabric.shape fabric.log.steps (links_of (trunks_of fabric.trunks))
-      → IsReachedBy fabric → IsSoFar script fabric
-  staged-so_far legal promises reached = record {
+  pub staged-so_far : IsLegal fabric.shape fabric.log.steps → IsReachedBy fabric
+      → IsSoFar script fabric
+  staged-so_far legal reached = record {
     declared = staged.declared;
     shape = staged.shape;
     names = staged.names;
     legal = subst (λ (s : Shape). IsLegal s fabric.log.steps) staged.shape legal;
-    promises = subst (λ (s : Shape).
-        KeepsThroughout s fabric.log.steps (links_of (trunks_of fabric.trunks))) staged.shape
-        promises;
-    reached = staged-reached reached;
+    run = one-run script staged.declared fabric.log.steps (trunks_of fabric.trunks)
+        (trunks_of fabric.trunks) (staged-reached reached) staged.planned;
     follows = staged-follows;
-    planned = staged.planned;
   }
 
   -- where all is over, it is so of the script's shape

@@ -7,7 +7,7 @@ use Rattle.journal.specs.declared.event.Event.TheVariants as asks
 use Rattle.journal.specs.declared.head.Head.{Head}
 use Rattle.journal.specs.declared.head.Head.TheVariants.{Tick, Wire}
 use Rattle.link_laws.specs.Laws.{IsLegal}
-use Rattle.link_laws.specs.Runs.{KeepsThroughout}
+use Rattle.link_laws.specs.Runs.{KeepsPromises}
 use Rattle.node_kernel.specs.Answers.{event_of, is_pumped}
 use Rattle.actor_run.specs.Following.{Follows, FollowsWhole}
 use Rattle.run_trunks.specs.States.{trunks_of}
@@ -15,7 +15,7 @@ use Rattle.script_lang.specs.Fits.{IsScript}
 use Rattle.script_lang.specs.Parts.{ScriptParts}
 use Rattle.trunk_moves.specs.Steps.{IsTrunkStep}
 use Rattle.trunk_moves.specs.Trunks.{RunTrunks, links_of}
-use Rattle.fabric.specs.Run.{AreFirst, IsReached, Layout}
+use Rattle.fabric.specs.Run.{AreFirst, IsMade, Layout}
 use Rattle.stage.specs.Pumps.{pump_event}
 use Rattle.stage.specs.Settlings.{Settler, settler_now}
 use Rattle.stage.specs.Turns.{commands_of, shape_of}
@@ -69,17 +69,29 @@ IsPlanned script (s ∷ P) after =
     × (IsPlanned script P before × (IsTrunkStep (shape_of script) P before s after
     × IsPlannedStep script P before s))
 
--- A RUN OF THE SCRIPT SO FAR: the script is within its limits, and the run has its names, is legal
--- by the laws of nodes and links, keeps what is promised of such runs after each of its steps, each
--- actor follows its commands, and the links do as is planned
-pub record IsSoFar (script : ScriptParts) (run : Layout) : Type 0 where
+-- A STEP OF A RUN OF THE SCRIPT, after the steps P, from the trunks before it to those after it: the
+-- machine makes it, it makes of the trunks what its kind makes, it is as planned, and behind it holds
+-- what is promised of runs with links
+pub record IsScriptStep (script : ScriptParts) (P : List Step) (before : RunTrunks) (s : Step)
+    (after : RunTrunks) : Type 0 where
+  pub makes : IsTrunkStep (shape_of script) P before s after
+  pub made : IsMade (length script.names.nodes) (shape_of script) P before s
+  pub planned : IsPlannedStep script P before s
+  pub promises : KeepsPromises (shape_of script) (s ∷ P) (links_of after)
+
+-- A RUN OF THE SCRIPT: from the first trunks on, of which what is promised holds, each step is one
+abbrev pub IsScriptRun : ScriptParts → List Step → RunTrunks → Type 0
+IsScriptRun script [] trunks =
+    AreFirst (shape_of script) trunks × KeepsPromises (shape_of script) [] (links_of trunks)
+IsScriptRun script (s ∷ P) after =
+    (before : RunTrunks) × (IsScriptRun script P before × IsScriptStep script P before s after)
+
+-- A RUN OF THE SCRIPT SO FAR: the script is within its limits, the run has its names, each actor
+-- follows its commands, and the journal is legal by the laws of nodes and links
+pub record IsSoFar (script : ScriptParts) (layout : Layout) : Type 0 where
   pub declared : IsScript script
-  pub shape : run.shape ≡ shape_of script
-  pub names : run.log.names ≡ script.names
-  pub legal : IsLegal (shape_of script) run.log.steps
-  pub promises :
-      KeepsThroughout (shape_of script) run.log.steps (links_of (trunks_of run.trunks))
-  pub reached :
-      IsReached (length script.names.nodes) (shape_of script) run.log.steps (trunks_of run.trunks)
-  pub follows : AllFollow script run.log.steps
-  pub planned : IsPlanned script run.log.steps (trunks_of run.trunks)
+  pub shape : layout.shape ≡ shape_of script
+  pub names : layout.log.names ≡ script.names
+  pub legal : IsLegal (shape_of script) layout.log.steps
+  pub run : IsScriptRun script layout.log.steps (trunks_of layout.trunks)
+  pub follows : AllFollow script layout.log.steps

@@ -22,7 +22,7 @@ use Rattle.stage.specs.Settlings.{IsActedAs, settler_in}
 use Rattle.stage.specs.Turns.{shape_of}
 use Rattle.workers.specs.Turning.{IsInTurnOf, IsPumpTurn, IsPumpedAs}
 use Rattle.workers.specs.Working.{IsWorking, OwnPlanned}
-use Rattle.run_orders.proofs.OneState.{IsOneState}
+use Rattle.stage.proofs.OneState.{IsOneState}
 use Rattle.workers.proofs.Resting.{found-planned, having_seen, working-after}
 use Rattle.workers.proofs.Turning.{added-acted, added-none, added-pump, pumped-working}
 

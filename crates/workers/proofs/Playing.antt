@@ -30,7 +30,7 @@ use Rattle.stage.proofs.Stops.{stops-full}
 use Rattle.stage.proofs.Turned.{turn-asks, turn-learned}
 use Rattle.workers.specs.Turning.{Asks, IsActedIn, IsRightlyFull, stop_of}
 use Rattle.workers.specs.Working.{IsPlayedBy, IsWorking, OwnPlanned, seen}
-use Rattle.run_orders.proofs.OneState.{IsOneState}
+use Rattle.stage.proofs.OneState.{IsOneState}
 use Rattle.workers.proofs.Resting.{as-actor, found-goes_on, found-names, found-planned}
 use Rattle.workers.proofs.Resting.{found-played, found-shape, seen-all, working-after}
 use Rattle.workers.proofs.Turning.{acted-working}

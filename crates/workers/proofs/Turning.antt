@@ -46,7 +46,7 @@ use Rattle.stage.proofs.Pumping.{pump-planned}
 use Rattle.stage.proofs.Settling.{HasMoved, IsUnder, by-move, due-stirs, has-moved, pump-settles}
 use Rattle.stage.proofs.Settling.{settles-now, under-moved}
 use Rattle.workers.specs.Working.{IsPlayedBy, IsWorking, OwnPlanned}
-use Rattle.run_orders.proofs.OneState.{IsOneState, IsRunOf, reached_run}
+use Rattle.stage.proofs.OneState.{IsOneState, IsRunOf, reached_run}
 use Rattle.workers.proofs.Planning.{planned-then}
 use Rattle.workers.proofs.Resting.{found-names, found-planned, found-shape, having_seen}
 use Rattle.workers.proofs.Resting.{working-after}

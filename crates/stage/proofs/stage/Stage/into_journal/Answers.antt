@@ -7,7 +7,7 @@ returns-clause-so_far c =
     let s = c.self.inside in
     rw (sym c.self.view_is)
     (staged-so_far s.script s.fabric s.players.items c.self.invariant c.into_journal.ensures.legal
-    c.into_journal.ensures.promises c.into_journal.ensures.reached)
+    c.into_journal.ensures.reached)
 
 pub returns-clause-whole : goal.returns-clause-whole
 returns-clause-whole c =

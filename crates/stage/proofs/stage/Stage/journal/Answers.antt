@@ -7,4 +7,4 @@ returns-clause-so_far c =
     let s = c.self.inside in
     rw (sym c.self.view_is)
     (staged-so_far s.script s.fabric s.players.items c.self.invariant c.journal.ensures.legal
-    c.journal.ensures.promises c.journal.ensures.reached)
+    c.journal.ensures.reached)

@@ -9,7 +9,7 @@ use Rattle.script_lang.specs.Parts.{ScriptParts}
 use Rattle.trunk_moves.specs.Trunks.{Become, RunTrunks}
 use Rattle.fabric.specs.Run.{IsReached}
 use Rattle.fabric.proofs.Reaching.{two-ends}
-use Rattle.stage.specs.Plays.{IsPlanned}
+use Rattle.stage.specs.Plays.{IsPlanned, IsScriptRun}
 use Rattle.stage.specs.Turns.{shape_of}
 use Rattle.stage.proofs.LaidOut.{laid_out}
 
@@ -30,6 +30,13 @@ pub planned_run : (script : ScriptParts) (P : List Step) (trunks : RunTrunks)
 planned_run script [] trunks first = first.1
 planned_run script (s ∷ P) trunks planned =
     (planned.0, (planned_run script P planned.0 planned.1.0, planned.1.1.0))
+
+-- and the runs of the script, which are both
+pub script_run : (script : ScriptParts) (P : List Step) (trunks : RunTrunks)
+    → IsScriptRun script P trunks → IsRunOf script P trunks
+script_run script [] trunks run = run.0.1
+script_run script (s ∷ P) trunks run =
+    (run.0, (script_run script P run.0 run.1.0, run.1.1.makes))
 
 -- A JOURNAL OF THE SCRIPT REACHES ONE STATE
 abbrev pub IsOneState : ScriptParts → Type 0
