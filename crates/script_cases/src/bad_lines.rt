@@ -1,6 +1,7 @@
-//! Bad lines: the kinds side by side, the order of kinds where two hold, and a table of each.
+//! Bad lines: the kinds side by side, the order of kinds where two hold, a table of each, and what is
+//! said of them.
 
-use script_lang::{BadKind, ScriptError, parse};
+use script_lang::{BadKind, Fault, ScriptError, parse};
 use std::test::Fail;
 
 /// A text, as a piece that stands so often and an end, and its bad line with the kind.
@@ -244,9 +245,9 @@ fn repeated(rt: &HostRuntime, piece: &str, times: u32, end: &str) -> Result<Vec<
 
 /// The first bad line of a text, and its kind.
 fn bad_line(rt: &HostRuntime, text: &[u8]) -> Option<(u32, BadKind)> {
-    match parse(rt.alloc(), text) {
-        Err(ScriptError::Bad { line, kind }) => Some((line, kind)),
-        _ => None,
+    match parse(rt.alloc(), text).err()? {
+        ScriptError::Bad { line, fault } => Some((line, fault.kind)),
+        ScriptError::NoMemory => None,
     }
 }
 
@@ -280,26 +281,15 @@ fn each_bad_line_with_its_number_and_kind(rt: HostRuntime) {
 }
 
 /// Long texts: a piece, how often it stands, an end, and the bad line with its kind.
-const LONG: [(&str, u32, &str, Option<ScriptError>); 4] = [
+const LONG: [(&str, u32, &str, Option<(u32, BadKind)>); 4] = [
     ("#", 4096, "\n", None),
-    (
-        " ",
-        4096,
-        "\r\n",
-        Some(ScriptError::Bad {
-            line: 1,
-            kind: BadKind::LineTooLong,
-        }),
-    ),
+    (" ", 4096, "\r\n", Some((1, BadKind::LineTooLong))),
     (LINE, 16384, "", None),
     (
         LINE,
         16383,
         "#23456789 123456789 123456789 123456789 123456789 123456789 1234\n",
-        Some(ScriptError::Bad {
-            line: 16384,
-            kind: BadKind::ScriptTooLong,
-        }),
+        Some((16384, BadKind::ScriptTooLong)),
     ),
 ];
 
@@ -307,7 +297,8 @@ const LONG: [(&str, u32, &str, Option<ScriptError>); 4] = [
 fn lines_and_scripts_at_their_longest(rt: HostRuntime) -> Result<(), Fail> {
     for (piece, times, end, wanted) in LONG {
         let text = repeated(&rt, piece, times, end)?;
-        assert_eq!(rt; parse(rt.alloc(), text.as_slice()).err(), wanted);
+        assert_eq!(rt; bad_line(&rt, &text), wanted);
+        assert_eq!(rt; parse(rt.alloc(), &text).is_ok(), wanted.is_none());
     }
     Ok(())
 }
@@ -316,5 +307,323 @@ fn lines_and_scripts_at_their_longest(rt: HostRuntime) -> Result<(), Fail> {
 fn seventeenth_node(rt: HostRuntime) -> Result<(), Fail> {
     let text = repeated(&rt, NODES, 1, "b")?;
     assert_eq!(rt; bad_line(&rt, &text), Some((17, BadKind::OverLimit)));
+    Ok(())
+}
+
+/// The lines before those of an actor on the second of two nodes, which a link joins.
+const ACTOR: &str = "node m\nnode n\nlink l m n\nactor p n\n";
+
+/// Texts, each as a begin, a piece that stands so often, and an end, with what is said of them.
+const SAID: [(&str, &str, u32, &str, &str); 41] = [
+    (
+        "",
+        LINE,
+        16384,
+        "n",
+        "line 16385: the script is longer than 1,048,576 bytes",
+    ),
+    (
+        "",
+        "#",
+        4097,
+        "",
+        "line 1: the line is longer than 4,096 bytes",
+    ),
+    (
+        "node \x7f",
+        "",
+        0,
+        "",
+        "line 1: the line has a byte that is no printable character",
+    ),
+    (
+        "\u{feff}node n",
+        "",
+        0,
+        "",
+        "line 1: the line has a byte that is no printable character",
+    ),
+    (
+        "# \u{e9}",
+        "",
+        0,
+        "",
+        "line 1: the line has a byte that is no printable character",
+    ),
+    (
+        "nod m",
+        "",
+        0,
+        "",
+        "line 1: no statement begins with this word here: nod",
+    ),
+    (
+        "\tn~d\tm",
+        "",
+        0,
+        "",
+        "line 1: no statement begins with this word here: n~d",
+    ),
+    (
+        "open a",
+        "",
+        0,
+        "",
+        "line 1: no statement begins with this word here: open",
+    ),
+    (
+        "node n\n",
+        "01234567",
+        8,
+        "\n",
+        "line 2: no statement begins with this word here: \
+        0123456701234567012345670123456701234567012345670123456701234567",
+    ),
+    (
+        "node n\n",
+        "0123456789",
+        10,
+        " #",
+        "line 2: no statement begins with this word here: \
+        0123456789012345678901234567890123456789012345678901234567890123",
+    ),
+    (
+        ACTOR,
+        "repeat 2\n",
+        2,
+        "",
+        "line 6: no statement begins with this word here: repeat",
+    ),
+    (
+        "node # n",
+        "",
+        0,
+        "",
+        "line 1: a word is wrong, missing or one too many: node",
+    ),
+    (
+        "node n m o",
+        "",
+        0,
+        "",
+        "line 1: a word is wrong, missing or one too many: m",
+    ),
+    (
+        "node n/m",
+        "",
+        0,
+        "",
+        "line 1: a word is wrong, missing or one too many: n/m",
+    ),
+    (
+        "link l m n window 0",
+        "",
+        0,
+        "",
+        "line 1: a word is wrong, missing or one too many: 0",
+    ),
+    (
+        "link l m n window",
+        "",
+        0,
+        "",
+        "line 1: a word is wrong, missing or one too many: window",
+    ),
+    (
+        "plan l > D S0 D",
+        "",
+        0,
+        "",
+        "line 1: a word is wrong, missing or one too many: S0",
+    ),
+    (
+        "plan l = D",
+        "",
+        0,
+        "",
+        "line 1: a word is wrong, missing or one too many: =",
+    ),
+    (
+        "plan l >",
+        "",
+        0,
+        "",
+        "line 1: a word is wrong, missing or one too many: plan",
+    ),
+    (
+        "actor p n m",
+        "",
+        0,
+        "",
+        "line 1: a word is wrong, missing or one too many: m",
+    ),
+    (
+        ACTOR,
+        "",
+        0,
+        "recv",
+        "line 5: a word is wrong, missing or one too many: recv",
+    ),
+    (
+        ACTOR,
+        "",
+        0,
+        "recv not",
+        "line 5: a word is wrong, missing or one too many: not",
+    ),
+    (
+        ACTOR,
+        "",
+        0,
+        "recv any 1",
+        "line 5: a word is wrong, missing or one too many: 1",
+    ),
+    (
+        ACTOR,
+        "",
+        0,
+        "recv 1 x",
+        "line 5: a word is wrong, missing or one too many: x",
+    ),
+    (
+        ACTOR,
+        "",
+        0,
+        "hunt l/",
+        "line 5: a word is wrong, missing or one too many: l/",
+    ),
+    (
+        ACTOR,
+        "",
+        0,
+        "send self",
+        "line 5: a word is wrong, missing or one too many: send",
+    ),
+    (
+        ACTOR,
+        "",
+        0,
+        "send self 1 hex:0g 2",
+        "line 5: a word is wrong, missing or one too many: 2",
+    ),
+    (
+        ACTOR,
+        "",
+        0,
+        "send self 1 hex:0g",
+        "line 5: a word is wrong, missing or one too many: hex:0g",
+    ),
+    (
+        ACTOR,
+        "",
+        0,
+        "send self 1 fill:65533:5a",
+        "line 5: a word is wrong, missing or one too many: fill:65533:5a",
+    ),
+    (
+        ACTOR,
+        "",
+        0,
+        "keep self",
+        "line 5: a word is wrong, missing or one too many: self",
+    ),
+    (
+        ACTOR,
+        "",
+        0,
+        "repeat 20001",
+        "line 5: a word is wrong, missing or one too many: 20001",
+    ),
+    (
+        ACTOR,
+        "",
+        0,
+        "cut lin",
+        "line 5: no node or link has this name here: lin",
+    ),
+    (
+        "node n\nlink l n m",
+        "",
+        0,
+        "",
+        "line 2: no node or link has this name here: m",
+    ),
+    (
+        "node m\nnode n\nnode o\nlink l m n\nactor p o\nhunt l/a",
+        "",
+        0,
+        "",
+        "line 6: no node or link has this name here: l",
+    ),
+    (
+        "node n\n",
+        "node n\n",
+        2,
+        "",
+        "line 2: this name stands twice: n",
+    ),
+    (
+        "node m\nnode n\nlink l n n",
+        "",
+        0,
+        "",
+        "line 3: this name stands twice: n",
+    ),
+    (
+        ACTOR,
+        "",
+        0,
+        "end\nactor p m",
+        "line 6: this name stands twice: p",
+    ),
+    (
+        NODES,
+        "b",
+        1,
+        "",
+        "line 17: this is more than a script may have: 16 nodes",
+    ),
+    (
+        "node m\nnode n\nlink l m n\n",
+        "plan l < D D D D D D D D D D\n",
+        1001,
+        "",
+        "line 1004: this is more than a script may have: 10,000 verdicts of a direction",
+    ),
+    (
+        ACTOR,
+        "close\n",
+        20_001,
+        "",
+        "line 20005: this is more than a script may have: 20,000 commands of an actor, 400,000 in all",
+    ),
+    (
+        ACTOR,
+        "",
+        0,
+        "close\n",
+        "line 5: an `end` is missing behind this line",
+    ),
+];
+
+#[test]
+fn what_is_said_of_bad_lines(rt: HostRuntime) -> Result<(), Fail> {
+    for (begin, piece, times, end, said) in SAID {
+        let mut text = Vec::new(rt.alloc());
+        text.extend_from_slice(begin.as_bytes())?;
+        text.extend_from_slice(&repeated(&rt, piece, times, end)?)?;
+        let error = parse(rt.alloc(), &text).err().ok_or("no bad line")?;
+        assert_eq!(rt; format!(in rt.alloc(); "{error}")?.as_str(), said);
+    }
+    Ok(())
+}
+
+#[test]
+fn a_byte_that_is_not_printable_is_shown_as_a_question_mark(rt: HostRuntime) -> Result<(), Fail> {
+    let fault = Fault::about(BadKind::UnknownWord, b"a\0\t\x7f\xff~ z");
+    assert_eq!(rt;
+        format!(in rt.alloc(); "{fault}")?.as_str(),
+        "no statement begins with this word here: a????~ z"
+    );
     Ok(())
 }
