@@ -1,0 +1,6 @@
+pub mod Words
+pub mod Requests
+pub mod Nearest
+pub mod Misuses
+pub mod Lines
+pub mod Pages

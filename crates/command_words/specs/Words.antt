@@ -1,0 +1,80 @@
+-- The words of the command line, and what is said of each.
+use Rattle.std.specs.Prelude.{ℕ, Bool, ◌||◌, List, [], ◌∷◌, codes, Option, Some, None, if◌then◌else◌}
+use Rattle.std.specs.Str.{bytes_eq}
+use Rattle.command_words.specs.declared.word.Word.{Word}
+use Rattle.command_words.specs.declared.word.Word.TheVariants.{Run, Serial, Gen, Help, Version}
+
+-- a row of the table: the name of a word, its use, a line, a paragraph and an example
+pub record Row : Type 0 where
+  pub name : List ℕ
+  pub usage : List ℕ
+  pub line : List ℕ
+  pub paragraph : List ℕ
+  pub example : List ℕ
+
+-- THE TABLE OF THE WORDS
+unfoldable pub said_of : Word → Row
+said_of Run = record {
+  name = codes "run";
+  usage = codes "run [FILE]";
+  line = codes "play a script with a thread for each actor and each link";
+  paragraph =
+      codes "Reads a script from FILE, or from standard input, plays it with a thread for each\nactor and each link, and writes the log of each endpoint and the journal of all\nsteps. The threads take turns in any order, so the text may differ each time.\n";
+  example = codes "linx_sim run examples/losses.linx";
+}
+said_of Serial = record {
+  name = codes "serial";
+  usage = codes "serial [FILE]";
+  line = codes "play a script in the fixed order of rounds";
+  paragraph =
+      codes "Reads a script from FILE, or from standard input, plays it in the fixed order of\nrounds, and writes the same kind of text as run. It is the same each time.\n";
+  example = codes "linx_sim serial < examples/losses.linx";
+}
+said_of Gen = record {
+  name = codes "gen";
+  usage = codes "gen N";
+  line = codes "play the generated script of a number, and write its summary";
+  paragraph =
+      codes "Plays the generated script of the number N, which has one to ten decimal digits and\nis at most 4294967295, as run does, and writes ten lines of a word and a number\neach. Nothing is read.\n";
+  example = codes "linx_sim gen 7";
+}
+said_of Help = record {
+  name = codes "help";
+  usage = codes "help [WORD]";
+  line = codes "write this help, or that of a word";
+  paragraph =
+      codes "Writes what all words are for, or what one is for, to standard output. The same are\n--help, -h and WORD --help.\n";
+  example = codes "linx_sim help serial";
+}
+said_of Version = record {
+  name = codes "version";
+  usage = codes "version";
+  line = codes "write the version";
+  paragraph =
+      codes "Writes the name of the program and its version to standard output. The same are\n--version and -V.\n";
+  example = codes "linx_sim version";
+}
+
+-- all words, in the order of the help
+abbrev pub all_words : List Word
+all_words = Run ∷ Serial ∷ Gen ∷ Help ∷ Version ∷ []
+
+-- the first of these words whose name is the text
+abbrev pub named : List ℕ → List Word → Option Word
+named text [] = None
+named text (word ∷ words) = if bytes_eq text (said_of word).name then Some word else named text words
+
+-- the text asks for help
+abbrev pub is_help_flag : List ℕ → Bool
+is_help_flag text = bytes_eq text (codes "--help") || bytes_eq text (codes "-h")
+
+-- the text asks for the version
+abbrev pub is_version_flag : List ℕ → Bool
+is_version_flag text = bytes_eq text (codes "--version") || bytes_eq text (codes "-V")
+
+-- the word that a text is: by a flag, or by its name
+unfoldable pub called : List ℕ → Option Word
+called text =
+    if is_help_flag text then Some Help
+    else if is_version_flag text then Some Version
+    else named text all_words

@@ -1,0 +1,18 @@
+//! The words of the command line: what each asks for, and what is said of it. One table has a row
+//! for each word, in the order of the help. What the words ask for, the pages of the help, and what
+//! is wrong with words that ask for nothing are read off it.
+#![tactic(auto)]
+
+mod line;
+mod misuse;
+mod nearest;
+mod number;
+mod page;
+mod request;
+mod word;
+
+pub use line::Line;
+pub use misuse::Misuse;
+pub use page::Page;
+pub use request::{Asked, Request, file_named};
+pub use word::{Said, WORDS, Word};

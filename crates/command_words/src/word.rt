@@ -1,0 +1,148 @@
+//! The table of the words.
+ghost use Rattle.std.specs.Prelude.{◌≡◌, ◌≤◌, length};
+ghost use Rattle.command_words.specs.Words.{called, is_help_flag, is_version_flag, named, said_of};
+
+/// A word of the command line, by what it asks for.
+#[derive(Clone, Copy, Debug, PartialEq, Eq, Hash)]
+pub enum Word {
+    /// The run of a script with threads.
+    Run,
+    /// The run of a script in the fixed order.
+    Serial,
+    /// The run of a generated script.
+    Gen,
+    /// The help.
+    Help,
+    /// The version.
+    Version,
+}
+
+/// All words, in the order of the help.
+pub const WORDS: [Word; 5] = [
+    Word::Run,
+    Word::Serial,
+    Word::Gen,
+    Word::Help,
+    Word::Version,
+];
+
+/// What is said of a word: a row of the table.
+#[derive(Drop)]
+pub struct Said {
+    pub name: &'static str,
+    pub usage: &'static str,
+    pub line: &'static str,
+    pub paragraph: &'static str,
+    pub example: &'static str,
+}
+
+impl Word {
+    /// The row of the word.
+    #[tactic(auto, unfolding(crate::specs::Words::said_of))]
+    pub fn said(self) -> Said
+        ensures name { result.name.now ≡ (said_of self).name }
+        ensures usage { result.usage.now ≡ (said_of self).usage }
+        ensures line { result.line.now ≡ (said_of self).line }
+        ensures paragraph { result.paragraph.now ≡ (said_of self).paragraph }
+        ensures example { result.example.now ≡ (said_of self).example }
+    {
+        match self {
+            Word::Run => Said {
+                name: "run",
+                usage: "run [FILE]",
+                line: "play a script with a thread for each actor and each link",
+                paragraph: "Reads a script from FILE, or from standard input, plays it with a thread for each\n\
+                    actor and each link, and writes the log of each endpoint and the journal of all\n\
+                    steps. The threads take turns in any order, so the text may differ each time.\n",
+                example: "linx_sim run examples/losses.linx",
+            },
+            Word::Serial => Said {
+                name: "serial",
+                usage: "serial [FILE]",
+                line: "play a script in the fixed order of rounds",
+                paragraph: "Reads a script from FILE, or from standard input, plays it in the fixed order of\n\
+                    rounds, and writes the same kind of text as run. It is the same each time.\n",
+                example: "linx_sim serial < examples/losses.linx",
+            },
+            Word::Gen => Said {
+                name: "gen",
+                usage: "gen N",
+                line: "play the generated script of a number, and write its summary",
+                paragraph: "Plays the generated script of the number N, which has one to ten decimal digits and\n\
+                    is at most 4294967295, as run does, and writes ten lines of a word and a number\n\
+                    each. Nothing is read.\n",
+                example: "linx_sim gen 7",
+            },
+            Word::Help => Said {
+                name: "help",
+                usage: "help [WORD]",
+                line: "write this help, or that of a word",
+                paragraph: "Writes what all words are for, or what one is for, to standard output. The same are\n\
+                    --help, -h and WORD --help.\n",
+                example: "linx_sim help serial",
+            },
+            Word::Version => Said {
+                name: "version",
+                usage: "version",
+                line: "write the version",
+                paragraph: "Writes the name of the program and its version to standard output. The same are\n\
+                    --version and -V.\n",
+                example: "linx_sim version",
+            },
+        }
+    }
+
+    /// How the word is used, which is short.
+    pub fn usage(self) -> &'static str
+        ensures usage { result.now ≡ (said_of self).usage }
+        ensures short { length result.now ≤ 50 }
+    {
+        self.said().usage
+    }
+
+    /// The name of the word, which is short.
+    pub fn name(self) -> &'static str
+        ensures name { result.now ≡ (said_of self).name }
+        ensures short { length result.now ≤ 15 }
+    {
+        self.said().name
+    }
+}
+
+fn named_in(text: &str, words: &[Word]) -> Option<Word>
+    ensures { result ≡ named text.now words.now }
+{
+    for word in words {
+        if text == word.name() {
+            return Some(*word);
+        }
+    }
+    None
+}
+
+/// Whether a text asks for help: `--help`, or `-h`.
+pub(crate) fn is_help_flag(text: &str) -> bool
+    ensures { result ≡ is_help_flag text.now }
+{
+    text == "--help" || text == "-h"
+}
+
+fn is_version_flag(text: &str) -> bool
+    ensures { result ≡ is_version_flag text.now }
+{
+    text == "--version" || text == "-V"
+}
+
+/// The word that a text is: by its name, or by a flag.
+#[tactic(auto, unfolding(crate::specs::Words::called))]
+pub(crate) fn called(text: &str) -> Option<Word>
+    ensures { result ≡ called text.now }
+{
+    if is_help_flag(text) {
+        return Some(Word::Help);
+    }
+    if is_version_flag(text) {
+        return Some(Word::Version);
+    }
+    named_in(text, &WORDS)
+}
