@@ -62,6 +62,7 @@ impl<T: Read + Drop> Source for SystemFile<T> {
 }
 
 /// The files of the system, by their paths.
+#[derive(Drop)]
 pub struct SystemFiles<'a, R> {
     system: &'a R,
 }
