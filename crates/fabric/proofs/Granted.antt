@@ -28,7 +28,7 @@ use Rattle.link_laws.specs.Sessions.{boots}
 use Rattle.node_kernel.specs.Nodes.{NodeState, is_living, is_open}
 use Rattle.run_trunks.specs.Changes.{AllGrant}
 use Rattle.run_trunks.specs.States.{TrunksState, over, trunks_of}
-use Rattle.trunk.specs.Events.{TrunkState, side_of}
+use Rattle.trunk.specs.Events.{HasNumbersLeft, TrunkState, side_of}
 use Rattle.trunk.specs.Laws.{MayPublish}
 use Rattle.trunk_moves.specs.Trunks.{side_if, side_on}
 use Rattle.trunk_moves.proofs.Peers.{peer-end}
@@ -43,7 +43,7 @@ use Rattle.fabric.specs.Run.{Layout}
 use Rattle.fabric.specs.Tellings.{HasSide, MaySendTo, MayTell, MayTellHunt, MayTellSend}
 use Rattle.fabric.proofs.Nodes.{living-left}
 use Rattle.fabric.proofs.Placed.{Acts, own_kernel-is, own_open}
-use Rattle.fabric.proofs.Reaching.{grants-side, whole-run}
+use Rattle.fabric.proofs.Reaching.{grants-numbers, grants-side, whole-run}
 use Rattle.fabric.proofs.Restarted.{boot-of}
 use Rattle.fabric.proofs.Told.{named-is, node-over, side-over, side-there}
 
@@ -80,6 +80,10 @@ module _ (f : Layout) (parts : Parts) (kept : IsKept f parts) (room : length f.l
         (ap (λ (m : ℕ). next_inc m (opened_on P m)) there ∙ sym is)
         ((grants-side f parts kept room l of_shape side).opens name named)
 
+    -- each side of a node has numbers left
+    pub granted-numbers : (n : ℕ) → AllGrant f.shape.links n f.trunks HasNumbersLeft
+    granted-numbers n l of_shape side on = (grants-numbers f parts kept room l of_shape side).frames
+
     -- a restart of a node, on each side of it
     pub granted-restart : (n : NodeNo) → 0 < n.0 → n.0 ≤ length f.log.names.nodes → (d boot : ℕ)
         → boot ≡ get_or parts.booted (n.0 - 1) d + 1
@@ -110,7 +114,11 @@ module _ (f : Layout) (parts : Parts) (kept : IsKept f parts) (room : length f.l
         (subst (λ (m : ℕ). is_alive P m (Here i) ≡ true) (sym there) open_it)
         (subst (λ (m : ℕ). is_alive P m (There l x b) ≡ true) (sym there) lives)
         (record { number_fits = omega arith; data_fit = omega arith }) in
-        record { sender = may.sender; receiver = may.receiver }
+        record {
+          sender = may.sender;
+          receiver = may.receiver;
+          numbers = (grants-numbers f parts kept room l ended.0 side).frames;
+        }
 
 -- WHAT AN ACTOR'S CALL may tell the trunks
 module _ {f : Layout} {parts : Parts} {actor place home : ℕ} (acts : Acts f parts actor place home)
@@ -167,12 +175,15 @@ module _ {f : Layout} {parts : Parts} {actor place home : ℕ} (acts : Acts f pa
 
   may-hunt : (path : Path) → LeavesBy f.shape n path → MayTellHunt at_rest kernel path
   may-hunt (Local v) leaves = tt
-  may-hunt (Over l v) leaves = has-side l leaves
+  may-hunt (Over l v) leaves = (
+    has-side l leaves,
+    λ side on. (grants-numbers f parts acts.at.kept acts.short l leaves.of_shape side).frames,
+  )
 
   pub may-tell : (call : Call) → FitsEvent f n (event_of_call call) (signal_in (hand_of_call call))
       → MayTell at_rest kernel j call
-  may-tell Close fits = tt
-  may-tell End fits = tt
+  may-tell Close fits = granted-numbers f parts acts.at.kept acts.short kernel.node.0
+  may-tell End fits = granted-numbers f parts acts.at.kept acts.short kernel.node.0
   may-tell (Send q signal) fits = may-send q (is_living kernel q) refl
   may-tell (Hunt path signal) fits = may-hunt path fits
   may-tell (Attach q signal) fits = tt

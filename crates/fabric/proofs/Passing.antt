@@ -32,18 +32,21 @@ use Rattle.node_kernel.specs.declared.answers.StepAnswer.TheVariants as answers
 use Rattle.node_kernel.specs.Nodes.{NodeState}
 use Rattle.link_laws.specs.Brought.{Brought, MayBring, arrives, brought_at, goes_down}
 use Rattle.link_laws.specs.Brought.{goes_up, meets, nothing, parts as parts_from}
+use Rattle.journal.specs.Shapes.{Shape}
 use Rattle.link_laws.specs.Ends.{IsLinkOf, node_at}
 use Rattle.link_laws.specs.Laws.{ArePacketEffects, IsHandedOver, IsLegalStep, delivers}
 use Rattle.run_trunks.specs.Changes.{at_link}
 use Rattle.run_trunks.specs.States.{TrunksState, trunks_of}
 use Rattle.run_trunks.proofs.Numbered.{one-changes}
 use Rattle.run_trunks.proofs.Rested.{reads-changed}
-use Rattle.trunk.specs.Events.{IsReading, TrunkState, delivered, kept_of, side_of, told_by}
+use Rattle.run_numbers.specs.Laws.{HasNumbersToAsk}
+use Rattle.trunk.specs.Events.{HasNumbersLeft, IsReading, TrunkState, asked_at, delivered, kept_of}
+use Rattle.trunk.specs.Events.{side_of, told_by}
 use Rattle.trunk.specs.Laws.{MayPublish}
 use Rattle.trunk.specs.declared.up.TrunkUp.{TrunkUp}
 use Rattle.trunk.specs.declared.up.TrunkUp.TheVariants.{Nothing, WentUp, WentDown, Met}
 use Rattle.trunk.specs.declared.up.TrunkUp.TheVariants.{Arrived as UpArrived, Gone, Asked}
-use Rattle.trunk_moves.specs.Packets.{Comes, Meets, answered, told_brings}
+use Rattle.trunk_moves.specs.Packets.{Comes, Meets, answered, names_hunted, told_brings}
 use Rattle.trunk_moves.specs.Steps.{IsTrunkStep}
 use Rattle.trunk_moves.specs.Trunks.{RunTrunks}
 use Rattle.fabric.specs.declared.bringing.At.{At}
@@ -52,7 +55,8 @@ use Rattle.fabric.specs.declared.wires.Coming.TheVariants.{Never}
 use Rattle.fabric.specs.Actings.{MayMake}
 use Rattle.fabric.specs.Asks.{MayMeet, may_ask}
 use Rattle.fabric.specs.Brings.{after_brought}
-use Rattle.fabric.specs.Bringings.{IsDelivered, IsThere, MayTellNode, answers_told, brought_on}
+use Rattle.fabric.specs.Bringings.{HasNumbersOver, IsDelivered, IsThere, MayTellNode}
+use Rattle.fabric.specs.Bringings.{answers_told, brought_on}
 use Rattle.fabric.specs.Bringings.{comes_by, coming_kept, node_told, passed_by, passes_by, told_on}
 use Rattle.fabric.specs.Lines.{counted}
 use Rattle.fabric.specs.Remains.{AreNodesLeft, IsKept, Parts, node_left}
@@ -66,7 +70,7 @@ use Rattle.fabric.proofs.Nodes.{open-left_of}
 use Rattle.fabric.proofs.There.{back-there, kernel-at, kernel-there, line-is, there-by}
 use Rattle.fabric.proofs.OnLinks.{brought-leaves, kernels-same, kernels-set, laid}
 use Rattle.fabric.proofs.OnLinks.{made-on_link, wire-on, with_line}
-use Rattle.fabric.proofs.Reaching.{grants-answer, legal-next}
+use Rattle.fabric.proofs.Reaching.{grants-answer, grants-then, legal-next}
 
 -- ---- what a maker asks for on a link may be made
 
@@ -122,6 +126,25 @@ arrival-may P n m l x a b note (meets y c name) is may = absurd cc
 arrival-may P n m l x a b note (parts_from y c) is may = absurd cc
 
 -- ---- A STEP OF A PACKET
+
+-- a side has numbers for the next question
+numbers-first : (side : Side) (names : List (List ℕ)) (t : TrunkState)
+    → HasNumbersToAsk side names t → HasNumbersLeft side t
+numbers-first side [] t has = has
+numbers-first side (v ∷ names) t has = has.0
+
+-- and for each of them, as a fabric has its trunks
+numbers-over : (shape : Shape) (l : LinkNo) → IsLinkOf shape l → (side : Side)
+    (names : List (List ℕ)) (ts : List TrunkState) → length ts ≡ length shape.links
+    → HasNumbersToAsk side names (trunks_of ts l.0) → HasNumbersOver l side names ts
+numbers-over shape l of_shape side [] ts same has = has
+numbers-over shape l of_shape side (v ∷ names) ts same has = (
+  has.0,
+  numbers-over shape l of_shape side names (at_link l (asked_at side v) ts)
+      (length-set ts (l.0 - 1) (asked_at side v (trunks_of ts l.0)) ∙ same)
+      (subst (HasNumbersToAsk side names)
+      (sym (reads-changed shape l (asked_at side v) ts same of_shape)) has.1),
+)
 
 module _ {f : Layout} {parts : Parts} (kept : IsKept f parts) (by : By) (l : LinkNo) (from : Side)
     (verdict : Verdict)
@@ -257,6 +280,14 @@ module _ {f : Layout} {parts : Parts} (kept : IsKept f parts) (by : By) (l : Lin
         subst (λ (b : Bool). IsHandedOver b P n (node_at shape l from) l
         (brought_at P n l (brings heard))) (comes-handed verdict keep comes) legal_coming.packets
 
+    -- what it makes of the trunk, and that its side has numbers left then
+    came : trunks_of (at_link l (delivered from 0 keep heard) f.trunks) l.0
+        ≡ delivered from 0 keep heard t
+    came = reads-changed shape l (delivered from 0 keep heard) f.trunks kept.counted.trunks of_shape
+
+    left_to_ask : HasNumbersToAsk to (names_hunted P n l) (delivered from 0 keep heard t)
+    left_to_ask = grants-then f parts kept asked.short l of_shape from keep heard reading
+
     -- so its node may be told of it
     may-tell : (up : TrunkUp) → told heard ≡ up
         → MayTellNode (node_left P node) there_is up
@@ -266,14 +297,19 @@ module _ {f : Layout} {parts : Parts} (kept : IsKept f parts) (by : By) (l : Lin
         ∙ arrival-may P n (node_at shape l from) l session a b note packet.what
         (ap (λ (u : TrunkUp). brought_at P n l (told_brings session u)) (sym is)
         ∙ packet.effects) packet.may
-    may-tell (Asked name) is = λ i first.
-        subst (λ (u : TrunkState). MayPublish (side_of to u) i name)
-        (sym (reads-changed shape l (delivered from 0 keep heard) f.trunks kept.counted.trunks
-        of_shape))
-        ((grants-answer f parts kept asked.short l of_shape from).answers keep heard reading name
-        is i (sym (holder-is P node name) ∙ first))
+    may-tell (Asked name) is = (
+      λ i first. subst (λ (u : TrunkState). MayPublish (side_of to u) i name) (sym came)
+          ((grants-answer f parts kept asked.short l of_shape from).answers keep heard reading name
+          is i (sym (holder-is P node name) ∙ first)),
+      subst (HasNumbersLeft to) (sym came)
+          (numbers-first to (names_hunted P n l) (delivered from 0 keep heard t) left_to_ask),
+    )
     may-tell Nothing is = tt
-    may-tell (WentUp x y) is = tt
+    may-tell (WentUp x y) is =
+        numbers-over shape l of_shape to (names_hunted P n l)
+        (at_link l (delivered from 0 keep heard) f.trunks)
+        (length-set f.trunks (l.0 - 1) (delivered from 0 keep heard t) ∙ kept.counted.trunks)
+        (subst (HasNumbersToAsk to (names_hunted P n l)) (sym came) left_to_ask)
     may-tell (WentDown x) is = tt
     may-tell (Met i name) is = tt
     may-tell (Gone i) is = tt

@@ -21,6 +21,8 @@ use Rattle.trunk_moves.specs.Laws.{KeepsAll}
 use Rattle.trunk_moves.specs.Steps.{IsTrunkRun, IsTrunkStep, IsBoundedTrunkRun}
 use Rattle.trunk_moves.specs.Trunks.{NodesFit, RunTrunks}
 use Rattle.trunk_moves.proofs.Runs.{trunk_runs_grant, trunk_runs_keep_all}
+use Rattle.run_numbers.specs.Laws.{GrantsNumbers, GrantsNumbersThen}
+use Rattle.run_numbers.proofs.Runs.{runs_have_numbers}
 use Rattle.fabric.specs.Remains.{IsKept, IsLaidOut, IsLink, Parts}
 use Rattle.fabric.specs.Run.{IsReached, Layout}
 
@@ -121,4 +123,14 @@ module _ (f : Layout) (parts : Parts) (kept : IsKept f parts) where
     pub grants-answer : GrantsAnswer f.log.steps (node_at f.shape l (other_of from)) from
         (trunks_of f.trunks l.0)
     grants-answer = (trunk_runs_grant f.shape f.log.steps (trunks_of f.trunks) whole-run room l
+        of_shape from).1
+
+    -- and each side has the numbers for it, then and once a packet has come
+    pub grants-numbers : GrantsNumbers from (trunks_of f.trunks l.0)
+    grants-numbers = (runs_have_numbers f.shape f.log.steps (trunks_of f.trunks) whole-run room l
+        of_shape from).0
+
+    pub grants-then : GrantsNumbersThen f.log.steps (node_at f.shape l (other_of from)) l from
+        (trunks_of f.trunks l.0)
+    grants-then = (runs_have_numbers f.shape f.log.steps (trunks_of f.trunks) whole-run room l
         of_shape from).1

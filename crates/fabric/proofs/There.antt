@@ -10,8 +10,9 @@ use Rattle.journal.specs.declared.effect.Step.{Step}
 use Rattle.journal.specs.Logs.{step_limit}
 use Rattle.node_kernel.specs.Nodes.{NodeState}
 use Rattle.link_laws.specs.Ends.{IsLinkOf, node_at}
-use Rattle.run_trunks.specs.States.{trunks_of}
-use Rattle.trunk.specs.Events.{kept_of}
+use Rattle.run_trunks.specs.States.{TrunksState, trunks_of}
+use Rattle.run_numbers.specs.Laws.{GrantsNumbers}
+use Rattle.trunk.specs.Events.{TrunkState, kept_of}
 use Rattle.fabric.specs.declared.bringing.At.{At}
 use Rattle.fabric.specs.declared.line.Line.{Line}
 use Rattle.fabric.specs.Bringings.{IsThere}
@@ -21,6 +22,7 @@ use Rattle.fabric.specs.Run.{Layout}
 use Rattle.fabric.proofs.Lines.{ticks-few, wires-few}
 use Rattle.fabric.proofs.OnLinks.{end-is}
 use Rattle.fabric.proofs.Placed.{get-is}
+use Rattle.fabric.proofs.Reaching.{grants-numbers}
 
 module _ {f : Layout} {parts : Parts} (kept : IsKept f parts) (l : LinkNo)
     (of_shape : IsLinkOf f.shape l) where
@@ -80,6 +82,16 @@ module _ {f : Layout} {parts : Parts} (kept : IsKept f parts) (l : LinkNo)
     pub node-at : (kernel : NodeState) → kernel ≡ get_or parts.kernels (at.node.0 - 1) kernel
         → at.node ≡ kernel.node
     node-at kernel is = ap (λ (k : NodeState). k.node) (sym (kernel-at kernel is))
+
+  -- its side has numbers left
+  pub numbers-there : length f.log.steps < step_limit → {side : Side} {at : At}
+      → IsThere f l side at → (s : TrunksState) → s.is ≡ f.trunks
+      → GrantsNumbers at.side (trunks_of s.is at.link.0)
+  numbers-there room {side = side} {at = at} there s same =
+      subst (λ (ts : List TrunkState). GrantsNumbers at.side (trunks_of ts at.link.0)) (sym same)
+      (subst (λ (k : LinkNo). GrantsNumbers at.side (trunks_of f.trunks k.0)) (sym there.link)
+      (subst (λ (s : Side). GrantsNumbers s (trunks_of f.trunks l.0)) (sym there.side_is)
+      (grants-numbers f parts kept room l of_shape side)))
 
 -- where it comes, by its parts
 pub there-by : (f : Layout) (l : LinkNo) (side : Side) (at : At) → IsThere f l side at

@@ -24,8 +24,8 @@ use Rattle.node_kernel.specs.Nodes.{NodeState, first_named, is_open}
 use Rattle.run_trunks.specs.Changes.{at_link}
 use Rattle.rlnh_end.specs.declared.heard.Heard.{Heard}
 use Rattle.run_trunks.specs.States.{TrunksState, resting, trunks_of}
-use Rattle.trunk.specs.Events.{IsReading, TrunkState, delivered, kept_of, lost_from, published_at}
-use Rattle.trunk.specs.Events.{side_of, swapped_from, told_by}
+use Rattle.trunk.specs.Events.{HasNumbersLeft, IsReading, TrunkState, asked_at, delivered, kept_of}
+use Rattle.trunk.specs.Events.{lost_from, published_at, side_of, swapped_from, told_by}
 use Rattle.trunk.specs.Laws.{MayPublish}
 use Rattle.trunk.specs.declared.up.TrunkUp.{TrunkUp}
 use Rattle.trunk.specs.declared.up.TrunkUp.TheVariants.{Arrived as UpArrived, Asked, WentUp}
@@ -77,11 +77,22 @@ abbrev pub MayAnswer : NodeState → LinkNo → Side → List ℕ → List Trunk
 MayAnswer k l side name ts = (i : Inc) → first_named k.endpoints name ≡ Some i
     → MayPublish (side_of side (trunks_of ts l.0)) i name
 
--- a node may be told of this: a signal is for an open endpoint, and a name that is asked for may be
--- published
+-- a side has numbers left for each of these questions, asked one after the other over a link, and
+-- for one event more
+abbrev pub HasNumbersOver : LinkNo → Side → List (List ℕ) → List TrunkState → Type 0
+HasNumbersOver l side [] ts = HasNumbersLeft side (trunks_of ts l.0)
+HasNumbersOver l side (name ∷ names) ts =
+    HasNumbersLeft side (trunks_of ts l.0)
+    × HasNumbersOver l side names (at_link l (asked_at side name) ts)
+
+-- a node may be told of this: a signal is for an open endpoint, a name that is asked for may be
+-- published, and the side has numbers left for what it says then
 abbrev pub MayTellNode : NodeState → At → TrunkUp → List TrunkState → Type 0
 MayTellNode k at (UpArrived from to signal) ts = IsTrue (is_open k.endpoints to)
-MayTellNode k at (Asked name) ts = MayAnswer k at.link at.side name ts
+MayTellNode k at (WentUp session peer) ts =
+    HasNumbersOver at.link at.side (names_over at.link k.hunts) ts
+MayTellNode k at (Asked name) ts =
+    MayAnswer k at.link at.side name ts × HasNumbersLeft at.side (trunks_of ts at.link.0)
 MayTellNode k at up ts = Unit {0}
 
 -- ---- where and how a packet comes

@@ -12,9 +12,10 @@ use Rattle.linx_base.specs.declared.signal.SigNote.{SigNote}
 use Rattle.journal.specs.History.{name_or_none}
 use Rattle.link_laws.specs.Ends.{IsLinkOf}
 use Rattle.node_kernel.specs.Nodes.{NodeState, find_at, is_living, name_at}
-use Rattle.run_trunks.specs.Changes.{at_link, each_does}
+use Rattle.run_trunks.specs.Changes.{AllGrant, at_link, each_does}
 use Rattle.run_trunks.specs.States.{HasLink, OnlyChangedAt, TrunksState, over, trunks_of}
-use Rattle.trunk.specs.Events.{TrunkState, asked_at, closed_at, sent_at, side_of}
+use Rattle.trunk.specs.Events.{HasNumbersLeft, TrunkState, asked_at, closed_at, sent_at}
+use Rattle.trunk.specs.Events.{side_of}
 use Rattle.trunk.specs.Laws.{MayPublish}
 use Rattle.trunk_record.specs.Sayings.{heard_as, is_live}
 use Rattle.trunk_moves.specs.Trunks.{does, side_on}
@@ -61,11 +62,13 @@ IsHeardBy s Several = Unit {0}
 abbrev pub HasSide : List LinkDecl → ℕ → LinkNo → Type 0
 HasSide links n l = IsLinkOf (over links) l × IsSome (side_on (over links) n l)
 
--- a side may send from an endpoint of this name to a peer: that may be published, and this was met
+-- a side may send from an endpoint of this name to a peer: that may be published, this was met, and
+-- there are numbers left for the frames
 pub record MaySendTo (t : TrunkState) (side : Side) (from : Inc) (name : List ℕ) (to : Inc)
     : Type 0 where
   pub sender : MayPublish (side_of side t) from name
   pub receiver : is_live to (map heard_as (side_of side t).kept.now.given) ≡ true
+  pub numbers : HasNumbersLeft side t
 
 -- a signal to a living peer over a link may be sent from the node's side there
 abbrev pub MayTellSend : TrunksState → NodeState → Inc → Bool → Peer → Type 0
@@ -75,13 +78,18 @@ MayTellSend s k j true (There l x b) =
     → MaySendTo (trunks_of s.is l.0) side j (name_or_none (name_at k.endpoints j)) b)
 MayTellSend s k j living q = Unit {0}
 
--- a hunt over a link leaves by a side on the node
+-- a hunt over a link leaves by a side on the node, which has numbers left
 abbrev pub MayTellHunt : TrunksState → NodeState → Path → Type 0
-MayTellHunt s k (Over l v) = HasSide s.links k.node.0 l
+MayTellHunt s k (Over l v) =
+    HasSide s.links k.node.0 l
+    × ((side : Side) → side_on (over s.links) k.node.0 l ≡ Some side
+    → HasNumbersLeft side (trunks_of s.is l.0))
 MayTellHunt s k _ = Unit {0}
 
--- so for a call
+-- so for a call; for a close each side on the node has numbers left
 abbrev pub MayTell : TrunksState → NodeState → Inc → Call → Type 0
 MayTell s k j (Send q signal) = MayTellSend s k j (is_living k q) q
 MayTell s k j (Hunt path signal) = MayTellHunt s k path
+MayTell s k j Close = AllGrant s.links k.node.0 s.is HasNumbersLeft
+MayTell s k j End = AllGrant s.links k.node.0 s.is HasNumbersLeft
 MayTell s k j _ = Unit {0}

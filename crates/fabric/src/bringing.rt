@@ -4,19 +4,18 @@
 
 ghost use Rattle.std.specs.Prelude.{◌≡◌, ◌+◌, ◌<◌, [], ◌∷◌, length, IfOk, OnErr, OnOk};
 ghost use Rattle.std.specs.Option.{option_copied};
-ghost use Rattle.linx_base.specs.Pending.{name_over};
+ghost use Rattle.linx_base.specs.Pending.{name_over, names_over};
 ghost use Rattle.linx_base.specs.Sides.{other_of};
-ghost use Rattle.carrier.specs.Events.{flight_from, handed_by, link_told_by};
+ghost use Rattle.carrier.specs.Events.{HasNextAt, flight_from, handed_by, link_told_by};
 ghost use Rattle.journal.specs.declared.head.Head.TheVariants as heads;
 ghost use Rattle.rlnh_end.specs.declared.heard.Heard.{Heard as AnyHeard};
 ghost use Rattle.run_trunks.specs.Changes.{at_link};
 ghost use Rattle.run_trunks.specs.States.{HasLink, OnlyChangedAt, resting, trunks_of, undone};
-ghost use Rattle.trunk.specs.Events.{IsReading, delivered, ticked_at, told_by};
+ghost use Rattle.trunk.specs.Events.{HasNumbersLeft, IsReading, delivered, ticked_at, told_by};
 ghost use Rattle.trunk.specs.Tells.{up_of_tick};
-ghost use Rattle.fabric.specs.Bringings.{IsDelivered, MayAnswer, MayTellNode, answers_over};
-ghost use Rattle.fabric.specs.Bringings.{answers_told, asks_over, comes_by, node_told};
-ghost use Rattle.fabric.specs.Bringings.{passes_by};
-ghost use Rattle.fabric.specs.Bringings.{told_on};
+ghost use Rattle.fabric.specs.Bringings.{HasNumbersOver, IsDelivered, MayAnswer, MayTellNode};
+ghost use Rattle.fabric.specs.Bringings.{answers_over, answers_told, asks_over, comes_by, node_told};
+ghost use Rattle.fabric.specs.Bringings.{passes_by, told_on};
 
 use crate::watched_journal::WatchedJournal;
 use crate::wires::Coming;
@@ -55,6 +54,7 @@ fn ask_again(
     side: Side,
 ) -> Result<(), NoMemory>
     requires of_run { HasLink trunks.old link }
+    requires numbers { HasNumbersOver link side (names_over link kernel.now.hunts) trunks.old.is }
     ensures is { OnOk result (trunks.new.is ≡ asks_over kernel.now link side trunks.old.is) }
     ensures was { trunks.new.was ≡ trunks.old.was }
     ensures links { trunks.new.links ≡ trunks.old.links }
@@ -79,6 +79,7 @@ fn answer(
 ) -> Result<(), NoMemory>
     requires of_run { HasLink trunks.old link }
     requires may { MayAnswer kernel.now link side name.now trunks.old.is }
+    requires numbers { HasNumbersLeft side (trunks_of trunks.old.is link.0) }
     ensures is { OnOk result
         (trunks.new.is ≡ answers_over kernel.now link side name.now trunks.old.is) }
     ensures was { trunks.new.was ≡ trunks.old.was }
@@ -237,6 +238,8 @@ pub(crate) fn make_delivery(
     requires flies { 0 < length (flight_from (other_of at.side)
         (trunks_of trunks.old.is at.link.0).link) }
     requires node { at.node ≡ kernel.old.node }
+    requires counted { HasNextAt at.side (trunks_of trunks.old.is at.link.0).link }
+    requires numbers { HasNumbersLeft at.side (trunks_of trunks.old.is at.link.0) }
     requires may { (heard : AnyHeard)
         → IsReading (handed_by (other_of at.side) 0 (trunks_of trunks.old.is at.link.0).link) heard
         → MayTellNode kernel.old at
@@ -269,6 +272,7 @@ pub(crate) fn make_tick(
     requires of_run { HasLink trunks.old at.link }
     requires rests { trunks.old.was ≡ trunks.old.is }
     requires node { at.node ≡ kernel.old.node }
+    requires counted { HasNextAt at.side (trunks_of trunks.old.is at.link.0).link }
     ensures log { OnOk result (journal.new.log ≡ record journal.old.log {
       steps = record {
         by = by;

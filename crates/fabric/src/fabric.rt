@@ -157,9 +157,7 @@ impl Fabric {
           trunks = new_trunks links.now;
         }) }
     {
-        let Ok(count) = u32::try_from(names.nodes.len()) else {
-            return Err(NoMemory);
-        };
+        let count = names.nodes.len() as u32;
         let journal = WatchedJournal::new(alloc, names, actors.len())?;
         let trunks = RunTrunks::new(alloc, links)?;
         let kernels = kernels_of(alloc, count)?;

@@ -21,6 +21,7 @@ ghost use Rattle.fabric.specs.Calls.{refusal_with};
 ghost use Rattle.fabric.specs.Standings.{past_effects};
 ghost use Rattle.fabric.specs.Downs.{downs_on, session_at_if};
 ghost use Rattle.fabric.specs.Looks.{after_take, looked_at, with_take};
+ghost use Rattle.fabric.specs.Remains.{link_limit};
 
 use crate::standing::{Standing, lose_all};
 use crate::stop::{StepStop, no_memory};
@@ -468,13 +469,12 @@ pub(crate) fn downs_of(
     node: NodeNo,
     room: usize,
 ) -> Result<Vec<Effect>, NoMemory>
+    requires few { length trunks.now.links ≤ link_limit }
     ensures downs { IfOk result (λ downs. downs.items
         ≡ downs_on trunks.now.links node.0 trunks.now.is (length trunks.now.links)) }
     ensures room { IfOk result (λ downs. room ≤ vec_capacity downs - vec_len downs) }
 {
-    let Ok(count) = u32::try_from(trunks.count()) else {
-        return Err(NoMemory);
-    };
+    let count = trunks.count() as u32;
     let mut downs = Vec::new(alloc);
     for place in 0..count {
         if let Some(down) = down_over(trunks, node, LinkNo(place + 1)) {

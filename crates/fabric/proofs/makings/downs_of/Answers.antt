@@ -9,7 +9,7 @@ use Rattle.trunk.specs.Events.{TrunkState}
 use Rattle.trunk_moves.specs.Trunks.{side_on}
 use Rattle.fabric.specs.Downs.{downs_on, session_at_if}
 use Rattle.fabric.proofs.makings.downs_of.Goals as goal
-use Rattle.fabric.proofs.makings.downs_of.Goals.{in-Some+in_ok-push, in_default-down_over}
+use Rattle.fabric.proofs.makings.downs_of.Goals.{in-Some+in_ok-push, in_default}
 
 -- the end over link number m, if one is up there
 abbrev down_at : List LinkDecl → ℕ → List TrunkState → ℕ → List Effect
@@ -33,7 +33,7 @@ loop-place-preserved c =
     ≡ c.loop-place.downs.items ++ option_to_list c.down_over.result =
     elim c.match-down_over.branch [
       | in-Some+in_ok-push w ↦ grind (arith, common_steps)
-      | in_default-down_over w ↦ grind (arith, common_steps)
+      | in_default w ↦ grind (arith, common_steps)
     ] in
     downs-more c.args.trunks.now.links c.args.node.0 c.args.trunks.now.is c.loop-place.place
     c.loop-place.downs.items c.match-down_over.downs.items c.down_over.result

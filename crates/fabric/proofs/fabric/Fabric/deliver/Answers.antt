@@ -12,7 +12,7 @@ use Rattle.fabric.proofs.Counting.{take-front}
 use Rattle.fabric.proofs.OnLinks.{IsMadeThere, made-there, parts_there}
 use Rattle.fabric.proofs.Passing.{made-delivered, may-deliver}
 use Rattle.fabric.proofs.Placed.{at-value, back, may-seen, sees}
-use Rattle.fabric.proofs.There.{above-there, kernel-there, line-room, node-at}
+use Rattle.fabric.proofs.There.{above-there, kernel-there, line-room, node-at, numbers-there}
 use Rattle.fabric.proofs.fabric.Fabric.deliver.Goals as goal
 use Rattle.fabric.proofs.fabric.Fabric.deliver.Goals.{After-wait_no_more}
 
@@ -46,6 +46,20 @@ make_delivery-made-requires-clause-may c =
     c.args.verdict c.requires.asked c.args.keep c.requires.comes c.at-at.result
     (rw c.other.ensures at c.at-at.ensures) c.self.inside.trunks
     (ap (λ (v : Layout). v.trunks) c.self.view_is) c.index_mut.result.now c.index_mut.ensures.value
+
+pub make_delivery-made-requires-clause-counted : goal.make_delivery-made-requires-clause-counted
+make_delivery-made-requires-clause-counted c =
+    (numbers-there (at-value c.self.invariant.0 c.self.view_is) c.args.link
+    c.requires.asked.may.fits.of_shape c.requires.asked.short
+    (rw c.other.ensures at c.at-at.ensures) c.self.inside.trunks
+    (ap (λ (v : Layout). v.trunks) c.self.view_is)).sessions
+
+pub make_delivery-made-requires-clause-numbers : goal.make_delivery-made-requires-clause-numbers
+make_delivery-made-requires-clause-numbers c =
+    (numbers-there (at-value c.self.invariant.0 c.self.view_is) c.args.link
+    c.requires.asked.may.fits.of_shape c.requires.asked.short
+    (rw c.other.ensures at c.at-at.ensures) c.self.inside.trunks
+    (ap (λ (v : Layout). v.trunks) c.self.view_is)).frames
 
 pub count-requires-clause-first : goal.count-requires-clause-first
 count-requires-clause-first c =

@@ -6,8 +6,8 @@ use Rattle.fabric.proofs.fabric.Fabric.new.Goals as goal
 
 pub invariant_of-result : goal.invariant_of-result
 invariant_of-result c =
-    let counted : c.in-Ok.count ≡ length c.args.names.nodes = omega
-    (arith, c.in-Ok.ensures, c.len.ensures) in
+    let counted : c.len-count.result ≡ length c.args.names.nodes = omega
+    (arith, c.len-count.ensures) in
     rw (c.in_ok-trunks.ensures, c.in_ok-from_slice.ensures.items) (
       kept-new (record {
         shape = record { links = c.args.links.now; actors = c.args.actors.now };

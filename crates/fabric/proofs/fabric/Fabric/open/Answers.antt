@@ -5,7 +5,7 @@ use Rattle.node_kernel.specs.declared.answers.StepAnswer.TheVariants as answers
 use Rattle.node_kernel.specs.Nodes.{next_of}
 use Rattle.fabric.specs.Actings.{asking}
 use Rattle.fabric.specs.declared.fabric.Fabric.TheView.{view}
-use Rattle.fabric.proofs.Granted.{granted-open}
+use Rattle.fabric.proofs.Granted.{granted-numbers, granted-open}
 use Rattle.fabric.proofs.Opening.{made-opened}
 use Rattle.fabric.proofs.Own.{as_opened}
 use Rattle.fabric.proofs.Placed.{acting, endpoint-seen, endpoints_fit, next-at, openings_fit, sees}
@@ -22,6 +22,7 @@ opened-requires c =
     record {
       may = rw node (granted-open _ _ c.self.invariant.0 acts.short _ c.next_inc-inc.result next
           c.args.name c.bytes-bytes.ensures.name);
+      numbers = rw node (granted-numbers _ _ c.self.invariant.0 acts.short _);
     }
 
 pub make_open-made-requires-clause-fits : goal.make_open-made-requires-clause-fits

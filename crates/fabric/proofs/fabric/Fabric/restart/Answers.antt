@@ -19,6 +19,9 @@ overflow_add-boot c =
     c.requires.asked.may.fits.0 c.requires.asked.may.fits.1 c.index.result.now in
     omega (arith, fits, c.index.ensures)
 
+pub downs_of-requires : goal.downs_of-requires
+downs_of-requires c = record { few = c.self.invariant.0.laid_out.few_links }
+
 pub restarted-requires : goal.restarted-requires
 restarted-requires c =
     let asked = may-seen (sees c.self.invariant.0 c.self.view_is) c.requires.asked in

@@ -10,7 +10,7 @@ use Rattle.fabric.specs.declared.fabric.Fabric.TheView.{view}
 use Rattle.fabric.proofs.Counting.{take-front}
 use Rattle.fabric.proofs.OnLinks.{IsMadeThere, made-there, parts_there}
 use Rattle.fabric.proofs.Placed.{at-value, back, may-seen, sees}
-use Rattle.fabric.proofs.There.{above-there, kernel-there, line-room, node-at}
+use Rattle.fabric.proofs.There.{above-there, kernel-there, line-room, node-at, numbers-there}
 use Rattle.fabric.proofs.Ticking.{made-ticked}
 use Rattle.fabric.proofs.fabric.Fabric.tick.Goals as goal
 use Rattle.fabric.proofs.fabric.Fabric.tick.Goals.{After-wait_no_more}
@@ -35,6 +35,12 @@ pub make_tick-made-requires-clause-node : goal.make_tick-made-requires-clause-no
 make_tick-made-requires-clause-node c =
     node-at (at-value c.self.invariant.0 c.self.view_is) c.args.link c.requires.asked.may.fits
     c.at-at.ensures c.index_mut.result.now c.index_mut.ensures.value
+
+pub make_tick-made-requires-clause-counted : goal.make_tick-made-requires-clause-counted
+make_tick-made-requires-clause-counted c =
+    (numbers-there (at-value c.self.invariant.0 c.self.view_is) c.args.link
+    c.requires.asked.may.fits c.requires.asked.short c.at-at.ensures c.self.inside.trunks
+    (ap (λ (v : Layout). v.trunks) c.self.view_is)).sessions
 
 pub tick-requires : goal.tick-requires
 tick-requires c =
