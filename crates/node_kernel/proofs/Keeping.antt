@@ -1,7 +1,8 @@
 -- What a roster keeps, after each change.
 use Rattle.std.proofs.Common.{◌≡◌, ℕ, ◌+◌, ◌<◌, Bool, true, false, cond, List, [], ◌∷◌, ◌++◌, map}
-use Rattle.std.proofs.Common.{refl, ap, sym, subst, ◌∙◌, arith}
-use Rattle.std.specs.Prelude.{Some, Result, Ok, Err, OnOk, OnErr, IfOk, IfErr}
+use Rattle.std.proofs.Common.{refl, ap, ap₂, sym, subst, ◌∙◌, arith, drop, is_ok, length}
+use Rattle.std.proofs.Common.{length-append, option_to_list, true≢false}
+use Rattle.std.specs.Prelude.{Option, Some, Result, Ok, Err, OnOk, OnErr, IfOk, IfErr}
 use Rattle.std.specs.Result.{is_err}
 use Rattle.std.specs.List.{AllByRecursion}
 use Rattle.std.specs.Option.{option_map}
@@ -247,3 +248,29 @@ pub same_brought : {A B : Type 0} (step : ℕ) (effects : List Effect) (old new 
 same_brought step effects old new (Ok a) put back = ap (map name_entry) put
     ∙ same_put_all step effects old
 same_brought step effects old new (Err b) put back = ap (map name_entry) back
+
+-- THE LAST ONE TAKEN BACK OUT
+module _ {X : Type 0} (last got : X) where
+  same_last : (front left : List X) → front ++ last ∷ [] ≡ left ++ got ∷ []
+      → (got ≡ last) × (left ≡ front)
+  same_last [] [] is = (let same : got ≡ last = cc in same, refl)
+  same_last [] (x ∷ left) is =
+      let longer : 1 ≡ length (x ∷ (left ++ got ∷ [])) = ap length is in
+      absurd (omega (arith, length-append left (got ∷ [])))
+  same_last (x ∷ front) [] is =
+      let longer : length (x ∷ (front ++ last ∷ [])) ≡ 1 = ap length is in
+      absurd (omega (arith, length-append front (last ∷ [])))
+  same_last (x ∷ front) (y ∷ left) is =
+      let whole : x ∷ (front ++ last ∷ []) ≡ y ∷ (left ++ got ∷ []) = is in
+      let rest = same_last front left (ap (drop 1) whole) in
+      let head : x ≡ y = cc in
+      (rest.0, ap₂ (λ z l. z ∷ l) (sym head) rest.1)
+
+  pub taken_back : (front whole left : List X) (taken : Option X) → whole ≡ front ++ last ∷ []
+      → whole ≡ left ++ option_to_list taken → taken ≡ Some got → (got ≡ last) × (left ≡ front)
+  taken_back front whole left taken is was found =
+      same_last front left (sym is ∙ was ∙ ap (λ o. left ++ option_to_list o) found)
+
+pub err_of : {A B : Type 0} {P : Type 0} (r : Result A B) → is_ok r ≡ false → OnErr r P → P
+err_of (Ok a) some said = absurd (true≢false some)
+err_of (Err b) some said = said

@@ -45,6 +45,16 @@ impl Model for Roster {
     ghost invariant = { λ r. AreKept r.node r.openings r.endpoints.items r.names };
 }
 
+/// Puts what a step's effects deliver into the queues of these endpoints. A refusal changes nothing.
+fn bring_to(endpoints: &mut Vec<Endpoint>, effects: &[Effect], step: u64) -> Result<(), NoMemory>
+    requires { AreRising endpoints.old.items }
+    ensures ok { OnOk result (endpoints.new.items
+        ≡ put_all step effects.now endpoints.old.items) }
+    ensures err { OnErr result (endpoints.new.items ≡ endpoints.old.items) }
+{
+    bring_all(endpoints, effects, step)
+}
+
 /// Adds an endpoint at the end, and puts what a step's effects deliver. A refusal gives its name
 /// back and changes nothing.
 fn open_with(
@@ -63,7 +73,7 @@ fn open_with(
         return Err(endpoint.into_name());
     }
     endpoints.push_reserved(endpoint);
-    if bring_all(endpoints, effects, step).is_ok() {
+    if bring_to(endpoints, effects, step).is_ok() {
         return Ok(());
     }
     Err(endpoints.pop().unwrap().into_name())
