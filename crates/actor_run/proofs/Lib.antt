@@ -1,6 +1,4 @@
-mod Rows
-mod Once
-mod Indexed
+pub mod Tables
 mod Keeps
 mod Heads
 mod Commands

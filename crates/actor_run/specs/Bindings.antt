@@ -1,44 +1,41 @@
 -- Tables of names, and what was given to each.
-use denote.Ref.{Bor}
-use Rattle.std.specs.Prelude.{ℕ, ◌≡◌, Bool, true, not, is_some, ◌&&◌, List, [], ◌∷◌, ◌++◌, Option}
-use Rattle.std.specs.Prelude.{Some, None, if◌then◌else◌}
-use Rattle.std.specs.Str.{bytes_eq}
-use Rattle.std.specs.List.{list_any}
-use Rattle.std.specs.HashMap.{HashMap, get_by}
-use Rattle.actor_run.specs.declared.bindings.Binding.{Binding}
+use Rattle.std.specs.Prelude.{ℕ, Bool, List, Option, Some, None, is_some, if◌then◌else◌}
+use Rattle.std.specs.declared.cmp.Ordering.{Ordering}
+use Rattle.std.specs.Ordering.{nat_cmp}
+use Rattle.std.specs.Cmp.Lexicographic.{slice_cmp}
+use Rattle.std.specs.BTreeMap.{insert_entry, is_at}
+use Rattle.std.specs.Map.{lookup as found, set_value}
+
+-- a table has a row for each name, in the order of the names, with what was given to it
+abbrev pub Table : Type 0 → Type 0
+Table T = List (List ℕ × Option T)
+
+-- names are in order by their bytes
+abbrev pub name_order : List ℕ → List ℕ → Ordering
+name_order = slice_cmp nat_cmp
+
+-- what was given to the name of a row, if the name has one
+abbrev pub given_in : {T : Type 0} → Option (Option T) → Option T
+given_in None = None
+given_in (Some given) = given
 
 -- what was given to a name
-abbrev pub lookup : {T : Type 0} → List (Binding T) → List ℕ → Option T
-lookup [] name = None
-lookup (row ∷ rows) name = if bytes_eq name row.name then row.value else lookup rows name
+abbrev pub lookup : {T : Type 0} → Table T → List ℕ → Option T
+lookup rows name = given_in (found (is_at (name_order name)) rows)
 
 -- the table after this is given to a name
-abbrev pub remember : {T : Type 0} → List (Binding T) → List ℕ → T → List (Binding T)
-remember [] name value = []
-remember (row ∷ rows) name value =
-    if bytes_eq name row.name
-    then record row { value = Some value } ∷ rows
-    else row ∷ remember rows name value
+abbrev pub remember : {T : Type 0} → Table T → List ℕ → T → Table T
+remember rows name value = set_value (is_at (name_order name)) rows (Some value)
 
 -- a row has the name
-abbrev pub has_row : {T : Type 0} → List (Binding T) → List ℕ → Bool
-has_row rows name = list_any (λ row. bytes_eq name row.name) rows
+abbrev pub has_row : {T : Type 0} → Table T → List ℕ → Bool
+has_row rows name = is_some (found (is_at (name_order name)) rows)
 
 -- the table with one more name, to which nothing was given, unless it is there
-abbrev pub with_row : {T : Type 0} → List (Binding T) → List ℕ → List (Binding T)
-with_row rows name =
-    if has_row rows name then rows else rows ++ record { name = name; value = None } ∷ []
+abbrev pub with_row : {T : Type 0} → Table T → List ℕ → Table T
+with_row rows name = if has_row rows name then rows else insert_entry name_order rows name None
 
-abbrev pub with_row_for : {T : Type 0} → List (Binding T) → Option (List ℕ) → List (Binding T)
+-- the same for the name that a command speaks of, if it speaks of one
+abbrev pub with_row_for : {T : Type 0} → Table T → Option (List ℕ) → Table T
 with_row_for rows None = rows
 with_row_for rows (Some name) = with_row rows name
-
--- no name has two rows
-abbrev pub are_named_once : {T : Type 0} → List (Binding T) → Bool
-are_named_once [] = true
-are_named_once (row ∷ rows) = not (has_row rows row.name) && are_named_once rows
-
--- an index of the rows by name has exactly their names
-abbrev pub IsIndexed : {T S : Type 0} → List (Binding T) → HashMap (Bor (List ℕ)) ℕ S → Type 0
-IsIndexed rows index =
-    (name : List ℕ) → is_some (get_by (λ k. bytes_eq name k.now) index) ≡ has_row rows name

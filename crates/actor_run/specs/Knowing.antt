@@ -12,10 +12,9 @@ use Rattle.script_words.specs.declared.target.Target.TheVariants.{Kept}
 use Rattle.node_kernel.specs.Answers.{is_not_yet}
 use Rattle.node_kernel.specs.declared.answers.StepAnswer.{StepAnswer}
 use Rattle.node_kernel.specs.declared.answers.StepAnswer.TheVariants as answers
-use Rattle.actor_run.specs.declared.bindings.Binding.{Binding}
 use Rattle.actor_run.specs.declared.names.NameKind.{NameKind}
 use Rattle.actor_run.specs.declared.names.NameKind.TheVariants.{OfPeers, OfReferences}
-use Rattle.actor_run.specs.Bindings.{remember, with_row_for}
+use Rattle.actor_run.specs.Bindings.{Table, remember, with_row_for}
 
 -- what an actor knows
 pub record Knows : Type 0 where
@@ -30,9 +29,9 @@ pub record Knows : Type 0 where
   -- that buffer was handed over, and no answer has come yet
   pub lent : Bool
   -- the peers that were kept, by name
-  pub kept : List (Binding Peer)
+  pub kept : Table Peer
   -- the references of its attaches, by name
-  pub refs : List (Binding AttRef)
+  pub refs : Table AttRef
 
 -- the name that a target is kept under
 abbrev pub target_name : Target → Option (List ℕ)
@@ -59,7 +58,7 @@ name_in OfPeers command = peer_name command
 name_in OfReferences command = reference_name command
 
 -- the table with a row for each name of this kind that the commands speak of
-abbrev pub rows_for : {T : Type 0} → NameKind → List (Binding T) → List Command → List (Binding T)
+abbrev pub rows_for : {T : Type 0} → NameKind → Table T → List Command → Table T
 rows_for kind rows [] = rows
 rows_for kind rows (command ∷ rest) =
     rows_for kind (with_row_for rows (name_in kind command)) rest
@@ -97,12 +96,12 @@ buffer_after (answers.Took item) held = Some item.signal
 buffer_after _ held = held
 
 -- a reference is remembered under the name that the attach gives it
-abbrev pub with_reference : Option Command → AttRef → List (Binding AttRef) → List (Binding AttRef)
+abbrev pub with_reference : Option Command → AttRef → Table AttRef → Table AttRef
 with_reference (Some (Attach to r number bytes)) reference refs = remember refs r reference
 with_reference _ reference refs = refs
 
 -- the references after the answer to a command
-abbrev pub refs_after : Option Command → StepAnswer → List (Binding AttRef) → List (Binding AttRef)
+abbrev pub refs_after : Option Command → StepAnswer → Table AttRef → Table AttRef
 refs_after command (answers.Attached reference) refs = with_reference command reference refs
 refs_after command _ refs = refs
 

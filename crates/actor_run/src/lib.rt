@@ -13,6 +13,5 @@ mod fillings;
 mod mind;
 mod names;
 
-pub use bindings::Binding;
 pub use mind::{Mind, endpoint_after};
 pub use names::NameKind;

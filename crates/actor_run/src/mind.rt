@@ -88,7 +88,7 @@ impl Mind {
                 None => None,
             },
             Target::Last => self.last,
-            Target::Kept(name) => self.kept.get(self.place, name),
+            Target::Kept(name) => self.kept.get(name),
         }
     }
 
@@ -145,7 +145,7 @@ impl Mind {
                 bytes,
                 ..
             } => { ask_attach(alloc, last, self.peer_of(to, me), *number, bytes) }
-            Command::Detach(r) => Ok(ask_detach(self.refs.get(self.place, r))),
+            Command::Detach(r) => Ok(ask_detach(self.refs.get(r))),
             Command::Keep(_) => Ok(refuse(Refusal::NoPeer)),
             Command::Cut(link) => Ok(empty_handed(Event::Cut(*link))),
             Command::Mend(link) => Ok(empty_handed(Event::Mend(*link))),
@@ -200,7 +200,7 @@ impl Mind {
             }
             StepAnswer::Attached(reference) => {
                 if let Some(Command::Attach { r, .. }) = command {
-                    self.refs.put(self.place, r, reference);
+                    self.refs.put(r, reference);
                 }
             }
             _ => {}
@@ -216,7 +216,7 @@ impl Mind {
             return;
         };
         while let Some(name) = keep_at(script, self.place) {
-            self.kept.put(self.place, name, peer);
+            self.kept.put(name, peer);
             self.place += 1;
         }
     }
