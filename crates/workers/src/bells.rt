@@ -9,13 +9,14 @@
 use crate::rings::Rings;
 use linx_base::NoMemory;
 use std::alloc::Global;
+use std::hint::spin_loop;
 use std::sync::Wait;
 use std::sync::atomic::{AtomicU64, Ordering};
-use std::thread;
 use std::time::Duration;
 
 // How often a worker looks at its bell before it sleeps: what it waits for is mostly a moment away.
-const LOOKS: u32 = 20;
+// It doesn't yield between: on a busy machine that gives the processor away for a whole turn.
+const LOOKS: u32 = 200;
 
 // How many milliseconds a worker sleeps that waits for others to start, and how often before it
 // gives up.
@@ -56,7 +57,7 @@ impl Bell {
             if self.was_rung(heard) {
                 return true;
             }
-            thread::yield_now();
+            spin_loop();
         }
         false
     }
