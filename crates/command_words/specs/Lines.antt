@@ -1,5 +1,5 @@
 -- A line on standard error, and what it shows of what a user wrote.
-use Rattle.std.specs.Prelude.{ℕ, ◌*◌, Bool, ◌&&◌, List, ◌++◌, codes, flat_map, map, nat_le, take}
+use Rattle.std.specs.Prelude.{ℕ, ◌&&◌, List, ◌++◌, codes, flat_map, map, nat_le, take}
 use Rattle.std.specs.Prelude.{if◌then◌else◌}
 use Rattle.command_words.specs.Words.{said_of}
 use Rattle.command_words.specs.declared.word.Word.{Word}

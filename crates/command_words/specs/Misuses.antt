@@ -5,7 +5,7 @@ use Rattle.command_words.specs.Words.{called}
 use Rattle.command_words.specs.declared.misuse.Misuse.{Misuse}
 use Rattle.command_words.specs.declared.misuse.Misuse.TheVariants.{Wordless, Unknown, Arguments}
 use Rattle.command_words.specs.declared.word.Word.{Word}
-use Rattle.command_words.specs.declared.word.Word.TheVariants.{Run, Serial, Gen, Help, Version}
+use Rattle.command_words.specs.declared.word.Word.TheVariants.{Help}
 
 -- what is wrong with a topic of the help, which is this word
 abbrev pub topic_misuse_by : Option Word → List ℕ → Misuse

@@ -1,11 +1,10 @@
 -- What the words of a command line ask for.
-use Rattle.std.specs.Prelude.{◌==◌, ℕ, Bool, true, ◌&&◌, ◌||◌, false, not, List, [], ◌∷◌, map, codes, slice_index}
+use Rattle.std.specs.Prelude.{◌==◌, ℕ, Bool, true, ◌&&◌, ◌||◌, false, not, List, [], ◌∷◌, map, codes}
 use Rattle.std.specs.Prelude.{String, string_bytes, Option, Some, None, option_map, option_and_then}
 use Rattle.std.specs.Prelude.{if◌then◌else◌}
 use Rattle.std.specs.Str.{bytes_eq}
 use Rattle.script_words.specs.Numbers.{number_spelled}
 use Rattle.command_words.specs.Words.{called, is_help_flag}
-use Rattle.command_words.specs.declared.page.Page.{Page}
 use Rattle.command_words.specs.declared.page.Page.TheVariants as pages
 use Rattle.command_words.specs.declared.request.Asked.{Asked}
 use Rattle.command_words.specs.declared.request.Asked.TheVariants as asks
