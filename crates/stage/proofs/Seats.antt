@@ -21,6 +21,7 @@ use Rattle.link_laws.specs.Still.{IsOver}
 use Rattle.run_trunks.specs.States.{new_trunks, trunks_of}
 use Rattle.script_lang.specs.declared.actor_script.ActorScript.{ActorScript}
 use Rattle.script_lang.specs.Fits.{IsScript}
+use Rattle.trunk_moves.specs.Trunks.{links_of}
 use Rattle.script_lang.specs.Parts.{ScriptParts}
 use Rattle.node_kernel.specs.declared.answers.StepAnswer.{StepAnswer}
 use Rattle.actor_run.specs.Following.{Follows, IsTurned, Playing}
