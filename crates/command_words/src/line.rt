@@ -114,4 +114,46 @@ impl Line {
             self.push(word.name());
         }
     }
+
+    /// Two texts at the end.
+    pub fn push_pair(&mut self, one: &str, two: &str)
+        requires room { length self.old + length one.now + length two.now ≤ line_most }
+        ensures pair { self.new ≡ self.old ++ one.now ++ two.now }
+    {
+        self.push(one);
+        self.push(two);
+    }
+
+    /// A text between two others at the end.
+    pub fn push_between(&mut self, before: &str, text: &str, after: &str)
+        requires room { length self.old + length before.now + length text.now + length after.now
+            ≤ line_most }
+        ensures between { self.new ≡ self.old ++ before.now ++ text.now ++ after.now }
+    {
+        self.push(before);
+        self.push(text);
+        self.push(after);
+    }
+
+    /// A text and a number at the end.
+    pub fn push_numbered(&mut self, text: &str, number: u64)
+        requires room { length self.old + length text.now + 20 ≤ line_most }
+        ensures numbered { self.new ≡ self.old ++ text.now ++ decimal number }
+        ensures few { length self.new ≤ length self.old + length text.now + 20 }
+    {
+        self.push(text);
+        self.push_number(number);
+    }
+
+    /// A text and the names of words at the end.
+    pub fn push_listed(&mut self, text: &str, words: &[Word])
+        requires room { length self.old + length text.now + name_most * length words.now
+            ≤ line_most }
+        ensures listed { self.new ≡ self.old ++ text.now ++ named_list words.now }
+        ensures few { length self.new
+            ≤ length self.old + length text.now + name_most * length words.now }
+    {
+        self.push(text);
+        self.push_names(words);
+    }
 }

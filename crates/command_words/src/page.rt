@@ -43,7 +43,7 @@ fn foot() -> &'static str
     4  the text can't be written\n  \
     5  the journal is full before the run is over\n  \
     6  memory was refused\n\n\
-    The manual is docs/linx_sim.1, or `man linx_sim` once it is installed.\n"
+    The manual is docs/use/linx_sim.1, or `man linx_sim` once it is installed.\n"
 }
 
 /// The lines of a word on the page of all.
