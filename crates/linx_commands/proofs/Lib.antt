@@ -4,3 +4,4 @@ mod Causes
 mod Answering
 mod Scanning
 mod Decided
+mod Headline

@@ -3,6 +3,7 @@ use Rattle.std.specs.Prelude.{ℕ, ◌≡◌, List, Option, None, IfSome, IfNone
 use Rattle.journal.specs.Logs.{Log}
 use Rattle.linx_commands.specs.CommandLine.{asked_of}
 use Rattle.linx_commands.specs.Commands.{CompletesUnder, IsCausedUnder, written_under}
+use Rattle.linx_commands.specs.Headline.{HeadlineUnder}
 use Rattle.linx_commands.specs.Runs.{IsEmptyLog, IsLegalSomehow}
 use Rattle.linx_commands.specs.Statuses.{IsUsageOrRefused}
 use Rattle.linx_commands.specs.declared.asked.Asked.{Asked}
@@ -43,6 +44,8 @@ pub record IsServed (asked : Option Asked) (keeps_streams : Type 0) (reads : Ask
   pub cause : IfSome asked (λ a. IsCausedUnder a status told log)
   -- the journal is legal
   pub legal : IsLegalSomehow log.steps
+  -- the headline holds of it
+  pub headline : IfSome asked (λ a. HeadlineUnder a told log)
   -- where nothing failed and the journal has room, the run is done, or memory was refused
   pub complete : IfSome asked (λ a. CompletesUnder a told status log)
   -- what was read of the script's source

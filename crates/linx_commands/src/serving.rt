@@ -13,6 +13,7 @@ ghost use Rattle.linx_commands.specs.Streams.{Reads, Writes, TakesAtMost, read_m
 ghost use Rattle.linx_commands.specs.Runs.{Completes, IsCaused, IsEmptyLog, IsLegalSomehow};
 ghost use Rattle.linx_commands.specs.Runs.{IsOutcomeOf, IsRan};
 ghost use Rattle.linx_commands.specs.Commands.{IsCausedUnder, CompletesUnder, ReadsUnder, written_under};
+ghost use Rattle.linx_commands.specs.Headline.{HeadlineUnder};
 ghost use Rattle.linx_commands.specs.Causes.{IsUnread, is_of_writing, read_status, script_status};
 ghost use Rattle.linx_commands.specs.Causes.{stop_status, report_status};
 
@@ -180,6 +181,7 @@ fn read_script<S: Source>(alloc: Global, source: &mut S) -> Result<Script, Statu
 pub fn serial<S: Source, K: Sink>(alloc: Global, script: &mut S, out: &mut K) -> Outcome
     ensures cause { IsCaused Asked.Serial result.status (S.left script.old) result.journal.log }
     ensures legal { IsLegalSomehow result.journal.log.steps }
+    ensures headline { HeadlineUnder Asked.Serial (S.left script.old) result.journal.log }
     ensures complete { IfSome (S.left script.old) (λ told.
         Completes told result.status result.journal.log) }
     ensures source { Reads S.left S.faults S.last_count S.is_faultless script.old script.new
@@ -255,6 +257,7 @@ fn serve<R: Threads + Wait + Sync, G: Gate + Sync, S: Source, K: Sink>(
 ) -> Outcome
     ensures cause { IsCausedUnder asked result.status (S.left script.old) result.journal.log }
     ensures legal { IsLegalSomehow result.journal.log.steps }
+    ensures headline { HeadlineUnder asked (S.left script.old) result.journal.log }
     ensures complete { CompletesUnder asked (S.left script.old) result.status result.journal.log }
     ensures source { ReadsUnder asked S.left S.faults S.last_count S.is_faultless script.old
         script.new result.status }
@@ -287,6 +290,8 @@ pub fn run<S: Source, K: Sink, G: Gate + Sync, R: Threads + Wait + Sync>(
     ensures cause { IfSome (asked_of words.now) (λ asked.
         IsCausedUnder asked result.status (S.left script.old) result.journal.log) }
     ensures legal { IsLegalSomehow result.journal.log.steps }
+    ensures headline { IfSome (asked_of words.now) (λ asked.
+        HeadlineUnder asked (S.left script.old) result.journal.log) }
     ensures complete { IfSome (asked_of words.now) (λ asked.
         CompletesUnder asked (S.left script.old) result.status result.journal.log) }
 

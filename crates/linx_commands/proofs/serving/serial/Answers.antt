@@ -1,4 +1,7 @@
+use Rattle.std.proofs.Common.{inl}
+use Rattle.linx_commands.specs.declared.asked.Asked.TheVariants.{Serial}
 use Rattle.linx_commands.proofs.Causes.{completes_unread}
+use Rattle.linx_commands.proofs.Headline.{headline_read}
 use Rattle.linx_commands.proofs.serving.serial.Goals as goal
 
 pub returns-in-Err-clause-complete : goal.returns-in-Err-clause-complete
@@ -6,3 +9,12 @@ returns-in-Err-clause-complete g c =
     completes_unread c.unstarted.result.status c.in-Err.status
     (g.S.Source.left c.args.script.now) c.unstarted.result.journal.log
     c.unstarted.ensures.status c.in-Err.ensures.unread c.unstarted.ensures.empty
+
+pub returns-in-Ok-clause-headline : goal.returns-in-Ok-clause-headline
+returns-in-Ok-clause-headline g c =
+    headline_read Serial c.conclude.result.status (g.S.Source.left c.args.script.now)
+    c.in-Ok.script c.conclude.result.journal.log c.in-Ok.ensures.spelled
+    (c.conclude.ensures.answer c.in-Ok.script c.play_in_order.ensures)
+
+pub returns-in-Err-clause-headline : goal.returns-in-Err-clause-headline
+returns-in-Err-clause-headline g c = inl c.unstarted.ensures.empty
