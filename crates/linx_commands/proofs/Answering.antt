@@ -6,7 +6,10 @@ use Rattle.journal.specs.declared.effect.Step.{Step}
 use Rattle.journal.specs.Logs.{Log, is_full}
 use Rattle.journal.specs.Shapes.{Shape}
 use Rattle.link_laws.specs.Laws.{IsLegal}
+use Rattle.link_laws.specs.Moves.{AllResting}
 use Rattle.link_laws.specs.Still.{IsOver}
+use Rattle.run_trunks.specs.States.{trunks_of}
+use Rattle.trunk_moves.specs.Trunks.{links_of}
 use Rattle.fabric.specs.Run.{Layout}
 use Rattle.fabric.specs.declared.stop.StopCause.{StopCause}
 use Rattle.fabric.specs.declared.stop.StopCause.TheVariants as stops
@@ -100,14 +103,20 @@ run-as script stage log of so_far is = record {
 whole-as : (script : ScriptParts) (stage : Play) (log : Log) → stage.script ≡ script
     → IsSoFar stage.script stage.run → log ≡ stage.run.log → is_over stage.run ≡ true
     → AllFollowWhole stage.script stage.run.log.steps
-    → IsOver (shape_of stage.script) stage.run.log.steps → IsWholeAs script stage.run log
-whole-as script stage log of so_far is over follows still = record {
+    → IsOver (shape_of stage.script) stage.run.log.steps
+    → AllResting (shape_of stage.script) stage.run.log.steps (links_of (trunks_of stage.run.trunks))
+    → IsWholeAs script stage.run log
+whole-as script stage log of so_far is over follows still rest = record {
   so_far = run-as script stage log of so_far is;
   follows = subst (λ (s : ScriptParts). AllFollowWhole s log.steps) of
       (subst (λ (l : Log). AllFollowWhole stage.script l.steps) (sym is) follows);
   over = over;
   still = subst (λ (s : ScriptParts). IsOver (shape_of s) log.steps) of
       (subst (λ (l : Log). IsOver (shape_of stage.script) l.steps) (sym is) still);
+  rest = subst (λ (s : ScriptParts). AllResting (shape_of s) log.steps
+      (links_of (trunks_of stage.run.trunks))) of
+      (subst (λ (l : Log). AllResting (shape_of stage.script) l.steps
+      (links_of (trunks_of stage.run.trunks))) (sym is) rest);
 }
 
 -- a script that was run to its end, and whose text was written, or was to be
@@ -117,11 +126,14 @@ pub answers-played : (asked : Asked) (status : Status) (script : ScriptParts) (r
     → (is_over ran.stage.run ≡ true → AllFollowWhole ran.stage.script ran.stage.run.log.steps)
     → (is_over ran.stage.run ≡ true
     → IsOver (shape_of ran.stage.script) ran.stage.run.log.steps)
+    → (is_over ran.stage.run ≡ true → AllResting (shape_of ran.stage.script)
+    ran.stage.run.log.steps (links_of (trunks_of ran.stage.run.trunks)))
     → log ≡ ran.stage.run.log → is_of_writing status ≡ true → IsAnswerTo asked status script log
-answers-played asked status script ran log is_ran none so_far whole still is writes =
+answers-played asked status script ran log is_ran none so_far whole still rest is writes =
     answers-written asked status script log writes
     (whole-under asked script ran.stage.run log
-    (λ over. whole-as script ran.stage log is_ran.of so_far is over (whole over) (still over))
+    (λ over. whole-as script ran.stage log is_ran.of so_far is over (whole over) (still over)
+    (rest over))
     (is_ran.over none))
 
 -- a script that was run until it was stopped

@@ -5,7 +5,10 @@ use Rattle.journal.specs.declared.effect.Step.{Step}
 use Rattle.journal.specs.Logs.{Log, is_full}
 use Rattle.journal.specs.Shapes.{Shape}
 use Rattle.link_laws.specs.Laws.{IsLegal}
+use Rattle.link_laws.specs.Moves.{AllResting}
 use Rattle.link_laws.specs.Still.{IsOver}
+use Rattle.run_trunks.specs.States.{trunks_of}
+use Rattle.trunk_moves.specs.Trunks.{links_of}
 use Rattle.fabric.specs.declared.stop.StopCause.{StopCause}
 use Rattle.fabric.specs.Run.{Layout}
 use Rattle.script_lang.specs.Parts.{ScriptParts}
@@ -29,12 +32,15 @@ pub record IsRunAs (script : ScriptParts) (run : Layout) (log : Log) : Type 0 wh
   pub so_far : IsSoFar script run
 
 -- a whole run of a script, whose journal has this log: each actor's steps are all that its commands
--- ask for, and all is over; as the journal tells, every actor has ended, and every link is still
+-- ask for, and all is over; as the journal tells, every actor has ended, and every link is still.
+-- Every link rests: it is cut and up at neither end, or both sides are up with each other, and what
+-- each said in the session is what the other was given, signals that it freed included
 pub record IsWholeAs (script : ScriptParts) (run : Layout) (log : Log) : Type 0 where
   pub so_far : IsRunAs script run log
   pub follows : AllFollowWhole script log.steps
   pub over : is_over run ≡ true
   pub still : IsOver (shape_of script) log.steps
+  pub rest : AllResting (shape_of script) log.steps (links_of (trunks_of run.trunks))
 
 -- A JOURNAL IS THAT OF A WHOLE RUN of a script, in whichever order the turns came
 abbrev pub IsRunOf : ScriptParts → Log → Type 0

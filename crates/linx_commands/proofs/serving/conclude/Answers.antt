@@ -14,7 +14,8 @@ returns-in-None-clause-answer g c script is_ran =
     inr (answers-played c.args.asked c.write_run.result script ran
     c.into_journal-journal.result.log
     (subst (λ (p : Result Ran NoMemory). IfOk p (IsRan c.args.asked script)) c.in-Ok.is is_ran)
-    c.in-None.is journal.so_far journal.whole journal.over journal.log c.write_run.ensures.kinds)
+    c.in-None.is journal.so_far journal.whole journal.over journal.rest journal.log
+    c.write_run.ensures.kinds)
 
 pub returns-in-None-clause-legal : goal.returns-in-None-clause-legal
 returns-in-None-clause-legal g c =
