@@ -6,7 +6,7 @@ use Rattle.run_orders.specs.Laws.{IsEnded, IsFilled, makers_of}
 use Rattle.run_orders.proofs.Orders.{orders_decide}
 use Rattle.linx_commands.specs.Decided.{IsRunOrFront, JournalsAreDecided}
 use Rattle.linx_commands.specs.Runs.{IsRunInOrder, IsStoppedFull}
-use Rattle.linx_commands.specs.declared.asked.Asked.TheVariants.{Serial}
+use Rattle.command_words.specs.declared.request.Asked.TheVariants.{Serial}
 
 ended : (script : ScriptParts) (log : Log) (is : IsRunInOrder script log) → IsEnded script is.run
 ended script log is = record { so_far = is.is.so_far.so_far; whole = is.whole }
