@@ -1,0 +1,41 @@
+//! A shared fabric before its first step: the lock that it lies behind, and the passes.
+ghost use Rattle.std.specs.Prelude.{◌≡◌, ◌<◌, All, IfOk, length};
+ghost use Rattle.fabric.specs.Remains.{IsLaidOut};
+ghost use Rattle.linx_api.specs.Sharing.{IsNewcomer, makers_of};
+
+use crate::shared_fabric::SharedFabric;
+use linx_base::{LinkDecl, Names, NoMemory, NodeNo};
+use std::alloc::Global;
+use turn_lock::{Pass, TurnLock};
+
+/// A lock, and the passes that it deals out.
+pub type Dealt = (TurnLock<SharedFabric>, Vec<Pass<SharedFabric>>);
+
+/// Lays out a fabric without steps, as `Fabric::new` does, and puts it behind a lock with a pass for
+/// each actor and, behind these, one for the pump of each link, by number from 1. [`Endpoint::new`]
+/// makes the side of an actor of its pass.
+///
+/// [`Endpoint::new`]: crate::Endpoint::new
+#[tactic(auto, using(crate::proofs::Sharing::all_new))]
+pub fn share(
+    alloc: Global,
+    names: Names,
+    links: &[LinkDecl],
+    actors: &[NodeNo],
+) -> Result<Dealt, NoMemory>
+    requires laid_out { IsLaidOut (length names.nodes)
+        (record { links = links.now; actors = actors.now }) }
+    requires makers { 0 < makers_of (record { links = links.now; actors = actors.now }) }
+    ensures new { IfOk result (λ dealt. All
+        (IsNewcomer dealt.0 (record {
+          names = names;
+          shape = record { links = links.now; actors = actors.now };
+        }))
+        dealt.1.items) }
+    ensures counted { IfOk result (λ dealt. length dealt.1.items
+        ≡ makers_of (record { links = links.now; actors = actors.now })) }
+{
+    let seats = actors.len() as u32 + links.len() as u32;
+    let shared = SharedFabric::new(alloc, names, links, actors)?;
+    TurnLock::new(alloc, shared, seats)
+}
