@@ -38,6 +38,7 @@ LAYERS = [
     ("The script", "script_words script_lang work_gen"),
     ("A run of a script", "actor_run stage run_orders"),
     ("Threads", "turn_lock linx_api workers"),
+    ("Timers, and what clients of a gateway say", "deadlines linx_timers timer_laws gateway_msgs"),
     ("The text", "journal_text report"),
     ("The program", "linx_commands"),
 ]
