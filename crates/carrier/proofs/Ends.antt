@@ -29,7 +29,7 @@ use Rattle.ethcm_end.specs.Rules.{input_of, offer_in, offer_of, piece_packet, ta
 use Rattle.ethcm_end.specs.Rows.{IsBetween}
 use Rattle.ethcm_end.specs.Answers.{IsGreater, IsReset, TakesTo}
 use Rattle.ethcm_end.specs.Sessions.{Confirms, GoesBy, GoesByTick, GoesOn, KeepsSizes}
-use Rattle.ethcm_end.specs.Windows.{Acknowledges, Sends, acknowledged_in, peer_or_unknown}
+use Rattle.ethcm_end.specs.Windows.{Acknowledges, SendsPackets, acknowledged_in, peer_or_unknown}
 use Rattle.ethcm_end.specs.Taking.{KeepsEarly, ReceivesNothing, TakesPiece}
 use Rattle.ethcm_end.proofs.Answering.{answers_exactly}
 use Rattle.ethcm_end.proofs.ByRule.{by_rules, by_tick_rules}
@@ -286,7 +286,7 @@ pub record Came (s : EndState) (p : Packet) (new : EndState) (answer : Input) : 
   pub window : WindowBy s p new answer
   pub takes : TakesBy s p new answer
   pub below : BelowBy s new answer
-  pub sends : Sends s.tx s new p.src
+  pub sends : SendsPackets s.tx s new p.src
   pub ups : answer ≡ WentUp → p.dst ≡ s.talk.mine.0
   pub downs : answer ≡ WentDown → IsGreater s p ⊎ (IsReset s p ⊎ TakesTo s p Broken)
 
@@ -347,7 +347,7 @@ pub record Beat (s new : EndState) (answer : Ticked) : Type 0 where
   pub confirms : is_confirmed_in new.talk.standing ≡ true → new.talk ≡ s.talk
   pub sizes : KeepsSizes s new
   pub stays : BeatsBy s new answer
-  pub sends : Sends s.tx s new (peer_or_unknown (peer_of s))
+  pub sends : SendsPackets s.tx s new (peer_or_unknown (peer_of s))
 
 pub beat : (s : EndState) → Beat s (tick_of s).state (tick_of s).answer
 beat s =
@@ -369,7 +369,7 @@ pub record Offered (s : EndState) (m : Message) (new : EndState) : Type 0 where
   pub window : new.tx ≡ with_frames s.tx (pieces_of m s.piece)
   pub receives : ReceivesNothing s new
   pub below : All (IsBelow (sent_end new.tx)) s.out → All (IsBelow (sent_end new.tx)) new.out
-  pub sends : Sends new.tx s new (peer_or_unknown (peer_of s))
+  pub sends : SendsPackets new.tx s new (peer_or_unknown (peer_of s))
 
 offer_in_below : (s : EndState) (standing : Standing) (m : Message)
     → All (IsBelow (sent_end (offer_in s standing m).tx)) s.out

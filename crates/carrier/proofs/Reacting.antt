@@ -26,7 +26,7 @@ use Rattle.ethcm_end.specs.declared.answers.Ticked.TheVariants as ticks
 use Rattle.ethcm_end.specs.States.{EndState, peer_of}
 use Rattle.ethcm_end.specs.Rules.{restart_of, take_frames}
 use Rattle.ethcm_end.specs.Sessions.{Confirms, GoesDown, GoesOn}
-use Rattle.ethcm_end.specs.Windows.{Acknowledges, IsSent, Sends, peer_or_unknown}
+use Rattle.ethcm_end.specs.Windows.{Acknowledges, IsSent, SendsPackets, peer_or_unknown}
 use Rattle.ethcm_end.specs.Taking.{KeepsEarly, ReceivesNothing}
 use Rattle.ethcm_end.proofs.Naming.{acked_rest, offered_rest}
 use Rattle.ethcm_end.proofs.Rising.{sessions_rise}
@@ -243,7 +243,7 @@ module _ (piece : ℕ) (a b : HalfState) (there : List Packet) (k : KeepsHalf pi
 module _ (piece : ℕ) (a b c : HalfState) (there : List Packet) (turn : Turns piece a c b there)
     (near : KeepsHalf piece a b there) (far : KeepsHalf piece b a []) (tx : Sender) (new : EndState)
     (end : c.end ≡ drained new) (to : Session) (upto : to.0 ≤ mine_of b)
-    (sends : Sends tx a.end new to) where
+    (sends : SendsPackets tx a.end new to) where
   -- all that is out is what was sent
   out_is : new.out ≡ sends.packets
   out_is = sends.added ∙ ap (λ l. l ++ sends.packets) near.out
@@ -293,7 +293,7 @@ module _ (piece : ℕ) (a b : HalfState) (there : List Packet) (near : KeepsHalf
   -- the session goes on or up
   steps_on : (tx : Sender) (offered handed : List Message)
       → Turns piece a (going a new offered handed) b there → new.talk.mine ≡ a.end.talk.mine
-      → HoldsRest (frames_of piece offered) tx → Sends tx a.end new to
+      → HoldsRest (frames_of piece offered) tx → SendsPackets tx a.end new to
       → (All (IsBelow (sent_end new.tx)) a.end.out → All (IsBelow (sent_end new.tx)) new.out)
       → Steps piece a (going a new offered handed) b there new.out
   steps_on tx offered handed turn mine holds sends below =
@@ -311,7 +311,7 @@ module _ (piece : ℕ) (a b : HalfState) (there : List Packet) (near : KeepsHalf
 
   -- the session is over
   steps_next : Turns piece a (next a new) b there → mine_of a < new.talk.mine.0
-      → peer_of new ≡ None → Sends a.end.tx a.end new to
+      → peer_of new ≡ None → SendsPackets a.end.tx a.end new to
       → Steps piece a (next a new) b there new.out
   steps_next turn greater none sends =
       let c : HalfState = next a new in
@@ -333,7 +333,7 @@ module _ (piece : ℕ) (a b : HalfState) (there : List Packet) (near : KeepsHalf
 
   -- the end went down
   goes_down : (new : EndState) (to : Session) → to.0 ≤ mine_of b → GoesDown a.end new
-      → new.tx.window ≡ a.end.tx.window → new.piece ≡ a.end.piece → Sends a.end.tx a.end new to
+      → new.tx.window ≡ a.end.tx.window → new.piece ≡ a.end.piece → SendsPackets a.end.tx a.end new to
       → Steps piece a (next a new) b there new.out
   goes_down new to upto down window cut sends =
       let number : new.talk.mine.0 ≡ mine_of a + 1 = ap (λ (s : Session). s.0) down.session in

@@ -23,7 +23,7 @@ use Rattle.ethcm_window.specs.Sending.{sent_again, sent_end, sent_frame, unackno
 use Rattle.ethcm_end.specs.States.{EndState, peer_of}
 use Rattle.ethcm_end.specs.Rules.{input_of, offer_in, offer_of, packet_of, piece_packet, tick_of}
 use Rattle.ethcm_end.proofs.ByRule.{by_rules, by_tick_rules}
-use Rattle.ethcm_end.specs.Windows.{HasFrame, IsSent, PacketsNameSessions, PartSays, Sends}
+use Rattle.ethcm_end.specs.Windows.{HasFrame, IsSent, PacketsNameSessions, PartSays, SendsPackets}
 use Rattle.ethcm_end.specs.Windows.{peer_or_unknown}
 use Rattle.ethcm_end.proofs.Rising.{begins, by_ack, down}
 
@@ -87,10 +87,10 @@ module _ (tx : Sender) where
 
 module _ (tx : Sender) (old new : EndState) (to : Session) where
   sends : (packets : List Packet) → new.out ≡ old.out ++ packets
-      → All (IsSent tx old new to) packets → Sends tx old new to
+      → All (IsSent tx old new to) packets → SendsPackets tx old new to
   sends packets added sent = record { packets = packets; added = added; sent = sent }
 
-  none : new.out ≡ old.out → Sends tx old new to
+  none : new.out ≡ old.out → SendsPackets tx old new to
   none e = sends [] (e ∙ sym (append-nil old.out)) (All-nil (IsSent tx old new to))
 
   -- a packet of this session
@@ -106,7 +106,7 @@ module _ (tx : Sender) (old new : EndState) (to : Session) where
 
   -- one packet
   one : (mid : EndState) (part : Part) → mid.talk.mine ≡ old.talk.mine → PartSays tx old new to part
-      → new.out ≡ old.out ++ packet_of mid to part ∷ [] → Sends tx old new to
+      → new.out ≡ old.out ++ packet_of mid to part ∷ [] → SendsPackets tx old new to
   one mid part mine says added =
       sends (packet_of mid to part ∷ []) added (all_one mid part mine says)
 
@@ -123,7 +123,7 @@ module _ (tx : Sender) (old new : EndState) (to : Session) where
 
     pieces : (mid : EndState) (sent : List SentFrame) → mid.talk.mine ≡ old.talk.mine
         → mid.rx.expected ≡ old.rx.expected → All (Has tx) sent
-        → new.out ≡ old.out ++ map (piece_packet mid to) sent → Sends tx old new to
+        → new.out ≡ old.out ++ map (piece_packet mid to) sent → SendsPackets tx old new to
     pieces mid sent mine expected has added =
         sends (map (piece_packet mid to) sent) added (all_pieces mid sent mine expected has)
 
@@ -131,7 +131,7 @@ module _ (tx : Sender) (old new : EndState) (to : Session) where
     pieces_then : (mid : EndState) (sent : List SentFrame) (packets : List Packet)
         → mid.talk.mine ≡ old.talk.mine → mid.rx.expected ≡ old.rx.expected → All (Has tx) sent
         → All (IsSent tx old new to) packets
-        → new.out ≡ (old.out ++ map (piece_packet mid to) sent) ++ packets → Sends tx old new to
+        → new.out ≡ (old.out ++ map (piece_packet mid to) sent) ++ packets → SendsPackets tx old new to
     pieces_then mid sent packets mine expected has more added =
         sends (map (piece_packet mid to) sent ++ packets)
         (added ∙ append_assoc old.out (map (piece_packet mid to) sent) packets)
@@ -140,9 +140,9 @@ module _ (tx : Sender) (old new : EndState) (to : Session) where
 
 -- ---- a packet
 
-input_sends : (s : EndState) (p : Packet) → Sends s.tx s (input_of s p).state p.src
+input_sends : (s : EndState) (p : Packet) → SendsPackets s.tx s (input_of s p).state p.src
 input_sends s p =
-    by_rules (λ r. Sends s.tx s r.state p.src) s p (record {
+    by_rules (λ r. SendsPackets s.tx s r.state p.src) s p (record {
       connecting_connect = λ e k. one s.tx s _ p.src s (Conn kinds.ConnectAck) refl e refl;
       connecting_connect_ack = λ e k d. one s.tx s _ p.src s (Conn kinds.Ack) refl refl refl;
       connecting_ack = λ e k d. none s.tx s _ p.src refl;
@@ -181,12 +181,12 @@ input_sends s p =
 
 -- where the peer is known
 to_partner : (s new : EndState) (tx : Sender) (standing : Option Session) → peer_of s ≡ standing
-    → Sends tx s new (peer_or_unknown standing) → Sends tx s new (peer_or_unknown (peer_of s))
-to_partner s new tx standing e h = subst (λ q. Sends tx s new (peer_or_unknown q)) (sym e) h
+    → SendsPackets tx s new (peer_or_unknown standing) → SendsPackets tx s new (peer_or_unknown (peer_of s))
+to_partner s new tx standing e h = subst (λ q. SendsPackets tx s new (peer_or_unknown q)) (sym e) h
 
-tick_sends : (s : EndState) → Sends s.tx s (tick_of s).state (peer_or_unknown (peer_of s))
+tick_sends : (s : EndState) → SendsPackets s.tx s (tick_of s).state (peer_or_unknown (peer_of s))
 tick_sends s =
-    by_tick_rules (λ r. Sends s.tx s r.state (peer_or_unknown (peer_of s))) s (record {
+    by_tick_rules (λ r. SendsPackets s.tx s r.state (peer_or_unknown (peer_of s))) s (record {
       connecting = λ e.
           to_partner s _ s.tx None e
           (one s.tx s _ (record { 0 = 0 }) s (Conn kinds.Connect) refl (e, refl) refl);
@@ -204,7 +204,7 @@ tick_sends s =
 -- ---- an offer
 
 offer_in_sends : (s : EndState) (standing : Standing) (m : Message) → s.talk.standing ≡ standing
-    → Sends (offer_in s standing m).tx s (offer_in s standing m) (peer_or_unknown (peer_of s))
+    → SendsPackets (offer_in s standing m).tx s (offer_in s standing m) (peer_or_unknown (peer_of s))
 offer_in_sends s Connecting m e = none s.tx s s (peer_or_unknown (peer_of s)) refl
 offer_in_sends s (Up peer confirmed) m e =
     let up : peer_of s ≡ Some peer = ap standing_peer e in
@@ -215,7 +215,7 @@ offer_in_sends s (Up peer confirmed) m e =
     (window_has new.tx)) refl)
 
 offer_sends : (s : EndState) (m : Message)
-    → Sends (offer_of s m).tx s (offer_of s m) (peer_or_unknown (peer_of s))
+    → SendsPackets (offer_of s m).tx s (offer_of s m) (peer_or_unknown (peer_of s))
 unfolding offer_of
 offer_sends s m = offer_in_sends s s.talk.standing m refl
 

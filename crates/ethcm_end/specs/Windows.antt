@@ -75,7 +75,7 @@ pub record IsSent (tx : Sender) (old new : EndState) (to : Session) (p : Packet)
   pub says : PartSays tx old new to p.part
 
 -- the packets that an event adds to those that are still to go out
-pub record Sends (tx : Sender) (old new : EndState) (to : Session) : Type 0 where
+pub record SendsPackets (tx : Sender) (old new : EndState) (to : Session) : Type 0 where
   pub packets : List Packet
   pub added : new.out ≡ old.out ++ packets
   pub sent : All (IsSent tx old new to) packets
@@ -89,8 +89,8 @@ peer_or_unknown (Some peer) = peer
 -- What each event sends. A packet is answered to the session that it came from. A piece is a frame
 -- of the window before the event, or after an offer.
 pub record PacketsNameSessions : Type 0 where
-  pub input : (s : EndState) (p : Packet) → Sends s.tx s (input_of s p).state p.src
-  pub tick : (s : EndState) → Sends s.tx s (tick_of s).state (peer_or_unknown (peer_of s))
+  pub input : (s : EndState) (p : Packet) → SendsPackets s.tx s (input_of s p).state p.src
+  pub tick : (s : EndState) → SendsPackets s.tx s (tick_of s).state (peer_or_unknown (peer_of s))
   pub offer :
       (s : EndState) (m : Message)
-      → Sends (offer_of s m).tx s (offer_of s m) (peer_or_unknown (peer_of s))
+      → SendsPackets (offer_of s m).tx s (offer_of s m) (peer_or_unknown (peer_of s))

@@ -29,7 +29,7 @@ use Rattle.journal.specs.Effects.{closings, founds, hunts_for, losing, meeting, 
 use Rattle.linx_base.specs.Pending.{is_of_session}
 use Rattle.journal.specs.Living.{living_after}
 use Rattle.journal.specs.Pending.{answers_hunt, attach_in, detaches, ends_hunt, hunt_in, hunts_past}
-use Rattle.journal.specs.Pending.{notifies, owed_past, settles}
+use Rattle.journal.specs.Pending.{notifies, owed_past, ends_attach}
 use Rattle.journal.proofs.Lists.{all-impl}
 use Rattle.node_kernel.specs.Nodes.{NodeState, put_all}
 use Rattle.node_kernel.specs.Calls.{after_arrival, after_down, after_gone, after_met}
@@ -146,7 +146,7 @@ module _ (k : ℕ) (me : Option Inc) (head : Head) (old : NodeState)
         (answered-each q (λ h. same_path path h.path) old.hunts rises))
 
     settled : (a : PendingAttach) (b : Bool) → list_any (notifies a) es ≡ b
-        → not (settles me head es a) ≡ not b
+        → not (ends_attach me head es a) ≡ not b
     settled a b is = rw (is, idle.cancels a, leaves.closes_none a.at) (or_none b)
       where
         or_none : (b : Bool) → not ((b || false) || false) ≡ not b
@@ -160,11 +160,11 @@ module _ (k : ℕ) (me : Option Inc) (head : Head) (old : NodeState)
         ≡ list_any (notifies a) (notices reason ended old.attaches))
         → owed_past node k me head es old.attaches ≡ filter (λ a. not (ended a.peer)) old.attaches
     owed_notified reason ended rises same =
-        ap (λ l. filter (λ a. not (settles me head es a)) (old.attaches ++ l)) idle.attaches
-        ∙ ap (filter (λ a. not (settles me head es a))) (append-nil old.attaches)
-        ∙ filter-agree (λ a. not (settles me head es a)) (λ a. not (ended a.peer)) old.attaches
+        ap (λ l. filter (λ a. not (ends_attach me head es a)) (old.attaches ++ l)) idle.attaches
+        ∙ ap (filter (λ a. not (ends_attach me head es a))) (append-nil old.attaches)
+        ∙ filter-agree (λ a. not (ends_attach me head es a)) (λ a. not (ended a.peer)) old.attaches
         (all-impl (λ a. list_any (notifies a) (notices reason ended old.attaches) ≡ ended a.peer)
-        (λ a. not (settles me head es a) ≡ not (ended a.peer))
+        (λ a. not (ends_attach me head es a) ≡ not (ended a.peer))
         (λ a is. settled a (ended a.peer) (same a ∙ is)) old.attaches
         (notified-each reason (λ a. ended a.peer) old.attaches rises))
 

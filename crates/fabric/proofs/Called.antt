@@ -25,7 +25,7 @@ use Rattle.run_trunks.specs.Laws.{AreTrunksOf}
 use Rattle.run_trunks.specs.States.{trunks_of}
 use Rattle.run_trunks.proofs.Lists.{length-each}
 use Rattle.trunk.specs.Events.{TrunkState, closed_at}
-use Rattle.trunk_moves.specs.Steps.{Hunts, Sends, trunks_ending}
+use Rattle.trunk_moves.specs.Steps.{HuntMakes, SendMakes, trunks_ending}
 use Rattle.trunk_moves.specs.Trunks.{Become}
 use Rattle.trunk_moves.proofs.Peers.{peer-end}
 use Rattle.fabric.specs.Actings.{HasMade}
@@ -115,14 +115,14 @@ module _ {f : Layout} {parts : Parts} {actor place home : ℕ} (acts : Acts f pa
     alive-is q = ap (λ (k : NodeState). is_living k q) left ∙ living-left P node q
 
     sends : (q : Peer) (note : SigNote) → note.number < 4294967296 → IsBounded (Send q note)
-        → Sends f.shape P (trunks_of f.trunks)
+        → SendMakes f.shape P (trunks_of f.trunks)
         (trunks_of (sent_over f.shape.links kernel j (is_living kernel q) q note f.trunks)) n
         (endpoint_of P actor) q note (send_answer (is_alive P n q) q)
     sends q note numbered bounded =
-        subst (λ (e : Option Inc). Sends f.shape P (trunks_of f.trunks)
+        subst (λ (e : Option Inc). SendMakes f.shape P (trunks_of f.trunks)
         (trunks_of (sent_over f.shape.links kernel j (is_living kernel q) q note f.trunks)) n
         e q note (send_answer (is_alive P n q) q)) (sym mine)
-        (subst (λ (b : Bool). Sends f.shape P (trunks_of f.trunks)
+        (subst (λ (b : Bool). SendMakes f.shape P (trunks_of f.trunks)
         (trunks_of (sent_over f.shape.links kernel j (is_living kernel q) q note f.trunks)) n
         (Some j) q note (send_answer b q)) (alive-is q)
         (told-sends f.shape f.trunks count P node kernel left j open_it q note (is_living kernel q)
@@ -130,11 +130,11 @@ module _ {f : Layout} {parts : Parts} {actor place home : ℕ} (acts : Acts f pa
         (record { number_fits = numbered; data_fit = bounded })))
 
     hunts : (path : Path) → LeavesBy f.shape n path
-        → Hunts f.shape (trunks_of f.trunks)
+        → HuntMakes f.shape (trunks_of f.trunks)
         (trunks_of (asked_over f.shape.links kernel (find_at kernel path) path f.trunks)) n path
         (find P n path)
     hunts path leaves =
-        subst (λ (o : Option Peer). Hunts f.shape (trunks_of f.trunks)
+        subst (λ (o : Option Peer). HuntMakes f.shape (trunks_of f.trunks)
         (trunks_of (asked_over f.shape.links kernel (find_at kernel path) path f.trunks)) n path o)
         (ap (λ (k : NodeState). find_at k path) left ∙ find-left P node path)
         (told-hunts f.shape f.trunks count P node kernel left j open_it path (find_at kernel path)

@@ -19,7 +19,7 @@ use Rattle.journal.specs.declared.head.Head.TheVariants.{Send, Hunt, Attach}
 use Rattle.journal.specs.declared.head.SentTo.{SentTo}
 use Rattle.journal.specs.Effects.{arrivals_of, attached, found, hunted, notice}
 use Rattle.journal.specs.Pending.{attach_in, detaches, ends_hunt, hunt_in, hunts_past, owed_past}
-use Rattle.journal.specs.Pending.{settles}
+use Rattle.journal.specs.Pending.{ends_attach}
 use Rattle.journal.proofs.Lists.{filter-all, all-impl}
 use Rattle.journal.proofs.Openings.{same_inc-refl}
 use Rattle.node_kernel.specs.Nodes.{NodeState, find_at, is_living}
@@ -148,14 +148,14 @@ module _ (k : ℕ) (j : Inc) (q : Peer) (note : SigNote) (old : NodeState)
       → owed_past old.node.0 k (Some j) (Attach q note) (attached alive the_attach) old.attaches
       ≡ with_attach alive the_attach old.attaches
   owed_with true =
-      let p : PendingAttach → Bool = λ a. not (settles (Some j) (Attach q note) [] a) in
+      let p : PendingAttach → Bool = λ a. not (ends_attach (Some j) (Attach q note) [] a) in
       ap (λ l. filter p (old.attaches ++ l)) attach_begun
       ∙ filter-append p old.attaches the_attach true (filter-all p old.attaches
       (all-impl (λ a. a.reference.0 < k) (λ a. p a ≡ true) (λ a low. refl) old.attaches below)) refl
   owed_with false =
       let es : List Effect = notice Rattle.linx_base.specs.declared.signal.Reason.TheVariants.Dead
       the_attach ∷ [] in
-      let p : PendingAttach → Bool = λ a. not (settles (Some j) (Attach q note) es a) in
+      let p : PendingAttach → Bool = λ a. not (ends_attach (Some j) (Attach q note) es a) in
       ap (λ l. filter p (old.attaches ++ l)) attach_begun
       ∙ filter-append p old.attaches the_attach false
       (filter-all p old.attaches

@@ -45,7 +45,7 @@ use Rattle.linx_base.specs.Pending.{is_of_session}
 use Rattle.journal.specs.Living.{find, is_alive, living_after}
 use Rattle.journal.specs.Pending.{answers_hunt, attach_at, attach_in, cancels, detaches, ends_hunt}
 use Rattle.journal.specs.Pending.{hunt_at, hunt_in, hunting, hunts_past, is_own_attach, notifies}
-use Rattle.journal.specs.Pending.{owed, owed_past, settles}
+use Rattle.journal.specs.Pending.{owed, owed_past, ends_attach}
 use Rattle.journal.specs.Queues.{items_in, left_by}
 use Rattle.journal.specs.Sessions.{session_past, up_session}
 use Rattle.journal.specs.Shapes.{Shape, node_by}
@@ -269,10 +269,10 @@ module _ (n m : ℕ) (other : n ≢ m) where
         (λ h on. rw (answers_none h on es about, closes_none h.at on es about) refl) old.hunts
         hunts_on))
         (ap (λ (x : ℕ). owed_past x k me head es old.attaches) node
-        ∙ ap (λ l. filter (λ a. not (settles me head es a)) (old.attaches ++ l)) far.attaches
-        ∙ ap (filter (λ a. not (settles me head es a))) (append-nil old.attaches)
-        ∙ filter-all (λ a. not (settles me head es a)) old.attaches
-        (all-impl (λ a. is_on m a.at ≡ true) (λ a. not (settles me head es a) ≡ true)
+        ∙ ap (λ l. filter (λ a. not (ends_attach me head es a)) (old.attaches ++ l)) far.attaches
+        ∙ ap (filter (λ a. not (ends_attach me head es a))) (append-nil old.attaches)
+        ∙ filter-all (λ a. not (ends_attach me head es a)) old.attaches
+        (all-impl (λ a. is_on m a.at ≡ true) (λ a. not (ends_attach me head es a) ≡ true)
         (λ a on. rw (notifies_none a on es about, far.cancels a on, closes_none a.at on es about)
         refl) old.attaches attaches_on))
         (ap (λ (x : ℕ). fold (living_after x) old.met es) node ∙ meet_none es about old.met)

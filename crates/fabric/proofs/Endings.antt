@@ -26,7 +26,7 @@ use Rattle.journal.specs.Effects.{opening}
 use Rattle.journal.specs.History.{closes, opened_by, opened_in, opens}
 use Rattle.journal.specs.Living.{living_after}
 use Rattle.journal.specs.Pending.{answers_hunt, attach_in, detaches, ends_hunt, hunt_in, hunts_past}
-use Rattle.journal.specs.Pending.{notifies, owed_past, settles}
+use Rattle.journal.specs.Pending.{notifies, owed_past, ends_attach}
 use Rattle.journal.specs.Queues.{items_in}
 use Rattle.journal.specs.Traffic.{is_endpoint}
 use Rattle.journal.proofs.Lists.{all-impl, filter-every, filter-filter}
@@ -118,8 +118,8 @@ module _ (k : ℕ) (name : List ℕ) (old : NodeState)
 
   owed_same : owed_past old.node.0 k None (Open name) es old.attaches ≡ old.attaches
   owed_same =
-      ap (filter (λ a. not (settles None (Open name) es a))) (append-nil old.attaches)
-      ∙ filter-every (λ a. not (settles None (Open name) es a))
+      ap (filter (λ a. not (ends_attach None (Open name) es a))) (append-nil old.attaches)
+      ∙ filter-every (λ a. not (ends_attach None (Open name) es a))
       (λ a. rw (founds-notify_none (Here new) _ a, closes_none a.at) refl) old.attaches
 
   pub open-left : after_step k None (Open name) es old ≡ after_open old name k
@@ -235,7 +235,7 @@ module _ (k : ℕ) (j : Inc) (head : Head) (old : NodeState) (F : Inc
 
   settled : (a : PendingAttach)
       → list_any (notifies a) told ≡ (not (same_inc j a.at) && same_peer (Here j) a.peer)
-      → not (settles (Some j) head cs a) ≡ (not (same_inc j a.at) && not (same_peer
+      → not (ends_attach (Some j) head cs a) ≡ (not (same_inc j a.at) && not (same_peer
       (Here j) a.peer))
   settled a is =
       rw (
@@ -253,12 +253,12 @@ module _ (k : ℕ) (j : Inc) (head : Head) (old : NodeState) (F : Inc
       let p : PendingAttach → Bool = λ a. not (same_inc j a.at) && same_peer (Here j) a.peer in
       let q : PendingAttach → Bool = λ a. not (same_inc j a.at) && not (same_peer
       (Here j) a.peer) in
-      ap (λ l. filter (λ a. not (settles (Some j) head cs a)) (old.attaches ++ l)) attaches
-      ∙ ap (filter (λ a. not (settles (Some j) head cs a))) (append-nil old.attaches)
-      ∙ filter-agree (λ a. not (settles (Some j) head cs a)) q old.attaches
+      ap (λ l. filter (λ a. not (ends_attach (Some j) head cs a)) (old.attaches ++ l)) attaches
+      ∙ ap (filter (λ a. not (ends_attach (Some j) head cs a))) (append-nil old.attaches)
+      ∙ filter-agree (λ a. not (ends_attach (Some j) head cs a)) q old.attaches
       (all-impl (λ a. list_any (notifies a) (map (notice reasons.Closed)
       (filter p old.attaches)) ≡ p a)
-      (λ a. not (settles (Some j) head cs a) ≡ q a)
+      (λ a. not (ends_attach (Some j) head cs a) ≡ q a)
       (λ a is. settled a (ap (list_any (notifies a)) told_all ∙ is)) old.attaches
       (notified-each reasons.Closed p old.attaches rises))
       ∙ sym (filter-filter (λ a. not (same_peer (Here j) a.peer)) (λ a. not
@@ -359,10 +359,10 @@ module _ (k : ℕ) (me : Option Inc) (n : NodeNo) (old : NodeState) (F : Inc
       (all-impl (λ h. list_any (same_inc h.at) incs ≡ true) (λ h. not (ends_hunt rs h) ≡ false)
       (λ h among. ap not (or_right (list_any (answers_hunt h) rs) (list_any (closes h.at) rs)
       (all.closes_all h.at among))) old.hunts hunters))
-      (ap (filter (λ a. not (settles me (Restart n) rs a))) (append-nil old.attaches)
-      ∙ filter-no (λ a. not (settles me (Restart n) rs a)) old.attaches
+      (ap (filter (λ a. not (ends_attach me (Restart n) rs a))) (append-nil old.attaches)
+      ∙ filter-no (λ a. not (ends_attach me (Restart n) rs a)) old.attaches
       (all-impl (λ a. list_any (same_inc a.at) incs
-      ≡ true) (λ a. not (settles me (Restart n) rs a) ≡ false)
+      ≡ true) (λ a. not (ends_attach me (Restart n) rs a) ≡ false)
       (λ a among. ap not (or_right (list_any (notifies a) rs || detaches me (Restart n) a)
       (list_any (closes a.at) rs) (all.closes_all a.at among))) old.attaches holders))
       lost

@@ -37,7 +37,7 @@ use Rattle.node_kernel.specs.declared.ask.Ask.{Ask}
 use Rattle.node_kernel.specs.Answers.{asks_to_open, event_of, granted_by, hand_of, named}
 use Rattle.node_kernel.specs.Answers.{needs_endpoint, refused}
 use Rattle.fabric.specs.Fits.{FitsRun, MayMeetIn}
-use Rattle.fabric.specs.Links.{is_still}
+use Rattle.fabric.specs.Links.{no_link_stirs}
 use Rattle.fabric.specs.Machine.{all_leave_at_rest, granted_head, head_for, head_of}
 use Rattle.fabric.specs.Machine.{is_at_rest, look, pumped_head, signal_in, vain_look}
 use Rattle.fabric.specs.Run.{IsMade}
@@ -219,7 +219,7 @@ module _ (nodes : ℕ) (shape : Shape) (P : List Step) (trunks : RunTrunks) (k :
   me = endpoint_of P k
 
   abbrev still : Bool
-  still = is_still shape P trunks
+  still = no_link_stirs shape P trunks
 
   -- the step with this head
   abbrev pub made_by : Head → Step
@@ -327,11 +327,11 @@ module _ (nodes : ℕ) (shape : Shape) (P : List Step) (trunks : RunTrunks) (es 
     (by : By) (maker : IsMaker shape P by) (room : is_full P ≡ false) where
   -- a head that needs no endpoint is given to an actor by what it names, and to a pump
   given : (head : Head) → is_opening head ≡ false → is_endpoints head ≡ false
-      → ((k : ℕ) → IsOfNamed shape P (is_still shape P trunks) k head)
+      → ((k : ℕ) → IsOfNamed shape P (no_link_stirs shape P trunks) k head)
       → pumped_head (named head).event ≡ Some head
-      → (b : By) → head_for shape P (is_still shape P trunks) b (named head) ≡ Some head
+      → (b : By) → head_for shape P (no_link_stirs shape P trunks) b (named head) ≡ Some head
   given head opens_not needs_not of_named pumped (Actor k) =
-      made-of_named shape P (is_still shape P trunks) k head (fails opens_not)
+      made-of_named shape P (no_link_stirs shape P trunks) k head (fails opens_not)
       (fails needs_not) (of_named k)
   given head opens_not needs_not of_named pumped (Pump link) = pumped
 

@@ -29,7 +29,7 @@ use Rattle.fabric.specs.Machine.{head_of, signal_in}
 use Rattle.fabric.specs.Remains.{IsKept, Parts, node_left, standing_left}
 use Rattle.fabric.specs.Run.{IsStepOf, Layout}
 use Rattle.fabric.specs.Standings.{waiting_no_more, waiting_none}
-use Rattle.fabric.specs.Links.{is_still}
+use Rattle.fabric.specs.Links.{no_link_stirs}
 use Rattle.fabric.proofs.Effects.{leaves-none}
 use Rattle.fabric.proofs.Elsewhere.{changed_node}
 use Rattle.fabric.proofs.Legal.{IsLawful, IsNamedEvent, LawfulIf, granted-plain}
@@ -77,7 +77,7 @@ module _ {f : Layout} {parts : Parts} {actor place home : ℕ} (acts : Acts f pa
   asked : (event : Event) → asks_to_open event ≡ false → needs_endpoint event ≡ false
       → IsNamedEvent event → FitsEvent f (node_by shape (Actor actor)) event (signal_in None)
       → LawfulIf (length f.log.names.nodes) shape P trunks actor acts.maker acts.room
-      (head_of shape P (is_still shape P trunks) actor (node_by shape (Actor actor)) me event
+      (head_of shape P (no_link_stirs shape P trunks) actor (node_by shape (Actor actor)) me event
       (signal_in None))
   asked event opens_not needs_not named fit =
       granted acts event (signal_in None) (granted-plain me event opens_not needs_not) named

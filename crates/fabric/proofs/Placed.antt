@@ -29,7 +29,7 @@ use Rattle.node_kernel.specs.declared.ask.Ask.{Ask}
 use Rattle.node_kernel.specs.Nodes.{NodeState, endpoint_limit, is_open, items_at}
 use Rattle.fabric.specs.declared.standing.Standing.{Standing}
 use Rattle.fabric.specs.Actings.{HasMade, IsHomeOf, MayMake}
-use Rattle.fabric.specs.Links.{is_still}
+use Rattle.fabric.specs.Links.{no_link_stirs}
 use Rattle.fabric.specs.Remains.{IsKept, IsNode, Parts, actor_limit, endpoint_left, node_left}
 use Rattle.fabric.specs.Remains.{standing_left}
 use Rattle.fabric.specs.Run.{Layout}
@@ -197,7 +197,7 @@ abbrev pub before : {f : Layout} {parts : Parts} {actor place home : ℕ}
     }
 before {f = f} {parts = parts} {actor = actor} {home = home} acts = record {
   trunks = trunks_of f.trunks;
-  calm_links = is_still f.shape f.log.steps (trunks_of f.trunks);
+  calm_links = no_link_stirs f.shape f.log.steps (trunks_of f.trunks);
   node = record { 0 = suc home };
   now = suc (length f.log.steps);
   old = node_left f.log.steps (record { 0 = suc home });

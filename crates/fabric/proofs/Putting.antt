@@ -13,7 +13,7 @@ use Rattle.journal.specs.declared.head.Head.{Head}
 use Rattle.journal.specs.declared.effect.Effect.{Effect}
 use Rattle.journal.specs.History.{opened_by}
 use Rattle.journal.specs.Pending.{attach_in, detaches, ends_hunt, hunt_in, hunts_past, owed_past}
-use Rattle.journal.specs.Pending.{settles}
+use Rattle.journal.specs.Pending.{ends_attach}
 use Rattle.journal.specs.Queues.{items_in, left_by, removes}
 use Rattle.journal.specs.Traffic.{is_endpoint}
 use Rattle.journal.proofs.Lists.{filter-every}
@@ -106,7 +106,7 @@ module _ (node k : ℕ) (me : Option Inc) (head : Head) (es : List Effect)
       → detaches me head a ≡ false)
       → attach_in node k me head ≡ [] → owed_past node k me head es xs ≡ xs
   owed-kept xs none cancels_none begins =
-      ap (λ l. filter (λ a. not (settles me head es a)) (xs ++ l)) begins
-      ∙ ap (filter (λ a. not (settles me head es a))) (append-nil xs)
-      ∙ filter-every (λ a. not (settles me head es a)) (λ a. rw
+      ap (λ l. filter (λ a. not (ends_attach me head es a)) (xs ++ l)) begins
+      ∙ ap (filter (λ a. not (ends_attach me head es a))) (append-nil xs)
+      ∙ filter-every (λ a. not (ends_attach me head es a)) (λ a. rw
       (none a, cancels_none a, leaves.closes_none a.at) refl) xs

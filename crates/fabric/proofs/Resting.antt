@@ -24,7 +24,7 @@ use Rattle.trunk.proofs.Quiet.{quiet as quiet_trunk}
 use Rattle.trunk_moves.specs.Steps.{Rests, cut, quiet}
 use Rattle.trunk_moves.specs.Trunks.{RunTrunks, links_of, state_of}
 use Rattle.trunk_moves.proofs.Runs.{trunk_runs_are_runs}
-use Rattle.fabric.specs.Links.{flies_from, is_still, is_up_at, none_stirs, stirs, stirs_if}
+use Rattle.fabric.specs.Links.{flies_from, no_link_stirs, is_up_at, none_stirs, stirs, stirs_if}
 use Rattle.fabric.specs.Machine.{all_have_ended, have_ended, is_at_rest}
 use Rattle.fabric.specs.Remains.{IsKept, Parts}
 use Rattle.fabric.specs.Run.{Layout}
@@ -68,7 +68,7 @@ module _ (P : List Step) (l : LinkNo) (t : TrunkState) where
       affirmed false is = absurd (true≢false is)
 
 pub rests-all : (shape : Shape) (P : List Step) (trunks : RunTrunks)
-    → is_still shape P trunks ≡ true → (l : LinkNo) → IsLinkOf shape l → Rests P l (trunks l.0)
+    → no_link_stirs shape P trunks ≡ true → (l : LinkNo) → IsLinkOf shape l → Rests P l (trunks l.0)
 rests-all shape P trunks still l of_shape =
     rests-if P l (trunks l.0) (is_cut P l.0) refl
     (denied (stirs P trunks l.0)
@@ -95,7 +95,7 @@ ended-each P (suc n) k ended above within =
 
 module _ (f : Layout) (parts : Parts) (kept : IsKept f parts) where
   -- NO LINK STIRS: each is still
-  pub all-still : is_still f.shape f.log.steps (trunks_of f.trunks) ≡ true
+  pub all-still : no_link_stirs f.shape f.log.steps (trunks_of f.trunks) ≡ true
       → AllStill f.shape f.log.steps
   all-still still =
       let trunks : RunTrunks = trunks_of f.trunks in
@@ -108,11 +108,11 @@ module _ (f : Layout) (parts : Parts) (kept : IsKept f parts) where
 
   -- AND ALL HAVE ENDED: all is over
   pub all-over : (all_have_ended f.shape f.log.steps
-      && is_still f.shape f.log.steps (trunks_of f.trunks)) ≡ true
+      && no_link_stirs f.shape f.log.steps (trunks_of f.trunks)) ≡ true
       → IsOver f.shape f.log.steps
   all-over over =
       let parts_of = and_parts (all_have_ended f.shape f.log.steps)
-      (is_still f.shape f.log.steps (trunks_of f.trunks)) over in
+      (no_link_stirs f.shape f.log.steps (trunks_of f.trunks)) over in
       record {
         ended = λ k above within.
             ended-each f.log.steps (length f.shape.actors) k parts_of.0 above within;
@@ -121,11 +121,11 @@ module _ (f : Layout) (parts : Parts) (kept : IsKept f parts) where
 
   -- AND THE OTHERS LEAVE AN ACTOR AT REST: it is at rest
   pub at-rest : (k : ℕ) → (is_at_rest f.shape f.log.steps k
-      && is_still f.shape f.log.steps (trunks_of f.trunks)) ≡ true
+      && no_link_stirs f.shape f.log.steps (trunks_of f.trunks)) ≡ true
       → IsAtRest f.shape f.log.steps k × AllStill f.shape f.log.steps
   at-rest k rest =
       let parts_of = and_parts (is_at_rest f.shape f.log.steps k)
-      (is_still f.shape f.log.steps (trunks_of f.trunks)) rest in (
+      (no_link_stirs f.shape f.log.steps (trunks_of f.trunks)) rest in (
         record {
           others = λ other above within different.
               rest-others f.log.steps k (length f.shape.actors) other parts_of.0 above within

@@ -19,7 +19,7 @@ use Rattle.journal.specs.declared.head.Detached.TheVariants.{Pending, Queued, No
 use Rattle.journal.specs.declared.head.Head.{Head}
 use Rattle.journal.specs.declared.head.Head.TheVariants.{Take, Detach}
 use Rattle.linx_base.specs.Pending.{is_attach}
-use Rattle.journal.specs.Pending.{settles}
+use Rattle.journal.specs.Pending.{ends_attach}
 use Rattle.journal.specs.Queues.{left_by, queued}
 use Rattle.journal.proofs.Openings.{Rising, same_inc-refl, same_inc-true}
 use Rattle.journal.proofs.Queueing.{left-take}
@@ -150,7 +150,7 @@ module _ (P : List Step) (j : Inc) (incs : List Inc) (k : ℕ) (r : AttRef) (old
   detach-left Pending =
       let node : ℕ = old.node.0 in
       let head : Head = Detach r Pending in
-      let p : PendingAttach → Bool = λ a. not (settles (Some j) head [] a) in
+      let p : PendingAttach → Bool = λ a. not (ends_attach (Some j) head [] a) in
       let q : PendingAttach → Bool = λ a. not (is_attach j r a) in
       let agree : (xs : List PendingAttach) → AllByRecursion (λ a. p a ≡ q a) xs =
       λ xs. every p q (λ a. ap not (or-false (is_attach j r a))) xs in

@@ -30,7 +30,7 @@ use Rattle.run_trunks.specs.Laws.{AreTrunksOf}
 use Rattle.run_trunks.specs.States.{over, trunks_of}
 use Rattle.run_trunks.proofs.Numbered.{all-do, one-changes}
 use Rattle.trunk.specs.Events.{TrunkState, asked_at, closed_at, sent_at}
-use Rattle.trunk_moves.specs.Steps.{AsksThere, Hunts, Sends, SendsThere, trunks_ending}
+use Rattle.trunk_moves.specs.Steps.{AsksThere, HuntMakes, SendMakes, SendsThere, trunks_ending}
 use Rattle.trunk_moves.specs.Trunks.{Become, does, side_if, side_on, with_trunk}
 use Rattle.fabric.specs.Fits.{HasSideOn}
 use Rattle.fabric.specs.Remains.{endpoint_left, node_left}
@@ -155,7 +155,7 @@ module _ (shape : Shape) (ts : List TrunkState) (count : AreTrunksOf shape ts) (
       → ((l : LinkNo) (x : Session) (b : Inc) → alive ≡ true → q ≡ There l x b
       → HasSideOn shape n l)
       → IsSignal note
-      → Sends shape P (trunks_of ts) (trunks_of (sent_over shape.links k j alive q note ts)) n
+      → SendMakes shape P (trunks_of ts) (trunks_of (sent_over shape.links k j alive q note ts)) n
       (Some j) q note (send_answer alive q)
   told-sends (Here i) note true has signal = λ l of_shape. refl
   told-sends (Here i) note false has signal = λ l of_shape. refl
@@ -167,7 +167,7 @@ module _ (shape : Shape) (ts : List TrunkState) (count : AreTrunksOf shape ts) (
   -- of a hunt
   pub told-hunts : (path : Path) (found : Option Peer)
       → ((l : LinkNo) (v : List ℕ) → path ≡ Over l v → HasSideOn shape n l)
-      → Hunts shape (trunks_of ts) (trunks_of (asked_over shape.links k found path ts)) n path found
+      → HuntMakes shape (trunks_of ts) (trunks_of (asked_over shape.links k found path ts)) n path found
   told-hunts (Local v) None has = λ l of_shape. refl
   told-hunts (Local v) (Some q) has = λ l of_shape. refl
   told-hunts (Over l v) (Some q) has = λ h of_shape. refl

@@ -11,7 +11,7 @@ use Rattle.node_kernel.specs.declared.ask.Ask.{Ask}
 use Rattle.run_trunks.specs.States.{trunks_of}
 use Rattle.fabric.specs.Asks.{MayAsk}
 use Rattle.fabric.specs.Calls.{refusal_with}
-use Rattle.fabric.specs.Links.{is_still}
+use Rattle.fabric.specs.Links.{no_link_stirs}
 use Rattle.fabric.specs.Machine.{granted_head}
 use Rattle.fabric.specs.Run.{IsStepFor, Layout}
 use Rattle.fabric.specs.declared.stop.StepStop.{StepStop}
@@ -36,7 +36,7 @@ abbrev pub HasMade : Layout → Layout → ℕ → Ask → StepAnswer → Type 0
 HasMade old new k ask answer =
     IsStepFor old new (Actor k)
     (granted_head old.shape old.log.steps
-    (is_still old.shape old.log.steps (trunks_of old.trunks)) k ask) answer
+    (no_link_stirs old.shape old.log.steps (trunks_of old.trunks)) k ask) answer
 
 -- the steps and the trunks alone have changed
 abbrev pub OnlyRuns : Layout → Layout → Type 0

@@ -13,7 +13,7 @@ use Rattle.fabric.specs.declared.line.Mark.TheVariants.{Cut, Mend, Settle}
 
 -- a link before the first step
 abbrev pub fresh_line : Line
-fresh_line = record { cut = false; settled = false; from_first = 0; from_second = 0; ticks = 0 }
+fresh_line = record { cut = false; plans_ended = false; from_first = 0; from_second = 0; ticks = 0 }
 
 -- the event of a mark
 abbrev pub event_of_mark : Mark → LinkNo → Event
@@ -31,7 +31,7 @@ head_of_mark Settle l = heads.Settle l
 abbrev pub marked : Mark → Line → Line
 marked Cut line = record line { cut = true }
 marked Mend line = record line { cut = false }
-marked Settle line = record line { settled = true }
+marked Settle line = record line { plans_ended = true }
 
 -- a packet from a side more, which counts where the link isn't cut
 abbrev pub counted : Side → Line → Line

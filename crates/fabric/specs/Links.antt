@@ -40,19 +40,19 @@ none_stirs P trunks zero = true
 none_stirs P trunks (suc n) = none_stirs P trunks n && not (stirs P trunks (suc n))
 
 -- no link does
-abbrev pub is_still : Shape → List Step → RunTrunks → Bool
-is_still shape P trunks = none_stirs P trunks (length shape.links)
+abbrev pub no_link_stirs : Shape → List Step → RunTrunks → Bool
+no_link_stirs shape P trunks = none_stirs P trunks (length shape.links)
 
 -- ---- what was counted of a link
 
 -- the head ends the plans of a link
-abbrev pub settles_link : ℕ → Head → Bool
-settles_link l (Settle k) = k.0 == l
-settles_link l _ = false
+abbrev pub ends_plans : ℕ → Head → Bool
+ends_plans l (Settle k) = k.0 == l
+ends_plans l _ = false
 
--- a link is settled
-abbrev pub is_settled : List Step → ℕ → Bool
-is_settled P l = list_any (λ (s : Step). settles_link l s.head) P
+-- a link's plans are ended
+abbrev pub are_plans_ended : List Step → ℕ → Bool
+are_plans_ended P l = list_any (λ (s : Step). ends_plans l s.head) P
 
 -- the head is the verdict of a packet from a side
 abbrev pub is_wire : ℕ → Side → Head → Bool
@@ -81,7 +81,7 @@ tick_steps (s ∷ P) l = if is_tick l s.head then suc (tick_steps P l) else tick
 abbrev pub line_left : List Step → ℕ → Line
 line_left P l = record {
   cut = is_cut P l;
-  settled = is_settled P l;
+  plans_ended = are_plans_ended P l;
   from_first = wire_steps P l First;
   from_second = wire_steps P l Second;
   ticks = tick_steps P l;

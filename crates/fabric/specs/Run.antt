@@ -16,7 +16,7 @@ use Rattle.trunk.specs.Events.{TrunkState}
 use Rattle.trunk_moves.specs.Steps.{IsTrunkStep}
 use Rattle.trunk_moves.specs.Trunks.{AllNew, Become, RunTrunks}
 use Rattle.fabric.specs.Fits.{FitsRun}
-use Rattle.fabric.specs.Links.{is_still}
+use Rattle.fabric.specs.Links.{no_link_stirs}
 use Rattle.fabric.specs.Machine.{head_for, signal_in}
 
 -- what a fabric is seen as: what it is laid out on, its log, and the trunk of each link
@@ -30,7 +30,7 @@ pub record Layout : Type 0 where
 pub record IsMade (nodes : ℕ) (shape : Shape) (P : List Step) (trunks : RunTrunks) (s : Step)
     : Type 0 where
   pub room : is_full P ≡ false
-  pub given : head_for shape P (is_still shape P trunks) s.by (named s.head) ≡ Some s.head
+  pub given : head_for shape P (no_link_stirs shape P trunks) s.by (named s.head) ≡ Some s.head
   pub fits :
       FitsRun nodes shape P trunks (node_by shape s.by) (event_of s.head)
       (signal_in (hand_of s.head))
@@ -73,5 +73,5 @@ IsStepFor old new by (Some head) answer = IsStepOf old new by head answer
 abbrev pub IsStepped : Layout → Layout → By → Ask → StepAnswer → Type 0
 IsStepped old new by ask answer =
     IsStepFor old new by
-    (head_for old.shape old.log.steps (is_still old.shape old.log.steps (trunks_of old.trunks)) by
+    (head_for old.shape old.log.steps (no_link_stirs old.shape old.log.steps (trunks_of old.trunks)) by
     ask) answer

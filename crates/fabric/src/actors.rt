@@ -9,7 +9,7 @@ ghost use Rattle.journal.specs.Shapes.{node_by};
 ghost use Rattle.link_laws.specs.Still.{AllStill, IsOver};
 ghost use Rattle.run_trunks.specs.States.{trunks_of};
 ghost use Rattle.fabric.specs.Actings.{IsHomeOf};
-ghost use Rattle.fabric.specs.Links.{is_still};
+ghost use Rattle.fabric.specs.Links.{no_link_stirs};
 ghost use Rattle.fabric.specs.Machine.{all_have_ended, have_ended, is_at_rest};
 
 use crate::fabric::Fabric;
@@ -113,14 +113,14 @@ impl Fabric {
     /// journal tells.
     pub fn is_over(&self) -> bool
         ensures value { result ≡ (all_have_ended self.now.shape self.now.log.steps
-            && is_still self.now.shape self.now.log.steps (trunks_of self.now.trunks)) }
+            && no_link_stirs self.now.shape self.now.log.steps (trunks_of self.now.trunks)) }
         ensures over { result ≡ true → IsOver self.now.shape self.now.log.steps }
     {
         let _ = &self.journal;
         if !self.have_ended() {
             return false;
         }
-        self.is_still()
+        self.no_link_stirs()
     }
 
     /// The number of actors. With the links they are at most 96.
@@ -131,11 +131,12 @@ impl Fabric {
         self.actors.len() as u32
     }
 
-    /// Whether an actor is at rest: each other one has ended, or waits with nothing selected and
-    /// has a greater number; and no link stirs, so that each is still.
-    pub fn is_rest(&self, actor: u32) -> bool
+    /// Whether a receive of an actor that selects nothing finds none: the actor is at rest, since
+    /// each other one has ended, or waits with nothing selected and has a greater number; and no
+    /// link stirs, so that each is still.
+    pub fn may_find_none(&self, actor: u32) -> bool
         ensures value { result ≡ (is_at_rest self.now.shape self.now.log.steps actor
-            && is_still self.now.shape self.now.log.steps (trunks_of self.now.trunks)) }
+            && no_link_stirs self.now.shape self.now.log.steps (trunks_of self.now.trunks)) }
         ensures rest { result ≡ true
             → IsAtRest self.now.shape self.now.log.steps actor }
         ensures still { result ≡ true → AllStill self.now.shape self.now.log.steps }
@@ -144,7 +145,7 @@ impl Fabric {
         if self.is_behind(actor) {
             return false;
         }
-        if !self.is_still() {
+        if !self.no_link_stirs() {
             return false;
         }
         self.all_leave_at_rest(actor)

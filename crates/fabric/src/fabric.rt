@@ -20,7 +20,7 @@ ghost use Rattle.fabric.specs.Actings.{asking};
 ghost use Rattle.fabric.specs.Asks.{MayAsk};
 ghost use Rattle.fabric.specs.Calls.{IsTyped, ask_of_call, hand_of_call};
 ghost use Rattle.fabric.specs.Lines.{fresh_line};
-ghost use Rattle.fabric.specs.Links.{is_still};
+ghost use Rattle.fabric.specs.Links.{no_link_stirs};
 ghost use Rattle.fabric.specs.Machine.{all_have_ended, is_at_rest};
 ghost use Rattle.fabric.specs.Run.{IsReachedBy, IsStepped};
 ghost use Rattle.fabric.specs.Standings.{empty_nodes, fresh, unless_refused};
@@ -204,7 +204,7 @@ impl Fabric {
         ensures few { length self.log.steps ≤ step_limit }
         ensures laid_out { IsLaidOut (length self.log.names.nodes) self.shape }
         ensures over { (all_have_ended self.shape self.log.steps
-            && is_still self.shape self.log.steps (trunks_of self.trunks)) ≡ true
+            && no_link_stirs self.shape self.log.steps (trunks_of self.trunks)) ≡ true
             → IsOver self.shape self.log.steps }
     {
         self.journal.into_journal()
@@ -491,7 +491,7 @@ impl Fabric {
         ensures fixed { OnlyRuns self.old self.new }
         ensures err { IfErr result (LeavesAll self.old self.new None) }
     {
-        if self.is_rest(actor) {
+        if self.may_find_none(actor) {
             return self.find_none(actor, filter);
         }
         if self.is_waiting(actor) {
@@ -533,7 +533,7 @@ impl Fabric {
         requires vain { first_selected filter (queue_of self.old.log.steps
             (endpoint_of self.old.log.steps actor)) ≡ None }
         requires rest { (is_at_rest self.old.shape self.old.log.steps actor
-            && is_still self.old.shape self.old.log.steps (trunks_of self.old.trunks)) ≡ true }
+            && no_link_stirs self.old.shape self.old.log.steps (trunks_of self.old.trunks)) ≡ true }
         ensures ok { IfOk result (HasMade self.old self.new actor
             (asking (Event.Look filter) None)) }
         ensures fixed { OnlyRuns self.old self.new }
@@ -556,7 +556,7 @@ impl Fabric {
         requires vain { first_selected filter (queue_of self.old.log.steps
             (endpoint_of self.old.log.steps actor)) ≡ None }
         requires busy { (is_at_rest self.old.shape self.old.log.steps actor
-            && is_still self.old.shape self.old.log.steps (trunks_of self.old.trunks)) ≡ false }
+            && no_link_stirs self.old.shape self.old.log.steps (trunks_of self.old.trunks)) ≡ false }
         requires first { waits_with self.old.log.steps actor ≡ None }
         ensures ok { IfOk result (HasMade self.old self.new actor
             (asking (Event.Look filter) None)) }

@@ -11,7 +11,7 @@ use linx_base::{LinkNo, Side};
 #[derive(Drop)]
 pub(crate) struct Line {
     pub(crate) cut: bool,
-    pub(crate) settled: bool,
+    pub(crate) plans_ended: bool,
     pub(crate) from_first: u64,
     pub(crate) from_second: u64,
     pub(crate) ticks: u64,
@@ -46,7 +46,7 @@ impl Line {
     {
         Line {
             cut: false,
-            settled: false,
+            plans_ended: false,
             from_first: 0,
             from_second: 0,
             ticks: 0,
@@ -60,7 +60,7 @@ impl Line {
         match mark {
             Mark::Cut => self.cut = true,
             Mark::Mend => self.cut = false,
-            Mark::Settle => self.settled = true,
+            Mark::Settle => self.plans_ended = true,
         }
     }
 

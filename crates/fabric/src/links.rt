@@ -7,7 +7,7 @@ ghost use Rattle.journal.specs.declared.head.Head.TheVariants as heads;
 ghost use Rattle.link_laws.specs.Ends.{IsLinkOf};
 ghost use Rattle.link_laws.specs.Sessions.{is_cut};
 ghost use Rattle.run_trunks.specs.States.{trunks_of};
-ghost use Rattle.fabric.specs.Links.{flies_from, is_settled, is_still, is_up_at, line_left};
+ghost use Rattle.fabric.specs.Links.{flies_from, are_plans_ended, no_link_stirs, is_up_at, line_left};
 ghost use Rattle.fabric.specs.Links.{stirs};
 ghost use Rattle.fabric.specs.Links.{tick_steps, wire_steps};
 
@@ -24,8 +24,8 @@ impl Fabric {
     }
 
     /// Whether no link stirs.
-    pub(crate) fn is_still(&self) -> bool
-        ensures { result ≡ is_still self.now.shape self.now.log.steps
+    pub(crate) fn no_link_stirs(&self) -> bool
+        ensures { result ≡ no_link_stirs self.now.shape self.now.log.steps
             (trunks_of self.now.trunks) }
     {
         for place in 0..self.link_count() {
@@ -76,11 +76,11 @@ impl Fabric {
     }
 
     /// Whether a link's plans are ended.
-    pub fn is_settled(&self, link: LinkNo) -> bool
+    pub fn are_plans_ended(&self, link: LinkNo) -> bool
         requires of_shape { IsLinkOf self.now.shape link }
-        ensures { result ≡ is_settled self.now.log.steps link.0 }
+        ensures { result ≡ are_plans_ended self.now.log.steps link.0 }
     {
-        self.line(link).settled
+        self.line(link).plans_ended
     }
 
     /// Whether a side of a link is up.

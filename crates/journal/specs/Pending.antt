@@ -76,8 +76,8 @@ notifies a (Notified i q note r reason) = r.0 == a.reference.0 && same_inc i a.a
 notifies a _ = false
 
 -- a step settles an attach: it notifies it, cancels it, or closes its holder
-abbrev pub settles : Option Inc → Head → List Effect → PendingAttach → Bool
-settles me head effects a =
+abbrev pub ends_attach : Option Inc → Head → List Effect → PendingAttach → Bool
+ends_attach me head effects a =
     list_any (notifies a) effects || detaches me head a
     || list_any (closes a.at) effects
 
@@ -98,7 +98,7 @@ attach_in node k me _ = []
 abbrev pub owed_past : ℕ → ℕ → Option Inc → Head → List Effect → List PendingAttach
     → List PendingAttach
 owed_past node k me head effects before =
-    filter (λ a. not (settles me head effects a)) (before ++ attach_in node k me head)
+    filter (λ a. not (ends_attach me head effects a)) (before ++ attach_in node k me head)
 
 -- the attaches of a node that are owed a notification, in order of attaching
 abbrev pub owed : List Step → ℕ → List PendingAttach

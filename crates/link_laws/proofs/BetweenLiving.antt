@@ -30,7 +30,7 @@ use Rattle.journal.specs.Effects.{hunted, notice, notices}
 use Rattle.journal.specs.History.{closes, endpoint_by, open_endpoints}
 use Rattle.journal.specs.History.{next_inc, opened_on}
 use Rattle.journal.specs.Living.{find, is_alive, is_met, living, living_after}
-use Rattle.journal.specs.Pending.{attach_in, detaches, hunting, notifies, owed, settles}
+use Rattle.journal.specs.Pending.{attach_in, detaches, hunting, notifies, owed, ends_attach}
 use Rattle.journal.specs.Sessions.{up_session}
 use Rattle.journal.specs.Shapes.{Shape, node_by}
 use Rattle.journal.specs.declared.effect.Effect.{Effect}
@@ -136,7 +136,7 @@ IsToldOfEnd n es a = list_any (ends_at n a.peer) es ≡ true → is_told es a �
 
 -- so where it stays owed it isn't told
 untold : (me : Option Inc) (head : Head) (es : List Effect) (a : PendingAttach)
-    → not (settles me head es a) ≡ true → is_told es a ≡ true → ⊥
+    → not (ends_attach me head es a) ≡ true → is_told es a ≡ true → ⊥
 untold me head es a kept told =
     by_tests (list_any (notifies a) es) (detaches me head a) (list_any (closes a.at) es) kept told
   where
@@ -401,7 +401,7 @@ module _ (shape : Shape) (P : List Step) (s : Step) (n : ℕ) (legal : IsLegal s
   node = node_by shape s.by
 
   abbrev Goes : PendingAttach → Type 0
-  Goes a = not (settles (endpoint_by P s.by) s.head s.effects a) ≡ true → IsOfLiving (s ∷ P) n a
+  Goes a = not (ends_attach (endpoint_by P s.by) s.head s.effects a) ≡ true → IsOfLiving (s ∷ P) n a
 
   goes_on : (a : PendingAttach) → IsOfLiving P n a → IsToldOfEnd n s.effects a → Goes a
   goes_on a alive told kept =
@@ -449,7 +449,7 @@ of-living shape [] legal short n = tt
 of-living shape (s ∷ P) legal short n =
     let before : IsShort P = omega arith in
     let was : AllByRecursion (IsOfLiving P n) (owed P n) = of-living shape P legal.0 before n in
-    all-kept (IsOfLiving (s ∷ P) n) (λ a. not (settles (endpoint_by P s.by) s.head s.effects a)) _
+    all-kept (IsOfLiving (s ∷ P) n) (λ a. not (ends_attach (endpoint_by P s.by) s.head s.effects a)) _
     (all-append (Goes shape P s n legal.0 before legal.1) (owed P n) _
     (all-both (IsOfLiving P n) (IsToldOfEnd n s.effects) (Goes shape P s n legal.0 before legal.1)
     (goes_on shape P s n legal.0 before legal.1) (owed P n) was

@@ -21,7 +21,7 @@ use Rattle.journal.specs.History.{closes, endpoint_by, endpoint_of, is_by, last_
 use Rattle.journal.specs.History.{open_endpoints, opened_by, opened_in, opened_on, unless_closed}
 use Rattle.journal.specs.Laws.{KeepsEndpoints, KeepsMakers, is_opening, may_make}
 use Rattle.journal.specs.Pending.{answers_hunt, attach_at, attach_in, detaches, ends_hunt, hunt_at}
-use Rattle.journal.specs.Pending.{hunt_in, hunting, notifies, owed, settles}
+use Rattle.journal.specs.Pending.{hunt_in, hunting, notifies, owed, ends_attach}
 use Rattle.journal.specs.Shapes.{Shape, node_by}
 use Rattle.journal.specs.Traffic.{is_endpoint}
 use Rattle.journal.specs.declared.by.By.{By}
@@ -525,9 +525,9 @@ holders-open shape (s ∷ P) orderly short node =
     let k : ℕ = suc (length P) in
     let me : Option Inc = endpoint_by P s.by in
     let begun : List PendingAttach = attach_in node k me s.head in
-    stays-open (λ a. a.at) (λ a. not (settles me s.head s.effects a)) P s node
+    stays-open (λ a. a.at) (λ a. not (ends_attach me s.head s.effects a)) P s node
     (λ a keep. (or_parts (list_any (notifies a) s.effects || detaches me s.head a) (list_any
-    (closes a.at) s.effects) (not-true (settles me s.head s.effects a) keep)).1)
+    (closes a.at) s.effects) (not-true (ends_attach me s.head s.effects a) keep)).1)
     (owed P node ++ begun)
     (all-append (λ a. IsOpenAt P node a.at) (owed P node) begun
     (holders-open shape P orderly.0 before node)

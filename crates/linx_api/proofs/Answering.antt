@@ -30,7 +30,7 @@ use Rattle.fabric.specs.declared.stop.StepStop.{StepStop}
 use Rattle.fabric.specs.declared.stop.StopCause.TheVariants.{JournalFull}
 use Rattle.fabric.specs.Asks.{FitsEvent, may_ask}
 use Rattle.fabric.specs.Fits.{LeavesBy}
-use Rattle.fabric.specs.Links.{is_still}
+use Rattle.fabric.specs.Links.{no_link_stirs}
 use Rattle.fabric.specs.Machine.{head_for, head_of, is_at_rest, look, pumped_head}
 use Rattle.fabric.specs.Machine.{signal_in, vain_look}
 use Rattle.fabric.specs.Run.{IsStepFor, IsStepOf, IsStepped, Layout}
@@ -194,7 +194,7 @@ pump-steps link (asks.Tick l side) may is = cc
 
 module _ (x y : Layout) (ask : Ask) where
   abbrev still : Bool
-  still = is_still x.shape x.log.steps (trunks_of x.trunks)
+  still = no_link_stirs x.shape x.log.steps (trunks_of x.trunks)
 
   -- where there is no step, a look was in vain
   none-gives : (by : By) → may_ask by ask.event ≡ true

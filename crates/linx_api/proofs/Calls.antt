@@ -15,7 +15,7 @@ use Rattle.run_trunks.specs.States.{trunks_of}
 use Rattle.fabric.specs.declared.stop.StepStop.{StepStop}
 use Rattle.fabric.specs.Actings.{OnlyRuns}
 use Rattle.fabric.specs.Asks.{FitsEvent, MayAsk}
-use Rattle.fabric.specs.Links.{is_still}
+use Rattle.fabric.specs.Links.{no_link_stirs}
 use Rattle.fabric.specs.Machine.{signal_in}
 use Rattle.fabric.specs.Run.{Layout}
 use Rattle.turn_lock.specs.declared.story.Made.{Made}
@@ -209,7 +209,7 @@ module _ (before after : PassView Step PlanParts) (ask : Ask)
       (that-step asked.step one.step (sym asked.adds ∙ one.added)) in
       let goes_on : is_end one.step.head ≡ false =
       head-runs found.shape found.log.steps
-      (is_still found.shape found.log.steps (trunks_of found.trunks)) before.number ask
+      (no_link_stirs found.shape found.log.steps (trunks_of found.trunks)) before.number ask
       one.step.head one.head goes in
       ap (λ l. has_ended (steps_in l) before.number) mine
       ∙ more-ends (is_by one.step.by before.number) (is_end one.step.head)

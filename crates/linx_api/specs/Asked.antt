@@ -23,7 +23,7 @@ use Rattle.fabric.specs.declared.stop.StepStop.{StepStop}
 use Rattle.fabric.specs.declared.stop.StopCause.TheVariants.{JournalFull}
 use Rattle.fabric.specs.Actings.{OnlyRuns}
 use Rattle.fabric.specs.Asks.{MayAsk}
-use Rattle.fabric.specs.Links.{is_still}
+use Rattle.fabric.specs.Links.{no_link_stirs}
 use Rattle.fabric.specs.Machine.{head_for, is_at_rest}
 use Rattle.fabric.specs.Run.{IsReachedBy, Layout}
 use Rattle.turn_lock.specs.declared.story.Made.{Made}
@@ -70,7 +70,7 @@ module _ (old new : Layout) (by : By) (ask : Ask) where
     pub made_by : step.by ≡ by
     pub head :
         head_for old.shape old.log.steps
-        (is_still old.shape old.log.steps (trunks_of old.trunks)) by ask
+        (no_link_stirs old.shape old.log.steps (trunks_of old.trunks)) by ask
         ≡ Some step.head
     pub added : new.log.steps ≡ step ∷ old.log.steps
     pub legal : IsLegalStep old.shape old.log.steps step
@@ -89,12 +89,12 @@ module _ (old new : Layout) (by : By) (ask : Ask) where
         first_selected filter (queue_of old.log.steps (endpoint_of old.log.steps actor)) ≡ None
     pub stirs :
         (is_at_rest old.shape old.log.steps actor
-        && is_still old.shape old.log.steps (trunks_of old.trunks))
+        && no_link_stirs old.shape old.log.steps (trunks_of old.trunks))
         ≡ false
     pub waits : is_some (waits_with old.log.steps actor) ≡ true
     pub head :
         head_for old.shape old.log.steps
-        (is_still old.shape old.log.steps (trunks_of old.trunks)) by ask
+        (no_link_stirs old.shape old.log.steps (trunks_of old.trunks)) by ask
         ≡ None
     pub same : new ≡ old
     pub reply : answer ≡ NotYet

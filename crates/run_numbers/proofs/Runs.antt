@@ -44,7 +44,7 @@ use Rattle.trunk.proofs.Trunks.{agree}
 use Rattle.trunk_moves.specs.Grants.{AreNames}
 use Rattle.trunk_moves.specs.Packets.{Comes, Meets, answered, asks_for, names_hunted}
 use Rattle.trunk_moves.specs.Packets.{place_of, publishes_if}
-use Rattle.trunk_moves.specs.Steps.{Hunts, IsBoundedTrunkRun, IsTrunkRun, Makes, Sends}
+use Rattle.trunk_moves.specs.Steps.{HuntMakes, IsBoundedTrunkRun, IsTrunkRun, Makes, SendMakes}
 use Rattle.trunk_moves.specs.Steps.{trunks_ending}
 use Rattle.trunk_moves.specs.Trunks.{AllKept, Become, RunTrunks, all_do, with_trunk}
 use Rattle.trunk_moves.proofs.Facts.{own_boot}
@@ -164,7 +164,7 @@ module _ (shape : Shape) (two : HasTwoEnds shape) (P : List Step) (before after 
       ))
 
   sending : (n : ℕ) (me : Option Inc) (q : Peer) (note : SigNote) (answer : SentTo)
-      → Sends shape P before after n me q note answer
+      → SendMakes shape P before after n me q note answer
       → AllOffer shape (2 * suc (length P)) after
   sending n None q note answer made = stays made
   sending n (Some j) (Here i) note answer made = stays made
@@ -178,7 +178,7 @@ module _ (shape : Shape) (two : HasTwoEnds shape) (P : List Step) (before after 
             (was l made.of_shape) j (name_of P j) b note side,
       ))
 
-  asking : (n : ℕ) (path : Path) (found : Option Peer) → Hunts shape before after n path found
+  asking : (n : ℕ) (path : Path) (found : Option Peer) → HuntMakes shape before after n path found
       → AllOffer shape (2 * suc (length P)) after
   asking n (Local v) found made = stays made
   asking n (Over l v) (Some q) made = stays made

@@ -29,7 +29,7 @@ use Rattle.script_lang.specs.Fits.{IsScript}
 use Rattle.script_lang.specs.Parts.{ScriptParts}
 use Rattle.trunk_moves.specs.Steps.{IsTrunkStep}
 use Rattle.trunk_moves.specs.Trunks.{Become, RunTrunks}
-use Rattle.fabric.specs.Links.{is_still}
+use Rattle.fabric.specs.Links.{no_link_stirs}
 use Rattle.fabric.specs.Machine.{head_for, pumped_head}
 use Rattle.fabric.specs.Run.{Layout}
 use Rattle.stage.specs.Plays.{AllFollow, IsInTurn, IsPlannedHead, IsScriptRun, IsSoFar}
@@ -73,7 +73,7 @@ record IsNext (script : ScriptParts) (P : List Step) (trunks : RunTrunks) (by : 
     : Type 0 where
   makers : KeepsMakers (shape_of script) P by head
   given :
-      head_for (shape_of script) P (is_still (shape_of script) P trunks) by (named head)
+      head_for (shape_of script) P (no_link_stirs (shape_of script) P trunks) by (named head)
       ≡ Some head
   planned : IsPlannedHead script P trunks head
   in_turn : IsInTurn script P trunks (settler_now (shape_of script) P trunks) by head
@@ -120,7 +120,7 @@ module _ (script : ScriptParts) (P : List Step) (one two : RunTrunks)
       let asks_two = next_two.asked k above within (rw (mine, off_two) refl) in
       let both : Some h ≡ Some g =
       sym next_one.given
-      ∙ ap (λ (ask : Ask). head_for (shape_of script) P (is_still (shape_of script) P one)
+      ∙ ap (λ (ask : Ask). head_for (shape_of script) P (no_link_stirs (shape_of script) P one)
       (Actor k) ask) (asks_one ∙ sym asks_two)
       ∙ ap (λ (b : Bool). head_for (shape_of script) P b (Actor k) (named g))
       (still_alike (shape_of script) P one two same)

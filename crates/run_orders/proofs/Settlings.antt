@@ -20,7 +20,7 @@ use Rattle.trunk.specs.Events.{TrunkState}
 use Rattle.trunk_moves.specs.Steps.{IsTrunkStep}
 use Rattle.trunk_moves.specs.Trunks.{Become}
 use Rattle.fabric.specs.Actings.{OnlyRuns}
-use Rattle.fabric.specs.Links.{is_still}
+use Rattle.fabric.specs.Links.{no_link_stirs}
 use Rattle.fabric.specs.Machine.{head_for}
 use Rattle.fabric.specs.Run.{IsStepFor, IsStepOf, IsStepped, Layout}
 use Rattle.run_states.proofs.States.{runs_reach_one_state}
@@ -41,7 +41,7 @@ for-grows old new by (Some head) answer made =
 
 -- no link stirs
 abbrev still_in : Layout → Bool
-still_in f = is_still f.shape f.log.steps (trunks_of f.trunks)
+still_in f = no_link_stirs f.shape f.log.steps (trunks_of f.trunks)
 
 pub step-grows : (old new : Layout) (by : By) (ask : Ask) (answer : StepAnswer)
     → IsStepped old new by ask answer → Grows old new
@@ -168,7 +168,7 @@ module _ (shape : Shape) (ends : HasTwoEnds shape) where
         → IsStepped (state shape log second) new_two by ask answer_two
         → AreAlike shape new_one new_two
     stepped-same ask one two =
-        for-same (head_for shape log.steps (is_still shape log.steps (trunks_of first)) by ask) one
+        for-same (head_for shape log.steps (no_link_stirs shape log.steps (trunks_of first)) by ask) one
         (subst (λ (still : Bool).
         IsStepFor (state shape log second) new_two by (head_for shape log.steps still by ask)
         answer_two)

@@ -1,6 +1,7 @@
 -- A turn leaves no choice, and one that stopped went as far as another.
 use Rattle.std.proofs.Common.{◌≡◌, ℕ, ◌-◌, ◌<◌, ◌≤◌, ◌⊎◌, Bool, true, false, length, Option, Some}
-use Rattle.std.proofs.Common.{None, refl, sym, ◌∙◌, ap, subst, inl, inr, arith}
+use Rattle.std.proofs.Common.{None, refl, sym, ◌∙◌, ap, subst, inl, inr, arith, ⊥}
+use Rattle.std.proofs.Common.{◌×◌}
 use Rattle.std.specs.Prelude.{nat_le}
 use Rattle.std.proofs.lemmas.Bool.{leb-false, true≢false}
 use Rattle.std.proofs.lemmas.Option.{same_Some}
@@ -21,12 +22,14 @@ use Rattle.fabric.specs.Run.{IsStepped, Layout}
 use Rattle.stage.specs.Pumps.{pump_event}
 use Rattle.stage.specs.declared.stage.Pump as pumps
 use Rattle.stage.specs.declared.stage.Turn.{Turn}
-use Rattle.stage.specs.Settlings.{GoesOnAfter, IsDone, IsHalfDone, IsSettled, SettlesIf}
-use Rattle.stage.specs.Settlings.{StopsSettling, settled_by}
-use Rattle.stage.specs.Turns.{IsActed, IsPumpIf, IsStoppedBy, IsStoppedOf, IsTurn, IsTurnBy}
-use Rattle.stage.specs.Turns.{IsTurnIf, IsTurnOf, IsTurnStopped, asked_next, commands_of, makers}
-use Rattle.stage.specs.Turns.{shape_of}
-use Rattle.stage.proofs.Going.{GoesFar, SettlesOn, done-far, half-far, settle-made, settles_it}
+use Rattle.stage.specs.Settlings.{GoesOnAfter, IsDone, IsHalfDone, IsSettled, StopsSettling}
+use Rattle.stage.specs.Settlings.{leaves_cut, settled_by, settles_none, settles_whole}
+use Rattle.stage.specs.Turns.{IsActed, IsPump, IsStoppedBy, IsStoppedOf, IsTurn, IsTurnBy}
+use Rattle.stage.specs.Turns.{IsTurnOf, IsTurnStopped, acts_next, asked_next, asks_nothing}
+use Rattle.stage.specs.Turns.{commands_of, ended_before, makers, makes_event, shape_of}
+use Rattle.stage.proofs.Going.{GoesFar, SettlesOn, done-far, goes-nowhere, goes-settling, half-far}
+use Rattle.stage.proofs.Going.{settle-made, settles_it}
+use Rattle.stage.proofs.Turns.{pump-makes, pump-rests, turn-acts, turn-over}
 use Rattle.stage.proofs.Alike.{pump_alike}
 use Rattle.run_orders.proofs.States.{AreAlike, GoesOn, Grows, IsLonger, alike-as, alike-grows}
 use Rattle.run_orders.proofs.States.{alike-turned, by-alike, grows-on}
@@ -78,14 +81,6 @@ module _ (shape : Shape) (ends : HasTwoEnds shape) (k : ℕ) where
         | longer stirs more ↦ absurd (true≢false (sym stirs ∙ made_two.still))
       ]
 
-  settles_if-alike : (cut : Bool) (l : LinkNo) (one two new_one new_two : Layout)
-      → AreAlike shape one two → SettlesIf cut k l one new_one → SettlesIf cut k l two new_two
-      → AreAlike shape new_one new_two
-  settles_if-alike true l one two new_one new_two alike made_one made_two =
-      alike-as shape one two new_one new_two alike made_one made_two
-  settles_if-alike false l one two new_one new_two alike made_one made_two =
-      settled-alike l one two new_one new_two alike made_one.0 made_two.0 made_one.1 made_two.1
-
   cut-alike : (l : LinkNo) (one two : Layout) → AreAlike shape one two
       → is_cut two.log.steps l.0 ≡ is_cut one.log.steps l.0
   cut-alike l one two alike = ap (λ (log : Log). is_cut log.steps l.0) (sym alike.log)
@@ -94,11 +89,20 @@ module _ (shape : Shape) (ends : HasTwoEnds shape) (k : ℕ) where
   after-alike : (o : Option LinkNo) (one two new_one new_two : Layout) → AreAlike shape one two
       → GoesOnAfter o k one new_one → GoesOnAfter o k two new_two
       → AreAlike shape new_one new_two
-  after-alike None one two new_one new_two alike made_one made_two =
-      alike-as shape one two new_one new_two alike made_one made_two
-  after-alike (Some l) one two new_one new_two alike made_one made_two =
-      settles_if-alike (is_cut one.log.steps l.0) l one two new_one new_two alike made_one
-      (subst (λ (cut : Bool). SettlesIf cut k l two new_two) (cut-alike l one two alike) made_two)
+  after-alike o one two new_one new_two alike (settles_none none same) made_two =
+      alike-as shape one two new_one new_two alike same
+      (goes-nowhere o k two new_two (λ l is. absurd (none-some none is)) made_two)
+    where
+      none-some : {l : LinkNo} → o ≡ None → o ≡ Some l → ⊥
+      none-some none some = cc
+  after-alike o one two new_one new_two alike (leaves_cut l is cut same) made_two =
+      alike-as shape one two new_one new_two alike same
+      (goes-nowhere o k two new_two
+      (λ m so. ap (λ (i : LinkNo). is_cut two.log.steps i.0) (same_Some m l (sym so ∙ is))
+      ∙ (cut-alike l one two alike ∙ cut)) made_two)
+  after-alike o one two new_one new_two alike (settles_whole l is whole ticks settled) made_two =
+      let second = goes-settling o k two new_two l is (cut-alike l one two alike ∙ whole) made_two in
+      settled-alike l one two new_one new_two alike ticks second.0 settled second.1
 
   module _ (ask : Ask) (one two : Layout) (alike : AreAlike shape one two)
       (new_one new_two : Layout) (answer_one answer_two : StepAnswer) where
@@ -126,12 +130,9 @@ module _ (shape : Shape) (ends : HasTwoEnds shape) (k : ℕ) where
         let between : AreAlike shape half.between done.between =
         step-alike shape ends (Actor k) ask answer_one answer_two one two half.between done.between
         alike half.stepped half.fixed done.stepped done.fixed in
-        let goes : SettlesIf (is_cut done.between.log.steps l.0) k l done.between new_two =
-        subst (λ (o : Option LinkNo). GoesOnAfter o k done.between new_two) half.stops.asked
-        done.goes_on in
-        let settles : SettlesIf false k l done.between new_two =
-        subst (λ (cut : Bool). SettlesIf cut k l done.between new_two)
-        (cut-alike l half.between done.between between ∙ half.stops.whole) goes in
+        let settles : (ticks : ℕ) × IsSettled (Actor k) l ticks done.between new_two =
+        goes-settling (settled_by ask.event) k done.between new_two l half.stops.asked
+        (cut-alike l half.between done.between between ∙ half.stops.whole) done.goes_on in
         elim (settlings-compared shape ends (Actor k) l half.stops.stops.steps settles.1.steps
         half.between done.between new_one new_two between half.stops.stops.made settles.1.made) [
           | abreast same ↦
@@ -173,23 +174,20 @@ half-runs old new k ask answer half =
     (settles_it ask.event half.stops.link half.stops.asked) half.stepped).makes.laws.makers.maker.2
 
 module _ (script : ScriptParts) (old new : Layout) where
-  turn_if-grows : (ended : Bool) (k : ℕ) (turn : Turn) → IsTurnIf ended script k old new turn
-      → Grows old new
-  turn_if-grows true k turn made = inl made.0
-  turn_if-grows false k turn made =
+  actor-grows : (k : ℕ) (turn : Turn) → IsTurn script k old new turn → Grows old new
+  actor-grows k turn (ended_before ended same came) = inl same
+  actor-grows k turn (acts_next running made) =
       done-grows old new k (asked_next script k old) made.answer made.done
 
-  pump_if-grows : (event : Option Event) (l : LinkNo) (pump : pumps.Pump)
-      → IsPumpIf event l old new pump → Grows old new
-  pump_if-grows None l pump made = inl made.0
-  pump_if-grows (Some event) l pump made =
+  link-grows : (l : LinkNo) (pump : pumps.Pump) → IsPump script l old new pump → Grows old new
+  link-grows l pump (asks_nothing none same came) = inl same
+  link-grows l pump (makes_event event asks made) =
       step-grows old new (Pump l) (record { event = event; hand = None }) made.answer made.stepped
 
   turn_by-grows : (actor : Bool) (n : ℕ) → IsTurnBy actor script n old new → Grows old new
-  turn_by-grows true n made = turn_if-grows (has_ended old.log.steps n) n made.0 made.1
+  turn_by-grows true n made = actor-grows n made.0 made.1
   turn_by-grows false n made =
-      let l : LinkNo = record { 0 = n - length script.actors } in
-      pump_if-grows (pump_event script old.log.steps (trunks_of old.trunks) l) l made.0 made.1
+      link-grows (record { 0 = n - length script.actors }) made.0 made.1
 
   -- A TURN adds steps, or changes nothing, and one that stopped too
   pub turn-grows : (n : ℕ) → IsTurnOf script n old new → Grows old new
@@ -233,30 +231,15 @@ module _ (script : ScriptParts) (ends : HasTwoEnds (shape_of script)) where
         subst (λ (ask : Ask). IsDone two new_two k ask acted.answer) (asked-alike k) acted.done
 
     -- a turn of an actor
-    turn_if-alike : (ended : Bool) (k : ℕ) (turn_one turn_two : Turn)
-        → IsTurnIf ended script k one new_one turn_one
-        → IsTurnIf ended script k two new_two turn_two → AreAlike shape new_one new_two
-    turn_if-alike true k turn_one turn_two made_one made_two =
-        alike-as shape one two new_one new_two alike made_one.0 made_two.0
-    turn_if-alike false k turn_one turn_two made_one made_two =
+    actor-alike : (k : ℕ) (turn_one turn_two : Turn) → IsTurn script k one new_one turn_one
+        → IsTurn script k two new_two turn_two → AreAlike shape new_one new_two
+    actor-alike k turn_one turn_two (ended_before ended same came) made_two =
+        alike-as shape one two new_one new_two alike same
+        (turn-over script k two new_two turn_two (ended-alike k ∙ ended) made_two)
+    actor-alike k turn_one turn_two (acts_next running made) made_two =
+        let acted = turn-acts script k two new_two turn_two (ended-alike k ∙ running) made_two in
         done-alike shape ends k (asked_next script k one) one two alike new_one new_two
-        made_one.answer made_two.answer made_one.done (acted-as k turn_two made_two)
-
-    turn-as : (k : ℕ) (turn : Turn) → IsTurn script k two new_two turn
-        → IsTurnIf (has_ended one.log.steps k) script k two new_two turn
-    turn-as k turn made =
-        subst (λ (ended : Bool). IsTurnIf ended script k two new_two turn) (ended-alike k) made
-
-    -- a turn of a link
-    pump_if-alike : (event : Option Event) (l : LinkNo) (pump_one pump_two : pumps.Pump)
-        → IsPumpIf event l one new_one pump_one → IsPumpIf event l two new_two pump_two
-        → AreAlike shape new_one new_two
-    pump_if-alike None l pump_one pump_two made_one made_two =
-        alike-as shape one two new_one new_two alike made_one.0 made_two.0
-    pump_if-alike (Some event) l pump_one pump_two made_one made_two =
-        step-alike shape ends (Pump l) (record { event = event; hand = None }) made_one.answer
-        made_two.answer one two new_one new_two alike made_one.stepped made_one.fixed
-        made_two.stepped made_two.fixed
+        made.answer acted.answer made.done (acted-as k turn_two acted)
 
     pump_event-alike : (l : LinkNo) → IsLinkOf shape l
         → pump_event script two.log.steps (trunks_of two.trunks) l
@@ -269,18 +252,28 @@ module _ (script : ScriptParts) (ends : HasTwoEnds (shape_of script)) where
         sym (pump_alike shape log.steps (trunks_of first) (trunks_of second) same l of_shape script))
         one two alike
 
+    -- a turn of a link
+    link-alike : (l : LinkNo) → IsLinkOf shape l → (pump_one pump_two : pumps.Pump)
+        → IsPump script l one new_one pump_one → IsPump script l two new_two pump_two
+        → AreAlike shape new_one new_two
+    link-alike l of_shape pump_one pump_two (asks_nothing none same came) made_two =
+        alike-as shape one two new_one new_two alike same
+        (pump-rests script l two new_two pump_two (pump_event-alike l of_shape ∙ none) made_two)
+    link-alike l of_shape pump_one pump_two (makes_event event asks made) made_two =
+        let second = pump-makes script l two new_two pump_two event
+        (pump_event-alike l of_shape ∙ asks) made_two in
+        step-alike shape ends (Pump l) (record { event = event; hand = None }) made.answer
+        second.answer one two new_one new_two alike made.stepped made.fixed second.stepped
+        second.fixed
+
     turn_by-alike : (actor : Bool) (n : ℕ) → nat_le n (length script.actors) ≡ actor
         → n ≤ makers script → IsTurnBy actor script n one new_one
         → IsTurnBy actor script n two new_two → AreAlike shape new_one new_two
     turn_by-alike true n is within made_one made_two =
-        turn_if-alike (has_ended one.log.steps n) n made_one.0 made_two.0 made_one.1
-        (turn-as n made_two.0 made_two.1)
+        actor-alike n made_one.0 made_two.0 made_one.1 made_two.1
     turn_by-alike false n is within made_one made_two =
-        let l : LinkNo = record { 0 = n - length script.actors } in
-        pump_if-alike (pump_event script one.log.steps (trunks_of one.trunks) l) l made_one.0
-        made_two.0 made_one.1
-        (subst (λ (event : Option Event). IsPumpIf event l two new_two made_two.0)
-        (pump_event-alike l (numbered-link script n is within)) made_two.1)
+        link-alike (record { 0 = n - length script.actors }) (numbered-link script n is within)
+        made_one.0 made_two.0 made_one.1 made_two.1
 
     -- A TURN of a maker comes from states that are alike to states that are
     pub turn-alike : (n : ℕ) → n ≤ makers script → IsTurnOf script n one new_one
@@ -302,7 +295,7 @@ module _ (script : ScriptParts) (ends : HasTwoEnds (shape_of script)) where
         let running : has_ended two.log.steps k ≡ false =
         ended-alike k ∙ half-runs one new_one k (asked_next script k one) answer half in
         let acted : IsActed script k two new_two turn =
-        subst (λ (ended : Bool). IsTurnIf ended script k two new_two turn) running made in
+        turn-acts script k two new_two turn running made in
         inr (half-done shape ends k (asked_next script k one) one two alike new_one new_two answer
         acted.answer half (acted-as k turn acted))
 

@@ -23,7 +23,7 @@ use Rattle.trunk.proofs.Quiet.{quiet}
 use Rattle.trunk.specs.Keeping.{KeepsTrunk}
 use Rattle.trunk_moves.specs.Grants.{AreNames, GrantsAnswer}
 use Rattle.trunk_moves.specs.Packets.{names_hunted}
-use Rattle.trunk_moves.specs.Steps.{IsBoundedTrunkRun, Makes, Passes, Ticks}
+use Rattle.trunk_moves.specs.Steps.{IsBoundedTrunkRun, Makes, PacketMakes, TickMakes}
 use Rattle.trunk_moves.specs.Trunks.{RunTrunks}
 use Rattle.trunk_moves.proofs.Runs.{trunk_runs_are_runs, trunk_runs_grant}
 use Rattle.trunk_moves.proofs.Sides.{is_trunk}
@@ -66,14 +66,14 @@ module _ (shape : Shape) (P : List Step) (before : RunTrunks) (s : Step) (after 
 
   -- what is known of a packet from a side that comes
   pub record Came (from : Side) : Type 0 where
-    pub passes : Passes shape P before after l from Deliver s.effects
+    pub passes : PacketMakes shape P before after l from Deliver s.effects
     pub kept : KeepsTrunk (before l.0)
     pub named : AreNames (names_hunted P (node_at shape l (other_of from)) l)
     pub grants : GrantsAnswer P (node_at shape l (other_of from)) from (before l.0)
 
   pub came : (from : Side) → s.head ≡ Wire l from Deliver → Came from
   came from is =
-      let passes : Passes shape P before after l from Deliver s.effects =
+      let passes : PacketMakes shape P before after l from Deliver s.effects =
       makes (Wire l from Deliver) is in
       let asked =
       trunk_runs_grant shape P before goes.run goes.room l passes.of_shape (other_of from) in
@@ -106,7 +106,7 @@ module _ (shape : Shape) (P : List Step) (before : RunTrunks) (s : Step) (after 
   pub ticked_is : (side : Side) → s.head ≡ Tick l side
       → (after l.0).link ≡ links.ticked_at side (before l.0).link
   ticked_is side is =
-      let ticks : Ticks shape P before after l side s.effects = makes (Tick l side) is in
+      let ticks : TickMakes shape P before after l side s.effects = makes (Tick l side) is in
       ap (λ (t : TrunkState). t.link)
       (is_trunk shape before after l ticks.of_shape ticks.trunk ticks.makes ∙ ticks.beat.makes)
       ∙ ticked_link side (before l.0)

@@ -18,7 +18,7 @@ use Rattle.link_laws.specs.Laws.{HasEffects}
 use Rattle.trunk.specs.Events.{TrunkState, tables_of}
 use Rattle.trunk.specs.Tells.{up_of_tick}
 use Rattle.trunk_moves.specs.Packets.{Comes, Meets, told_at}
-use Rattle.trunk_moves.specs.Steps.{Makes, Passes, Ticks}
+use Rattle.trunk_moves.specs.Steps.{Makes, PacketMakes, TickMakes}
 use Rattle.trunk_moves.specs.Trunks.{Become, RunTrunks}
 use Rattle.run_states.proofs.Making.{told_once}
 
@@ -46,16 +46,16 @@ module _ (P : List Step) (n : ℕ) (l : LinkNo) (from : Side) (es fs : List Effe
 module _ (shape : Shape) (P : List Step) (before_one before_two after_one after_two : RunTrunks)
     (same : Become shape before_one before_two) (es fs : List Effect) where
   passes_alike : (l : LinkNo) (from : Side) (verdict : Verdict)
-      → Passes shape P before_one after_one l from verdict es
-      → Passes shape P before_two after_two l from verdict fs → es ≡ fs
+      → PacketMakes shape P before_one after_one l from verdict es
+      → PacketMakes shape P before_two after_two l from verdict fs → es ≡ fs
   passes_alike l from verdict one two =
       let n : ℕ = node_at shape l (other_of from) in
       meets_alike P n l from es fs verdict (before_one l.0) one.trunk two.trunk one.meets
       (subst (λ (t : TrunkState). Meets P n l from verdict fs t two.trunk)
       (sym (same l one.of_shape)) two.meets)
 
-  ticks_alike : (l : LinkNo) (side : Side) → Ticks shape P before_one after_one l side es
-      → Ticks shape P before_two after_two l side fs → es ≡ fs
+  ticks_alike : (l : LinkNo) (side : Side) → TickMakes shape P before_one after_one l side es
+      → TickMakes shape P before_two after_two l side fs → es ≡ fs
   ticks_alike l side one two =
       one.beat.effects
       ∙ ap (λ (t : TrunkState).

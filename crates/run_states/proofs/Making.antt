@@ -40,7 +40,7 @@ use Rattle.trunk.specs.Events.{told_by, told_of, told_up, turned, with_link}
 use Rattle.trunk.specs.declared.up.TrunkUp.{TrunkUp}
 use Rattle.trunk.proofs.Reading.{reads_once}
 use Rattle.trunk_moves.specs.Packets.{Comes, Meets, answered}
-use Rattle.trunk_moves.specs.Steps.{Hunts, Makes, Passes, Sends, Ticks, trunks_ending}
+use Rattle.trunk_moves.specs.Steps.{HuntMakes, Makes, PacketMakes, SendMakes, TickMakes, trunks_ending}
 use Rattle.trunk_moves.specs.Trunks.{Become, RunTrunks, all_do, does, side_on, with_trunk}
 
 -- ---- a packet has one reading
@@ -139,8 +139,8 @@ module _ (shape : Shape) (ends : HasTwoEnds shape) (P : List Step)
   ending_same n (Some j) one two = all_same n (λ side. closed_at side j) one two
 
   sends_same : (n : ℕ) (me : Option Inc) (q : Peer) (note : SigNote) (answer : SentTo)
-      → Sends shape P before_one after_one n me q note answer
-      → Sends shape P before_two after_two n me q note answer → Become shape after_one after_two
+      → SendMakes shape P before_one after_one n me q note answer
+      → SendMakes shape P before_two after_two n me q note answer → Become shape after_one after_two
   sends_same n None q note answer one two = stays_same one two
   sends_same n (Some j) (Here i) note answer one two = stays_same one two
   sends_same n (Some j) (There l x b) note Queued one two = stays_same one two
@@ -152,8 +152,8 @@ module _ (shape : Shape) (ends : HasTwoEnds shape) (P : List Step)
       ∙ ap (sent_at two.at j (name_of P j) b note) (same l one.of_shape)) one.makes two.makes
 
   hunts_same : (n : ℕ) (path : Path) (found : Option Peer)
-      → Hunts shape before_one after_one n path found
-      → Hunts shape before_two after_two n path found → Become shape after_one after_two
+      → HuntMakes shape before_one after_one n path found
+      → HuntMakes shape before_two after_two n path found → Become shape after_one after_two
   hunts_same n (Local v) found one two = stays_same one two
   hunts_same n (Over l v) (Some q) one two = stays_same one two
   hunts_same n (Over l v) None one two =
@@ -163,8 +163,8 @@ module _ (shape : Shape) (ends : HasTwoEnds shape) (P : List Step)
       ∙ ap (asked_at two.at v) (same l one.of_shape)) one.makes two.makes
 
   passes_same : (l : LinkNo) (from : Side) (verdict : Verdict) (es : List Effect)
-      → Passes shape P before_one after_one l from verdict es
-      → Passes shape P before_two after_two l from verdict es → Become shape after_one after_two
+      → PacketMakes shape P before_one after_one l from verdict es
+      → PacketMakes shape P before_two after_two l from verdict es → Become shape after_one after_two
   passes_same l from verdict es one two =
       let n : ℕ = node_at shape l (other_of from) in
       one_same l one.trunk two.trunk
@@ -173,8 +173,8 @@ module _ (shape : Shape) (ends : HasTwoEnds shape) (P : List Step)
       (sym (same l one.of_shape)) two.meets)) one.makes two.makes
 
   ticks_same : (l : LinkNo) (side : Side) (es : List Effect)
-      → Ticks shape P before_one after_one l side es
-      → Ticks shape P before_two after_two l side es → Become shape after_one after_two
+      → TickMakes shape P before_one after_one l side es
+      → TickMakes shape P before_two after_two l side es → Become shape after_one after_two
   ticks_same l side es one two =
       one_same l one.trunk two.trunk
       (one.beat.makes ∙ ap (ticked_at side) (same l one.of_shape) ∙ sym two.beat.makes)

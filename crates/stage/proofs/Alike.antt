@@ -11,7 +11,7 @@ use Rattle.link_laws.specs.Sessions.{is_cut}
 use Rattle.script_lang.specs.Parts.{ScriptParts}
 use Rattle.trunk.specs.Events.{TrunkState}
 use Rattle.trunk_moves.specs.Trunks.{Become, RunTrunks}
-use Rattle.fabric.specs.Links.{is_still, none_stirs, stirs, stirs_if}
+use Rattle.fabric.specs.Links.{no_link_stirs, none_stirs, stirs, stirs_if}
 use Rattle.stage.specs.Pumps.{flying_side, next_ticking, pump_event, settling_event}
 use Rattle.stage.specs.Settlings.{Settler, if_stirs, settler_now, settler_of, stirs_on}
 
@@ -91,5 +91,5 @@ module _ (shape : Shape) (P : List Step) (one two : RunTrunks) (same : Become sh
       (stirs_alike (record { 0 = suc n }) (omega arith, within))
 
   -- whether none stirs
-  pub still_alike : is_still shape P one ≡ is_still shape P two
+  pub still_alike : no_link_stirs shape P one ≡ no_link_stirs shape P two
   still_alike = none_alike (length shape.links) (omega arith)

@@ -1,8 +1,10 @@
 -- How far an actor goes in its turn: its step, and after a settle the steps that settle the link.
 use Rattle.std.proofs.Common.{◌≡◌, ℕ, suc, ◌<◌, ◌⊎◌, Bool, true, false, List, ◌∷◌, length}
-use Rattle.std.proofs.Common.{Option, Some, None, refl, sym, ◌∙◌, ap, subst, inl, inr, arith}
+use Rattle.std.proofs.Common.{Option, Some, None, refl, sym, ◌∙◌, ap, subst, inl, inr, arith, ⊥}
+use Rattle.std.proofs.Common.{◌×◌}
 use Rattle.std.specs.Prelude.{◌&&◌, nat_le}
-use Rattle.std.proofs.lemmas.Bool.{cases_lt, eq-eqb, le-leb, or_left}
+use Rattle.std.proofs.lemmas.Bool.{cases_lt, eq-eqb, le-leb, or_left, true≢false}
+use Rattle.std.proofs.lemmas.Option.{same_Some}
 use Rattle.linx_base.specs.declared.identity.Inc.{Inc}
 use Rattle.linx_base.specs.declared.identity.LinkNo.{LinkNo}
 use Rattle.linx_base.specs.declared.signal.SigNote.{SigNote}
@@ -26,11 +28,11 @@ use Rattle.node_kernel.specs.declared.answers.StepAnswer.{StepAnswer}
 use Rattle.node_kernel.specs.declared.ask.Ask.{Ask}
 use Rattle.fabric.specs.Actings.{OnlyRuns, asking}
 use Rattle.fabric.specs.Asks.{FitsEvent, MayAsk}
-use Rattle.fabric.specs.Links.{is_settled}
+use Rattle.fabric.specs.Links.{are_plans_ended}
 use Rattle.fabric.specs.Machine.{granted_head, head_for, signal_in}
 use Rattle.fabric.specs.Run.{IsStepFor, IsStepOf, IsStepped, Layout}
-use Rattle.stage.specs.Settlings.{AreSettlings, GoesOnAfter, IsDone, IsHalfDone, MayGoOn}
-use Rattle.stage.specs.Settlings.{SettlesIf, settled_by}
+use Rattle.stage.specs.Settlings.{AreSettlings, GoesOnAfter, IsDone, IsHalfDone, IsSettled, MayGoOn}
+use Rattle.stage.specs.Settlings.{leaves_cut, settled_by, settles_none, settles_whole}
 use Rattle.stage.proofs.Settling.{IsUnder, settlings-grow, still_in}
 
 -- THE EVENT that settles a link
@@ -80,7 +82,7 @@ module _ (k : ℕ) (l : LinkNo) (P : List Step) (es : List Effect) where
   abbrev s : Step
   s = record { by = Actor k; head = heads.Settle l; effects = es }
 
-  settled-marks : is_settled (s ∷ P) l.0 ≡ true
+  settled-marks : are_plans_ended (s ∷ P) l.0 ≡ true
   settled-marks = rw (eq-eqb l.0 l.0 refl) refl
 
   settled-runs : has_ended P k ≡ false → has_ended (s ∷ P) k ≡ false
@@ -97,9 +99,9 @@ module _ (k : ℕ) (l : LinkNo) (P : List Step) (es : List Effect) where
 -- of such a step
 module _ (old new : Layout) (k : ℕ) (l : LinkNo) (answer : StepAnswer)
     (step : IsStepOf old new (Actor k) (heads.Settle l) answer) where
-  pub begun-settled : is_settled new.log.steps l.0 ≡ true
+  pub begun-settled : are_plans_ended new.log.steps l.0 ≡ true
   begun-settled =
-      subst (λ (Q : List Step). is_settled Q l.0 ≡ true) (sym step.steps)
+      subst (λ (Q : List Step). are_plans_ended Q l.0 ≡ true) (sym step.steps)
       (settled-marks k l old.log.steps step.effects)
 
   pub begun-runs : has_ended old.log.steps k ≡ false → has_ended new.log.steps k ≡ false
@@ -162,24 +164,15 @@ pub record GoesFar (old new : Layout) (k : ℕ) (ask : Ask) (answer : StepAnswer
 after-far : (event : Event) (k : ℕ) (between new : Layout)
     → GoesOnAfter (settled_by event) k between new
     → (new ≡ between) ⊎ SettlesOn event k between new
-after-far event k between new goes = go (settled_by event) refl goes
-  where
-    whole : (l : LinkNo) → settled_by event ≡ Some l → (cut : Bool)
-        → is_cut between.log.steps l.0 ≡ cut → SettlesIf cut k l between new
-        → (new ≡ between) ⊎ SettlesOn event k between new
-    whole l is true cut goes = inl goes
-    whole l is false cut goes = inr (record {
-      link = l;
-      asked = settles_it event l is;
-      whole = cut;
-      steps = goes.1.steps;
-      made = goes.1.made;
-    })
-
-    go : (o : Option LinkNo) → settled_by event ≡ o → GoesOnAfter o k between new
-        → (new ≡ between) ⊎ SettlesOn event k between new
-    go None is goes = inl goes
-    go (Some l) is goes = whole l is (is_cut between.log.steps l.0) refl goes
+after-far event k between new (settles_none none same) = inl same
+after-far event k between new (leaves_cut l is cut same) = inl same
+after-far event k between new (settles_whole l is whole ticks settled) = inr (record {
+  link = l;
+  asked = settles_it event l is;
+  whole = whole;
+  steps = settled.steps;
+  made = settled.made;
+})
 
 pub done-far : (old new : Layout) (k : ℕ) (ask : Ask) (answer : StepAnswer)
     → IsDone old new k ask answer → GoesFar old new k ask answer
@@ -204,6 +197,32 @@ half-far old new k ask answer half = record {
     made = half.stops.stops.made;
   });
 }
+
+-- WHAT FOLLOWS AFTER A STEP, once it is known whether it settles a link: of one that settles no
+-- link that isn't cut, nothing
+module _ (settled : Option LinkNo) (k : ℕ) (between new : Layout) where
+  pub goes-nowhere : ((l : LinkNo) → settled ≡ Some l → is_cut between.log.steps l.0 ≡ true)
+      → GoesOnAfter settled k between new → new ≡ between
+  goes-nowhere cut (settles_none none same) = same
+  goes-nowhere cut (leaves_cut l is so same) = same
+  goes-nowhere cut (settles_whole l is whole ticks settling) =
+      absurd (true≢false (sym (cut l is) ∙ whole))
+
+  -- of one that settles this link, which isn't cut, that it is settled
+  pub goes-settling : (l : LinkNo) → settled ≡ Some l → is_cut between.log.steps l.0 ≡ false
+      → GoesOnAfter settled k between new → (ticks : ℕ) × IsSettled (Actor k) l ticks between new
+  goes-settling l is whole (settles_none none same) = absurd (none-some none is)
+    where
+      none-some : settled ≡ None → settled ≡ Some l → ⊥
+      none-some none some = cc
+  goes-settling l is whole (leaves_cut other so cut same) =
+      let its : other ≡ l = same_Some other l (sym so ∙ is) in
+      absurd (true≢false (sym cut ∙ ap (λ (m : LinkNo). is_cut between.log.steps m.0) its ∙ whole))
+  goes-settling l is whole (settles_whole other so too ticks settling) = (
+    ticks,
+    subst (λ (m : LinkNo). IsSettled (Actor k) m ticks between new)
+        (same_Some other l (sym so ∙ is)) settling,
+  )
 
 -- A STEP OR NONE. What a maker asks for adds a step, or changes nothing
 pub step-grows : (old new : Layout) (by : By) (head : Option Head) (answer : StepAnswer)

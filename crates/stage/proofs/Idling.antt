@@ -26,15 +26,16 @@ use Rattle.script_words.specs.declared.command.Command.{Command}
 use Rattle.script_words.specs.declared.command.Command.TheVariants.{Recv}
 use Rattle.actor_run.specs.Asking.{ask_of}
 use Rattle.actor_run.specs.Following.{Follows, knows, next_ask}
-use Rattle.fabric.specs.Links.{is_still}
+use Rattle.fabric.specs.Links.{no_link_stirs}
 use Rattle.fabric.specs.Machine.{head_for, is_at_rest}
 use Rattle.fabric.specs.Run.{IsStepFor, Layout}
 use Rattle.fabric.proofs.Leading.{behind}
 use Rattle.stage.specs.declared.stage.Turn.{Turn}
 use Rattle.stage.specs.declared.stage.Turn.TheVariants.{Ended, Waits}
-use Rattle.stage.specs.Settlings.{GoesOnAfter, settled_by}
+use Rattle.stage.specs.Settlings.{GoesOnAfter, settled_by, settles_none}
 use Rattle.stage.specs.Plays.{AllFollow, Play}
-use Rattle.stage.specs.Turns.{IsActed, IsBehind, IsTurn, IsTurnBy, IsTurnIf, IsTurnOf, asked_next}
+use Rattle.stage.specs.Turns.{IsActed, IsBehind, IsTurn, IsTurnBy, IsTurnOf, acts_next, asked_next}
+use Rattle.stage.specs.Turns.{ended_before}
 use Rattle.stage.specs.Turns.{commands_of, shape_of}
 use Rattle.stage.proofs.Waiting.{waits_at}
 
@@ -52,7 +53,7 @@ module _ (script : ScriptParts) (f : Layout) (k : ℕ)
   P = f.log.steps
 
   abbrev still : Bool
-  still = is_still f.shape P (trunks_of f.trunks)
+  still = no_link_stirs f.shape P (trunks_of f.trunks)
 
   -- its head, by what it waits with and where
   no_head : (w : Option Sigsel) (me : Option Inc) → waits_with P k ≡ w → endpoint_of P k ≡ me
@@ -100,7 +101,7 @@ module _ (script : ScriptParts) (f : Layout) (k : ℕ)
           stepped = subst (λ (h : Option Head). IsStepFor f f (Actor k) h NotYet) (sym none)
               (refl, refl);
           fixed = refl;
-          goes_on = subst (λ (o : Option LinkNo). GoesOnAfter o k f f) (sym calm) refl;
+          goes_on = settles_none calm refl;
         };
         came = refl;
       }
@@ -138,12 +139,12 @@ pub behind-waits : (p : Play) → p.run.shape ≡ shape_of p.script → (k : ℕ
     → is_idle p.run.log.steps k ≡ true
     → (is_idle p.run.log.steps k
     && not (is_at_rest p.run.shape p.run.log.steps k
-    && is_still p.run.shape p.run.log.steps (trunks_of p.run.trunks))) ≡ true
+    && no_link_stirs p.run.shape p.run.log.steps (trunks_of p.run.trunks))) ≡ true
 behind-waits p shape k within it idle =
     let count : length p.run.shape.actors ≡ length p.script.actors =
     ap (λ (s : Shape). length s.actors) shape ∙ length-map p.script.actors (λ a. a.node) in
     waits-if (is_idle p.run.log.steps k) (is_at_rest p.run.shape p.run.log.steps k)
-    (is_still p.run.shape p.run.log.steps (trunks_of p.run.trunks)) idle
+    (no_link_stirs p.run.shape p.run.log.steps (trunks_of p.run.trunks)) idle
     (behind-busy p.run.shape p.run.log.steps k it (omega (arith, within, count)))
 
 -- THE TURN OF AN ACTOR that is passed over changes nothing
@@ -155,21 +156,19 @@ module _ (script : ScriptParts) (f : Layout) (k : ℕ) (within : k ≤ length sc
 
   pub ended-passed : has_ended f.log.steps k ≡ true → IsTurnOf script k f f
   ended-passed ended =
-      turn_of-actor Ended
-      (subst (λ (b : Bool). IsTurnIf b script k f f Ended) (sym ended) (refl, refl))
+      turn_of-actor Ended (ended_before ended refl refl)
 
   pub waiting-passed : Follows (commands_of script k) k f.log.steps
       → has_ended f.log.steps k ≡ false
       → (is_idle f.log.steps k
       && not (is_at_rest f.shape f.log.steps k
-      && is_still f.shape f.log.steps (trunks_of f.trunks))) ≡ true → IsTurnOf script k f f
+      && no_link_stirs f.shape f.log.steps (trunks_of f.trunks))) ≡ true → IsTurnOf script k f f
   waiting-passed follows running on =
       let rests : Bool =
-      is_at_rest f.shape f.log.steps k && is_still f.shape f.log.steps (trunks_of f.trunks) in
+      is_at_rest f.shape f.log.steps k && no_link_stirs f.shape f.log.steps (trunks_of f.trunks) in
       let parts = and_parts (is_idle f.log.steps k) (not rests) on in
       turn_of-actor Waits
-      (subst (λ (b : Bool). IsTurnIf b script k f f Waits) (sym running)
-      (idle-turn script f k follows parts.0 (not_true rests parts.1)))
+      (acts_next running (idle-turn script f k follows parts.0 (not_true rests parts.1)))
 
 -- BEHIND ONE THAT HASN'T ENDED the turn of one that waits in vain, or has ended, changes nothing
 or-false : (b : Bool) → (b || false) ≡ true → b ≡ true

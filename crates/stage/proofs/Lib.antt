@@ -16,6 +16,7 @@ pub mod Seats
 pub mod Turned
 pub mod Stops
 mod Whole
+pub mod Turns
 pub mod Alike
 pub mod OneState
 pub mod PlannedAlike

@@ -46,7 +46,7 @@ use Rattle.trunk_moves.specs.Packets.{Meets, told_brings}
 use Rattle.trunk_moves.specs.Steps.{Makes as MakesOfTrunks}
 use Rattle.trunk_moves.specs.Trunks.{RunTrunks}
 use Rattle.carrier.specs.Events.{link_told_by}
-use Rattle.fabric.specs.Links.{is_still}
+use Rattle.fabric.specs.Links.{no_link_stirs}
 use Rattle.fabric.specs.Machine.{hands_over, head_for, head_of, is_at_rest, look}
 use Rattle.fabric.specs.Machine.{signal_in, vain_look}
 use Rattle.fabric.specs.Run.{IsStepFor, IsStepOf, IsStepped, Layout}
@@ -301,7 +301,7 @@ module _ (old new : Layout) (k : ℕ) (ask : Ask) (answer : StepAnswer) where
   P = old.log.steps
 
   abbrev still : Bool
-  still = is_still old.shape P (trunks_of old.trunks)
+  still = no_link_stirs old.shape P (trunks_of old.trunks)
 
   pub step-opens : (head : Head) (step : IsStepOf old new (Actor k) head answer) (m : Option Inc)
       → last_opened m step.effects ≡ endpoint_after m answer

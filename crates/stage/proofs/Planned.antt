@@ -22,7 +22,7 @@ use Rattle.trunk_moves.specs.Steps.{IsTrunkStep}
 use Rattle.trunk_moves.specs.Trunks.{RunTrunks}
 use Rattle.fabric.specs.Actings.{OnlyRuns}
 use Rattle.fabric.specs.Asks.{MayAsk}
-use Rattle.fabric.specs.Links.{is_still}
+use Rattle.fabric.specs.Links.{no_link_stirs}
 use Rattle.fabric.specs.Run.{IsStepFor, IsStepOf, IsStepped, Layout}
 use Rattle.fabric.proofs.Counting.{all-fit}
 use Rattle.stage.specs.Plays.{IsInTurn, IsPlanned, IsPlannedHead}
@@ -113,7 +113,7 @@ module _ (script : ScriptParts) (old new : Layout) (shape : old.shape ≡ shape_
         planned-step_for (Actor k) _ answer made
         (λ head is.
         let unpumped : is_pumped head ≡ false =
-        head-unpumped old.shape P (is_still old.shape P trunks) k (commands_of script k) head is in
+        head-unpumped old.shape P (no_link_stirs old.shape P trunks) k (commands_of script k) head is in
         record {
           planned = unpumped-planned script P trunks head unpumped;
           in_turn = subst (λ (o : Option Settler). IsInTurn script P trunks o (Actor k) head)

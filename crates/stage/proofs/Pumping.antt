@@ -34,7 +34,7 @@ use Rattle.script_lang.specs.Parts.{ScriptParts, plan_in, planned_verdicts, side
 use Rattle.trunk.specs.Events.{TrunkState}
 use Rattle.trunk_moves.specs.Trunks.{RunTrunks}
 use Rattle.fabric.specs.Asks.{MayAsk, MayMeet}
-use Rattle.fabric.specs.Links.{flies_from, is_settled, is_up_at, stirs, stirs_if, tick_steps}
+use Rattle.fabric.specs.Links.{flies_from, are_plans_ended, is_up_at, stirs, stirs_if, tick_steps}
 use Rattle.fabric.specs.Links.{wire_steps}
 use Rattle.fabric.specs.Machine.{pumped_head}
 use Rattle.fabric.specs.Run.{IsStepFor, IsStepOf, IsStepped, Layout}
@@ -225,7 +225,7 @@ module _ (s : ScriptParts) (declared : IsScript s) (f : Layout) (shape : f.shape
     of_shape = there;
     flies = flies;
     lost = λ cut. rw cut refl;
-    fits = verdict_with (is_cut P l.0) (is_settled P l.0) (planned_verdicts s l from)
+    fits = verdict_with (is_cut P l.0) (are_plans_ended P l.0) (planned_verdicts s l from)
         (wire_steps P l.0 from) (plan_fits s.plans (l.0 - 1) from declared.plans);
   }
 

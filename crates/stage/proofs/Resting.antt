@@ -11,7 +11,7 @@ use Rattle.run_trunks.specs.States.{trunks_of}
 use Rattle.trunk_moves.specs.Steps.{IsBoundedTrunkRun, Rests}
 use Rattle.trunk_moves.specs.Trunks.{RunTrunks, links_of}
 use Rattle.run_settling.proofs.Settling.{runs_settle}
-use Rattle.fabric.specs.Links.{is_still}
+use Rattle.fabric.specs.Links.{no_link_stirs}
 use Rattle.fabric.specs.Remains.{IsLaidOut}
 use Rattle.fabric.specs.Run.{IsReachedBy, Layout}
 use Rattle.fabric.proofs.Reaching.{reached-run, whole-of}
@@ -27,7 +27,7 @@ by-sides shape P trunks run l of_shape (Rests.quiet is still) =
 
 pub over-rests : (f : Layout) → IsLaidOut (length f.log.names.nodes) f.shape
     → length f.log.steps ≤ 200000 → IsReachedBy f
-    → is_still f.shape f.log.steps (trunks_of f.trunks) ≡ true
+    → no_link_stirs f.shape f.log.steps (trunks_of f.trunks) ≡ true
     → AllResting f.shape f.log.steps (links_of (trunks_of f.trunks))
 over-rests f laid few reached still =
     let trunks : RunTrunks = trunks_of f.trunks in

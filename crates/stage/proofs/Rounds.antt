@@ -29,7 +29,7 @@ use Rattle.actor_run.specs.Asking.{ask_of}
 use Rattle.actor_run.specs.Following.{knows, next_ask, Follows}
 use Rattle.run_trunks.specs.States.{trunks_of}
 use Rattle.trunk_moves.specs.Trunks.{RunTrunks}
-use Rattle.fabric.specs.Links.{is_still, none_stirs, stirs}
+use Rattle.fabric.specs.Links.{no_link_stirs, none_stirs, stirs}
 use Rattle.fabric.specs.Machine.{all_have_ended, all_leave_at_rest, hands_over, have_ended}
 use Rattle.fabric.specs.Machine.{head_for, is_at_rest, pumped_head}
 use Rattle.fabric.specs.Run.{IsStepFor, Layout}
@@ -37,7 +37,8 @@ use Rattle.fabric.proofs.InVain.{LooksInVain}
 use Rattle.fabric.proofs.Resting.{ended-each}
 use Rattle.stage.specs.Plays.{AllFollow}
 use Rattle.stage.specs.Pumps.{pump_event}
-use Rattle.stage.specs.Turns.{AreTurns, IsPumpIf, IsRound, IsTurnBy, IsTurnIf}
+use Rattle.stage.specs.Turns.{AreTurns, IsPump, IsRound, IsTurn, IsTurnBy, acts_next, asks_nothing}
+use Rattle.stage.specs.Turns.{ended_before, makes_event}
 use Rattle.stage.specs.Turns.{IsTurnOf, asked_next, commands_of, is_over, makers, shape_of}
 use Rattle.stage.specs.declared.stage.Pump as pumps
 use Rattle.stage.specs.declared.stage.Turn.{Turn}
@@ -55,26 +56,24 @@ step-none f by (Some head) answer made =
     absurd (omega arith)
 
 module _ (script : ScriptParts) (old new : Layout) where
-  turn-grows-if : (ended : Bool) (k : ℕ) (turn : Turn) → IsTurnIf ended script k old new turn
+  actor-grows : (k : ℕ) (turn : Turn) → IsTurn script k old new turn
       → (new ≡ old) ⊎ (length old.log.steps < length new.log.steps)
-  turn-grows-if true k turn made = inl made.0
-  turn-grows-if false k turn made =
+  actor-grows k turn (ended_before ended same came) = inl same
+  actor-grows k turn (acts_next running made) =
       far-grows old new k (asked_next script k old) made.answer
       (done-far old new k (asked_next script k old) made.answer made.done)
 
-  pump-grows-if : (event : Option Event) (l : LinkNo) (pump : pumps.Pump)
-      → IsPumpIf event l old new pump
+  link-grows : (l : LinkNo) (pump : pumps.Pump) → IsPump script l old new pump
       → (new ≡ old) ⊎ (length old.log.steps < length new.log.steps)
-  pump-grows-if None l pump made = inl made.0
-  pump-grows-if (Some event) l pump made =
+  link-grows l pump (asks_nothing none same came) = inl same
+  link-grows l pump (makes_event event asked made) =
       step-grows old new (Pump l) (pumped_head event) made.answer made.stepped
 
   turn-grows-by : (actor : Bool) (n : ℕ) → IsTurnBy actor script n old new
       → (new ≡ old) ⊎ (length old.log.steps < length new.log.steps)
-  turn-grows-by true n made = turn-grows-if (has_ended old.log.steps n) n made.0 made.1
+  turn-grows-by true n made = actor-grows n made.0 made.1
   turn-grows-by false n made =
-      let l : LinkNo = record { 0 = n - length script.actors } in
-      pump-grows-if (pump_event script old.log.steps (trunks_of old.trunks) l) l made.0 made.1
+      link-grows (record { 0 = n - length script.actors }) made.0 made.1
 
   -- A TURN adds steps, or changes nothing
   pub turn-grows : (n : ℕ) → IsTurnOf script n old new
@@ -256,17 +255,17 @@ module _ (script : ScriptParts) (f : Layout) (shape : f.shape ≡ shape_of scrip
   trunks = trunks_of f.trunks
 
   abbrev still : Bool
-  still = is_still f.shape P trunks
+  still = no_link_stirs f.shape P trunks
 
   abbrev count : ℕ
   count = length script.actors
 
   -- a turn that an actor takes and that adds no step
-  stuck-if : (k : ℕ) → 0 < k → k ≤ count → (turn : Turn) (ended : Bool)
-      → has_ended P k ≡ ended → ended ≡ false → IsTurnIf ended script k f f turn
-      → IsStuck f.shape P still k
-  stuck-if k above within turn true is running made = absurd (true≢false running)
-  stuck-if k above within turn false is running made =
+  stuck-turn : (k : ℕ) → 0 < k → k ≤ count → (turn : Turn) → has_ended P k ≡ false
+      → IsTurn script k f f turn → IsStuck f.shape P still k
+  stuck-turn k above within turn running (ended_before ended same came) =
+      absurd (true≢false (sym ended ∙ running))
+  stuck-turn k above within turn running (acts_next so made) =
       none-stuck f.shape P still k (commands_of script k) (follows k above within)
       (handed k above within)
       (step-none f (Actor k)
@@ -276,7 +275,7 @@ module _ (script : ScriptParts) (f : Layout) (shape : f.shape ≡ shape_of scrip
   stuck-by : (k : ℕ) → 0 < k → k ≤ count → has_ended P k ≡ false → (actor : Bool)
       → actor ≡ true → IsTurnBy actor script k f f → IsStuck f.shape P still k
   stuck-by k above within running true is made =
-      stuck-if k above within made.0 (has_ended P k) refl running made.1
+      stuck-turn k above within made.0 running made.1
   stuck-by k above within running false is made = absurd (true≢false (sym is))
 
   stuck : (k : ℕ) → 0 < k → k ≤ count → has_ended P k ≡ false → IsTurnOf script k f f
@@ -285,11 +284,10 @@ module _ (script : ScriptParts) (f : Layout) (shape : f.shape ≡ shape_of scrip
       stuck-by k above within running (nat_le k count) (le-leb k count within) made
 
   -- a turn of a link that adds no step
-  calm-if : (l : LinkNo) (pump : pumps.Pump) (event : Option Event)
-      → pump_event script P trunks l ≡ event → IsPumpIf event l f f pump
-      → is_some event ≡ false
-  calm-if l pump None is made = refl
-  calm-if l pump (Some event) is made =
+  calm-turn : (l : LinkNo) (pump : pumps.Pump) → IsPump script l f f pump
+      → is_some (pump_event script P trunks l) ≡ false
+  calm-turn l pump (asks_nothing none same came) = ap is_some none
+  calm-turn l pump (makes_event event is made) =
       let heads = pump-heads script f l event is f made.answer made.stepped in
       let long : length P ≡ suc (length P) = ap length heads.1.0.steps in
       absurd (omega arith)
@@ -302,7 +300,7 @@ module _ (script : ScriptParts) (f : Layout) (shape : f.shape ≡ shape_of scrip
       let number : count + l - count ≡ l = omega arith in
       subst (λ (n : ℕ). stirs P trunks n ≡ false) number
       (sym (pump-stirs script P trunks link)
-      ∙ calm-if link made.0 (pump_event script P trunks link) refl made.1)
+      ∙ calm-turn link made.0 made.1)
 
   calm : (l : ℕ) → 0 < l → IsTurnOf script (count + l) f f → stirs P trunks l ≡ false
   calm l above made =

@@ -29,7 +29,7 @@ use Rattle.actor_run.specs.Knowing.{knows_nothing}
 use Rattle.actor_run.proofs.Others.{GoesOn}
 use Rattle.actor_run.proofs.Turns.{playing_first}
 use Rattle.fabric.specs.Actings.{OnlyRuns}
-use Rattle.fabric.specs.Links.{is_still}
+use Rattle.fabric.specs.Links.{no_link_stirs}
 use Rattle.fabric.specs.Machine.{all_have_ended, have_ended}
 use Rattle.fabric.specs.Asks.{MayAsk}
 use Rattle.fabric.specs.Machine.{pumped_head}
@@ -45,8 +45,9 @@ use Rattle.stage.specs.Plays.{AllFollow, AllFollowWhole, IsPlanned, IsSoFar}
 use Rattle.stage.specs.Pumps.{pump_event}
 use Rattle.stage.specs.Seats.{AreSeated, IsSeated, IsStaged, unstarted}
 use Rattle.stage.specs.Settlings.{Settler, if_stirs, settler_in, settler_of}
-use Rattle.stage.specs.Turns.{IsActed, IsPump, IsPumpIf, IsRound, IsTurnStopped, asked_next}
-use Rattle.stage.specs.Turns.{commands_in, commands_of, first_layout, is_over, shape_of}
+use Rattle.stage.specs.Turns.{IsActed, IsPump, IsRound, IsTurnStopped, asked_next, asks_nothing}
+use Rattle.stage.specs.Turns.{commands_in, commands_of, first_layout, is_over, makes_event}
+use Rattle.stage.specs.Turns.{shape_of}
 use Rattle.stage.proofs.Asking.{may_ask, next-handed}
 use Rattle.stage.proofs.Going.{GoesFar, done-far, half-far}
 use Rattle.stage.proofs.OneRun.{one-run}
@@ -254,11 +255,10 @@ module _ (script : ScriptParts) (old new : Layout) (players : List Player)
             seated
 
   -- of a link's pump
-  pumped-if : (o : Option Event) (l : LinkNo) (pump : pumps.Pump)
-      → pump_event script old.log.steps (trunks_of old.trunks) l ≡ o → settler_in old ≡ None
-      → IsPumpIf o l old new pump → IsStaged script new players
-  pumped-if None l pump asks calm made = staged-kept (made.0)
-  pumped-if (Some event) l pump asks calm made = record {
+  staged-turn : (l : LinkNo) (pump : pumps.Pump) → settler_in old ≡ None
+      → IsPump script l old new pump → IsStaged script new players
+  staged-turn l pump calm (asks_nothing none same came) = staged-kept same
+  staged-turn l pump calm (makes_event event asks made) = record {
     declared = staged.declared;
     shape = staged-shape;
     names = staged-names;
@@ -275,7 +275,7 @@ module _ (script : ScriptParts) (old new : Layout) (players : List Player)
   pub staged-pumped_calm : (r : Result pumps.Pump StopCause) (l : LinkNo) → settler_in old ≡ None
       → IfOk r (IsPump script l old new) → OnErr r (new ≡ old) → IsStaged script new players
   staged-pumped_calm (Ok pump) l calm made stopped =
-      pumped-if (pump_event script old.log.steps (trunks_of old.trunks) l) l pump refl calm made
+      staged-turn l pump calm made
   staged-pumped_calm (Err cause) l calm made stopped = staged-kept stopped
 
   kept-calm : settler_in old ≡ None → new ≡ old → settler_in new ≡ None
@@ -288,23 +288,23 @@ module _ (script : ScriptParts) (old new : Layout) (players : List Player)
       ap (λ (P : List Step). if_stirs new.shape new.log.steps (trunks_of new.trunks) (settler_of P))
       made.steps
 
-  calm-if : (o : Option Event) (l : LinkNo) (pump : pumps.Pump) → settler_in old ≡ None
-      → IsPumpIf o l old new pump → settler_in new ≡ None
-  calm-if None l pump calm made = kept-calm calm made.0
-  calm-if (Some event) l pump calm made =
+  calm-turn : (l : LinkNo) (pump : pumps.Pump) → settler_in old ≡ None
+      → IsPump script l old new pump → settler_in new ≡ None
+  calm-turn l pump calm (asks_nothing none same came) = kept-calm calm same
+  calm-turn l pump calm (makes_event event asks made) =
       stepped-calm l (pumped_head event) made.answer calm made.stepped
 
   pub pumped-calm : (r : Result pumps.Pump StopCause) (l : LinkNo) → settler_in old ≡ None
       → IfOk r (IsPump script l old new) → OnErr r (new ≡ old) → settler_in new ≡ None
   pumped-calm (Ok pump) l calm made stopped =
-      calm-if (pump_event script old.log.steps (trunks_of old.trunks) l) l pump calm made
+      calm-turn l pump calm made
   pumped-calm (Err cause) l calm made stopped = kept-calm calm stopped
 
   pub staged-pumped : (r : Result pumps.Pump StopCause) (l : LinkNo)
       → (is_some (settler_in old) ≡ true → IsErr r) → IfOk r (IsPump script l old new)
       → OnErr r (new ≡ old) → IsStaged script new players
   staged-pumped (Ok pump) l settling made stopped =
-      pumped-if (pump_event script old.log.steps (trunks_of old.trunks) l) l pump refl
+      staged-turn l pump
       (none-settles (settler_in old) (λ is. true≢false (sym (settling is)))) made
   staged-pumped (Err stop) l settling made stopped = staged-kept stopped
 
@@ -373,7 +373,7 @@ module _ (script : ScriptParts) (fabric : Layout) (players : List Player)
       staged.shape
       (over-rests fabric laid few reached
       (and_parts (all_have_ended fabric.shape fabric.log.steps)
-      (is_still fabric.shape fabric.log.steps (trunks_of fabric.trunks)) over).1)
+      (no_link_stirs fabric.shape fabric.log.steps (trunks_of fabric.trunks)) over).1)
 
   pub staged-moves : is_over fabric ≡ false → (next : Layout) → IsRound script fabric next
       → length fabric.log.steps < length next.log.steps
@@ -388,4 +388,4 @@ module _ (script : ScriptParts) (fabric : Layout) (players : List Player)
       (subst (λ (n : ℕ). have_ended fabric.log.steps n ≡ true)
       (ap (λ (s : Shape). length s.actors) staged.shape ∙ length-map script.actors (λ a. a.node))
       (and_parts (all_have_ended fabric.shape fabric.log.steps)
-      (is_still fabric.shape fabric.log.steps (trunks_of fabric.trunks)) over).0) above within)
+      (no_link_stirs fabric.shape fabric.log.steps (trunks_of fabric.trunks)) over).0) above within)

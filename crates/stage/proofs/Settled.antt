@@ -29,7 +29,7 @@ use Rattle.run_trunks.specs.States.{trunks_of}
 use Rattle.trunk.specs.Events.{TrunkState}
 use Rattle.trunk_moves.specs.Steps.{IsBoundedTrunkRun}
 use Rattle.fabric.specs.Actings.{OnlyRuns, asking}
-use Rattle.fabric.specs.Links.{flies_from, is_settled, is_tick, stirs, stirs_if, tick_steps}
+use Rattle.fabric.specs.Links.{flies_from, are_plans_ended, is_tick, stirs, stirs_if, tick_steps}
 use Rattle.fabric.specs.Run.{IsReachedBy, IsStepOf, IsStepped, Layout}
 use Rattle.fabric.specs.Remains.{IsLaidOut}
 use Rattle.fabric.proofs.Reaching.{reached-run, whole-of}
@@ -195,14 +195,14 @@ pub record IsUnderWay (by : By) (l : LinkNo) (start now : Layout) (ticks : ℕ) 
   pub run : IsBoundedTrunkRun now.shape now.log.steps (trunks_of now.trunks)
   pub of_shape : IsLinkOf now.shape l
   pub whole : is_cut now.log.steps l.0 ≡ false
-  pub settled : is_settled now.log.steps l.0 ≡ true
+  pub settled : are_plans_ended now.log.steps l.0 ≡ true
   pub maker : IsMaker now.shape now.log.steps by
   pub fixed : OnlyRuns start now
 
 -- it begins
 pub way-begins : RunsSettle → (by : By) (l : LinkNo) (f : Layout) → IsLinkOf f.shape l
     → IsMaker f.shape f.log.steps by → is_cut f.log.steps l.0 ≡ false
-    → is_settled f.log.steps l.0 ≡ true → IsLaidOut (length f.log.names.nodes) f.shape
+    → are_plans_ended f.log.steps l.0 ≡ true → IsLaidOut (length f.log.names.nodes) f.shape
     → length f.log.steps ≤ 200000 → IsReachedBy f → IsUnderWay by l f f 0
 way-begins law by l f of_shape maker whole settled laid few reached =
     let run : IsBoundedTrunkRun f.shape f.log.steps (trunks_of f.trunks) =
@@ -263,7 +263,7 @@ module _ (law : RunsSettle) (by : By) (l : LinkNo) (start old new : Layout) (tic
         of_shape = subst (λ (x : Shape). IsLinkOf x l) (sym same) way.of_shape;
         whole = subst (λ (Q : List Step). is_cut Q l.0 ≡ false) (sym step.steps)
             (moved-whole by l P head step.effects move way.whole);
-        settled = subst (λ (Q : List Step). is_settled Q l.0 ≡ true) (sym step.steps)
+        settled = subst (λ (Q : List Step). are_plans_ended Q l.0 ≡ true) (sym step.steps)
             (moved-settled by l P head step.effects move way.settled);
         maker = subst (λ (x : Shape). IsMaker x new.log.steps by) (sym same)
             (subst (λ (Q : List Step). IsMaker old.shape Q by) (sym step.steps)

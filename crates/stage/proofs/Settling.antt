@@ -30,7 +30,7 @@ use Rattle.script_lang.specs.Parts.{ScriptParts}
 use Rattle.trunk_moves.specs.Trunks.{RunTrunks}
 use Rattle.fabric.specs.Actings.{OnlyRuns, asking}
 use Rattle.fabric.specs.Asks.{MayAsk, may_ask}
-use Rattle.fabric.specs.Links.{is_settled, is_still, stirs}
+use Rattle.fabric.specs.Links.{are_plans_ended, no_link_stirs, stirs}
 use Rattle.fabric.specs.Machine.{granted_head, head_for}
 use Rattle.fabric.specs.Run.{IsStepFor, IsStepOf, IsStepped, Layout}
 use Rattle.stage.specs.Pumps.{event_with, flying_side, pump_event, settling_event, verdict_for}
@@ -44,7 +44,7 @@ delivering from = Deliver
 
 -- OF A SETTLED LINK that isn't cut these are the steps that its pump asks for
 module _ (script : ScriptParts) (P : List Step) (trunks : RunTrunks) (l : LinkNo)
-    (whole : is_cut P l.0 ≡ false) (settled : is_settled P l.0 ≡ true) where
+    (whole : is_cut P l.0 ≡ false) (settled : are_plans_ended P l.0 ≡ true) where
   same_event : (o : Option Side)
       → event_with (verdict_for script P l) P trunks l o ≡ event_with delivering P trunks l o
   same_event None = refl
@@ -108,7 +108,7 @@ module _ (shape : Shape) (P : List Step) (still : Bool) where
 
 -- the step of such an event
 abbrev pub still_in : Layout → Bool
-still_in f = is_still f.shape f.log.steps (trunks_of f.trunks)
+still_in f = no_link_stirs f.shape f.log.steps (trunks_of f.trunks)
 
 pub wire-made : (old new : Layout) (by : By) (l : LinkNo) (from : Side) (event : Event)
     (answer : StepAnswer) → event ≡ asks.Wire l from Deliver
@@ -174,7 +174,7 @@ move-done l P es =
 -- WHILE A LINK IS BEING SETTLED by actor k
 pub record IsUnder (k : ℕ) (l : LinkNo) (P : List Step) : Type 0 where
   pub whole : is_cut P l.0 ≡ false
-  pub settled : is_settled P l.0 ≡ true
+  pub settled : are_plans_ended P l.0 ≡ true
   pub settler : settler_of P ≡ Some (settler k l)
 
 -- a step of it is added
@@ -188,9 +188,9 @@ module _ (by : By) (l : LinkNo) (P : List Step) (head : Head) (es : List Effect)
       by-move l (λ (h : Head). cut_after l.0 (is_cut P l.0) h ≡ false) (λ from. whole)
       (λ side. whole) head move
 
-  pub moved-settled : is_settled P l.0 ≡ true → is_settled (s ∷ P) l.0 ≡ true
+  pub moved-settled : are_plans_ended P l.0 ≡ true → are_plans_ended (s ∷ P) l.0 ≡ true
   moved-settled settled =
-      by-move l (λ (h : Head). is_settled ((let x : Step =
+      by-move l (λ (h : Head). are_plans_ended ((let x : Step =
       record { by = by; head = h; effects = es } in x) ∷ P) l.0 ≡ true) (λ from. settled)
       (λ side. settled) head move
 

@@ -20,7 +20,7 @@ use Rattle.script_lang.specs.Parts.{ScriptParts}
 use Rattle.trunk_moves.specs.Trunks.{RunTrunks}
 use Rattle.fabric.specs.Actings.{OnlyRuns}
 use Rattle.fabric.specs.Asks.{MayAsk}
-use Rattle.fabric.specs.Links.{is_still, none_stirs, stirs}
+use Rattle.fabric.specs.Links.{no_link_stirs, none_stirs, stirs}
 use Rattle.fabric.specs.Machine.{all_have_ended}
 use Rattle.fabric.specs.Run.{Layout}
 use Rattle.fabric.proofs.Resting.{ended-each}
@@ -77,10 +77,10 @@ run-stopped script start before now rounds running front = record {
 -- WHERE A MAKER HAS A TURN TO TAKE not all is over
 module _ (script : ScriptParts) (f : Layout) (shape : f.shape ≡ shape_of script) where
   over_parts : is_over f ≡ true → (all_have_ended f.shape f.log.steps ≡ true)
-      × (is_still f.shape f.log.steps (trunks_of f.trunks) ≡ true)
+      × (no_link_stirs f.shape f.log.steps (trunks_of f.trunks) ≡ true)
   over_parts over =
       and_parts (all_have_ended f.shape f.log.steps)
-      (is_still f.shape f.log.steps (trunks_of f.trunks)) over
+      (no_link_stirs f.shape f.log.steps (trunks_of f.trunks)) over
 
   not_over : (is_over f ≡ true → ⊥) → is_over f ≡ false
   not_over never = go (is_over f) refl

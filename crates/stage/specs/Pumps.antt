@@ -13,7 +13,7 @@ use Rattle.link_laws.specs.Sessions.{is_cut}
 use Rattle.script_lang.specs.Parts.{ScriptParts, planned_verdicts}
 use Rattle.trunk.specs.Events.{TrunkState}
 use Rattle.trunk_moves.specs.Trunks.{RunTrunks}
-use Rattle.fabric.specs.Links.{flies_from, is_settled, is_up_at, stirs, tick_steps, wire_steps}
+use Rattle.fabric.specs.Links.{flies_from, are_plans_ended, is_up_at, stirs, tick_steps, wire_steps}
 
 -- the side whose packet comes next: the first one, where packets from both are in flight
 abbrev pub flying_side : TrunkState → Option Side
@@ -57,7 +57,7 @@ abbrev pub verdict_for : ScriptParts → List Step → LinkNo → Side → Verdi
 verdict_for script P l from =
     if is_cut P l.0
     then Lose
-    else if is_settled P l.0
+    else if are_plans_ended P l.0
     then Deliver
     else verdict_or (planned_verdicts script l from) (wire_steps P l.0 from)
 

@@ -21,7 +21,7 @@ use Rattle.trunk_moves.specs.Trunks.{RunTrunks}
 use Rattle.run_settling.specs.Resting.{IsJoined}
 use Rattle.fabric.specs.Actings.{OnlyRuns}
 use Rattle.fabric.specs.declared.stop.StepStop.{StepStop}
-use Rattle.fabric.specs.Links.{is_settled, stirs, tick_steps}
+use Rattle.fabric.specs.Links.{are_plans_ended, stirs, tick_steps}
 use Rattle.fabric.specs.Run.{IsStepped, Layout}
 use Rattle.stage.specs.declared.acting.Acted.{Acted}
 use Rattle.stage.specs.declared.acting.Acted.TheVariants.{Done, Halfway, Stopped}
@@ -75,21 +75,20 @@ pub record StopsSettling (by : By) (l : LinkNo) (old new : Layout) : Type 0 wher
 
 -- ---- within an actor's turn
 
--- by whether the link is cut: a cut link isn't settled
-abbrev pub SettlesIf : Bool → ℕ → LinkNo → Layout → Layout → Type 0
-SettlesIf true k l between new = new ≡ between
-SettlesIf false k l between new = (ticks : ℕ) × IsSettled (Actor k) l ticks between new
-
 -- the link that an event settles
 abbrev pub settled_by : Event → Option LinkNo
 settled_by (asks.Settle l) = Some l
 settled_by _ = None
 
--- what an actor does after a step that settles this link, in the same turn: it settles the link,
--- if that isn't cut, and does nothing after any other step
-abbrev pub GoesOnAfter : Option LinkNo → ℕ → Layout → Layout → Type 0
-GoesOnAfter None k between new = new ≡ between
-GoesOnAfter (Some l) k between new = SettlesIf (is_cut between.log.steps l.0) k l between new
+-- what an actor does after its step, in the same turn: nothing where the step settles no link, or
+-- one that is cut; else it settles the link
+pub data GoesOnAfter (settled : Option LinkNo) (k : ℕ) (between new : Layout) : Type 0 where
+  settles_none : settled ≡ None → new ≡ between → GoesOnAfter settled k between new
+  leaves_cut : (l : LinkNo) → settled ≡ Some l → is_cut between.log.steps l.0 ≡ true
+      → new ≡ between → GoesOnAfter settled k between new
+  settles_whole : (l : LinkNo) → settled ≡ Some l → is_cut between.log.steps l.0 ≡ false
+      → (ticks : ℕ) → IsSettled (Actor k) l ticks between new
+      → GoesOnAfter settled k between new
 
 -- that stopped
 pub record StopsAfter (settled : Option LinkNo) (k : ℕ) (between new : Layout) : Type 0 where
@@ -102,7 +101,7 @@ pub record StopsAfter (settled : Option LinkNo) (k : ℕ) (between new : Layout)
 pub record MaySettleNow (l : LinkNo) (k : ℕ) (f : Layout) : Type 0 where
   pub declared : IsLinkOf f.shape l
   pub maker : IsMaker f.shape f.log.steps (Actor k)
-  pub settled : is_settled f.log.steps l.0 ≡ true
+  pub settled : are_plans_ended f.log.steps l.0 ≡ true
 
 abbrev pub MayGoOn : Option LinkNo → ℕ → Layout → Type 0
 MayGoOn None k f = Unit {0}

@@ -19,7 +19,7 @@ use Rattle.actor_run.specs.Following.{next_ask}
 use Rattle.run_trunks.specs.States.{new_trunks, trunks_of}
 use Rattle.fabric.specs.declared.stop.StopCause.{StopCause}
 use Rattle.fabric.specs.Actings.{OnlyRuns}
-use Rattle.fabric.specs.Links.{is_still}
+use Rattle.fabric.specs.Links.{no_link_stirs}
 use Rattle.fabric.specs.Machine.{all_have_ended}
 use Rattle.fabric.specs.Run.{IsStepped, Layout}
 use Rattle.stage.specs.declared.acting.Acted.{Acted}
@@ -87,14 +87,12 @@ IsDueForActor f k = (has_ended f.log.steps k ≡ false) ⊎ (is_some (settler_in
 abbrev pub IsFullForActor : Layout → ℕ → Type 0
 IsFullForActor f k = (is_full f.log.steps ≡ true) × IsDueForActor f k
 
--- a turn of an actor, by whether it had ended
-abbrev pub IsTurnIf : Bool → ScriptParts → ℕ → Layout → Layout → Turn → Type 0
-IsTurnIf true script k old new turn = (new ≡ old) × (turn ≡ Ended)
-IsTurnIf false script k old new turn = IsActed script k old new turn
-
--- A TURN of actor k, which makes what its script asks for next, unless it had ended
-abbrev pub IsTurn : ScriptParts → ℕ → Layout → Layout → Turn → Type 0
-IsTurn script k old new turn = IsTurnIf (has_ended old.log.steps k) script k old new turn
+-- A TURN of actor k: it had ended and does nothing, or makes what its script asks for next
+pub data IsTurn (script : ScriptParts) (k : ℕ) (old new : Layout) (turn : Turn) : Type 0 where
+  ended_before : has_ended old.log.steps k ≡ true → new ≡ old → turn ≡ Ended
+      → IsTurn script k old new turn
+  acts_next : has_ended old.log.steps k ≡ false → IsActed script k old new turn
+      → IsTurn script k old new turn
 
 -- ---- a turn of a link
 
@@ -114,15 +112,14 @@ IsDueForLink f l = (stirs_in f l ≡ true) ⊎ (is_some (settler_in f) ≡ true)
 abbrev pub IsFullForLink : Layout → LinkNo → Type 0
 IsFullForLink f l = (is_full f.log.steps ≡ true) × IsDueForLink f l
 
--- a turn of a link, by what its pump asks for
-abbrev pub IsPumpIf : Option Event → LinkNo → Layout → Layout → pumps.Pump → Type 0
-IsPumpIf None l old new pump = (new ≡ old) × (pump ≡ pumped.NoWork)
-IsPumpIf (Some event) l old new pump = IsPumped l event old new pump
-
--- A TURN of a link, whose pump makes what it asks for, if it asks for anything
-abbrev pub IsPump : ScriptParts → LinkNo → Layout → Layout → pumps.Pump → Type 0
-IsPump script l old new pump =
-    IsPumpIf (pump_event script old.log.steps (trunks_of old.trunks) l) l old new pump
+-- A TURN of a link: its pump asks for nothing and does nothing, or makes the event that it asks for
+pub data IsPump (script : ScriptParts) (l : LinkNo) (old new : Layout) (pump : pumps.Pump)
+    : Type 0 where
+  asks_nothing : pump_event script old.log.steps (trunks_of old.trunks) l ≡ None → new ≡ old
+      → pump ≡ pumped.NoWork → IsPump script l old new pump
+  makes_event : (event : Event)
+      → pump_event script old.log.steps (trunks_of old.trunks) l ≡ Some event
+      → IsPumped l event old new pump → IsPump script l old new pump
 
 -- ---- rounds
 
@@ -166,7 +163,7 @@ IsRound script old new = AreTurns script (makers script) old new
 
 -- all is over: every actor has ended, and no link stirs
 abbrev pub is_over : Layout → Bool
-is_over f = all_have_ended f.shape f.log.steps && is_still f.shape f.log.steps (trunks_of f.trunks)
+is_over f = all_have_ended f.shape f.log.steps && no_link_stirs f.shape f.log.steps (trunks_of f.trunks)
 
 -- so many rounds, none of them after all was over
 abbrev pub AreRounds : ScriptParts → ℕ → Layout → Layout → Type 0

@@ -11,7 +11,7 @@ ghost use Rattle.link_laws.specs.Sessions.{is_cut};
 ghost use Rattle.run_trunks.specs.States.{trunks_of};
 ghost use Rattle.fabric.specs.Actings.{OnlyRuns};
 ghost use Rattle.fabric.specs.Asks.{MayAsk};
-ghost use Rattle.fabric.specs.Links.{is_settled};
+ghost use Rattle.fabric.specs.Links.{are_plans_ended};
 ghost use Rattle.fabric.specs.Run.{IsStepped};
 ghost use Rattle.stage.specs.Settlings.{GoesOnAfter, IsActedAs, IsSettled, MayGoOn, MaySettle};
 ghost use Rattle.stage.specs.Settlings.{StopsAfter, StopsSettling, if_stirs, settled_by};
@@ -122,7 +122,7 @@ pub fn settle(fabric: &mut Fabric, by: By, link: LinkNo) -> Result<u32, StopCaus
     requires maker { IsMaker fabric.old.shape fabric.old.log.steps by }
     requires may { MaySettle by link }
     requires whole { is_cut fabric.old.log.steps link.0 ≡ false }
-    requires settled { is_settled fabric.old.log.steps link.0 ≡ true }
+    requires settled { are_plans_ended fabric.old.log.steps link.0 ≡ true }
     ensures ok { IfOk result (λ ticks. IsSettled by link ticks fabric.old fabric.new) }
     ensures err { OnErr result (StopsSettling by link fabric.old fabric.new) }
     ensures cause { IfErr result (λ cause. IsCauseOf cause fabric.new.log.steps) }

@@ -132,7 +132,7 @@ fn verdict_for(fabric: &Fabric, script: &Script, link: LinkNo, from: Side) -> Ve
     if fabric.is_cut(link) {
         return Verdict::Lose;
     }
-    if fabric.is_settled(link) {
+    if fabric.are_plans_ended(link) {
         return Verdict::Deliver;
     }
     // each link of a script has a name, so that the script declares this one

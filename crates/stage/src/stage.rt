@@ -8,7 +8,7 @@ ghost use Rattle.link_laws.specs.Moves.{AllResting};
 ghost use Rattle.link_laws.specs.Still.{IsOver};
 ghost use Rattle.run_trunks.specs.States.{trunks_of};
 ghost use Rattle.trunk_moves.specs.Trunks.{links_of};
-ghost use Rattle.fabric.specs.Links.{is_still};
+ghost use Rattle.fabric.specs.Links.{no_link_stirs};
 ghost use Rattle.fabric.specs.Machine.{is_at_rest};
 ghost use Rattle.fabric.specs.Run.{Layout};
 ghost use Rattle.stage.specs.Plays.{AllFollowWhole, IsSoFar};
@@ -215,11 +215,11 @@ impl Stage {
         requires within { actor ≤ length self.now.script.actors }
         ensures { result ≡ true → (is_idle self.now.run.log.steps actor
             && not (is_at_rest self.now.run.shape self.now.run.log.steps actor
-            && is_still self.now.run.shape self.now.run.log.steps
+            && no_link_stirs self.now.run.shape self.now.run.log.steps
             (trunks_of self.now.run.trunks))) ≡ true }
     {
         let _ = &self.players;
-        self.fabric.is_known_idle(actor) && !self.fabric.is_rest(actor)
+        self.fabric.is_known_idle(actor) && !self.fabric.may_find_none(actor)
     }
 
     /// The place of the first actor, from this one on, that hasn't ended.

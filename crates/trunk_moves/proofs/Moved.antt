@@ -46,7 +46,7 @@ use Rattle.trunk.specs.Events.{sent_at}
 use Rattle.trunk.specs.Keeping.{KeepsTrunk}
 use Rattle.trunk.specs.Tells.{noted_of, silent_of}
 use Rattle.trunk.proofs.Events.{events_keep}
-use Rattle.trunk_moves.specs.Steps.{AsksThere, Hunts, Sends, SendsThere, trunks_ending}
+use Rattle.trunk_moves.specs.Steps.{AsksThere, HuntMakes, SendMakes, SendsThere, trunks_ending}
 use Rattle.trunk_moves.specs.Steps.{trunks_opening, trunks_restarting}
 use Rattle.trunk_moves.specs.Trunks.{AllKept, AllUseUpTo, Become, RunTrunks, UsesUpTo, links_of}
 use Rattle.trunk_moves.specs.Trunks.{state_of}
@@ -280,7 +280,7 @@ module _ (shape : Shape) (P : List Step) (before after : RunTrunks) (known : IsK
 
     sending : (by : By) (me : Option Inc) → endpoint_by P by ≡ me → (q : Peer) (note : SigNote)
         (answer : SentTo) → KeepsSends P (node_by shape by) (Send q note answer)
-        → Sends shape P before after (node_by shape by) me q note answer → (es : List Effect)
+        → SendMakes shape P before after (node_by shape by) me q note answer → (es : List Effect)
         → IsMoved shape P before after (node_by shape by) me (Send q note answer) es
     sending by None mine q note answer law made es = record {
       moves = all_left shape before after made;
@@ -312,7 +312,7 @@ module _ (shape : Shape) (P : List Step) (before after : RunTrunks) (known : IsK
 
     pub sending_moved : (by : By) (q : Peer) (note : SigNote) (answer : SentTo)
         → KeepsSends P (node_by shape by) (Send q note answer)
-        → Sends shape P before after (node_by shape by) (endpoint_by P by) q note answer
+        → SendMakes shape P before after (node_by shape by) (endpoint_by P by) q note answer
         → (es : List Effect)
         → IsMoved shape P before after (node_by shape by) (endpoint_by P by) (Send q note answer) es
     sending_moved by q note answer law made es =
@@ -360,7 +360,7 @@ module _ (shape : Shape) (P : List Step) (before after : RunTrunks) (known : IsK
       used : AllUseUpTo shape (suc (length P)) after
 
     hunting : (n : ℕ) (path : Path) → IsTrue (is_name (name_of_path path))
-        → (found : Option Peer) → Hunts shape before after n path found → IsHunted n path found
+        → (found : Option Peer) → HuntMakes shape before after n path found → IsHunted n path found
     hunting n (Local v) named found made = record {
       moves = all_left shape before after made;
       kept = stay_kept made;
@@ -378,7 +378,7 @@ module _ (shape : Shape) (P : List Step) (before after : RunTrunks) (known : IsK
     }
 
     pub hunting_moved : (n : ℕ) (me : Option Inc) (path : Path) (note : SigNote)
-        → IsBounded (Hunt path note) → Hunts shape before after n path (find P n path)
+        → IsBounded (Hunt path note) → HuntMakes shape before after n path (find P n path)
         → (es : List Effect) → IsMoved shape P before after n me (Hunt path note) es
     hunting_moved n me path note bounded made es =
         let it = hunting n path bounded.0 (find P n path) made in

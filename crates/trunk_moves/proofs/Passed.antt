@@ -45,7 +45,7 @@ use Rattle.trunk.proofs.Trunks.{events_tell}
 use Rattle.trunk_moves.specs.Grants.{AreNames}
 use Rattle.trunk_moves.specs.Packets.{Comes, IsBeat, IsLostThere, IsSwapped, Meets, answered}
 use Rattle.trunk_moves.specs.Packets.{asks_for, names_hunted, place_of, publishes_if}
-use Rattle.trunk_moves.specs.Steps.{FindsNone, Passes, Rests, Ticks}
+use Rattle.trunk_moves.specs.Steps.{NoneMakes, PacketMakes, Rests, TickMakes}
 use Rattle.trunk_moves.specs.Trunks.{Become, RunTrunks, UsesUpTo, links_of, state_of, with_trunk}
 use Rattle.trunk_moves.proofs.Calls.{left_itself, left_of, other_left}
 use Rattle.trunk_moves.proofs.Facts.{IsKnown, hunted_named, open_may}
@@ -360,7 +360,7 @@ module _ (shape : Shape) (P : List Step) (before after : RunTrunks) (known : IsK
 module _ (shape : Shape) (P : List Step) (before after : RunTrunks) (known : IsKnown shape P before)
     (n : ℕ) (me : Option Inc) where
   pub passing_moved : (l : LinkNo) (from : Side) (verdict : Verdict) (es : List Effect)
-      → Passes shape P before after l from verdict es
+      → PacketMakes shape P before after l from verdict es
       → IsMoved shape P before after n me (Wire l from verdict) es
   passing_moved l from verdict es passes = by_verdict verdict passes.cuts passes.meets
     where
@@ -396,7 +396,7 @@ module _ (shape : Shape) (P : List Step) (before after : RunTrunks) (known : IsK
           passes.trunk passes.makes from k es passes.flies meets)
 
   pub ticking_moved : (l : LinkNo) (side : Side) (es : List Effect)
-      → Ticks shape P before after l side es → IsMoved shape P before after n me (Tick l side) es
+      → TickMakes shape P before after l side es → IsMoved shape P before after n me (Tick l side) es
   ticking_moved l side es made =
       let it = beat_ticks shape P before after known l made.of_shape made.trunk made.makes side es
       made.beat in
@@ -414,7 +414,7 @@ module _ (shape : Shape) (P : List Step) (before after : RunTrunks) (known : IsK
   rests l of_shape (Rests.quiet is still) =
       IsResting.quiet is (quiet (before l.0) (known.kept l of_shape) still)
 
-  pub finding_moved : (filter : Sigsel) (es : List Effect) → FindsNone shape P before after
+  pub finding_moved : (filter : Sigsel) (es : List Effect) → NoneMakes shape P before after
       → IsMoved shape P before after n me (TakeNone filter) es
   finding_moved filter es finds = record {
     moves = record {

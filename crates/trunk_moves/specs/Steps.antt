@@ -57,11 +57,11 @@ pub record SendsThere (shape : Shape) (P : List Step) (before after : RunTrunks)
       (with_trunk before l.0 (sent_at at j (name_of P j) b note (before l.0)))
 
 -- any other send leaves all trunks
-abbrev pub Sends : Shape → List Step → RunTrunks → RunTrunks → ℕ → Option Inc → Peer → SigNote
+abbrev pub SendMakes : Shape → List Step → RunTrunks → RunTrunks → ℕ → Option Inc → Peer → SigNote
     → SentTo → Type 0
-Sends shape P before after n (Some j) (There l x b) note Link =
+SendMakes shape P before after n (Some j) (There l x b) note Link =
     SendsThere shape P before after n j l b note
-Sends shape P before after n me q note answer = Become shape after before
+SendMakes shape P before after n me q note answer = Become shape after before
 
 -- A HUNT OVER A LINK of the node, for a name, that finds nothing: the node's side asks for the name
 pub record AsksThere (shape : Shape) (before after : RunTrunks) (n : ℕ) (l : LinkNo) (v : List ℕ)
@@ -72,12 +72,12 @@ pub record AsksThere (shape : Shape) (before after : RunTrunks) (n : ℕ) (l : L
   pub makes : Become shape after (with_trunk before l.0 (asked_at at v (before l.0)))
 
 -- any other hunt leaves all trunks
-abbrev pub Hunts : Shape → RunTrunks → RunTrunks → ℕ → Path → Option Peer → Type 0
-Hunts shape before after n (Over l v) None = AsksThere shape before after n l v
-Hunts shape before after n path found = Become shape after before
+abbrev pub HuntMakes : Shape → RunTrunks → RunTrunks → ℕ → Path → Option Peer → Type 0
+HuntMakes shape before after n (Over l v) None = AsksThere shape before after n l v
+HuntMakes shape before after n path found = Become shape after before
 
 -- A PACKET that is in flight meets a verdict, which is to lose it while the link is cut
-pub record Passes (shape : Shape) (P : List Step) (before after : RunTrunks) (l : LinkNo)
+pub record PacketMakes (shape : Shape) (P : List Step) (before after : RunTrunks) (l : LinkNo)
     (from : Side) (verdict : Verdict) (es : List Effect) : Type 0 where
   pub of_shape : IsLinkOf shape l
   pub flies : 0 < length (flight_from from (before l.0).link)
@@ -87,7 +87,7 @@ pub record Passes (shape : Shape) (P : List Step) (before after : RunTrunks) (l 
   pub makes : Become shape after (with_trunk before l.0 trunk)
 
 -- A TICK of a side
-pub record Ticks (shape : Shape) (P : List Step) (before after : RunTrunks) (l : LinkNo)
+pub record TickMakes (shape : Shape) (P : List Step) (before after : RunTrunks) (l : LinkNo)
     (side : Side) (es : List Effect) : Type 0 where
   pub of_shape : IsLinkOf shape l
   pub trunk : TrunkState
@@ -101,7 +101,7 @@ pub data Rests (P : List Step) (l : LinkNo) (t : TrunkState) : Type 0 where
   quiet : is_cut P l.0 ≡ false → is_quiet t.link ≡ true → Rests P l t
 
 -- A RECEIVE that finds none, while all links rest, leaves all trunks
-pub record FindsNone (shape : Shape) (P : List Step) (before after : RunTrunks) : Type 0 where
+pub record NoneMakes (shape : Shape) (P : List Step) (before after : RunTrunks) : Type 0 where
   pub resting : (l : LinkNo) → IsLinkOf shape l → Rests P l (before l.0)
   pub makes : Become shape after before
 
@@ -113,15 +113,15 @@ Makes shape P before after n me (Open name) es =
     Become shape after (trunks_opening shape n (next_inc n (opened_on P n)) name before)
 Makes shape P before after n me Close es = Become shape after (trunks_ending shape n me before)
 Makes shape P before after n me (Send q note answer) es =
-    Sends shape P before after n me q note answer
-Makes shape P before after n me (TakeNone filter) es = FindsNone shape P before after
+    SendMakes shape P before after n me q note answer
+Makes shape P before after n me (TakeNone filter) es = NoneMakes shape P before after
 Makes shape P before after n me (Hunt path note) es =
-    Hunts shape before after n path (find P n path)
+    HuntMakes shape before after n path (find P n path)
 Makes shape P before after n me (Restart k) es =
     Become shape after (trunks_restarting shape P k.0 before)
 Makes shape P before after n me (Wire l from verdict) es =
-    Passes shape P before after l from verdict es
-Makes shape P before after n me (Tick l side) es = Ticks shape P before after l side es
+    PacketMakes shape P before after l from verdict es
+Makes shape P before after n me (Tick l side) es = TickMakes shape P before after l side es
 Makes shape P before after n me Ended es = Become shape after (trunks_ending shape n me before)
 Makes shape P before after n me head es = Become shape after before
 

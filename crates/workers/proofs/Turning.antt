@@ -26,7 +26,7 @@ use Rattle.turn_lock.specs.Passes.{PassView}
 use Rattle.turn_lock.specs.Stories.{IsAddedBy, RestsFor}
 use Rattle.fabric.specs.Actings.{OnlyRuns}
 use Rattle.fabric.specs.Asks.{MayAsk}
-use Rattle.fabric.specs.Links.{is_still}
+use Rattle.fabric.specs.Links.{no_link_stirs}
 use Rattle.fabric.specs.Run.{IsReached, IsReachedBy, IsStepFor, IsStepOf, IsStepped, Layout}
 use Rattle.linx_api.specs.Telling.{PlanParts, made_steps, maker_number, numbered, plan_of, story_of}
 use Rattle.stage.specs.declared.acting.Acted.{Acted}
@@ -37,7 +37,7 @@ use Rattle.stage.specs.Plays.{IsInTurn, IsPlannedHead}
 use Rattle.stage.specs.Pumps.{pump_event}
 use Rattle.stage.specs.Settlings.{AreSettlings, IsActedAs, Settler, settler, settler_in}
 use Rattle.stage.specs.Settlings.{settler_now}
-use Rattle.stage.specs.Turns.{IsPump, IsPumpIf, commands_of, shape_of}
+use Rattle.stage.specs.Turns.{IsPump, asks_nothing, commands_of, makes_event, shape_of}
 use Rattle.stage.proofs.Going.{GoesFar, begun-under, done-far, half-far, settle-made}
 use Rattle.stage.proofs.Going.{settles-there}
 use Rattle.stage.proofs.Makings.{head-unpumped}
@@ -112,7 +112,7 @@ module _ (script : ScriptParts) (one-state : IsOneState script) (n : ℕ) where
         (λ head it.
         let unpumped : is_pumped head ≡ false =
         head-unpumped old.shape old.log.steps
-        (is_still old.shape old.log.steps (trunks_of old.trunks)) k (commands_of script k) head
+        (no_link_stirs old.shape old.log.steps (trunks_of old.trunks)) k (commands_of script k) head
         it in
         record {
           planned = unpumped-planned script old.log.steps (trunks_of old.trunks) head unpumped;
@@ -213,14 +213,10 @@ module _ (script : ScriptParts) (one-state : IsOneState script) (n : ℕ) where
   -- A PUMP'S TURN
   pub known-pump : (old new : Layout) → settler_in old ≡ None → IsKnown old → OnlyRuns old new
       → (l : LinkNo) (pump : pumps.Pump) → IsPump script l old new pump → IsKnown new
-  known-pump old new calm known fixed l pump turn =
-      go (pump_event script old.log.steps (trunks_of old.trunks) l) refl turn
-    where
-      go : (o : Option Event) → pump_event script old.log.steps (trunks_of old.trunks) l ≡ o
-          → IsPumpIf o l old new pump → IsKnown new
-      go None is idle = subst IsKnown (sym idle.0) known
-      go (Some event) is pumped =
-          known-pumped old new fixed calm known l event is pumped.answer pumped.stepped
+  known-pump old new calm known fixed l pump (asks_nothing none same came) =
+      subst IsKnown (sym same) known
+  known-pump old new calm known fixed l pump (makes_event event is pumped) =
+      known-pumped old new fixed calm known l event is pumped.answer pumped.stepped
 
 -- ---- they are its maker's
 
@@ -288,14 +284,10 @@ pub added-pump : (script : ScriptParts) (old new : Layout) → OnlyRuns old new 
     (n : ℕ) → maker_number old.shape (Pump l) ≡ n → (pump : pumps.Pump)
     → IsPump script l old new pump
     → IsAddedBy n (story_of new) (story_of old)
-added-pump script old new fixed l n number pump turn =
-    go (pump_event script old.log.steps (trunks_of old.trunks) l) turn
-  where
-    go : (o : Option Event) → IsPumpIf o l old new pump
-        → IsAddedBy n (story_of new) (story_of old)
-    go None idle = added-none n old new idle.0
-    go (Some event) pumped =
-        added-step n old new fixed (Pump l) number _ pumped.answer pumped.stepped
+added-pump script old new fixed l n number pump (asks_nothing none same came) =
+    added-none n old new same
+added-pump script old new fixed l n number pump (makes_event event asks pumped) =
+    added-step n old new fixed (Pump l) number _ pumped.answer pumped.stepped
 
 -- ---- what a worker knows
 

@@ -102,7 +102,7 @@ fn rings_after_end(mut rings: Rings, fabric: &Fabric, links: u32) -> Rings
         return Rings::all();
     };
     call_pumps(&mut rings, fabric, links);
-    if fabric.is_rest(first) {
+    if fabric.may_find_none(first) {
         rings.call(first);
     }
     rings
@@ -133,7 +133,7 @@ pub(crate) fn first_running(fabric: &Fabric) -> Option<u32>
 /// Calls the first actor that hasn't ended, if it is at rest: no other one can be.
 fn call_first_at_rest(rings: &mut Rings, fabric: &Fabric) {
     if let Some(first) = first_running(fabric) {
-        if fabric.is_rest(first) {
+        if fabric.may_find_none(first) {
             rings.call(first);
         }
     }

@@ -6,4 +6,4 @@ use Rattle.fabric.proofs.fabric.Fabric.is_over.Goals as goal
 pub returns-clause-over : goal.returns-clause-over
 returns-clause-over c still =
     all-over _ _ (at-value c.self.invariant.0 c.self.view_is)
-    (rw (sym c.have_ended.ensures ∙ c.if-not-have_ended.false) (sym c.is_still.ensures ∙ still))
+    (rw (sym c.have_ended.ensures ∙ c.if-not-have_ended.false) (sym c.no_link_stirs.ensures ∙ still))

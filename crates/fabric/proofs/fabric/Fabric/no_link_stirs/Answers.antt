@@ -6,7 +6,7 @@ use Rattle.run_trunks.specs.States.{trunks_of}
 use Rattle.trunk_moves.specs.Trunks.{RunTrunks}
 use Rattle.fabric.specs.Links.{none_stirs, stirs}
 use Rattle.fabric.proofs.Counting.{fails-on}
-use Rattle.fabric.proofs.fabric.Fabric.is_still.Goals as goal
+use Rattle.fabric.proofs.fabric.Fabric.no_link_stirs.Goals as goal
 
 pub returns-then-stirs : goal.returns-then-stirs
 returns-then-stirs c =
