@@ -62,6 +62,7 @@ handed_as mine src WentUp = handed.WentUp mine src
 handed_as mine src WentDown = handed.WentDown mine
 handed_as mine src (Got m) = handed.Got m
 
+-- what a tick tells, with the session that went down
 abbrev pub ticked_as : Session → Ticked → TickedSide
 ticked_as mine ticks.Stays = ticked.Stays
 ticked_as mine ticks.WentDown = ticked.WentDown mine
@@ -105,6 +106,7 @@ near_took v k keep None = v
 near_took v k keep (Some p) =
     near_received (record v { back = left_after keep k v.back }) (input_of v.first.end p)
 
+-- the packet at place k of those on their way back comes to the first side
 abbrev pub near_delivered : LinkState → ℕ → Bool → LinkState
 near_delivered v k keep = near_took v k keep (slice_get v.back k)
 
@@ -117,6 +119,7 @@ near_handed v (Some p) = handed_as v.first.end.talk.mine p.src (input_of v.first
 abbrev pub near_beat : LinkState → Reaction Ticked → LinkState
 near_beat v r = near_changed v (recorded_tick v.first (drained r.state) r.answer) r.state.out
 
+-- what the link is then: the end is ticked, and its packets fly
 abbrev pub near_ticked : LinkState → LinkState
 near_ticked v = near_beat v (tick_of v.first.end)
 
@@ -124,6 +127,7 @@ near_ticked v = near_beat v (tick_of v.first.end)
 abbrev pub near_sent : LinkState → EndState → Message → LinkState
 near_sent v s m = near_changed v (with_offered v.first (drained s) m) s.out
 
+-- what the link is then: the end takes the message, and its packets fly
 abbrev pub near_offered : LinkState → Message → LinkState
 near_offered v m = near_sent v (offer_of v.first.end m) m
 
@@ -157,6 +161,7 @@ half_of side v = (seen_from side v).first
 abbrev pub HasNextAt : Side → LinkState → Type 0
 HasNextAt side v = HasNext (half_of side v).end.talk.mine
 
+-- the packets in flight from a side, the oldest first
 abbrev pub flight_from : Side → LinkState → List Packet
 flight_from side v = (seen_from side v).there
 

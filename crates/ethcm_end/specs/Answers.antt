@@ -46,5 +46,6 @@ pub record AnswersExactly (s : EndState) (p : Packet) : Type 0 where
       ↔ (IsGreater s p ⊎ (IsReset s p ⊎ TakesTo s p Broken))
   pub got : (m : Message) → ((input_of s p).answer ≡ Got m) ↔ TakesTo s p (Whole m)
 
+-- of every end and every packet
 abbrev pub InputAnswersExactly : Type 0
 InputAnswersExactly = (s : EndState) (p : Packet) → AnswersExactly s p

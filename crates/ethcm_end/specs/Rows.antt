@@ -154,14 +154,16 @@ pub record OfferRules (P : EndState → Type 0) (s : EndState) (m : Message) : T
       → (let tx : Sender = with_frames s.tx (pieces_of m s.piece) in
       P (put_pieces (record s { tx = tx }) peer (coming_in s.tx tx)))
 
--- what a packet, a tick and an offered message make of an end is what their rules say
+-- what a packet makes of an end is what its rules say
 abbrev pub InputFollowsRules : Type 0
 InputFollowsRules =
     (s : EndState) (p : Packet) → PacketRules (λ reaction. input_of s p ≡ reaction) s p
 
+-- what a tick makes of an end is what its rules say
 abbrev pub TickFollowsRules : Type 0
 TickFollowsRules = (s : EndState) → TickRules (λ reaction. tick_of s ≡ reaction) s
 
+-- what an offered message makes of an end is what its rules say
 abbrev pub OfferFollowsRules : Type 0
 OfferFollowsRules =
     (s : EndState) (m : Message) → OfferRules (λ state. offer_of s m ≡ state) s m

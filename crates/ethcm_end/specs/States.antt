@@ -55,5 +55,6 @@ pub record Reaction (A : Type 0) : Type 0 where
   pub state : EndState
   pub answer : A
 
+-- the reaction with this state and this answer
 abbrev pub gives : {A : Type 0} → EndState → A → Reaction A
 gives state answer = record { state = state; answer = answer }

@@ -32,6 +32,7 @@ layout_of (Nack next count) = layouts.Nack
 layout_of (First next seq more from to size) = layouts.First
 layout_of (Next next seq more) = layouts.Next
 
+-- the bytes that a chain takes
 abbrev pub length_of : Chain → ℕ
 length_of chain = layout_length (layout_of chain)
 
@@ -64,6 +65,7 @@ chain_bytes length src dst (First next seq more from to size) =
 chain_bytes length src dst (Next next seq more) =
     (main_header 5 length src dst ++ ack_header 4 next) ++ frag_header more seq
 
+-- the bytes of headers: those of their chain, between their sessions
 abbrev pub header_bytes : ℕ → Headers → List ℕ
 header_bytes length headers = chain_bytes length headers.src headers.dst headers.chain
 
@@ -123,6 +125,7 @@ headers_of bytes (Some chain) =
     Some (record { src = number_at 8 4 bytes; dst = number_at 8 12 bytes; chain = chain })
 headers_of bytes None = None
 
+-- the headers at the front of a packet; none where it has no whole chain of the protocol
 unfoldable pub headers_at : List ℕ → Option Headers
 headers_at bytes = (if nat_lt (length bytes) 24 then None else headers_of bytes (chain_at bytes))
 

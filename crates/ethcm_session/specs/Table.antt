@@ -43,6 +43,7 @@ pub record Outcome : Type 0 where
   pub change : Change
   pub state : TalkState
 
+-- the outcome with this change and this state
 abbrev pub gives : Change → TalkState → Outcome
 gives change state = record { change = change; state = state }
 
@@ -74,6 +75,7 @@ abbrev pub outcome_in : Standing → TalkState → Session → ℕ → Option Co
 outcome_in Connecting s src dst kind = while_connecting s src kind (dst == s.mine.0)
 outcome_in (Up peer confirmed) s src dst kind = while_up s peer src kind (dst == s.mine.0)
 
+-- what it means in the present standing
 abbrev pub outcome_of : TalkState → Session → ℕ → Option ConnKind → Outcome
 outcome_of s src dst kind = outcome_in s.standing s src dst kind
 

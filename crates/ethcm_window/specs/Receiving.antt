@@ -49,10 +49,11 @@ keeps_number n kept = list_any (has_number n) kept
 abbrev pub kept_at : ℕ → List SentFrame → Option Frame
 kept_at n kept = option_map (λ s. s.frame) (find (has_number n) kept)
 
--- the kept frames below a number, and above it
+-- the kept frames below a number
 abbrev pub kept_below : ℕ → List SentFrame → List SentFrame
 kept_below n kept = filter (λ s. nat_lt s.number n) kept
 
+-- the kept frames above a number
 abbrev pub kept_above : ℕ → List SentFrame → List SentFrame
 kept_above n kept = filter (λ s. nat_lt n s.number) kept
 

@@ -120,6 +120,7 @@ abbrev pub name_or_none : Option (List ℕ) → List ℕ
 name_or_none None = []
 name_or_none (Some name) = name
 
+-- the name that an incarnation was opened with; no bytes for what was never opened
 abbrev pub name_of : List Step → Inc → List ℕ
 name_of P i = name_or_none (opening_name P i)
 

@@ -20,6 +20,7 @@ abbrev pub number_or_0 : Option NodeNo → ℕ
 number_or_0 None = 0
 number_or_0 (Some n) = n.0
 
+-- the number of the node that a maker acts on
 abbrev pub node_by : Shape → By → ℕ
 node_by shape (Pump link) = 0
 node_by shape (Actor k) = number_or_0 (node_of_actor shape k)

@@ -45,10 +45,11 @@ abbrev pub nth_name : List (List ℕ) → ℕ → Option (List ℕ)
 nth_name names zero = None
 nth_name names (suc k) = slice_get names k
 
--- a node, or a link, by its name
+-- a node by its name
 unfoldable pub node_text : Names → ℕ → List ℕ
 node_text names node = name_or_mark (nth_name names.nodes node)
 
+-- a link by its name
 unfoldable pub link_text : Names → ℕ → List ℕ
 link_text names link = name_or_mark (nth_name names.links link)
 

@@ -49,6 +49,7 @@ pub record FitsBoth (P : List Step) (n : ℕ) (l : LinkNo) (A B : SideRecord) : 
   pub side : FitsSide P n l A
   pub node : FitsNext P n l A B
 
+-- on each side of each link of a run within its bounds
 abbrev pub RunsFit : Type 0
 RunsFit = (shape : Shape) (P : List Step) (links : Links) → IsBoundedRun shape P links
     → (l : LinkNo) → IsLinkOf shape l → (side : Side)

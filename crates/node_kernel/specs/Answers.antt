@@ -59,6 +59,7 @@ is_pump_event (asks.Wire link from verdict) = true
 is_pump_event (asks.Tick link side) = true
 is_pump_event _ = false
 
+-- the head is of such a step
 abbrev pub is_pumped : Head → Bool
 is_pumped head = is_pump_event (event_of head)
 
@@ -72,6 +73,7 @@ abbrev pub is_waits : Head → Bool
 is_waits (heads.Waits filter) = true
 is_waits _ = false
 
+-- the answer says that nothing was found yet
 abbrev pub is_not_yet : StepAnswer → Bool
 is_not_yet answers.NotYet = true
 is_not_yet _ = false

@@ -113,6 +113,7 @@ after_detach_of FromQueue k j r = record k {
 }
 after_detach_of Neither k j r = k
 
+-- the node after an endpoint detached
 abbrev pub after_detach : NodeState → Inc → AttRef → NodeState
 after_detach k j r = after_detach_of (detached k j r) k j r
 

@@ -64,6 +64,7 @@ abbrev pub items_of : Option OpenEndpoint → List Item
 items_of None = []
 items_of (Some e) = e.items
 
+-- the items that wait at an incarnation, of these endpoints
 abbrev pub items_at : List OpenEndpoint → Inc → List Item
 items_at endpoints i = items_of (first_match (is_at i) endpoints)
 
@@ -90,6 +91,7 @@ abbrev pub name_if : Option OpenEndpoint → Option (List ℕ)
 name_if None = None
 name_if (Some e) = Some e.name
 
+-- the name of the endpoint of an incarnation, of these
 abbrev pub name_at : List OpenEndpoint → Inc → Option (List ℕ)
 name_at endpoints i = name_if (first_match (is_at i) endpoints)
 
@@ -102,6 +104,7 @@ abbrev pub inc_if : Option OpenEndpoint → Option Inc
 inc_if None = None
 inc_if (Some e) = Some e.inc
 
+-- the first opened endpoint of a name, of these
 abbrev pub first_named : List OpenEndpoint → List ℕ → Option Inc
 first_named endpoints name = inc_if (first_match (is_named name) endpoints)
 

@@ -15,6 +15,7 @@ pub record Saying : Type 0 where
   pub tables : RlnhTables
   pub says : List Word
 
+-- these tables, and these words said
 abbrev pub end_saying : RlnhTables → List Word → Saying
 end_saying t words = record { tables = t; says = words }
 
@@ -58,6 +59,7 @@ closed t inc None = end_saying t []
 closed t inc (Some addr) =
     end_saying (record t { own = with_meaning t.own addr (Closing inc) }) (withdraw addr inc ∷ [])
 
+-- an endpoint closes: it is unpublished where it has an address
 abbrev pub close_of : RlnhTables → Inc → Saying
 close_of t inc = closed t inc (address_of t.own inc)
 

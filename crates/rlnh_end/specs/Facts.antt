@@ -101,9 +101,11 @@ pub record AreFacts (entries : List Entry) (before : Option (List Entry)) (come 
 
 -- ---- an end by its facts
 
+-- its tables: the meanings of its addresses, and the peers and names among its facts
 abbrev pub tables_of : List Meaning → List Fact → RlnhTables
 tables_of own facts = record { own = own; met = peers_in facts; noted = names_in facts }
 
+-- with what is still to go out
 abbrev pub state_of : List Meaning → List Fact → List Message → RlnhState
 state_of own facts out = record { tables = tables_of own facts; out = out }
 

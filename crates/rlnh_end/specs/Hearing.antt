@@ -28,6 +28,7 @@ pub record IsControl (m : Message) (message : Rlnh) : Type 0 where
   pub to : m.to ≡ 0
   pub spelled : Spells message m.body
 
+-- both addresses of a message are above 0, so it is for endpoints
 pub record HasAddresses (m : Message) : Type 0 where
   pub from : 0 < m.from
   pub to : 0 < m.to
@@ -67,6 +68,7 @@ pub record Hearing : Type 0 where
 abbrev pub answers : RlnhTables → List Word → Up → Hearing
 answers t words up = record { made = end_saying t words; up = up }
 
+-- nothing is said, and this is handed up
 abbrev pub only : RlnhTables → Up → Hearing
 only t up = answers t [] up
 

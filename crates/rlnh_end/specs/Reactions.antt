@@ -10,6 +10,7 @@ pub record Reaction : Type 0 where
   pub state : RlnhState
   pub up : Up
 
+-- the reaction with this state, which hands this up
 abbrev pub gives : RlnhState → Up → Reaction
 gives s up = record { state = s; up = up }
 

@@ -108,5 +108,6 @@ pub record HearingRules (t : RlnhTables) : Type 0 where
 abbrev pub CallsFollowRules : Type 0
 CallsFollowRules = (t : RlnhTables) → CallRules t
 
+-- it hears by the rules
 abbrev pub HearingFollowsRules : Type 0
 HearingFollowsRules = (t : RlnhTables) → HearingRules t

@@ -24,10 +24,11 @@ pub record RlnhState : Type 0 where
   pub tables : RlnhTables
   pub out : List Message
 
--- the tables of a connection that begins, and an end without a connection
+-- the tables of a connection that begins
 abbrev pub no_tables : RlnhTables
 no_tables = record { own = []; met = []; noted = [] }
 
+-- an end without a connection: no tables, and nothing to say
 abbrev pub new_end : RlnhState
 new_end = record { tables = no_tables; out = [] }
 
@@ -67,21 +68,24 @@ inc_met met addr = option_map (λ m. m.inc) (first_match (is_at addr) met)
 abbrev pub addr_met : List MetAt → Inc → Option ℕ
 addr_met met inc = option_map (λ m. m.addr) (first_match (is_peer inc) met)
 
--- a peer is met, and the peer at an address is forgotten
+-- the met peers, and this one behind them
 abbrev pub with_met : List MetAt → ℕ → Inc → List MetAt
 with_met met addr inc = met ++ record { addr = addr; inc = inc } ∷ []
 
+-- the met peers but the one at an address
 abbrev pub without_met : List MetAt → ℕ → List MetAt
 without_met met addr = without_match (is_at addr) met
 
 -- ---- the names that were asked for
 
+-- a name is noted
 abbrev pub is_noted : List (List ℕ) → List ℕ → Bool
 is_noted noted name = list_any (bytes_eq name) noted
 
--- a name is noted once, and its note is taken away
+-- the noted names, with this one, which is noted once
 abbrev pub with_note : List (List ℕ) → List ℕ → List (List ℕ)
 with_note noted name = if is_noted noted name then noted else noted ++ name ∷ []
 
+-- the noted names but this one
 abbrev pub without_note : List (List ℕ) → List ℕ → List (List ℕ)
 without_note noted name = without_match (bytes_eq name) noted

@@ -10,6 +10,7 @@ use Rattle.rlnh_messages.specs.declared.rlnh.Rlnh.{Rlnh}
 use Rattle.rlnh_messages.specs.declared.rlnh.Rlnh.TheVariants.{Init, InitReply, QueryName}
 use Rattle.rlnh_messages.specs.declared.rlnh.Rlnh.TheVariants.{Publish, Unpublish, UnpublishAck}
 
+-- WHAT ONE END OF RLNH SAYS TO THE OTHER, as a word
 pub data Word : Type 0 where
   -- INIT, and its reply
   hello : Word

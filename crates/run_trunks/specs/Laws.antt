@@ -15,6 +15,7 @@ use Rattle.run_trunks.specs.States.{new_trunks, trunks_of}
 abbrev pub AreTrunksOf : Shape → List TrunkState → Type 0
 AreTrunksOf shape ts = length ts ≡ length shape.links
 
+-- WHAT THE CALLS DO TO THE TRUNKS is what the steps of a run make of them
 pub record ChangesAreOfRuns : Type 0 where
   -- new trunks are those before the first step
   pub begins :

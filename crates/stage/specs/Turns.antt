@@ -40,6 +40,7 @@ abbrev pub commands_in : Option ActorScript → List Command
 commands_in None = []
 commands_in (Some a) = a.commands
 
+-- the commands of actor number k of a script
 abbrev pub commands_of : ScriptParts → ℕ → List Command
 commands_of script zero = []
 commands_of script (suc k) = commands_in (slice_get script.actors k)

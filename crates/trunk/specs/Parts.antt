@@ -46,6 +46,7 @@ side_hears s heard =
 abbrev pub near_with : TrunkState → TrunkSide → TrunkState
 near_with t s = record t { first = s }
 
+-- a trunk with this in place of one of its sides
 abbrev pub with_side : Side → TrunkState → TrunkSide → TrunkState
 with_side side t s = seen_from side (near_with (seen_from side t) s)
 
@@ -57,6 +58,7 @@ near_sends t =
       first = record t.first { end = taken_out t.first.end };
     }
 
+-- what the RLNH end of a side has to say is offered to the link
 abbrev pub sends_at : Side → TrunkState → TrunkState
 sends_at side t = seen_from side (near_sends (seen_from side t))
 

@@ -24,6 +24,7 @@ pub record KeepsAll (shape : Shape) (P : List Step) (trunks : RunTrunks) : Type 
   pub sound : IsSoundRun shape P (links_of trunks)
   pub promises : KeepsThroughout shape P (links_of trunks)
 
+-- every run of trunks within its bounds keeps all
 abbrev pub TrunkRunsKeepAll : Type 0
 TrunkRunsKeepAll = (shape : Shape) (P : List Step) (trunks : RunTrunks)
     → IsBoundedTrunkRun shape P trunks → KeepsAll shape P trunks

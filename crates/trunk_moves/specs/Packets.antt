@@ -100,6 +100,7 @@ Meets P n l from (Swap k) es before after = IsSwapped from k es before after
 
 -- ---- a tick
 
+-- a side is ticked: the trunk is the one that the tick leaves, and the effects are what it tells
 pub record IsBeat (P : List Step) (n : ℕ) (l : LinkNo) (side : Side) (es : List Effect)
     (before after : TrunkState) : Type 0 where
   pub effects : es ≡ told_at P n l side before (up_of_tick (link_told_by side before.link))

@@ -50,6 +50,7 @@ side_if true second = Some First
 side_if false true = Some Second
 side_if false false = None
 
+-- the side of a link that is on a node, if one is
 abbrev pub side_on : Shape → ℕ → LinkNo → Option Side
 side_on shape n l = side_if (node_at shape l First == n) (node_at shape l Second == n)
 

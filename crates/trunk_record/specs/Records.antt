@@ -38,14 +38,15 @@ abbrev pub given_of : Option SessionRecord → List Given
 given_of None = []
 given_of (Some e) = e.given
 
--- the peer of a side in a session, what it said and what it was given there; nothing in a session
--- that it never had
+-- the peer of a side in a session; none in one that it never had
 abbrev pub peer_in : SideRecord → Session → Option Session
 peer_in A x = peer_of (first_match (has_session x) (all A))
 
+-- what a side said in a session; nothing in one that it never had
 abbrev pub said_in : SideRecord → Session → List Said
 said_in A x = said_of (first_match (has_session x) (all A))
 
+-- what a side was given in a session; nothing in one that it never had
 abbrev pub given_in : SideRecord → Session → List Given
 given_in A x = given_of (first_match (has_session x) (all A))
 

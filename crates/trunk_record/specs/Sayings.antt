@@ -43,10 +43,11 @@ abbrev pub unpublishes : Inc → Said → Bool
 unpublishes i (unpublished j) = same_inc i j
 unpublishes i _ = false
 
--- an incarnation was published, and unpublished, in what was said
+-- an incarnation was published, in what was said
 abbrev pub was_published : Inc → List Said → Bool
 was_published i said = list_any (publishes i) said
 
+-- an incarnation was unpublished, in what was said
 abbrev pub was_unpublished : Inc → List Said → Bool
 was_unpublished i said = list_any (unpublishes i) said
 
@@ -112,9 +113,10 @@ abbrev pub parts_inc : Inc → Given → Bool
 parts_inc a (gone i) = same_inc a i
 parts_inc a _ = false
 
--- an incarnation was met, and has gone, in what was given
+-- an incarnation was met, in what was given
 abbrev pub has_met : Inc → List Given → Bool
 has_met a given = list_any (meets_inc a) given
 
+-- an incarnation has gone, in what was given
 abbrev pub has_gone : Inc → List Given → Bool
 has_gone a given = list_any (parts_inc a) given
