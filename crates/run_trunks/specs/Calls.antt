@@ -1,7 +1,8 @@
 -- What is called at a side: what it makes of a trunk, and what it asks for.
-use Rattle.std.specs.Prelude.{◌<◌}
+use Rattle.std.specs.Prelude.{◌≡◌, ◌<◌, None}
 use Rattle.linx_base.specs.Numbers.{boot_of}
 use Rattle.linx_base.specs.declared.identity.Side.{Side}
+use Rattle.ethcm_end.specs.States.{peer_of}
 use Rattle.carrier.specs.Events.{half_of}
 use Rattle.trunk.specs.Events.{HasNumbersLeft, TrunkState, asked_at, closed_at, opened_at}
 use Rattle.trunk.specs.Events.{published_at, restarted_at, sent_at, side_of}
@@ -18,6 +19,10 @@ makes (Restarted boot) side t = restarted_at side boot t
 makes (Published inc name) side t = published_at side inc name.now t
 makes (Asked name) side t = asked_at side name.now t
 makes (Sent from name to signal) side t = sent_at side from name.now to signal.now t
+
+-- the side isn't up: its end of the link has no peer
+abbrev pub IsDown : Side → TrunkState → Type 0
+IsDown side t = peer_of (half_of side t.link).end ≡ None
 
 -- what the call asks of the side: a boot is later than its own, and a name or a signal is one that
 -- it may say
@@ -37,3 +42,11 @@ HasNumbersFor (Restarted boot) side t = Unit {0}
 HasNumbersFor (Published inc name) side t = HasNumbersLeft side t
 HasNumbersFor (Asked name) side t = HasNumbersLeft side t
 HasNumbersFor (Sent from name to signal) side t = HasNumbersLeft side t
+
+-- the call makes the side say nothing, since it isn't up; to boot again or to send is no such call
+abbrev pub SaysNothing : SideCall → Side → TrunkState → Type 0
+SaysNothing (Opened inc name) side t = IsDown side t
+SaysNothing (Closed inc) side t = IsDown side t
+SaysNothing (Published inc name) side t = IsDown side t
+SaysNothing (Asked name) side t = IsDown side t
+SaysNothing _ side t = ⊥

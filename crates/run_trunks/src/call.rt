@@ -1,8 +1,8 @@
 //! What is called at a side of a link.
-ghost use Rattle.std.specs.Prelude.{◌≡◌, Some, OnOk};
+ghost use Rattle.std.specs.Prelude.{◌≡◌, Some, IsOk, OnOk};
 ghost use Rattle.linx_base.specs.declared.identity.Side.{Side as AnySide};
 ghost use Rattle.trunk_moves.specs.Trunks.{does};
-ghost use Rattle.run_trunks.specs.Calls.{HasNumbersFor, MayCall, makes};
+ghost use Rattle.run_trunks.specs.Calls.{HasNumbersFor, MayCall, SaysNothing, makes};
 
 use linx_base::{Inc, Name, NoMemory, Side, Signal};
 use trunk::Trunk;
@@ -28,6 +28,7 @@ pub(crate) fn call_side(trunk: &mut Trunk, side: Side, call: SideCall<'_>) -> Re
     requires numbers { HasNumbersFor call side trunk.old.is }
     ensures is { OnOk result (trunk.new.is ≡ makes call.entry side trunk.old.is) }
     ensures was { trunk.new.was ≡ trunk.old.was }
+    ensures free { SaysNothing call.entry side trunk.old.is → IsOk result }
 {
     match call {
         SideCall::Restarted(boot) => trunk.restart(side, boot),
@@ -49,6 +50,8 @@ pub(crate) fn call_side_if(
     requires numbers { (at : AnySide) → side ≡ Some at → HasNumbersFor call at trunk.old.is }
     ensures is { OnOk result (trunk.new.is ≡ does side (makes call.entry) trunk.old.is) }
     ensures was { trunk.new.was ≡ trunk.old.was }
+    ensures free { ((at : AnySide) → side ≡ Some at → SaysNothing call.entry at trunk.old.is)
+        → IsOk result }
 {
     match side {
         Some(side) => call_side(trunk, side, call),

@@ -1,6 +1,6 @@
 //! The links of a run, each with its trunk: the calls of an event on one link, or on the links of a
 //! node, and what keeps or undoes the event.
-ghost use Rattle.std.specs.Prelude.{◌≡◌, ◌<◌, ◌-◌, length, map, is_some, IfOk, OnErr, OnOk};
+ghost use Rattle.std.specs.Prelude.{◌≡◌, ◌<◌, ◌-◌, length, map, is_some, IfOk, IsOk, OnErr, OnOk};
 ghost use Rattle.linx_base.specs.Both.{still};
 ghost use Rattle.linx_base.specs.Numbers.{boot_of};
 ghost use Rattle.linx_base.specs.Sides.{other_of};
@@ -22,7 +22,7 @@ ghost use Rattle.trunk_record.specs.Trunks.{IsTrunk};
 ghost use Rattle.link_laws.specs.Ends.{node_at};
 ghost use Rattle.trunk_moves.specs.Packets.{place_of};
 ghost use Rattle.trunk_moves.specs.Trunks.{side_on};
-ghost use Rattle.run_trunks.specs.Calls.{HasNumbersFor, MayCall, makes};
+ghost use Rattle.run_trunks.specs.Calls.{HasNumbersFor, IsDown, MayCall, SaysNothing, makes};
 ghost use Rattle.run_trunks.specs.Changes.{AllGrant, at_link, each_does};
 ghost use Rattle.run_trunks.specs.States.{AllFit, HasLink, both_at, kept, kept_at, new_trunks};
 ghost use Rattle.run_trunks.specs.States.{over, resting, trunks_of, undone};
@@ -104,6 +104,7 @@ impl RunTrunks {
         ensures was { self.new.was ≡ self.old.was }
         ensures links { self.new.links ≡ self.old.links }
         ensures err { OnErr result (self.new ≡ undone self.old) }
+        ensures free { SaysNothing call.entry side (trunks_of self.old.is link.0) → IsOk result }
     {
         slots::call(&mut self.trunks, place_of(link), side, call)
     }
@@ -117,6 +118,8 @@ impl RunTrunks {
         ensures was { self.new.was ≡ self.old.was }
         ensures links { self.new.links ≡ self.old.links }
         ensures err { OnErr result (self.new ≡ undone self.old) }
+        ensures free { AllGrant self.old.links node.0 self.old.is (SaysNothing call.entry)
+            → IsOk result }
     {
         slots::call_all(&self.links, &mut self.trunks, node, call)
     }
@@ -132,6 +135,8 @@ impl RunTrunks {
         ensures was { self.new.was ≡ self.old.was }
         ensures links { self.new.links ≡ self.old.links }
         ensures err { OnErr result (self.new ≡ undone self.old) }
+        // Sides that aren't up say nothing, and need no memory for it.
+        ensures free { AllGrant self.old.links node.0 self.old.is IsDown → IsOk result }
     {
         self.call_all(node, SideCall::Opened(inc, name))
     }
@@ -145,6 +150,8 @@ impl RunTrunks {
         ensures was { self.new.was ≡ self.old.was }
         ensures links { self.new.links ≡ self.old.links }
         ensures err { OnErr result (self.new ≡ undone self.old) }
+        // Sides that aren't up say nothing, and need no memory for it.
+        ensures free { AllGrant self.old.links node.0 self.old.is IsDown → IsOk result }
     {
         self.call_all(node, SideCall::Closed(inc))
     }
@@ -178,6 +185,8 @@ impl RunTrunks {
         ensures was { self.new.was ≡ self.old.was }
         ensures links { self.new.links ≡ self.old.links }
         ensures err { OnErr result (self.new ≡ undone self.old) }
+        // A side that isn't up says nothing, and needs no memory for it.
+        ensures free { IsDown side (trunks_of self.old.is link.0) → IsOk result }
     {
         self.call(link, side, SideCall::Published(inc, name))
     }
@@ -190,6 +199,8 @@ impl RunTrunks {
         ensures was { self.new.was ≡ self.old.was }
         ensures links { self.new.links ≡ self.old.links }
         ensures err { OnErr result (self.new ≡ undone self.old) }
+        // A side that isn't up says nothing, and needs no memory for it.
+        ensures free { IsDown side (trunks_of self.old.is link.0) → IsOk result }
     {
         self.call(link, side, SideCall::Asked(name))
     }

@@ -1,6 +1,6 @@
 //! The trunks by the places of their links: what happens to one of them, or to those of a node,
 //! and what a refusal leaves, which is what all were when the event began.
-ghost use Rattle.std.specs.Prelude.{◌≡◌, ◌<◌, length, slice_set, IfOk, OnErr, OnOk};
+ghost use Rattle.std.specs.Prelude.{◌≡◌, ◌<◌, length, slice_set, IfOk, IsOk, OnErr, OnOk};
 ghost use Rattle.linx_base.specs.Sides.{other_of};
 ghost use Rattle.carrier.specs.Events.{HasNextAt, flight_from, handed_by, link_told_by};
 ghost use Rattle.rlnh_end.specs.declared.heard.Heard.{Heard as AnyHeard};
@@ -8,7 +8,7 @@ ghost use Rattle.trunk.specs.Events.{IsReading, delivered, lost_from, swapped_fr
 ghost use Rattle.trunk.specs.Events.{HasNumbersLeft, told_by};
 ghost use Rattle.trunk.specs.Parts.{HasOnlyGrownAt};
 ghost use Rattle.trunk_moves.specs.Packets.{place_of};
-ghost use Rattle.run_trunks.specs.Calls.{HasNumbersFor, MayCall, makes};
+ghost use Rattle.run_trunks.specs.Calls.{HasNumbersFor, MayCall, SaysNothing, makes};
 ghost use Rattle.run_trunks.specs.Changes.{AllGrant, at_place, each_does};
 ghost use Rattle.run_trunks.specs.States.{is_of, trunk_at, was_of};
 
@@ -51,6 +51,7 @@ pub(crate) fn call(
     ensures is { OnOk result
         (is_of trunks.new ≡ at_place place (makes call.entry side) (is_of trunks.old)) }
     ensures was { was_of trunks.new ≡ was_of trunks.old }
+    ensures free { SaysNothing call.entry side (trunk_at (is_of trunks.old) place) → IsOk result }
     ensures err { OnErr result (is_of trunks.new ≡ was_of trunks.old) }
 {
     match call_side(&mut trunks[place], side, call) {
@@ -75,6 +76,8 @@ fn call_each(
     ensures is { OnOk result (is_of trunks.new
         ≡ each_does links.now node.0 (makes call.entry) (is_of trunks.old)) }
     ensures was { was_of trunks.new ≡ was_of trunks.old }
+    ensures free { AllGrant links.now node.0 (is_of trunks.old) (SaysNothing call.entry)
+        → IsOk result }
 {
     for (place, link) in links.iter().enumerate() {
         call_side_if(&mut trunks[place], side_on(link, node), call)?;
@@ -95,6 +98,8 @@ pub(crate) fn call_all(
     ensures is { OnOk result (is_of trunks.new
         ≡ each_does links.now node.0 (makes call.entry) (is_of trunks.old)) }
     ensures was { was_of trunks.new ≡ was_of trunks.old }
+    ensures free { AllGrant links.now node.0 (is_of trunks.old) (SaysNothing call.entry)
+        → IsOk result }
     ensures err { OnErr result (is_of trunks.new ≡ was_of trunks.old) }
 {
     match call_each(links, trunks, node, call) {

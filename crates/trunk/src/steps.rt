@@ -1,8 +1,9 @@
 //! What happens at a trunk: one function an event. After a refusal the event is to be undone.
-ghost use Rattle.std.specs.Prelude.{◌≡◌, ◌<◌, length, IfOk, OnOk, IsTrue};
+ghost use Rattle.std.specs.Prelude.{◌≡◌, ◌<◌, length, IfOk, IsOk, OnOk, IsTrue, None};
 ghost use Rattle.linx_base.specs.NameText.{is_name};
 ghost use Rattle.linx_base.specs.Numbers.{boot_of};
 ghost use Rattle.linx_base.specs.Sides.{other_of};
+ghost use Rattle.ethcm_end.specs.States.{peer_of};
 ghost use Rattle.carrier.specs.Events.{HasNextAt, flight_from, half_of, handed_by, link_told_by};
 ghost use Rattle.rlnh_end.specs.declared.heard.Heard.{Heard as AnyHeard};
 ghost use Rattle.trunk.specs.Events.{IsReading, asked_at, closed_at, delivered, opened_at};
@@ -97,6 +98,7 @@ pub(crate) fn publish(parts: &mut Parts, side: Side, inc: Inc, name: &Name) -> R
     requires keeps { KeepsTrunk parts.old.is }
     ensures is { OnOk result (parts.new.is ≡ published_at side inc name.now parts.old.is) }
     ensures was { parts.new.was ≡ parts.old.was }
+    ensures free { peer_of (half_of side parts.old.is.link).end ≡ None → IsOk result }
 {
     if !parts.is_up(side) {
         return Ok(());
@@ -113,6 +115,7 @@ pub(crate) fn opened(parts: &mut Parts, side: Side, inc: Inc, name: &Name) -> Re
     requires keeps { KeepsTrunk parts.old.is }
     ensures is { OnOk result (parts.new.is ≡ opened_at side inc name.now parts.old.is) }
     ensures was { parts.new.was ≡ parts.old.was }
+    ensures free { peer_of (half_of side parts.old.is.link).end ≡ None → IsOk result }
 {
     if !parts.is_up(side) {
         return Ok(());
@@ -128,6 +131,7 @@ pub(crate) fn close(parts: &mut Parts, side: Side, inc: Inc) -> Result<(), NoMem
     requires keeps { KeepsTrunk parts.old.is }
     ensures is { OnOk result (parts.new.is ≡ closed_at side inc parts.old.is) }
     ensures was { parts.new.was ≡ parts.old.was }
+    ensures free { peer_of (half_of side parts.old.is.link).end ≡ None → IsOk result }
 {
     if !parts.is_up(side) {
         return Ok(());
@@ -143,6 +147,7 @@ pub(crate) fn query(parts: &mut Parts, side: Side, name: &Name) -> Result<(), No
     requires keeps { KeepsTrunk parts.old.is }
     ensures is { OnOk result (parts.new.is ≡ asked_at side name.now parts.old.is) }
     ensures was { parts.new.was ≡ parts.old.was }
+    ensures free { peer_of (half_of side parts.old.is.link).end ≡ None → IsOk result }
     ensures named { IsTrue (is_name name.now) }
 {
     // The bytes of a name spell one.

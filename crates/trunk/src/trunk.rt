@@ -1,4 +1,4 @@
-ghost use Rattle.std.specs.Prelude.{◌≡◌, ◌≢◌, ◌≤◌, ◌<◌, true, ◌&&◌, length, map, IfOk, OnOk, OnErr};
+ghost use Rattle.std.specs.Prelude.{◌≡◌, ◌≢◌, ◌≤◌, ◌<◌, true, ◌&&◌, length, map, IfOk, IsOk, OnOk, OnErr};
 ghost use Rattle.std.specs.Prelude.{None, [], ◌∷◌};
 ghost use Rattle.linx_base.specs.declared.identity.Side.{Side as AnySide};
 ghost use Rattle.linx_base.specs.Both.{still};
@@ -168,6 +168,8 @@ impl Trunk {
         ensures is { OnOk result (self.new.is ≡ published_at side inc name.now self.old.is) }
         ensures was { self.new.was ≡ self.old.was }
         ensures err { OnErr result (self.new ≡ still self.old.was) }
+        // A side that isn't up says nothing, and needs no memory for it.
+        ensures free { peer_of (half_of side self.old.is.link).end ≡ None → IsOk result }
         // What the side says, and what becomes of its notes.
         ensures says { OnOk result ((kept_of side self.old.is).now.peer ≢ None
             → SideSays side self.old.is self.new.is
@@ -195,6 +197,8 @@ impl Trunk {
         ensures is { OnOk result (self.new.is ≡ opened_at side inc name.now self.old.is) }
         ensures was { self.new.was ≡ self.old.was }
         ensures err { OnErr result (self.new ≡ still self.old.was) }
+        // A side that isn't up says nothing, and needs no memory for it.
+        ensures free { peer_of (half_of side self.old.is.link).end ≡ None → IsOk result }
         // What the side says, and what becomes of its notes.
         ensures says { OnOk result ((kept_of side self.old.is).now.peer ≢ None
             → SideSays side self.old.is self.new.is
@@ -221,6 +225,8 @@ impl Trunk {
         ensures is { OnOk result (self.new.is ≡ closed_at side inc self.old.is) }
         ensures was { self.new.was ≡ self.old.was }
         ensures err { OnErr result (self.new ≡ still self.old.was) }
+        // A side that isn't up says nothing, and needs no memory for it.
+        ensures free { peer_of (half_of side self.old.is.link).end ≡ None → IsOk result }
         // What the side says, and what becomes of its notes.
         ensures says { OnOk result ((kept_of side self.old.is).now.peer ≢ None
             → SideSays side self.old.is self.new.is (says_closing inc (kept_of side self.old.is))
@@ -245,6 +251,8 @@ impl Trunk {
         ensures is { OnOk result (self.new.is ≡ asked_at side name.now self.old.is) }
         ensures was { self.new.was ≡ self.old.was }
         ensures err { OnErr result (self.new ≡ still self.old.was) }
+        // A side that isn't up says nothing, and needs no memory for it.
+        ensures free { peer_of (half_of side self.old.is.link).end ≡ None → IsOk result }
         // What the side says, and what becomes of its notes.
         ensures says { OnOk result ((kept_of side self.old.is).now.peer ≢ None
             → SideSays side self.old.is self.new.is (asked name.now ∷ [])

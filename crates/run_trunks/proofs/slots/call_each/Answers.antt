@@ -1,5 +1,6 @@
 use Rattle.std.proofs.Common.{◌<◌, ◌∙◌, sym, length, arith}
-use Rattle.run_trunks.specs.Calls.{HasNumbersFor, MayCall, makes}
+use Rattle.std.proofs.lemmas.Bool.{true≢false}
+use Rattle.run_trunks.specs.Calls.{HasNumbersFor, MayCall, SaysNothing, makes}
 use Rattle.run_trunks.specs.States.{is_of}
 use Rattle.run_trunks.proofs.Placed.{calls-more, granted-there, was_stays}
 use Rattle.run_trunks.proofs.slots.call_each.Goals as goal
@@ -27,6 +28,16 @@ returns-in_err-call_side_if-clause-was c =
     was_stays c.loop-place.trunks c.loop-place.place c.index-trunks-place.result
     c.call_side_if.new.trunk c.in_err-call_side_if.ensures.was
     ∙ c.loop-place.invariant.was
+
+pub returns-in_err-call_side_if-clause-free : goal.returns-in_err-call_side_if-clause-free
+returns-in_err-call_side_if-clause-free c silent =
+    let there : c.loop-place.place < length c.loop-place.trunks = omega
+    (arith, c.loop-place.auto.trunks, c.requires.same, c.loop-place-test.true) in
+    absurd (true≢false (sym (c.in_err-call_side_if.ensures.free (λ at is.
+    granted-there c.args.links.now c.args.node.0 (makes c.args.call) (is_of c.args.trunks.now)
+    c.loop-place.trunks c.loop-place.place c.index-trunks-place.result _ (SaysNothing c.args.call)
+    c.loop-place.invariant.is c.loop-place-test.true there silent at
+    (sym c.side_on.ensures ∙ is)))))
 
 pub loop-place-preserved : goal.loop-place-preserved
 loop-place-preserved c =
