@@ -6,6 +6,7 @@ use Rattle.std.specs.Str.{bytes_eq}
 use Rattle.std.proofs.lemmas.Bool.{and_parts, and_from, or_parts, not_from_false, not-true}
 use Rattle.std.proofs.lemmas.Bool.{leb-true, le-leb}
 use Rattle.std.proofs.lemmas.List.Sums.{sum_by_push}
+use Rattle.linx_base.specs.NameText.{is_name}
 use Rattle.linx_base.specs.Verdicts.{fits_verdict}
 use Rattle.linx_base.specs.declared.name.Path.{Path}
 use Rattle.linx_base.specs.declared.name.Path.TheVariants.{Local, Over}
@@ -117,12 +118,14 @@ module _ (s : ScriptParts) (name : List ℕ) where
   }
 
   pub node_kept : IsScript s → length s.names.nodes < node_limit
-      → is_among s.names.nodes name ≡ false → IsScript (with_node s name)
-  node_kept h room fresh = record {
+      → is_among s.names.nodes name ≡ false → is_name name ≡ true → IsScript (with_node s name)
+  node_kept h room fresh named = record {
     nodes = omega (arith, nodes_more);
     node_names = distinct_push s.names.nodes name h.node_names fresh;
+    named_nodes = list_all_push is_name s.names.nodes name h.named_nodes named;
     links = h.links;
     link_names = h.link_names;
+    named_links = h.named_links;
     each_name = h.each_name;
     each_link = list_all_weaken _ _ s.links
         (link_grows (length s.names.nodes) (length (s.names.nodes ++ name ∷ []))
@@ -160,16 +163,18 @@ module _ (s : ScriptParts) (name : List ℕ) (decl : LinkDecl) where
   }
 
   pub link_kept : IsScript s → length s.names.links < link_limit
-      → is_among s.names.links name ≡ false → fits_link (length s.names.nodes) decl ≡ true
-      → IsScript (with_link s name decl)
-  link_kept h room fresh fits =
+      → is_among s.names.links name ≡ false → is_name name ≡ true
+      → fits_link (length s.names.nodes) decl ≡ true → IsScript (with_link s name decl)
+  link_kept h room fresh named fits =
       let links_more = length-append s.links (decl ∷ []) in
       let plans_more = length-append s.plans (record { from_first = []; from_second = [] } ∷ []) in
       record {
         nodes = h.nodes;
         node_names = h.node_names;
+        named_nodes = h.named_nodes;
         links = omega (arith, names_more);
         link_names = distinct_push s.names.links name h.link_names fresh;
+        named_links = list_all_push is_name s.names.links name h.named_links named;
         each_name = omega (arith, h.each_name, names_more, links_more);
         each_link = list_all_push _ s.links decl h.each_link fits;
         each_plan = omega (arith, h.each_plan, links_more, plans_more);
@@ -192,8 +197,10 @@ module _ (s : ScriptParts) (plans : List Plans) (actors : List ActorScript) wher
   others_kept h each_plan all_plans few each_actor commands = record {
     nodes = h.nodes;
     node_names = h.node_names;
+    named_nodes = h.named_nodes;
     links = h.links;
     link_names = h.link_names;
+    named_links = h.named_links;
     each_name = h.each_name;
     each_link = h.each_link;
     each_plan = each_plan;

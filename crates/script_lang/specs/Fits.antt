@@ -9,6 +9,7 @@ use Rattle.linx_base.specs.declared.identity.NodeNo.{NodeNo}
 use Rattle.linx_base.specs.declared.frame.LinkDecl.{LinkDecl}
 use Rattle.linx_base.specs.declared.frame.Verdict.{Verdict}
 use Rattle.linx_base.specs.Content.{data_limit}
+use Rattle.linx_base.specs.NameText.{is_name}
 use Rattle.linx_base.specs.Verdicts.{fits_verdict}
 use Rattle.script_words.specs.declared.command.Command.{Command}
 use Rattle.script_words.specs.declared.command.Command.TheVariants.{Open, Close, Send, Forward}
@@ -109,8 +110,10 @@ are_distinct (name ∷ names) = not (list_any (bytes_eq name) names) && are_dist
 pub record IsScript (s : ScriptParts) : Type 0 where
   pub nodes : length s.names.nodes ≤ node_limit
   pub node_names : are_distinct s.names.nodes ≡ true
+  pub named_nodes : list_all is_name s.names.nodes ≡ true
   pub links : length s.names.links ≤ link_limit
   pub link_names : are_distinct s.names.links ≡ true
+  pub named_links : list_all is_name s.names.links ≡ true
   pub each_name : length s.links ≡ length s.names.links
   pub each_link : list_all (fits_link (length s.names.nodes)) s.links ≡ true
   pub each_plan : length s.plans ≡ length s.links

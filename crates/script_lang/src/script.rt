@@ -93,6 +93,7 @@ impl Script {
         ensures ok { OnOk result (self.new ≡ with_node self.old name) }
         ensures err { OnErr result (self.new ≡ self.old) }
     {
+        let _spelling = name.bytes();
         self.names.nodes.push(name)?;
         Ok(())
     }
@@ -106,6 +107,7 @@ impl Script {
         ensures err { OnErr result (self.new ≡ self.old) }
     {
         let alloc = *self.links.allocator();
+        let _spelling = name.bytes();
         self.links.reserve(1)?;
         self.plans.reserve(1)?;
         self.names.links.push(name)?;

@@ -29,5 +29,6 @@ invariant_of-self-2 c =
     c.self.invariant
     (subst (λ (t : ScriptParts). length t.names.links < link_limit) same c.requires.room)
     (subst (λ (t : ScriptParts). is_among t.names.links name ≡ false) same c.requires.fresh)
+    c.bytes-spelling.ensures.name
     (subst (λ (t : ScriptParts). fits_link (length t.names.nodes) decl ≡ true) same
     c.requires.fits))

@@ -16,4 +16,5 @@ invariant_of-self-2 c =
     rw c.in_ok-push.ensures.ok
     (node_kept (parts_of s.names s.links.items s.plans.items s.actors.items) name c.self.invariant
     (subst (λ (t : ScriptParts). length t.names.nodes < node_limit) same c.requires.room)
-    (subst (λ (t : ScriptParts). is_among t.names.nodes name ≡ false) same c.requires.fresh))
+    (subst (λ (t : ScriptParts). is_among t.names.nodes name ≡ false) same c.requires.fresh)
+    c.bytes-spelling.ensures.name)
