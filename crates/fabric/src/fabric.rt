@@ -30,7 +30,7 @@ use crate::granting::refusal_of;
 use crate::line::{Line, Mark};
 use crate::makings::{Looked, downs_of, make_open, make_quiet, make_restart, make_take, make_wait};
 use crate::standing::Standing;
-use crate::stop::{StepStop, StopCause, first_cause, no_memory};
+use crate::stop::{StepStop, StopCause, no_memory};
 use crate::telling::{keep_told, tell_call};
 use crate::watched_journal::WatchedJournal;
 use journal::{By, Event, Head, Journal, Refusal};
@@ -55,7 +55,6 @@ pub struct Fabric {
     pub(crate) lines: Vec<Line>,
     /// The place of the actor that was the first that hadn't ended, when one ended last.
     pub(crate) front: u32,
-    stop: Option<StopCause>,
 }
 
 impl Model for Fabric {
@@ -174,7 +173,6 @@ impl Fabric {
             standings,
             lines,
             front: 0,
-            stop: None,
         })
     }
 
@@ -208,19 +206,6 @@ impl Fabric {
             → IsOver self.shape self.log.steps }
     {
         self.journal.into_journal()
-    }
-
-    /// Notes why the run stops. The first cause stays.
-    pub fn stop(&mut self, cause: StopCause)
-        requires { cause ≡ StopCause.JournalFull → is_full self.old.log.steps ≡ true }
-        ensures { self.new ≡ self.old }
-    {
-        self.stop = first_cause(self.stop, cause);
-    }
-
-    /// The first cause that was noted.
-    pub fn stopped(&self) -> Option<StopCause> {
-        self.stop
     }
 
     /// Makes the step of an event, or none where the actor waits already, and answers. Where the

@@ -1,5 +1,5 @@
 //! Why a step can't be made.
-ghost use Rattle.std.specs.Prelude.{◌≡◌, None, Some, IsSome};
+ghost use Rattle.std.specs.Prelude.{◌≡◌, None};
 ghost use Rattle.fabric.specs.Calls.{refusal_with};
 
 use linx_base::{NoMemory, Signal};
@@ -10,17 +10,6 @@ pub enum StopCause {
     /// The journal takes no further step.
     JournalFull,
     NoMemory,
-}
-
-/// The cause of a stop that stays noted: the first one.
-pub(crate) fn first_cause(noted: Option<StopCause>, cause: StopCause) -> Option<StopCause>
-    ensures first { noted ≡ None → result ≡ Some cause }
-    ensures stays { IsSome noted → result ≡ noted }
-{
-    match noted {
-        Some(before) => Some(before),
-        None => Some(cause),
-    }
 }
 
 /// A step that wasn't made: nothing changed, and the hand comes back.

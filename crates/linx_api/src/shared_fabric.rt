@@ -1,15 +1,17 @@
 //! The fabric behind the lock: a story of steps, each with the number of its maker.
-ghost use Rattle.std.specs.Prelude.{◌≡◌, ◌≤◌, [], length, IfOk};
+ghost use Rattle.std.specs.Prelude.{◌≡◌, ◌≤◌, [], true, length, None, IfOk};
 ghost use Rattle.std.specs.Borrow.{sem};
+ghost use Rattle.journal.specs.Logs.{is_full};
 ghost use Rattle.run_trunks.specs.States.{new_trunks};
 ghost use Rattle.fabric.specs.Actings.{OnlyRuns, asking};
 ghost use Rattle.fabric.specs.Asks.{MayAsk};
 ghost use Rattle.fabric.specs.Remains.{IsLaidOut};
 ghost use Rattle.linx_api.specs.Asked.{IsAnswered, IsLawful};
+ghost use Rattle.linx_api.specs.Sharing.{first_noted};
 ghost use Rattle.linx_api.specs.Telling.{maker_number};
 
 use crate::plan::Plan;
-use fabric::{Fabric, StepStop};
+use fabric::{Fabric, StepStop, StopCause};
 use journal::{By, Event, Step};
 use linx_base::{LinkDecl, Names, NoMemory, NodeNo, Signal};
 use node_kernel::StepAnswer;
@@ -17,18 +19,19 @@ use std::alloc::Global;
 use std::marker::Model;
 use turn_lock::Story;
 
-/// A fabric that tells who made its steps. Contracts see the fabric.
+/// A fabric that tells who made its steps, and why its run stops, once a maker noted that.
 #[derive(Drop)]
 pub struct SharedFabric {
     fabric: Fabric,
+    stop: Option<StopCause>,
 }
 
 impl Model for SharedFabric {
-    ghost use Rattle.fabric.specs.Run.{Layout};
+    ghost use Rattle.linx_api.specs.Sharing.{Shared};
 
-    ghost Value = { Layout };
+    ghost Value = { Shared };
 
-    ghost view = { λ s. s.fabric };
+    ghost view = { λ s. record { run = s.fabric; stop = s.stop } };
 }
 
 impl Story for SharedFabric {
@@ -38,9 +41,9 @@ impl Story for SharedFabric {
 
     type Fixed = Plan;
 
-    ghost story = { story_of };
+    ghost story = { λ s. story_of s.run };
 
-    ghost fixed = { plan_of };
+    ghost fixed = { λ s. plan_of s.run };
 
     ghost any_fixed = { empty_plan };
 
@@ -57,12 +60,23 @@ impl Story for SharedFabric {
     }
 }
 
+/// The cause that is noted after one more: the first one stays.
+fn first_noted(noted: Option<StopCause>, cause: StopCause) -> Option<StopCause>
+    ensures { result ≡ first_noted noted cause }
+{
+    match noted {
+        Some(before) => Some(before),
+        None => Some(cause),
+    }
+}
+
 impl SharedFabric {
     ghost use Rattle.std.specs.Borrow.{Lends};
     ghost use Rattle.fabric.specs.contracts.fabric.Fabric.{the_row as fabric_row};
     ghost use Rattle.linx_api.specs.contracts.shared_fabric.SharedFabric.{the_row};
+    ghost use Rattle.linx_api.specs.Sharing.{shared_with};
 
-    /// A fabric without steps, as `Fabric::new` makes it.
+    /// A fabric without steps, as `Fabric::new` makes it. No cause of a stop is noted.
     pub fn new(
         alloc: Global,
         names: Names,
@@ -72,42 +86,61 @@ impl SharedFabric {
         requires laid_out { IsLaidOut (length names.nodes)
             (record { links = links.now; actors = actors.now }) }
         ensures ok { IfOk result (λ shared. shared ≡ record {
-          shape = record { links = links.now; actors = actors.now };
-          log = record { names = names; steps = [] };
-          trunks = new_trunks links.now;
+          run = record {
+            shape = record { links = links.now; actors = actors.now };
+            log = record { names = names; steps = [] };
+            trunks = new_trunks links.now;
+          };
+          stop = None;
         }) }
     {
         let fabric = Fabric::new(alloc, names, links, actors)?;
-        Ok(SharedFabric { fabric })
+        Ok(SharedFabric { fabric, stop: None })
     }
 
     /// The fabric, to look at.
     pub fn fabric(&self) -> &Fabric
-        ensures { result.now ≡ self.now }
+        ensures { result.now ≡ self.now.run }
     {
         &self.fabric
     }
 
     /// The fabric, to make steps on.
     pub fn fabric_mut(&mut self) -> &mut Fabric
-        ensures* writes_back { sem 𝓛 (Lends the_row fabric_row self.entry result (λ f. f)) }
-        ensures value { result.now ≡ self.old }
+        ensures* writes_back { sem 𝓛
+            (Lends the_row fabric_row self.entry result (shared_with self.old)) }
+        ensures value { result.now ≡ self.old.run }
     {
         &mut self.fabric
     }
 
     /// The fabric, which no other maker shares any longer.
     pub fn into_fabric(self) -> Fabric
-        ensures { result ≡ self }
+        ensures { result ≡ self.run }
     {
         self.fabric
+    }
+
+    /// Notes why the run stops. The first cause stays.
+    pub fn stop(&mut self, cause: StopCause)
+        requires { cause ≡ StopCause.JournalFull → is_full self.old.run.log.steps ≡ true }
+        ensures { self.new ≡ record self.old { stop = first_noted self.old.stop cause } }
+    {
+        self.stop = first_noted(self.stop, cause);
+    }
+
+    /// The first cause that was noted: none where none was.
+    pub fn stopped(&self) -> Option<StopCause>
+        ensures { result ≡ self.now.stop }
+    {
+        self.stop
     }
 
     /// The number of a maker: an actor's own, and for the pump of a link the link's, behind those
     /// of all actors.
     fn number_of(&self, by: By) -> u32
-        requires { maker_number self.now.shape by ≤ 96 }
-        ensures { result ≡ maker_number self.now.shape by }
+        requires { maker_number self.now.run.shape by ≤ 96 }
+        ensures { result ≡ maker_number self.now.run.shape by }
     {
         match by {
             By::Actor(actor) => actor,
@@ -116,18 +149,19 @@ impl SharedFabric {
     }
 
     /// Makes the step of a maker's event, or none where an actor waits already, and answers, as
-    /// `Fabric::step` does.
+    /// `Fabric::step` does. It notes no cause of a stop.
     pub fn step(
         &mut self,
         by: By,
         event: Event,
         hand: Option<Signal>,
     ) -> Result<StepAnswer, StepStop>
-        requires asked { MayAsk self.old by (asking event hand) }
-        ensures answered { IsAnswered self.old self.new by (asking event hand) result }
-        ensures found { IsLawful self.old }
-        ensures left { IsLawful self.new }
-        ensures fixed { OnlyRuns self.old self.new }
+        requires asked { MayAsk self.old.run by (asking event hand) }
+        ensures answered { IsAnswered self.old.run self.new.run by (asking event hand) result }
+        ensures found { IsLawful self.old.run }
+        ensures left { IsLawful self.new.run }
+        ensures fixed { OnlyRuns self.old.run self.new.run }
+        ensures noted { self.new.stop ≡ self.old.stop }
     {
         let _ = self.fabric.journal();
         let answer = self.fabric.step(by, event, hand);

@@ -12,7 +12,7 @@ step-answer-requires g c =
     ∙ ap (λ (p : PassView Step PlanParts). p.number) c.take-held.ensures.turn in
     record {
       asked = rw (c.state.ensures.value, number)
-          (can-ask c.args.pass c.take-held.result.turn c.take-held.result.state
+          (can-ask c.args.pass c.take-held.result.turn c.take-held.result.state.run
           (asking c.args.event c.args.hand) c.take-held.ensures.turn c.take-held.ensures.own
           c.take-held.ensures.fixed c.requires.asks);
     }
@@ -23,8 +23,8 @@ give-requires-clause-added g c =
     ∙ ap (λ (p : PassView Step PlanParts). p.number) c.take-held.ensures.turn in
     let answered = rw (c.state.ensures.value, number) at c.step-answer.ensures.answered in
     let only = rw c.state.ensures.value at c.step-answer.ensures.fixed in
-    given-added c.args.pass c.take-held.result.turn c.take-held.result.state
-    c.step-answer.new.self (asking c.args.event c.args.hand) c.step-answer.result
+    given-added c.args.pass c.take-held.result.turn c.take-held.result.state.run
+    c.step-answer.new.self.run (asking c.args.event c.args.hand) c.step-answer.result
     c.take-held.ensures.turn c.take-held.ensures.fixed only answered.gives
 
 pub returns : goal.returns
@@ -34,8 +34,8 @@ returns g c =
     let answered = rw (c.state.ensures.value, number) at c.step-answer.ensures.answered in
     let only = rw c.state.ensures.value at c.step-answer.ensures.fixed in
     let found = rw c.state.ensures.value at c.step-answer.ensures.found in
-    is-asked c.args.pass c.take-held.result.turn c.take-held.result.state
-    c.step-answer.new.self (asking c.args.event c.args.hand) c.step-answer.result
+    is-asked c.args.pass c.take-held.result.turn c.take-held.result.state.run
+    c.step-answer.new.self.run (asking c.args.event c.args.hand) c.step-answer.result
     c.take-held.ensures.turn c.take-held.ensures.fixed only c.give.result
     c.take-held.ensures.rests c.take-held.ensures.own found c.step-answer.ensures.left answered
     c.give.ensures.pass c.give.ensures.own

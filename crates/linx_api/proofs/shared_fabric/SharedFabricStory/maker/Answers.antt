@@ -2,16 +2,16 @@ use Rattle.std.proofs.Common.{◌≡◌, ◌≤◌, length, None, Some, sym, ◌
 use Rattle.std.specs.Option.{option_copied}
 use Rattle.std.proofs.lemmas.List.{length-map}
 use Rattle.journal.specs.Logs.{Log, step_at}
-use Rattle.fabric.specs.Run.{Layout}
+use Rattle.linx_api.specs.Sharing.{Shared}
 use Rattle.linx_api.specs.Telling.{numbered}
 use Rattle.linx_api.proofs.Numbers.{number-small, stands-told, there-found, there-none}
 use Rattle.linx_api.proofs.shared_fabric.SharedFabricStory.maker.Goals as goal
 
 pub unreachable-requires : goal.unreachable-requires
 unreachable-requires c =
-    let f = c.args.self.now in
+    let f = c.args.self.now.run in
     let steps = ap (λ (l : Log). l.steps) c.journal.ensures.log
-    ∙ ap (λ (l : Layout). l.log.steps) c.self.view_is in
+    ∙ ap (λ (s : Shared). s.run.log.steps) c.self.view_is in
     let here : step_at f.log.steps c.args.k ≡ None =
     sym (ap (λ P. step_at P c.args.k) steps)
     ∙ (sym c.step.ensures ∙ ap option_copied c.in-None.is) in
@@ -33,9 +33,9 @@ number_of-requires c =
 
 pub returns : goal.returns
 returns c =
-    let f = c.args.self.now in
+    let f = c.args.self.now.run in
     let steps = ap (λ (l : Log). l.steps) c.journal.ensures.log
-    ∙ ap (λ (l : Layout). l.log.steps) c.self.view_is in
+    ∙ ap (λ (s : Shared). s.run.log.steps) c.self.view_is in
     let here : step_at f.log.steps c.args.k ≡ Some c.in-Some.step.now =
     sym (ap (λ P. step_at P c.args.k) steps)
     ∙ (sym c.step.ensures ∙ ap option_copied c.in-Some.is) in
