@@ -1,7 +1,6 @@
 -- A turn leaves no choice, and one that stopped went as far as another.
 use Rattle.std.proofs.Common.{◌≡◌, ℕ, ◌-◌, ◌<◌, ◌≤◌, ◌⊎◌, Bool, true, false, length, Option, Some}
-use Rattle.std.proofs.Common.{None, refl, sym, ◌∙◌, ap, subst, inl, inr, arith, ⊥}
-use Rattle.std.proofs.Common.{◌×◌}
+use Rattle.std.proofs.Common.{None, refl, sym, ◌∙◌, ap, subst, inl, inr, arith}
 use Rattle.std.specs.Prelude.{nat_le}
 use Rattle.std.proofs.lemmas.Bool.{leb-false, true≢false}
 use Rattle.std.proofs.lemmas.Option.{same_Some}

@@ -1,7 +1,6 @@
 -- How far an actor goes in its turn: its step, and after a settle the steps that settle the link.
 use Rattle.std.proofs.Common.{◌≡◌, ℕ, suc, ◌<◌, ◌⊎◌, Bool, true, false, List, ◌∷◌, length}
-use Rattle.std.proofs.Common.{Option, Some, None, refl, sym, ◌∙◌, ap, subst, inl, inr, arith, ⊥}
-use Rattle.std.proofs.Common.{◌×◌}
+use Rattle.std.proofs.Common.{Option, Some, None, refl, sym, ◌∙◌, ap, subst, inl, inr, arith}
 use Rattle.std.specs.Prelude.{◌&&◌, nat_le}
 use Rattle.std.proofs.lemmas.Bool.{cases_lt, eq-eqb, le-leb, or_left, true≢false}
 use Rattle.std.proofs.lemmas.Option.{same_Some}

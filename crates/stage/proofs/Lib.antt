@@ -6,6 +6,9 @@ mod Idling
 pub mod Pumping
 pub mod Settling
 mod Settled
+mod Readings
+mod Lasting
+mod Shortening
 mod Latest
 pub mod Going
 mod Resting

@@ -38,7 +38,7 @@ use Rattle.stage.specs.Pumps.{up_side}
 use Rattle.stage.specs.Settlings.{AreSettlings, IsSettled, StopsSettling}
 use Rattle.stage.specs.Settlings.{ticks_of}
 use Rattle.stage.proofs.Pumping.{IsTick, IsWire}
-use Rattle.stage.proofs.Settling.{beats, delivering, delivers, due-stirs, has-moved, move-goes_on}
+use Rattle.stage.proofs.Settling.{beats, delivering, delivers, due-stirs, move-goes_on}
 use Rattle.stage.proofs.Settling.{moved-settled, moved-whole, runs-more, settling-asked}
 use Rattle.stage.proofs.Settling.{settling-stirs, tick-made, wire-made, IsMoveOf}
 
@@ -54,13 +54,13 @@ none_of true b is = cc
 none_of false true is = cc
 none_of false false is = (refl, refl)
 
-none-flies : (t : TrunkState) → flying_side t ≡ None → IsEmpty t.link
+pub none-flies : (t : TrunkState) → flying_side t ≡ None → IsEmpty t.link
 none-flies t is =
     let none = none_of (flies_from First t) (flies_from Second t) is in
     (empty_of t.link.there none.0, empty_of t.link.back none.1)
 
 -- THE SIDE IN TURN ticks where the link isn't cut
-turn_taken : (cut moves : Bool) (up : Option Side) (turn side : Side)
+pub turn_taken : (cut moves : Bool) (up : Option Side) (turn side : Side)
     → (if cut then up else if moves then Some turn else None) ≡ Some side → cut ≡ false
     → (moves ≡ true) × (side ≡ turn)
 turn_taken true moves up turn side is whole = absurd (true≢false whole)
@@ -93,7 +93,7 @@ pub record IsLeft (l : LinkNo) (f : Layout) (ticks : ℕ) : Type 0 where
 module _ (law : RunsSettle) (old new : Layout) (by : By) (l : LinkNo) (ticks_so_far : ℕ)
     (run : IsBoundedTrunkRun old.shape old.log.steps (trunks_of old.trunks))
     (room : length old.log.steps < 200000) (left : IsLeft l old ticks_so_far) where
-  on-with : (head : Head) (answer : StepAnswer) (step : IsStepOf old new by head answer)
+  pub on-with : (head : Head) (answer : StepAnswer) (step : IsStepOf old new by head answer)
       → RunGoesOn old.shape old.log.steps (trunks_of old.trunks)
       (record { by = by; head = head; effects = step.effects }) (trunks_of new.trunks)
   on-with head answer step = record { run = run; room = room; step = step.makes }
@@ -112,7 +112,7 @@ module _ (law : RunsSettle) (old new : Layout) (by : By) (l : LinkNo) (ticks_so_
   }
 
   -- there are some where it stirs with nothing in flight
-  some-left : IsEmpty (trunks_of old.trunks l.0).link → is_cut old.log.steps l.0 ≡ false
+  pub some-left : IsEmpty (trunks_of old.trunks l.0).link → is_cut old.log.steps l.0 ≡ false
       → stirs old.log.steps (trunks_of old.trunks) l.0 ≡ true → ticks_so_far < 6
   some-left empty whole moves =
       elim (cases_lt ticks_so_far 6) [
@@ -311,17 +311,6 @@ module _ (law : RunsSettle) (by : By) (l : LinkNo) (start old new : Layout) (tic
         | inl wire ↦ way-wire wire
         | inr tick ↦ way-tick tick
       ]
-
-  -- and makes the journal longer
-  pub way-grows : length new.log.steps ≡ suc (length P)
-  way-grows =
-      ap length (has-moved by l old new (record {
-        event = event;
-        asked = asked;
-        answer = answer;
-        stepped = stepped;
-        fixed = fixed;
-      })).step.steps
 
 -- IT ENDS where no step is due
 pub way-ends : RunsSettle → (by : By) (l : LinkNo) (start now : Layout) (ticks : ℕ)

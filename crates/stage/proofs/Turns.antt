@@ -1,5 +1,5 @@
 -- What a turn is, once it is known whether the actor had ended, or what the link's pump asks for.
-use Rattle.std.proofs.Common.{◌≡◌, ℕ, ⊥, true, false, Option, Some, None, sym, subst}
+use Rattle.std.proofs.Common.{◌≡◌, ℕ, true, false, Option, Some, None, sym, subst}
 use Rattle.std.proofs.Common.{◌∙◌}
 use Rattle.std.proofs.lemmas.Bool.{true≢false}
 use Rattle.std.proofs.lemmas.Option.{same_Some}

@@ -24,7 +24,7 @@ use fabric::{Fabric, StepStop, StopCause};
 use journal::{By, Event, Head, Step};
 use linx_base::LinkNo;
 use node_kernel::{Ask, StepAnswer};
-use run_settling::runs_settle;
+use run_settling::{links_come_to_rest, runs_settle};
 use script_lang::Script;
 
 /// What came of what an actor asked for.
@@ -116,7 +116,8 @@ pub(crate) fn make_step(fabric: &mut Fabric, by: By, event: Event) -> Result<Ste
 
 /// Settles a link: makes the steps of its pump, as this maker, until the link doesn't stir. It
 /// answers how many ticks that took: six at most, and then both sides are up with each other and
-/// were given all that was said. A stop leaves the steps that were made.
+/// were given all that was said. It comes to its end because links come to rest: each packet that
+/// comes leaves less to do, and then a tick less is left. A stop leaves the steps that were made.
 pub fn settle(fabric: &mut Fabric, by: By, link: LinkNo) -> Result<u32, StopCause>
     requires declared { IsLinkOf fabric.old.shape link }
     requires maker { IsMaker fabric.old.shape fabric.old.log.steps by }
@@ -129,6 +130,7 @@ pub fn settle(fabric: &mut Fabric, by: By, link: LinkNo) -> Result<u32, StopCaus
     ensures fixed { OnlyRuns fabric.old fabric.new }
 {
     runs_settle();
+    links_come_to_rest();
     let _ = fabric.journal();
     let mut ticks = 0;
     'steps: while let Some(event) = settling_event(fabric, link) {

@@ -2,8 +2,10 @@ use Rattle.std.proofs.Common.{ℕ, ◌+◌, ◌<◌, length, sym, subst, arith}
 use Rattle.fabric.specs.Run.{Layout}
 use Rattle.stage.specs.Settlings.{StopsSettling}
 use Rattle.stage.proofs.Going.{not_full}
-use Rattle.stage.proofs.Settled.{IsUnderWay, way-begins, way-ends, way-grows, way-more, way-stops}
+use Rattle.stage.proofs.Lasting.{steps_left}
+use Rattle.stage.proofs.Settled.{IsUnderWay, way-begins, way-ends, way-more, way-stops}
 use Rattle.stage.proofs.Settling.{settle-asks}
+use Rattle.stage.proofs.Shortening.{fewer_left, way_at}
 use Rattle.stage.proofs.Whole.{on_err-said}
 use Rattle.stage.proofs.acting.settle.Goals as goal
 
@@ -33,11 +35,14 @@ pub steps-smaller : goal.steps-smaller
 steps-smaller c =
     let room : length c.steps.fabric.log.steps < 200000 =
     not_full c.steps.fabric.log.steps (λ full. let no = c.in_ok-make_step.ensures.full full in cc) in
-    let more = way-grows c.runs_settle.ensures c.args.by c.args.link c.args.fabric.now
-    c.steps.fabric c.make_step.new.fabric c.steps.ticks c.steps.invariant c.in-Some.event
-    (sym c.in-Some.ensures) c.in_ok-make_step.field-0 c.in_ok-make_step.ensures.ok
-    c.in_ok-make_step.ensures.fixed room in
-    omega (arith, room, more)
+    subst (λ (n : ℕ). steps_left c.args.by c.args.fabric.now.shape c.args.link
+    (way_at c.args.link c.make_step.new.fabric (c.steps.ticks + n))
+    < steps_left c.args.by c.args.fabric.now.shape c.args.link
+    (way_at c.args.link c.steps.fabric c.steps.ticks)) (sym c.ticks_of-more.ensures)
+    (fewer_left c.runs_settle.ensures c.links_come_to_rest.ensures c.args.by c.args.link
+    c.args.fabric.now c.steps.fabric c.make_step.new.fabric c.steps.ticks c.steps.invariant
+    c.in-Some.event (sym c.in-Some.ensures) c.in_ok-make_step.field-0 c.in_ok-make_step.ensures.ok
+    room)
 
 pub steps-preserved : goal.steps-preserved
 steps-preserved c =

@@ -1,10 +1,10 @@
-use Rattle.std.proofs.Common.{◌≡◌, true, ◌∙◌, ap, inl, sym, subst}
+use Rattle.std.proofs.Common.{◌≡◌, true, ◌∙◌, ap, inl, refl, sym, subst}
 use Rattle.std.specs.Prelude.{is_some}
 use Rattle.journal.specs.Shapes.{Shape}
 use Rattle.link_laws.specs.Ends.{IsLinkOf}
 use Rattle.run_trunks.specs.States.{trunks_of}
 use Rattle.stage.specs.Settlings.{stirs_in}
-use Rattle.stage.specs.Turns.{IsDueForLink}
+use Rattle.stage.specs.Turns.{IsDueForLink, makes_event}
 use Rattle.stage.proofs.Pumping.{pump-asks, pump-stirs}
 use Rattle.stage.proofs.Whole.{on_err-said}
 use Rattle.stage.proofs.pump.pump_turn.Goals as goal
@@ -24,3 +24,11 @@ returns-in_err-make_step-clause-due c =
     sym (pump-stirs c.args.script.now f.log.steps (trunks_of f.trunks) c.args.link)
     ∙ ap is_some (sym c.in-Some.ensures) in
     on_err-said c.from_residual.result (IsDueForLink f c.args.link) (inl moves)
+
+pub returns-clause-ok : goal.returns-clause-ok
+returns-clause-ok c = makes_event c.in-Some.event (sym c.in-Some.ensures) (record {
+  answer = c.in_ok-make_step.field-0;
+  stepped = c.in_ok-make_step.ensures.ok;
+  fixed = c.in_ok-make_step.ensures.fixed;
+  came = refl;
+})
