@@ -118,7 +118,7 @@ fn play_in_threads<R: Threads + Wait + Sync, G: Gate + Sync>(
 ) -> Result<Ran, NoMemory>
     ensures { IfOk result (IsRan Asked.Run script) }
 {
-    workers::run(rt, alloc, script, gate)
+    Ok(workers::run(rt, alloc, script, gate)?.ran)
 }
 
 /// What is asked for of a run that came to its end goes to the sink.

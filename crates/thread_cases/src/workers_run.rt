@@ -9,7 +9,7 @@ use std::alloc::Global;
 use std::sync::Wait;
 use std::test::Fail;
 use std::thread::Threads;
-use workers::{Ran, run};
+use workers::{Ran, WorkedRun, run};
 
 const TWO: &str = "node n\nactor p n\nopen a\nrecv 1\nend\nactor q n\nopen b\nhunt a\n\
     recv 251\nsend last 1\nend\n";
@@ -39,10 +39,11 @@ fn makers_of(alloc: Global, journal: &Journal) -> Result<Vec<By>, Fail> {
     Ok(makers)
 }
 
-/// The journal of a run, if it came to its end.
-fn ended(ran: Ran) -> Option<Journal> {
+/// The journal of a run, if it came to its end by its workers alone.
+fn ended(worked: WorkedRun) -> Option<Journal> {
+    let WorkedRun { ran, gave_up, .. } = worked;
     let Ran { stage, stop } = ran;
-    let has_ended = stop.is_none() && stage.is_over();
+    let has_ended = stop.is_none() && stage.is_over() && !gave_up;
     let journal = stage.into_journal();
     if has_ended { Some(journal) } else { None }
 }

@@ -2,32 +2,39 @@
 -- between two turns, or has ended. So a stage can go on from there.
 use Rattle.std.proofs.Common.{◌≡◌, ℕ, zero, suc, ◌<◌, ◌≤◌, ◌+◌, List, [], ◌∷◌, length, map, All}
 use Rattle.std.proofs.Common.{get_or, Option, Some, None, refl, sym, ◌∙◌, ap, subst, arith}
-use Rattle.std.specs.Prelude.{slice_get}
+use Rattle.std.specs.Prelude.{slice_get, ◌-◌, ◌&&◌, Bool, true, false}
 use Rattle.std.proofs.lemmas.List.{length-map, get_or-map}
 use Rattle.std.proofs.lemmas.List.Elements.{All-head, All-tail}
 use Rattle.std.proofs.lemmas.Option.{get_or_from_slice_get}
 use Rattle.linx_base.specs.declared.name.Names.{Names}
 use Rattle.journal.specs.declared.effect.Step.{Step}
+use Rattle.journal.specs.History.{has_ended}
 use Rattle.journal.specs.Shapes.{Shape}
+use Rattle.actor_run.specs.Following.{Follows, IsTurned}
 use Rattle.run_trunks.specs.States.{trunks_of}
+use Rattle.script_lang.specs.declared.actor_script.ActorScript.{ActorScript}
 use Rattle.script_lang.specs.Fits.{IsScript}
 use Rattle.script_lang.specs.Parts.{ScriptParts}
 use Rattle.trunk_moves.specs.Trunks.{RunTrunks}
 use Rattle.turn_lock.specs.declared.story.Made.{Made}
-use Rattle.turn_lock.specs.Passes.{AreDealt, IsSamePass, LockView, PassView, new_pass}
-use Rattle.turn_lock.specs.Stories.{AllMadeUpTo, RestsFor}
+use Rattle.turn_lock.specs.Passes.{AreDealt, IsSamePass, LockView, PassView, new_pass, own_steps}
+use Rattle.turn_lock.specs.Stories.{AllMadeUpTo, RestsFor, made_by}
 use Rattle.turn_lock.proofs.Back.{AreBack, dealt_at}
+use Rattle.fabric.specs.Links.{no_link_stirs, stirs}
+use Rattle.fabric.specs.Machine.{all_have_ended, have_ended}
 use Rattle.fabric.specs.Run.{IsReached, IsReachedBy, Layout}
 use Rattle.linx_api.specs.Telling.{PlanParts, made_steps, maker_number, numbered, plan_of, story_of}
 use Rattle.stage.specs.declared.player.Player.{Player}
 use Rattle.stage.specs.Plays.{IsPlanned}
 use Rattle.stage.specs.Seats.{AreSeated, IsSeated, IsStaged}
-use Rattle.stage.specs.Turns.{makers, shape_of}
+use Rattle.stage.specs.Turns.{commands_of, is_over, makers, shape_of}
 use Rattle.workers.specs.declared.worker.Job.{Job}
 use Rattle.workers.specs.declared.worker.Worked.{Worked}
-use Rattle.workers.specs.Running.{passes_in, players_in}
-use Rattle.workers.specs.Working.{AreWorkedJobs, IsPlayedBy, IsWorked, IsWorking, OwnPlanned}
-use Rattle.workers.specs.Working.{plan_for, seen}
+use Rattle.workers.specs.declared.worker.End.TheVariants.{Finished}
+use Rattle.workers.specs.Running.{AreFinished, AreShares, IsShare, passes_in, players_in}
+use Rattle.workers.specs.Working.{AreWorkedJobs, IsFinished, IsPlayedBy, IsWorked, IsWorking}
+use Rattle.workers.specs.Working.{OwnPlanned, plan_for, seen}
+use Rattle.workers.proofs.Finishing.{ended-by_each, finished-goes_on, still-by_each}
 use Rattle.workers.proofs.Resting.{GoesOnFor, own-goes_on, played-goes_on, rests-on}
 
 -- ---- the run
@@ -153,6 +160,7 @@ module _ (script : ScriptParts) (P : List Step) where
 pub record IsBackAt (script : ScriptParts) (i : ℕ) (w : Worked) : Type 0 where
   pub number : w.pass.number ≡ suc i
   pub working : IsWorking script w.pass w.player
+  pub finished : w.end ≡ Finished → IsFinished script (seen w.pass) w.pass.number w.player
 
 -- each that came back is at its place
 abbrev pub AreBackIn : ScriptParts → List Worked → Type 0
@@ -171,6 +179,23 @@ pub within-of : {X : Type 0} (xs : List X) (i : ℕ) (x : X) → slice_get xs i 
 within-of [] i x is = cc
 within-of (y ∷ xs) zero x is = omega arith
 within-of (y ∷ xs) (suc i) x is = let less = within-of xs i x is in omega arith
+
+-- where all are finished, the one at a place is
+end-at : (all : List Worked) → AreFinished all → (i : ℕ) (w : Worked) → slice_get all i ≡ Some w
+    → w.end ≡ Finished
+end-at [] finished i w is = cc
+end-at (v ∷ rest) finished zero w is =
+    let it : v ≡ w = cc in
+    subst (λ (x : Worked). x.end ≡ Finished) it finished.0
+end-at (v ∷ rest) finished (suc i) w is = end-at rest finished.1 i w is
+
+-- the worker whose pass is at a place
+pass-at : (all : List Worked) (k : ℕ) (p : PassView Step PlanParts)
+    → slice_get (passes_in all) k ≡ Some p
+    → (w : Worked) × ((slice_get all k ≡ Some w) × (w.pass ≡ p))
+pass-at [] k p is = cc
+pass-at (w ∷ rest) zero p is = (w, (refl, cc))
+pass-at (w ∷ rest) (suc k) p is = pass-at rest k p is
 
 -- what holds of each pass that came back holds of the one at a place
 of-pass : (Q : PassView Step PlanParts → Type 0) (all : List Worked) → All Q (passes_in all)
@@ -233,8 +258,133 @@ module _ (script : ScriptParts) (all : List Worked) (count : length all ≡ make
       let counted = count-left script f.log.steps 0 all (omega arith) (omega arith) closed-played in
       omega arith
 
+  -- ---- where all are finished
+
+  -- each maker is finished there
+  finished-at : AreFinished all → (i : ℕ) (w : Worked) → slice_get all i ≡ Some w
+      → IsFinished script f.log.steps (suc i) w.player
+  finished-at finished i w is =
+      let less = within-of all i w is in
+      finished-goes_on script (suc i) (omega arith) f.log.steps (seen w.pass)
+      (goes-on-from i w is) w.player
+      (subst (λ (k : ℕ). IsPlayedBy script (seen w.pass) k w.player) (back i w is).number
+      (back i w is).working.played)
+      (subst (λ (k : ℕ). IsFinished script (seen w.pass) k w.player) (back i w is).number
+      ((back i w is).finished (end-at all finished i w is)))
+
+  played-at : (i : ℕ) (w : Worked) → slice_get all i ≡ Some w
+      → IsPlayedBy script f.log.steps (suc i) w.player
+  played-at i w is =
+      played-goes_on script (suc i) f.log.steps (seen w.pass) (goes-on-from i w is) w.player
+      (subst (λ (k : ℕ). IsPlayedBy script (seen w.pass) k w.player) (back i w is).number
+      (back i w is).working.played)
+
+  -- each actor has ended
+  closed-ended : AreFinished all → (k : ℕ) → 0 < k → k ≤ length script.actors
+      → has_ended f.log.steps k ≡ true
+  closed-ended finished zero low high = absurd (omega arith)
+  closed-ended finished (suc i) low high =
+      let there = there-at all i (omega arith) in
+      go there.0.player (finished-at finished i there.0 there.1) (played-at i there.0 there.1)
+    where
+      go : (o : Option Player) → IsFinished script f.log.steps (suc i) o
+          → IsPlayedBy script f.log.steps (suc i) o → has_ended f.log.steps (suc i) ≡ true
+      go (Some player) ended played = ended
+      go None rests behind = absurd (omega arith)
+
+  -- and no link stirs
+  closed-still : AreFinished all
+      → IsReached (length script.names.nodes) (shape_of script) f.log.steps (trunks_of f.trunks)
+      → (l : ℕ) → 0 < l → l ≤ length script.links
+      → stirs f.log.steps (trunks_of f.trunks) l ≡ false
+  closed-still finished reached zero low high = absurd (omega arith)
+  closed-still finished reached (suc l) low high =
+      let there = there-at all (length script.actors + l) (omega arith) in
+      go there.0.player (finished-at finished (length script.actors + l) there.0 there.1)
+      (played-at (length script.actors + l) there.0 there.1)
+    where
+      go : (o : Option Player)
+          → IsFinished script f.log.steps (suc (length script.actors + l)) o
+          → IsPlayedBy script f.log.steps (suc (length script.actors + l)) o
+          → stirs f.log.steps (trunks_of f.trunks) (suc l) ≡ false
+      go (Some player) ended played = let within = played.0 in absurd (omega arith)
+      go None rests behind =
+          let number : suc (length script.actors + l) - length script.actors ≡ suc l =
+          omega arith in
+          subst (λ (k : ℕ). stirs f.log.steps (trunks_of f.trunks) k ≡ false) number
+          (rests.1 (trunks_of f.trunks) reached)
+
   closed-names : f.log.names ≡ script.names
   closed-names = ap (λ (q : PlanParts). q.names) plan
+
+  -- it is a state of a run of the script
+  closed-reached : IsReachedBy f
+      → IsReached (length script.names.nodes) (shape_of script) f.log.steps (trunks_of f.trunks)
+  closed-reached reached =
+      subst (λ (names : Names). IsReached (length names.nodes) (shape_of script) f.log.steps
+      (trunks_of f.trunks)) closed-names
+      (subst (λ (s : Shape). IsReached (length f.log.names.nodes) s f.log.steps
+      (trunks_of f.trunks)) closed-shape reached)
+
+  -- WHERE ALL ARE FINISHED ALL IS OVER
+  pub closed-over : AreFinished all → IsReachedBy f → is_over f ≡ true
+  closed-over finished reached =
+      let count : length (shape_of script).actors ≡ length script.actors =
+      length-map script.actors (λ (a : ActorScript). a.node) in
+      let ended : all_have_ended (shape_of script) f.log.steps ≡ true =
+      subst (λ (n : ℕ). have_ended f.log.steps n ≡ true) (sym count)
+      (ended-by_each f.log.steps (length script.actors) (closed-ended finished)) in
+      let still : no_link_stirs (shape_of script) f.log.steps (trunks_of f.trunks) ≡ true =
+      still-by_each f.log.steps (trunks_of f.trunks) (length script.links)
+      (closed-still finished (closed-reached reached)) in
+      subst (λ (s : Shape). (all_have_ended s f.log.steps
+      && no_link_stirs s f.log.steps (trunks_of f.trunks)) ≡ true) (sym closed-shape)
+      (rw (ended, still) refl)
+
+  -- EACH MAKER HAS ITS SHARE
+  module _ (own : All (λ (p : PassView Step PlanParts).
+      made_by p.number (story_of f) ≡ own_steps p) (passes_in all)) where
+    share-at : (i : ℕ) (w : Worked) → slice_get all i ≡ Some w
+        → IsShare script f (suc i) w.pass
+    share-at i w is =
+        let it = back i w is in record {
+          number = it.number;
+          fixed = it.working.fixed;
+          front = subst (λ (k : ℕ). RestsFor k (story_of f) w.pass.front) it.number
+              (of-pass (λ (p : PassView Step PlanParts). RestsFor p.number (story_of f) p.front)
+              all rests i w is);
+          own = ap (λ (k : ℕ). made_by k (story_of f)) (sym it.number)
+              ∙ of-pass (λ (p : PassView Step PlanParts).
+              made_by p.number (story_of f) ≡ own_steps p) all own i w is;
+          planned = subst (λ (k : ℕ). OwnPlanned script k (seen w.pass)) it.number
+              it.working.planned;
+          follows = λ actor. followed w.player
+              (subst (λ (k : ℕ). IsPlayedBy script (seen w.pass) k w.player) it.number
+              it.working.played) actor;
+        }
+      where
+        followed : (o : Option Player) → IsPlayedBy script (seen w.pass) (suc i) o
+            → suc i ≤ length script.actors
+            → Follows (commands_of script (suc i)) (suc i) (seen w.pass)
+        followed None behind actor = absurd (omega arith)
+        followed (Some player) played actor =
+            turned (has_ended (seen w.pass) (suc i)) player played.1
+          where
+            turned : (b : Bool) (q : Player)
+                → IsTurned (commands_of script (suc i)) (suc i) (seen w.pass) q.mind q.me b
+                → Follows (commands_of script (suc i)) (suc i) (seen w.pass)
+            turned true q whole = whole.0
+            turned false q playing = playing.follows
+
+    pub closed-shares : AllMadeUpTo (makers script) (story_of f)
+        → AreShares script f (passes_in all)
+    closed-shares made = record {
+      many = length-map all (λ (w : Worked). w.pass) ∙ count;
+      each = λ k p is.
+          let at = pass-at all k p is in
+          subst (IsShare script f (suc k)) at.1.1 (share-at k at.0 at.1.0);
+      makers_only = made;
+    }
 
   -- A STAGE CAN GO ON from the closed fabric
   pub closed-staged : IsScript script → AllMadeUpTo (makers script) (story_of f)
@@ -249,10 +399,7 @@ module _ (script : ScriptParts) (all : List Worked) (count : length all ≡ make
         (subst (λ (s : Shape). AllMadeUpTo (makers script) (made_steps s f.log.steps)) closed-shape
         made)
         closed-own
-        (subst (λ (names : Names). IsReached (length names.nodes) (shape_of script) f.log.steps
-        (trunks_of f.trunks)) closed-names
-        (subst (λ (s : Shape). IsReached (length f.log.names.nodes) s f.log.steps
-        (trunks_of f.trunks)) closed-shape reached));
+        (closed-reached reached);
   }
 
 -- ---- who came back
@@ -314,4 +461,5 @@ module _ (script : ScriptParts) (jobs : List Job) (all : List Worked)
         number = ap (λ (p : PassView Step PlanParts). p.number) it.same
             ∙ (ap (λ (p : PassView Step PlanParts). p.number) first ∙ next);
         working = it.working;
+        finished = it.finished;
       }

@@ -1,29 +1,30 @@
 -- WHAT IS DEALT comes back: the jobs of a new lock are ready, and a stage can go on from what their
 -- workers leave.
 use Rattle.std.proofs.Common.{◌≡◌, ℕ, zero, suc, ◌<◌, ◌≤◌, ◌+◌, List, [], ◌∷◌, length, All}
-use Rattle.std.proofs.Common.{Option, Some, None, refl, sym, ◌∙◌, ap, subst, arith}
+use Rattle.std.proofs.Common.{Option, Some, None, true, refl, sym, ◌∙◌, ap, subst, arith}
 use Rattle.std.specs.Prelude.{slice_get}
 use Rattle.std.proofs.lemmas.List.{length-map}
+use Rattle.std.proofs.lemmas.List.Elements.{All-nil}
 use Rattle.std.proofs.lemmas.Option.{get_or_from_slice_get}
 use Rattle.journal.specs.declared.effect.Step.{Step}
 use Rattle.script_lang.specs.Fits.{IsScript}
 use Rattle.script_lang.specs.Parts.{ScriptParts}
 use Rattle.turn_lock.specs.Passes.{AreDealt, IsLeastMissing, IsPassOf, LockView, PassView}
-use Rattle.turn_lock.specs.Passes.{new_pass}
-use Rattle.turn_lock.specs.Stories.{AllMadeUpTo, RestsFor}
+use Rattle.turn_lock.specs.Passes.{new_pass, own_steps}
+use Rattle.turn_lock.specs.Stories.{AllMadeUpTo, RestsFor, made_by}
 use Rattle.turn_lock.proofs.Back.{AreBack, back_fixed, back_of_lock, dealt_at, none_missing}
 use Rattle.fabric.specs.Run.{IsReachedBy, Layout}
 use Rattle.linx_api.specs.Telling.{PlanParts, plan_of, story_of}
 use Rattle.stage.specs.declared.player.Player.{Player}
 use Rattle.stage.specs.Seats.{IsStaged, unstarted}
-use Rattle.stage.specs.Turns.{first_layout, makers}
+use Rattle.stage.specs.Turns.{first_layout, is_over, makers, shape_of}
 use Rattle.stage.proofs.Seats.{staged-first, unstarted-seated}
 use Rattle.workers.specs.declared.worker.Job.{Job}
 use Rattle.workers.specs.declared.worker.Worked.{Worked}
-use Rattle.workers.specs.Running.{jobs_with, passes_in, players_in}
+use Rattle.workers.specs.Running.{AreFinished, AreShares, jobs_with, passes_in, players_in}
 use Rattle.workers.specs.Working.{AreWorkedJobs, IsPlayedBy, IsReadyJob, IsWorking, plan_for}
-use Rattle.workers.proofs.Closing.{back-in, closed-staged, jobs-back, passes_of, there-at}
-use Rattle.workers.proofs.Closing.{within-of}
+use Rattle.workers.proofs.Closing.{back-in, closed-over, closed-shares, closed-staged, jobs-back}
+use Rattle.workers.proofs.Closing.{passes_of, there-at, within-of}
 
 -- ---- what is dealt
 
@@ -95,6 +96,26 @@ pub first_staged : (script : ScriptParts) (f : Layout) (players : List Player)
     → IsScript script → f ≡ first_layout script → players ≡ unstarted script.actors
     → IsStaged script f players
 first_staged = staged-first
+
+-- where there is no maker, all is over, and there is no share
+pub none_over : (script : ScriptParts) (f : Layout) → f ≡ first_layout script
+    → makers script ≡ 0 → is_over f ≡ true
+none_over script f is none =
+    let actors : length (shape_of script).actors ≡ 0 =
+    let count : length (shape_of script).actors ≡ length script.actors =
+    length-map script.actors _ in omega arith in
+    let links : length script.links ≡ 0 = omega arith in
+    subst (λ (g : Layout). is_over g ≡ true) (sym is) (rw (actors, links) refl)
+
+pub none_shares : (script : ScriptParts) (f : Layout) (passes : List (PassView Step PlanParts))
+    → f ≡ first_layout script → makers script ≡ 0 → passes ≡ [] → AreShares script f passes
+none_shares script f passes is none empty =
+    subst (AreShares script f) (sym empty)
+    (subst (λ (g : Layout). AreShares script g []) (sym is) (record {
+      many = sym none;
+      each = λ k p at. cc;
+      makers_only = All-nil _;
+    }))
 
 module _ (script : ScriptParts) (shared : Layout) (bare : shared ≡ first_layout script)
     (lock : LockView) (seats : lock.seats ≡ makers script) (passes : List (PassView Step PlanParts))
@@ -181,6 +202,41 @@ module _ (script : ScriptParts) (shared : Layout) (bare : shared ≡ first_layou
         fixed 0 any (omega arith)
         ∙ back_fixed lock (plan_for script) (passes_of jobs) back jobs-dealt all-back 0
         any (omega arith)
+
+    -- where all are finished, all is over
+    pub came_over : 0 < makers script → (f : Layout)
+        → All (λ (p : PassView Step PlanParts). plan_of f ≡ p.fixed) back
+        → All (λ (p : PassView Step PlanParts). RestsFor p.number (story_of f) p.front) back
+        → (left : Layout) → left ≡ f → IsReachedBy left → AreFinished all → is_over left ≡ true
+    came_over some f fixed rests left same reached finished =
+        subst (λ (g : Layout). is_over g ≡ true) (sym same)
+        (closed-over script all came-many
+        (back-in script jobs all worked lock (plan_for script) jobs-dealt) f
+        (subst (λ (l : List (PassView Step PlanParts)).
+        All (λ (p : PassView Step PlanParts). RestsFor p.number (story_of f) p.front) l)
+        kept rests)
+        (came-plan f some fixed) finished (subst IsReachedBy same reached))
+
+    -- each maker has its share
+    pub came_shares : 0 < makers script → (f : Layout)
+        → All (λ (p : PassView Step PlanParts). plan_of f ≡ p.fixed) back
+        → All (λ (p : PassView Step PlanParts). RestsFor p.number (story_of f) p.front) back
+        → All (λ (p : PassView Step PlanParts). made_by p.number (story_of f) ≡ own_steps p) back
+        → AllMadeUpTo lock.seats (story_of f)
+        → (left : Layout) → left ≡ f → AreShares script left back
+    came_shares some f fixed rests own made left same =
+        subst (λ (g : Layout). AreShares script g back) (sym same)
+        (subst (AreShares script f) (sym kept)
+        (closed-shares script all came-many
+        (back-in script jobs all worked lock (plan_for script) jobs-dealt) f
+        (subst (λ (l : List (PassView Step PlanParts)).
+        All (λ (p : PassView Step PlanParts). RestsFor p.number (story_of f) p.front) l)
+        kept rests)
+        (came-plan f some fixed)
+        (subst (λ (l : List (PassView Step PlanParts)).
+        All (λ (p : PassView Step PlanParts). made_by p.number (story_of f) ≡ own_steps p) l)
+        kept own)
+        (subst (λ (n : ℕ). AllMadeUpTo n (story_of f)) seats made)))
 
     -- SO A STAGE CAN GO ON
     pub came_staged : IsScript script → 0 < makers script → (f : Layout)

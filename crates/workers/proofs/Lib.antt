@@ -1,4 +1,5 @@
 mod Resting
+mod Finishing
 mod Planning
 mod Turning
 mod Giving

@@ -129,6 +129,16 @@ acted-runs before after ask acted ended turn runs =
     (ap (λ (P : List Step). has_ended P before.number) (seen-all before turn.left)
     ∙ (sym turn.over ∙ runs))
 
+-- and one whose turn was the last one has
+pub acted-done : (before after : PassView Step PlanParts) (ask : Ask) (acted : Acted) (ended : Bool)
+    → IsActedIn before ask acted ended after → ended ≡ true
+    → has_ended (seen after) after.number ≡ true
+acted-done before after ask acted ended turn done =
+    subst (λ (q : PassView Step PlanParts). has_ended (seen q) q.number ≡ true)
+    (sym turn.turn.same)
+    (ap (λ (P : List Step). has_ended P before.number) (seen-all before turn.left)
+    ∙ (sym turn.over ∙ done))
+
 -- a full journal is met only where it is one
 pub acted-full : (before after : PassView Step PlanParts) (ask : Ask) (acted : Acted) (ended : Bool)
     → IsActedIn before ask acted ended after → IsRightlyFull after (stop_of acted)

@@ -13,13 +13,14 @@ use Rattle.turn_lock.specs.Stories.{RestsFor}
 use Rattle.fabric.specs.declared.stop.StopCause.{StopCause}
 use Rattle.fabric.specs.declared.stop.StopCause.TheVariants.{JournalFull}
 use Rattle.fabric.specs.Actings.{OnlyRuns}
+use Rattle.fabric.specs.Machine.{all_have_ended}
 use Rattle.fabric.specs.Run.{IsReachedBy, Layout}
 use Rattle.linx_api.specs.Telling.{PlanParts, plan_of, story_of}
 use Rattle.stage.specs.declared.acting.Acted.{Acted}
 use Rattle.stage.specs.declared.player.Player.{Player}
 use Rattle.stage.specs.declared.stage.Pump.{Pump}
 use Rattle.stage.specs.declared.stage.Turn.{Turn}
-use Rattle.stage.specs.Settlings.{IsActedAs, settler_in}
+use Rattle.stage.specs.Settlings.{IsActedAs, settler_in, stirs_in}
 use Rattle.stage.specs.Stops.{IsCauseOf}
 use Rattle.stage.specs.Turns.{IsPump, commands_of, turn_by}
 use Rattle.workers.specs.declared.worker.Turned.{Turned}
@@ -81,6 +82,13 @@ abbrev pub IsPumpTurn : ScriptParts → ℕ → Layout → Layout → Type 0
 IsPumpTurn script n old new =
     (result : Result Pump StopCause)
     × IsPumpedAs script (record { 0 = n - length script.actors }) old new result
+
+-- the pump's turn was the last one: nothing was done, all actors have ended, and the link doesn't
+-- stir
+pub record IsPumpDone (script : ScriptParts) (n : ℕ) (old new : Layout) : Type 0 where
+  pub same : new ≡ old
+  pub ended : all_have_ended new.shape new.log.steps ≡ true
+  pub still : stirs_in new (record { 0 = n - length script.actors }) ≡ false
 
 -- ---- either's
 

@@ -1,5 +1,5 @@
 -- What the workers of a run know by their passes.
-use Rattle.std.specs.Prelude.{ℕ, ◌≡◌, ◌<◌, ◌≤◌, true, false, List, [], ◌∷◌, length}
+use Rattle.std.specs.Prelude.{ℕ, ◌≡◌, ◌-◌, ◌<◌, ◌≤◌, true, false, List, [], ◌∷◌, length}
 use Rattle.std.specs.Prelude.{Option, Some, None, slice_index_or}
 use Rattle.journal.specs.declared.effect.Step.{Step}
 use Rattle.journal.specs.History.{has_ended}
@@ -8,12 +8,17 @@ use Rattle.turn_lock.specs.Passes.{IsPassOf, IsSamePass, LockView, PassView}
 use Rattle.linx_api.specs.Telling.{PlanParts, maker_number, steps_in}
 use Rattle.script_lang.specs.Parts.{ScriptParts}
 use Rattle.trunk_moves.specs.Trunks.{RunTrunks}
+use Rattle.fabric.specs.declared.stop.StopCause.{StopCause}
 use Rattle.fabric.specs.declared.stop.StopCause.TheVariants.{JournalFull}
+use Rattle.fabric.specs.Links.{stirs}
+use Rattle.fabric.specs.Machine.{all_have_ended}
 use Rattle.fabric.specs.Run.{IsReached}
 use Rattle.stage.specs.declared.player.Player.{Player}
 use Rattle.stage.specs.Plays.{IsPlannedStep}
 use Rattle.stage.specs.Seats.{IsSeated}
 use Rattle.stage.specs.Turns.{makers, shape_of}
+use Rattle.workers.specs.declared.worker.End.{End}
+use Rattle.workers.specs.declared.worker.End.TheVariants as ends
 use Rattle.workers.specs.declared.worker.Job.{Job}
 use Rattle.workers.specs.declared.worker.Worked.{Worked}
 
@@ -57,13 +62,33 @@ abbrev pub StillRuns : PassView Step PlanParts → Option Player → Type 0
 StillRuns p player =
     (actor : Player) → player ≡ Some actor → has_ended (seen p) p.number ≡ false
 
--- A WORKER IS DONE: its pass is back, it knows what it knew between two turns, and it met a full
--- journal only where its pass has seen one
+-- a link doesn't stir in whatever state these steps reach
+abbrev pub IsStillThen : ScriptParts → List Step → ℕ → Type 0
+IsStillThen script P l =
+    (trunks : RunTrunks) → IsReached (length script.names.nodes) (shape_of script) P trunks
+    → stirs P trunks l ≡ false
+
+-- A MAKER IS FINISHED: an actor has ended; where it is a link, all actors have, and it doesn't stir
+abbrev pub IsFinished : ScriptParts → List Step → ℕ → Option Player → Type 0
+IsFinished script P n (Some player) = has_ended P n ≡ true
+IsFinished script P n None =
+    (all_have_ended (shape_of script) P ≡ true) × IsStillThen script P (n - length script.actors)
+
+-- the stop that a worker met at its end, if it met one
+abbrev pub stop_at : End → Option StopCause
+stop_at ends.Finished = None
+stop_at (ends.Stopped cause) = Some cause
+stop_at ends.GaveUp = None
+
+-- A WORKER IS DONE: its pass is back, it knows what it knew between two turns, its maker is finished
+-- unless it met a stop or gave up, and it met a full journal only where its pass has seen one
 pub record IsWorked (script : ScriptParts) (before : PassView Step PlanParts) (done : Worked)
     : Type 0 where
   pub same : IsSamePass before done.pass
   pub working : IsWorking script done.pass done.player
-  pub full : done.stop ≡ Some JournalFull → is_full (seen done.pass) ≡ true
+  pub finished : done.end ≡ ends.Finished
+      → IsFinished script (seen done.pass) done.pass.number done.player
+  pub full : stop_at done.end ≡ Some JournalFull → is_full (seen done.pass) ≡ true
 
 -- ---- the workers
 

@@ -2,14 +2,14 @@
 //! the fixed order.
 ghost use Rattle.std.specs.Prelude.{◌≡◌, ◌<◌, ◌≤◌, None, true, false, IfOk, IfSome};
 ghost use Rattle.std.specs.Prelude.{OnSome};
-ghost use Rattle.journal.specs.Logs.{is_full};
 ghost use Rattle.stage.specs.Seats.{IsStaged, unstarted};
 ghost use Rattle.stage.specs.Stops.{IsCauseOf};
 ghost use Rattle.stage.specs.Turns.{first_layout, is_over, makers};
+ghost use Rattle.workers.specs.Running.{AreFinished, AreShares, IsByWorkers, IsConcluded};
 ghost use Rattle.workers.specs.Running.{jobs_with, passes_in, players_in};
 
 use crate::bells::Bells;
-use crate::worker::{Job, Worked, workers};
+use crate::worker::{End, Job, Worked, workers};
 use fabric::{Fabric, StopCause};
 use linx_api::SharedFabric;
 use linx_base::{NoMemory, TryCopy};
@@ -17,6 +17,7 @@ use linx_outside::Gate;
 use script_lang::Script;
 use stage::{Player, Stage, nodes_of, players_of};
 use std::alloc::Global;
+use std::snapshot::Snapshot;
 use std::sync::Wait;
 use std::thread::Threads;
 use turn_lock::{Pass, TurnLock};
@@ -26,6 +27,17 @@ use turn_lock::{Pass, TurnLock};
 pub struct Ran {
     pub stage: Stage,
     pub stop: Option<StopCause>,
+}
+
+/// A run by workers, and what they gave back.
+#[derive(Drop)]
+pub struct WorkedRun {
+    pub ran: Ran,
+    /// The workers' passes, those of the actors before those of the links.
+    pub passes: Snapshot<Vec<Pass<SharedFabric>>>,
+    /// Whether a worker gave up, since not all were started. What the workers left was then done
+    /// in the fixed order.
+    pub gave_up: bool,
 }
 
 /// The fabric of a script, without steps.
@@ -55,11 +67,26 @@ fn jobs_of(
     Ok(jobs)
 }
 
-/// What the workers gave back: their passes, the players, and whether one met no memory.
+/// What the workers gave back: their passes, the players, and why they take no further turn.
 struct Back {
     passes: Vec<Pass<SharedFabric>>,
     players: Vec<Player>,
-    refused: bool,
+    end: End,
+}
+
+/// Why two workers take no further turn: both are finished, or one isn't. A stop is told before
+/// all else.
+fn end_of_both(one: End, other: End) -> End
+    ensures { result ≡ End.Finished → (one ≡ End.Finished) × (other ≡ End.Finished) }
+{
+    match one {
+        End::Finished => other,
+        End::Stopped(cause) => End::Stopped(cause),
+        End::GaveUp => match other {
+            End::Stopped(cause) => End::Stopped(cause),
+            End::Finished | End::GaveUp => End::GaveUp,
+        },
+    }
 }
 
 /// Takes apart what the workers gave back.
@@ -67,13 +94,18 @@ struct Back {
 fn back_of(alloc: Global, all: Vec<Worked>) -> Result<Back, NoMemory>
     ensures passes { IfOk result (λ back. back.passes.items ≡ passes_in all.items) }
     ensures players { IfOk result (λ back. back.players.items ≡ players_in all.items) }
+    ensures end { IfOk result (λ back. back.end ≡ End.Finished → AreFinished all.items) }
 {
     let mut passes = Vec::with_capacity(alloc, all.len())?;
     let mut players = Vec::with_capacity(alloc, all.len())?;
-    let mut refused = false;
+    let mut end = End::Finished;
     for worked in all {
-        let Worked { pass, player, stop } = worked;
-        refused = refused || stop == Some(StopCause::NoMemory);
+        let Worked {
+            pass,
+            player,
+            end: its,
+        } = worked;
+        end = end_of_both(end, its);
         passes.push(pass)?;
         if let Some(player) = player {
             players.push(player)?;
@@ -82,16 +114,17 @@ fn back_of(alloc: Global, all: Vec<Worked>) -> Result<Back, NoMemory>
     Ok(Back {
         passes,
         players,
-        refused,
+        end,
     })
 }
 
-/// What the workers leave: the fabric and the players after their last turns, and whether one met
-/// no memory.
+/// What the workers leave: the fabric and the players after their last turns, their passes, and why
+/// they take no further turn.
 struct Left {
     fabric: Fabric,
     players: Vec<Player>,
-    refused: bool,
+    passes: Snapshot<Vec<Pass<SharedFabric>>>,
+    end: End,
 }
 
 /// Runs the workers on a fabric without steps, each with its pass.
@@ -107,7 +140,10 @@ fn left_by_workers<R: Threads + Wait + Sync, G: Gate + Sync>(
     requires first { shared ≡ first_layout script.now }
     requires players { players.items ≡ unstarted script.now.actors }
     requires seats { (seats ≡ makers script.now) × (0 < seats) × (seats ≤ 96) }
-    ensures { IfOk result (λ left. IsStaged script.now left.fabric left.players.items) }
+    ensures staged { IfOk result (λ left. IsStaged script.now left.fabric left.players.items) }
+    ensures over { IfOk result (λ left. left.end ≡ End.Finished → is_over left.fabric ≡ true) }
+    ensures shares { IfOk result (λ left. AreShares script.now left.fabric
+        left.passes.value.items) }
 {
     let _ = script.actors();
     let (lock, passes) = TurnLock::new(alloc, shared, seats)?;
@@ -117,8 +153,9 @@ fn left_by_workers<R: Threads + Wait + Sync, G: Gate + Sync>(
     let Back {
         passes,
         players,
-        refused,
+        end,
     } = back_of(alloc, all)?;
+    let shown = Snapshot::of(&passes);
     let Ok(shared) = lock.close(passes) else {
         unreachable!()
     };
@@ -127,19 +164,23 @@ fn left_by_workers<R: Threads + Wait + Sync, G: Gate + Sync>(
     Ok(Left {
         fabric,
         players,
-        refused,
+        passes: shown,
+        end,
     })
 }
 
 /// What the workers of a script leave. A script with neither actor nor link has none.
-#[tactic(auto, using(crate::proofs::Dealing::first_staged, crate::proofs::Dealing::makers_of))]
+#[tactic(auto, using(crate::proofs::Dealing::first_staged, crate::proofs::Dealing::makers_of, crate::proofs::Dealing::none_over, crate::proofs::Dealing::none_shares))]
 fn worked<R: Threads + Wait + Sync, G: Gate + Sync>(
     rt: &R,
     alloc: Global,
     script: &Script,
     gate: &G,
 ) -> Result<Left, NoMemory>
-    ensures { IfOk result (λ left. IsStaged script.now left.fabric left.players.items) }
+    ensures staged { IfOk result (λ left. IsStaged script.now left.fabric left.players.items) }
+    ensures over { IfOk result (λ left. left.end ≡ End.Finished → is_over left.fabric ≡ true) }
+    ensures shares { IfOk result (λ left. AreShares script.now left.fabric
+        left.passes.value.items) }
 {
     let players = players_of(alloc, script.actors())?;
     let shared = first_fabric(alloc, script)?;
@@ -148,18 +189,65 @@ fn worked<R: Threads + Wait + Sync, G: Gate + Sync>(
         return Ok(Left {
             fabric: shared.into_fabric(),
             players,
-            refused: false,
+            passes: Snapshot::of(&Vec::new(alloc)),
+            end: End::Finished,
         });
     }
     left_by_workers(rt, alloc, script, gate, shared, players, seats)
 }
 
-/// Whether a refusal of memory stops a run: somebody has a turn to take, and the journal has room.
-fn is_cut_short(stage: &Stage) -> bool
-    ensures { result ≡ true → (is_full stage.now.run.log.steps ≡ false)
-        × (is_over stage.now.run ≡ false) }
+/// The cause by which a run has stopped, unless all is over: the full journal, or else that memory
+/// was refused.
+fn stop_of(stage: &Stage) -> Option<StopCause>
+    ensures over { result ≡ None → is_over stage.now.run ≡ true }
+    ensures cause { IfSome result (λ cause. IsCauseOf cause stage.now.run.log.steps) }
+    ensures not_over { OnSome result (is_over stage.now.run ≡ false) }
 {
-    !stage.journal().full() && !stage.is_over()
+    if stage.is_over() {
+        return None;
+    }
+    if stage.journal().full() {
+        return Some(StopCause::JournalFull);
+    }
+    Some(StopCause::NoMemory)
+}
+
+/// Does the rest in the fixed order, and answers why it stopped, if it did.
+fn finish(stage: &mut Stage) -> Option<StopCause>
+    ensures behind { IsConcluded true result stage.old.script stage.old.run stage.new.run }
+    ensures script { stage.new.script ≡ stage.old.script }
+    ensures over { result ≡ None → is_over stage.new.run ≡ true }
+    ensures cause { IfSome result (λ cause. IsCauseOf cause stage.new.run.log.steps) }
+    ensures not_over { OnSome result (is_over stage.new.run ≡ false) }
+{
+    match stage.finish() {
+        Ok(()) => None,
+        Err(cause) => Some(cause),
+    }
+}
+
+/// A run that its workers have left, at its end: what they left undone where one gave up is done in
+/// the fixed order, and then it is answered that one did.
+fn concluded(mut stage: Stage, end: End) -> (Ran, bool)
+    requires { end ≡ End.Finished → is_over stage.run ≡ true }
+    ensures script { result.0.stage.script ≡ stage.script }
+    ensures over { result.0.stop ≡ None → is_over result.0.stage.run ≡ true }
+    ensures cause { IfSome result.0.stop (λ cause. IsCauseOf cause result.0.stage.run.log.steps) }
+    ensures not_over { OnSome result.0.stop (is_over result.0.stage.run ≡ false) }
+    ensures behind { IsConcluded result.1 result.0.stop stage.script stage.run
+        result.0.stage.run }
+{
+    match end {
+        End::Finished => (Ran { stage, stop: None }, false),
+        End::Stopped(_) => {
+            let stop = stop_of(&stage);
+            (Ran { stage, stop }, false)
+        }
+        End::GaveUp => {
+            let stop = finish(&mut stage);
+            (Ran { stage, stop }, true)
+        }
+    }
 }
 
 /// Runs a script, with a thread for each actor and each link.
@@ -168,28 +256,27 @@ pub fn run<R: Threads + Wait + Sync, G: Gate + Sync>(
     alloc: Global,
     script: Script,
     gate: &G,
-) -> Result<Ran, NoMemory>
-    ensures script { IfOk result (λ ran. ran.stage.script ≡ script) }
-    ensures over { IfOk result (λ ran. ran.stop ≡ None → is_over ran.stage.run ≡ true) }
-    ensures cause { IfOk result (λ ran. IfSome ran.stop (λ cause.
-        IsCauseOf cause ran.stage.run.log.steps)) }
-    ensures not_over { IfOk result (λ ran. OnSome ran.stop (is_over ran.stage.run ≡ false)) }
+) -> Result<WorkedRun, NoMemory>
+    ensures script { IfOk result (λ worked. worked.ran.stage.script ≡ script) }
+    ensures over { IfOk result (λ worked. worked.ran.stop ≡ None
+        → is_over worked.ran.stage.run ≡ true) }
+    ensures cause { IfOk result (λ worked. IfSome worked.ran.stop (λ cause.
+        IsCauseOf cause worked.ran.stage.run.log.steps)) }
+    ensures not_over { IfOk result (λ worked. OnSome worked.ran.stop
+        (is_over worked.ran.stage.run ≡ false)) }
+    ensures workers { IfOk result (IsByWorkers script) }
 {
     let Left {
         fabric,
         players,
-        refused,
+        passes,
+        end,
     } = worked(rt, alloc, &script, gate)?;
-    let mut stage = Stage::resume(alloc, script, fabric, players);
-    if refused && is_cut_short(&stage) {
-        return Ok(Ran {
-            stage,
-            stop: Some(StopCause::NoMemory),
-        });
-    }
-    let stop = match stage.finish() {
-        Ok(()) => None,
-        Err(cause) => Some(cause),
-    };
-    Ok(Ran { stage, stop })
+    let stage = Stage::resume(alloc, script, fabric, players);
+    let (ran, gave_up) = concluded(stage, end);
+    Ok(WorkedRun {
+        ran,
+        passes,
+        gave_up,
+    })
 }

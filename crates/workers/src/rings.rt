@@ -3,7 +3,8 @@
 //! in its queue, once somebody else closes its endpoint, or once it is at rest; a pump has work
 //! once its link stirs, and is done once all actors have ended. Each of these comes by a step, and
 //! that step's maker rings.
-ghost use Rattle.std.specs.Prelude.{◌≡◌, ◌<◌, ◌≤◌, length, IfSome};
+ghost use Rattle.std.specs.Prelude.{◌≡◌, ◌<◌, ◌≤◌, length, true, IfSome, IfNone};
+ghost use Rattle.fabric.specs.Machine.{all_have_ended};
 
 use fabric::Fabric;
 use journal::{By, Effect, Head, Step};
@@ -120,7 +121,9 @@ fn call_after_pumped(rings: &mut Rings, fabric: &Fabric, links: u32, link: LinkN
 
 /// The first actor that hasn't ended.
 pub(crate) fn first_running(fabric: &Fabric) -> Option<u32>
-    ensures { IfSome result (λ n. (0 < n) × (n ≤ length fabric.now.shape.actors)) }
+    ensures some { IfSome result (λ n. (0 < n) × (n ≤ length fabric.now.shape.actors)) }
+    ensures none { IfNone result
+        (all_have_ended fabric.now.shape fabric.now.log.steps ≡ true) }
 {
     for place in 0..fabric.actor_count() {
         if !fabric.has_ended(place + 1) {

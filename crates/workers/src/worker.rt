@@ -1,6 +1,6 @@
 //! A worker: what it does in a turn, and its turns until it is done.
 ghost use Rattle.std.specs.Prelude.{◌≡◌, ◌<◌, ◌≤◌, ◌+◌, true, false, length, IfOk, IfErr, All};
-ghost use Rattle.std.specs.Prelude.{Some, None, IfSome};
+ghost use Rattle.std.specs.Prelude.{Some, None, Ok, IfSome};
 ghost use Rattle.journal.specs.declared.by.By.TheVariants.{Actor};
 ghost use Rattle.journal.specs.History.{has_ended};
 ghost use Rattle.journal.specs.Logs.{is_full};
@@ -8,16 +8,18 @@ ghost use Rattle.script_lang.specs.Fits.{IsScript};
 ghost use Rattle.turn_lock.specs.Passes.{IsPassOf, IsSamePass};
 ghost use Rattle.fabric.specs.Actings.{OnlyRuns};
 ghost use Rattle.fabric.specs.Asks.{MayAsk};
+ghost use Rattle.fabric.specs.Machine.{all_have_ended};
 ghost use Rattle.fabric.specs.Run.{IsReachedBy};
 ghost use Rattle.link_laws.specs.Ends.{IsLinkOf};
 ghost use Rattle.stage.specs.Settlings.{IsActedAs, settler_in};
 ghost use Rattle.stage.specs.Stops.{IsCauseOf};
 ghost use Rattle.stage.specs.Turns.{shape_of};
-ghost use Rattle.workers.specs.Turning.{Asks, IsActedIn, IsCalm, IsPumpTurn, IsPumpedAs};
+ghost use Rattle.workers.specs.Turning.{Asks, IsActedIn, IsCalm, IsPumpDone, IsPumpTurn};
+ghost use Rattle.workers.specs.Turning.{IsPumpedAs};
 ghost use Rattle.workers.specs.Turning.{IsRightlyFull, IsRightlyFullOn, goes_on, stop_in, stop_met};
 ghost use Rattle.workers.specs.Turning.{stop_of};
-ghost use Rattle.workers.specs.Working.{AreWorkedJobs, IsReadyJob, IsWorked};
-ghost use Rattle.workers.specs.Working.{IsWorking, StillRuns, seen};
+ghost use Rattle.workers.specs.Working.{AreWorkedJobs, IsFinished, IsReadyJob, IsWorked};
+ghost use Rattle.workers.specs.Working.{IsWorking, StillRuns, seen, stop_at};
 
 use crate::bells::Bells;
 use crate::rings::{Rings, first_running, rings_since};
@@ -42,13 +44,24 @@ pub(crate) struct Job {
     pub(crate) player: Option<Player>,
 }
 
-/// A pass after its worker's last turn, with its player where it is an actor's, and the stop that
-/// the worker met.
+/// Why a worker takes no further turn.
+#[derive(Clone, Copy, PartialEq, Eq)]
+pub(crate) enum End {
+    /// Its actor has ended; or all actors have, and its link doesn't stir.
+    Finished,
+    /// It met this stop.
+    Stopped(StopCause),
+    /// Not all workers were started, and what it waits for may never come.
+    GaveUp,
+}
+
+/// A pass after its worker's last turn, with its player where it is an actor's, and why that turn
+/// was the last.
 #[derive(Drop)]
 pub(crate) struct Worked {
     pub(crate) pass: Pass<SharedFabric>,
     pub(crate) player: Option<Player>,
-    pub(crate) stop: Option<StopCause>,
+    pub(crate) end: End,
 }
 
 /// What came of a turn.
@@ -184,6 +197,7 @@ fn note_no_memory<R: Wait>(
 /// What came of the turn of an actor, which has ended or not.
 fn turned_by(came: Result<Turn, StopCause>, ended: bool) -> Turned
     ensures goes { goes_on result ≡ true → ended ≡ false }
+    ensures done { result ≡ Turned.Done None → ended ≡ true }
     ensures stop { stop_in result ≡ stop_met came }
 {
     let turn = match came {
@@ -216,6 +230,8 @@ fn turn_of<R: Wait>(
     ensures working { IsWorking script.now result.0 (Some player.new) }
     ensures running { goes_on result.1 ≡ true
         → has_ended (seen result.0) result.0.number ≡ false }
+    ensures done { result.1 ≡ Turned.Done None
+        → has_ended (seen result.0) result.0.number ≡ true }
     ensures full { IsRightlyFull result.0 (stop_in result.1) }
 {
     runs_reach_one_state();
@@ -248,13 +264,15 @@ fn goes_past<R: Wait>(rt: &R, bells: &Bells, number: u32, heard: u64, turned: Tu
     }
 }
 
-/// The stop of a turn that is the last one, if it met one.
-fn stop_in(turned: Turned) -> Option<StopCause>
-    ensures { result ≡ stop_in turned }
+/// Why a turn is the last one: its worker is done, or won't wait for the bell.
+fn end_by(turned: Turned) -> End
+    ensures finished { result ≡ End.Finished → turned ≡ Turned.Done None }
+    ensures stop { stop_at result ≡ stop_in turned }
 {
     match turned {
-        Turned::Goes | Turned::Waits => None,
-        Turned::Done(stop) => stop,
+        Turned::Goes | Turned::Waits => End::GaveUp,
+        Turned::Done(None) => End::Finished,
+        Turned::Done(Some(cause)) => End::Stopped(cause),
     }
 }
 
@@ -277,6 +295,8 @@ fn pump_in(fabric: &mut Fabric, script: &Script, link: LinkNo) -> Result<Pump, S
 fn pumped_by(fabric: &mut Fabric, pumped: Result<Pump, StopCause>) -> Turned
     requires { IfErr pumped (λ cause. IsCauseOf cause fabric.old.log.steps) }
     ensures same { fabric.new ≡ fabric.old }
+    ensures done { result ≡ Turned.Done None → (pumped ≡ Ok Pump.NoWork)
+        × (all_have_ended fabric.old.shape fabric.old.log.steps ≡ true) }
     ensures full { stop_in result ≡ Some StopCause.JournalFull
         → is_full fabric.old.log.steps ≡ true }
 {
@@ -309,6 +329,8 @@ fn take_pump_turn(fabric: &mut Fabric, script: &Script, number: u32) -> (Turned,
     requires above { length script.now.actors < number }
     requires within { number ≤ length script.now.actors + length script.now.links }
     ensures came { IsPumpTurn script.now number fabric.old fabric.new }
+    ensures done { result.0 ≡ Turned.Done None
+        → IsPumpDone script.now number fabric.old fabric.new }
     ensures full { IsRightlyFullOn fabric.new (stop_in result.0) }
     ensures calm { IsCalm fabric.old fabric.new }
     ensures reached { IsReachedBy fabric.old }
@@ -334,6 +356,8 @@ fn pump_in_turn<R: Wait>(
     requires working { IsWorking script.now pass None }
     ensures same { IsSamePass pass result.0 }
     ensures working { IsWorking script.now result.0 None }
+    ensures done { result.1 ≡ Turned.Done None
+        → IsFinished script.now (seen result.0) result.0.number None }
     ensures full { IsRightlyFull result.0 (stop_in result.1) }
 {
     runs_reach_one_state();
@@ -362,6 +386,8 @@ fn turn_for<R: Wait>(
     ensures same { IsSamePass pass result.0 }
     ensures working { IsWorking script.now result.0 result.1 }
     ensures running { goes_on result.2 ≡ true → StillRuns result.0 result.1 }
+    ensures done { result.2 ≡ Turned.Done None
+        → IsFinished script.now (seen result.0) result.0.number result.1 }
     ensures full { IsRightlyFull result.0 (stop_in result.2) }
 {
     match player {
@@ -407,7 +433,7 @@ fn work<R: Wait, G: Gate>(
             return Worked {
                 pass,
                 player,
-                stop: stop_in(turned),
+                end: end_by(turned),
             };
         }
     }

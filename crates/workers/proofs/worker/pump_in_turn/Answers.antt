@@ -4,7 +4,7 @@ use Rattle.journal.specs.Logs.{is_full}
 use Rattle.turn_lock.specs.Passes.{PassView}
 use Rattle.linx_api.specs.Telling.{PlanParts}
 use Rattle.workers.specs.Working.{seen}
-use Rattle.workers.proofs.Giving.{pumped-gives, pumped-knows}
+use Rattle.workers.proofs.Giving.{pump-finished, pumped-gives, pumped-knows}
 use Rattle.stage.proofs.OneState.{one_state}
 use Rattle.workers.proofs.Resting.{found-shape, given-back, seen-all}
 use Rattle.workers.proofs.worker.pump_in_turn.Goals as goal
@@ -46,6 +46,28 @@ returns-clause-working g c =
           c.take-held.ensures.turn c.give-pass.ensures.pass;
     })
     came
+
+pub returns-clause-done : goal.returns-clause-done
+returns-clause-done g c done =
+    let found = c.take-held.result.state in
+    let left = c.take_pump_turn-turned.new.fabric in
+    let here = c.take_pump_turn-turned.ensures in
+    let number = c.number-number.ensures
+    ∙ ap (λ (p : PassView Step PlanParts). p.number) c.take-held.ensures.turn in
+    let its = rw (c.fabric_mut.ensures.value, c.state.ensures.value, number) at here.done done in
+    pump-finished c.args.script.now
+    (one_state c.runs_reach_one_state.ensures c.args.script.now c.actors.ensures.script)
+    c.args.pass c.give-pass.result c.requires.working found left
+    (record {
+      plan = c.take-held.ensures.fixed;
+      rests = c.take-held.ensures.rests;
+      reached = rw (c.fabric_mut.ensures.value, c.state.ensures.value) at here.reached;
+      calm = rw (c.fabric_mut.ensures.value, c.state.ensures.value) at here.calm;
+      fixed = rw (c.fabric_mut.ensures.value, c.state.ensures.value) at here.fixed;
+      same = given-back c.args.pass c.take-held.result.turn c.give-pass.result found left
+          c.take-held.ensures.turn c.give-pass.ensures.pass;
+    })
+    its
 
 pub returns-clause-full : goal.returns-clause-full
 returns-clause-full g c met =

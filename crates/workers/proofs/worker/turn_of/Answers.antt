@@ -7,7 +7,7 @@ use Rattle.stage.specs.Seats.{Learns}
 use Rattle.stage.specs.Turns.{commands_of}
 use Rattle.workers.specs.Turning.{stop_met}
 use Rattle.stage.proofs.OneState.{one_state}
-use Rattle.workers.proofs.Playing.{acted-full, acted-knows, acted-runs, seat-within}
+use Rattle.workers.proofs.Playing.{acted-done, acted-full, acted-knows, acted-runs, seat-within}
 use Rattle.workers.proofs.worker.turn_of.Goals as goal
 
 pub actor_of-commands-requires-clause-within : goal.actor_of-commands-requires-clause-within
@@ -67,6 +67,12 @@ returns-clause-running g c goes =
     let turn = c.act_in_turn-pass.result.1 in
     acted-runs c.args.pass c.act_in_turn-pass.result.0 c.in-Ok.ask turn.acted turn.ended
     c.act_in_turn-pass.ensures (c.turned_by.ensures.goes goes)
+
+pub returns-clause-done : goal.returns-clause-done
+returns-clause-done g c done =
+    let turn = c.act_in_turn-pass.result.1 in
+    acted-done c.args.pass c.act_in_turn-pass.result.0 c.in-Ok.ask turn.acted turn.ended
+    c.act_in_turn-pass.ensures (c.turned_by.ensures.done done)
 
 pub returns-clause-full : goal.returns-clause-full
 returns-clause-full g c met =
