@@ -42,8 +42,8 @@ fn names(rt: &impl Abort, alloc: Global) -> Names
 
 /// A fabric with a link between nodes 1 and 2, and actors on nodes 1, 2 and 1.
 fn fabric(rt: &impl Abort, alloc: Global) -> SharedFabric
-    ensures over { result.shape ≡ one_link }
-    ensures unstarted { result.log.steps ≡ [] }
+    ensures over { result.run.shape ≡ one_link }
+    ensures unstarted { result.run.log.steps ≡ [] }
 {
     let link = LinkDecl {
         first: NodeNo(1),

@@ -12,8 +12,6 @@ mod callers;
 #[cfg(test)]
 mod endpoints;
 #[cfg(test)]
-mod first_stop;
-#[cfg(test)]
 mod held_gate;
 #[cfg(test)]
 mod link_side;

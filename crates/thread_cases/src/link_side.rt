@@ -82,35 +82,35 @@ fn next_event(fabric: &Fabric) -> Event
 }
 
 /// Whether all is over. Nothing was stopped then.
-fn is_over(rt: &impl Abort, fabric: &Fabric) -> bool {
-    let is_over = fabric.is_over();
-    assert!(rt; !is_over || fabric.stopped().is_none());
+fn is_over(rt: &impl Abort, shared: &SharedFabric) -> bool {
+    let is_over = shared.fabric().is_over();
+    assert!(rt; !is_over || shared.stopped().is_none());
     is_over
 }
 
 /// The link makes a step.
-fn step(rt: &impl Abort, fabric: &mut SharedFabric)
-    requires { length fabric.old.shape.links ≡ 1 }
-    ensures added { IsAddedBy (length fabric.old.shape.actors + 1) (story_of fabric.new)
-        (story_of fabric.old) }
-    ensures stays { plan_of fabric.new ≡ plan_of fabric.old }
+fn step(rt: &impl Abort, shared: &mut SharedFabric)
+    requires { length shared.old.run.shape.links ≡ 1 }
+    ensures added { IsAddedBy (length shared.old.run.shape.actors + 1) (story_of shared.new.run)
+        (story_of shared.old.run) }
+    ensures stays { plan_of shared.new.run ≡ plan_of shared.old.run }
 {
-    let event = next_event(fabric.fabric());
-    let answer = fabric.step(By::Pump(LINK), event, None);
+    let event = next_event(shared.fabric());
+    let answer = shared.step(By::Pump(LINK), event, None);
     assert!(rt; matches!(&answer, Ok(StepAnswer::Done)));
 }
 
 /// The link makes a step, if it stirs. The answer is whether all is over.
-fn stir(rt: &impl Abort, fabric: &mut SharedFabric) -> bool
-    requires { length fabric.old.shape.links ≡ 1 }
-    ensures added { IsAddedBy (length fabric.old.shape.actors + 1) (story_of fabric.new)
-        (story_of fabric.old) }
-    ensures stays { plan_of fabric.new ≡ plan_of fabric.old }
+fn stir(rt: &impl Abort, shared: &mut SharedFabric) -> bool
+    requires { length shared.old.run.shape.links ≡ 1 }
+    ensures added { IsAddedBy (length shared.old.run.shape.actors + 1) (story_of shared.new.run)
+        (story_of shared.old.run) }
+    ensures stays { plan_of shared.new.run ≡ plan_of shared.old.run }
 {
-    if !fabric.fabric().stirs(LINK) {
-        return is_over(rt, fabric.fabric());
+    if !shared.fabric().stirs(LINK) {
+        return is_over(rt, shared);
     }
-    step(rt, fabric);
+    step(rt, shared);
     false
 }
 

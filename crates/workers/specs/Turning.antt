@@ -15,6 +15,7 @@ use Rattle.fabric.specs.declared.stop.StopCause.TheVariants.{JournalFull}
 use Rattle.fabric.specs.Actings.{OnlyRuns}
 use Rattle.fabric.specs.Machine.{all_have_ended}
 use Rattle.fabric.specs.Run.{IsReachedBy, Layout}
+use Rattle.linx_api.specs.Sharing.{first_noted}
 use Rattle.linx_api.specs.Telling.{PlanParts, plan_of, story_of}
 use Rattle.stage.specs.declared.acting.Acted.{Acted}
 use Rattle.stage.specs.declared.player.Player.{Player}
@@ -68,6 +69,11 @@ stop_met (Err cause) = Some cause
 -- the stop that was met by what was asked for
 abbrev pub stop_of : Acted → Option StopCause
 stop_of acted = stop_met (turn_by acted)
+
+-- THE STOP THAT IS NOTED after a turn that met one, or none: the first one stays
+abbrev pub noted_with : Option StopCause → Option StopCause → Option StopCause
+noted_with noted None = noted
+noted_with noted (Some cause) = first_noted noted cause
 
 -- ---- a link's
 

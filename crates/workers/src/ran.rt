@@ -42,7 +42,7 @@ pub struct WorkedRun {
 
 /// The fabric of a script, without steps.
 fn first_fabric(alloc: Global, script: &Script) -> Result<SharedFabric, NoMemory>
-    ensures { IfOk result (λ shared. shared ≡ first_layout script.now) }
+    ensures { IfOk result (λ shared. shared.run ≡ first_layout script.now) }
 {
     let nodes = nodes_of(alloc, script.actors())?;
     let names = script.names().copy()?;
@@ -137,7 +137,7 @@ fn left_by_workers<R: Threads + Wait + Sync, G: Gate + Sync>(
     players: Vec<Player>,
     seats: u32,
 ) -> Result<Left, NoMemory>
-    requires first { shared ≡ first_layout script.now }
+    requires first { shared.run ≡ first_layout script.now }
     requires players { players.items ≡ unstarted script.now.actors }
     requires seats { (seats ≡ makers script.now) × (0 < seats) × (seats ≤ 96) }
     ensures staged { IfOk result (λ left. IsStaged script.now left.fabric left.players.items) }

@@ -16,8 +16,8 @@ ghost use Rattle.stage.specs.Stops.{IsCauseOf};
 ghost use Rattle.stage.specs.Turns.{shape_of};
 ghost use Rattle.workers.specs.Turning.{Asks, IsActedIn, IsCalm, IsPumpDone, IsPumpTurn};
 ghost use Rattle.workers.specs.Turning.{IsPumpedAs};
-ghost use Rattle.workers.specs.Turning.{IsRightlyFull, IsRightlyFullOn, goes_on, stop_in, stop_met};
-ghost use Rattle.workers.specs.Turning.{stop_of};
+ghost use Rattle.workers.specs.Turning.{IsRightlyFull, IsRightlyFullOn, goes_on, noted_with, stop_in};
+ghost use Rattle.workers.specs.Turning.{stop_met, stop_of};
 ghost use Rattle.workers.specs.Working.{AreWorkedJobs, IsFinished, IsReadyJob, IsWorked};
 ghost use Rattle.workers.specs.Working.{IsWorking, StillRuns, seen, stop_at};
 
@@ -84,44 +84,48 @@ struct InTurn {
 }
 
 /// The stop that a worker meets where the run was stopped before. Then none makes a further step.
-fn stop_before(fabric: &Fabric, script: &Script) -> Option<StopCause>
-    requires shape { fabric.now.shape ≡ shape_of script.now }
-    ensures calm { result ≡ None → settler_in fabric.now ≡ None }
-    ensures cause { IfSome result (λ cause. IsCauseOf cause fabric.now.log.steps) }
+fn stop_before(shared: &SharedFabric, script: &Script) -> Option<StopCause>
+    requires shape { shared.now.run.shape ≡ shape_of script.now }
+    ensures noted { result ≡ None → shared.now.stop ≡ None }
+    ensures calm { result ≡ None → settler_in shared.now.run ≡ None }
+    ensures cause { IfSome result (λ cause. IsCauseOf cause shared.now.run.log.steps) }
 {
-    if fabric.stopped().is_none() && !is_settling(fabric, script) {
+    if shared.stopped().is_none() && !is_settling(shared.fabric(), script) {
         return None;
     }
-    Some(unsettled(fabric))
+    Some(unsettled(shared.fabric()))
 }
 
 /// What an actor asks for is done, unless the run was stopped.
-fn act_on(fabric: &mut Fabric, script: &Script, actor: u32, ask: Ask) -> Acted
-    requires shape { fabric.old.shape ≡ shape_of script.now }
-    requires asks { MayAsk fabric.old (Actor actor) ask }
-    ensures came { IsActedAs fabric.old fabric.new actor ask result }
-    ensures calm { IsCalm fabric.old fabric.new }
-    ensures fixed { OnlyRuns fabric.old fabric.new }
+fn act_on(shared: &mut SharedFabric, script: &Script, actor: u32, ask: Ask) -> Acted
+    requires shape { shared.old.run.shape ≡ shape_of script.now }
+    requires asks { MayAsk shared.old.run (Actor actor) ask }
+    ensures came { IsActedAs shared.old.run shared.new.run actor ask result }
+    ensures calm { IsCalm shared.old.run shared.new.run }
+    ensures fixed { OnlyRuns shared.old.run shared.new.run }
+    ensures noted { shared.new.stop ≡ shared.old.stop }
 {
-    if let Some(cause) = stop_before(fabric, script) {
+    if let Some(cause) = stop_before(shared, script) {
         return Acted::Stopped(StepStop {
             cause,
             hand: ask.hand,
         });
     }
-    act(fabric, actor, ask)
+    act(shared.fabric_mut(), actor, ask)
 }
 
 /// Notes the stop that an actor met, if it met one.
-fn note_stop(fabric: &mut Fabric, acted: &Acted)
+fn note_stop(shared: &mut SharedFabric, acted: &Acted)
     requires { stop_of acted.now ≡ Some StopCause.JournalFull
-        → is_full fabric.old.log.steps ≡ true }
-    ensures { fabric.new ≡ fabric.old }
+        → is_full shared.old.run.log.steps ≡ true }
+    ensures { shared.new ≡ record shared.old {
+      stop = noted_with shared.old.stop (stop_of acted.now);
+    } }
 {
     match acted {
         Acted::Done(_) => {}
-        Acted::Halfway(_, cause) => fabric.stop(*cause),
-        Acted::Stopped(stop) => fabric.stop(stop.cause),
+        Acted::Halfway(_, cause) => shared.stop(*cause),
+        Acted::Stopped(stop) => shared.stop(stop.cause),
     }
 }
 
@@ -136,19 +140,21 @@ fn rings_of(fabric: &Fabric, links: u32, before: u64, acted: &Acted) -> Rings
 }
 
 /// What an actor asks for is done; and whom to ring then, and whether the actor has ended.
-fn take_turn(fabric: &mut Fabric, script: &Script, actor: u32, ask: Ask) -> InTurn
-    requires shape { fabric.old.shape ≡ shape_of script.now }
-    requires asks { MayAsk fabric.old (Actor actor) ask }
-    ensures came { IsActedAs fabric.old fabric.new actor ask result.acted }
-    ensures calm { IsCalm fabric.old fabric.new }
-    ensures over { result.ended ≡ has_ended fabric.new.log.steps actor }
-    ensures reached { IsReachedBy fabric.old }
-    ensures fixed { OnlyRuns fabric.old fabric.new }
+fn take_turn(shared: &mut SharedFabric, script: &Script, actor: u32, ask: Ask) -> InTurn
+    requires shape { shared.old.run.shape ≡ shape_of script.now }
+    requires asks { MayAsk shared.old.run (Actor actor) ask }
+    ensures came { IsActedAs shared.old.run shared.new.run actor ask result.acted }
+    ensures calm { IsCalm shared.old.run shared.new.run }
+    ensures over { result.ended ≡ has_ended shared.new.run.log.steps actor }
+    ensures reached { IsReachedBy shared.old.run }
+    ensures fixed { OnlyRuns shared.old.run shared.new.run }
+    ensures noted { shared.new.stop ≡ noted_with shared.old.stop (stop_of result.acted) }
 {
-    let before = fabric.journal().len();
+    let before = shared.fabric().journal().len();
     let links = script.links().len() as u32;
-    let acted = act_on(fabric, script, actor, ask);
-    note_stop(fabric, &acted);
+    let acted = act_on(shared, script, actor, ask);
+    note_stop(shared, &acted);
+    let fabric = shared.fabric();
     let rings = rings_of(fabric, links, before, &acted);
     InTurn {
         ended: fabric.has_ended(actor),
@@ -172,7 +178,7 @@ fn act_in_turn<R: Wait>(
 {
     let mut held = lock.take(rt, pass);
     let actor = held.number();
-    let turn = take_turn(held.state().fabric_mut(), script, actor, ask);
+    let turn = take_turn(held.state(), script, actor, ask);
     (lock.give(held), turn)
 }
 
@@ -190,7 +196,7 @@ fn note_no_memory<R: Wait>(
     ensures working { IsWorking script.now result (Some player.now) }
 {
     let mut held = lock.take(rt, pass);
-    held.state().fabric_mut().stop(StopCause::NoMemory);
+    held.state().stop(StopCause::NoMemory);
     lock.give(held)
 }
 
@@ -277,37 +283,40 @@ fn end_by(turned: Turned) -> End
 }
 
 /// A turn of a link's pump, unless the run was stopped.
-fn pump_in(fabric: &mut Fabric, script: &Script, link: LinkNo) -> Result<Pump, StopCause>
-    requires shape { fabric.old.shape ≡ shape_of script.now }
-    requires declared { IsLinkOf fabric.old.shape link }
-    ensures came { IsPumpedAs script.now link fabric.old fabric.new result }
-    ensures calm { IsCalm fabric.old fabric.new }
-    ensures fixed { OnlyRuns fabric.old fabric.new }
+fn pump_in(shared: &mut SharedFabric, script: &Script, link: LinkNo) -> Result<Pump, StopCause>
+    requires shape { shared.old.run.shape ≡ shape_of script.now }
+    requires declared { IsLinkOf shared.old.run.shape link }
+    ensures came { IsPumpedAs script.now link shared.old.run shared.new.run result }
+    ensures calm { IsCalm shared.old.run shared.new.run }
+    ensures fixed { OnlyRuns shared.old.run shared.new.run }
+    ensures noted { shared.new.stop ≡ shared.old.stop }
 {
-    if let Some(cause) = stop_before(fabric, script) {
+    if let Some(cause) = stop_before(shared, script) {
         return Err(cause);
     }
-    pump_on(fabric, script, link)
+    pump_on(shared.fabric_mut(), script, link)
 }
 
 /// What came of a pump's turn: it is done once all actors have ended and its link doesn't stir. A
 /// stop is noted.
-fn pumped_by(fabric: &mut Fabric, pumped: Result<Pump, StopCause>) -> Turned
-    requires { IfErr pumped (λ cause. IsCauseOf cause fabric.old.log.steps) }
-    ensures same { fabric.new ≡ fabric.old }
+fn pumped_by(shared: &mut SharedFabric, pumped: Result<Pump, StopCause>) -> Turned
+    requires { IfErr pumped (λ cause. IsCauseOf cause shared.old.run.log.steps) }
+    ensures noted { shared.new ≡ record shared.old {
+      stop = noted_with shared.old.stop (stop_in result);
+    } }
     ensures done { result ≡ Turned.Done None → (pumped ≡ Ok Pump.NoWork)
-        × (all_have_ended fabric.old.shape fabric.old.log.steps ≡ true) }
+        × (all_have_ended shared.old.run.shape shared.old.run.log.steps ≡ true) }
     ensures full { stop_in result ≡ Some StopCause.JournalFull
-        → is_full fabric.old.log.steps ≡ true }
+        → is_full shared.old.run.log.steps ≡ true }
 {
     match pumped {
         Ok(Pump::Moved) => Turned::Goes,
-        Ok(Pump::NoWork) => match first_running(fabric) {
+        Ok(Pump::NoWork) => match first_running(shared.fabric()) {
             Some(_) => Turned::Waits,
             None => Turned::Done(None),
         },
         Err(cause) => {
-            fabric.stop(cause);
+            shared.stop(cause);
             Turned::Done(Some(cause))
         }
     }
@@ -324,24 +333,28 @@ fn rings_of_pump(fabric: &Fabric, links: u32, before: u64, turned: Turned) -> Ri
 }
 
 /// A turn of the pump of this number, and whom to ring then.
-fn take_pump_turn(fabric: &mut Fabric, script: &Script, number: u32) -> (Turned, Rings)
-    requires shape { fabric.old.shape ≡ shape_of script.now }
+fn take_pump_turn(shared: &mut SharedFabric, script: &Script, number: u32) -> (Turned, Rings)
+    requires shape { shared.old.run.shape ≡ shape_of script.now }
     requires above { length script.now.actors < number }
     requires within { number ≤ length script.now.actors + length script.now.links }
-    ensures came { IsPumpTurn script.now number fabric.old fabric.new }
+    ensures came { IsPumpTurn script.now number shared.old.run shared.new.run }
     ensures done { result.0 ≡ Turned.Done None
-        → IsPumpDone script.now number fabric.old fabric.new }
-    ensures full { IsRightlyFullOn fabric.new (stop_in result.0) }
-    ensures calm { IsCalm fabric.old fabric.new }
-    ensures reached { IsReachedBy fabric.old }
-    ensures fixed { OnlyRuns fabric.old fabric.new }
+        → IsPumpDone script.now number shared.old.run shared.new.run }
+    ensures full { IsRightlyFullOn shared.new.run (stop_in result.0) }
+    ensures calm { IsCalm shared.old.run shared.new.run }
+    ensures reached { IsReachedBy shared.old.run }
+    ensures fixed { OnlyRuns shared.old.run shared.new.run }
+    ensures noted { shared.new.stop ≡ noted_with shared.old.stop (stop_in result.0) }
 {
-    let before = fabric.journal().len();
+    let before = shared.fabric().journal().len();
     let links = script.links().len() as u32;
     let link = LinkNo(number - script.actors().len() as u32);
-    let pumped = pump_in(fabric, script, link);
-    let turned = pumped_by(fabric, pumped);
-    (turned, rings_of_pump(fabric, links, before, turned))
+    let pumped = pump_in(shared, script, link);
+    let turned = pumped_by(shared, pumped);
+    (
+        turned,
+        rings_of_pump(shared.fabric(), links, before, turned),
+    )
 }
 
 /// Takes the fabric for a turn of a link's pump, and gives it back.
@@ -364,7 +377,7 @@ fn pump_in_turn<R: Wait>(
     let _ = script.actors();
     let mut held = lock.take(rt, pass);
     let number = held.number();
-    let (turned, rings) = take_pump_turn(held.state().fabric_mut(), script, number);
+    let (turned, rings) = take_pump_turn(held.state(), script, number);
     let pass = lock.give(held);
     bells.ring(rings);
     (pass, turned)

@@ -10,40 +10,40 @@ pub take_turn-turn-requires-clause-asks : goal.take_turn-turn-requires-clause-as
 take_turn-turn-requires-clause-asks g c =
     let number = c.number-actor.ensures
     ∙ ap (λ (p : PassView Step PlanParts). p.number) c.take-held.ensures.turn in
-    rw (c.fabric_mut.ensures.value, c.state.ensures.value, number)
+    rw (c.state.ensures.value, number)
     (found-asks c.args.script.now c.requires.script c.args.pass c.args.ask c.requires.asks
-    c.take-held.result.state c.take-held.ensures.fixed c.take-held.ensures.rests)
+    c.take-held.result.state.run c.take-held.ensures.fixed c.take-held.ensures.rests)
 
 pub give-requires-clause-added : goal.give-requires-clause-added
 give-requires-clause-added g c =
     let number = c.number-actor.ensures
     ∙ ap (λ (p : PassView Step PlanParts). p.number) c.take-held.ensures.turn in
-    let came = rw (c.fabric_mut.ensures.value, c.state.ensures.value, number)
+    let came = rw (c.state.ensures.value, number)
     at c.take_turn-turn.ensures.came in
     rw c.take-held.ensures.turn
-    (added-acted c.take-held.result.state c.take_turn-turn.new.fabric c.args.pass.number
+    (added-acted c.take-held.result.state.run c.take_turn-turn.new.shared.run c.args.pass.number
     c.args.ask c.take_turn-turn.result.acted came)
 
 pub returns : goal.returns
 returns g c =
     let number = c.number-actor.ensures
     ∙ ap (λ (p : PassView Step PlanParts). p.number) c.take-held.ensures.turn in
-    let left = c.take_turn-turn.new.fabric in
+    let left = c.take_turn-turn.new.shared.run in
     let here = c.take_turn-turn.ensures in
     record {
-      found = c.take-held.result.state;
+      found = c.take-held.result.state.run;
       left = left;
       turn = record {
         plan = c.take-held.ensures.fixed;
         rests = c.take-held.ensures.rests;
-        reached = rw (c.fabric_mut.ensures.value, c.state.ensures.value) at here.reached;
-        calm = rw (c.fabric_mut.ensures.value, c.state.ensures.value) at here.calm;
-        fixed = rw (c.fabric_mut.ensures.value, c.state.ensures.value) at here.fixed;
+        reached = rw c.state.ensures.value at here.reached;
+        calm = rw c.state.ensures.value at here.calm;
+        fixed = rw c.state.ensures.value at here.fixed;
         same = c.give.ensures.pass
             ∙ ap (λ (p : PassView Step PlanParts).
             let q : PassView Step PlanParts = record p { front = story_of left } in q)
             c.take-held.ensures.turn;
       };
-      came = rw (c.fabric_mut.ensures.value, c.state.ensures.value, number) at here.came;
+      came = rw (c.state.ensures.value, number) at here.came;
       over = rw number at here.over;
     }
