@@ -1,11 +1,18 @@
 -- That journals are decided, by the law of the runs behind them.
-use Rattle.std.proofs.Common.{◌≡◌, ◌∙◌, ap, sym, subst, true}
+use Rattle.std.proofs.Common.{◌≡◌, ◌∙◌, ◌≤◌, ap, arith, length, sym, subst, true}
+use Rattle.std.proofs.lemmas.List.{length-map}
 use Rattle.journal.specs.Logs.{Log, is_full}
+use Rattle.journal_text.specs.Text.{text_of}
+use Rattle.journal_text.proofs.Spelling.{ArePlain}
+use Rattle.link_laws.specs.Laws.{IsLegal}
+use Rattle.script_lang.specs.declared.actor_script.ActorScript.{ActorScript}
 use Rattle.script_lang.specs.Parts.{ScriptParts}
+use Rattle.stage.specs.Turns.{shape_of}
 use Rattle.run_orders.specs.Laws.{IsEnded, IsFilled, makers_of}
 use Rattle.run_orders.proofs.Orders.{orders_decide}
 use Rattle.linx_commands.specs.Decided.{IsRunOrFront, JournalsAreDecided}
 use Rattle.linx_commands.specs.Runs.{IsRunInOrder, IsStoppedFull}
+use Rattle.linx_commands.proofs.Shown.{text-makers}
 use Rattle.linx_commands.specs.declared.asked.Asked.TheVariants.{Serial}
 
 ended : (script : ScriptParts) (log : Log) (is : IsRunInOrder script log) → IsEnded script is.run
@@ -29,9 +36,47 @@ of_run script one two first second makers =
     ∙ sym (ap (λ (l : Log). makers_of l.steps) second.1.logged))
     ∙ second.1.logged
 
+-- the journal of a run so far is legal, its actors and links are few, and its names are names
+record IsShown (script : ScriptParts) (log : Log) : Type 0 where
+  names : log.names ≡ script.names
+  plain : ArePlain log.names
+  legal : IsLegal (shape_of script) log.steps
+  actors : length (shape_of script).actors ≤ 64
+  links : length (shape_of script).links ≤ 32
+
+shown : (script : ScriptParts) (log : Log) → IsRunOrFront script log → IsShown script log
+shown script log is =
+    let so_far = is.1.so_far in
+    let declared = so_far.declared in
+    let names : log.names ≡ script.names =
+    ap (λ (l : Log). l.names) (sym is.1.logged) ∙ so_far.names in
+    let actors : length (shape_of script).actors ≡ length script.actors =
+    length-map script.actors (λ (a : ActorScript). a.node) in
+    let few : length script.actors ≤ 64 = declared.actors in
+    let links : length script.names.links ≤ 32 = declared.links in
+    let each : length script.links ≡ length script.names.links = declared.each_name in
+    record {
+      names = names;
+      plain = subst ArePlain (sym names)
+          (record { nodes = declared.named_nodes; links = declared.named_links });
+      legal = subst (λ (l : Log). IsLegal (shape_of script) l.steps) is.1.logged so_far.legal;
+      actors = omega (arith, actors, few);
+      links = omega (arith, links, each);
+    }
+
+of_text : (script : ScriptParts) (one two : Log) → IsRunOrFront script one
+    → IsRunOrFront script two → text_of one ≡ text_of two → one ≡ two
+of_text script one two first second same =
+    let left = shown script one first in
+    let right = shown script two second in
+    of_run script one two first second
+    (text-makers (shape_of script) left.actors left.links one two
+    (left.names ∙ sym right.names) left.plain left.legal right.legal same)
+
 pub journals_are_decided : JournalsAreDecided
 journals_are_decided = record {
   run = of_run;
+  text = of_text;
   serial = λ script one two first second. sym first.is.so_far.logged
       ∙ orders_decide.ended script first.run second.run (ended script one first)
       (ended script two second) ∙ second.is.so_far.logged;

@@ -3,5 +3,6 @@ mod Numbers
 mod Causes
 mod Answering
 mod Scanning
+mod Shown
 mod Decided
 mod Headline

@@ -1,6 +1,7 @@
 -- That nothing but whose step is next is left open in what a script's run writes.
 use Rattle.std.specs.Prelude.{◌≡◌}
 use Rattle.journal.specs.Logs.{Log}
+use Rattle.journal_text.specs.Text.{text_of}
 use Rattle.run_orders.specs.Laws.{makers_of}
 use Rattle.script_lang.specs.Parts.{ScriptParts}
 use Rattle.fabric.specs.Run.{Layout}
@@ -11,12 +12,16 @@ use Rattle.linx_commands.specs.declared.asked.Asked.TheVariants.{Serial}
 abbrev pub IsRunOrFront : ScriptParts → Log → Type 0
 IsRunOrFront script log = (run : Layout) × IsRunAs script run log
 
--- THE ORDER OF THE STEPS' MAKERS DECIDES A JOURNAL, and `serial` leaves no choice of it
+-- THE ORDER OF THE STEPS' MAKERS DECIDES A JOURNAL, and so does its text; `serial` leaves no choice
 pub record JournalsAreDecided : Type 0 where
   -- two journals of runs, whose steps were made by the same makers in the same order, are one
   pub run :
       (script : ScriptParts) (one two : Log) → IsRunOrFront script one
       → IsRunOrFront script two → makers_of one.steps ≡ makers_of two.steps → one ≡ two
+  -- a text is of one journal of its script: two journals of runs that have one text are one
+  pub text :
+      (script : ScriptParts) (one two : Log) → IsRunOrFront script one
+      → IsRunOrFront script two → text_of one ≡ text_of two → one ≡ two
   -- two journals of the whole run in the fixed order are one, so `serial` has one text
   pub serial :
       (script : ScriptParts) (one two : Log) → IsRunInOrder script one → IsRunInOrder script two
