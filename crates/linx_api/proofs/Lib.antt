@@ -2,3 +2,4 @@ mod Numbers
 pub mod Own
 pub mod Answering
 pub mod Calls
+mod Newcomers

@@ -1,3 +1,4 @@
 pub mod Telling
 pub mod Sharing
 pub mod Asked
+pub mod Newcomers

@@ -18,7 +18,9 @@ mod asking;
 mod endpoint;
 mod plan;
 mod shared_fabric;
+mod sharing;
 
 pub use endpoint::{Endpoint, Told};
 pub use plan::Plan;
 pub use shared_fabric::SharedFabric;
+pub use sharing::{Dealt, share};
