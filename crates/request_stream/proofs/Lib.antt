@@ -1,0 +1,4 @@
+pub mod GoingOn
+pub mod Fronts
+pub mod OneAnswer
+pub mod Answered
