@@ -13,7 +13,6 @@ wasn't.
 import pathlib
 import random
 import re
-import shutil
 import subprocess
 import sys
 import tempfile
@@ -21,8 +20,8 @@ import tempfile
 sys.dont_write_bytecode = True
 
 import arguments
+from copied import add_program, copied_crates
 
-TOP = pathlib.Path(__file__).resolve().parent.parent
 CRATES = ["linx_base", "ethcm_headers", "rlnh_messages"]
 NAME = re.compile(rb"[A-Za-z0-9_.-]{1,32}\Z")
 PROGRAM = """#![tactic(auto)]
@@ -237,17 +236,8 @@ class Maker:
 
 def build(folder):
     """The program's crate, beside copies of those that it stands on."""
-    for crate in CRATES:
-        shutil.copytree(TOP / "crates" / crate, folder / "crates" / crate,
-                        ignore=shutil.ignore_patterns("out", "must-fail"))
-    wanted = [line for line in (TOP / "crates.txt").read_text().split("\n")
-              if re.split("[ :]", line)[0] in CRATES]
-    wanted.append(f"packet_bench: {' '.join(CRATES)} anyhow hex")
-    (folder / "crates.txt").write_text("\n".join(wanted) + "\n")
-    source = folder / "crates/packet_bench/src"
-    source.mkdir(parents=True)
-    (source / "main.rt").write_text(PROGRAM)
-    return source.parent
+    copied_crates(folder, CRATES, [f"packet_bench: {' '.join(CRATES)} anyhow hex"])
+    return add_program(folder, "packet_bench", PROGRAM)
 
 
 def main():

@@ -1,0 +1,326 @@
+#!/usr/bin/env python3
+"""Talks to `stream_echo` over sockets of the loopback, and gives it spoiled streams.
+
+Two programs that serve by it are built in a copy of the crates, so that the gate knows nothing of
+them. One serves its standard input and output, and is given each connection as they are, or by
+`socat` where that is there: to one who sends many signals of mixed sizes in pieces cut at random,
+to one who sends each byte by itself, to a slow one, to one who goes away within a frame, to one who
+sends rubbish behind good frames, and to one who sends as much as a stream may have. The other
+serves many streams, some bytes of which are altered, lost or added, in pieces of a size drawn by
+chance, and large ones byte by byte. What is answered and how each session ends must be as
+bench/model/stream_rules.py says by docs/change/wire.md. Prints what each took.
+
+    bench/try stream [run|try] [SIGNALS [SPOILED]]      10,000 and 100,000 if unsaid
+
+`try` builds the programs unproved, and serves the spoiled streams alone.
+"""
+import contextlib
+import pathlib
+import random
+import re
+import shutil
+import socket
+import struct
+import subprocess
+import sys
+import tempfile
+import threading
+import time
+
+sys.dont_write_bytecode = True
+sys.path.insert(0, str(pathlib.Path(__file__).resolve().parent / "model"))
+
+import arguments
+from copied import add_program, copied_crates
+from stream_rules import (CONN, MESSAGE_MOST, PING, PONG, PUBLISH, QUERY_NAME, STREAM_MOST, UDATA,
+                          frame, message, session)
+
+CRATES = ["linx_base", "linx_outside", "sorted_set", "keyed_list", "name_key", "rlnh_messages",
+          "link_addresses", "rlnh_end", "request_stream", "tcpcm_frames", "tcpcm_framing",
+          "tcpcm_end", "stream_echo"]
+SECONDS = 120
+SERVES_ONE = """#![tactic(auto)]
+
+use linx_outside::{ReadFrom, WriteTo};
+use request_stream::ServeStop;
+use std::process::ExitCode;
+use stream_echo::serve;
+
+fn main(rt: HostRuntime) -> ExitCode {
+    let mut source = ReadFrom::new(rt.stdin());
+    let mut sink = WriteTo::new(rt.stdout());
+    let _ = match serve(rt.alloc(), &mut source, &mut sink) {
+        Ok(()) => eprint!(rt; "done"),
+        Err(ServeStop::Torn { at }) => eprint!(rt; "torn at {at}"),
+        Err(ServeStop::BadStream { at }) => eprint!(rt; "bad stream at {at}"),
+        Err(_) => eprint!(rt; "stopped"),
+    };
+    ExitCode::from(0)
+}
+"""
+SERVES_MANY = """#![tactic(auto)]
+
+use anyhow::Context;
+use linx_outside::{MemSink, MemSource};
+use request_stream::ServeStop;
+use std::alloc::Global;
+use std::io::{BufRead, BufReader};
+use stream_echo::serve;
+
+fn word(alloc: Global, ends: Result<(), ServeStop>) -> anyhow::Result<String> {
+    Ok(match ends {
+        Ok(()) => format!(in alloc; "done")?,
+        Err(ServeStop::Torn { at }) => format!(in alloc; "torn at {at}")?,
+        Err(ServeStop::BadStream { at }) => format!(in alloc; "bad stream at {at}")?,
+        Err(_) => format!(in alloc; "stopped")?,
+    })
+}
+
+// Whether a stream is answered and ends as its line says: the most bytes a read, the stream, the
+// answer and the end.
+fn is_good(alloc: Global, line: &str) -> anyhow::Result<bool> {
+    let (most, rest) = line.split_once(" ").context("line")?;
+    let (stream, rest) = rest.split_once(" ").context("line")?;
+    let (answer, end) = rest.split_once(" ").context("line")?;
+    let most: usize = most.parse().ok().context("number")?;
+    let bytes = hex::decode(alloc, stream.as_bytes())?;
+    let mut source = MemSource::new(bytes, most.max(1), Vec::new(alloc));
+    let mut sink = MemSink::new(alloc, 65_536, 1 << 30, Vec::new(alloc)).ok().context("memory")?;
+    let ends = serve(alloc, &mut source, &mut sink);
+    let answer = hex::decode(alloc, answer.as_bytes())?;
+    Ok(sink.held() == answer.as_slice() && word(alloc, ends)?.as_str() == end)
+}
+
+fn main(rt: HostRuntime) -> anyhow::Result<()> {
+    let alloc = rt.alloc();
+    let mut answers = String::new(alloc);
+    for line in BufReader::new(alloc, rt.reader())?.lines(alloc) {
+        let letter = if is_good(alloc, line?.as_str())? { "G" } else { "B" };
+        answers.push_str(letter)?;
+    }
+    println!(rt; "{answers}")?;
+    Ok(())
+}
+"""
+
+
+def build(folder):
+    """The crates of the two programs, beside copies of those that they stand on."""
+    copied_crates(folder, CRATES, [f"serves_one: {' '.join(CRATES)}",
+                                   f"serves_many: {' '.join(CRATES)} anyhow hex"])
+    return (add_program(folder, "serves_one", SERVES_ONE),
+            add_program(folder, "serves_many", SERVES_MANY))
+
+
+def talk(draw, count):
+    """CONN, a question for echo, a peer that is met, and signals of mixed sizes."""
+    parts = [frame(CONN), message(QUERY_NAME, b"echo"),
+             message(PUBLISH, struct.pack(">IQ", 7, 2 << 32 | 1) + b"a")]
+    for _ in range(count):
+        size = draw.choice([0, 1, 5, draw.randint(0, 200), draw.randint(0, 2000)])
+        if draw.random() < 0.002:
+            size = 65532
+        number = struct.pack(">I", draw.getrandbits(32))
+        parts.append(frame(UDATA, 7, 1, number + draw.randbytes(size)))
+        if draw.random() < 0.01:
+            parts.append(frame(draw.choice([PING, PONG])))
+    return b"".join(parts)
+
+
+def pieces(data, draw, most):
+    """The bytes in pieces cut at random."""
+    at = 0
+    while at < len(data):
+        size = draw.randint(1, most)
+        yield data[at:at + size]
+        at += size
+
+
+def spoiled(draw):
+    """A short stream with up to three changes."""
+    data = bytearray(talk(draw, draw.randint(0, 4)))
+    for _ in range(draw.randint(0, 3)):
+        at = draw.randrange(len(data) + 1)
+        kind = draw.randrange(4)
+        if kind == 0 and at < len(data):
+            data[at] = draw.choice([0, 1, 2, 3, 4, 255, draw.randrange(256)])
+        elif kind == 1:
+            data.insert(at, draw.randrange(256))
+        elif kind == 2 and at < len(data):
+            del data[at]
+        elif kind == 3 and draw.random() < 0.3:
+            del data[at:]
+    return bytes(data)
+
+
+def talked(client, given, wait):
+    """Sends these pieces, and gives what is answered."""
+    def send():
+        with contextlib.suppress(OSError):          # the session is over: its answer says why
+            for piece in given:
+                client.sendall(piece)
+                time.sleep(wait)
+            client.shutdown(socket.SHUT_WR)
+
+    sender = threading.Thread(target=send)
+    sender.start()
+    got = bytearray()
+    with contextlib.suppress(ConnectionResetError):
+        while piece := client.recv(65536):
+            got += piece
+    sender.join()
+    return bytes(got)
+
+
+def over_socket(program, given, wait=0.0):
+    """What a program answers that has a connection as its streams, and how the session ends."""
+    with socket.create_server(("127.0.0.1", 0)) as door:
+        client = socket.create_connection(door.getsockname(), SECONDS)
+        there, _ = door.accept()
+    with client, there:
+        ran = subprocess.Popen([program], stdin=there, stdout=there, stderr=subprocess.PIPE)
+        there.close()
+        got = talked(client, given, wait)
+        _, said = ran.communicate(timeout=SECONDS)
+    return got, said.decode()
+
+
+def over_socat(program, given, wait=0.0):
+    """The same by `socat`, which listens and gives the connection to the program."""
+    with socket.create_server(("127.0.0.1", 0)) as door:
+        port = door.getsockname()[1]
+    ran = subprocess.Popen(["socat", "-t", str(SECONDS),
+                            f"TCP-LISTEN:{port},bind=127.0.0.1,reuseaddr", f"EXEC:{program}"],
+                           stderr=subprocess.PIPE)
+    until = time.monotonic() + SECONDS
+    while True:
+        try:
+            client = socket.create_connection(("127.0.0.1", port), SECONDS)
+            break
+        except ConnectionRefusedError:
+            if time.monotonic() > until:
+                raise
+            time.sleep(0.01)
+    with client:
+        got = talked(client, given, wait)
+    _, said = ran.communicate(timeout=SECONDS)
+    return got, said.decode()
+
+
+def peers(draw, count):
+    """Who talks: a name, what is said, the pieces, and how long is waited between two."""
+    long, short = talk(draw, count), talk(draw, 40)
+    rubbish = short + b"GET / HTTP/1.1\r\n\r\n" * 20
+    return [("many signals", long, list(pieces(long, draw, 9000)), 0.0),
+            ("one byte each", short, [short[at:at + 1] for at in range(len(short))], 0.0),
+            ("a slow one", short, list(pieces(short, draw, 200)), 0.01),
+            ("gone within a frame", short[:-3], [short[:-3]], 0.0),
+            ("rubbish behind good frames", rubbish, [rubbish], 0.0)]
+
+
+def wrong_peers(program, draw, count):
+    """How many of those who talk over a socket weren't answered as they should be."""
+    wrong = 0
+    for way in (over_socket, over_socat) if shutil.which("socat") else (over_socket,):
+        for name, data, given, wait in peers(draw, count):
+            began = time.monotonic()
+            answer = way(program, given, wait)
+            took = time.monotonic() - began
+            right = answer == session(data)
+            wrong += not right
+            print(f"{way.__name__}, {name}: {len(data)} bytes, {len(answer[0])} answered, "
+                  f"{took:.2f} s, {answer[1]}{'' if right else ': WRONG'}")
+    return wrong
+
+
+def wrong_streams(command, crate, draw, count):
+    """How many spoiled streams weren't answered as they should be."""
+    lines = []
+    for _ in range(count):
+        data = spoiled(draw)
+        said, ends = session(data)
+        lines.append(f"{draw.choice([1, 3, 16, 4096])} {data.hex()} {said.hex()} {ends}\n")
+    ran = subprocess.run(command, cwd=crate, input="".join(lines), stdout=subprocess.PIPE,
+                         text=True, check=False)
+    answers = next((line for line in ran.stdout.split("\n") if re.match(r"[GB]+\Z", line)), "")
+    wrong = [at for at in range(count) if answers[at:at + 1] != "G"]
+    done = sum(line.endswith("done\n") for line in lines)
+    print(f"{count - len(wrong)} of {count} spoiled streams answered as they should be, "
+          f"{done} of them to the end")
+    for at in wrong[:1]:
+        print(f"first that isn't: {lines[at]}")
+    return len(wrong)
+
+
+def byte_by_byte(program):
+    """Whether streams are answered of which each read gives one byte, and how long each takes."""
+    wrong = 0
+    for count in 2**20, 2**21:
+        data = talk(random.Random(1), 0)
+        whole = frame(UDATA, 7, 1, bytes(60_000))
+        data += whole * ((count - len(data)) // len(whole)) + whole
+        data = data[:count]
+        said, ends = session(data)
+        began = time.monotonic()
+        ran = subprocess.run([program], input=f"1 {data.hex()} {said.hex()} {ends}\n",
+                             stdout=subprocess.PIPE, text=True, check=False)
+        wrong += ran.stdout != "G\n"
+        print(f"{count} reads of one byte: {time.monotonic() - began:.2f} s, {ends}")
+    return wrong
+
+
+def largest(program):
+    """Whether a stream ends at its limit, and the most memory that the program has on the way."""
+    begin, whole = talk(random.Random(1), 0), frame(UDATA, 7, 1, bytes(MESSAGE_MOST))
+    count = (STREAM_MOST - len(begin)) // len(whole)
+    wrong = 0
+    for more, ends in (0, b"done"), (1, b"bad stream at %d" % (len(begin) + count * len(whole))):
+        began = time.monotonic()
+        ran = subprocess.Popen([program], stdin=subprocess.PIPE, stdout=subprocess.DEVNULL,
+                               stderr=subprocess.PIPE)
+        had = "no"
+        with contextlib.suppress(BrokenPipeError), ran.stdin as given:
+            given.write(begin)
+            for _ in range(count):
+                given.write(whole)
+            given.flush()
+            status = pathlib.Path(f"/proc/{ran.pid}/status").read_text()
+            had = re.search(r"VmHWM:\s*(\d+)", status)[1]
+            given.write(whole * more)
+        said = ran.stderr.read()
+        ran.wait()
+        wrong += said != ends
+        size, took = len(begin) + (count + more) * len(whole), time.monotonic() - began
+        print(f"{size} bytes: {took:.2f} s, {had} kB, {said.decode()}")
+    return wrong
+
+
+def proved(crate):
+    """The program that `rt run` leaves in a crate: it runs it once, on nothing."""
+    with open(crate / "run.log", "wb") as log:
+        subprocess.run(["rt", "run"], cwd=crate, stdin=subprocess.DEVNULL, stdout=log, check=False)
+    return crate / "out" / crate.name
+
+
+def main():
+    """Builds the programs, and talks to them."""
+    parser = arguments.parser(__doc__)
+    parser.add_argument("way", choices=["run", "try"], nargs="?", default="run")
+    parser.add_argument("signals", type=arguments.count, nargs="?", default=10_000)
+    parser.add_argument("spoiled", type=arguments.count, nargs="?", default=100_000)
+    given = parser.parse_args()
+    draw = random.Random(49)
+    with tempfile.TemporaryDirectory() as folder:
+        one, many = build(pathlib.Path(folder))
+        if given.way == "try":
+            wrong = wrong_streams(["rt", "try"], many, draw, given.spoiled)
+        else:
+            program = proved(many)
+            wrong = wrong_streams([program], many, draw, given.spoiled) + byte_by_byte(program)
+            program = proved(one)
+            wrong += wrong_peers(program, draw, given.signals) + largest(program)
+    return 1 if wrong else 0
+
+
+if __name__ == "__main__":
+    sys.exit(main())
