@@ -5,6 +5,7 @@ where the run didn't end in its time and was stopped.
 """
 import os
 import pathlib
+import re
 import subprocess
 import sys
 
@@ -15,7 +16,14 @@ from runs import Run
 from script import parse
 from values import Full, Refused
 
-FULL = 5, b"linx_sim: journal full\n", b""
+FULL = re.compile(rb"linx_sim: journal full after step [1-9][0-9]*, by the limit of "
+                  rb"(200000 steps|67108864 bytes of signals)\n")
+REASON = (rb"(the script is longer than 1,048,576 bytes|the line is longer than 4,096 bytes|"
+          rb"the line has a byte that is no printable character|"
+          rb"no statement begins with this word here|a word is wrong, missing or one too many|"
+          rb"no node or link has this name here|this name stands twice|"
+          rb"this is more than a script may have|an `end` is missing behind this line)"
+          rb"(: [ -~]{1,64})?")
 
 
 def ended(command, script, seconds, **options):
@@ -39,14 +47,14 @@ def model_of(script):
 
 
 def serial_end(script):
-    """How `serial` must end on these bytes."""
+    """How `serial` must end on these bytes; what is said of a bad line has any reason."""
     bad = first_bad_line(script)
     if bad is not None:
-        return 2, b"linx_sim: script line %d\n" % bad, b""
+        return 2, re.compile(rb"linx_sim: script line %d: " % bad + REASON + rb"\n"), b""
     try:
         return 0, b"", model_of(script).play().encode()
-    except Full:
-        return FULL
+    except Full as full:
+        return 5, b"linx_sim: %s\n" % str(full).encode(), b""
 
 
 def ending(end):
@@ -54,12 +62,17 @@ def ending(end):
     return "didn't end in its time" if end[0] is None else f"ended with {end[0]}"
 
 
+def is_said(said, wanted):
+    """Whether this is said where that is wanted: these bytes, or any that a pattern has."""
+    return wanted.fullmatch(said) if isinstance(wanted, re.Pattern) else said == wanted
+
+
 def difference(end, wanted):
     """What is wrong with an end where another is wanted, or None; a wanted text of None is any."""
     status, said, text = wanted
     if end[0] != status:
         return f"{ending(end)}, and should have with {status}"
-    if end[1] != said:
+    if not is_said(end[1], said):
         return f"said {end[1]!r}, not {said!r}"
     if text is not None and end[2] != text:
         same = len(os.path.commonprefix([end[2], text]))
@@ -67,10 +80,16 @@ def difference(end, wanted):
     return None
 
 
-def wrong_in_order(script, end):
-    """What is wrong with how `serial` ended on these bytes, or None."""
+def wrong_in_order(script, end, any_step=False):
+    """What is wrong with how `serial` ended on these bytes, or None.
+
+    Where any step will do, a journal that is full may be so after any step, and by either limit.
+    """
     try:
-        return difference(end, serial_end(script))
+        status, said, text = serial_end(script)
+        if any_step and status == 5 and FULL.fullmatch(end[1]):
+            said = end[1]
+        return difference(end, (status, said, text))
     except Refused as reason:
         return f"the model refuses the script: {reason}"
 
@@ -89,7 +108,7 @@ def wrong_in_threads(script, end):
     is full in the fixed order.
     """
     if end[:2] != (0, b""):
-        return wrong_in_order(script, end)
+        return wrong_in_order(script, end, any_step=True)
     try:
         text = model_of(script).replay(makers_of(end[2].decode("ascii", "replace")))
     except Refused as reason:

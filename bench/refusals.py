@@ -16,6 +16,7 @@ it should.
 import itertools
 import os
 import pathlib
+import re
 import subprocess
 import sys
 import tempfile
@@ -88,6 +89,8 @@ ssize_t write(int file, const void *bytes, size_t size) {
     return syscall(SYS_write, file, bytes, size);
 }
 """
+OUT_OF_MEMORY = re.compile(rb"linx_sim: out of memory( after step [1-9][0-9]*)?\n")
+
 WAYS = [("memory", "once"), ("memory", "from"), ("read", "failed"), ("read", "short"),
         ("read", "interrupted"), ("write", "failed"), ("write", "short"), ("write", "interrupted"),
         ("thread", "once"), ("thread", "from")]
@@ -115,7 +118,7 @@ def ran(command, script, library, kind, way, call):
 
 def is_right(kind, way, end, is_whole, is_front):
     """Whether a run with a refused call ended as it should."""
-    if kind == "memory" and end == (6, b"linx_sim: out of memory\n", b""):
+    if kind == "memory" and end[::2] == (6, b"") and OUT_OF_MEMORY.fullmatch(end[1]):
         return True
     if kind in ("memory", "thread") or way == "short":
         return is_whole(end)

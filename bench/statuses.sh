@@ -40,6 +40,11 @@ plain() {
     timeout 60 "$program" "$@"
 }
 
+# shown WORD: what is said of it, its first 64 bytes.
+shown() {
+    printf '%.64s' "$1"
+}
+
 # limited KILOBYTES WORDS..: the program in so much address space.
 # shellcheck disable=SC2317
 limited() {
@@ -52,30 +57,61 @@ named() {
     timeout 60 bash -c 'exec -a "$0" "$@"' "$1" "$program" "${@:2}"
 }
 
-script="$top/crates/self_send_program/stdin"
+script="$top/crates/self_send_program/data/self_send.linx"
 printf 'node n\nnod m\n' > "$work/bad"
 # an actor shares a filling with the one before it where they are equal: so these take turns
 printf '%s\n' 'node n' 'actor p n' 'open a' 'repeat 300' 'send self 1 fill:65532:00' \
     'send self 1 fill:65532:01' 'end' 'close' 'end' > "$work/large"
-usage=$'linx_sim: usage: linx_sim run, serial or gen N\n'
+words='the words are: run serial gen help version'
+usage="linx_sim: usage: linx_sim WORD ..; $words"$'\n'
+printf x > "$work/closed" && chmod 000 "$work/closed"
 
 row 'done' 0 '' "$script" "$work/text" plain run
 cmp -s "$work/text" "$top/crates/self_send_program/stdout" || complain 'done: another text'
 row 'another name' 0 '' "$script" "$work/text" named $'\xff' run
 cmp -s "$work/text" "$top/crates/self_send_program/stdout" || complain 'another name: another text'
+row 'a file' 0 '' / "$work/text" plain run "$script"
+cmp -s "$work/text" "$top/crates/self_send_program/stdout" || complain 'a file: another text'
+row 'a dash' 0 '' "$script" "$work/text" plain serial -
+cmp -s "$work/text" "$top/crates/self_send_program/stdout" || complain 'a dash: another text'
 row 'a generated script' 0 '' / "$work/text" plain gen 7
 [ "$(wc -l < "$work/text")" = 10 ] || complain 'a generated script: no summary'
+row 'help' 0 '' / "$work/text" plain --help
+[ -s "$work/text" ] || complain 'help: nothing was written'
+row 'version' 0 '' / "$work/text" plain -V
+[ "$(cat "$work/text")" = 'linx_sim 1.0' ] || complain 'version: another text'
 row 'no words' 1 "$usage" "$script" "$work/text" plain
-row 'two words' 1 "$usage" "$script" "$work/text" plain run run
-row 'a number too large' 1 "$usage" "$script" "$work/text" plain gen 4294967296
-row 'a dashed word' 1 "$usage" "$script" "$work/text" plain -x
+row 'another word' 1 $'linx_sim: no word \'seriel\': did you mean \'serial\'?\n' "$script" \
+    "$work/text" plain seriel
+row 'three words' 1 $'linx_sim: usage: linx_sim run [FILE]\n' "$script" "$work/text" plain run a b
+row 'a number too large' 1 $'linx_sim: usage: linx_sim gen N\n' "$script" "$work/text" \
+    plain gen 4294967296
+row 'a dashed word' 1 "linx_sim: no word '-x'; $words"$'\n' "$script" "$work/text" plain -x
+row 'an empty word' 1 "linx_sim: no word ''; $words"$'\n' "$script" "$work/text" plain ''
 row 'a word that is not UTF-8' 1 "$usage" "$script" "$work/text" plain $'run\xff'
-row 'a long word' 1 "$usage" "$script" "$work/text" plain "$(printf 'run%.0s' {1..40})"
-row 'a bad line' 2 $'linx_sim: script line 2\n' "$work/bad" "$work/text" plain run
+row 'a long word' 1 "$usage" "$script" "$work/text" plain "$(printf 'run%.0s' {1..4000})"
+row 'a bad line' 2 \
+    $'linx_sim: script line 2: no statement begins with this word here: nod\n' "$work/bad" \
+    "$work/text" plain run
 row 'a read fault' 3 $'linx_sim: read fault\n' / "$work/text" plain run
+row 'a missing file' 3 "linx_sim: missing: no such file"$'\n' "$script" "$work/text" \
+    plain run missing
+row 'a folder' 3 $'linx_sim: /: is a folder\n' "$script" "$work/text" plain serial /
+if [ "$(id -u)" != 0 ]; then
+    row 'a closed file' 3 "linx_sim: $(shown "$work/closed"): not allowed"$'\n' "$script" \
+        "$work/text" plain serial "$work/closed"
+fi
 row 'a write fault' 4 $'linx_sim: write fault\n' "$script" /dev/full plain run
-row 'a full journal' 5 $'linx_sim: journal full\n' "$work/large" "$work/text" plain run
+row 'a full journal' 5 \
+    $'linx_sim: journal full after step 513, by the limit of 67108864 bytes of signals\n' \
+    "$work/large" "$work/text" plain run
 [ -s "$work/text" ] && complain 'a full journal: something was written'
-row 'out of memory' 6 $'linx_sim: out of memory\n' "$work/large" "$work/text" limited 30000 run
+limited 30000 run < "$work/large" > "$work/text" 2> "$work/errors"
+[ $? = 6 ] || complain 'out of memory: another exit status'
+grep -qx 'linx_sim: out of memory\( after step [0-9]*\)\?' "$work/errors" ||
+    complain "out of memory: $(cat "$work/errors")"
+plain gen 7 | head -n 1 > "$work/text"
+[ "${PIPESTATUS[0]}" = 0 ] || [ "${PIPESTATUS[0]}" = 4 ] || [ "${PIPESTATUS[0]}" = 141 ] ||
+    complain 'into head: another exit status'
 [ "$wrong" = 0 ] && echo 'all as they should be'
 exit "$((wrong > 0))"

@@ -24,7 +24,9 @@ class Journal:
     def want_room(self):
         """Refuses a turn where the journal is full."""
         if self.steps >= MOST_STEPS or self.noted >= MOST_NOTED:
-            raise Full("journal full")
+            limit = (f"{MOST_STEPS} steps" if self.steps >= MOST_STEPS
+                     else f"{MOST_NOTED} bytes of signals")
+            raise Full(f"journal full after step {self.steps}, by the limit of {limit}")
 
     def line(self, words):
         """The words as a line; the signals among them are counted."""

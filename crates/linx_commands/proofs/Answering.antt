@@ -21,11 +21,12 @@ use Rattle.workers.specs.declared.ran.Ran.{Ran}
 use Rattle.linx_commands.specs.Causes.{is_of_writing, stop_status}
 use Rattle.linx_commands.specs.Runs.{IsAnswerTo, IsLegalSomehow, IsOverUnder, IsRan, IsRunAs}
 use Rattle.linx_commands.specs.Runs.{IsRunSoFar, IsRunUnder, IsStoppedUnder, IsWholeAs}
-use Rattle.linx_commands.specs.declared.asked.Asked.{Asked}
-use Rattle.linx_commands.specs.declared.asked.Asked.TheVariants.{Run, Serial, Gen}
+use Rattle.command_words.specs.declared.request.Asked.{Asked}
+use Rattle.command_words.specs.declared.request.Asked.TheVariants.{Run, Serial, Gen}
 use Rattle.linx_commands.specs.declared.outcome.Status.{Status}
-use Rattle.linx_commands.specs.declared.outcome.Status.TheVariants.{Done, Usage, Script, ReadFault}
-use Rattle.linx_commands.specs.declared.outcome.Status.TheVariants.{WriteFault, JournalFull, NoMemory}
+use Rattle.linx_commands.specs.declared.outcome.Status.TheVariants.{Done, Usage, Script, Unopened}
+use Rattle.linx_commands.specs.declared.outcome.Status.TheVariants.{ReadFault, WriteFault, JournalFull}
+use Rattle.linx_commands.specs.declared.outcome.Status.TheVariants.{NoMemory}
 
 -- a whole run under a command is a run so far under it
 so-far-of : (asked : Asked) (script : ScriptParts) (log : Log) → IsRunUnder asked script log
@@ -53,8 +54,9 @@ answers-written asked Done script log writes run = run
 answers-written asked WriteFault script log writes run = run
 answers-written asked NoMemory script log writes run = so-far-of asked script log run
 answers-written asked JournalFull script log writes run = cc
-answers-written asked Usage script log writes run = cc
-answers-written asked (Script line) script log writes run = cc
+answers-written asked (Usage wrong) script log writes run = cc
+answers-written asked (Unopened why) script log writes run = cc
+answers-written asked (Script line fault) script log writes run = cc
 answers-written asked ReadFault script log writes run = cc
 
 -- a run that is over is the whole one that a command asks for

@@ -9,30 +9,32 @@ use Rattle.script_lang.specs.Parts.{ScriptParts}
 use Rattle.script_lang.specs.Reading.{script_of}
 use Rattle.script_lang.proofs.Sizes.{script_within}
 use Rattle.linx_commands.specs.Streams.{read_most}
-use Rattle.linx_commands.specs.Runs.{IsCaused, IsBadAt, IsEmptyLog, IsOutcomeOf, Completes, read_of}
+use Rattle.linx_commands.specs.Runs.{IsCaused, IsEmptyLog, IsOutcomeOf, Completes, read_of}
 use Rattle.linx_commands.specs.Causes.{IsUnread}
 use Rattle.linx_commands.specs.Statuses.{IsDoneOrRefused}
-use Rattle.linx_commands.specs.declared.asked.Asked.{Asked}
-use Rattle.linx_commands.specs.declared.asked.Asked.TheVariants.{Run}
+use Rattle.command_words.specs.declared.request.Asked.{Asked}
+use Rattle.command_words.specs.declared.request.Asked.TheVariants.{Run}
 use Rattle.linx_commands.specs.declared.outcome.Status.{Status}
-use Rattle.linx_commands.specs.declared.outcome.Status.TheVariants.{Done, Usage, Script, ReadFault}
-use Rattle.linx_commands.specs.declared.outcome.Status.TheVariants.{WriteFault, JournalFull, NoMemory}
+use Rattle.linx_commands.specs.declared.outcome.Status.TheVariants.{Done, Usage, Script, Unopened}
+use Rattle.linx_commands.specs.declared.outcome.Status.TheVariants.{ReadFault, WriteFault, JournalFull}
+use Rattle.linx_commands.specs.declared.outcome.Status.TheVariants.{NoMemory}
 
 -- the cause of a status that no script gave
 pub caused_unread : (asked : Asked) (status : Status) (told : Option (List ℕ)) (log : Log)
     → IsUnread status told → IsEmptyLog log → IsCaused asked status told log
-caused_unread asked (Script line) told log unread empty = (unread, empty)
+caused_unread asked (Script line fault) told log unread empty = (unread, empty)
 caused_unread asked ReadFault told log unread empty = empty
 caused_unread asked NoMemory told log unread empty = inl empty
-caused_unread asked Usage told log unread empty = absurd unread
+caused_unread asked (Usage wrong) told log unread empty = absurd unread
+caused_unread asked (Unopened why) told log unread empty = absurd unread
 caused_unread asked Done told log unread empty = absurd unread
 caused_unread asked WriteFault told log unread empty = absurd unread
 caused_unread asked JournalFull told log unread empty = absurd unread
 
-spelled_not_bad : (line : ℕ) (spells : Result ScriptParts (ℕ × Fault)) → IsOk spells
-    → IsBadAt line spells → ⊥
-spelled_not_bad line (Ok s) spelled bad = bad
-spelled_not_bad line (Err fault) spelled bad = cc
+spelled_not_bad : (spells : Result ScriptParts (ℕ × Fault)) (line : ℕ) (fault : Fault)
+    → IsOk spells → spells ≡ Err (line, fault) → ⊥
+spelled_not_bad (Ok s) line fault spelled bad = cc
+spelled_not_bad (Err told) line fault spelled bad = cc
 
 read_whole : (bytes : List ℕ) (spells : Result ScriptParts (ℕ × Fault)) → script_of bytes ≡ spells
     → IsOk spells → read_of bytes ≡ bytes
@@ -46,15 +48,16 @@ pub completes : (asked : Asked) (status : Status) (bytes : List ℕ) (log : Log)
     → IsCaused asked status (Some bytes) log → Completes bytes status log
 completes asked Done bytes log cause spelled room read write = tt
 completes asked NoMemory bytes log cause spelled room read write = tt
-completes asked Usage bytes log cause spelled room read write = absurd cause
+completes asked (Usage wrong) bytes log cause spelled room read write = absurd cause
+completes asked (Unopened why) bytes log cause spelled room read write = absurd cause
 completes asked ReadFault bytes log cause spelled room read write = absurd (read refl)
 completes asked WriteFault bytes log cause spelled room read write = absurd (write refl)
 completes asked JournalFull bytes log cause spelled room read write =
     absurd (let no : true ≡ false = sym cause.answer.full ∙ room in cc)
-completes asked (Script line) bytes log cause spelled room read write =
+completes asked (Script line fault) bytes log cause spelled room read write =
     let whole : read_of bytes ≡ bytes = read_whole bytes (script_of bytes) refl spelled in
-    absurd (spelled_not_bad line (script_of bytes) spelled
-    (subst (λ (read : List ℕ). IsBadAt line (script_of read)) whole cause.0))
+    absurd (spelled_not_bad (script_of bytes) line fault spelled
+    (subst (λ (read : List ℕ). script_of read ≡ Err (line, fault)) whole cause.0))
 
 -- the same where the bytes may be untold
 pub completes_told : (asked : Asked) (status : Status) (told : Option (List ℕ)) (log : Log)
@@ -80,9 +83,11 @@ completes_outcome asked WriteFault script log outcome room write = absurd (write
 completes_outcome asked JournalFull script log (inl refused) room write = cc
 completes_outcome asked JournalFull script log (inr answer) room write =
     absurd (let no_room : true ≡ false = sym answer.full ∙ room in cc)
-completes_outcome asked Usage script log (inl refused) room write = cc
-completes_outcome asked Usage script log (inr answer) room write = answer
-completes_outcome asked (Script line) script log (inl refused) room write = cc
-completes_outcome asked (Script line) script log (inr answer) room write = answer
+completes_outcome asked (Usage wrong) script log (inl refused) room write = cc
+completes_outcome asked (Usage wrong) script log (inr answer) room write = answer
+completes_outcome asked (Unopened why) script log (inl refused) room write = cc
+completes_outcome asked (Unopened why) script log (inr answer) room write = answer
+completes_outcome asked (Script line fault) script log (inl refused) room write = cc
+completes_outcome asked (Script line fault) script log (inr answer) room write = answer
 completes_outcome asked ReadFault script log (inl refused) room write = cc
 completes_outcome asked ReadFault script log (inr answer) room write = answer

@@ -13,7 +13,7 @@ use Rattle.run_orders.proofs.Orders.{orders_decide}
 use Rattle.linx_commands.specs.Decided.{IsRunOrFront, JournalsAreDecided}
 use Rattle.linx_commands.specs.Runs.{IsRunInOrder, IsStoppedFull}
 use Rattle.linx_commands.proofs.Shown.{text-makers}
-use Rattle.linx_commands.specs.declared.asked.Asked.TheVariants.{Serial}
+use Rattle.command_words.specs.declared.request.Asked.TheVariants.{Serial}
 
 ended : (script : ScriptParts) (log : Log) (is : IsRunInOrder script log) → IsEnded script is.run
 ended script log is = record { so_far = is.is.so_far.so_far; whole = is.whole }

@@ -19,17 +19,18 @@ use Rattle.fabric.specs.Run.{Layout}
 use Rattle.stage.specs.Plays.{IsScriptRun, IsSoFar}
 use Rattle.stage.specs.Turns.{shape_of}
 use Rattle.work_gen.specs.Generated.{generated}
+use Rattle.command_words.specs.declared.request.Asked.{Asked}
+use Rattle.command_words.specs.declared.request.Asked.TheVariants.{Run, Serial, Gen}
 use Rattle.linx_commands.specs.Commands.{IsCausedUnder}
 use Rattle.linx_commands.specs.Decided.{IsRunOrFront}
 use Rattle.linx_commands.specs.Headline.{AllReceived, Headline, HeadlineOfSource, HeadlineUnder}
 use Rattle.linx_commands.specs.Headline.{IsReceived, Throughout}
 use Rattle.linx_commands.specs.Runs.{IsAnswerTo, IsCaused, IsEmptyLog, IsOfSource, IsOutcomeOf}
 use Rattle.linx_commands.specs.Runs.{IsRunUnder}
-use Rattle.linx_commands.specs.declared.asked.Asked.{Asked}
-use Rattle.linx_commands.specs.declared.asked.Asked.TheVariants.{Run, Serial, Gen}
 use Rattle.linx_commands.specs.declared.outcome.Status.{Status}
-use Rattle.linx_commands.specs.declared.outcome.Status.TheVariants.{Done, Usage, Script, ReadFault}
-use Rattle.linx_commands.specs.declared.outcome.Status.TheVariants.{WriteFault, JournalFull, NoMemory}
+use Rattle.linx_commands.specs.declared.outcome.Status.TheVariants.{Done, Usage, Script, Unopened}
+use Rattle.linx_commands.specs.declared.outcome.Status.TheVariants.{ReadFault, WriteFault, JournalFull}
+use Rattle.linx_commands.specs.declared.outcome.Status.TheVariants.{NoMemory}
 
 -- ---- of a run so far
 
@@ -120,8 +121,9 @@ of_source asked status told log is =
 pub headline_caused : (asked : Asked) (status : Status) (told : Option (List ℕ)) (log : Log)
     → IsCaused asked status told log → IsEmptyLog log ⊎ HeadlineOfSource told log
 headline_caused asked Done told log cause = of_source asked Done told log cause
-headline_caused asked Usage told log cause = absurd cause
-headline_caused asked (Script line) told log cause = inl cause.1
+headline_caused asked (Usage wrong) told log cause = absurd cause
+headline_caused asked (Unopened why) told log cause = absurd cause
+headline_caused asked (Script line fault) told log cause = inl cause.1
 headline_caused asked ReadFault told log cause = inl cause
 headline_caused asked WriteFault told log cause = of_source asked WriteFault told log cause
 headline_caused asked JournalFull told log cause = of_source asked JournalFull told log cause

@@ -1,5 +1,3 @@
-mod CommandLine
-mod Numbers
 mod Causes
 mod Answering
 mod Scanning

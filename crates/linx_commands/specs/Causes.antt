@@ -1,5 +1,5 @@
 -- What each part of a run says to the status that it ends with.
-use Rattle.std.specs.Prelude.{ℕ, Bool, true, false, List, Option, IfSome, Result, Ok, Err}
+use Rattle.std.specs.Prelude.{ℕ, ◌≡◌, Bool, true, false, List, Option, IfSome, Result, Ok, Err}
 use Rattle.fabric.specs.declared.stop.StopCause.{StopCause}
 use Rattle.fabric.specs.declared.stop.StopCause.TheVariants as stops
 use Rattle.linx_outside.specs.declared.whole_reads.ReadStop.{ReadStop}
@@ -9,14 +9,16 @@ use Rattle.report.specs.declared.reports.ReportError.TheVariants as reports
 use Rattle.script_lang.specs.declared.script_error.ScriptError.{ScriptError}
 use Rattle.script_lang.specs.declared.script_error.ScriptError.TheVariants as scripts
 use Rattle.script_lang.specs.Reading.{script_of}
-use Rattle.linx_commands.specs.Runs.{IsBadAt, read_of}
+use Rattle.linx_commands.specs.Runs.{read_of}
 use Rattle.linx_commands.specs.declared.outcome.Status.{Status}
-use Rattle.linx_commands.specs.declared.outcome.Status.TheVariants.{Done, Usage, Script, ReadFault}
-use Rattle.linx_commands.specs.declared.outcome.Status.TheVariants.{WriteFault, JournalFull, NoMemory}
+use Rattle.linx_commands.specs.declared.outcome.Status.TheVariants.{Done, Usage, Script, Unopened}
+use Rattle.linx_commands.specs.declared.outcome.Status.TheVariants.{ReadFault, WriteFault, JournalFull}
+use Rattle.linx_commands.specs.declared.outcome.Status.TheVariants.{NoMemory}
 
 -- what each status says of a source's bytes that gave no script
 abbrev pub IsUnread : Status → Option (List ℕ) → Type 0
-IsUnread (Script line) told = IfSome told (λ bytes. IsBadAt line (script_of (read_of bytes)))
+IsUnread (Script line fault) told =
+    IfSome told (λ bytes. script_of (read_of bytes) ≡ Err (line, fault))
 IsUnread ReadFault told = Unit {0}
 IsUnread NoMemory told = Unit {0}
 IsUnread _ told = ⊥
@@ -24,8 +26,9 @@ IsUnread _ told = ⊥
 -- the status of a text's writing
 abbrev pub is_of_writing : Status → Bool
 is_of_writing Done = true
-is_of_writing Usage = false
-is_of_writing (Script line) = false
+is_of_writing (Usage wrong) = false
+is_of_writing (Script line fault) = false
+is_of_writing (Unopened why) = false
 is_of_writing ReadFault = false
 is_of_writing WriteFault = true
 is_of_writing JournalFull = false
@@ -38,7 +41,7 @@ read_status reads.NoMemory = NoMemory
 
 -- the status of bytes that are no script
 abbrev pub script_status : ScriptError → Status
-script_status (scripts.Bad line fault) = Script line
+script_status (scripts.Bad line fault) = Script line fault
 script_status scripts.NoMemory = NoMemory
 
 -- the status of a step that wasn't made

@@ -8,8 +8,8 @@ use Rattle.work_gen.specs.Generated.{generated}
 use Rattle.linx_commands.specs.Runs.{Completes, IsOutcomeOf, IsCaused}
 use Rattle.linx_commands.specs.Statuses.{IsDoneOrRefused}
 use Rattle.linx_commands.specs.Streams.{Reads}
-use Rattle.linx_commands.specs.declared.asked.Asked.{Asked}
-use Rattle.linx_commands.specs.declared.asked.Asked.TheVariants.{Run, Serial, Gen}
+use Rattle.command_words.specs.declared.request.Asked.{Asked}
+use Rattle.command_words.specs.declared.request.Asked.TheVariants.{Run, Serial, Gen}
 use Rattle.linx_commands.specs.declared.outcome.Status.{Status}
 use Rattle.linx_commands.specs.declared.outcome.Status.TheVariants.{WriteFault}
 

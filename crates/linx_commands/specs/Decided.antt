@@ -6,7 +6,7 @@ use Rattle.run_orders.specs.Laws.{makers_of}
 use Rattle.script_lang.specs.Parts.{ScriptParts}
 use Rattle.fabric.specs.Run.{Layout}
 use Rattle.linx_commands.specs.Runs.{IsRunAs, IsRunInOrder, IsStoppedFull}
-use Rattle.linx_commands.specs.declared.asked.Asked.TheVariants.{Serial}
+use Rattle.command_words.specs.declared.request.Asked.TheVariants.{Serial}
 
 -- a journal is that of a run of a script, whole or stopped, in whichever order the turns came
 abbrev pub IsRunOrFront : ScriptParts → Log → Type 0

@@ -20,9 +20,9 @@ use Rattle.script_lang.specs.Reading.{script_of}
 use Rattle.stage.specs.Plays.{AllFollow}
 use Rattle.stage.specs.Turns.{shape_of}
 use Rattle.work_gen.specs.Generated.{generated}
+use Rattle.command_words.specs.declared.request.Asked.{Asked}
+use Rattle.command_words.specs.declared.request.Asked.TheVariants.{Run, Serial, Gen}
 use Rattle.linx_commands.specs.Runs.{IsEmptyLog}
-use Rattle.linx_commands.specs.declared.asked.Asked.{Asked}
-use Rattle.linx_commands.specs.declared.asked.Asked.TheVariants.{Run, Serial, Gen}
 
 -- it holds before the first step, and after each one
 abbrev pub Throughout : (List Step → Type 0) → List Step → Type 0

@@ -1,28 +1,36 @@
--- What the program does with its command line and its streams.
-use Rattle.std.specs.Prelude.{ℕ, ◌≡◌, List, Option, None, IfSome, IfNone}
+-- What the program does with its command line, its files and its streams.
+use Rattle.std.specs.Prelude.{ℕ, ◌≡◌, ◌⊎◌, true, List, [], map, Option, Some, None, IfNone}
+use Rattle.std.specs.Prelude.{string_bytes}
+use Rattle.command_words.specs.Pages.{page_of}
+use Rattle.command_words.specs.Requests.{file_by, request_by}
+use Rattle.command_words.specs.declared.misuse.Misuse.TheVariants.{Wordless}
+use Rattle.command_words.specs.declared.page.Page.{Page}
+use Rattle.command_words.specs.declared.request.Asked.{Asked}
+use Rattle.command_words.specs.declared.request.Request.{Request}
+use Rattle.command_words.specs.declared.request.Request.TheVariants.{Show, Play}
 use Rattle.journal.specs.Logs.{Log}
-use Rattle.linx_commands.specs.CommandLine.{asked_of}
-use Rattle.linx_commands.specs.Commands.{CompletesUnder, IsCausedUnder, written_under}
+use Rattle.linx_outside.specs.declared.files.OpenFault.{OpenFault}
+use Rattle.linx_commands.specs.Causes.{is_of_writing}
+use Rattle.linx_commands.specs.Commands.{CompletesUnder, IsCausedUnder, ReadsUnder, written_under}
 use Rattle.linx_commands.specs.Headline.{HeadlineUnder}
+use Rattle.linx_commands.specs.Lines.{line_by}
 use Rattle.linx_commands.specs.Runs.{IsEmptyLog, IsLegalSomehow}
 use Rattle.linx_commands.specs.Statuses.{IsUsageOrRefused}
-use Rattle.linx_commands.specs.declared.asked.Asked.{Asked}
 use Rattle.linx_commands.specs.declared.outcome.Status.{Status}
-use Rattle.linx_commands.specs.declared.outcome.Status.TheVariants.{Usage, NoMemory}
+use Rattle.linx_commands.specs.declared.outcome.Status.TheVariants.{Usage, Unopened, NoMemory}
 use Rattle.linx_commands.specs.declared.words.Unread.{Unread}
 use Rattle.linx_commands.specs.declared.words.Unread.TheVariants as why
 use Rattle.linx_commands.specs.declared.words.Words.{Words}
 use Rattle.linx_commands.specs.declared.words.Words.TheVariants as given
 
--- the command that the words of a command line ask for; none where they are those of no command, or
--- can't be had
-abbrev pub asked_by_line : Words → Option Asked
-asked_by_line (given.Read words) = asked_of words.items
-asked_by_line (given.Unread reason) = None
+-- the texts of the words of a command line; none where they can't be had
+abbrev pub texts_of : Words → List (List ℕ)
+texts_of (given.Read words) = map string_bytes words.items
+texts_of (given.Unread reason) = []
 
 -- how the program ends without words
 abbrev pub status_of_unread : Unread → Status
-status_of_unread why.NotWords = Usage
+status_of_unread why.NotWords = Usage Wordless
 status_of_unread why.NoMemory = NoMemory
 
 -- where the words can't be had, the status says why
@@ -30,25 +38,89 @@ abbrev pub IsToldUnread : Words → Status → Type 0
 IsToldUnread (given.Read words) status = Unit {0}
 IsToldUnread (given.Unread reason) status = status ≡ status_of_unread reason
 
--- WHAT THE PROGRAM TELLS of its streams. There is no command, and nothing is touched; or there is
--- one, and the status is that of its run, of what it read and of what it wrote
-pub record IsServed (asked : Option Asked) (keeps_streams : Type 0) (reads : Asked → Type 0)
-    (writes : List ℕ → Type 0) (told : Option (List ℕ)) (status : Status) : Type 0 where
+-- if a page of the help is asked for, this holds of it
+abbrev pub IfShow : Option Request → (Page → Type 0) → Type 0
+IfShow (Some (Show page)) holds = holds page
+IfShow _ holds = Unit {0}
+
+-- if a run is asked for, this holds of it
+abbrev pub IfPlay : Option Request → (Asked → Type 0) → Type 0
+IfPlay (Some (Play asked)) holds = holds asked
+IfPlay _ holds = Unit {0}
+
+-- A PAGE OF THE HELP was written, or a front of it, or memory was refused; nothing was read or run
+pub record IsShown (page : Page) (untouched : Type 0) (writes : List ℕ → Type 0) (status : Status)
+    (log : Log) : Type 0 where
+  pub kind : is_of_writing status ≡ true
+  pub empty : IsEmptyLog log
+  pub unread : untouched
+  pub written : writes (page_of page)
+
+-- A RUN of a source's script: the cause of the status, of the bytes that the source told and of the
+-- journal; what was read; and what was written
+pub record IsPlayed (asked : Asked) (told : Option (List ℕ)) (reads : Type 0)
+    (writes : List ℕ → Type 0) (status : Status) (log : Log) : Type 0 where
+  -- the cause of the status, of the script and of the journal
+  pub cause : IsCausedUnder asked status told log
+  -- the headline holds of the journal
+  pub headline : HeadlineUnder asked told log
+  -- where nothing failed and the journal has room, the run is done, or memory was refused
+  pub complete : CompletesUnder asked told status log
+  -- what was read of the source
+  pub read : reads
+  -- what was written of the run
+  pub written : writes (written_under asked log)
+
+-- a file was opened, which tells the bytes that the files tell of its name, and read
+pub record ReadsFile {T : Type 0} (left : T → Option (List ℕ)) (faults : T → ℕ) (last : Option ℕ)
+    (is_faultless : T → Type 0) (asked : Asked) (content : Option (List ℕ)) (status : Status)
+    : Type 0 where
+  pub opened : T
+  pub rest : T
+  pub told : left opened ≡ content
+  pub read : ReadsUnder asked left faults last is_faultless opened rest status
+
+-- a file wasn't opened, for a reason for which these files may refuse it; nothing was run or written
+pub record IsUnopened (refuses : OpenFault → Type 0) (quiet : Type 0) (ended : Status) (log : Log)
+    : Type 0 where
+  pub why : OpenFault
+  pub refused : refuses why
+  pub status : ended ≡ Unopened why
+  pub empty : IsEmptyLog log
+  pub silent : quiet
+
+-- a run of a file's script, or none where the file couldn't be opened
+abbrev pub IsPlayedOfFile : Asked → Option (List ℕ) → (OpenFault → Type 0) → Type 0 → Type 0
+    → (List ℕ → Type 0) → Status → Log → Type 0
+IsPlayedOfFile asked told refuses silent reads writes status log =
+    IsUnopened refuses silent status log ⊎ IsPlayed asked told reads writes status log
+
+-- A RUN OF THE SOURCE THAT THE WORDS NAME: of standard input, or of a file, and then standard input
+-- is left as it was
+abbrev pub IsPlayedFrom : Asked → Option (List ℕ) → Option (List ℕ) → Type 0 → Type 0
+    → (List ℕ → Option (List ℕ)) → (List ℕ → OpenFault → Type 0) → Type 0
+    → (List ℕ → Type 0) → (List ℕ → Type 0) → Status → Log → Type 0
+IsPlayedFrom asked None told unread reads of_file refuses silent reads_file writes status log =
+    IsPlayed asked told reads writes status log
+IsPlayedFrom asked (Some name) told unread reads of_file refuses silent reads_file writes status log =
+    unread × IsPlayedOfFile asked (of_file name) (refuses name) silent (reads_file name) writes status
+    log
+
+-- WHAT THE PROGRAM TELLS of its words, its files and its streams. The words ask for nothing, and
+-- nothing is touched but standard error; or for a page of the help; or for a run
+pub record IsServed (texts : List (List ℕ)) (unread silent : Type 0) (writes : List ℕ → Type 0)
+    (plays : Asked → Log → Type 0) (tells : List ℕ → Type 0) (status : Status) : Type 0 where
   -- the journal of the run
   pub log : Log
-  -- without a run the status is Usage, or memory was refused, and the journal is empty
-  pub other_words : IfNone asked (IsUsageOrRefused status × IsEmptyLog log)
-  -- without a run no stream is touched
-  pub untouched : IfNone asked keeps_streams
-  -- the cause of the status, of the script and of the journal
-  pub cause : IfSome asked (λ a. IsCausedUnder a status told log)
+  -- where the words ask for nothing the status says what is wrong, or memory was refused
+  pub other_words : IfNone (request_by texts) (IsUsageOrRefused texts status × IsEmptyLog log)
+  -- and no stream but standard error is touched
+  pub untouched : IfNone (request_by texts) (unread × silent)
+  -- a page that is asked for
+  pub shown : IfShow (request_by texts) (λ page. IsShown page unread writes status log)
+  -- a run that is asked for
+  pub played : IfPlay (request_by texts) (λ asked. plays asked log)
   -- the journal is legal
   pub legal : IsLegalSomehow log.steps
-  -- the headline holds of it
-  pub headline : IfSome asked (λ a. HeadlineUnder a told log)
-  -- where nothing failed and the journal has room, the run is done, or memory was refused
-  pub complete : IfSome asked (λ a. CompletesUnder a told status log)
-  -- what was read of the script's source
-  pub read : IfSome asked reads
-  -- what was written of the run
-  pub written : IfSome asked (λ a. writes (written_under a log))
+  -- the line on standard error, by the words, the status and the journal
+  pub line : tells (line_by texts status log)

@@ -1,6 +1,6 @@
 -- What a run of a script is, and what each status says of it.
 use Rattle.std.specs.Prelude.{ℕ, ◌≡◌, ◌≢◌, ◌⊎◌, true, false, List, [], take, Option}
-use Rattle.std.specs.Prelude.{Some, None, Result, Ok, Err, IfSome, OnSome, IsOk}
+use Rattle.std.specs.Prelude.{Some, None, Ok, Err, IfSome, OnSome, IsOk}
 use Rattle.journal.specs.declared.effect.Step.{Step}
 use Rattle.journal.specs.Logs.{Log, is_full}
 use Rattle.journal.specs.Shapes.{Shape}
@@ -13,18 +13,18 @@ use Rattle.fabric.specs.declared.stop.StopCause.{StopCause}
 use Rattle.fabric.specs.Run.{Layout}
 use Rattle.script_lang.specs.Parts.{ScriptParts}
 use Rattle.script_lang.specs.Reading.{script_of}
-use Rattle.script_words.specs.declared.fault.Fault.{Fault}
 use Rattle.stage.specs.Plays.{AllFollowWhole, IsSoFar}
 use Rattle.stage.specs.Stops.{IsCauseOf}
 use Rattle.stage.specs.Turns.{IsStoppedRun, IsWhole, first_layout, is_over, shape_of}
 use Rattle.workers.specs.declared.ran.Ran.{Ran}
 use Rattle.linx_commands.specs.Statuses.{IsDoneOrRefused}
 use Rattle.linx_commands.specs.Streams.{read_most}
-use Rattle.linx_commands.specs.declared.asked.Asked.{Asked}
-use Rattle.linx_commands.specs.declared.asked.Asked.TheVariants.{Run, Serial, Gen}
+use Rattle.command_words.specs.declared.request.Asked.{Asked}
+use Rattle.command_words.specs.declared.request.Asked.TheVariants.{Run, Serial, Gen}
 use Rattle.linx_commands.specs.declared.outcome.Status.{Status}
-use Rattle.linx_commands.specs.declared.outcome.Status.TheVariants.{Done, Usage, Script, ReadFault}
-use Rattle.linx_commands.specs.declared.outcome.Status.TheVariants.{WriteFault, JournalFull, NoMemory}
+use Rattle.linx_commands.specs.declared.outcome.Status.TheVariants.{Done, Usage, Script, Unopened}
+use Rattle.linx_commands.specs.declared.outcome.Status.TheVariants.{ReadFault, WriteFault, JournalFull}
+use Rattle.linx_commands.specs.declared.outcome.Status.TheVariants.{NoMemory}
 
 -- a run so far of a script, whose journal has this log
 pub record IsRunAs (script : ScriptParts) (run : Layout) (log : Log) : Type 0 where
@@ -137,18 +137,14 @@ pub record IsOfSource (asked : Asked) (status : Status) (told : Option (List ℕ
 abbrev pub read_of : List ℕ → List ℕ
 read_of bytes = take read_most bytes
 
--- no script, and the first bad line
-abbrev pub IsBadAt : ℕ → Result ScriptParts (ℕ × Fault) → Type 0
-IsBadAt line (Ok script) = ⊥
-IsBadAt line (Err bad) = bad.0 ≡ line
-
 -- The cause of each status under a command that reads a script: what it says of the bytes that a
 -- source had, where it told them, and of the journal
 abbrev pub IsCaused : Asked → Status → Option (List ℕ) → Log → Type 0
 IsCaused asked Done told log = IsOfSource asked Done told log
-IsCaused asked Usage told log = ⊥
-IsCaused asked (Script line) told log =
-    IfSome told (λ bytes. IsBadAt line (script_of (read_of bytes))) × IsEmptyLog log
+IsCaused asked (Usage wrong) told log = ⊥
+IsCaused asked (Script line fault) told log =
+    IfSome told (λ bytes. script_of (read_of bytes) ≡ Err (line, fault)) × IsEmptyLog log
+IsCaused asked (Unopened why) told log = ⊥
 IsCaused asked ReadFault told log = IsEmptyLog log
 IsCaused asked WriteFault told log = IsOfSource asked WriteFault told log
 IsCaused asked JournalFull told log = IsOfSource asked JournalFull told log

@@ -53,3 +53,12 @@ pub record Writes {K : Type 0} (held : K → Option (List ℕ)) (faults : K → 
   pub unfaulted : status ≢ WriteFault → faults new ≡ faults old
   pub never_falls : NeverFalls last (faults old) (faults new)
   pub takes : can_take old (length text) → status ≢ WriteFault
+
+-- What was written of a line: all of it where the sink's count of faults neither rose nor stands at
+-- its last value, or where the sink has room for it; else at least a front of it
+pub record WritesLine {K : Type 0} (held : K → Option (List ℕ)) (faults : K → ℕ) (last : Option ℕ)
+    (can_take : K → ℕ → Type 0) (old new : K) (line : List ℕ) : Type 0 where
+  pub written : ¬ (HasFaulted last (faults old) (faults new)) → Appends (held old) (held new) line
+  pub takes : can_take old (length line) → Appends (held old) (held new) line
+  pub front : Appends (held old) (held new) line ⊎ AppendsFront (held old) (held new) line
+  pub never_falls : NeverFalls last (faults old) (faults new)

@@ -1,20 +1,20 @@
 //! linx_commands is what the program `linx_sim` does. It reads a script of nodes, links, planned
 //! losses and actors, runs it with a thread for each actor and each link, or in the fixed order, and
 //! writes each endpoint's log and the journal of all steps; or it runs the generated script of a
-//! number with such threads, and writes the summary of the journal. `program` is the whole program,
-//! over a command line and streams of any kind. It alone gives a `Told`, so a `main` with this
-//! result can't end in any other way.
+//! number with such threads, and writes the summary of the journal; or it writes a page of the help.
+//! `program` is the whole program, over a command line, files and streams of any kind. It alone
+//! gives a `Told`, so a `main` with this result can't end in any other way.
 #![tactic(auto)]
 
-mod asked;
 mod laws;
 mod outcome;
+mod phrase;
 mod serving;
+mod status_line;
 mod told;
 mod whole_program;
 mod words;
 
-pub use asked::Asked;
 pub use laws::journals_are_decided;
 pub use outcome::{Outcome, Status};
 pub use serving::{run, serial};

@@ -1,20 +1,22 @@
-//! How a run ends, and what the program says and answers then.
+//! How a run ends.
 
-ghost use Rattle.std.specs.Prelude.{◌≡◌};
-
-use arrayvec::ArrayString;
-use itoa::Buffer;
+use command_words::Misuse;
 use journal::Journal;
+use linx_outside::OpenFault;
+use script_lang::Fault;
 
 /// How a run ended.
 #[derive(Clone, Copy, Debug, PartialEq, Eq, Hash)]
 pub enum Status {
-    /// All actors have ended, no link stirs, and the text, or the summary, was written.
+    /// All actors have ended, no link stirs, and the text, or the summary, was written; or a page of
+    /// the help was.
     Done,
-    /// The words aren't those of a command.
-    Usage,
-    /// The bytes are no script. `line` is the first bad line, from 1.
-    Script { line: u32 },
+    /// The words ask for nothing, and what is wrong with them.
+    Usage(Misuse),
+    /// The bytes are no script: the first bad line, from 1, and what is wrong with it.
+    Script { line: u32, fault: Fault },
+    /// The file that the words name can't be opened.
+    Unopened(OpenFault),
     /// The source failed.
     ReadFault,
     /// The sink failed. A front of the text, or of the summary, was written.
@@ -23,42 +25,6 @@ pub enum Status {
     JournalFull,
     /// Memory was refused.
     NoMemory,
-}
-
-impl Status {
-    ghost use Rattle.linx_commands.specs.Statuses.{phrase_of, line_of};
-
-    // What is said of it, but for the number of a bad line.
-    fn words(self) -> &'static str
-        ensures { result.now ≡ phrase_of self }
-    {
-        match self {
-            Status::Done => "",
-            Status::Usage => "usage: linx_sim run, serial or gen N",
-            Status::Script { .. } => "script line ",
-            Status::ReadFault => "read fault",
-            Status::WriteFault => "write fault",
-            Status::JournalFull => "journal full",
-            Status::NoMemory => "out of memory",
-        }
-    }
-
-    /// The program's line on standard error, with the newline at its end; empty at `Done`.
-    pub fn line(self) -> ArrayString<64>
-        ensures { result.bytes ≡ line_of self }
-    {
-        let mut line = ArrayString::new();
-        if self == Status::Done {
-            return line;
-        }
-        line.push_str("linx_sim: ");
-        line.push_str(self.words());
-        if let Status::Script { line: number } = self {
-            line.push_str(Buffer::new().format(number));
-        }
-        line.push_str("\n");
-        line
-    }
 }
 
 /// How a run ended, and its journal so far.

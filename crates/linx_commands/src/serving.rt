@@ -1,13 +1,15 @@
-//! The top call: words, script, run, text.
+//! The calls that do what the words ask for: script, run, text; or a page of the help.
 
 ghost use Rattle.std.specs.Prelude.{◌≡◌, true, Ok};
 ghost use Rattle.std.specs.Prelude.{IfOk, IfErr, OnOk, IfSome, IfNone};
+ghost use Rattle.std.specs.Prelude.{map, option_map, string_bytes};
 ghost use Rattle.std.specs.Io.KnownBytes.{IsAtEnd};
 ghost use Rattle.journal_text.specs.Text.{text_of};
 ghost use Rattle.script_lang.specs.Parts.{ScriptParts};
 ghost use Rattle.script_lang.specs.Reading.{script_of};
 ghost use Rattle.work_gen.specs.Generated.{generated};
-ghost use Rattle.linx_commands.specs.CommandLine.{asked_of};
+ghost use Rattle.command_words.specs.Pages.{page_of};
+ghost use Rattle.command_words.specs.Requests.{file_of, request_of};
 ghost use Rattle.linx_commands.specs.Statuses.{IsUsageOrRefused};
 ghost use Rattle.linx_commands.specs.Streams.{Reads, Writes, TakesAtMost, read_most};
 ghost use Rattle.linx_commands.specs.Runs.{Completes, IsCaused, IsEmptyLog, IsLegalSomehow};
@@ -16,13 +18,15 @@ ghost use Rattle.linx_commands.specs.Commands.{IsCausedUnder, CompletesUnder, Re
 ghost use Rattle.linx_commands.specs.Headline.{HeadlineUnder};
 ghost use Rattle.linx_commands.specs.Causes.{IsUnread, is_of_writing, read_status, script_status};
 ghost use Rattle.linx_commands.specs.Causes.{stop_status, report_status};
+ghost use Rattle.linx_commands.specs.Programs.{IfPlay, IfShow, IsPlayedFrom, IsPlayedOfFile, IsShown};
+ghost use Rattle.linx_commands.specs.Programs.{ReadsFile};
 
-use crate::asked::{Asked, asked_for};
 use crate::outcome::{Outcome, Status};
+use command_words::{Asked, Misuse, Page, Request, file_named};
 use fabric::StopCause;
 use journal::Journal;
 use linx_base::{NameList, Names, NoMemory};
-use linx_outside::{Gate, ReadStop, Sink, Source, read_up_to};
+use linx_outside::{Files, Gate, ReadStop, Sink, Source, WriteFault, read_up_to, write_all};
 use report::{ReportError, write_report, write_summary};
 use script_lang::{Script, ScriptError, parse};
 use stage::Stage;
@@ -35,7 +39,7 @@ use workers::Ran;
 const READ_MOST: usize = 1_048_577;
 
 /// A run that made no step, and why.
-fn unstarted(alloc: Global, status: Status) -> Outcome
+pub(crate) fn unstarted(alloc: Global, status: Status) -> Outcome
     ensures status { result.status ≡ status }
     ensures empty { IsEmptyLog result.journal.log }
     ensures legal { IsLegalSomehow result.journal.log.steps }
@@ -61,7 +65,7 @@ fn status_of_script(error: ScriptError) -> Status
     ensures { result ≡ script_status error }
 {
     match error {
-        ScriptError::Bad { line, .. } => Status::Script { line },
+        ScriptError::Bad { line, fault } => Status::Script { line, fault },
         ScriptError::NoMemory => Status::NoMemory,
     }
 }
@@ -271,41 +275,147 @@ fn serve<R: Threads + Wait + Sync, G: Gate + Sync, S: Source, K: Sink>(
     }
 }
 
-/// Does what the words of the command line ask for.
-pub fn run<S: Source, K: Sink, G: Gate + Sync, R: Threads + Wait + Sync>(
+/// Does what is asked for, with the script of a file.
+fn serve_file<R: Threads + Wait + Sync, G: Gate + Sync, F: Files, K: Sink>(
     rt: &R,
     alloc: Global,
-    words: &[String],
+    asked: Asked,
+    files: &F,
+    name: &str,
+    out: &mut K,
+    gate: &G,
+) -> Outcome
+    ensures played { IsPlayedOfFile asked (F.told files.now name.now) (F.refuses files.now name.now)
+        (out.new ≡ out.old)
+        (ReadsFile F.File.left F.File.faults F.File.last_count F.File.is_faultless asked
+        (F.told files.now name.now) result.status)
+        (λ written. Writes K.held K.faults K.last_count K.can_take out.old out.new
+        result.status written)
+        result.status result.journal.log }
+    ensures legal { IsLegalSomehow result.journal.log.steps }
+{
+    match files.open(name) {
+        Ok(mut file) => serve(rt, alloc, asked, &mut file, out, gate),
+        Err(why) => unstarted(alloc, Status::Unopened(why)),
+    }
+}
+
+/// Does what is asked for, with the script of a file, or of standard input where none is named.
+fn play<R: Threads + Wait + Sync, G: Gate + Sync, F: Files, S: Source, K: Sink>(
+    rt: &R,
+    alloc: Global,
+    asked: Asked,
+    file: Option<&str>,
+    files: &F,
     script: &mut S,
     out: &mut K,
     gate: &G,
 ) -> Outcome
-    // Of words that are those of no command. Those of one are never told Usage (`IsCausedUnder`).
-    ensures other_words { IfNone (asked_of words.now)
-        (IsUsageOrRefused result.status × IsEmptyLog result.journal.log) }
-    ensures untouched { IfNone (asked_of words.now)
+    ensures played { IsPlayedFrom asked (option_map (λ name. name.now) file.entry)
+        (S.left script.old) (script.new ≡ script.old)
+        (ReadsUnder asked S.left S.faults S.last_count S.is_faultless script.old script.new
+        result.status)
+        (F.told files.now) (F.refuses files.now) (out.new ≡ out.old)
+        (λ name. ReadsFile F.File.left F.File.faults F.File.last_count F.File.is_faultless asked
+        (F.told files.now name) result.status)
+        (λ written. Writes K.held K.faults K.last_count K.can_take out.old out.new
+        result.status written)
+        result.status result.journal.log }
+    ensures legal { IsLegalSomehow result.journal.log.steps }
+{
+    match file {
+        Some(name) => serve_file(rt, alloc, asked, files, name, out, gate),
+        None => serve(rt, alloc, asked, script, out, gate),
+    }
+}
+
+/// Writes the text of a page.
+fn write_page<K: Sink>(text: &[u8], out: &mut K) -> Status
+    ensures kinds { is_of_writing result ≡ true }
+    ensures sink { Writes K.held K.faults K.last_count K.can_take out.old out.new result text.now }
+{
+    match write_all(out, text) {
+        Ok(()) => Status::Done,
+        Err(WriteFault) => Status::WriteFault,
+    }
+}
+
+/// Writes a page of the help.
+fn show<K: Sink>(alloc: Global, page: Page, out: &mut K) -> Outcome
+    ensures kinds { is_of_writing result.status ≡ true }
+    ensures empty { IsEmptyLog result.journal.log }
+    ensures legal { IsLegalSomehow result.journal.log.steps }
+    ensures sink { Writes K.held K.faults K.last_count K.can_take out.old out.new
+        result.status (page_of page) }
+{
+    match page.text(alloc) {
+        Ok(text) => unstarted(alloc, write_page(text.as_slice(), out)),
+        Err(NoMemory) => unstarted(alloc, Status::NoMemory),
+    }
+}
+
+/// What is wrong with words that ask for nothing.
+fn refuse(alloc: Global, words: &[String]) -> Outcome
+    ensures usage { IsUsageOrRefused (map string_bytes words.now) result.status }
+    ensures empty { IsEmptyLog result.journal.log }
+    ensures legal { IsLegalSomehow result.journal.log.steps }
+{
+    match Misuse::of(alloc, words) {
+        Ok(wrong) => unstarted(alloc, Status::Usage(wrong)),
+        Err(NoMemory) => unstarted(alloc, Status::NoMemory),
+    }
+}
+
+/// Does what the words of the command line ask for.
+pub fn run<R: Threads + Wait + Sync, G: Gate + Sync, F: Files, S: Source, K: Sink>(
+    rt: &R,
+    alloc: Global,
+    words: &[String],
+    files: &F,
+    script: &mut S,
+    out: &mut K,
+    gate: &G,
+) -> Outcome
+    // Of words that ask for nothing.
+    ensures other_words { IfNone (request_of words.now)
+        (IsUsageOrRefused (map string_bytes words.now) result.status
+        × IsEmptyLog result.journal.log) }
+    ensures untouched { IfNone (request_of words.now)
         ((script.new ≡ script.old) × (out.new ≡ out.old)) }
 
-    // Of the script that is asked for, the run and the journal.
-    ensures cause { IfSome (asked_of words.now) (λ asked.
-        IsCausedUnder asked result.status (S.left script.old) result.journal.log) }
-    ensures legal { IsLegalSomehow result.journal.log.steps }
-    ensures headline { IfSome (asked_of words.now) (λ asked.
-        HeadlineUnder asked (S.left script.old) result.journal.log) }
-    ensures complete { IfSome (asked_of words.now) (λ asked.
-        CompletesUnder asked (S.left script.old) result.status result.journal.log) }
+    // Of a page of the help.
+    ensures shown { IfShow (request_of words.now) (λ page. IsShown page (script.new ≡ script.old)
+        (λ written. Writes K.held K.faults K.last_count K.can_take out.old out.new
+        result.status written)
+        result.status result.journal.log) }
 
-    // Of the source and the sink.
-    ensures source { IfSome (asked_of words.now) (λ asked.
-        ReadsUnder asked S.left S.faults S.last_count S.is_faultless script.old script.new
-        result.status) }
-    ensures sink { IfSome (asked_of words.now) (λ asked.
-        Writes K.held K.faults K.last_count K.can_take out.old out.new
-        result.status (written_under asked result.journal.log)) }
+    // Of the run that is asked for, of what it reads and of what it writes.
+    ensures played { IfPlay (request_of words.now) (λ asked.
+        IsPlayedFrom asked (file_of words.now) (S.left script.old) (script.new ≡ script.old)
+        (ReadsUnder asked S.left S.faults S.last_count S.is_faultless script.old script.new
+        result.status)
+        (F.told files.now) (F.refuses files.now) (out.new ≡ out.old)
+        (λ name. ReadsFile F.File.left F.File.faults F.File.last_count F.File.is_faultless asked
+        (F.told files.now name) result.status)
+        (λ written. Writes K.held K.faults K.last_count K.can_take out.old out.new
+        result.status written)
+        result.status result.journal.log) }
+    ensures legal { IsLegalSomehow result.journal.log.steps }
 {
-    match asked_for(alloc, words) {
-        Ok(Some(asked)) => serve(rt, alloc, asked, script, out, gate),
-        Ok(None) => unstarted(alloc, Status::Usage),
-        Err(NoMemory) => unstarted(alloc, Status::NoMemory),
+    match Request::of(words) {
+        None => refuse(alloc, words),
+        Some(Request::Show(page)) => show(alloc, page, out),
+        Some(Request::Play(asked)) => {
+            play(
+                rt,
+                alloc,
+                asked,
+                file_named(words),
+                files,
+                script,
+                out,
+                gate,
+            )
+        }
     }
 }

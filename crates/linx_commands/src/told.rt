@@ -1,12 +1,12 @@
 //! The end of the program: its line on standard error, and its exit status.
 
-ghost use Rattle.std.specs.Prelude.{◌≡◌, ◌⊎◌, length};
-ghost use Rattle.std.specs.Io.KnownBytes.{Appends};
-ghost use Rattle.linx_outside.specs.Counts.{HasFaulted, NeverFalls};
-ghost use Rattle.linx_outside.specs.Told.{AppendsFront};
-ghost use Rattle.linx_commands.specs.Statuses.{exit_of, line_of};
+ghost use Rattle.std.specs.Prelude.{◌≡◌, []};
+ghost use Rattle.linx_commands.specs.Lines.{line_of};
+ghost use Rattle.linx_commands.specs.Statuses.{exit_of};
+ghost use Rattle.linx_commands.specs.Streams.{WritesLine};
 
-use crate::outcome::Status;
+use crate::outcome::{Outcome, Status};
+use crate::status_line::status_line;
 use linx_outside::{Sink, write_all};
 use std::marker::Model;
 use std::process::{ExitCode, Termination};
@@ -42,9 +42,9 @@ fn exit_code(status: Status) -> u8
 {
     match status {
         Status::Done => 0,
-        Status::Usage => 1,
+        Status::Usage(_) => 1,
         Status::Script { .. } => 2,
-        Status::ReadFault => 3,
+        Status::Unopened(_) | Status::ReadFault => 3,
         Status::WriteFault => 4,
         Status::JournalFull => 5,
         Status::NoMemory => 6,
@@ -52,18 +52,24 @@ fn exit_code(status: Status) -> u8
 }
 
 /// Writes the line of a status; what it answers is the same where the line can't be written.
-pub(crate) fn tell<K: Sink>(status: Status, errors: &mut K) -> Told
-    ensures status { result ≡ status }
-    ensures line { ¬ (HasFaulted K.last_count (K.faults errors.old) (K.faults errors.new))
-        → Appends (K.held errors.old) (K.held errors.new) (line_of status) }
-    ensures takes { K.can_take errors.old (length (line_of status))
-        → Appends (K.held errors.old) (K.held errors.new) (line_of status) }
-    ensures front { Appends (K.held errors.old) (K.held errors.new) (line_of status)
-        ⊎ AppendsFront (K.held errors.old) (K.held errors.new) (line_of status) }
-    ensures silent { status ≡ Status.Done → errors.new ≡ errors.old }
-    ensures never_falls { NeverFalls K.last_count (K.faults errors.old) (K.faults errors.new) }
+#[tactic(auto, unfolding(crate::specs::Lines::line_by))]
+pub(crate) fn tell<K: Sink>(words: &[String], outcome: &Outcome, errors: &mut K) -> Told
+    ensures status { result ≡ outcome.now.status }
+    ensures line { WritesLine K.held K.faults K.last_count K.can_take errors.old errors.new
+        (line_of words.now outcome.now.status outcome.now.journal.log) }
+    ensures silent { outcome.now.status ≡ Status.Done → errors.new ≡ errors.old }
 {
-    let line = status.line();
-    let _ = write_all(errors, line.as_str().as_bytes());
-    Told { status }
+    let line = status_line(words, outcome.status, &outcome.journal);
+    write_line(line.bytes(), errors);
+    Told {
+        status: outcome.status,
+    }
+}
+
+/// Writes a line. Nobody is told where it can't be written.
+fn write_line<K: Sink>(line: &[u8], errors: &mut K)
+    ensures line { WritesLine K.held K.faults K.last_count K.can_take errors.old errors.new line.now }
+    ensures none { line.now ≡ [] → errors.new ≡ errors.old }
+{
+    let _ = write_all(errors, line);
 }

@@ -1,60 +1,82 @@
-//! The whole program, over what a process is given: its command line and its streams.
+//! The whole program, over what a process is given: its command line, files and streams.
 
-ghost use Rattle.std.specs.Prelude.{◌≡◌, ◌⊎◌, length};
-ghost use Rattle.std.specs.Io.KnownBytes.{Appends};
-ghost use Rattle.linx_outside.specs.Counts.{HasFaulted, NeverFalls};
-ghost use Rattle.linx_outside.specs.Told.{AppendsFront};
+ghost use Rattle.std.specs.Prelude.{◌≡◌, map, string_bytes};
+ghost use Rattle.command_words.specs.Requests.{file_by};
 ghost use Rattle.linx_commands.specs.Commands.{ReadsUnder};
-ghost use Rattle.linx_commands.specs.Programs.{IsServed, IsToldUnread, asked_by_line};
-ghost use Rattle.linx_commands.specs.Statuses.{line_of};
-ghost use Rattle.linx_commands.specs.Streams.{Writes};
+ghost use Rattle.linx_commands.specs.Programs.{IsPlayedFrom, IsServed, IsToldUnread, ReadsFile};
+ghost use Rattle.linx_commands.specs.Programs.{texts_of};
+ghost use Rattle.linx_commands.specs.Streams.{Writes, WritesLine};
 ghost use Rattle.linx_commands.specs.declared.outcome.Status.TheVariants.{Done};
 
-use crate::serving::run;
+use crate::serving::{run, unstarted};
 use crate::told::{Told, tell};
 use crate::words::Words;
-use linx_outside::{OpenGate, Sink, Source};
+use linx_outside::{Files, OpenGate, Sink, Source};
 use std::alloc::Global;
 use std::sync::Wait;
 use std::thread::Threads;
 
-/// Does what a command line asks for, and tells how it ended. It is all that a program does whose
-/// result is a `Told`.
-pub fn program<R: Threads + Wait + Sync, S: Source, K: Sink, L: Sink>(
+/// Does what the words of a command line ask for, and tells how it ended.
+fn serve_words<R: Threads + Wait + Sync, F: Files, S: Source, K: Sink, L: Sink>(
     rt: &R,
     alloc: Global,
-    words: Words,
+    words: &[String],
+    files: &F,
     script: &mut S,
     text: &mut K,
     errors: &mut L,
 ) -> Told
-    // Of the run that the words ask for, what it reads and what it writes.
-    ensures served { IsServed (asked_by_line words)
-        ((script.new ≡ script.old) × (text.new ≡ text.old))
-        (λ asked. ReadsUnder asked S.left S.faults S.last_count S.is_faultless script.old
-        script.new result)
-        (λ written. Writes K.held K.faults K.last_count K.can_take text.old text.new
-        result written)
-        (S.left script.old) result }
+    ensures served { IsServed (map string_bytes words.now) (script.new ≡ script.old) (text.new ≡ text.old)
+        (λ written. Writes K.held K.faults K.last_count K.can_take text.old text.new result written)
+        (λ asked log. IsPlayedFrom asked (file_by (map string_bytes words.now))
+        (S.left script.old) (script.new ≡ script.old)
+        (ReadsUnder asked S.left S.faults S.last_count S.is_faultless script.old script.new result)
+        (F.told files.now) (F.refuses files.now) (text.new ≡ text.old)
+        (λ name. ReadsFile F.File.left F.File.faults F.File.last_count F.File.is_faultless asked
+        (F.told files.now name) result)
+        (λ written. Writes K.held K.faults K.last_count K.can_take text.old text.new result written)
+        result log)
+        (λ line. WritesLine L.held L.faults L.last_count L.can_take errors.old errors.new line)
+        result }
+    ensures silent { result ≡ Done → errors.new ≡ errors.old }
+{
+    let outcome = run(rt, alloc, words, files, script, text, &OpenGate);
+    tell(words, &outcome, errors)
+}
+
+/// Does what a command line asks for, and tells how it ended. It is all that a program does whose
+/// result is a `Told`.
+pub fn program<R: Threads + Wait + Sync, F: Files, S: Source, K: Sink, L: Sink>(
+    rt: &R,
+    alloc: Global,
+    words: Words,
+    files: &F,
+    script: &mut S,
+    text: &mut K,
+    errors: &mut L,
+) -> Told
+    // Of what the words ask for, what it reads and writes, and the line that says how it ended.
+    ensures served { IsServed (texts_of words) (script.new ≡ script.old) (text.new ≡ text.old)
+        (λ written. Writes K.held K.faults K.last_count K.can_take text.old text.new result written)
+        (λ asked log. IsPlayedFrom asked (file_by (texts_of words))
+        (S.left script.old) (script.new ≡ script.old)
+        (ReadsUnder asked S.left S.faults S.last_count S.is_faultless script.old script.new result)
+        (F.told files.now) (F.refuses files.now) (text.new ≡ text.old)
+        (λ name. ReadsFile F.File.left F.File.faults F.File.last_count F.File.is_faultless asked
+        (F.told files.now name) result)
+        (λ written. Writes K.held K.faults K.last_count K.can_take text.old text.new result written)
+        result log)
+        (λ line. WritesLine L.held L.faults L.last_count L.can_take errors.old errors.new line)
+        result }
 
     // Of words that can't be had.
     ensures unread { IsToldUnread words result }
 
-    // Of the line that says how it ended.
-    ensures line { ¬ (HasFaulted L.last_count (L.faults errors.old) (L.faults errors.new))
-        → Appends (L.held errors.old) (L.held errors.new) (line_of result) }
-    ensures takes { L.can_take errors.old (length (line_of result))
-        → Appends (L.held errors.old) (L.held errors.new) (line_of result) }
-    ensures front { Appends (L.held errors.old) (L.held errors.new) (line_of result)
-        ⊎ AppendsFront (L.held errors.old) (L.held errors.new) (line_of result) }
+    // Of a run that is done.
     ensures silent { result ≡ Done → errors.new ≡ errors.old }
-    ensures never_falls { NeverFalls L.last_count (L.faults errors.old) (L.faults errors.new) }
 {
     match words {
-        Words::Read(words) => {
-            let status = run(rt, alloc, &words, script, text, &OpenGate).status;
-            tell(status, errors)
-        }
-        Words::Unread(why) => tell(why.status(), errors),
+        Words::Read(words) => serve_words(rt, alloc, &words, files, script, text, errors),
+        Words::Unread(why) => tell(&[], &unstarted(alloc, why.status()), errors),
     }
 }

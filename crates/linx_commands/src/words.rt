@@ -5,29 +5,30 @@ ghost use Rattle.linx_commands.specs.Programs.{status_of_unread};
 ghost use Rattle.linx_commands.specs.declared.words.Unread.TheVariants.{NotWords, NoMemory};
 
 use crate::outcome::Status;
+use command_words::Misuse;
 use std::alloc::Global;
 use std::env::{Env, FillError};
 use std::str;
 
-/// No word of a command has more bytes.
-const WORD_MOST: usize = 64;
+/// The most bytes of a word: those of a path.
+const WORD_MOST: usize = 4096;
 
 /// Why the words of a command line can't be had.
 #[derive(Clone, Copy, Debug, PartialEq, Eq, Hash)]
 pub enum Unread {
-    /// One of them isn't UTF-8, or has more than 64 bytes, which no word of a command has.
+    /// One of them isn't UTF-8, or has more than 4,096 bytes.
     NotWords,
     /// Memory was refused.
     NoMemory,
 }
 
 impl Unread {
-    /// How the program ends without words: `Usage` or `NoMemory`.
+    /// How the program ends without words: as one that was given none, or `NoMemory`.
     pub(crate) fn status(self) -> Status
         ensures { result ≡ status_of_unread self }
     {
         match self {
-            Unread::NotWords => Status::Usage,
+            Unread::NotWords => Status::Usage(Misuse::Wordless),
             Unread::NoMemory => Status::NoMemory,
         }
     }

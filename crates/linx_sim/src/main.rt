@@ -1,14 +1,23 @@
-//! The program `linx_sim`: the command line and the streams of this process go to `program`, which
-//! alone gives the result.
+//! The program `linx_sim`: the command line, the files and the streams of this process go to
+//! `program`, which alone gives the result.
 #![tactic(auto)]
 
 use linx_commands::{Told, Words, program};
-use linx_outside::{ReadFrom, WriteTo};
+use linx_outside::{ReadFrom, SystemFiles, WriteTo};
 
 fn main(rt: HostRuntime) -> Told {
     let words = Words::of(&rt, rt.alloc());
+    let files = SystemFiles::new(&rt);
     let mut script = ReadFrom::new(rt.stdin());
     let mut text = WriteTo::new(rt.stdout());
     let mut errors = WriteTo::new(rt.stderr());
-    program(&rt, rt.alloc(), words, &mut script, &mut text, &mut errors)
+    program(
+        &rt,
+        rt.alloc(),
+        words,
+        &files,
+        &mut script,
+        &mut text,
+        &mut errors,
+    )
 }

@@ -1,13 +1,22 @@
-//! A test: the program `linx_sim` over a script of a self send, by the streams of this process.
+//! A test: the program `linx_sim` over a file with the script of a self send.
 #![tactic(auto)]
 
 use linx_commands::{Told, Words, program};
-use linx_outside::{ReadFrom, WriteTo};
+use linx_outside::{ReadFrom, SystemFiles, WriteTo};
 
 fn main(rt: HostRuntime) -> Told {
     let words = Words::of(&rt, rt.alloc());
+    let files = SystemFiles::new(&rt);
     let mut script = ReadFrom::new(rt.stdin());
     let mut text = WriteTo::new(rt.stdout());
     let mut errors = WriteTo::new(rt.stderr());
-    program(&rt, rt.alloc(), words, &mut script, &mut text, &mut errors)
+    program(
+        &rt,
+        rt.alloc(),
+        words,
+        &files,
+        &mut script,
+        &mut text,
+        &mut errors,
+    )
 }

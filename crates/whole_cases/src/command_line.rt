@@ -37,7 +37,7 @@ fn words_of_each_command(rt: HostRuntime) -> Result<(), Fail> {
 }
 
 /// Words that are near those of a command.
-const NEAR: [&[&str]; 30] = [
+const NEAR: [&[&str]; 31] = [
     &[],
     &[""],
     &["Run"],
@@ -47,8 +47,7 @@ const NEAR: [&[&str]; 30] = [
     &["7"],
     &["-x"],
     &["--"],
-    &["--help"],
-    &["help"],
+    &["-"],
     &["gen", ""],
     &["gen", "4294967296"],
     &["gen", "00000000007"],
@@ -59,23 +58,24 @@ const NEAR: [&[&str]; 30] = [
     &["gen", "7."],
     &["gen", "run"],
     &["gen", "٧"],
-    &["run", "run"],
-    &["run", "7"],
-    &["serial", "7"],
+    &["run", ""],
+    &["run", "-x"],
+    &["serial", "--"],
     &["7", "gen"],
     &["--", "run"],
     &["gen", "7", "7"],
     &["--", "gen", "7"],
     &["gen", "--", "7"],
-    &["run", "gen", "7"],
+    &["run", "a", "b"],
+    &["version", "7"],
+    &["help", "runs"],
 ];
 
 #[test]
 fn words_that_are_near_those_of_a_command(rt: HostRuntime) -> Result<(), Fail> {
     for words in NEAR {
-        assert_eq!(rt;
-            status_of(&rt, rt.alloc(), words)?,
-            Status::Usage,
+        assert!(rt;
+            matches!(status_of(&rt, rt.alloc(), words)?, Status::Usage(_)),
             "{words:?}"
         );
     }
@@ -83,7 +83,7 @@ fn words_that_are_near_those_of_a_command(rt: HostRuntime) -> Result<(), Fail> {
 }
 
 /// The summary of the run of the generated script of 7.
-const SUMMARY_OF_7: &str = "\
+pub const SUMMARY_OF_7: &str = "\
 nodes 4\nlinks 3\nendpoints 27\nsent 4824\nbytes 5559600\narrived 4824\n\
 found 24\nnotified 0\ntaken 4848\nnone 0\n";
 

@@ -4,6 +4,8 @@
 #![tactic(auto)]
 
 #[cfg(test)]
+mod bad_line_rows;
+#[cfg(test)]
 mod command_line;
 #[cfg(test)]
 mod endpoints;
@@ -39,3 +41,5 @@ mod settled_links;
 mod signals;
 #[cfg(test)]
 mod texts;
+#[cfg(test)]
+mod word_rows;

@@ -6,6 +6,7 @@
 use crate::runs::{Ended, RUN_AND_SERIAL, end_without_text, text_under};
 use crate::texts::{compare, count_ending, lines_of, unindented};
 use linx_commands::Status;
+use script_lang::{BadKind, Fault};
 use std::alloc::Global;
 use std::sync::Wait;
 use std::test::Fail;
@@ -178,7 +179,10 @@ fn a_signal_that_is_one_byte_too_large_is_a_bad_line(rt: HostRuntime) -> Result<
     let script = unindented(alloc, TOO_LARGE)?;
     for word in RUN_AND_SERIAL {
         let wanted = Ended {
-            status: Status::Script { line: 4 },
+            status: Status::Script {
+                line: 4,
+                fault: Fault::about(BadKind::BadShape, b"fill:65533:5a"),
+            },
             steps: 0,
         };
         assert_eq!(rt;

@@ -2,11 +2,12 @@
 
 use crate::failing_streams::failing_source;
 use crate::limits::LARGE_SENDS;
-use crate::runs::{Ended, end_without_text, owned, roomy_sink, source_of};
+use crate::runs::{Ended, NO_FILE, end_without_text, owned, roomy_sink, source_of};
 use crate::signals::SELF_SEND;
 use crate::texts::unindented;
 use linx_commands::{Status, Unread, Words, program};
 use linx_outside::MemSink;
+use script_lang::{BadKind, Fault};
 use std::alloc::Global;
 use std::env::{Env, FillError};
 use std::process::{ExitCode, Termination};
@@ -15,10 +16,15 @@ use std::test::Fail;
 use std::thread::Threads;
 
 #[test]
-fn a_bad_line_is_told_with_its_number(rt: HostRuntime) -> Result<(), Fail> {
-    for (script, line) in [("node n\nnod m\n", 2), ("node n\nactor p n\nopen a", 3)] {
+fn a_bad_line_is_told_with_its_number_and_its_fault(rt: HostRuntime) -> Result<(), Fail> {
+    let unknown = Fault::about(BadKind::UnknownWord, b"nod");
+    let unfinished = Fault::of(BadKind::Unfinished);
+    for (script, line, fault) in [
+        ("node n\nnod m\n", 2, unknown),
+        ("node n\nactor p n\nopen a", 3, unfinished),
+    ] {
         let wanted = Ended {
-            status: Status::Script { line },
+            status: Status::Script { line, fault },
             steps: 0,
         };
         assert_eq!(rt;
@@ -29,16 +35,10 @@ fn a_bad_line_is_told_with_its_number(rt: HostRuntime) -> Result<(), Fail> {
     Ok(())
 }
 
-#[test]
-fn the_greatest_number_of_a_bad_line_is_told_whole(rt: HostRuntime) {
-    let status = Status::Script { line: u32::MAX };
-    assert_eq!(rt;
-        status.line().as_str(),
-        "linx_sim: script line 4294967295\n"
-    );
-}
+const USAGE: &str =
+    "linx_sim: usage: linx_sim WORD ..; the words are: run serial gen help version\n";
 
-const USAGE: &str = "linx_sim: usage: linx_sim run, serial or gen N\n";
+const NO_WORD: &str = "linx_sim: no word 'fast'; the words are: run serial gen help version\n";
 
 /// What the program is given, and how it ends.
 #[derive(Clone, Copy)]
@@ -76,13 +76,13 @@ const CASES: [Case; 7] = [
     Case {
         word: Ok("fast"),
         number: 1,
-        line: USAGE,
+        line: NO_WORD,
         ..DONE
     },
     Case {
         script: "node n\nnode n\n",
         number: 2,
-        line: "linx_sim: script line 2\n",
+        line: "linx_sim: script line 2: this name stands twice: n\n",
         ..DONE
     },
     Case {
@@ -100,7 +100,7 @@ const CASES: [Case; 7] = [
     Case {
         script: LARGE_SENDS,
         number: 5,
-        line: "linx_sim: journal full\n",
+        line: "linx_sim: journal full after step 513, by the limit of 67108864 bytes of signals\n",
         ..DONE
     },
     Case {
@@ -128,14 +128,14 @@ fn ends_as<R: Threads + Wait + Sync + Eprint>(
     let words = words_of(alloc, case.word)?;
     let mut source = failing_source(alloc, case.script, 10, case.failing)?;
     let mut text = MemSink::new(alloc, 100, case.room, Vec::new(alloc))?;
-    let told = program(rt, alloc, words, &mut source, &mut text, errors);
+    let told = program(rt, alloc, words, &NO_FILE, &mut source, &mut text, errors);
     Ok(told.report(rt) == ExitCode::from(case.number))
 }
 
 #[test]
 fn each_end_has_its_line_and_its_exit_status(rt: HostRuntime) -> Result<(), Fail> {
     for case in CASES {
-        let mut errors = MemSink::new(rt.alloc(), 7, 64, Vec::new(rt.alloc()))?;
+        let mut errors = MemSink::new(rt.alloc(), 7, 128, Vec::new(rt.alloc()))?;
         assert!(rt;
             ends_as(&rt, rt.alloc(), case, &mut errors)?,
             "not {}",
@@ -203,7 +203,15 @@ fn ends_with<R: Threads + Wait + Sync + Eprint>(
     let mut source = source_of(alloc, script.as_str())?;
     let mut written = roomy_sink(alloc)?;
     let mut errors = roomy_sink(alloc)?;
-    let told = program(rt, alloc, words, &mut source, &mut written, &mut errors);
+    let told = program(
+        rt,
+        alloc,
+        words,
+        &NO_FILE,
+        &mut source,
+        &mut written,
+        &mut errors,
+    );
     let number_is_right = told.report(rt) == ExitCode::from(number);
     let text_is_right = written.held() == text.as_bytes();
     Ok(number_is_right && text_is_right && errors.held() == line.as_bytes())
@@ -236,7 +244,7 @@ fn the_name_of_the_program_is_not_looked_at(rt: HostRuntime) {
 
 #[test]
 fn words_that_no_command_has(rt: HostRuntime) {
-    for word in [b"\xff".as_slice(), &[b'x'; 65]] {
+    for word in [b"\xff".as_slice(), &[b'x'; 4097]] {
         let words = words_given(rt.alloc(), &[b"linx_sim", word]);
         assert!(rt; matches!(&words, Words::Unread(Unread::NotWords)));
     }

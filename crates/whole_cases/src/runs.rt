@@ -2,7 +2,7 @@
 
 use crate::texts::{compare, unindented};
 use linx_commands::{Outcome, Status, run};
-use linx_outside::{MemSink, OpenGate, PlainSource, Source};
+use linx_outside::{MemFile, MemSink, OpenFault, OpenGate, PlainSource, Source};
 use std::alloc::Global;
 use std::sync::Wait;
 use std::test::Fail;
@@ -28,6 +28,12 @@ pub struct Ended {
     pub status: Status,
     pub steps: u64,
 }
+
+/// There is no file.
+pub const NO_FILE: MemFile<'static> = MemFile {
+    name: "",
+    content: Err(OpenFault::Missing),
+};
 
 /// What an outcome says.
 pub fn end_of(outcome: Outcome) -> Ended {
@@ -66,7 +72,7 @@ pub fn run_of<R: Threads + Wait + Sync, S: Source>(
     sink: &mut MemSink,
 ) -> Result<Ended, Fail> {
     let words = owned(alloc, words)?;
-    Ok(end_of(run(rt, alloc, &words, source, sink, &OpenGate)))
+    Ok(end_of(run(rt, alloc, &words, &NO_FILE, source, sink, &OpenGate)))
 }
 
 /// How the run of a script under a word ends that writes nothing.

@@ -3,7 +3,7 @@ use Rattle.std.specs.Prelude.{IfOk}
 use Rattle.script_lang.specs.Parts.{ScriptParts}
 use Rattle.work_gen.specs.Generated.{generated}
 use Rattle.linx_commands.specs.Runs.{IsRan}
-use Rattle.linx_commands.specs.declared.asked.Asked.TheVariants.{Run}
+use Rattle.command_words.specs.declared.request.Asked.TheVariants.{Run}
 use Rattle.linx_commands.proofs.Answering.{ran-generated}
 use Rattle.linx_commands.proofs.serving.generate.Goals as goal
 

@@ -1,5 +1,5 @@
 use Rattle.std.proofs.Common.{inl}
-use Rattle.linx_commands.specs.declared.asked.Asked.TheVariants.{Serial}
+use Rattle.command_words.specs.declared.request.Asked.TheVariants.{Serial}
 use Rattle.linx_commands.proofs.Causes.{completes_unread}
 use Rattle.linx_commands.proofs.Headline.{headline_read}
 use Rattle.linx_commands.proofs.serving.serial.Goals as goal

@@ -1,9 +1,9 @@
 use Rattle.std.proofs.Common.{subst, sym}
 use Rattle.work_gen.specs.Generated.{generated}
 use Rattle.linx_commands.specs.Commands.{CompletesUnder}
-use Rattle.linx_commands.specs.declared.asked.Asked.{Asked}
+use Rattle.command_words.specs.declared.request.Asked.{Asked}
+use Rattle.command_words.specs.declared.request.Asked.TheVariants.{Gen, Run}
 use Rattle.linx_commands.specs.Headline.{HeadlineUnder}
-use Rattle.linx_commands.specs.declared.asked.Asked.TheVariants.{Gen, Run}
 use Rattle.linx_commands.proofs.Causes.{completes_outcome}
 use Rattle.linx_commands.proofs.Headline.{headline_under}
 use Rattle.linx_commands.proofs.serving.serve.Goals as goal

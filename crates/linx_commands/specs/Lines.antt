@@ -1,0 +1,117 @@
+-- The program's line on standard error.
+use Rattle.std.specs.Prelude.{ℕ, List, [], ◌++◌, codes, decimal, length, map, nat_le, nat_lt}
+use Rattle.std.specs.Prelude.{Option, Some, None, String, string_bytes, slice_index_or}
+use Rattle.std.specs.Prelude.{if◌then◌else◌}
+use Rattle.command_words.specs.Lines.{named_list, shown}
+use Rattle.command_words.specs.Requests.{file_by}
+use Rattle.command_words.specs.Words.{all_words, said_of}
+use Rattle.command_words.specs.declared.misuse.Misuse.{Misuse}
+use Rattle.command_words.specs.declared.misuse.Misuse.TheVariants.{Wordless, Unknown, Arguments}
+use Rattle.command_words.specs.declared.word.Word.{Word}
+use Rattle.journal.specs.declared.effect.Step.{Step}
+use Rattle.journal.specs.Logs.{Log, step_limit}
+use Rattle.linx_outside.specs.declared.files.OpenFault.{OpenFault}
+use Rattle.linx_outside.specs.declared.files.OpenFault.TheVariants as why
+use Rattle.script_words.specs.Failures.{reason_of}
+use Rattle.script_words.specs.declared.fault.Fault.{Fault}
+use Rattle.linx_commands.specs.declared.outcome.Status.{Status}
+use Rattle.linx_commands.specs.declared.outcome.Status.TheVariants.{Done, Usage, Script, Unopened}
+use Rattle.linx_commands.specs.declared.outcome.Status.TheVariants.{ReadFault, WriteFault, JournalFull}
+use Rattle.linx_commands.specs.declared.outcome.Status.TheVariants.{NoMemory}
+use Rattle.linx_commands.specs.declared.phrase.Phrase.{Phrase}
+use Rattle.linx_commands.specs.declared.phrase.Phrase.TheVariants as says
+
+-- THE PHRASES of the lines
+unfoldable pub phrase_of : Phrase → List ℕ
+phrase_of says.Program = codes "linx_sim: "
+phrase_of says.LineEnd = codes "\n"
+phrase_of says.Colon = codes ": "
+phrase_of says.NoWord = codes "no word '"
+phrase_of says.BehindWord = codes "'"
+phrase_of says.DidYouMean = codes ": did you mean '"
+phrase_of says.BehindNear = codes "'?"
+phrase_of says.TheWordsAre = codes "; the words are:"
+phrase_of says.UsageOfAll = codes "usage: linx_sim WORD ..; the words are:"
+phrase_of says.Usage = codes "usage: linx_sim "
+phrase_of says.ScriptLine = codes "script line "
+phrase_of says.NoSuchFile = codes "no such file"
+phrase_of says.IsFolder = codes "is a folder"
+phrase_of says.NotAllowed = codes "not allowed"
+phrase_of says.NotOpened = codes "can't be opened"
+phrase_of says.ReadFault = codes "read fault"
+phrase_of says.WriteFault = codes "write fault"
+phrase_of says.JournalFull = codes "journal full after step "
+phrase_of says.ByTheLimit = codes ", by the limit of "
+phrase_of says.StepLimit = codes "200000 steps"
+phrase_of says.ByteLimit = codes "67108864 bytes of signals"
+phrase_of says.OutOfMemory = codes "out of memory"
+phrase_of says.AfterStep = codes " after step "
+
+-- the text at a place, from 0; none where there are fewer
+abbrev pub text_at : List (List ℕ) → ℕ → List ℕ
+text_at texts place = slice_index_or texts place []
+
+-- a word that is near, or all words
+unfoldable pub hint_of : Option Word → List ℕ
+hint_of (Some near) = phrase_of says.DidYouMean ++ (said_of near).name ++ phrase_of says.BehindNear
+hint_of None = phrase_of says.TheWordsAre ++ named_list all_words
+
+-- what is said of words that ask for nothing
+unfoldable pub misuse_text : List (List ℕ) → Misuse → List ℕ
+misuse_text texts Wordless = phrase_of says.UsageOfAll ++ named_list all_words
+misuse_text texts (Unknown place near) =
+    phrase_of says.NoWord ++ shown (text_at texts place) ++ phrase_of says.BehindWord ++ hint_of near
+misuse_text texts (Arguments word) = phrase_of says.Usage ++ (said_of word).usage
+
+-- why a file can't be opened
+abbrev pub phrase_of_fault : OpenFault → Phrase
+phrase_of_fault why.Missing = says.NoSuchFile
+phrase_of_fault why.Folder = says.IsFolder
+phrase_of_fault why.NotAllowed = says.NotAllowed
+phrase_of_fault why.Other = says.NotOpened
+
+-- what is said before a fault of this source: the file's name, or nothing of standard input
+abbrev pub source_prefix : Option (List ℕ) → List ℕ
+source_prefix (Some name) = shown name ++ phrase_of says.Colon
+source_prefix None = []
+
+-- the limit of a journal that is full
+abbrev pub limit_of : List Step → Phrase
+limit_of P = if nat_le step_limit (length P) then says.StepLimit else says.ByteLimit
+
+-- after which step a journal was full, and by which limit
+unfoldable pub full_text : List Step → List ℕ
+full_text P =
+    phrase_of says.JournalFull ++ decimal (length P) ++ phrase_of says.ByTheLimit
+    ++ phrase_of (limit_of P)
+
+-- which line of a script is bad, and what is wrong with it
+unfoldable pub bad_text : ℕ → Fault → List ℕ
+bad_text line fault =
+    phrase_of says.ScriptLine ++ decimal line ++ phrase_of says.Colon ++ reason_of fault
+
+-- where a run without memory stopped; nothing where it made no step
+unfoldable pub stop_text : List Step → List ℕ
+stop_text P =
+    if nat_lt 0 (length P) then phrase_of says.AfterStep ++ decimal (length P) else []
+
+-- what is said of a status, by the words and the journal
+unfoldable pub text_by : List (List ℕ) → Status → Log → List ℕ
+text_by texts Done log = []
+text_by texts (Usage wrong) log = misuse_text texts wrong
+text_by texts (Script line fault) log = bad_text line fault
+text_by texts (Unopened why) log = source_prefix (file_by texts) ++ phrase_of (phrase_of_fault why)
+text_by texts ReadFault log = source_prefix (file_by texts) ++ phrase_of says.ReadFault
+text_by texts WriteFault log = phrase_of says.WriteFault
+text_by texts JournalFull log = full_text log.steps
+text_by texts NoMemory log = phrase_of says.OutOfMemory ++ stop_text log.steps
+
+-- THE PROGRAM'S LINE on standard error, by its words, its status and the journal; none at Done
+unfoldable pub line_by : List (List ℕ) → Status → Log → List ℕ
+line_by texts Done log = []
+line_by texts status log =
+    phrase_of says.Program ++ text_by texts status log ++ phrase_of says.LineEnd
+
+-- the same of words
+abbrev pub line_of : {Z : Type 0} → List (String Z) → Status → Log → List ℕ
+line_of words status log = line_by (map string_bytes words) status log

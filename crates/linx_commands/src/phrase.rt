@@ -1,0 +1,89 @@
+//! The phrases that the lines on standard error are made of.
+ghost use Rattle.std.specs.Prelude.{◌≡◌, ◌≤◌, length};
+ghost use Rattle.linx_commands.specs.Lines.{phrase_of};
+
+/// A phrase, by what it says.
+#[derive(Clone, Copy, Debug, PartialEq, Eq, Hash)]
+pub enum Phrase {
+    /// The program speaks.
+    Program,
+    /// What ends a line.
+    LineEnd,
+    /// What stands between a file and what is said of it, or a line and what is wrong with it.
+    Colon,
+    /// There is no such word, which follows.
+    NoWord,
+    /// What stands behind that word.
+    BehindWord,
+    /// A word that is near follows.
+    DidYouMean,
+    /// What stands behind that one.
+    BehindNear,
+    /// All words follow.
+    TheWordsAre,
+    /// How the program is used, and all words follow.
+    UsageOfAll,
+    /// How a word is used follows.
+    Usage,
+    /// The number of a line follows.
+    ScriptLine,
+    /// There is no file.
+    NoSuchFile,
+    /// It is a folder.
+    IsFolder,
+    /// It may not be read.
+    NotAllowed,
+    /// It can't be opened for another reason.
+    NotOpened,
+    /// The source failed.
+    ReadFault,
+    /// The sink failed.
+    WriteFault,
+    /// The journal is full, and the number of its last step follows.
+    JournalFull,
+    /// The limit follows.
+    ByTheLimit,
+    /// The limit of steps.
+    StepLimit,
+    /// The limit of bytes.
+    ByteLimit,
+    /// Memory was refused.
+    OutOfMemory,
+    /// The number of the last step follows.
+    AfterStep,
+}
+
+impl Phrase {
+    /// The phrase.
+    #[tactic(auto, unfolding(crate::specs::Lines::phrase_of))]
+    pub(crate) fn text(self) -> &'static str
+        ensures text { result.now ≡ phrase_of self }
+        ensures short { length result.now ≤ 40 }
+    {
+        match self {
+            Phrase::Program => "linx_sim: ",
+            Phrase::LineEnd => "\n",
+            Phrase::Colon => ": ",
+            Phrase::NoWord => "no word '",
+            Phrase::BehindWord => "'",
+            Phrase::DidYouMean => ": did you mean '",
+            Phrase::BehindNear => "'?",
+            Phrase::TheWordsAre => "; the words are:",
+            Phrase::UsageOfAll => "usage: linx_sim WORD ..; the words are:",
+            Phrase::Usage => "usage: linx_sim ",
+            Phrase::ScriptLine => "script line ",
+            Phrase::NoSuchFile => "no such file",
+            Phrase::IsFolder => "is a folder",
+            Phrase::NotAllowed => "not allowed",
+            Phrase::NotOpened => "can't be opened",
+            Phrase::ReadFault => "read fault",
+            Phrase::WriteFault => "write fault",
+            Phrase::JournalFull => "journal full after step ",
+            Phrase::ByTheLimit => ", by the limit of ",
+            Phrase::StepLimit => "200000 steps",
+            Phrase::ByteLimit => "67108864 bytes of signals",
+            Phrase::OutOfMemory => "out of memory",
+            Phrase::AfterStep => " after step ",
+        }
+    }
+}

@@ -1,0 +1,187 @@
+//! The program's line on standard error.
+ghost use Rattle.std.specs.Prelude.{◌≡◌, ◌+◌, ◌≤◌, ◌++◌, length, map, string_bytes};
+ghost use Rattle.command_words.specs.Requests.{file_by};
+ghost use Rattle.linx_commands.specs.Lines.{bad_text, full_text, hint_of, limit_of, line_of};
+ghost use Rattle.linx_commands.specs.Lines.{misuse_text, phrase_of_fault, source_prefix, stop_text};
+ghost use Rattle.linx_commands.specs.Lines.{text_at, text_by};
+
+use crate::outcome::Status;
+use crate::phrase::Phrase;
+use command_words::{Line, Misuse, WORDS, Word, file_named};
+use journal::Journal;
+use linx_outside::OpenFault;
+use script_lang::Fault;
+
+/// The steps that fill a journal.
+const STEPS_MOST: u64 = 200_000;
+
+/// A word that is near, or all words.
+#[tactic(auto, unfolding(crate::specs::Lines::hint_of))]
+fn push_hint(line: &mut Line, near: Option<Word>)
+    requires room { length line.old ≤ 200 }
+    ensures text { line.new ≡ line.old ++ hint_of near }
+    ensures room { length line.new ≤ length line.old + 200 }
+{
+    match near {
+        Some(near) => {
+            line.push_between(
+                Phrase::DidYouMean.text(),
+                near.name(),
+                Phrase::BehindNear.text(),
+            );
+        }
+        None => {
+            line.push_listed(Phrase::TheWordsAre.text(), &WORDS);
+        }
+    }
+}
+
+/// The word at a place, from 0.
+fn word_at(words: &[String], place: usize) -> &str
+    ensures { result.now ≡ text_at (map string_bytes words.now) place }
+{
+    match words.get(place) {
+        Some(word) => word.as_str(),
+        None => "",
+    }
+}
+
+/// What is said of words that ask for nothing.
+#[tactic(auto, unfolding(crate::specs::Lines::misuse_text))]
+fn push_misuse(line: &mut Line, words: &[String], wrong: Misuse)
+    requires room { length line.old ≤ 40 }
+    ensures text { line.new ≡ line.old ++ misuse_text (map string_bytes words.now) wrong }
+    ensures room { length line.new ≤ length line.old + 430 }
+{
+    match wrong {
+        Misuse::Wordless => {
+            line.push_listed(Phrase::UsageOfAll.text(), &WORDS);
+        }
+        Misuse::Unknown(place, near) => {
+            line.push(Phrase::NoWord.text());
+            line.push_shown(word_at(words, place));
+            line.push(Phrase::BehindWord.text());
+            push_hint(line, near);
+        }
+        Misuse::Arguments(word) => {
+            line.push_pair(Phrase::Usage.text(), word.usage());
+        }
+    }
+}
+
+/// Why a file can't be opened.
+fn phrase_of_fault(why: OpenFault) -> Phrase
+    ensures { result ≡ phrase_of_fault why }
+{
+    match why {
+        OpenFault::Missing => Phrase::NoSuchFile,
+        OpenFault::Folder => Phrase::IsFolder,
+        OpenFault::NotAllowed => Phrase::NotAllowed,
+        OpenFault::Other => Phrase::NotOpened,
+    }
+}
+
+/// What is said before a fault of the source that the words name.
+fn push_source(line: &mut Line, words: &[String])
+    requires room { length line.old ≤ 40 }
+    ensures text { line.new ≡ line.old ++ source_prefix (file_by (map string_bytes words.now)) }
+    ensures room { length line.new ≤ length line.old + 110 }
+{
+    if let Some(name) = file_named(words) {
+        line.push_shown(name);
+        line.push(Phrase::Colon.text());
+    }
+}
+
+/// The limit of a journal that is full.
+fn limit(journal: &Journal) -> Phrase
+    ensures { result ≡ limit_of journal.now.log.steps }
+{
+    if journal.len() >= STEPS_MOST {
+        Phrase::StepLimit
+    } else {
+        Phrase::ByteLimit
+    }
+}
+
+/// After which step a journal was full, and by which limit.
+#[tactic(auto, unfolding(crate::specs::Lines::full_text))]
+fn push_full(line: &mut Line, journal: &Journal)
+    requires room { length line.old ≤ 40 }
+    ensures text { line.new ≡ line.old ++ full_text journal.now.log.steps }
+    ensures room { length line.new ≤ length line.old + 430 }
+{
+    line.push_numbered(Phrase::JournalFull.text(), journal.len());
+    line.push_pair(Phrase::ByTheLimit.text(), limit(journal).text());
+}
+
+/// Which line of a script is bad, and what is wrong with it.
+#[tactic(auto, unfolding(crate::specs::Lines::bad_text))]
+fn push_bad(line: &mut Line, number: u32, fault: Fault)
+    requires room { length line.old ≤ 40 }
+    ensures text { line.new ≡ line.old ++ bad_text number fault }
+    ensures room { length line.new ≤ length line.old + 430 }
+{
+    line.push_numbered(Phrase::ScriptLine.text(), u64::from(number));
+    let reason = fault.reason();
+    line.push_pair(Phrase::Colon.text(), reason.as_str());
+}
+
+/// Where a run stopped for want of memory.
+#[tactic(auto, unfolding(crate::specs::Lines::stop_text))]
+fn push_stop(line: &mut Line, journal: &Journal)
+    requires room { length line.old ≤ 80 }
+    ensures text { line.new ≡ line.old ++ stop_text journal.now.log.steps }
+    ensures room { length line.new ≤ length line.old + 60 }
+{
+    let steps = journal.len();
+    if steps > 0 {
+        line.push_numbered(Phrase::AfterStep.text(), steps);
+    }
+}
+
+/// What is said of a status.
+#[tactic(auto, unfolding(crate::specs::Lines::text_by))]
+fn push_text(line: &mut Line, words: &[String], status: Status, journal: &Journal)
+    requires room { length line.old ≤ 40 }
+    ensures text { line.new ≡ line.old ++ text_by (map string_bytes words.now) status journal.now.log }
+    ensures room { length line.new ≤ length line.old + 430 }
+{
+    match status {
+        Status::Done => {}
+        Status::Usage(wrong) => push_misuse(line, words, wrong),
+        Status::Script {
+            line: number,
+            fault,
+        } => push_bad(line, number, fault),
+        Status::Unopened(why) => {
+            push_source(line, words);
+            line.push(phrase_of_fault(why).text());
+        }
+        Status::ReadFault => {
+            push_source(line, words);
+            line.push(Phrase::ReadFault.text());
+        }
+        Status::WriteFault => line.push(Phrase::WriteFault.text()),
+        Status::JournalFull => push_full(line, journal),
+        Status::NoMemory => {
+            line.push(Phrase::OutOfMemory.text());
+            push_stop(line, journal);
+        }
+    }
+}
+
+/// The program's line on standard error, with the newline at its end; empty at `Done`.
+#[tactic(auto, unfolding(crate::specs::Lines::line_by))]
+pub(crate) fn status_line(words: &[String], status: Status, journal: &Journal) -> Line
+    ensures { result ≡ line_of words.now status journal.now.log }
+{
+    let mut line = Line::new();
+    if status == Status::Done {
+        return line;
+    }
+    line.push(Phrase::Program.text());
+    push_text(&mut line, words, status, journal);
+    line.push(Phrase::LineEnd.text());
+    line
+}

@@ -1,0 +1,387 @@
+//! What each word does with standard input, with a file, and with one that can't be opened: its exit
+//! status, its text and its line.
+
+use crate::command_line::SUMMARY_OF_7;
+use crate::runs::{owned, roomy_sink, source_of};
+use crate::signals::SELF_SEND;
+use crate::texts::unindented;
+use linx_commands::{Words, program};
+use linx_outside::{MemFile, OpenFault};
+use std::alloc::Global;
+use std::process::{ExitCode, Termination};
+use std::sync::Wait;
+use std::test::Fail;
+use std::thread::Threads;
+
+/// What a source has.
+#[derive(Clone, Copy)]
+enum Content {
+    /// The script of a self send.
+    Script,
+    /// Bytes that are no script.
+    NoScript,
+    /// Nothing, since it can't be opened.
+    Fault(OpenFault),
+}
+
+/// The text that is wanted.
+#[derive(Clone, Copy)]
+enum Text {
+    /// None.
+    Empty,
+    /// That of the run of a self send.
+    OfRun,
+    /// This one.
+    Is(&'static str),
+}
+
+/// The words, what standard input and the file `s.linx` have, and how the program ends.
+#[derive(Clone, Copy)]
+struct Row {
+    words: &'static [&'static str],
+    input: Content,
+    file: Content,
+    number: u8,
+    text: Text,
+    line: &'static str,
+}
+
+/// A run of the script of standard input; the file has none.
+const INPUT: Row = Row {
+    words: &["run"],
+    input: Content::Script,
+    file: Content::NoScript,
+    number: 0,
+    text: Text::OfRun,
+    line: "",
+};
+
+/// A run of the script of the file; standard input has none.
+const FILE: Row = Row {
+    words: &["run", "s.linx"],
+    input: Content::NoScript,
+    file: Content::Script,
+    ..INPUT
+};
+
+/// A file that isn't opened. Standard input has a script.
+const UNOPENED: Row = Row {
+    input: Content::Script,
+    file: Content::Fault(OpenFault::Missing),
+    number: 3,
+    text: Text::Empty,
+    ..FILE
+};
+
+/// Words that ask for nothing.
+const MISUSED: Row = Row {
+    file: Content::Script,
+    number: 1,
+    text: Text::Empty,
+    ..INPUT
+};
+
+/// A page of the help, for which nothing is read.
+const SHOWN: Row = Row {
+    input: Content::NoScript,
+    ..INPUT
+};
+
+const HELP: &str = "\
+linx_sim plays a script of nodes, links and actors by the rules of Enea LINX, and
+writes everything that happened.
+
+  run [FILE]
+      play a script with a thread for each actor and each link
+  serial [FILE]
+      play a script in the fixed order of rounds
+  gen N
+      play the generated script of a number, and write its summary
+  help [WORD]
+      write this help, or that of a word
+  version
+      write the version
+
+FILE is a script; without it, or where it is -, standard input is read.
+`linx_sim help WORD` says more of a word.
+
+exit status:
+  0  done
+  1  the words ask for nothing
+  2  the bytes are no script
+  3  the script can't be read
+  4  the text can't be written
+  5  the journal is full before the run is over
+  6  memory was refused
+
+The manual is docs/use/linx_sim.1, or `man linx_sim` once it is installed.
+";
+
+const HELP_OF_SERIAL: &str = "\
+linx_sim serial [FILE]
+
+Reads a script from FILE, or from standard input, plays it in the fixed order of
+rounds, and writes the same kind of text as run. It is the same each time.
+
+example:
+  linx_sim serial < examples/losses.linx
+";
+
+const HELP_OF_VERSION: &str = "\
+linx_sim version
+
+Writes the name of the program and its version to standard output. The same are
+--version and -V.
+
+example:
+  linx_sim version
+";
+
+const VERSION: &str = "linx_sim 1.0\n";
+
+const ROWS: [Row; 30] = [
+    INPUT,
+    Row {
+        words: &["run", "-"],
+        ..INPUT
+    },
+    Row {
+        words: &["serial"],
+        ..INPUT
+    },
+    Row {
+        words: &["serial", "-"],
+        ..INPUT
+    },
+    FILE,
+    Row {
+        words: &["serial", "s.linx"],
+        ..FILE
+    },
+    Row {
+        words: &["gen", "7"],
+        text: Text::Is(SUMMARY_OF_7),
+        ..FILE
+    },
+    Row {
+        file: Content::NoScript,
+        number: 2,
+        text: Text::Empty,
+        line: "linx_sim: script line 1: no statement begins with this word here: no\n",
+        ..FILE
+    },
+    Row {
+        words: &["run", "t.linx"],
+        file: Content::Fault(OpenFault::Other),
+        line: "linx_sim: t.linx: no such file\n",
+        ..UNOPENED
+    },
+    Row {
+        words: &["serial", "s.linx"],
+        file: Content::Fault(OpenFault::Missing),
+        line: "linx_sim: s.linx: no such file\n",
+        ..UNOPENED
+    },
+    Row {
+        words: &["run", "s.linx"],
+        file: Content::Fault(OpenFault::Folder),
+        line: "linx_sim: s.linx: is a folder\n",
+        ..UNOPENED
+    },
+    Row {
+        words: &["serial", "s.linx"],
+        file: Content::Fault(OpenFault::NotAllowed),
+        line: "linx_sim: s.linx: not allowed\n",
+        ..UNOPENED
+    },
+    Row {
+        words: &["run", "s.linx"],
+        file: Content::Fault(OpenFault::Other),
+        line: "linx_sim: s.linx: can't be opened\n",
+        ..UNOPENED
+    },
+    Row {
+        words: &["run", "a\u{1b}[2Jä"],
+        file: Content::Fault(OpenFault::Other),
+        line: "linx_sim: a?[2J??: no such file\n",
+        ..UNOPENED
+    },
+    Row {
+        words: &["help"],
+        text: Text::Is(HELP),
+        ..SHOWN
+    },
+    Row {
+        words: &["--help"],
+        text: Text::Is(HELP),
+        ..SHOWN
+    },
+    Row {
+        words: &["-h"],
+        text: Text::Is(HELP),
+        ..SHOWN
+    },
+    Row {
+        words: &["help", "serial"],
+        text: Text::Is(HELP_OF_SERIAL),
+        ..SHOWN
+    },
+    Row {
+        words: &["serial", "--help"],
+        text: Text::Is(HELP_OF_SERIAL),
+        ..SHOWN
+    },
+    Row {
+        words: &["serial", "-h"],
+        text: Text::Is(HELP_OF_SERIAL),
+        ..SHOWN
+    },
+    Row {
+        words: &["help", "version"],
+        text: Text::Is(HELP_OF_VERSION),
+        ..SHOWN
+    },
+    Row {
+        words: &["help", "-V"],
+        text: Text::Is(HELP_OF_VERSION),
+        ..SHOWN
+    },
+    Row {
+        words: &["version"],
+        text: Text::Is(VERSION),
+        ..SHOWN
+    },
+    Row {
+        words: &["--version"],
+        text: Text::Is(VERSION),
+        ..SHOWN
+    },
+    Row {
+        words: &["-V"],
+        text: Text::Is(VERSION),
+        ..SHOWN
+    },
+    Row {
+        words: &["seriel"],
+        line: "linx_sim: no word 'seriel': did you mean 'serial'?\n",
+        ..MISUSED
+    },
+    Row {
+        words: &["help", "rum"],
+        line: "linx_sim: no word 'rum': did you mean 'run'?\n",
+        ..MISUSED
+    },
+    Row {
+        words: &["fast\n\u{7f}"],
+        line: "linx_sim: no word 'fast??'; the words are: run serial gen help version\n",
+        ..MISUSED
+    },
+    Row {
+        words: &["gen", "x"],
+        line: "linx_sim: usage: linx_sim gen N\n",
+        ..MISUSED
+    },
+    Row {
+        words: &["run", "-x"],
+        line: "linx_sim: usage: linx_sim run [FILE]\n",
+        ..MISUSED
+    },
+];
+
+/// The bytes of a source.
+fn bytes_of(content: Content, script: &str) -> Result<&[u8], OpenFault> {
+    match content {
+        Content::Script => Ok(script.as_bytes()),
+        Content::NoScript => Ok(b"no script"),
+        Content::Fault(why) => Err(why),
+    }
+}
+
+/// The text of standard input.
+fn input_of(content: Content, script: &str) -> &str {
+    match content {
+        Content::Script => script,
+        _ => "no script",
+    }
+}
+
+/// Whether a text is the one that is wanted.
+fn is_wanted(text: &[u8], wanted: Text, of_run: &str) -> bool {
+    match wanted {
+        Text::Empty => text.is_empty(),
+        Text::OfRun => text == of_run.as_bytes(),
+        Text::Is(page) => text == page.as_bytes(),
+    }
+}
+
+/// Whether the program ends as a row says.
+fn ends_as<R: Threads + Wait + Sync + Eprint>(
+    rt: &R,
+    alloc: Global,
+    row: Row,
+) -> Result<bool, Fail> {
+    let script = unindented(alloc, SELF_SEND.script)?;
+    let of_run = unindented(alloc, SELF_SEND.text)?;
+    let files = MemFile {
+        name: "s.linx",
+        content: bytes_of(row.file, script.as_str()),
+    };
+    let words = Words::Read(owned(alloc, row.words)?);
+    let mut source = source_of(alloc, input_of(row.input, script.as_str()))?;
+    let mut text = roomy_sink(alloc)?;
+    let mut errors = roomy_sink(alloc)?;
+    let told = program(
+        rt,
+        alloc,
+        words,
+        &files,
+        &mut source,
+        &mut text,
+        &mut errors,
+    );
+    Ok(
+        told.report(rt) == ExitCode::from(row.number)
+            && is_wanted(text.held(), row.text, of_run.as_str())
+            && errors.held() == row.line.as_bytes(),
+    )
+}
+
+#[test]
+fn each_word_with_each_source(rt: HostRuntime) -> Result<(), Fail> {
+    for row in ROWS {
+        assert!(rt; ends_as(&rt, rt.alloc(), row)?, "{:?}", row.words);
+    }
+    Ok(())
+}
+
+/// A word of ten thousand letters, of which a line shows 64.
+#[test]
+fn a_long_word_is_cut(rt: HostRuntime) -> Result<(), Fail> {
+    let alloc = rt.alloc();
+    let mut word = String::new(alloc);
+    for _ in 0..10_000u32 {
+        word.push('x')?;
+    }
+    let files = MemFile {
+        name: "",
+        content: Err(OpenFault::Missing),
+    };
+    let words = Words::Read(owned(alloc, &[word.as_str()])?);
+    let mut source = source_of(alloc, "")?;
+    let mut text = roomy_sink(alloc)?;
+    let mut errors = roomy_sink(alloc)?;
+    let _ = program(
+        &rt,
+        alloc,
+        words,
+        &files,
+        &mut source,
+        &mut text,
+        &mut errors,
+    );
+    let wanted =
+        "linx_sim: no word 'xxxxxxxxxxxxxxxxxxxxxxxxxxxxxxxxxxxxxxxxxxxxxxxxxxxxxxxxxxxxxxxx\
+        '; the words are: run serial gen help version\n";
+    assert_eq!(rt; errors.held(), wanted.as_bytes());
+    Ok(())
+}
