@@ -1,2 +1,3 @@
+mod CommandLine
 mod Numbers
 mod Shortness

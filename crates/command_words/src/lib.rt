@@ -3,6 +3,7 @@
 //! is wrong with words that ask for nothing are read off it.
 #![tactic(auto)]
 
+mod command_line;
 mod line;
 mod misuse;
 mod nearest;

@@ -47,7 +47,7 @@ fn played_from(asked: Asked, file: &str) -> Option<Request>
 }
 
 /// What a word alone asks for.
-fn asked_alone(word: Word) -> Option<Request>
+pub(crate) fn asked_alone(word: Word) -> Option<Request>
     ensures { result ≡ asked_alone word }
 {
     match word {
@@ -60,7 +60,7 @@ fn asked_alone(word: Word) -> Option<Request>
 }
 
 /// What a word and one argument ask for.
-fn asked_with(word: Word, argument: &str) -> Option<Request>
+pub(crate) fn asked_with(word: Word, argument: &str) -> Option<Request>
     ensures { result ≡ asked_with word argument.now }
 {
     if is_help_flag(argument) {
@@ -75,16 +75,14 @@ fn asked_with(word: Word, argument: &str) -> Option<Request>
     }
 }
 
-impl Request {
-    /// What the words ask for; `None` where they ask for nothing.
-    pub fn of(words: &[String]) -> Option<Request>
-        ensures { result ≡ request_of words.now }
-    {
-        match words {
-            [word] => asked_alone(called(word.as_str())?),
-            [word, argument] => asked_with(called(word.as_str())?, argument.as_str()),
-            _ => None,
-        }
+/// What the words ask for, read off the table; `None` where they ask for nothing.
+pub(crate) fn request_by(words: &[String]) -> Option<Request>
+    ensures { result ≡ request_of words.now }
+{
+    match words {
+        [word] => asked_alone(called(word.as_str())?),
+        [word, argument] => asked_with(called(word.as_str())?, argument.as_str()),
+        _ => None,
     }
 }
 
@@ -103,7 +101,7 @@ fn is_reading(request: Option<Request>) -> bool
 pub fn file_named(words: &[String]) -> Option<&str>
     ensures { option_map (λ name. name.now) result ≡ file_of words.now }
 {
-    let reads = is_reading(Request::of(words));
+    let reads = is_reading(request_by(words));
     match words {
         [_, file] if reads && file.as_str() != "-" => Some(file.as_str()),
         _ => None,

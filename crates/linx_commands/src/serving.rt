@@ -402,7 +402,7 @@ pub fn run<R: Threads + Wait + Sync, G: Gate + Sync, F: Files, S: Source, K: Sin
         result.status result.journal.log) }
     ensures legal { IsLegalSomehow result.journal.log.steps }
 {
-    match Request::of(words) {
+    match Request::of(alloc, words) {
         None => refuse(alloc, words),
         Some(Request::Show(page)) => show(alloc, page, out),
         Some(Request::Play(asked)) => {

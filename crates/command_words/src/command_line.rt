@@ -1,0 +1,76 @@
+//! The command line, as `clap` reads it: a word, and perhaps an argument behind it. Flags, and `-`
+//! for standard input, are read off the table, since clap would take `--` for the end of flags.
+ghost use Rattle.std.specs.Prelude.{◌≡◌, ◌⊎◌, IfErr, IfOk, None, false, option_map, string_bytes};
+ghost use Rattle.std.specs.List.{list_any};
+ghost use Rattle.clap.specs.Words.{app_of, kind_of};
+ghost use Rattle.command_words.specs.CommandLine.{is_dashed, request_from, two_words};
+ghost use Rattle.command_words.specs.Requests.{request_of};
+
+use crate::request::{Request, asked_alone, asked_with, request_by};
+use crate::word::called;
+use clap::error::ErrorKind;
+use clap::{Arg, Command, Error};
+use std::alloc::{AllocError, Global};
+
+/// What a word and an argument ask for, of which each may be missing.
+fn request_from(word: Option<&str>, argument: Option<&str>) -> Option<Request>
+    ensures { result
+        ≡ request_from (option_map (λ w. w.now) word.entry) (option_map (λ a. a.now) argument.entry) }
+{
+    match (word, argument) {
+        (None, _) => None,
+        (Some(word), None) => asked_alone(called(word)?),
+        (Some(word), Some(argument)) => asked_with(called(word)?, argument),
+    }
+}
+
+/// Whether a word begins with `-`.
+fn has_dashed_word(words: &[String]) -> bool
+    ensures { result ≡ list_any (λ word. is_dashed (string_bytes word)) words.now }
+{
+    words.iter().any(|word| word.starts_with('-'))
+}
+
+/// What clap is to find: a word, which must be there, and perhaps an argument.
+fn command_line<'a>(alloc: Global) -> Result<Command<'a>, AllocError>
+    ensures { IfOk result (λ line. app_of line ≡ two_words) }
+{
+    let word = Arg::new(alloc, "word").required(true);
+    let argument = Arg::new(alloc, "argument");
+    Command::new(alloc, "linx_sim")
+        .no_binary_name(true)
+        .disable_help_flag(true)
+        .disable_version_flag(true)
+        .arg(word)?
+        .arg(argument)
+}
+
+/// What the words ask for, as clap reads them. Its refusals are errors.
+fn reads(alloc: Global, words: &[String]) -> Result<Option<Request>, Error>
+    requires plain { list_any (λ word. is_dashed (string_bytes word)) words.now ≡ false }
+    ensures ok { IfOk result (λ request. request ≡ request_of words.now) }
+    ensures err { IfErr result (λ error. (kind_of error ≡ ErrorKind.OutOfMemory)
+        ⊎ (request_of words.now ≡ None)) }
+{
+    let matches = command_line(alloc)?.try_get_matches_from(words)?;
+    Ok(request_from(matches.get_str("word"), matches.get_str("argument")))
+}
+
+impl Request {
+    /// What the words of a command line ask for; `None` where they ask for nothing. `clap` reads
+    /// them; where it can't, since a word begins with `-` or memory is refused, the table does.
+    pub fn of(alloc: Global, words: &[String]) -> Option<Request>
+        ensures { result ≡ request_of words.now }
+    {
+        if has_dashed_word(words) {
+            return request_by(words);
+        }
+        match reads(alloc, words) {
+            Ok(request) => request,
+            Err(error) => match error.kind() {
+                ErrorKind::OutOfMemory => request_by(words),
+                _ => None,
+            },
+        }
+    }
+}
