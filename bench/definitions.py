@@ -21,7 +21,7 @@ CRATES = pathlib.Path(__file__).resolve().parent.parent / "crates"
 AUDIT = CRATES.parent / "docs/audit"
 PAGE = AUDIT / "definitions.md"
 TOP = "linx_commands"
-TOP_CALLS = ["run", "serial", "tell", "report", "program", "journals_are_decided"]
+TOP_CALLS = ["run", "alone", "serial", "tell", "report", "program", "journals_are_decided"]
 LAYERS = [
     ("Values", "linx_base sigsel"),
     ("The world outside", "linx_outside"),

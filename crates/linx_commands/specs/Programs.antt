@@ -6,6 +6,7 @@ use Rattle.command_words.specs.Requests.{file_by, request_by}
 use Rattle.command_words.specs.declared.misuse.Misuse.TheVariants.{Wordless}
 use Rattle.command_words.specs.declared.page.Page.{Page}
 use Rattle.command_words.specs.declared.request.Asked.{Asked}
+use Rattle.command_words.specs.declared.request.Asked.TheVariants as asks
 use Rattle.command_words.specs.declared.request.Request.{Request}
 use Rattle.command_words.specs.declared.request.Request.TheVariants.{Show, Play}
 use Rattle.journal.specs.Logs.{Log}
@@ -18,6 +19,8 @@ use Rattle.linx_commands.specs.Runs.{IsEmptyLog, IsLegalSomehow}
 use Rattle.linx_commands.specs.Statuses.{IsUsageOrRefused}
 use Rattle.linx_commands.specs.declared.outcome.Status.{Status}
 use Rattle.linx_commands.specs.declared.outcome.Status.TheVariants.{Usage, Unopened, NoMemory}
+use Rattle.linx_commands.specs.declared.serving.InThreads.{InThreads}
+use Rattle.linx_commands.specs.declared.serving.InThreads.TheVariants as threads
 use Rattle.linx_commands.specs.declared.words.Unread.{Unread}
 use Rattle.linx_commands.specs.declared.words.Unread.TheVariants as why
 use Rattle.linx_commands.specs.declared.words.Words.{Words}
@@ -47,6 +50,18 @@ IfShow _ holds = Unit {0}
 abbrev pub IfPlay : Option Request → (Asked → Type 0) → Type 0
 IfPlay (Some (Play asked)) holds = holds asked
 IfPlay _ holds = Unit {0}
+
+-- what is asked for by a run in threads
+abbrev pub asked_in : InThreads → Asked
+asked_in threads.Run = asks.Run
+asked_in (threads.Gen n) = asks.Gen n
+
+-- a run in threads is asked for, and is left as it is: nothing was read or written
+pub record IsLeft (request : Option Request) (threads : InThreads) (unread silent : Type 0)
+    : Type 0 where
+  pub is : request ≡ Some (Play (asked_in threads))
+  pub untouched : unread
+  pub quiet : silent
 
 -- A PAGE OF THE HELP was written, or a front of it, or memory was refused; nothing was read or run
 pub record IsShown (page : Page) (untouched : Type 0) (writes : List ℕ → Type 0) (status : Status)

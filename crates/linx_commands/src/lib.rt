@@ -2,10 +2,12 @@
 //! losses and actors, runs it with a thread for each actor and each link, or in the fixed order, and
 //! writes each endpoint's log and the journal of all steps; or it runs the generated script of a
 //! number with such threads, and writes the summary of the journal; or it writes a page of the help.
-//! `program` is the whole program, over a command line, files and streams of any kind. It alone
-//! gives a `Told`, so a `main` with this result can't end in any other way.
+//! `alone` does what takes no thread, and `run` all of it. `program` is the whole program, over a
+//! command line, files and streams of any kind. It alone gives a `Told`, so a `main` with this
+//! result can't end in any other way.
 #![tactic(auto)]
 
+mod in_threads;
 mod laws;
 mod outcome;
 mod phrase;
@@ -15,9 +17,10 @@ mod told;
 mod whole_program;
 mod words;
 
+pub use in_threads::run;
 pub use laws::journals_are_decided;
 pub use outcome::{Outcome, Status};
-pub use serving::{run, serial};
+pub use serving::{InThreads, alone, serial};
 pub use told::Told;
 pub use whole_program::program;
 pub use words::{Unread, Words};

@@ -8,7 +8,8 @@ ghost use Rattle.linx_commands.specs.Programs.{texts_of};
 ghost use Rattle.linx_commands.specs.Streams.{Writes, WritesLine};
 ghost use Rattle.linx_commands.specs.declared.outcome.Status.TheVariants.{Done};
 
-use crate::serving::{run, unstarted};
+use crate::in_threads::run;
+use crate::serving::unstarted;
 use crate::told::{Told, tell};
 use crate::words::Words;
 use linx_outside::{Files, OpenGate, Sink, Source};

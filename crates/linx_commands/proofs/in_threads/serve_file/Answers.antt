@@ -1,5 +1,5 @@
 use Rattle.std.proofs.Common.{inl, inr, refl}
-use Rattle.linx_commands.proofs.serving.serve_file.Goals as goal
+use Rattle.linx_commands.proofs.in_threads.serve_file.Goals as goal
 
 pub returns-in-Ok-clause-played : goal.returns-in-Ok-clause-played
 returns-in-Ok-clause-played g c =

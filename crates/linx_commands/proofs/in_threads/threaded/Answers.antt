@@ -1,5 +1,5 @@
 use Rattle.linx_commands.proofs.Causes.{completes_unread}
-use Rattle.linx_commands.proofs.serving.threaded.Goals as goal
+use Rattle.linx_commands.proofs.in_threads.threaded.Goals as goal
 
 pub returns-in-Err-clause-complete : goal.returns-in-Err-clause-complete
 returns-in-Err-clause-complete g c =

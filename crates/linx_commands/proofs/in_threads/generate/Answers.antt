@@ -5,7 +5,7 @@ use Rattle.work_gen.specs.Generated.{generated}
 use Rattle.linx_commands.specs.Runs.{IsRan}
 use Rattle.command_words.specs.declared.request.Asked.TheVariants.{Run}
 use Rattle.linx_commands.proofs.Answering.{ran-generated}
-use Rattle.linx_commands.proofs.serving.generate.Goals as goal
+use Rattle.linx_commands.proofs.in_threads.generate.Goals as goal
 
 pub returns-in-Ok-clause-cause : goal.returns-in-Ok-clause-cause
 returns-in-Ok-clause-cause g c =

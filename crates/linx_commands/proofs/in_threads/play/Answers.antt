@@ -1,0 +1,12 @@
+use Rattle.linx_commands.proofs.in_threads.play.Goals as goal
+
+pub returns-in-None-clause-played : goal.returns-in-None-clause-played
+returns-in-None-clause-played g c =
+    let ran = c.serve.ensures in
+    rw c.in-None.is (record {
+      cause = ran.cause;
+      headline = ran.headline;
+      complete = ran.complete;
+      read = ran.source;
+      written = ran.sink;
+    })
