@@ -49,7 +49,7 @@ pub fn run_office<R: Threads + Wait + Sync>(rt: &R, alloc: Global) -> Result<Vec
     // Each pass goes to a thread, which ends with its actor. Where the system has no thread left,
     // the actors would run one behind the other, and the server wait for a question for ever.
     let each = |pass: Pass<SharedFabric>| -> Result<String>
-        requires { IsNewcomer lock.now office pass }
+        requires { IsNewcomer lock office pass }
     { act(rt, alloc, &lock, pass) };
     Ok(map_vec(rt, passes, &each)?)
 }
