@@ -25,6 +25,7 @@ use Rattle.command_words.specs.declared.request.Asked.{Asked}
 use Rattle.command_words.specs.declared.request.Asked.TheVariants.{Run, Serial, Gen}
 use Rattle.linx_commands.specs.declared.outcome.Status.{Status}
 use Rattle.linx_commands.specs.declared.outcome.Status.TheVariants.{Done, Usage, Script, Unopened}
+use Rattle.linx_commands.specs.declared.outcome.Status.TheVariants.{Torn, BadStream}
 use Rattle.linx_commands.specs.declared.outcome.Status.TheVariants.{ReadFault, WriteFault, JournalFull}
 use Rattle.linx_commands.specs.declared.outcome.Status.TheVariants.{NoMemory}
 
@@ -56,6 +57,8 @@ answers-written asked NoMemory script log writes run = so-far-of asked script lo
 answers-written asked JournalFull script log writes run = cc
 answers-written asked (Usage wrong) script log writes run = cc
 answers-written asked (Unopened why) script log writes run = cc
+answers-written asked (Torn at) script log writes run = cc
+answers-written asked (BadStream at) script log writes run = cc
 answers-written asked (Script line fault) script log writes run = cc
 answers-written asked ReadFault script log writes run = cc
 

@@ -16,6 +16,7 @@ use Rattle.command_words.specs.declared.request.Asked.{Asked}
 use Rattle.command_words.specs.declared.request.Asked.TheVariants.{Run}
 use Rattle.linx_commands.specs.declared.outcome.Status.{Status}
 use Rattle.linx_commands.specs.declared.outcome.Status.TheVariants.{Done, Usage, Script, Unopened}
+use Rattle.linx_commands.specs.declared.outcome.Status.TheVariants.{Torn, BadStream}
 use Rattle.linx_commands.specs.declared.outcome.Status.TheVariants.{ReadFault, WriteFault, JournalFull}
 use Rattle.linx_commands.specs.declared.outcome.Status.TheVariants.{NoMemory}
 
@@ -27,6 +28,8 @@ caused_unread asked ReadFault told log unread empty = empty
 caused_unread asked NoMemory told log unread empty = inl empty
 caused_unread asked (Usage wrong) told log unread empty = absurd unread
 caused_unread asked (Unopened why) told log unread empty = absurd unread
+caused_unread asked (Torn at) told log unread empty = absurd unread
+caused_unread asked (BadStream at) told log unread empty = absurd unread
 caused_unread asked Done told log unread empty = absurd unread
 caused_unread asked WriteFault told log unread empty = absurd unread
 caused_unread asked JournalFull told log unread empty = absurd unread
@@ -50,6 +53,8 @@ completes asked Done bytes log cause spelled room read write = tt
 completes asked NoMemory bytes log cause spelled room read write = tt
 completes asked (Usage wrong) bytes log cause spelled room read write = absurd cause
 completes asked (Unopened why) bytes log cause spelled room read write = absurd cause
+completes asked (Torn at) bytes log cause spelled room read write = absurd cause
+completes asked (BadStream at) bytes log cause spelled room read write = absurd cause
 completes asked ReadFault bytes log cause spelled room read write = absurd (read refl)
 completes asked WriteFault bytes log cause spelled room read write = absurd (write refl)
 completes asked JournalFull bytes log cause spelled room read write =
@@ -86,7 +91,11 @@ completes_outcome asked JournalFull script log (inr answer) room write =
 completes_outcome asked (Usage wrong) script log (inl refused) room write = cc
 completes_outcome asked (Usage wrong) script log (inr answer) room write = answer
 completes_outcome asked (Unopened why) script log (inl refused) room write = cc
+completes_outcome asked (Torn at) script log (inl refused) room write = cc
+completes_outcome asked (BadStream at) script log (inl refused) room write = cc
 completes_outcome asked (Unopened why) script log (inr answer) room write = answer
+completes_outcome asked (Torn at) script log (inr answer) room write = answer
+completes_outcome asked (BadStream at) script log (inr answer) room write = answer
 completes_outcome asked (Script line fault) script log (inl refused) room write = cc
 completes_outcome asked (Script line fault) script log (inr answer) room write = answer
 completes_outcome asked ReadFault script log (inl refused) room write = cc

@@ -29,6 +29,7 @@ use Rattle.linx_commands.specs.Runs.{IsAnswerTo, IsCaused, IsEmptyLog, IsOfSourc
 use Rattle.linx_commands.specs.Runs.{IsRunUnder}
 use Rattle.linx_commands.specs.declared.outcome.Status.{Status}
 use Rattle.linx_commands.specs.declared.outcome.Status.TheVariants.{Done, Usage, Script, Unopened}
+use Rattle.linx_commands.specs.declared.outcome.Status.TheVariants.{Torn, BadStream}
 use Rattle.linx_commands.specs.declared.outcome.Status.TheVariants.{ReadFault, WriteFault, JournalFull}
 use Rattle.linx_commands.specs.declared.outcome.Status.TheVariants.{NoMemory}
 
@@ -123,6 +124,8 @@ pub headline_caused : (asked : Asked) (status : Status) (told : Option (List ℕ
 headline_caused asked Done told log cause = of_source asked Done told log cause
 headline_caused asked (Usage wrong) told log cause = absurd cause
 headline_caused asked (Unopened why) told log cause = absurd cause
+headline_caused asked (Torn at) told log cause = absurd cause
+headline_caused asked (BadStream at) told log cause = absurd cause
 headline_caused asked (Script line fault) told log cause = inl cause.1
 headline_caused asked ReadFault told log cause = inl cause
 headline_caused asked WriteFault told log cause = of_source asked WriteFault told log cause

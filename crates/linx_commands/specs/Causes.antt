@@ -12,6 +12,7 @@ use Rattle.script_lang.specs.Reading.{script_of}
 use Rattle.linx_commands.specs.Runs.{read_of}
 use Rattle.linx_commands.specs.declared.outcome.Status.{Status}
 use Rattle.linx_commands.specs.declared.outcome.Status.TheVariants.{Done, Usage, Script, Unopened}
+use Rattle.linx_commands.specs.declared.outcome.Status.TheVariants.{Torn, BadStream}
 use Rattle.linx_commands.specs.declared.outcome.Status.TheVariants.{ReadFault, WriteFault, JournalFull}
 use Rattle.linx_commands.specs.declared.outcome.Status.TheVariants.{NoMemory}
 
@@ -29,6 +30,8 @@ is_of_writing Done = true
 is_of_writing (Usage wrong) = false
 is_of_writing (Script line fault) = false
 is_of_writing (Unopened why) = false
+is_of_writing (Torn at) = false
+is_of_writing (BadStream at) = false
 is_of_writing ReadFault = false
 is_of_writing WriteFault = true
 is_of_writing JournalFull = false

@@ -6,9 +6,8 @@ use Rattle.command_words.specs.Requests.{file_by, request_by}
 use Rattle.command_words.specs.declared.misuse.Misuse.TheVariants.{Wordless}
 use Rattle.command_words.specs.declared.page.Page.{Page}
 use Rattle.command_words.specs.declared.request.Asked.{Asked}
-use Rattle.command_words.specs.declared.request.Asked.TheVariants as asks
 use Rattle.command_words.specs.declared.request.Request.{Request}
-use Rattle.command_words.specs.declared.request.Request.TheVariants.{Show, Play}
+use Rattle.command_words.specs.declared.request.Request.TheVariants.{Show, Play, Echo}
 use Rattle.journal.specs.Logs.{Log}
 use Rattle.linx_outside.specs.declared.files.OpenFault.{OpenFault}
 use Rattle.linx_commands.specs.Causes.{is_of_writing}
@@ -19,8 +18,6 @@ use Rattle.linx_commands.specs.Runs.{IsEmptyLog, IsLegalSomehow}
 use Rattle.linx_commands.specs.Statuses.{IsUsageOrRefused}
 use Rattle.linx_commands.specs.declared.outcome.Status.{Status}
 use Rattle.linx_commands.specs.declared.outcome.Status.TheVariants.{Usage, Unopened, NoMemory}
-use Rattle.linx_commands.specs.declared.serving.InThreads.{InThreads}
-use Rattle.linx_commands.specs.declared.serving.InThreads.TheVariants as threads
 use Rattle.linx_commands.specs.declared.words.Unread.{Unread}
 use Rattle.linx_commands.specs.declared.words.Unread.TheVariants as why
 use Rattle.linx_commands.specs.declared.words.Words.{Words}
@@ -51,17 +48,10 @@ abbrev pub IfPlay : Option Request → (Asked → Type 0) → Type 0
 IfPlay (Some (Play asked)) holds = holds asked
 IfPlay _ holds = Unit {0}
 
--- what is asked for by a run in threads
-abbrev pub asked_in : InThreads → Asked
-asked_in threads.Run = asks.Run
-asked_in (threads.Gen n) = asks.Gen n
-
--- a run in threads is asked for, and is left as it is: nothing was read or written
-pub record IsLeft (request : Option Request) (threads : InThreads) (unread silent : Type 0)
-    : Type 0 where
-  pub is : request ≡ Some (Play (asked_in threads))
-  pub untouched : unread
-  pub quiet : silent
+-- if an echo is asked for, this holds
+abbrev pub IfEcho : Option Request → Type 0 → Type 0
+IfEcho (Some Echo) holds = holds
+IfEcho _ holds = Unit {0}
 
 -- A PAGE OF THE HELP was written, or a front of it, or memory was refused; nothing was read or run
 pub record IsShown (page : Page) (untouched : Type 0) (writes : List ℕ → Type 0) (status : Status)
@@ -122,9 +112,10 @@ IsPlayedFrom asked (Some name) told unread reads of_file refuses silent reads_fi
     log
 
 -- WHAT THE PROGRAM TELLS of its words, its files and its streams. The words ask for nothing, and
--- nothing is touched but standard error; or for a page of the help; or for a run
+-- nothing is touched but standard error; or for a page of the help; or for a run; or for an echo
 pub record IsServed (texts : List (List ℕ)) (unread silent : Type 0) (writes : List ℕ → Type 0)
-    (plays : Asked → Log → Type 0) (tells : List ℕ → Type 0) (status : Status) : Type 0 where
+    (plays : Asked → Log → Type 0) (echoes : Log → Type 0) (tells : List ℕ → Type 0)
+    (status : Status) : Type 0 where
   -- the journal of the run
   pub log : Log
   -- where the words ask for nothing the status says what is wrong, or memory was refused
@@ -135,6 +126,8 @@ pub record IsServed (texts : List (List ℕ)) (unread silent : Type 0) (writes :
   pub shown : IfShow (request_by texts) (λ page. IsShown page unread writes status log)
   -- a run that is asked for
   pub played : IfPlay (request_by texts) (λ asked. plays asked log)
+  -- an echo that is asked for
+  pub echoed : IfEcho (request_by texts) (echoes log)
   -- the journal is legal
   pub legal : IsLegalSomehow log.steps
   -- the line on standard error, by the words, the status and the journal

@@ -23,6 +23,7 @@ use Rattle.command_words.specs.declared.request.Asked.{Asked}
 use Rattle.command_words.specs.declared.request.Asked.TheVariants.{Run, Serial, Gen}
 use Rattle.linx_commands.specs.declared.outcome.Status.{Status}
 use Rattle.linx_commands.specs.declared.outcome.Status.TheVariants.{Done, Usage, Script, Unopened}
+use Rattle.linx_commands.specs.declared.outcome.Status.TheVariants.{Torn, BadStream}
 use Rattle.linx_commands.specs.declared.outcome.Status.TheVariants.{ReadFault, WriteFault, JournalFull}
 use Rattle.linx_commands.specs.declared.outcome.Status.TheVariants.{NoMemory}
 
@@ -145,6 +146,8 @@ IsCaused asked (Usage wrong) told log = ⊥
 IsCaused asked (Script line fault) told log =
     IfSome told (λ bytes. script_of (read_of bytes) ≡ Err (line, fault)) × IsEmptyLog log
 IsCaused asked (Unopened why) told log = ⊥
+IsCaused asked (Torn at) told log = ⊥
+IsCaused asked (BadStream at) told log = ⊥
 IsCaused asked ReadFault told log = IsEmptyLog log
 IsCaused asked WriteFault told log = IsOfSource asked WriteFault told log
 IsCaused asked JournalFull told log = IsOfSource asked JournalFull told log

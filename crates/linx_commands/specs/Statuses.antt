@@ -3,6 +3,7 @@ use Rattle.std.specs.Prelude.{ℕ, ◌≡◌, Bool, true, false, List}
 use Rattle.command_words.specs.Misuses.{misuse_by}
 use Rattle.linx_commands.specs.declared.outcome.Status.{Status}
 use Rattle.linx_commands.specs.declared.outcome.Status.TheVariants.{Done, Usage, Script, Unopened}
+use Rattle.linx_commands.specs.declared.outcome.Status.TheVariants.{Torn, BadStream}
 use Rattle.linx_commands.specs.declared.outcome.Status.TheVariants.{ReadFault, WriteFault, JournalFull}
 use Rattle.linx_commands.specs.declared.outcome.Status.TheVariants.{NoMemory}
 
@@ -12,6 +13,8 @@ exit_of Done = 0
 exit_of (Usage wrong) = 1
 exit_of (Script line fault) = 2
 exit_of (Unopened why) = 3
+exit_of (Torn at) = 9
+exit_of (BadStream at) = 11
 exit_of ReadFault = 3
 exit_of WriteFault = 4
 exit_of JournalFull = 5
@@ -35,6 +38,8 @@ is_of_whole Done = true
 is_of_whole (Usage wrong) = false
 is_of_whole (Script line fault) = false
 is_of_whole (Unopened why) = false
+is_of_whole (Torn at) = false
+is_of_whole (BadStream at) = false
 is_of_whole ReadFault = false
 is_of_whole WriteFault = true
 is_of_whole JournalFull = true
@@ -46,6 +51,8 @@ is_script Done = false
 is_script (Usage wrong) = false
 is_script (Script line fault) = true
 is_script (Unopened why) = false
+is_script (Torn at) = false
+is_script (BadStream at) = false
 is_script ReadFault = false
 is_script WriteFault = false
 is_script JournalFull = false
@@ -57,6 +64,8 @@ is_silent Done = false
 is_silent (Usage wrong) = true
 is_silent (Script line fault) = true
 is_silent (Unopened why) = true
+is_silent (Torn at) = false
+is_silent (BadStream at) = false
 is_silent ReadFault = true
 is_silent WriteFault = false
 is_silent JournalFull = true

@@ -1,5 +1,5 @@
-//! What is done without threads: a page of the help, and a run in the fixed order. It returns where
-//! each read and each write does.
+//! The calls that do what the words ask for: script, run, text; or a page of the help; or an echo
+//! over the streams.
 
 ghost use Rattle.std.specs.Prelude.{◌≡◌, true, Ok};
 ghost use Rattle.std.specs.Prelude.{IfOk, IfErr, OnOk, IfSome, IfNone};
@@ -8,29 +8,37 @@ ghost use Rattle.std.specs.Io.KnownBytes.{IsAtEnd};
 ghost use Rattle.journal_text.specs.Text.{text_of};
 ghost use Rattle.script_lang.specs.Parts.{ScriptParts};
 ghost use Rattle.script_lang.specs.Reading.{script_of};
+ghost use Rattle.work_gen.specs.Generated.{generated};
 ghost use Rattle.command_words.specs.Pages.{page_of};
 ghost use Rattle.command_words.specs.Requests.{file_of, request_of};
 ghost use Rattle.linx_commands.specs.Statuses.{IsUsageOrRefused};
 ghost use Rattle.linx_commands.specs.Streams.{Reads, Writes, TakesAtMost, read_most};
 ghost use Rattle.linx_commands.specs.Runs.{Completes, IsCaused, IsEmptyLog, IsLegalSomehow};
 ghost use Rattle.linx_commands.specs.Runs.{IsOutcomeOf, IsRan};
-ghost use Rattle.linx_commands.specs.Commands.{ReadsUnder, written_under};
+ghost use Rattle.linx_commands.specs.Commands.{IsCausedUnder, CompletesUnder, ReadsUnder, written_under};
 ghost use Rattle.linx_commands.specs.Headline.{HeadlineUnder};
 ghost use Rattle.linx_commands.specs.Causes.{IsUnread, is_of_writing, read_status, script_status};
 ghost use Rattle.linx_commands.specs.Causes.{stop_status, report_status};
-ghost use Rattle.linx_commands.specs.Programs.{IfPlay, IfShow, IsLeft, IsPlayedFrom};
-ghost use Rattle.linx_commands.specs.Programs.{IsPlayedOfFile, IsShown, ReadsFile};
+ghost use Rattle.linx_commands.specs.Sessions.{IsSession, session_status};
+ghost use Rattle.linx_commands.specs.Programs.{IfEcho};
+ghost use Rattle.linx_commands.specs.Programs.{IfPlay, IfShow, IsPlayedFrom, IsPlayedOfFile, IsShown};
+ghost use Rattle.linx_commands.specs.Programs.{ReadsFile};
 
 use crate::outcome::{Outcome, Status};
 use command_words::{Asked, Misuse, Page, Request, file_named};
 use fabric::StopCause;
 use journal::Journal;
 use linx_base::{NameList, Names, NoMemory};
-use linx_outside::{Files, ReadStop, Sink, Source, WriteFault, read_up_to, write_all};
+use linx_outside::{
+    Files, Gate, OpenFault, ReadStop, Sink, Source, WriteFault, read_up_to, write_all,
+};
 use report::{ReportError, write_report, write_summary};
+use request_stream::ServeStop;
 use script_lang::{Script, ScriptError, parse};
 use stage::Stage;
 use std::alloc::Global;
+use std::sync::Wait;
+use std::thread::Threads;
 use workers::Ran;
 
 /// One byte more than a script may have.
@@ -111,8 +119,20 @@ fn play_in_order(alloc: Global, script: Script) -> Result<Ran, NoMemory>
     Ok(Ran { stage, stop })
 }
 
+/// Plays a script with a thread for each actor and each link.
+fn play_in_threads<R: Threads + Wait + Sync, G: Gate + Sync>(
+    rt: &R,
+    alloc: Global,
+    script: Script,
+    gate: &G,
+) -> Result<Ran, NoMemory>
+    ensures { IfOk result (IsRan Asked.Run script) }
+{
+    workers::run(rt, alloc, script, gate)
+}
+
 /// What is asked for of a run that came to its end goes to the sink.
-pub(crate) fn conclude<K: Sink>(
+fn conclude<K: Sink>(
     alloc: Global,
     asked: Asked,
     played: Result<Ran, NoMemory>,
@@ -143,7 +163,7 @@ pub(crate) fn conclude<K: Sink>(
 /// Reads a source to its end, and gives the script that its bytes spell, or the status that says
 /// why there is none.
 #[tactic(auto, using(crate::proofs::Scanning::scanned))]
-pub(crate) fn read_script<S: Source>(alloc: Global, source: &mut S) -> Result<Script, Status>
+fn read_script<S: Source>(alloc: Global, source: &mut S) -> Result<Script, Status>
     ensures spelled { IfOk result (λ script.
         IfSome (S.left source.old) (λ told. script_of told ≡ Ok script)) }
     ensures whole { OnOk result (IsAtEnd (S.left source.new)) }
@@ -185,11 +205,95 @@ pub fn serial<S: Source, K: Sink>(alloc: Global, script: &mut S, out: &mut K) ->
     }
 }
 
-/// The run of a file's script in the fixed order.
-fn serial_of_file<F: Files, K: Sink>(alloc: Global, files: &F, name: &str, out: &mut K) -> Outcome
-    ensures played { IsPlayedOfFile Asked.Serial (F.told files.now name.now)
-        (F.refuses files.now name.now) (out.new ≡ out.old)
-        (ReadsFile F.File.left F.File.faults F.File.last_count F.File.is_faultless Asked.Serial
+/// Reads a script, runs it with a thread for each actor and each link, and writes the text of the
+/// whole run.
+fn threaded<R: Threads + Wait + Sync, G: Gate + Sync, S: Source, K: Sink>(
+    rt: &R,
+    alloc: Global,
+    script: &mut S,
+    out: &mut K,
+    gate: &G,
+) -> Outcome
+    ensures cause { IsCaused Asked.Run result.status (S.left script.old) result.journal.log }
+    ensures legal { IsLegalSomehow result.journal.log.steps }
+    ensures complete { IfSome (S.left script.old) (λ told.
+        Completes told result.status result.journal.log) }
+    ensures source { Reads S.left S.faults S.last_count S.is_faultless script.old script.new
+        result.status }
+    ensures sink { Writes K.held K.faults K.last_count K.can_take out.old out.new
+        result.status (text_of result.journal.log) }
+{
+    match read_script(alloc, script) {
+        Ok(script) => {
+            let played = play_in_threads(rt, alloc, script, gate);
+            conclude(alloc, Asked::Run, played, out)
+        }
+        Err(status) => unstarted(alloc, status),
+    }
+}
+
+/// Runs the generated script of a number with a thread for each actor and each link, and writes the
+/// summary of the whole run.
+fn generate<R: Threads + Wait + Sync, G: Gate + Sync, K: Sink>(
+    rt: &R,
+    alloc: Global,
+    number: u32,
+    out: &mut K,
+    gate: &G,
+) -> Outcome
+    ensures cause { IsOutcomeOf (Asked.Gen number) result.status (generated number)
+        result.journal.log }
+    ensures legal { IsLegalSomehow result.journal.log.steps }
+    ensures sink { Writes K.held K.faults K.last_count K.can_take out.old out.new
+        result.status (written_under (Asked.Gen number) result.journal.log) }
+{
+    match work_gen::script(alloc, number) {
+        Ok(script) => {
+            let played = play_in_threads(rt, alloc, script, gate);
+            conclude(alloc, Asked::Gen(number), played, out)
+        }
+        Err(NoMemory) => unstarted(alloc, Status::NoMemory),
+    }
+}
+
+/// Does what is asked for.
+fn serve<R: Threads + Wait + Sync, G: Gate + Sync, S: Source, K: Sink>(
+    rt: &R,
+    alloc: Global,
+    asked: Asked,
+    script: &mut S,
+    out: &mut K,
+    gate: &G,
+) -> Outcome
+    ensures cause { IsCausedUnder asked result.status (S.left script.old) result.journal.log }
+    ensures legal { IsLegalSomehow result.journal.log.steps }
+    ensures headline { HeadlineUnder asked (S.left script.old) result.journal.log }
+    ensures complete { CompletesUnder asked (S.left script.old) result.status result.journal.log }
+    ensures source { ReadsUnder asked S.left S.faults S.last_count S.is_faultless script.old
+        script.new result.status }
+    ensures sink { Writes K.held K.faults K.last_count K.can_take out.old out.new
+        result.status (written_under asked result.journal.log) }
+{
+    match asked {
+        Asked::Run => threaded(rt, alloc, script, out, gate),
+        Asked::Serial => serial(alloc, script, out),
+        Asked::Gen(number) => generate(rt, alloc, number, out, gate),
+    }
+}
+
+/// Does what is asked for, with the script of a file.
+fn serve_file<R: Threads + Wait + Sync, G: Gate + Sync, F: Files, K: Sink>(
+    rt: &R,
+    alloc: Global,
+    asked: Asked,
+    files: &F,
+    name: &str,
+    out: &mut K,
+    gate: &G,
+) -> Outcome
+    ensures played { IsPlayedOfFile asked (F.told files.now name.now) (F.refuses files.now name.now)
+        (out.new ≡ out.old)
+        (ReadsFile F.File.left F.File.faults F.File.last_count F.File.is_faultless asked
         (F.told files.now name.now) result.status)
         (λ written. Writes K.held K.faults K.last_count K.can_take out.old out.new
         result.status written)
@@ -197,34 +301,37 @@ fn serial_of_file<F: Files, K: Sink>(alloc: Global, files: &F, name: &str, out: 
     ensures legal { IsLegalSomehow result.journal.log.steps }
 {
     match files.open(name) {
-        Ok(mut file) => serial(alloc, &mut file, out),
+        Ok(mut file) => serve(rt, alloc, asked, &mut file, out, gate),
         Err(why) => unstarted(alloc, Status::Unopened(why)),
     }
 }
 
-/// The run in the fixed order of a file's script, or of that of standard input where none is named.
-fn serial_from<F: Files, S: Source, K: Sink>(
+/// Does what is asked for, with the script of a file, or of standard input where none is named.
+fn play<R: Threads + Wait + Sync, G: Gate + Sync, F: Files, S: Source, K: Sink>(
+    rt: &R,
     alloc: Global,
+    asked: Asked,
     file: Option<&str>,
     files: &F,
     script: &mut S,
     out: &mut K,
+    gate: &G,
 ) -> Outcome
-    ensures played { IsPlayedFrom Asked.Serial (option_map (λ name. name.now) file.entry)
+    ensures played { IsPlayedFrom asked (option_map (λ name. name.now) file.entry)
         (S.left script.old) (script.new ≡ script.old)
-        (ReadsUnder Asked.Serial S.left S.faults S.last_count S.is_faultless script.old script.new
+        (ReadsUnder asked S.left S.faults S.last_count S.is_faultless script.old script.new
         result.status)
         (F.told files.now) (F.refuses files.now) (out.new ≡ out.old)
-        (λ name. ReadsFile F.File.left F.File.faults F.File.last_count F.File.is_faultless
-        Asked.Serial (F.told files.now name) result.status)
+        (λ name. ReadsFile F.File.left F.File.faults F.File.last_count F.File.is_faultless asked
+        (F.told files.now name) result.status)
         (λ written. Writes K.held K.faults K.last_count K.can_take out.old out.new
         result.status written)
         result.status result.journal.log }
     ensures legal { IsLegalSomehow result.journal.log.steps }
 {
     match file {
-        Some(name) => serial_of_file(alloc, files, name, out),
-        None => serial(alloc, script, out),
+        Some(name) => serve_file(rt, alloc, asked, files, name, out, gate),
+        None => serve(rt, alloc, asked, script, out, gate),
     }
 }
 
@@ -253,6 +360,29 @@ fn show<K: Sink>(alloc: Global, page: Page, out: &mut K) -> Outcome
     }
 }
 
+fn status_of_session(ended: Result<(), ServeStop>) -> Status
+    ensures { result ≡ session_status ended }
+{
+    match ended {
+        Ok(()) => Status::Done,
+        Err(ServeStop::Torn { at }) => Status::Torn { at },
+        Err(ServeStop::BadStream { at }) => Status::BadStream { at },
+        Err(ServeStop::ReadFault) => Status::ReadFault,
+        Err(ServeStop::WriteFault) => Status::WriteFault,
+        Err(ServeStop::Full | ServeStop::NoMemory) => Status::NoMemory,
+    }
+}
+
+/// Serves one peer over the streams by an echo.
+fn echo<S: Source, K: Sink>(alloc: Global, source: &mut S, out: &mut K) -> Outcome
+    ensures session { IsSession S.left S.faults S.last_count S.is_faultless K.held K.faults
+        K.last_count source.old source.new out.old out.new result.status result.journal.log }
+    ensures legal { IsLegalSomehow result.journal.log.steps }
+{
+    let ended = stream_echo::serve(alloc, source, out);
+    unstarted(alloc, status_of_session(ended))
+}
+
 /// What is wrong with words that ask for nothing.
 fn refuse(alloc: Global, words: &[String]) -> Outcome
     ensures usage { IsUsageOrRefused (map string_bytes words.now) result.status }
@@ -265,62 +395,62 @@ fn refuse(alloc: Global, words: &[String]) -> Outcome
     }
 }
 
-/// A run in threads that is asked for.
-#[derive(Clone, Copy, Debug, PartialEq, Eq, Hash)]
-pub enum InThreads {
-    /// `run`: that of the script that is read.
-    Run,
-    /// `gen N`: that of the generated script of a number.
-    Gen(u32),
-}
-
-/// Does what the words of the command line ask for, but a run in threads, which is told and left. It
-/// takes neither `Threads` nor `Wait`, and so returns where each read and each write does.
-pub fn alone<F: Files, S: Source, K: Sink>(
+/// Does what the words of the command line ask for.
+pub fn run<R: Threads + Wait + Sync, G: Gate + Sync, F: Files, S: Source, K: Sink>(
+    rt: &R,
     alloc: Global,
     words: &[String],
     files: &F,
     script: &mut S,
     out: &mut K,
-) -> Result<Outcome, InThreads>
-    // Of a run in threads.
-    ensures left { IfErr result (λ threads. IsLeft (request_of words.now) threads
-        (script.new ≡ script.old) (out.new ≡ out.old)) }
-
+    gate: &G,
+) -> Outcome
     // Of words that ask for nothing.
-    ensures other_words { IfOk result (λ outcome. IfNone (request_of words.now)
-        (IsUsageOrRefused (map string_bytes words.now) outcome.status
-        × IsEmptyLog outcome.journal.log)) }
-    ensures untouched { OnOk result (IfNone (request_of words.now)
-        ((script.new ≡ script.old) × (out.new ≡ out.old))) }
+    ensures other_words { IfNone (request_of words.now)
+        (IsUsageOrRefused (map string_bytes words.now) result.status
+        × IsEmptyLog result.journal.log) }
+    ensures untouched { IfNone (request_of words.now)
+        ((script.new ≡ script.old) × (out.new ≡ out.old)) }
 
     // Of a page of the help.
-    ensures shown { IfOk result (λ outcome. IfShow (request_of words.now) (λ page.
-        IsShown page (script.new ≡ script.old)
+    ensures shown { IfShow (request_of words.now) (λ page. IsShown page (script.new ≡ script.old)
         (λ written. Writes K.held K.faults K.last_count K.can_take out.old out.new
-        outcome.status written)
-        outcome.status outcome.journal.log)) }
+        result.status written)
+        result.status result.journal.log) }
 
     // Of the run that is asked for, of what it reads and of what it writes.
-    ensures played { IfOk result (λ outcome. IfPlay (request_of words.now) (λ asked.
+    ensures played { IfPlay (request_of words.now) (λ asked.
         IsPlayedFrom asked (file_of words.now) (S.left script.old) (script.new ≡ script.old)
         (ReadsUnder asked S.left S.faults S.last_count S.is_faultless script.old script.new
-        outcome.status)
+        result.status)
         (F.told files.now) (F.refuses files.now) (out.new ≡ out.old)
         (λ name. ReadsFile F.File.left F.File.faults F.File.last_count F.File.is_faultless asked
-        (F.told files.now name) outcome.status)
+        (F.told files.now name) result.status)
         (λ written. Writes K.held K.faults K.last_count K.can_take out.old out.new
-        outcome.status written)
-        outcome.status outcome.journal.log)) }
-    ensures legal { IfOk result (λ outcome. IsLegalSomehow outcome.journal.log.steps) }
+        result.status written)
+        result.status result.journal.log) }
+
+    // Of an echo over the streams.
+    ensures echoed { IfEcho (request_of words.now) (IsSession S.left S.faults S.last_count
+        S.is_faultless K.held K.faults K.last_count script.old script.new out.old out.new
+        result.status result.journal.log) }
+    ensures legal { IsLegalSomehow result.journal.log.steps }
 {
-    match Request::of(alloc, words) {
-        None => Ok(refuse(alloc, words)),
-        Some(Request::Show(page)) => Ok(show(alloc, page, out)),
-        Some(Request::Play(Asked::Serial)) => {
-            Ok(serial_from(alloc, file_named(words), files, script, out))
+    match Request::of(words) {
+        None => refuse(alloc, words),
+        Some(Request::Show(page)) => show(alloc, page, out),
+        Some(Request::Echo) => echo(alloc, script, out),
+        Some(Request::Play(asked)) => {
+            play(
+                rt,
+                alloc,
+                asked,
+                file_named(words),
+                files,
+                script,
+                out,
+                gate,
+            )
         }
-        Some(Request::Play(Asked::Run)) => Err(InThreads::Run),
-        Some(Request::Play(Asked::Gen(number))) => Err(InThreads::Gen(number)),
     }
 }

@@ -164,6 +164,8 @@ fn push_text(line: &mut Line, words: &[String], status: Status, journal: &Journa
         }
         Status::WriteFault => line.push(Phrase::WriteFault.text()),
         Status::JournalFull => push_full(line, journal),
+        Status::Torn { at } => line.push_numbered(Phrase::TornAt.text(), at),
+        Status::BadStream { at } => line.push_numbered(Phrase::BadStreamAt.text(), at),
         Status::NoMemory => {
             line.push(Phrase::OutOfMemory.text());
             push_stop(line, journal);

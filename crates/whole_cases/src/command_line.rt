@@ -27,6 +27,7 @@ fn words_of_each_command(rt: HostRuntime) -> Result<(), Fail> {
     let alloc = rt.alloc();
     assert_eq!(rt; status_of(&rt, alloc, &["run"])?, Status::ReadFault);
     assert_eq!(rt; status_of(&rt, alloc, &["serial"])?, Status::ReadFault);
+    assert_eq!(rt; status_of(&rt, alloc, &["stream"])?, Status::ReadFault);
     for number in ["0", "4294967295"] {
         assert_eq!(rt;
             status_of(&rt, alloc, &["gen", number])?,

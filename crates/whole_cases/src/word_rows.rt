@@ -273,7 +273,7 @@ const ROWS: [Row; 30] = [
     },
     Row {
         words: &["fast\n\u{7f}"],
-        line: "linx_sim: no word 'fast??'; the words are: run serial gen help version\n",
+        line: "linx_sim: no word 'fast??'; the words are: run serial gen stream help version\n",
         ..MISUSED
     },
     Row {
@@ -381,7 +381,7 @@ fn a_long_word_is_cut(rt: HostRuntime) -> Result<(), Fail> {
     );
     let wanted =
         "linx_sim: no word 'xxxxxxxxxxxxxxxxxxxxxxxxxxxxxxxxxxxxxxxxxxxxxxxxxxxxxxxxxxxxxxxx\
-        '; the words are: run serial gen help version\n";
+        '; the words are: run serial gen stream help version\n";
     assert_eq!(rt; errors.held(), wanted.as_bytes());
     Ok(())
 }

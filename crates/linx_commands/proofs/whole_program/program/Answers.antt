@@ -23,6 +23,7 @@ returns-in-Unread-clause-served g c =
       untouched = (refl, refl);
       shown = tt;
       played = tt;
+      echoed = tt;
       legal = nothing.legal;
       line = c.tell.ensures.line;
     }))

@@ -9,6 +9,7 @@ returns-clause-served g c =
       untouched = run.untouched;
       shown = run.shown;
       played = run.played;
+      echoed = run.echoed;
       legal = run.legal;
       line = c.tell.ensures.line;
     })
