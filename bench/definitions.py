@@ -41,6 +41,7 @@ LAYERS = [
     ("The text", "journal_text report"),
     ("A byte stream", "request_stream tcpcm_frames tcpcm_framing tcpcm_end stream_echo"),
     ("The program", "command_words linx_commands"),
+    ("What stands by itself so far", "deadlines order_rules svg_text"),
 ]
 BEGINS = re.compile(r" *(?:abbrev pub|unfoldable pub|pub record|pub data|abbrev) ([\w']+)")
 SECTION = re.compile(r"-- -+ (.*)")
