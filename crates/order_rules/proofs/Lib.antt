@@ -1,0 +1,3 @@
+pub mod Among
+mod Thrown
+mod Speeds

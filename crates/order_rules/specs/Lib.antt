@@ -1,0 +1,4 @@
+pub mod Dice
+pub mod Rules
+pub mod Seeds
+pub mod Orders
