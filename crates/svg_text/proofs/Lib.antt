@@ -1,0 +1,11 @@
+pub mod Bytes
+pub mod Cutting
+pub mod TextsAgain
+pub mod TagsAgain
+pub mod ReadAgain
+pub mod Plain
+pub mod PictureSpelled
+pub mod Joined
+pub mod PictureText
+pub mod PictureAgain
+pub mod Short

@@ -1,0 +1,8 @@
+use Rattle.std.proofs.Common.{◌≡◌, ◌++◌, take, flat_map}
+use Rattle.svg_text.specs.Texts.{shape_text}
+use Rattle.svg_text.proofs.picture.write_shapes.Given as goal
+
+-- the shapes so far were written
+abbrev pub invariant-loop-shape : goal.invariant-loop-shape
+invariant-loop-shape l =
+    l.out.items ≡ l.initial.out.items ++ flat_map shape_text (take l.shape-index l.shapes)
