@@ -1,0 +1,5 @@
+pub mod Failures
+pub mod Pending
+pub mod Reading
+pub mod Results
+pub mod Spelled
