@@ -21,7 +21,7 @@ use Rattle.journal_read.specs.Spelled.{step_lines, lines_of_steps, bytes_of, Are
 
 -- ---- what is read is spelled so
 
-lines-append : (names : Names) (xs ys : List Line) → AreLines names xs → AreLines names ys
+pub lines-append : (names : Names) (xs ys : List Line) → AreLines names xs → AreLines names ys
     → AreLines names (xs ++ ys)
 lines-append names [] ys first last = last
 lines-append names (x ∷ xs) ys first last = (first.0, lines-append names xs ys first.1 last)

@@ -272,7 +272,7 @@ unfolding ended
 ended_again names P next =
     cond-true (length P == length P) (Ok P) (Err next) (eq-eqb (length P) (length P) refl)
 
-nothing_again : (names : Names) → result_ok (read_in names []) ≡ Some []
+pub nothing_again : (names : Names) → result_ok (read_in names []) ≡ Some []
 unfolding ended
 nothing_again names = refl
 
@@ -481,7 +481,7 @@ some_found names lines q next P text is has h =
     subst (λ (R : List Step). SpellsText names R text) ends.1
     (spells_text names Q text (omega (arith, least, size)) spelled)
 
-some_ok : (o : Result (List Step) ℕ) (P : List Step) → result_ok o ≡ Some P → o ≡ Ok P
+pub some_ok : (o : Result (List Step) ℕ) (P : List Step) → result_ok o ≡ Some P → o ≡ Ok P
 some_ok (Ok Q) P h = cc
 some_ok (Err number) P h = cc
 

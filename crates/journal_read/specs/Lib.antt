@@ -3,3 +3,4 @@ pub mod Pending
 pub mod Reading
 pub mod Results
 pub mod Spelled
+pub mod Printed

@@ -9,6 +9,6 @@ mod pending;
 mod reading;
 mod unread;
 
-pub use laws::{steps_are_read, texts_are_read};
+pub use laws::{printed_is_read, steps_are_read, texts_are_read};
 pub use reading::read;
 pub use unread::Unread;

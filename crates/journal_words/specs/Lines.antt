@@ -13,11 +13,12 @@ use Rattle.journal_words.specs.Peers.{maker_in}
 use Rattle.journal_words.specs.Heads.{head_in}
 use Rattle.journal_words.specs.Effects.{effect_in}
 
--- a head, and an effect, of its words
+-- the head of its words
 abbrev pub head_at : Names → List (List ℕ) → Option Head
 head_at names [] = None
 head_at names (first ∷ words) = head_in names first words
 
+-- the effect of its words
 abbrev pub effect_at : Names → List (List ℕ) → Option Effect
 effect_at names [] = None
 effect_at names (first ∷ words) = effect_in names first words

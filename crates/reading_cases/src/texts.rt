@@ -45,7 +45,7 @@ journal 38
 11 A1 none not:0
 12 A1 waits any
 13 A1 waits not:8,9
-14 A1 hunt a-name_of.32-bytes-0123456789ABCD 251 -
+14 A1 hunt a-name_of.32-bytes-0123456789ABC 251 -
 15 A1 hunt l/b 251 -
 16 A1 hunt m/any 251 -
 17 A1 attach 1.1 252 -

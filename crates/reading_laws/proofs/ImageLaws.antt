@@ -77,15 +77,34 @@ long_alike bytes long =
     ∙ ap (λ (d : List ℕ). decimal (length bytes) ++ codes ":" ++ encode_lower d) front
     ∙ sym (long_by sha256 bytes long)
 
+-- short data are read as they are
+pub shown_short : (bytes : List ℕ) → length bytes ≤ 32 → shown_of bytes ≡ bytes
+shown_short bytes few =
+    cond-true (nat_le (length bytes) 32) bytes (stand_in (sha256 bytes) (length bytes))
+    (le-leb (length bytes) 32 few)
+
+-- and long ones as what stands for them
+pub shown_long : (bytes : List ℕ) → 32 < length bytes
+    → shown_of bytes ≡ stand_in (sha256 bytes) (length bytes)
+shown_long bytes long =
+    cond-false (nat_le (length bytes) 32) bytes (stand_in (sha256 bytes) (length bytes))
+    (lt-leb (length bytes) 32 long)
+
+-- as many as there are
+pub shown_size : (bytes : List ℕ) → length (shown_of bytes) ≡ length bytes
+shown_size bytes =
+    elim (cases_lt 32 (length bytes)) [
+      | inl long ↦
+          ap length (shown_long bytes long)
+          ∙ length-stand_in (sha256 bytes) (length bytes) (length-sha256 bytes) long
+      | inr few ↦ ap length (shown_short bytes few)
+    ]
+
 pub shown_alike : (bytes : List ℕ) → data_text_by printed (shown_of bytes) ≡ data_text_by sha256 bytes
 shown_alike bytes =
     elim (cases_lt 32 (length bytes)) [
-      | inl long ↦
-          ap (data_text_by printed) (cond-false _ bytes _ (lt-leb (length bytes) 32 long))
-          ∙ long_alike bytes long
-      | inr few ↦
-          ap (data_text_by printed) (cond-true _ bytes _ (le-leb (length bytes) 32 few))
-          ∙ short_alike bytes few
+      | inl long ↦ ap (data_text_by printed) (shown_long bytes long) ∙ long_alike bytes long
+      | inr few ↦ ap (data_text_by printed) (shown_short bytes few) ∙ short_alike bytes few
     ]
 
 head_alike : (names : Names) (head : Head)

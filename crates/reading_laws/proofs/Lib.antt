@@ -1,14 +1,15 @@
 pub mod Tools
 pub mod Cuts
 mod NumberLaws
-mod NameLaws
+pub mod NameLaws
 mod DataLaws
-mod PeerLaws
+pub mod PeerLaws
 mod AnswerLaws
 mod FilterLaws
 mod HeadLaws
 mod EffectLaws
 mod Spaces
 pub mod LineLaws
-mod PrintedLaws
-mod ImageLaws
+pub mod PrintedLaws
+pub mod ImageLaws
+pub mod FitLaws

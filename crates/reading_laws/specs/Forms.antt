@@ -42,10 +42,11 @@ printed bytes = take 32 bytes
 abbrev pub AreNames : Names → Type 0
 AreNames names = (list_all is_name names.nodes ≡ true) × (list_all is_name names.links ≡ true)
 
--- a node, or a link, that has a name, and is the first that has it
+-- a node that has a name, and is the first that has it
 abbrev pub IsNode : Names → ℕ → Type 0
 IsNode names node = named_in names.nodes (node_text names node) ≡ Some node
 
+-- a link that has a name, and is the first that has it
 abbrev pub IsLink : Names → ℕ → Type 0
 IsLink names link = named_in names.links (link_text names link) ≡ Some link
 
@@ -60,27 +61,33 @@ pub record IsNote (note : SigNote) : Type 0 where
   pub number : note.number ≤ half_limit
   pub bytes : IsShown note.bytes
 
+-- an endpoint whose numbers fit, over a link that has a name
 abbrev pub IsPeer : Names → Peer → Type 0
 IsPeer names (Here inc) = inc.0 ≤ whole_limit
 IsPeer names (There link session inc) =
     IsLink names link.0 × (session.0 ≤ whole_limit) × (inc.0 ≤ whole_limit)
 
+-- a name, over a link that has one where it is behind a link
 abbrev pub IsPath : Names → Path → Type 0
 IsPath names (Local name) = is_name name ≡ true
 IsPath names (Over link name) = IsLink names link.0 × (is_name name ≡ true)
 
+-- a maker whose number fits
 abbrev pub IsMaker : By → Type 0
 IsMaker (Actor k) = k ≤ half_limit
 IsMaker (Pump link) = link.0 ≤ half_limit
 
+-- numbers of 32 bits
 abbrev pub AreNumbers : List ℕ → Type 0
 AreNumbers listed = (i : ℕ) → get_or listed i 0 ≤ half_limit
 
+-- a filter of such numbers
 abbrev pub IsFilter : Sigsel → Type 0
 IsFilter Any = Unit {0}
 IsFilter (Only listed) = AreNumbers listed
 IsFilter (Not listed) = AreNumbers listed
 
+-- a position whose numbers fit
 abbrev pub IsPosition : ItemAt → Type 0
 IsPosition at = (at.step ≤ whole_limit) × (at.place ≤ whole_limit)
 

@@ -17,9 +17,11 @@ use Rattle.reading_laws.specs.Forms.{printed}
 use Rattle.reading_laws.specs.Printed.{shown_of}
 use Rattle.reading_laws.specs.Spelled.{line_words}
 
+-- a signal, with what is shown of its data
 abbrev pub image_of_note : SigNote → SigNote
 image_of_note note = record note { bytes = shown_of note.bytes }
 
+-- a refusal without the numbers that aren't printed
 abbrev pub image_of_refusal : Refusal → Refusal
 image_of_refusal (NotOpen at) = NotOpen 0
 image_of_refusal (IsOpen inc) = IsOpen (record { 0 = 0 })
@@ -27,6 +29,7 @@ image_of_refusal NoPeer = NoPeer
 image_of_refusal NoSignal = NoSignal
 image_of_refusal NoRef = NoRef
 
+-- what a head is read as where it is printed
 abbrev pub image_of_head : Head → Head
 image_of_head (Send peer note answer) = Send peer (image_of_note note) answer
 image_of_head (Hunt path note) = Hunt path (image_of_note note)
@@ -34,6 +37,7 @@ image_of_head (Attach peer note) = Attach peer (image_of_note note)
 image_of_head (Refused reason) = Refused (image_of_refusal reason)
 image_of_head head = head
 
+-- what an effect is read as
 abbrev pub image_of_effect : Effect → Effect
 image_of_effect (Arrived inc peer note) = Arrived inc peer (image_of_note note)
 image_of_effect (Found inc peer note hunt) = Found inc peer (image_of_note note) hunt
@@ -41,6 +45,7 @@ image_of_effect (Notified inc peer note reference reason) =
     Notified inc peer (image_of_note note) reference reason
 image_of_effect effect = effect
 
+-- what a line is read as: long data are what stands for them, and a refusal has no numbers
 abbrev pub image_of_line : Line → Line
 image_of_line (Made position by head) = Made position by (image_of_head head)
 image_of_line (Happened effect) = Happened (image_of_effect effect)

@@ -38,12 +38,15 @@ pub record ReadsExactly {A W : Type 0} (read : W → Option A) (Spells : A → W
     pub again : (x : A) (text : W) → Spells x text → read text ≡ Some x
     pub found : (x : A) (text : W) → read text ≡ Some x → Spells x text
 
+-- the word spells the number, which is within the bound
 abbrev pub SpellsNumber : ℕ → ℕ → List ℕ → Type 0
 SpellsNumber most n word = (n ≤ most) × (word ≡ decimal n)
 
+-- the word spells the number by its halves
 abbrev pub SpellsHalves : ℕ → List ℕ → Type 0
 SpellsHalves n word = (n ≤ whole_limit) × (word ≡ halves_text n)
 
+-- the word spells the data, and shows them whole; and so of each of these
 abbrev pub SpellsData : List ℕ → List ℕ → Type 0
 SpellsData bytes word = IsShown bytes × (word ≡ data_text_by printed bytes)
 
@@ -62,17 +65,17 @@ SpellsPosition at word = IsPosition at × (word ≡ position_text at)
 abbrev pub SpellsReference : ℕ → List ℕ → Type 0
 SpellsReference step word = (step ≤ whole_limit) × (word ≡ reference_text step)
 
--- numbers
+-- numbers are read from their digits, and from no other words
 pub record NumbersAreRead : Type 0 where
   pub decimals : (most : ℕ) → most ≤ whole_limit
       → ReadsExactly (number_in most) (SpellsNumber most)
   pub halves : ReadsExactly halves_in SpellsHalves
 
--- data, with what stands for long ones
+-- so are data, with what stands for long ones
 abbrev pub DataAreRead : Type 0
 DataAreRead = ReadsExactly data_in SpellsData
 
--- what names a peer, a path, a maker, an item or a step
+-- so is what names a peer, a path, a maker, an item or a step
 pub record PeersAreRead : Type 0 where
   pub peers : (names : Names) → AreNames names
       → ReadsExactly (peer_in names) (SpellsPeer names)
@@ -82,7 +85,7 @@ pub record PeersAreRead : Type 0 where
   pub positions : ReadsExactly position_in SpellsPosition
   pub references : ReadsExactly reference_in SpellsReference
 
--- answers, each by a word
+-- so are answers, each by a word
 pub record AnswersAreRead : Type 0 where
   pub sides : ReadsExactly side_in (λ side word. word ≡ side_text side)
   pub reasons : ReadsExactly reason_in (λ reason word. word ≡ reason_text reason)
@@ -93,21 +96,25 @@ pub record AnswersAreRead : Type 0 where
   pub refusals : ReadsExactly refusal_in
       (λ reason word. IsRefusal reason × (word ≡ refusal_text reason))
 
--- filters
+-- so are filters
 abbrev pub FiltersAreRead : Type 0
 FiltersAreRead = ReadsExactly filter_in (λ filter word. IsFilter filter × (word ≡ filter_text filter))
 
+-- the words spell the head
 abbrev pub SpellsHead : Names → Head → List (List ℕ) → Type 0
 SpellsHead names head words = IsHead names head × (words ≡ head_words printed names head)
 
+-- the words spell the effect
 abbrev pub SpellsEffect : Names → Effect → List (List ℕ) → Type 0
 SpellsEffect names effect words =
     IsEffect names effect × (words ≡ effect_words printed names effect)
 
+-- a head is read from its words, and from no others
 abbrev pub HeadsAreRead : Type 0
 HeadsAreRead =
     (names : Names) → AreNames names → ReadsExactly (head_at names) (SpellsHead names)
 
+-- so is an effect
 abbrev pub EffectsAreRead : Type 0
 EffectsAreRead =
     (names : Names) → AreNames names → ReadsExactly (effect_at names) (SpellsEffect names)
@@ -116,5 +123,6 @@ EffectsAreRead =
 abbrev pub SpellsLine : Names → Line → List ℕ → Type 0
 SpellsLine names line bytes = IsLine names line × (bytes ≡ line_of (line_words printed names line))
 
+-- a line is read from its bytes, and from no others
 abbrev pub LinesAreRead : Type 0
 LinesAreRead = (names : Names) → AreNames names → ReadsExactly (line_in names) (SpellsLine names)

@@ -27,16 +27,19 @@ unfoldable pub number_in : ℕ → List ℕ → Option ℕ
 number_in most word =
     if are_digits word && nat_le (decimal_of word) most then Some (decimal_of word) else None
 
--- numbers of 32 and of 64 bits
+-- the greatest number of 32 bits
 abbrev pub half_limit : ℕ
 half_limit = 4294967295
 
+-- and of 64 bits
 abbrev pub whole_limit : ℕ
 whole_limit = 18446744073709551615
 
+-- the word as a number of 32 bits
 abbrev pub u32_in : List ℕ → Option ℕ
 u32_in word = number_in half_limit word
 
+-- the word as a number of 64 bits
 abbrev pub u64_in : List ℕ → Option ℕ
 u64_in word = number_in whole_limit word
 
