@@ -41,7 +41,7 @@ read_whole : (names : Names) (P : List Step) → AllFit names P
 read_whole names [] fit = tt
 read_whole names (s ∷ P) fit =
     let position = suc (length (map read_step P)) in
-    let here = fit.1.position in
+    let here = fit.1.placed in
     let head =
     line-is names (Made position s.by s.head)
     (omega (arith, here, length-map P read_step), fit.1.maker, fit.1.head)

@@ -26,7 +26,7 @@ read_step s = record {
 
 -- a step of a run, at its position
 pub record FitsStep (names : Names) (position : ℕ) (s : Step) : Type 0 where
-  pub position : position ≤ whole_limit
+  pub placed : position ≤ whole_limit
   pub maker : IsMaker s.by
   pub head : FitsHead names s.head
   pub effects : AllByRecursion (FitsEffect names) s.effects

@@ -26,6 +26,7 @@ abbrev pub peer_by : Names → List ℕ → Option (List ℕ × List ℕ) → Op
 peer_by names word None = made (λ n. Here (record { 0 = n })) (halves_in word)
 peer_by names word (Some parts) = cut_at 58 parts.1 >>= there_by names parts.0
 
+-- the peer that a word spells
 unfoldable pub peer_in : Names → List ℕ → Option Peer
 peer_in names word = peer_by names word (cut_at 58 word)
 
@@ -37,6 +38,7 @@ path_by names word (Some parts) = do
   name ← name_in parts.1
   Some (Over (record { 0 = link }) name)
 
+-- the path that a word spells
 unfoldable pub path_in : Names → List ℕ → Option Path
 path_in names word = path_by names word (cut_at 47 word)
 
@@ -55,6 +57,7 @@ position_by parts = do
   place ← u64_in parts.1
   Some (record { step = step; place = place })
 
+-- the position of an item that a word spells
 unfoldable pub position_in : List ℕ → Option ItemAt
 position_in word = cut_at 46 word >>= position_by
 

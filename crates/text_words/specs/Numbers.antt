@@ -50,5 +50,6 @@ halves_of parts = do
   low ← u32_in parts.1
   Some (number_of high low)
 
+-- the word as a number of 64 bits, spelled by its halves
 unfoldable pub halves_in : List ℕ → Option ℕ
 halves_in word = cut_at 46 word >>= halves_of
