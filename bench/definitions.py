@@ -39,7 +39,8 @@ LAYERS = [
     ("A run of a script", "actor_run stage run_orders"),
     ("Threads", "turn_lock linx_api workers"),
     ("The text", "journal_text report"),
-    ("A text read back", "text_words journal_words reading_laws journal_read"),
+    ("A text read back", "text_words journal_words reading_laws journal_read image_laws"
+                         " printed_laws"),
     ("A byte stream", "request_stream tcpcm_frames tcpcm_framing tcpcm_end stream_echo"),
     ("The program", "command_words linx_commands"),
 ]

@@ -35,6 +35,7 @@ bare NoPeer = NoPeer
 bare NoSignal = NoSignal
 bare NoRef = NoRef
 
+-- the data of a head
 abbrev pub head_by : (List ℕ → List ℕ) → Head → Head
 head_by f (Send peer note answer) = Send peer (note_by f note) answer
 head_by f (Hunt path note) = Hunt path (note_by f note)

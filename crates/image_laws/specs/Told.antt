@@ -25,7 +25,7 @@ pub record IsImage (f : List ℕ → List ℕ) : Type 0 where
   pub sizes : KeepsSize f
   pub short : (bytes : List ℕ) → length bytes ≤ shown_most → f bytes ≡ bytes
 
--- of an effect, of a step and of a journal
+-- of an effect, and below of a step
 abbrev pub image_of_effect : (List ℕ → List ℕ) → Effect → Effect
 image_of_effect f (Arrived inc peer note) = Arrived inc peer (note_by f note)
 image_of_effect f (Found inc peer note hunt) = Found inc peer (note_by f note) hunt
@@ -40,6 +40,7 @@ image_of_step f s = record {
   effects = map (image_of_effect f) s.effects;
 }
 
+-- of a journal
 abbrev pub image_of : (List ℕ → List ℕ) → List Step → List Step
 image_of f P = map (image_of_step f) P
 
