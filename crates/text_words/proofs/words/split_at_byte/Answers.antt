@@ -8,5 +8,5 @@ use borrow.Author.Tests.{tests}
 pub returns : goal.returns
 returns c =
     map_from_collect _ c.collect.ensures.ran
-    (YieldsList-from_slice_split _ (λ b. b == c.args.byte) c.args.text.now (cc) (cc) (cc)
-    (λ x b q k. search (rules, tests)))
+    (YieldsList-from_slice_split _ (λ b. b == c.args.byte) c.args.text.now c.split.ensures.rest
+    c.split.ensures.done c.split.ensures.closure (λ x b q k. search (rules, tests)))
