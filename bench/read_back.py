@@ -59,7 +59,7 @@ fn is_printed(alloc: Global, journal: &Journal, text: &[u8]) -> anyhow::Result<b
     Ok(text.ends_with(printed.as_slice()))
 }
 
-// The first bad line of the text behind the names of a line, or whether its steps are printed again.
+// The first bad line of the text behind the names, or whether its steps are printed again.
 fn answer(alloc: Global, line: &str) -> anyhow::Result<String> {
     let (nodes, rest) = line.split_once(' ').context("nodes")?;
     let (links, digits) = rest.split_once(' ').context("links")?;
@@ -67,7 +67,8 @@ fn answer(alloc: Global, line: &str) -> anyhow::Result<String> {
     let text = hex::decode(alloc, digits.as_bytes())?;
     match read(alloc, names, text.as_slice()) {
         Ok(journal) => {
-            let again = if is_printed(alloc, &journal, text.as_slice())? { "same" } else { "other" };
+            let is_same = is_printed(alloc, &journal, text.as_slice())?;
+            let again = if is_same { "same" } else { "other" };
             Ok(format!(in alloc; "{again}")?)
         }
         Err(Unread::Bad { line }) => Ok(format!(in alloc; "{line}")?),
