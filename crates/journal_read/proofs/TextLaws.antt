@@ -9,8 +9,8 @@ use Rattle.std.specs.Str.{bytes_eq}
 use Rattle.std.proofs.lemmas.Bool.{cases_Bool, cond-true, eqb-true, eq-eqb, le-leb, lt-ltb, leb-true}
 use Rattle.std.proofs.lemmas.Bool.{ltb-true, and_from, not_from_false}
 use Rattle.std.proofs.lemmas.List.{take-append-drop, length-append}
-use Rattle.std.proofs.lemmas.List.Splits.{join_with_byte-slice_split, slice_split-cons_no}
-use Rattle.std.proofs.lemmas.List.Splits.{slice_split-cons_yes}
+use Rattle.std.proofs.lemmas.List.Splits.{join_with_byte-slice_split, length-slice_split}
+use Rattle.std.proofs.lemmas.List.Splits.{slice_split-cons_no, slice_split-cons_yes}
 use Rattle.linx_base.specs.declared.name.Names.{Names}
 use Rattle.journal.specs.declared.effect.Step.{Step}
 use Rattle.journal_words.specs.declared.lines.Line.{Line}
@@ -18,7 +18,8 @@ use Rattle.journal_words.specs.declared.lines.Line.TheVariants.{Made, Happened}
 use Rattle.journal_words.specs.Lines.{line_in}
 use Rattle.text_words.specs.Gives.{◌>>=◌}
 use Rattle.text_words.specs.Numbers.{u64_in, whole_limit}
-use Rattle.text_words.specs.Words.{after, lines_of, parts_at}
+use Rattle.text_words.specs.Words.{after, but_last, last_of, lines_of, parts_at, rest_of}
+use Rattle.text_words.proofs.Ends.{but_last_parts, last_of_parts, parts_end}
 use Rattle.reading_laws.specs.Forms.{AreNames}
 use Rattle.reading_laws.proofs.Tools.{bind_some, if_some_yes, same_text}
 use Rattle.reading_laws.proofs.Cuts.{lacks, lacks-append, split_part}
@@ -44,17 +45,20 @@ one_lines-append : (xs ys : List (List ℕ)) → OneLines xs → OneLines ys →
 one_lines-append [] ys first last = last
 one_lines-append (x ∷ xs) ys first last = (first.0, one_lines-append xs ys first.1 last)
 
-front_one_lines : (xs ys : List (List ℕ)) → OneLines (xs ++ ys) → OneLines xs
-front_one_lines [] ys all = tt
-front_one_lines (x ∷ xs) ys all = (all.0, front_one_lines xs ys all.1)
-
--- lines with their line feeds are the lines of their text, and nothing stands behind them
-pub lines_again : (lines : List (List ℕ)) → OneLines lines
-    → lines_of (text_of_lines lines) ≡ lines ++ [] ∷ []
-lines_again [] are = refl
-lines_again (line ∷ lines) are =
+-- lines with their line feeds are the parts of their text, and nothing stands behind them
+parts_again : (lines : List (List ℕ)) → OneLines lines
+    → parts_at 10 (text_of_lines lines) ≡ lines ++ [] ∷ []
+parts_again [] are = refl
+parts_again (line ∷ lines) are =
     split_part 10 line (text_of_lines lines) are.0 refl
-    ∙ ap (λ (ls : List (List ℕ)). line ∷ ls) (lines_again lines are.1)
+    ∙ ap (λ (ls : List (List ℕ)). line ∷ ls) (parts_again lines are.1)
+
+pub lines_again : (lines : List (List ℕ)) → OneLines lines
+    → lines_of (text_of_lines lines) ≡ lines
+lines_again lines are = ap but_last (parts_again lines are) ∙ but_last_parts lines []
+
+rest_again : (lines : List (List ℕ)) → OneLines lines → rest_of (text_of_lines lines) ≡ []
+rest_again lines are = ap last_of (parts_again lines are) ∙ last_of_parts lines []
 
 lines_joined : (lines : List (List ℕ)) → join_with_byte 10 (lines ++ [] ∷ []) ≡ text_of_lines lines
 lines_joined [] = refl
@@ -62,22 +66,37 @@ lines_joined (line ∷ []) = refl
 lines_joined (line ∷ next ∷ lines) =
     ap (λ (t : List ℕ). line ++ 10 ∷ t) (lines_joined (next ∷ lines))
 
+-- a text behind whose last line feed nothing stands is that of its lines
+text_is : (text : List ℕ) → rest_of text ≡ [] → text ≡ text_of_lines (lines_of text)
+text_is text none =
+    let size = length-slice_split (λ b. b == 10) text in
+    sym (join_with_byte-slice_split 10 text)
+    ∙ ap (join_with_byte 10) (parts_end (parts_at 10 text) (omega (arith, size)))
+    ∙ ap (λ (rest : List ℕ). join_with_byte 10 (lines_of text ++ rest ∷ [])) none
+    ∙ lines_joined (lines_of text)
+
 onto_one_lines : (b : ℕ) (lines : List (List ℕ)) → not (b == 10) ≡ true → OneLines lines
     → OneLines (onto_first b lines)
 onto_one_lines b [] other are = (and_from _ _ other refl, tt)
 onto_one_lines b (line ∷ lines) other are = (and_from _ _ other are.0, are.1)
 
-one_lines_of : (text : List ℕ) → OneLines (lines_of text)
-one_lines_of [] = (refl, tt)
-one_lines_of (b ∷ text) =
+one_parts : (text : List ℕ) → OneLines (parts_at 10 text)
+one_parts [] = (refl, tt)
+one_parts (b ∷ text) =
     elim (cases_Bool (b == 10)) [
       | inl holds ↦
           subst OneLines (sym (slice_split-cons_yes (λ c. c == 10) b text holds))
-          (refl, one_lines_of text)
+          (refl, one_parts text)
       | inr fails ↦
           subst OneLines (sym (slice_split-cons_no (λ c. c == 10) b text fails))
-          (onto_one_lines b (lines_of text) (not_from_false _ fails) (one_lines_of text))
+          (onto_one_lines b (parts_at 10 text) (not_from_false _ fails) (one_parts text))
     ]
+
+before_last : (parts : List (List ℕ)) → OneLines parts → OneLines (but_last parts)
+unfolding but_last
+before_last [] are = tt
+before_last (part ∷ []) are = tt
+before_last (part ∷ next ∷ parts) are = (are.0, before_last (next ∷ parts) are.1)
 
 -- ---- lines read one behind the other
 
@@ -86,15 +105,9 @@ abbrev pub taken : SoFar → List (List ℕ) → Option SoFar
 taken r [] = Some r
 taken r (bytes ∷ lines) = take_line r bytes >>= λ q. taken q lines
 
-read_one : (r : SoFar) (number : ℕ) (bytes : List ℕ) (lines : List (List ℕ)) (rest : List ℕ)
-    → read_lines r number (bytes ∷ (lines ++ rest ∷ []))
-    ≡ or_bad number (take_line r bytes) (λ q. read_lines q (suc number) (lines ++ rest ∷ []))
-read_one r number bytes [] rest = refl
-read_one r number bytes (next ∷ lines) rest = refl
-
 read_taken : (r q : SoFar) (number last : ℕ) (lines : List (List ℕ)) (rest : List ℕ)
     → taken r lines ≡ Some q → last ≡ number + length lines
-    → read_lines r number (lines ++ rest ∷ []) ≡ ended_behind rest q last
+    → read_lines r number lines rest ≡ ended_behind rest q last
 read_taken r q number last [] rest h e =
     let same : r ≡ q = cc in
     let here : number ≡ last = omega (arith, e) in
@@ -102,9 +115,7 @@ read_taken r q number last [] rest h e =
     ∙ ap (λ (n : ℕ). ended_behind rest q n) here
 read_taken r q number last (bytes ∷ lines) rest h e =
     let put = bind_some (take_line r bytes) (λ x. taken x lines) q h in
-    read_one r number bytes lines rest
-    ∙ ap (λ (o : Option SoFar). or_bad number o
-    (λ x. read_lines x (suc number) (lines ++ rest ∷ []))) put.1
+    ap (λ (o : Option SoFar). or_bad number o (λ x. read_lines x (suc number) lines rest)) put.1
     ∙ read_taken put.0 q (suc number) last lines rest put.2 (omega (arith, e))
 
 or_bad_ok : (number : ℕ) (o : Option SoFar) (f : SoFar → Result (List Step) ℕ) (P : List Step)
@@ -112,43 +123,39 @@ or_bad_ok : (number : ℕ) (o : Option SoFar) (f : SoFar → Result (List Step) 
 or_bad_ok number (Some q) f P h = (q, refl, h)
 or_bad_ok number None f P h = cc
 
--- what was read of whole lines, behind which nothing stands
-record IsWhole (r : SoFar) (number : ℕ) (parts : List (List ℕ)) (P : List Step) : Type 0 where
-  lines : List (List ℕ)
+-- what was read of lines, behind which nothing stands
+record IsWhole (r : SoFar) (number : ℕ) (lines : List (List ℕ)) (rest : List ℕ) (P : List Step)
+    : Type 0 where
+  none : rest ≡ []
   last : SoFar
   next : ℕ
-  are : parts ≡ lines ++ [] ∷ []
   took : taken r lines ≡ Some last
   count : next ≡ number + length lines
   ends : ended last next ≡ Ok P
 
-read_found : (r : SoFar) (number : ℕ) (parts : List (List ℕ)) (P : List Step)
-    → read_lines r number parts ≡ Ok P → IsWhole r number parts P
-read_found r number [] P h = cc
-read_found r number ([] ∷ []) P h = record {
-  lines = [];
+read_found : (r : SoFar) (number : ℕ) (lines : List (List ℕ)) (rest : List ℕ) (P : List Step)
+    → read_lines r number lines rest ≡ Ok P → IsWhole r number lines rest P
+read_found r number [] [] P h = record {
+  none = refl;
   last = r;
   next = number;
-  are = refl;
   took = refl;
   count = omega arith;
   ends = h;
 }
-read_found r number ((b ∷ bytes) ∷ []) P h = cc
-read_found r number (bytes ∷ next ∷ parts) P h =
+read_found r number [] (b ∷ rest) P h = cc
+read_found r number (bytes ∷ lines) rest P h =
     let first =
-    or_bad_ok number (take_line r bytes) (λ q. read_lines q (suc number) (next ∷ parts)) P h
+    or_bad_ok number (take_line r bytes) (λ q. read_lines q (suc number) lines rest) P h
     in
-    let rest = read_found first.0 (suc number) (next ∷ parts) P first.2 in
+    let others = read_found first.0 (suc number) lines rest P first.2 in
     record {
-      lines = bytes ∷ rest.lines;
-      last = rest.last;
-      next = rest.next;
-      are = ap (λ (ls : List (List ℕ)). bytes ∷ ls) rest.are;
-      took =
-          ap (λ (o : Option SoFar). o >>= λ q. taken q rest.lines) first.1 ∙ rest.took;
-      count = omega (arith, rest.count);
-      ends = rest.ends;
+      none = others.none;
+      last = others.last;
+      next = others.next;
+      took = ap (λ (o : Option SoFar). o >>= λ q. taken q lines) first.1 ∙ others.took;
+      count = omega (arith, others.count);
+      ends = others.ends;
     }
 
 -- ---- the lines of logs
@@ -273,7 +280,7 @@ ended_again names P next =
     cond-true (length P == length P) (Ok P) (Err next) (eq-eqb (length P) (length P) refl)
 
 pub nothing_again : (names : Names) → result_ok (read_in names []) ≡ Some []
-unfolding ended
+unfolding ended but_last last_of
 nothing_again names = refl
 
 -- the position of the newest step is a number of 64 bits
@@ -314,8 +321,10 @@ text_again names (s ∷ P) text are is =
     in
     let took = taken_again names s P is.logs are is.are_logs is.whole in
     ap (λ (t : List ℕ). result_ok (read_in names t)) is.spelled
-    ∙ ap (λ (ls : List (List ℕ)). result_ok (read_lines (unread names) 1 ls))
-    (lines_again all one_lines)
+    ∙ ap (λ (ls : List (List ℕ)). result_ok (read_lines (unread names) 1 ls
+    (rest_of (text_of_lines all)))) (lines_again all one_lines)
+    ∙ ap (λ (rest : List ℕ). result_ok (read_lines (unread names) 1 all rest))
+    (rest_again all one_lines)
     ∙ ap result_ok
     (read_taken (unread names) (begun names count (s ∷ P)) 1 (1 + length all) all [] took refl
     ∙ ended_again names (s ∷ P) (1 + length all))
@@ -488,17 +497,15 @@ some_ok (Err number) P h = cc
 pub text_found : (names : Names) (P : List Step) (text : List ℕ)
     → result_ok (read_in names text) ≡ Some P → SpellsText names P text
 text_found names P text h =
-    let whole = read_found (unread names) 1 (lines_of text) P (some_ok (read_in names text) P h) in
-    let is : text ≡ text_of_lines whole.lines =
-    sym (join_with_byte-slice_split 10 text) ∙ ap (join_with_byte 10) whole.are
-    ∙ lines_joined whole.lines
+    let lines = lines_of text in
+    let whole =
+    read_found (unread names) 1 lines (rest_of text) P (some_ok (read_in names text) P h)
     in
-    let one =
-    front_one_lines whole.lines ([] ∷ []) (subst OneLines whole.are (one_lines_of text))
-    in
-    elim (front_found names whole.lines whole.last one whole.took) [
+    let is = text_is text whole.none in
+    let one = before_last (parts_at 10 text) (one_parts text) in
+    elim (front_found names lines whole.last one whole.took) [
       | inl all ↦
-          nothing_found names whole.lines whole.next P text is whole.count
+          nothing_found names lines whole.next P text is whole.count
           (subst (λ (x : SoFar). ended x whole.next ≡ Ok P) all.1 whole.ends)
-      | inr some ↦ some_found names whole.lines whole.last whole.next P text is some whole.ends
+      | inr some ↦ some_found names lines whole.last whole.next P text is some whole.ends
     ]

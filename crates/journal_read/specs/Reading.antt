@@ -8,7 +8,7 @@ use Rattle.journal_words.specs.declared.lines.Line.TheVariants.{Made, Happened}
 use Rattle.journal_words.specs.Lines.{line_in}
 use Rattle.text_words.specs.Gives.{◌>>=◌}
 use Rattle.text_words.specs.Numbers.{u64_in}
-use Rattle.text_words.specs.Words.{after, lines_of}
+use Rattle.text_words.specs.Words.{after, lines_of, rest_of}
 
 -- the steps P, the newest first, with a line more: a new step at the next position, or an effect
 -- behind those of the newest step
@@ -87,12 +87,11 @@ or_bad line (Some r) go_on = go_on r
 or_bad line None go_on = Err line
 
 -- the lines from this number on, and what stands behind the last one
-abbrev pub read_lines : SoFar → ℕ → List (List ℕ) → Result (List Step) ℕ
-read_lines r line [] = Err line
-read_lines r line (rest ∷ []) = ended_behind rest r line
-read_lines r line (bytes ∷ next ∷ lines) =
-    or_bad line (take_line r bytes) (λ q. read_lines q (suc line) (next ∷ lines))
+abbrev pub read_lines : SoFar → ℕ → List (List ℕ) → List ℕ → Result (List Step) ℕ
+read_lines r line [] rest = ended_behind rest r line
+read_lines r line (bytes ∷ lines) rest =
+    or_bad line (take_line r bytes) (λ q. read_lines q (suc line) lines rest)
 
 -- the steps that a text spells, the newest first, or its first bad line, from 1
 abbrev pub read_in : Names → List ℕ → Result (List Step) ℕ
-read_in names text = read_lines (unread names) 1 (lines_of text)
+read_in names text = read_lines (unread names) 1 (lines_of text) (rest_of text)

@@ -1,5 +1,5 @@
 //! A printed text, read line by line.
-ghost use Rattle.std.specs.Prelude.{◌≡◌, ◌++◌, ◌∷◌, [], map, IfOk};
+ghost use Rattle.std.specs.Prelude.{◌≡◌, map, IfOk};
 ghost use Rattle.journal_read.specs.Reading.{unread, read_lines, read_in};
 ghost use Rattle.journal_read.specs.Results.{Reads};
 
@@ -9,7 +9,7 @@ use journal::Journal;
 use linx_base::Names;
 use std::alloc::Global;
 use std::marker::Model;
-use text_words::{ReadError, behind, split_lines, u64_of};
+use text_words::{ReadError, behind, split_at_byte, take_last, u64_of};
 
 /// What stands before the number of steps.
 const HEADING: &[u8] = b"journal ";
@@ -117,7 +117,7 @@ impl Reading {
 /// The journal of a text with these lines, and with what stands behind the last one.
 fn read_lines(alloc: Global, names: Names, lines: &[&[u8]], rest: &[u8]) -> Result<Journal, Unread>
     ensures steps { Reads (λ journal. journal.log.steps) result
-        (read_lines (unread names) 1 (map (λ l. l.now) lines.now ++ rest.now ∷ [])) }
+        (read_lines (unread names) 1 (map (λ l. l.now) lines.now) rest.now) }
     ensures names { IfOk result (λ journal. journal.log.names ≡ names) }
 {
     let mut reading = Reading::new(alloc, names);
@@ -143,12 +143,8 @@ pub fn read(alloc: Global, names: Names, text: &[u8]) -> Result<Journal, Unread>
     ensures steps { Reads (λ journal. journal.log.steps) result (read_in names text.now) }
     ensures names { IfOk result (λ journal. journal.log.names ≡ names) }
 {
-    let parts = match split_lines(alloc, text) {
-        Ok(parts) => parts,
-        Err(_) => return Err(Unread::NoMemory),
-    };
-    match parts.as_slice() {
-        [lines @ .., rest] => read_lines(alloc, names, lines, rest),
-        [] => Err(Unread::Bad { line: 1 }),
-    }
+    let mut lines = split_at_byte(alloc, text, b'\n')?;
+    let rest = take_last(&mut lines);
+    let journal = read_lines(alloc, names, lines.as_slice(), rest)?;
+    Ok(journal)
 }

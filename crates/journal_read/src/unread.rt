@@ -1,3 +1,7 @@
+ghost use Rattle.std.specs.Prelude.{◌≡◌};
+ghost use Rattle.journal_read.specs.declared.unread.Unread.TheVariants as reasons;
+
+use std::alloc::AllocError;
 use std::error::Error;
 use std::fmt;
 
@@ -25,3 +29,11 @@ impl fmt::Display for Unread {
 }
 
 impl Error for Unread {}
+
+impl From<AllocError> for Unread {
+    ghost from_gives = { λ _ e. e ≡ reasons.NoMemory };
+
+    fn from(_refusal: AllocError) -> Unread {
+        Unread::NoMemory
+    }
+}

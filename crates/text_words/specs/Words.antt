@@ -17,9 +17,25 @@ parts_at byte text = slice_split (λ b. b == byte) text
 abbrev pub words_of : List ℕ → List (List ℕ)
 words_of line = parts_at 32 line
 
--- the lines of a text, and what stands behind its last line feed
+-- all parts but the last
+unfoldable pub but_last : List (List ℕ) → List (List ℕ)
+but_last [] = []
+but_last (part ∷ []) = []
+but_last (part ∷ next ∷ parts) = part ∷ but_last (next ∷ parts)
+
+-- the last part, which has no byte where there is none
+unfoldable pub last_of : List (List ℕ) → List ℕ
+last_of [] = []
+last_of (part ∷ []) = part
+last_of (part ∷ next ∷ parts) = last_of (next ∷ parts)
+
+-- the lines of a text: what stands before each of its line feeds
 abbrev pub lines_of : List ℕ → List (List ℕ)
-lines_of text = parts_at 10 text
+lines_of text = but_last (parts_at 10 text)
+
+-- what stands behind the last line feed of a text
+abbrev pub rest_of : List ℕ → List ℕ
+rest_of text = last_of (parts_at 10 text)
 
 -- what follows this text at the word's front
 abbrev pub after : List ℕ → List ℕ → Option (List ℕ)

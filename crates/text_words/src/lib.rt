@@ -10,4 +10,4 @@ mod words;
 
 pub use numbers::{halves_of, number, u32_of, u64_of};
 pub use read_error::ReadError;
-pub use words::{alone, behind, cut, is_text, only, split_at_byte, split_lines, split_words};
+pub use words::{alone, behind, cut, is_text, only, split_at_byte, split_words, take_last};

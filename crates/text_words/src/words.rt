@@ -1,7 +1,7 @@
 //! What a word is, where it is cut, and the words of a line.
 ghost use Rattle.std.specs.Prelude.{◌≡◌, ◌==◌, map, position, option_map, IfOk};
 ghost use Rattle.std.specs.Str.{bytes_eq};
-ghost use Rattle.text_words.specs.Words.{after, alone, cut_at, lines_of, only, parts_at, words_of};
+ghost use Rattle.text_words.specs.Words.{after, alone, but_last, cut_at, last_of, only, parts_at, words_of};
 ghost use Rattle.text_words.specs.Gives.{Gives};
 
 use crate::read_error::ReadError;
@@ -45,11 +45,17 @@ pub fn split_words(alloc: Global, line: &[u8]) -> Result<Vec<&[u8]>, AllocError>
     split_at_byte(alloc, line, b' ')
 }
 
-/// The lines of a text, and what stands behind the last one.
-pub fn split_lines(alloc: Global, text: &[u8]) -> Result<Vec<&[u8]>, AllocError>
-    ensures { IfOk result (λ lines. map (λ l. l.now) lines.items ≡ lines_of text.now) }
+/// Takes the last part off those before it.
+#[tactic(auto, using(crate::proofs::Ends::but_last_ends, crate::proofs::Ends::last_of_ends))]
+pub fn take_last<'a>(parts: &mut Vec<&'a [u8]>) -> &'a [u8]
+    ensures before { map (λ p. p.now) parts.new.items
+        ≡ but_last (map (λ p. p.now) parts.old.items) }
+    ensures last { result.now ≡ last_of (map (λ p. p.now) parts.old.items) }
 {
-    split_at_byte(alloc, text, b'\n')
+    match parts.pop() {
+        Some(last) => last,
+        None => &[],
+    }
 }
 
 /// What follows this text at the word's front.
