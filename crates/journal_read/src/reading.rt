@@ -51,23 +51,28 @@ impl Reading {
 
     /// Takes a line before the steps: the one that announces them, or one of a log.
     fn take_front(&mut self, digits: Option<&[u8]>) -> Result<(), ReadError>
-        ensures { Gives (λ _. self.new) result
+        ensures taken { Gives (λ _. self.new) result
             (take_front self.old (option_map (λ d. d.now) digits)) }
+        ensures names { self.new.names ≡ self.old.names }
     {
-        if let Some(digits) = digits {
-            let count = u64_of(digits)?;
-            if count == 0 {
-                return Err(ReadError::Bad);
+        match digits {
+            None => Ok(()),
+            Some(digits) => {
+                let count = u64_of(digits)?;
+                if count == 0 {
+                    return Err(ReadError::Bad);
+                }
+                self.announced = Some(count);
+                Ok(())
             }
-            self.announced = Some(count);
         }
-        Ok(())
     }
 
     /// Takes a line of a step, where so many steps are announced.
     fn take_steps(&mut self, count: u64, bytes: &[u8]) -> Result<(), ReadError>
-        ensures { Gives (λ _. self.new) result
+        ensures taken { Gives (λ _. self.new) result
             (put_bytes self.old.names self.old.steps bytes.now >>= take_steps self.old count) }
+        ensures names { self.new.names ≡ self.old.names }
     {
         self.pending.put_bytes(bytes)?;
         if self.pending.count() <= count {
@@ -80,7 +85,8 @@ impl Reading {
     /// Takes a line behind those that were read.
     #[tactic(auto, unfolding(crate::specs::Reading::take_line))]
     fn take_line(&mut self, bytes: &[u8]) -> Result<(), ReadError>
-        ensures { Gives (λ _. self.new) result (take_line self.old bytes.now) }
+        ensures taken { Gives (λ _. self.new) result (take_line self.old bytes.now) }
+        ensures names { self.new.names ≡ self.old.names }
     {
         match self.announced {
             None => self.take_front(behind(bytes, HEADING)),

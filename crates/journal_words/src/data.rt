@@ -41,7 +41,7 @@ fn if_spelled(word: &[u8], bytes: Vec<u8>) -> Result<Vec<u8>, ReadError>
     requires short { length word.now ≤ 64 }
     requires decoded { decode_of word.now ≡ Ok bytes.items }
     ensures gives { Gives (λ v. v.items) result (if_spelled word.now (Ok bytes.items)) }
-    ensures same { IfOk result (λ v. v.items ≡ bytes.items) }
+    ensures short { IfOk result (λ v. length v.items ≤ 32) }
 {
     if is_hexadecimal_of(word, bytes.as_slice()) {
         Ok(bytes)
@@ -69,7 +69,8 @@ fn hexadecimal(alloc: Global, word: &[u8]) -> Result<Vec<u8>, ReadError>
 /// What stands for data of this size with this digest.
 fn stand_in(alloc: Global, digest: &[u8], size: usize) -> Result<Blob, NoMemory>
     requires { length digest.now ≤ size }
-    ensures { IfOk result (λ made. made ≡ stand_in digest.now size) }
+    ensures made { IfOk result (λ made. made ≡ stand_in digest.now size) }
+    ensures size { IfOk result (λ made. length made ≡ size) }
 {
     let mut filled = Vec::with_capacity(alloc, size)?;
     filled.extend_from_slice(digest)?;

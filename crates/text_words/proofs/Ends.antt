@@ -41,3 +41,17 @@ parts_end [] some = absurd (omega (arith, some))
 parts_end (part ∷ []) some = refl
 parts_end (part ∷ next ∷ parts) some =
     ap (λ (xs : List (List ℕ)). part ∷ xs) (parts_end (next ∷ parts) (omega arith))
+
+-- where there are no parts
+pub none_before : {X : Type 0} (view : X → List ℕ) (old new : List X) → length old ≡ 0
+    → length new ≡ 0 → map view new ≡ but_last (map view old)
+unfolding but_last
+none_before view [] [] e f = refl
+none_before view [] (x ∷ xs) e f = absurd (omega (arith, f))
+none_before view (x ∷ xs) new e f = absurd (omega (arith, e))
+
+pub none_last : {X : Type 0} (view : X → List ℕ) (old : List X) → length old ≡ 0
+    → [] ≡ last_of (map view old)
+unfolding last_of
+none_last view [] e = refl
+none_last view (x ∷ xs) e = absurd (omega (arith, e))
