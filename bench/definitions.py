@@ -135,10 +135,18 @@ class Specs:
             self.defined[module], self.imports[module] = definitions(text), Imports(text)
             self.comments[module] = comments(text)
 
+    def declared(self, module, word):
+        """The file and the word there of a word that a page may pass on."""
+        while word not in self.defined.get(module, {}) and module in self.imports:
+            if word not in self.imports[module].words:
+                break
+            module, word = self.imports[module].words[word]
+        return module, word
+
     def cited(self, imports, text, here=None):
         """The definitions, each by its file and its word, that a text cites by these imports."""
-        return {(module, word) for module, word in imports.cited(text, here)
-                if word in self.defined.get(module, {})}
+        found = (self.declared(module, word) for module, word in imports.cited(text, here))
+        return {(module, word) for module, word in found if word in self.defined.get(module, {})}
 
     def reached(self, roots):
         """Of these and the definitions that they reach those that another file cites."""
