@@ -4,8 +4,8 @@
     house/rooms.py [--dry] [CRATE ..]
 
 Each file is moved (by git where it knows it), proofs/Lib.antt names the rooms in place of the files, and
-proofs/ROOM.antt lists the files of its room. All paths in .rt and .antt files of all crates follow, and those in
-docs/, bench/ and README.md that are written as CRATE/proofs/FILE.antt; the other mentions there are printed.
+proofs/ROOM.antt lists the files of its room. All paths in .rt and .antt files of all crates follow, those in docs/,
+bench/ and README.md that are written as CRATE/proofs/FILE.antt, and what docs.txt has of shorter ones.
 A file that has moved already is left, so a second run changes nothing.
 """
 import os, re, subprocess, sys
@@ -94,7 +94,6 @@ def main(words):
             by[f"Rattle.{crate}.proofs.{old}"] = f"Rattle.{crate}.proofs." + new.replace("/", ".")
             by[f"{crate}/proofs/{old}.antt"] = f"{crate}/proofs/{new}.antt"
     seek = re.compile(r"\bRattle\.(\w+)\.proofs\.(\w+)(?=[.\s;])|\b(\w+)/proofs/(\w+)\.antt\b")
-    mentions = []
     for file in texts(ROOT):
         text = open(file).read()
         new = seek.sub(lambda found: by.get(found.group(0), found.group(0)), text)
@@ -103,13 +102,6 @@ def main(words):
             new = rewrapped(new) if file.endswith((".antt", ".rt")) else new
             if not dry:
                 open(file, "w").write(new)
-        if "/crates/" not in file and "/audit/" not in file:
-            for found in re.finditer(r"`([A-Za-z/*]+)\.antt`", new):
-                name = found.group(1).split("/")[-1]
-                if "/" not in found.group(1) or found.group(1).startswith("proofs/"):
-                    owners = [crate for crate, it in rooms.items() if name in it["moves"]]
-                    if owners:
-                        mentions.append(f"{os.path.relpath(file, ROOT)}: {found.group(0)} ({', '.join(owners)}?)")
     for crate, it in rooms.items():
         if not it["now"] or dry:
             continue
@@ -129,8 +121,13 @@ def main(words):
             # (a file that Lib.antt hid from the crates above is hidden by its room, or else not)
             open(f"{at}/{room}.antt", "w").write(f"-- {about[0].upper()}{about[1:]}.\n" + "".join(f"pub mod {new.split('/')[1]}\n" for new in it["now"].values() if new.split("/")[0] == room))
     print(f"rooms: {moved} files in {sum(len(it['about']) for it in rooms.values() if it['now'])} rooms; {changed} files with paths")
-    for it in sorted(set(mentions)):
-        print("by hand:", it)
+    for line in open(f"{HERE}/docs.txt").read().split("\n")[1:]:
+        file, old, new = (it.strip() for it in line.split(" | ")) if line.strip() else ("", "", "")
+        text = open(f"{ROOT}/{file}").read() if file else ""
+        if file and old in text and not dry:
+            open(f"{ROOT}/{file}", "w").write(text.replace(old, new))
+        elif file and new not in text and not dry:
+            print(f"rooms: by hand: {file} says neither {old} nor {new}")
 
 
 if __name__ == "__main__":

@@ -65,10 +65,6 @@ def main():
                     faults.append(f"{file}: {it.path} has no {name}")
             if not is_rust and module_file(it.path) in texts:
                 edges[file].add(module_file(it.path))
-        if not is_rust and len(max(text.split("\n"), key=len)) > 100:
-            long = [line for line in text.split("\n") if len(line) > 100]
-            if any("use " in line for line in long):
-                faults.append(f"{file}: an import of more than 100 characters")
     # Every file of specs/ and proofs/ is named by the page of its folder, or by Lib.antt.
     for file in texts:
         part = os.path.relpath(file, ROOT).split("/")
