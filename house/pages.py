@@ -6,7 +6,7 @@
 A page has a `pub use` line for each file of the crate's specs/ and each declared type or enum of which
 somebody outside that file imports a name. The other files then import `Rattle.K.specs.Common.{..}`: specs/ of
 the crates above, proofs/ of all, and `ghost use` lines of src/. A name that two modules of a crate have stays on
-a line of its own, as do lines with `as`, and those that would close a cycle: a crate's own specs/, and the types
+a line of its own, with the other variants there, as do lines with `as`, and those that would close a cycle: a crate's own specs/, and the types
 of its src/ with their models and ghost fields.
 
 Nothing is changed that has its form already, so a second run changes nothing. --dry counts and writes nothing.
@@ -198,9 +198,12 @@ def origin(path, name):
     return re.sub(r"^Rattle\.(std\w*|core)\.specs\.declared\.", "Rattle.*.specs.declared.", path), name
 
 
-def target(crate, part, path, name, page_of):
-    """The path by which a file imports a name that it imports by this path now."""
+def target(crate, part, path, name, names, page_of):
+    """The path by which a file imports a name that it imports by this path now, beside these names."""
     parts = path.split(".")
+    # (variants stay together: those of a line of which one name stands for two)
+    if parts[-1] == "TheVariants" and parts[1] in page_of and any(page_of[parts[1]].get(it) != ".".join(parts[3:]) for it in names):
+        return path
     if parts[0] == "Rattle" and len(parts) > 3 and parts[1] in page_of and parts[2] == "specs":
         own = parts[1] == crate and (part == "specs" or part == "src" and not FREE)
         if not own and page_of[parts[1]].get(name) == ".".join(parts[3:]):
@@ -225,7 +228,7 @@ def rewritten(crate, part, file, text, page_of):
         lines.append(it)
         it.keys = []
         for name in it.names:
-            key = (body, it.indent, target(crate, part, it.path, name, page_of))
+            key = (body, it.indent, target(crate, part, it.path, name, it.names, page_of))
             if key not in it.keys:
                 it.keys.append(key)
             new = groups.setdefault(key, {"names": [], "at": it.start, "from": []})
