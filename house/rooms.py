@@ -6,7 +6,7 @@
 Each file is moved (by git where it knows it), proofs/Lib.antt names the rooms in place of the files, and
 proofs/ROOM.antt lists the files of its room. All paths in .rt and .antt files of all crates follow, those in docs/,
 bench/ and README.md that are written as CRATE/proofs/FILE.antt, and what docs.txt has of shorter ones.
-A file that has moved already is left, so a second run changes nothing.
+A file that has moved already is left, so a second run changes nothing; one without a room stays, and is printed.
 """
 import os, re, subprocess, sys
 
@@ -67,11 +67,11 @@ def rewrapped(text):
 def main(words):
     dry, only = "--dry" in words, [it for it in words if not it.startswith("--")]
     rooms = {crate: it for crate, it in table().items() if not only or crate in only}
-    moved, changed, wrong = 0, 0, []
+    moved, changed, wrong, notes = 0, 0, [], []
     for crate, it in rooms.items():
         at = f"{ROOT}/crates/{crate}/proofs"
         flat = {name[:-5] for name in os.listdir(at) if name.endswith(".antt")} - {"Lib"} - set(it["about"])
-        wrong += [f"{crate}: {name} has no room" for name in sorted(flat - set(it["moves"]) - set(it["stay"]))]
+        notes += [f"rooms: {crate}: {name} has no room, and stays" for name in sorted(flat - set(it["moves"]) - set(it["stay"]))]
         sources = {name.split(".")[0].lower() for name in os.listdir(f"{ROOT}/crates/{crate}/src")}
         wrong += [f"{crate}: the room {room} is called as a module of src/" for room in it["about"] if room.lower() in sources]
         new = list(it["moves"].values())
@@ -79,10 +79,12 @@ def main(words):
         # (a room may be called as a file that lies flat: a path of both is then ambiguous until all have moved)
         it["now"] = {old: new for old, new in it["moves"].items() if os.path.isfile(f"{at}/{old}.antt") and not os.path.isfile(f"{at}/{new}.antt")}
         it["gone"] = [old for old, new in it["moves"].items() if not os.path.isfile(f"{at}/{old}.antt") and not os.path.isfile(f"{at}/{new}.antt")]
-        wrong += [f"{crate}: no file {old}" for old in it["gone"]]
+        notes += [f"rooms: {crate}: there is no file {old}" for old in it["gone"]]
         if it["now"] and len(it["now"]) + len(it["gone"]) != len(it["moves"]):
             wrong.append(f"{crate}: some files have moved and some have not: the table is for all at once")
         moved += len(it["now"])
+    for it in notes:
+        print(it)
     if wrong:
         print("\n".join(wrong))
         if not dry:
