@@ -55,6 +55,16 @@ def main(words):
         print("list: not in list.txt, so put last:", " ".join(new))
         order += [("", []), ("# New", [])] + [(crate, []) for crate in new]
         rank |= {crate: len(rank) + k for k, crate in enumerate(new)}
+    # A crate goes down behind the last that it stands on, where list.txt has it above.
+    at = 0
+    while at < len(order):
+        crate = order[at][0]
+        last = max((k for k, (it, _) in enumerate(order) if crate in now and it in now[crate][1]), default=-1)
+        if last > at:
+            print(f"list: {crate} goes down behind {order[last][0]}")
+            order.insert(last, order.pop(at))
+        else:
+            at += 1
     for crate, drop in order:
         if crate not in now:
             out.append(crate)
@@ -62,9 +72,6 @@ def main(words):
         head, edges = now[crate]
         keep = sorted((it for it in edges if it not in drop), key=lambda it: rank.get(it, len(rank)))
         gone += len(edges) - len(keep)
-        above = [it for it in keep if it in rank and it not in seen and it not in new]
-        if above:
-            sys.exit(f"list: {crate} stands before {' '.join(above)} in list.txt: move it down")
         seen.add(crate)
         out.append(f"{head}: {' '.join(keep)}".rstrip())
     text = "\n".join(out).strip("\n") + "\n"

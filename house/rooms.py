@@ -3,12 +3,12 @@
 
     house/rooms.py [--dry] [CRATE ..]
 
-Each file is moved (by git where it knows it), proofs/Lib.antt names the rooms in place of the files, and
+Each file is moved (git add -A finds that), proofs/Lib.antt names the rooms in place of the files, and
 proofs/ROOM.antt lists the files of its room. All paths in .rt and .antt files of all crates follow, those in docs/,
 bench/ and README.md that are written as CRATE/proofs/FILE.antt, and what docs.txt has of shorter ones.
 A file that has moved already is left, so a second run changes nothing; one without a room stays, and is printed.
 """
-import os, re, subprocess, sys
+import os, re, sys
 
 HERE = os.path.dirname(os.path.abspath(__file__))
 ROOT = os.path.realpath(f"{HERE}/..")
@@ -110,12 +110,10 @@ def main(words):
         at = f"{ROOT}/crates/{crate}/proofs"
         lib = open(f"{at}/Lib.antt").read().splitlines()
         is_pub = {line.split()[-1]: line.startswith("pub ") for line in lib if re.match(r"(pub )?mod ", line)}
-        # (two steps, since a room may be called as a file that lies flat)
         for old, new in it["now"].items():
             room = new.split("/")[0]
             os.makedirs(f"{at}/{room}", exist_ok=True)
-            if subprocess.run(["git", "-C", ROOT, "mv", f"crates/{crate}/proofs/{old}.antt", f"crates/{crate}/proofs/{new}.antt"], capture_output=True).returncode:
-                os.rename(f"{at}/{old}.antt", f"{at}/{new}.antt")
+            os.rename(f"{at}/{old}.antt", f"{at}/{new}.antt")
         others = [line for line in lib if line.split()[-1:] and line.split()[-1] not in it["now"]]
         public = {room: any(is_pub.get(old, True) for old, new in it["now"].items() if new.split("/")[0] == room) for room in it["about"]}
         open(f"{at}/Lib.antt", "w").write("".join(f"{line}\n" for line in [*others, *(("pub " if public[room] else "") + f"mod {room}" for room in it["about"])]))
