@@ -19,9 +19,10 @@ use crate::handed::{Handed, TickedSide};
 use crate::note::Note;
 use ethcm_end::{End, Input, Ticked};
 use ethcm_headers::PacketBytes;
-use linx_base::{Message, NoMemory, Session, TryCopy, UndoList};
+use linx_base::{Message, NoMemory, Session, TryCopy};
 use std::alloc::Global;
 use std::marker::Model;
+use told_list::ToldList;
 
 /// One side of a link, with a way back: its end, and the record of its sessions as the notes that
 /// were taken, oldest first. Contracts see the side as it was when the event began, and as it is
@@ -29,7 +30,7 @@ use std::marker::Model;
 #[derive(Drop)]
 pub(crate) struct Half {
     end: End,
-    notes: UndoList<Note>,
+    notes: ToldList<Note>,
     /// Whether anything was done to the side since the event began.
     touched: bool,
 }
@@ -82,7 +83,7 @@ impl Half {
     {
         Half {
             end: End::new(alloc, 1, window, piece),
-            notes: UndoList::new(alloc),
+            notes: ToldList::new(),
             touched: false,
         }
     }
@@ -116,11 +117,11 @@ impl Half {
             Input::WentUp => Ok(went_up(mine, self.end.peer())),
             Input::WentDown => {
                 let session = mine;
-                self.notes.push(Note::Ended { session, peer })?;
+                self.notes.push(Note::Ended { session, peer });
                 Ok(Handed::WentDown { session })
             }
             Input::Got(message) => {
-                self.notes.push(Note::Handed(message.copy()?))?;
+                self.notes.push(Note::Handed(message.copy()?));
                 Ok(Handed::Got(message))
             }
         }
@@ -146,7 +147,7 @@ impl Half {
         match ticked {
             Ticked::Stays => Ok(TickedSide::Stays),
             Ticked::WentDown => {
-                self.notes.push(Note::Ended { session, peer })?;
+                self.notes.push(Note::Ended { session, peer });
                 Ok(TickedSide::WentDown { session })
             }
         }
@@ -166,7 +167,7 @@ impl Half {
         self.touched = true;
         self.end.offer(message)?;
         send_all(&mut self.end, out)?;
-        self.notes.push(Note::Offered(message.copy()?))?;
+        self.notes.push(Note::Offered(message.copy()?));
         Ok(())
     }
 
@@ -180,7 +181,7 @@ impl Half {
         self.touched = true;
         let session = self.end.mine();
         let peer = self.end.peer();
-        self.notes.push(Note::Ended { session, peer })?;
+        self.notes.push(Note::Ended { session, peer });
         self.end.restart(boot);
         Ok(())
     }

@@ -51,7 +51,7 @@ impl Half {
     {
         Half {
             end: RlnhEnd::new(alloc),
-            kept: History::new(alloc),
+            kept: History::new(),
             touched: false,
         }
     }
@@ -63,7 +63,7 @@ impl Half {
     {
         self.touched = true;
         self.end.begin()?;
-        self.kept.note(Note::WentUp(peer))?;
+        self.kept.note(Note::WentUp(peer));
         Ok(())
     }
 
@@ -74,7 +74,7 @@ impl Half {
     {
         self.touched = true;
         self.end.empty();
-        self.kept.note(Note::Began(next))?;
+        self.kept.note(Note::Began(next));
         Ok(())
     }
 
@@ -92,7 +92,7 @@ impl Half {
             return Ok(());
         }
         let name = name.copy()?;
-        self.kept.note(Note::Published { inc, name })?;
+        self.kept.note(Note::Published { inc, name });
         Ok(())
     }
 
@@ -123,7 +123,7 @@ impl Half {
         if !known {
             return Ok(());
         }
-        self.kept.note(Note::Unpublished(inc))?;
+        self.kept.note(Note::Unpublished(inc));
         Ok(())
     }
 
@@ -135,7 +135,7 @@ impl Half {
     {
         self.touched = true;
         self.end.query(name)?;
-        self.kept.note(Note::Asked(name.copy()?))?;
+        self.kept.note(Note::Asked(name.copy()?));
         Ok(())
     }
 
@@ -152,12 +152,12 @@ impl Half {
         self.end.send(from, name, to, signal)?;
         let signal = signal.note()?;
         if known {
-            self.kept.note(Note::Signaled { from, to, signal })?;
+            self.kept.note(Note::Signaled { from, to, signal });
             return Ok(());
         }
         let name = name.copy()?;
-        self.kept.note(Note::Published { inc: from, name })?;
-        self.kept.note(Note::Signaled { from, to, signal })?;
+        self.kept.note(Note::Published { inc: from, name });
+        self.kept.note(Note::Signaled { from, to, signal });
         Ok(())
     }
 
@@ -178,7 +178,7 @@ impl Half {
                     from,
                     to,
                     signal: signal.note()?,
-                })?;
+                });
                 Ok(TrunkUp::Arrived { from, to, signal })
             }
             Up::Freed { from, to, signal } => {
@@ -186,22 +186,22 @@ impl Half {
                     from,
                     to,
                     signal: signal.note()?,
-                })?;
+                });
                 Ok(TrunkUp::Nothing)
             }
             Up::Met { inc, name } => {
                 self.kept.note(Note::Met {
                     inc,
                     name: name.copy()?,
-                })?;
+                });
                 Ok(TrunkUp::Met { inc, name })
             }
             Up::Gone { inc } => {
-                self.kept.note(Note::Gone(inc))?;
+                self.kept.note(Note::Gone(inc));
                 Ok(TrunkUp::Gone { inc })
             }
             Up::Asked { name } => {
-                self.kept.note(Note::AskedFor(name.copy()?))?;
+                self.kept.note(Note::AskedFor(name.copy()?));
                 Ok(TrunkUp::Asked { name })
             }
             Up::Bad => Ok(TrunkUp::Nothing),

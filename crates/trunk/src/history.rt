@@ -1,4 +1,4 @@
-ghost use Rattle.std.specs.Prelude.{◌≡◌, OnOk, OnErr};
+ghost use Rattle.std.specs.Prelude.{◌≡◌};
 ghost use Rattle.linx_base.specs.Both.{still};
 ghost use Rattle.linx_base.specs.Numbers.{first_session};
 ghost use Rattle.trunk_record.specs.Changes.{new_side};
@@ -6,16 +6,15 @@ ghost use Rattle.trunk.specs.Notes.{noted};
 ghost use Rattle.trunk.specs.Publishing.{newest_noted, newest_unpublished};
 
 use crate::note::Note;
-use linx_base::{NoMemory, UndoList};
-use std::alloc::Global;
 use std::marker::Model;
+use told_list::ToldList;
 
 /// What a side of a trunk said and was given, session by session, with a way back, as the notes
-/// that were taken, oldest first. Contracts see the record as it was when the event began, and as
-/// it is now.
+/// that were taken, oldest first. Contracts alone read it, as it was when the event began, and as it
+/// is now; but one number of it takes no memory.
 #[derive(Drop)]
 pub struct History {
-    notes: UndoList<Note>,
+    notes: ToldList<Note>,
     /// The greatest number of an incarnation that was unpublished in the present session.
     newest: u64,
     old_newest: u64,
@@ -49,27 +48,24 @@ fn newest_with(newest: u64, note: &Note) -> u64
 }
 
 impl History {
-    /// The first session of boot 1, in which nothing was said. It takes no memory.
-    pub fn new(alloc: Global) -> History
+    /// The first session of boot 1, in which nothing was said.
+    pub fn new() -> History
         ensures { result ≡ still (new_side (first_session 1)) }
     {
         History {
-            notes: UndoList::new(alloc),
+            notes: ToldList::new(),
             newest: 0,
             old_newest: 0,
         }
     }
 
-    /// One more note is taken. A refusal changes nothing.
-    pub fn note(&mut self, note: Note) -> Result<(), NoMemory>
-        ensures is { OnOk result (self.new.is ≡ noted self.old.is note) }
+    /// One more note is taken.
+    pub fn note(&mut self, note: Note)
+        ensures is { self.new.is ≡ noted self.old.is note }
         ensures was { self.new.was ≡ self.old.was }
-        ensures err { OnErr result (self.new ≡ self.old) }
     {
-        let newest = newest_with(self.newest, &note);
-        self.notes.push(note)?;
-        self.newest = newest;
-        Ok(())
+        self.newest = newest_with(self.newest, &note);
+        self.notes.push(note);
     }
 
     /// The greatest number of an incarnation that was unpublished in the present session, 0 where
@@ -80,7 +76,7 @@ impl History {
         self.newest
     }
 
-    /// What is now stays. It takes no memory.
+    /// What is now stays.
     pub fn keep(&mut self)
         ensures { self.new ≡ still self.old.is }
     {
@@ -88,7 +84,7 @@ impl History {
         self.old_newest = self.newest;
     }
 
-    /// What was is again. It takes no memory.
+    /// What was is again.
     pub fn undo(&mut self)
         ensures { self.new ≡ still self.old.was }
     {

@@ -9,7 +9,7 @@ returns-clause-half c =
       ← c.self.view_is,
       c.in_ok-send_all.ensures.end,
       c.in_ok-offer.ensures.is,
-      c.in_ok-push.ensures.ok,
+      c.push.ensures.is,
       c.in_ok-copy.ensures,
     ) (noted_offered c.self.inside.end.is
     (drained (offer_of c.self.inside.end.is c.args.message.now)) c.self.inside.notes.is

@@ -16,24 +16,24 @@ returns-in-WentUp-clause-handed c =
     (rw c.mine-mine.ensures.mine at
     (c.went_up.ensures (packet_at c.args.bytes.now).src (c.peer.ensures ∙ peer))))
 
-pub returns-in_ok-push-in-WentDown-clause-half : goal.returns-in_ok-push-in-WentDown-clause-half
-returns-in_ok-push-in-WentDown-clause-half c =
+pub returns-in-WentDown-clause-half : goal.returns-in-WentDown-clause-half
+returns-in-WentDown-clause-half c =
     rw (← c.self.view_is) (received c.self.inside.end.is c.input.new.self.is
     c.send_all.new.end.is (packet_at c.args.bytes.now) WentDown
     (rw c.in-WentDown.is at
     (c.in_ok-input.ensures.packet (packet_at c.args.bytes.now) c.requires.spelled))
     c.in_ok-send_all.ensures.end c.self.inside.notes.is c.push.new.self.is
     (rw (
-      c.in_ok-push-in-WentDown.ensures.ok,
+      c.push.ensures.is,
       c.mine-mine.ensures.mine,
       c.peer-peer.ensures,
     ) refl))
 
-pub returns-in_ok-push-in-Got-clause-half : goal.returns-in_ok-push-in-Got-clause-half
-returns-in_ok-push-in-Got-clause-half c =
+pub returns-in_ok-copy-in-Got-clause-half : goal.returns-in_ok-copy-in-Got-clause-half
+returns-in_ok-copy-in-Got-clause-half c =
     rw (← c.self.view_is) (received c.self.inside.end.is c.input.new.self.is
     c.send_all.new.end.is (packet_at c.args.bytes.now) (Got c.in-Got.message)
     (rw c.in-Got.is at
     (c.in_ok-input.ensures.packet (packet_at c.args.bytes.now) c.requires.spelled))
     c.in_ok-send_all.ensures.end c.self.inside.notes.is c.push-in-Got.new.self.is
-    (rw (c.in_ok-push-in-Got.ensures.ok, c.in_ok-copy-in-Got.ensures) refl))
+    (rw (c.push-in-Got.ensures.is, c.in_ok-copy-in-Got.ensures) refl))

@@ -7,7 +7,7 @@ returns-clause-half c =
     rw (
       ← c.self.view_is,
       c.restart.ensures.is,
-      c.in_ok-push.ensures.ok,
+      c.push.ensures.is,
       c.mine-session.ensures.mine,
       c.peer-peer.ensures,
     ) (noted_ended c.self.inside.end.is (restart_of c.self.inside.end.is c.args.boot)

@@ -10,8 +10,8 @@ returns-clause-is c =
     rw (
       ← c.self.view_is,
       c.in_ok-send.ensures.is,
-      c.in_ok-note-3.ensures.is,
-      c.in_ok-note-2.ensures.is,
+      c.note-3.ensures.is,
+      c.note-2.ensures.is,
       c.in_ok-signal.ensures,
       c.in_ok-name.ensures,
     ) (ap (with_kept (after old made))

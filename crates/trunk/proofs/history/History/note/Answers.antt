@@ -8,8 +8,8 @@ use Rattle.trunk.proofs.history.History.note.Goals as goal
 pub invariant_of-self-2 : goal.invariant_of-self-2
 invariant_of-self-2 c =
     let A = record_of c.self.inside.notes.is in (
-      rw c.in_ok-push.ensures.was c.self.invariant.0,
-      rw (c.in_ok-push.ensures.ok, one_more c.self.inside.notes.is c.args.note)
+      rw c.push.ensures.was c.self.invariant.0,
+      rw (c.push.ensures.is, one_more c.self.inside.notes.is c.args.note)
           (c.newest_with-newest.ensures
           ∙ ap (λ n. newest_noted n c.args.note) c.self.invariant.1
           ∙ sym (newest_more A c.args.note)),
@@ -17,4 +17,4 @@ invariant_of-self-2 c =
 
 pub returns-clause-is : goal.returns-clause-is
 returns-clause-is c =
-    rw (← c.self.view_is, c.in_ok-push.ensures.ok) (one_more c.self.inside.notes.is c.args.note)
+    rw (← c.self.view_is, c.push.ensures.is) (one_more c.self.inside.notes.is c.args.note)
