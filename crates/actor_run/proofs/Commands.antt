@@ -5,7 +5,7 @@ use Rattle.std.specs.Prelude.{slice_get}
 use Rattle.linx_base.specs.declared.identity.AttRef.{AttRef}
 use Rattle.linx_base.specs.declared.identity.Inc.{Inc}
 use Rattle.linx_base.specs.declared.identity.Peer.{Peer}
-use Rattle.linx_base.specs.declared.signal.SigNote.{SigNote}
+use Rattle.linx_base.specs.SigNotes.{SigNote}
 use Rattle.script_words.specs.declared.command.Command.{Command}
 use Rattle.script_words.specs.declared.command.Command.TheVariants.{Open, Close, Send, Forward}
 use Rattle.script_words.specs.declared.command.Command.TheVariants.{Recv, Hunt, Attach, Detach}

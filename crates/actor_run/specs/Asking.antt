@@ -5,7 +5,7 @@ use Rattle.linx_base.specs.Content.{data_limit}
 use Rattle.linx_base.specs.declared.identity.AttRef.{AttRef}
 use Rattle.linx_base.specs.declared.identity.Inc.{Inc}
 use Rattle.linx_base.specs.declared.identity.Peer.{Peer}
-use Rattle.linx_base.specs.declared.signal.SigNote.{SigNote}
+use Rattle.linx_base.specs.SigNotes.{SigNote}
 use Rattle.journal.specs.declared.event.Event.{Event}
 use Rattle.journal.specs.declared.event.Event.TheVariants as asks
 use Rattle.journal.specs.declared.head.Refusal.TheVariants.{NoPeer, NoSignal, NoRef}

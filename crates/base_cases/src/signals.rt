@@ -44,8 +44,8 @@ fn resize_keeps_the_first_bytes_and_adds_zeros(rt: HostRuntime) -> Result<(), Fa
 #[test]
 fn a_note_has_the_content_of_its_signal(rt: HostRuntime) -> Result<(), Fail> {
     let note = Signal::alloc(rt.alloc(), 3, &[1, 2])?.note()?;
-    assert_eq!(rt; note.number, 3);
-    assert_eq!(rt; note.bytes.bytes(), [1, 2].as_slice());
+    assert_eq!(rt; note.number(), 3);
+    assert_eq!(rt; note.data().bytes(), [1, 2].as_slice());
     Ok(())
 }
 

@@ -16,7 +16,7 @@ use Rattle.linx_base.specs.declared.identity.Side.{Side}
 use Rattle.linx_base.specs.declared.identity.Side.TheVariants.{First, Second}
 use Rattle.linx_base.specs.declared.name.Path.{Path}
 use Rattle.linx_base.specs.declared.name.Path.TheVariants.{Local, Over}
-use Rattle.linx_base.specs.declared.signal.SigNote.{SigNote}
+use Rattle.linx_base.specs.SigNotes.{SigNote}
 use Rattle.carrier.specs.Events.{half_of}
 use Rattle.journal.specs.History.{endpoint_of, name_of, next_inc, opened_on}
 use Rattle.journal.specs.Living.{is_alive}

@@ -17,7 +17,7 @@ use Rattle.linx_base.specs.declared.name.Path.TheVariants.{Local}
 use Rattle.linx_base.specs.declared.pending.PendingAttach.{PendingAttach}
 use Rattle.linx_base.specs.declared.pending.PendingHunt.{PendingHunt}
 use Rattle.linx_base.specs.declared.signal.Reason.TheVariants as reasons
-use Rattle.linx_base.specs.declared.signal.SigNote.{SigNote}
+use Rattle.linx_base.specs.SigNotes.{SigNote}
 use Rattle.linx_base.specs.Peers.{same_peer}
 use Rattle.sigsel.specs.declared.sigsel.Sigsel.{Sigsel}
 use Rattle.journal.specs.declared.by.By.TheVariants.{Actor}

@@ -14,7 +14,7 @@ use Rattle.linx_base.specs.declared.identity.Peer.TheVariants.{Here}
 use Rattle.linx_base.specs.declared.identity.Session.{Session}
 use Rattle.linx_base.specs.declared.identity.Side.{Side}
 use Rattle.linx_base.specs.declared.identity.Side.TheVariants.{First, Second}
-use Rattle.linx_base.specs.declared.signal.SigNote.{SigNote}
+use Rattle.linx_base.specs.SigNotes.{SigNote}
 use Rattle.rlnh_end.specs.declared.heard.Heard.{Heard}
 use Rattle.carrier.specs.Events.{handed_by}
 use Rattle.journal.specs.declared.by.By.{By}

@@ -8,7 +8,7 @@ use Rattle.linx_base.specs.declared.identity.Peer.TheVariants.{There}
 use Rattle.linx_base.specs.declared.identity.Side.{Side}
 use Rattle.linx_base.specs.declared.name.Path.{Path}
 use Rattle.linx_base.specs.declared.name.Path.TheVariants.{Over}
-use Rattle.linx_base.specs.declared.signal.SigNote.{SigNote}
+use Rattle.linx_base.specs.SigNotes.{SigNote}
 use Rattle.journal.specs.History.{name_or_none}
 use Rattle.link_laws.specs.Ends.{IsLinkOf}
 use Rattle.node_kernel.specs.Nodes.{NodeState, find_at, is_living, name_at}

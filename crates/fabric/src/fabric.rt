@@ -2,7 +2,7 @@
 ghost use Rattle.std.specs.Prelude.{◌≡◌, ◌&&◌, ◌<◌, ◌≤◌, Option, true, false, []};
 ghost use Rattle.std.specs.Prelude.{length, replicate, IfOk, IfErr, OnErr, OnOk, IsSome};
 ghost use Rattle.std.specs.Prelude.{Some, None, IsTrue};
-ghost use Rattle.linx_base.specs.declared.signal.SigNote.{SigNote};
+ghost use Rattle.linx_base.specs.SigNotes.{SigNote};
 ghost use Rattle.sigsel.specs.Selection.{first_selected};
 ghost use Rattle.linx_base.specs.NameText.{is_name};
 ghost use Rattle.journal.specs.History.{endpoint_of};

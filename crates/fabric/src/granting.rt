@@ -1,7 +1,7 @@
 //! What an actor is granted of what it asks: an opening where it has no endpoint, and what needs an
 //! endpoint where it has one.
 ghost use Rattle.std.specs.Prelude.{◌≡◌, Option};
-ghost use Rattle.linx_base.specs.declared.signal.SigNote.{SigNote};
+ghost use Rattle.linx_base.specs.SigNotes.{SigNote};
 ghost use Rattle.node_kernel.specs.Answers.{asks_to_open, granted_by, needs_endpoint};
 ghost use Rattle.fabric.specs.Standings.{unless_refused};
 

@@ -12,7 +12,7 @@ use Rattle.linx_base.specs.declared.identity.NodeNo.{NodeNo}
 use Rattle.linx_base.specs.declared.identity.Peer.TheVariants.{Here}
 use Rattle.linx_base.specs.declared.item.Item.{Item}
 use Rattle.linx_base.specs.declared.item.Kind.{Kind}
-use Rattle.linx_base.specs.declared.signal.SigNote.{SigNote}
+use Rattle.linx_base.specs.SigNotes.{SigNote}
 use Rattle.sigsel.specs.declared.sigsel.Sigsel.{Sigsel}
 use Rattle.journal.specs.declared.by.By.TheVariants.{Actor}
 use Rattle.journal.specs.declared.effect.Effect.TheVariants.{Opened, Closed, Arrived}

@@ -16,7 +16,7 @@ use Rattle.linx_base.specs.declared.pending.PendingAttach.{PendingAttach}
 use Rattle.linx_base.specs.declared.pending.PendingHunt.{PendingHunt}
 use Rattle.linx_base.specs.declared.signal.Reason.{Reason}
 use Rattle.linx_base.specs.declared.signal.Reason.TheVariants as reasons
-use Rattle.linx_base.specs.declared.signal.SigNote.{SigNote}
+use Rattle.linx_base.specs.SigNotes.{SigNote}
 use Rattle.journal.specs.declared.head.Detached.{Detached}
 use Rattle.journal.specs.declared.head.Detached.TheVariants.{Pending, Queued, None as Neither}
 use Rattle.journal.specs.declared.head.SentTo.{SentTo}

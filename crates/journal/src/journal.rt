@@ -48,7 +48,7 @@ impl Model for Journal {
 fn note_bytes(note: &SigNote) -> u64
     ensures { result ≡ size_of note.now }
 {
-    note.bytes.bytes().len() as u64 + 4
+    note.data().len() as u64 + 4
 }
 
 fn bytes_in_head(head: &Head) -> u64

@@ -1,6 +1,6 @@
 -- Digests that are known before they are printed.
 use Rattle.std.specs.Prelude.{◌≡◌, ℕ, zero, suc, List, Option, Some, None, slice_get, IsSomeAnd, ⊤}
-use Rattle.linx_base.specs.declared.signal.SigNote.{SigNote}
+use Rattle.linx_base.specs.SigNotes.{SigNote}
 use Rattle.journal.specs.declared.head.Head.{Head}
 use Rattle.journal.specs.declared.head.Head.TheVariants.{Send, Hunt, Attach}
 use Rattle.journal.specs.declared.effect.Effect.{Effect}

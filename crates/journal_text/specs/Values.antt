@@ -15,7 +15,7 @@ use Rattle.linx_base.specs.declared.frame.Verdict.TheVariants.{Deliver, Lose, Re
 use Rattle.linx_base.specs.declared.name.Names.{Names}
 use Rattle.linx_base.specs.declared.name.Path.{Path}
 use Rattle.linx_base.specs.declared.name.Path.TheVariants.{Local, Over}
-use Rattle.linx_base.specs.declared.signal.SigNote.{SigNote}
+use Rattle.linx_base.specs.SigNotes.{SigNote}
 use Rattle.linx_base.specs.declared.signal.Reason.{Reason}
 use Rattle.linx_base.specs.declared.signal.Reason.TheVariants.{Closed, Lost, Dead as DeadAlready}
 use Rattle.sigsel.specs.declared.sigsel.Sigsel.{Sigsel}

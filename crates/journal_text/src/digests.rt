@@ -4,7 +4,7 @@
 ghost use Rattle.std.specs.Prelude.{◌≡◌, ◌↔◌, ℕ, List, Option, Some};
 ghost use Rattle.std.specs.Prelude.{IsTrue, IfOk, IfSome, OnOk, slice_get};
 ghost use Rattle.std.specs.Option.{option_copied};
-ghost use Rattle.linx_base.specs.declared.signal.SigNote.{SigNote as SigNoteOf};
+ghost use Rattle.linx_base.specs.SigNotes.{SigNote as SigNoteOf};
 ghost use Rattle.journal.specs.declared.effect.Step.{Step};
 ghost use Rattle.journal.specs.Logs.{effect_at, step_at};
 ghost use Rattle.journal_text.specs.Values.{digest_text};
@@ -76,7 +76,7 @@ impl Digested {
 
 /// Whether a signal is printed with a digest.
 fn is_digested(note: &SigNote) -> bool {
-    note.bytes.len() > SPELLED_MOST
+    note.data().len() > SPELLED_MOST
 }
 
 /// The signal in a head.
@@ -313,7 +313,7 @@ impl Digests {
         if !is_digested(note) {
             return Ok(());
         }
-        let digest = place_of(alloc, &mut self.made, latest, &note.bytes)?;
+        let digest = place_of(alloc, &mut self.made, latest, note.data())?;
         self.placed.push(Placed {
             step: position,
             place,

@@ -79,9 +79,9 @@ pub(crate) fn write_signal(
     requires { IfSome known (λ digested. digested.now ≡ note.now.bytes) }
     ensures { OnOk result (out.new.items ≡ out.old.items ++ signal_text note.now) }
 {
-    write_number(out, note.number as u64)?;
+    write_number(out, note.number() as u64)?;
     write_byte(out, b' ')?;
-    write_data(out, &note.bytes, known)
+    write_data(out, note.data(), known)
 }
 
 #[tactic(auto, unfolding(crate::specs::Values::peer_signal_text))]

@@ -16,7 +16,7 @@ use Rattle.linx_base.specs.declared.identity.LinkNo.{LinkNo}
 use Rattle.linx_base.specs.declared.identity.Peer.{Peer}
 use Rattle.linx_base.specs.declared.identity.Peer.TheVariants.{Here, There}
 use Rattle.linx_base.specs.declared.identity.Session.{Session}
-use Rattle.linx_base.specs.declared.signal.SigNote.{SigNote}
+use Rattle.linx_base.specs.SigNotes.{SigNote}
 use Rattle.trunk_record.specs.Sayings.{has_met, has_gone, meets_inc, parts_inc, signaled, Given}
 use Rattle.trunk_record.specs.Sayings.{met, gone, arrived, signals_between}
 use Rattle.journal.specs.History.{effects_of, endpoint_by}

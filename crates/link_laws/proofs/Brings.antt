@@ -10,7 +10,7 @@ use Rattle.linx_base.specs.declared.identity.Inc.{Inc}
 use Rattle.linx_base.specs.declared.identity.LinkNo.{LinkNo}
 use Rattle.linx_base.specs.declared.identity.Peer.TheVariants.{Here, There}
 use Rattle.linx_base.specs.declared.identity.Session.{Session}
-use Rattle.linx_base.specs.declared.signal.SigNote.{SigNote}
+use Rattle.linx_base.specs.SigNotes.{SigNote}
 use Rattle.trunk_record.specs.Changes.{giving}
 use Rattle.trunk_record.specs.Records.{SessionRecord, SideRecord, all, has_session, said_in}
 use Rattle.trunk_record.specs.Records.{given_in, session_if}

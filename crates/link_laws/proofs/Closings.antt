@@ -19,7 +19,7 @@ use Rattle.linx_base.specs.declared.identity.Side.{Side}
 use Rattle.linx_base.specs.declared.name.Path.{Path}
 use Rattle.linx_base.specs.declared.name.Path.TheVariants.{Local, Over}
 use Rattle.linx_base.specs.declared.pending.PendingAttach.{PendingAttach}
-use Rattle.linx_base.specs.declared.signal.SigNote.{SigNote}
+use Rattle.linx_base.specs.SigNotes.{SigNote}
 use Rattle.journal.specs.Effects.{notices, arrivals_of, attached, closings, ending, held_elsewhere}
 use Rattle.journal.specs.Effects.{hunted}
 use Rattle.journal.specs.History.{closes, effects_of, endpoint_by, endpoint_of, is_by, is_closed}

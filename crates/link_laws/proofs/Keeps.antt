@@ -16,7 +16,7 @@ use Rattle.linx_base.specs.declared.identity.Peer.{Peer}
 use Rattle.linx_base.specs.declared.identity.Peer.TheVariants.{Here, There}
 use Rattle.linx_base.specs.declared.identity.Session.{Session}
 use Rattle.linx_base.specs.declared.pending.MetPeer.{MetPeer}
-use Rattle.linx_base.specs.declared.signal.SigNote.{SigNote}
+use Rattle.linx_base.specs.SigNotes.{SigNote}
 use Rattle.trunk_record.specs.Changes.{saying, giving}
 use Rattle.trunk_record.specs.Records.{SideRecord, has_session, said_in, given_in, up_in}
 use Rattle.trunk_record.specs.Records.{session_if}

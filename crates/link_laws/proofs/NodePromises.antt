@@ -21,7 +21,7 @@ use Rattle.linx_base.specs.declared.name.Path.TheVariants.{Local, Over}
 use Rattle.linx_base.specs.declared.pending.PendingAttach.{PendingAttach}
 use Rattle.linx_base.specs.declared.pending.PendingHunt.{PendingHunt}
 use Rattle.linx_base.specs.declared.signal.Reason.TheVariants as reasons
-use Rattle.linx_base.specs.declared.signal.SigNote.{SigNote}
+use Rattle.linx_base.specs.SigNotes.{SigNote}
 use Rattle.journal.specs.Effects.{arrivals_of, attached, closings, ending, held_elsewhere, hunted}
 use Rattle.journal.specs.Effects.{send_answer}
 use Rattle.journal.specs.History.{effects_of, endpoint_by, next_inc, open_endpoints, opened_on}

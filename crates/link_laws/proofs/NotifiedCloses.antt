@@ -23,7 +23,7 @@ use Rattle.linx_base.specs.declared.pending.PendingAttach.{PendingAttach}
 use Rattle.linx_base.specs.declared.pending.PendingHunt.{PendingHunt}
 use Rattle.linx_base.specs.declared.signal.Reason.{Reason}
 use Rattle.linx_base.specs.declared.signal.Reason.TheVariants as reasons
-use Rattle.linx_base.specs.declared.signal.SigNote.{SigNote}
+use Rattle.linx_base.specs.SigNotes.{SigNote}
 use Rattle.journal.specs.Effects.{arrivals_of, attached, closing, closings, ending, found, founds}
 use Rattle.journal.specs.Effects.{held_elsewhere, hunted, notice, notices}
 use Rattle.journal.specs.History.{closes, effects_of, endpoint_by, next_inc, open_endpoints}

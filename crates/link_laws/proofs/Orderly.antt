@@ -16,7 +16,7 @@ use Rattle.linx_base.specs.declared.identity.Peer.{Peer}
 use Rattle.linx_base.specs.declared.name.Path.{Path}
 use Rattle.linx_base.specs.declared.pending.PendingAttach.{PendingAttach}
 use Rattle.linx_base.specs.declared.pending.PendingHunt.{PendingHunt}
-use Rattle.linx_base.specs.declared.signal.SigNote.{SigNote}
+use Rattle.linx_base.specs.SigNotes.{SigNote}
 use Rattle.journal.specs.History.{closes, endpoint_by, endpoint_of, is_by, last_opened}
 use Rattle.journal.specs.History.{open_endpoints, opened_by, opened_in, opened_on, unless_closed}
 use Rattle.journal.specs.Laws.{KeepsEndpoints, KeepsMakers, is_opening, may_make}

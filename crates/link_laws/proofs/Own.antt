@@ -11,7 +11,7 @@ use Rattle.linx_base.specs.declared.identity.Peer.TheVariants.{Here, There}
 use Rattle.linx_base.specs.declared.identity.Session.{Session}
 use Rattle.linx_base.specs.declared.identity.Side.{Side}
 use Rattle.linx_base.specs.declared.pending.PendingAttach.{PendingAttach}
-use Rattle.linx_base.specs.declared.signal.SigNote.{SigNote}
+use Rattle.linx_base.specs.SigNotes.{SigNote}
 use Rattle.trunk_record.specs.Changes.{saying, says_sending}
 use Rattle.trunk_record.specs.Records.{SideRecord}
 use Rattle.trunk_record.specs.Sayings.{is_live, signaled, unpublished}

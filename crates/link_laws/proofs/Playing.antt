@@ -13,7 +13,7 @@ use Rattle.linx_base.specs.declared.identity.Peer.TheVariants.{There}
 use Rattle.linx_base.specs.declared.identity.Session.{Session}
 use Rattle.linx_base.specs.declared.identity.Side.{Side}
 use Rattle.linx_base.specs.declared.identity.Side.TheVariants.{First, Second}
-use Rattle.linx_base.specs.declared.signal.SigNote.{SigNote}
+use Rattle.linx_base.specs.SigNotes.{SigNote}
 use Rattle.sigsel.specs.declared.sigsel.Sigsel.{Sigsel}
 use Rattle.journal.specs.History.{endpoint_of}
 use Rattle.journal.specs.Laws.{IsBounded, KeepsMakers, KeepsReceives, KeepsSends, may_make}

@@ -10,7 +10,7 @@ use Rattle.linx_base.specs.declared.identity.Peer.TheVariants.{There}
 use Rattle.linx_base.specs.declared.identity.Session.{Session}
 use Rattle.linx_base.specs.declared.identity.Side.TheVariants.{First, Second}
 use Rattle.linx_base.specs.declared.name.Path.TheVariants.{Over}
-use Rattle.linx_base.specs.declared.signal.SigNote.{SigNote}
+use Rattle.linx_base.specs.SigNotes.{SigNote}
 use Rattle.linx_base.specs.declared.signal.Reason.TheVariants as reasons
 use Rattle.sigsel.specs.declared.sigsel.Sigsel.TheVariants.{Any}
 use Rattle.journal.specs.Traffic.{arrived_from, sent_to}

@@ -14,7 +14,7 @@ use Rattle.linx_base.specs.declared.identity.Peer.{Peer}
 use Rattle.linx_base.specs.declared.identity.Peer.TheVariants.{Here, There}
 use Rattle.linx_base.specs.declared.identity.Session.{Session}
 use Rattle.linx_base.specs.declared.signal.Reason.TheVariants as reasons
-use Rattle.linx_base.specs.declared.signal.SigNote.{SigNote}
+use Rattle.linx_base.specs.SigNotes.{SigNote}
 use Rattle.journal.specs.History.{closes, effects_of}
 use Rattle.journal.specs.Promises.{IsFromLiving}
 use Rattle.journal.specs.Shapes.{Shape, node_by}

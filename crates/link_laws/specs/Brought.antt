@@ -10,7 +10,7 @@ use Rattle.linx_base.specs.declared.identity.LinkNo.{LinkNo}
 use Rattle.linx_base.specs.declared.identity.Peer.{Peer}
 use Rattle.linx_base.specs.declared.identity.Peer.TheVariants.{Here, There}
 use Rattle.linx_base.specs.declared.identity.Session.{Session}
-use Rattle.linx_base.specs.declared.signal.SigNote.{SigNote}
+use Rattle.linx_base.specs.SigNotes.{SigNote}
 use Rattle.journal.specs.Effects.{losing, meeting, parting}
 use Rattle.journal.specs.History.{effects_of, is_closed, name_of, open_endpoints, openings}
 use Rattle.journal.specs.Living.{is_alive}

@@ -16,7 +16,7 @@ use Rattle.linx_base.specs.declared.identity.Side.{Side}
 use Rattle.linx_base.specs.declared.identity.Side.TheVariants.{First, Second}
 use Rattle.linx_base.specs.declared.name.Path.{Path}
 use Rattle.linx_base.specs.declared.name.Path.TheVariants.{Over}
-use Rattle.linx_base.specs.declared.signal.SigNote.{SigNote}
+use Rattle.linx_base.specs.SigNotes.{SigNote}
 use Rattle.trunk_record.specs.Changes.{beginning, giving, going_up, saying, says_sending}
 use Rattle.trunk_record.specs.Records.{SessionRecord, SideRecord, all, has_session, peer_in}
 use Rattle.trunk_record.specs.Records.{said_in}

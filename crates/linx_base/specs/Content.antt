@@ -1,5 +1,5 @@
 use Rattle.std.specs.Prelude.{ℕ, ◌+◌, ◌-◌, List, [], ◌∷◌, ◌++◌, length, take, replicate}
-use Rattle.linx_base.specs.declared.signal.SigNote.{SigNote}
+use Rattle.linx_base.specs.SigNotes.{SigNote}
 use Rattle.linx_base.specs.declared.signal.Reason.{Reason}
 use Rattle.linx_base.specs.declared.signal.Reason.TheVariants.{Closed, Lost, Dead}
 

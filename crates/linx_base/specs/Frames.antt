@@ -4,10 +4,11 @@ use Rattle.linx_base.specs.declared.frame.Frame.{Frame}
 use Rattle.linx_base.specs.declared.frame.Frame.TheVariants.{First, Next}
 use Rattle.linx_base.specs.declared.frame.Message.{Message}
 
--- the most bytes of a message's body, and of a piece
+-- the most bytes of a message's body
 abbrev pub body_limit : ℕ
 body_limit = 65536
 
+-- the most bytes of a piece
 abbrev pub payload_limit : ℕ
 payload_limit = 8192
 

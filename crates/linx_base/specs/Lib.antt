@@ -1,4 +1,5 @@
 pub mod NameText
+pub mod SigNotes
 pub mod Content
 pub mod Numbers
 pub mod Sides

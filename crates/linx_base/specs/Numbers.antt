@@ -7,10 +7,11 @@ use Rattle.linx_base.specs.declared.identity.Session.{Session}
 abbrev pub number_of : ℕ → ℕ → ℕ
 number_of high low = high * 4294967296 + low
 
--- the higher and the lower half of a number
+-- the higher half of a number
 abbrev pub high_half : ℕ → ℕ
 high_half number = number / 4294967296
 
+-- the lower half of a number
 abbrev pub low_half : ℕ → ℕ
 low_half number = number % 4294967296
 
@@ -30,10 +31,11 @@ is_on node inc = node_of inc == node
 abbrev pub session_of : ℕ → ℕ → Session
 session_of boot count = record { 0 = number_of boot count }
 
--- the boot of a session, and its count since then
+-- the boot of a session
 abbrev pub boot_of : Session → ℕ
 boot_of session = high_half session.0
 
+-- the count of a session since its boot
 abbrev pub count_of : Session → ℕ
 count_of session = low_half session.0
 

@@ -73,22 +73,6 @@ impl Reason {
     }
 }
 
-/// The content of a signal, as a journal notes it: its number and its data bytes.
-#[derive(Drop)]
-pub struct SigNote {
-    pub number: u32,
-    pub bytes: Blob,
-}
-
-impl TryCopy for SigNote {
-    fn copy(&self) -> Result<SigNote, NoMemory> {
-        Ok(SigNote {
-            number: self.number,
-            bytes: self.bytes.copy()?,
-        })
-    }
-}
-
 /// The first n bytes, and zeros where there are fewer.
 fn resized(alloc: Global, bytes: &[u8], n: usize) -> Result<Blob, NoMemory>
     ensures { IfOk result (λ made. made ≡ resized bytes.now n) }
@@ -124,7 +108,7 @@ pub struct Signal {
 impl Model for Signal {
     ghost use Rattle.std.specs.Prelude.{◌≤◌, length};
     ghost use Rattle.linx_base.specs.Content.{data_limit};
-    ghost use Rattle.linx_base.specs.declared.signal.SigNote.{SigNote};
+    ghost use Rattle.linx_base.specs.SigNotes.{SigNote};
 
     ghost Value = { SigNote };
 
@@ -217,13 +201,69 @@ impl Signal {
         self.bytes.len() as u32 + 4
     }
 
+    /// A signal of the same content, which shares the bytes.
+    fn shared(&self) -> Result<Signal, NoMemory>
+        ensures { IfOk result (λ signal. signal ≡ self.now) }
+    {
+        Ok(Signal {
+            number: self.number,
+            bytes: self.bytes.copy()?,
+        })
+    }
+
     /// The content for a journal, which shares the bytes.
     pub fn note(&self) -> Result<SigNote, NoMemory>
         ensures { IfOk result (λ note. note ≡ self.now) }
     {
         Ok(SigNote {
-            number: self.number,
-            bytes: self.bytes.copy()?,
+            signal: self.shared()?,
         })
+    }
+}
+
+/// The content of a signal, as a journal notes it: a number and 0 to 65,532 data bytes, which are
+/// shared with the signal and with copies.
+#[derive(Drop)]
+pub struct SigNote {
+    signal: Signal,
+}
+
+impl Model for SigNote {
+    ghost use Rattle.linx_base.specs.SigNotes.{SigNote as Content};
+
+    ghost Value = { Content };
+
+    ghost view = { λ n. n.signal };
+}
+
+impl SigNote {
+    ghost use Rattle.linx_base.specs.Content.{data_limit};
+
+    /// The number.
+    pub fn number(&self) -> u32
+        ensures { result ≡ self.now.number }
+    {
+        self.signal.number()
+    }
+
+    /// The data bytes, which can be shared.
+    pub fn data(&self) -> &Blob
+        ensures data { result.now ≡ self.now.bytes }
+        ensures bounded { length self.now.bytes ≤ data_limit }
+    {
+        self.signal.data()
+    }
+
+    /// A signal of this content, which shares the bytes.
+    pub fn signal(&self) -> Result<Signal, NoMemory>
+        ensures { IfOk result (λ signal. signal ≡ self.now) }
+    {
+        self.signal.shared()
+    }
+}
+
+impl TryCopy for SigNote {
+    fn copy(&self) -> Result<SigNote, NoMemory> {
+        self.signal.note()
     }
 }

@@ -62,7 +62,7 @@ fn reason_text(reason: Reason) -> &'static str {
 /// What an effect delivers: to whom, from whom, and the signal.
 fn delivery_text(alloc: Global, at: Inc, from: Peer, note: &SigNote) -> Result<String, Fail> {
     let (at, from) = (inc_text(alloc, at)?, peer_text(alloc, from)?);
-    let signal = signal_text(alloc, note.number, note.bytes.bytes())?;
+    let signal = signal_text(alloc, note.number(), note.data().bytes())?;
     Ok(format!(in alloc; "{at} {from} {signal}")?)
 }
 

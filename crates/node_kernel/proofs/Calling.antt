@@ -19,7 +19,7 @@ use Rattle.linx_base.specs.declared.pending.MetPeer.{MetPeer}
 use Rattle.linx_base.specs.declared.pending.PendingAttach.{PendingAttach}
 use Rattle.linx_base.specs.declared.pending.PendingHunt.{PendingHunt}
 use Rattle.linx_base.specs.declared.signal.Reason.TheVariants.{Dead}
-use Rattle.linx_base.specs.declared.signal.SigNote.{SigNote}
+use Rattle.linx_base.specs.SigNotes.{SigNote}
 use Rattle.sigsel.specs.Selection.{is_notice_of}
 use Rattle.journal.specs.declared.effect.Effect.{Effect}
 use Rattle.journal.specs.Effects.{arrivals_of, attached, closing, detach_answer, found, hunted}

@@ -6,7 +6,7 @@ use Rattle.linx_base.specs.declared.identity.ItemAt.{ItemAt}
 use Rattle.linx_base.specs.declared.identity.Peer.TheVariants.{Here}
 use Rattle.linx_base.specs.declared.item.Item.{Item}
 use Rattle.linx_base.specs.declared.item.Kind.TheVariants.{Plain}
-use Rattle.linx_base.specs.declared.signal.SigNote.{SigNote}
+use Rattle.linx_base.specs.SigNotes.{SigNote}
 use Rattle.journal.specs.declared.event.Event.{Event}
 use Rattle.journal.specs.declared.event.Event.TheVariants as asks
 use Rattle.journal.specs.declared.head.Head.{Head}

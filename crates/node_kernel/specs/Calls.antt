@@ -13,7 +13,7 @@ use Rattle.linx_base.specs.declared.identity.Session.{Session}
 use Rattle.linx_base.specs.declared.name.Path.TheVariants.{Local, Over}
 use Rattle.linx_base.specs.declared.pending.PendingAttach.{PendingAttach}
 use Rattle.linx_base.specs.declared.pending.PendingHunt.{PendingHunt}
-use Rattle.linx_base.specs.declared.signal.SigNote.{SigNote}
+use Rattle.linx_base.specs.SigNotes.{SigNote}
 use Rattle.sigsel.specs.Selection.{is_notice_of}
 use Rattle.journal.specs.declared.head.Detached.{Detached}
 use Rattle.journal.specs.declared.head.Detached.TheVariants.{Pending, Queued as FromQueue}

@@ -9,24 +9,11 @@ use crate::lookup::{deliver, take_last};
 use journal::Effect;
 use linx_base::{Inc, Item, ItemAt, Kind, NoMemory, Peer, SigNote, Signal, TryCopy};
 
-/// The most data bytes of a signal.
-const DATA_MOST: usize = 65_532;
-
 /// An item, and the endpoint whose queue it goes into.
 #[derive(Drop)]
 pub(crate) struct Delivery {
     pub(crate) to: Inc,
     pub(crate) item: Item,
-}
-
-/// The signal that a note is of. It shares the bytes. A note that is of none is refused.
-fn signal_of(note: &SigNote) -> Result<Signal, NoMemory>
-    ensures { IfOk result (λ signal. signal ≡ note.now) }
-{
-    if note.bytes.len() > DATA_MOST {
-        return Err(NoMemory);
-    }
-    Ok(Signal::of(note.number, note.bytes.copy()?))
 }
 
 /// A delivery, whose signal is that of a note.
@@ -42,7 +29,7 @@ fn make_delivery(
       item = record { signal = note.now; from = from; kind = kind; pos = pos };
     }) }
 {
-    let signal = signal_of(note)?;
+    let signal = note.signal()?;
     Ok(Delivery {
         to,
         item: Item {

@@ -76,7 +76,7 @@ fn head_adds(counted: Counted, head: &Head) -> u64
 {
     match (counted, head) {
         (Counted::Sent, Head::Send(_, _, _)) => 1,
-        (Counted::Bytes, Head::Send(_, note, _)) => note.bytes.len() as u64,
+        (Counted::Bytes, Head::Send(_, note, _)) => note.data().len() as u64,
         (Counted::Taken, Head::Take(_, _)) => 1,
         (Counted::FoundNone, Head::TakeNone(_)) => 1,
         _ => 0,

@@ -7,7 +7,7 @@ use Rattle.std.proofs.lemmas.Bool.{leb-true}
 use Rattle.linx_base.specs.Frames.{IsMessage}
 use Rattle.linx_base.specs.NameText.{is_name, is_name_byte}
 use Rattle.linx_base.specs.declared.frame.Message.{Message}
-use Rattle.linx_base.specs.declared.signal.SigNote.{SigNote}
+use Rattle.linx_base.specs.SigNotes.{SigNote}
 use Rattle.rlnh_messages.specs.Messages.{IsRlnh, spelling_of}
 use Rattle.rlnh_messages.specs.Signals.{IsSignal, IsSignalBody, signal_body}
 use Rattle.rlnh_messages.specs.declared.rlnh.Rlnh.{Rlnh}

@@ -1,7 +1,7 @@
 -- A message is read as one thing.
 use Rattle.std.proofs.Common.{◌≡◌, refl, ap, arith}
 use Rattle.linx_base.specs.declared.frame.Message.{Message}
-use Rattle.linx_base.specs.declared.signal.SigNote.{SigNote}
+use Rattle.linx_base.specs.SigNotes.{SigNote}
 use Rattle.rlnh_messages.specs.Messages.{Spells}
 use Rattle.rlnh_messages.specs.Signals.{IsSignalBody, SpellsSignal}
 use Rattle.rlnh_messages.specs.declared.rlnh.Rlnh.{Rlnh}

@@ -2,7 +2,7 @@
 use Rattle.std.proofs.Common.{◌≡◌, ℕ, List, [], ◌∷◌, ◌++◌, refl}
 use Rattle.linx_base.specs.Numbers.{inc_of}
 use Rattle.linx_base.specs.declared.identity.Inc.{Inc}
-use Rattle.linx_base.specs.declared.signal.SigNote.{SigNote}
+use Rattle.linx_base.specs.SigNotes.{SigNote}
 use Rattle.link_addresses.specs.declared.meaning.Meaning.TheVariants.{Free, Live, Closing}
 use Rattle.link_addresses.specs.Meanings.{address_of, lowest_free, with_lowest}
 use Rattle.rlnh_messages.specs.Messages.{spelling_of}

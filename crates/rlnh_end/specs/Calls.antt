@@ -3,7 +3,7 @@
 use Rattle.std.specs.Prelude.{ℕ, if◌then◌else◌, List, [], ◌∷◌, ◌++◌, Option, Some, None}
 use Rattle.linx_base.specs.declared.identity.Inc.{Inc}
 use Rattle.linx_base.specs.declared.frame.Message.{Message}
-use Rattle.linx_base.specs.declared.signal.SigNote.{SigNote}
+use Rattle.linx_base.specs.SigNotes.{SigNote}
 use Rattle.link_addresses.specs.declared.meaning.Meaning.TheVariants.{Live, Closing}
 use Rattle.link_addresses.specs.Meanings.{address_of, lowest_free, with_lowest, with_meaning}
 use Rattle.rlnh_end.specs.States.{RlnhTables, RlnhState, no_tables, addr_met, is_noted}

@@ -3,7 +3,7 @@
 use Rattle.std.specs.Prelude.{ℕ, List}
 use Rattle.linx_base.specs.declared.identity.Inc.{Inc}
 use Rattle.linx_base.specs.declared.frame.Message.{Message}
-use Rattle.linx_base.specs.declared.signal.SigNote.{SigNote}
+use Rattle.linx_base.specs.SigNotes.{SigNote}
 use Rattle.rlnh_messages.specs.Messages.{spelling_of}
 use Rattle.rlnh_messages.specs.Signals.{signal_body}
 use Rattle.rlnh_messages.specs.declared.rlnh.Rlnh.{Rlnh}

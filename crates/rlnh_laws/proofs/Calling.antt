@@ -4,7 +4,7 @@ use Rattle.std.proofs.Common.{None, inl, inr, refl, sym, ◌∙◌, ap, subst}
 use Rattle.std.specs.Prelude.{if◌then◌else◌}
 use Rattle.std.proofs.lemmas.List.{append_assoc}
 use Rattle.linx_base.specs.declared.identity.Inc.{Inc}
-use Rattle.linx_base.specs.declared.signal.SigNote.{SigNote}
+use Rattle.linx_base.specs.SigNotes.{SigNote}
 use Rattle.link_addresses.specs.declared.meaning.Meaning.TheVariants.{Live, Closing}
 use Rattle.link_addresses.specs.Meanings.{with_meaning, lowest_free, with_lowest}
 use Rattle.link_addresses.specs.Meanings.{address_of}

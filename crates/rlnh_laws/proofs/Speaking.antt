@@ -8,7 +8,7 @@ use Rattle.std.proofs.lemmas.Bool.{or_cases, or_left, or_right, true≢false, fa
 use Rattle.std.proofs.lemmas.Bool.Decides.{eqb_tells}
 use Rattle.linx_base.specs.Peers.{same_inc}
 use Rattle.linx_base.specs.declared.identity.Inc.{Inc}
-use Rattle.linx_base.specs.declared.signal.SigNote.{SigNote}
+use Rattle.linx_base.specs.SigNotes.{SigNote}
 use Rattle.link_addresses.specs.declared.meaning.Meaning.{Meaning}
 use Rattle.link_addresses.specs.declared.meaning.Meaning.TheVariants.{Free, Live, Closing}
 use Rattle.link_addresses.specs.Meanings.{meaning_of, with_meaning, lowest_free, with_lowest}

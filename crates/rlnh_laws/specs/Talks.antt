@@ -1,7 +1,7 @@
 -- What a session is after its end said or heard something, and what that keeps.
 use Rattle.std.specs.Prelude.{◌≡◌, true, false, List, [], ◌∷◌, ◌++◌, Some, None}
 use Rattle.linx_base.specs.declared.identity.Inc.{Inc}
-use Rattle.linx_base.specs.declared.signal.SigNote.{SigNote}
+use Rattle.linx_base.specs.SigNotes.{SigNote}
 use Rattle.link_addresses.specs.declared.meaning.Meaning.TheVariants.{Free, Live, Closing}
 use Rattle.link_addresses.specs.Meanings.{meaning_of, with_meaning, address_of, ChangesMeaning}
 use Rattle.rlnh_end.specs.States.{RlnhTables, inc_met}

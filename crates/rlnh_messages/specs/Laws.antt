@@ -1,7 +1,7 @@
 -- What follows from the spelling alone.
 use Rattle.std.specs.Prelude.{◌≡◌, List, ℕ}
 use Rattle.rlnh_messages.specs.declared.rlnh.Rlnh.{Rlnh}
-use Rattle.linx_base.specs.declared.signal.SigNote.{SigNote}
+use Rattle.linx_base.specs.SigNotes.{SigNote}
 use Rattle.rlnh_messages.specs.Messages.{IsRlnh, Spells, spelling_of}
 use Rattle.rlnh_messages.specs.Signals.{IsSignal, IsSignalBody, SpellsSignal, signal_body}
 

@@ -3,7 +3,7 @@ use Rattle.std.specs.Prelude.{◌≡◌, ℕ, ◌^◌, ◌<◌, ◌≤◌, List,
 use Rattle.byteorder.specs.Endian.{big_bytes}
 use Rattle.linx_base.specs.Content.{data_limit}
 use Rattle.linx_base.specs.Frames.{body_limit}
-use Rattle.linx_base.specs.declared.signal.SigNote.{SigNote}
+use Rattle.linx_base.specs.SigNotes.{SigNote}
 
 -- the body by which a signal goes: its number in four bytes, and its data
 abbrev pub signal_body : SigNote → List ℕ

@@ -1,7 +1,7 @@
 //! The bodies by which signals go over a link: the signal's number, and its data.
 
 ghost use Rattle.std.specs.Prelude.{◌≡◌, IfOk, IfErr};
-ghost use Rattle.linx_base.specs.declared.signal.SigNote.{SigNote as AnySignal};
+ghost use Rattle.linx_base.specs.SigNotes.{SigNote as AnySignal};
 ghost use Rattle.rlnh_messages.specs.Signals.{IsSignal, IsSignalBody, SpellsSignal, signal_body};
 
 use crate::fields::u32_in;

@@ -5,7 +5,7 @@ use Rattle.std.specs.Prelude.{IsTrue, if◌then◌else◌}
 use Rattle.std.proofs.lemmas.List.{length-append}
 use Rattle.linx_base.specs.NameText.{is_name}
 use Rattle.linx_base.specs.declared.identity.Inc.{Inc}
-use Rattle.linx_base.specs.declared.signal.SigNote.{SigNote}
+use Rattle.linx_base.specs.SigNotes.{SigNote}
 use Rattle.link_addresses.specs.Meanings.{address_of, HasAddressLeft}
 use Rattle.trunk_record.specs.Sayings.{heard_as, is_live, was_unpublished}
 use Rattle.rlnh_end.specs.States.{RlnhTables, addr_met, is_noted, without_note}

@@ -2,7 +2,7 @@
 use Rattle.std.proofs.Common.{◌≡◌, false, List, ℕ, [], ◌∷◌, refl}
 use Rattle.linx_base.specs.Numbers.{first_session, inc_of}
 use Rattle.linx_base.specs.declared.identity.Side.TheVariants.{First, Second}
-use Rattle.linx_base.specs.declared.signal.SigNote.{SigNote}
+use Rattle.linx_base.specs.SigNotes.{SigNote}
 use Rattle.link_addresses.specs.Meanings.{address_of, lowest_free, with_lowest}
 use Rattle.rlnh_messages.specs.Messages.{spelling_of}
 use Rattle.rlnh_messages.specs.declared.rlnh.Rlnh.TheVariants as rlnh

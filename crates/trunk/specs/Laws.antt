@@ -9,7 +9,7 @@ use Rattle.linx_base.specs.Sides.{other_of}
 use Rattle.linx_base.specs.declared.frame.Message.{Message}
 use Rattle.linx_base.specs.declared.identity.Inc.{Inc}
 use Rattle.linx_base.specs.declared.identity.Side.{Side}
-use Rattle.linx_base.specs.declared.signal.SigNote.{SigNote}
+use Rattle.linx_base.specs.SigNotes.{SigNote}
 use Rattle.link_addresses.specs.declared.meaning.Meaning.{Meaning}
 use Rattle.link_addresses.specs.declared.meaning.Meaning.TheVariants.{Free, Live, Closing}
 use Rattle.link_addresses.specs.Meanings.{address_of, meaning_of, HasAddressLeft}

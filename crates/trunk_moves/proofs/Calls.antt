@@ -13,7 +13,7 @@ use Rattle.linx_base.specs.declared.identity.Inc.{Inc}
 use Rattle.linx_base.specs.declared.identity.Session.{Session}
 use Rattle.linx_base.specs.declared.identity.Side.{Side}
 use Rattle.linx_base.specs.declared.identity.Side.TheVariants.{First, Second}
-use Rattle.linx_base.specs.declared.signal.SigNote.{SigNote}
+use Rattle.linx_base.specs.SigNotes.{SigNote}
 use Rattle.rlnh_end.specs.Calls.{Saying, close_of, opened_of, query_of, send_of}
 use Rattle.rlnh_end.specs.States.{RlnhTables, is_noted, without_note}
 use Rattle.trunk_record.specs.Changes.{saying, says_sending}

@@ -17,7 +17,7 @@ use Rattle.linx_base.specs.declared.identity.Session.{Session}
 use Rattle.linx_base.specs.declared.identity.Side.{Side}
 use Rattle.linx_base.specs.declared.name.Path.{Path}
 use Rattle.linx_base.specs.declared.name.Path.TheVariants.{Local, Over}
-use Rattle.linx_base.specs.declared.signal.SigNote.{SigNote}
+use Rattle.linx_base.specs.SigNotes.{SigNote}
 use Rattle.rlnh_end.specs.Calls.{close_of, opened_of, query_of, send_of}
 use Rattle.trunk_record.specs.Changes.{saying}
 use Rattle.trunk_record.specs.Sayings.{is_live, unpublished}

@@ -11,7 +11,7 @@ use Rattle.linx_base.specs.FirstMatch.{first_match}
 use Rattle.linx_base.specs.Peers.{same_inc}
 use Rattle.linx_base.specs.declared.identity.Inc.{Inc}
 use Rattle.linx_base.specs.declared.identity.Session.{Session}
-use Rattle.linx_base.specs.declared.signal.SigNote.{SigNote}
+use Rattle.linx_base.specs.SigNotes.{SigNote}
 use Rattle.trunk_record.specs.Changes.{new_side, says_sending, giving, saying, going_up, beginning}
 use Rattle.trunk_record.specs.Changes.{fresh}
 use Rattle.trunk_record.specs.Records.{SessionRecord, SideRecord, all, has_session, peer_of}

@@ -7,7 +7,7 @@ use Rattle.std.proofs.lemmas.Bool.{false_from_ne_true, eq-eqb, eqb-true}
 use Rattle.std.proofs.lemmas.List.Folds.{list_any-append}
 use Rattle.linx_base.specs.Peers.{same_inc}
 use Rattle.linx_base.specs.declared.identity.Inc.{Inc}
-use Rattle.linx_base.specs.declared.signal.SigNote.{SigNote}
+use Rattle.linx_base.specs.SigNotes.{SigNote}
 use Rattle.trunk_record.specs.Sayings.{Said, published, asked, signaled, unpublished, Given, met}
 use Rattle.trunk_record.specs.Sayings.{asked_for, arrived, freed, gone, heard_as, unpublishes}
 use Rattle.trunk_record.specs.Sayings.{was_published, was_unpublished, is_live, signals_between}
