@@ -3,7 +3,7 @@
 
 ghost use Rattle.std.specs.Prelude.{◌≡◌, ◌==◌, ◌&&◌, ◌||◌, ◌+◌, ◌<◌, ◌≤◌, true, false};
 ghost use Rattle.std.specs.Prelude.{length, is_some};
-ghost use Rattle.journal.specs.History.{endpoint_of, has_ended, next_inc, opened_on};
+ghost use Rattle.journal.specs.History.{closed_step, endpoint_of, has_ended, next_inc, opened_on};
 ghost use Rattle.journal.specs.Rest.{IsAtRest, is_idle, leaves_at_rest, waits_with};
 ghost use Rattle.journal.specs.Shapes.{node_by};
 ghost use Rattle.link_laws.specs.Still.{AllStill, IsOver};
@@ -34,6 +34,16 @@ impl Fabric {
         ensures { result ≡ endpoint_of self.now.log.steps actor }
     {
         self.standings[(actor - 1) as usize].endpoint
+    }
+
+    /// The number of the step that ended the last endpoint that an actor lost, counted from 1, or 0
+    /// where it lost none.
+    pub fn closed_step(&self, actor: u32) -> u64
+        requires above { 0 < actor }
+        requires within { actor ≤ length self.now.shape.actors }
+        ensures { result ≡ closed_step self.now.log.steps actor }
+    {
+        self.standings[(actor - 1) as usize].closed
     }
 
     /// Whether the last step of an actor says that it waits.
