@@ -1,3 +1,4 @@
+use Rattle.std.proofs.Common.{Some, ap, ◌∙◌}
 use Rattle.journal_text.specs.declared.digests.Digests.{Digests}
 use Rattle.journal_text.specs.declared.digests.Placed.{Placed}
 use Rattle.journal_text.proofs.Fitting.{fits_more}
@@ -12,4 +13,5 @@ returns c = λ steps here fits.
       digest = c.in_ok-digest.digest;
     } in
     fits_more c.args.self.now new steps placed c.args.note.now c.in_ok-digest.ensures.keeps
-    c.in_ok-digest.ensures.stands c.in_ok-push.ensures.items here fits
+    (c.in_ok-digest.ensures.stands ∙ ap Some c.data.ensures.data) c.in_ok-push.ensures.items here
+    fits

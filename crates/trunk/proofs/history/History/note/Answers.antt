@@ -5,12 +5,12 @@ use Rattle.trunk.proofs.Noting.{one_more}
 use Rattle.trunk.proofs.Publishing.{newest_more}
 use Rattle.trunk.proofs.history.History.note.Goals as goal
 
-pub invariant_of-self-2 : goal.invariant_of-self-2
-invariant_of-self-2 c =
+pub invariant_of-self : goal.invariant_of-self
+invariant_of-self c =
     let A = record_of c.self.inside.notes.is in (
       rw c.push.ensures.was c.self.invariant.0,
       rw (c.push.ensures.is, one_more c.self.inside.notes.is c.args.note)
-          (c.newest_with-newest.ensures
+          (c.newest_with-self-inside.ensures
           ∙ ap (λ n. newest_noted n c.args.note) c.self.invariant.1
           ∙ sym (newest_more A c.args.note)),
     )
