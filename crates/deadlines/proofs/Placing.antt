@@ -1,11 +1,11 @@
 -- What the tournament says of the slots.
-use Rattle.std.proofs.Common.{◌≡◌, ◌≢◌, ◌⊎◌, inl, inr, ℕ, zero, suc, ◌+◌, ◌*◌, ◌<◌, ◌≤◌, List, length}
+use Rattle.std.proofs.Common.{◌≡◌, ◌≢◌, inl, inr, ℕ, ◌+◌, ◌*◌, ◌<◌, ◌≤◌, List, length}
 use Rattle.std.proofs.Common.{refl, ap, sym, subst, ◌∙◌, arith}
 use Rattle.std.specs.Prelude.{Option, Some, None}
 use Rattle.std.proofs.lemmas.Bool.{cases_eq, cases_lt}
 use Rattle.deadlines.specs.declared.deadline.Deadline.{Deadline}
 use Rattle.deadlines.specs.declared.deadline.Leader.{Leader}
-use Rattle.deadlines.specs.Slots.{deadline_at, no_ticket, IsNoLater, IsEarliest}
+use Rattle.deadlines.specs.Slots.{deadline_at, no_ticket, IsEarliest}
 use Rattle.deadlines.specs.Tournament.{leader_at, leaf_of, nobody, AreLed, OnlyLeaf}
 use Rattle.deadlines.specs.Tournament.{IsTournament, IsWidened, IsBounded}
 use Rattle.deadlines.proofs.Playing.{Precedes, IsLeaf, first_precedes, leads_from_leaf}

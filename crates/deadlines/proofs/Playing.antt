@@ -1,10 +1,10 @@
 -- The matches of a tournament.
-use Rattle.std.proofs.Common.{◌≡◌, ◌≢◌, ◌⊎◌, inl, inr, ℕ, zero, suc, ◌+◌, ◌*◌, ◌/◌, ◌%◌, ◌<◌, ◌≤◌, ◌-◌, Bool, true, false}
-use Rattle.std.proofs.Common.{List, length, get_or, set, get_or-set_same, get_or-set_other, refl, ap, sym, subst, ◌∙◌, arith}
+use Rattle.std.proofs.Common.{◌≡◌, ◌≢◌, ◌⊎◌, inl, inr, ℕ, zero, suc, ◌+◌, ◌*◌, ◌/◌, ◌%◌, ◌<◌, ◌≤◌, ◌-◌}
+use Rattle.std.proofs.Common.{List, length, set, get_or-set_same, get_or-set_other, refl, ap, sym, subst, ◌∙◌, arith}
 use Rattle.std.proofs.lemmas.Bool.{cases_Bool, cases_eq, cases_lt}
 use Rattle.std.proofs.lemmas.Bool.Decides.{nat_tests}
 use Rattle.deadlines.specs.declared.deadline.Leader.{Leader}
-use Rattle.deadlines.specs.Tournament.{leader_at, is_sooner, sooner, AreLed, OnlyLeaf, nobody}
+use Rattle.deadlines.specs.Tournament.{leader_at, is_sooner, sooner, AreLed, nobody}
 
 -- each leader but one is the earlier of the two below it
 abbrev pub AreLedBut : ℕ → ℕ → List Leader → Type 0
