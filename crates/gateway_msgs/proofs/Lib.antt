@@ -1,0 +1,5 @@
+pub mod Numbers
+pub mod Bodies
+pub mod Completing
+pub mod Fronting
+pub mod Spelled
