@@ -1,5 +1,5 @@
 -- How bytes go on to a request.
-use Rattle.std.proofs.Common.{◌≡◌, ℕ, zero, suc, ◌+◌, ◌-◌, ◌<◌, ◌≤◌, Bool, true, false, List, [], ◌∷◌, ◌++◌}
+use Rattle.std.proofs.Common.{◌≡◌, ℕ, zero, suc, ◌+◌, ◌-◌, ◌<◌, ◌≤◌, true, List, [], ◌∷◌, ◌++◌}
 use Rattle.std.proofs.Common.{length, refl, ap, sym, subst, ◌∙◌, arith, inl, inr}
 use Rattle.std.specs.Prelude.{◌==◌, ◌&&◌, ◌||◌, replicate, if◌then◌else◌}
 use Rattle.std.specs.List.{list_all}
@@ -8,7 +8,7 @@ use Rattle.std.proofs.lemmas.Bool.Decides.{nat_tests}
 use Rattle.std.proofs.lemmas.List.{length-append, length-replicate}
 use Rattle.byteorder.specs.Endian.{big_bytes}
 use Rattle.linx_base.specs.NameText.{is_name_byte}
-use Rattle.gateway_msgs.specs.Requests.{type_of, body_of, typed, request_spelling, IsBodyOf}
+use Rattle.gateway_msgs.specs.Requests.{body_of, typed}
 use Rattle.gateway_msgs.specs.Fronts.{IsRequest}
 use Rattle.gateway_msgs.specs.Positions.{fits_size, is_asker, may_be_body, may_follow}
 use Rattle.gateway_msgs.proofs.Numbers.{AreBytes, append_bytes, letters_bytes}

@@ -1,10 +1,8 @@
 -- The request that bytes spell.
-use Rattle.std.proofs.Common.{◌≡◌, ℕ, ◌+◌, ◌<◌, ◌≤◌, true, List, ◌++◌, length, drop, get_or, refl, ap, sym}
+use Rattle.std.proofs.Common.{◌≡◌, ℕ, ◌≤◌, true, List, length, drop, get_or, ap, sym}
 use Rattle.std.proofs.Common.{subst, ◌∙◌, arith}
-use Rattle.std.proofs.lemmas.List.{length-append}
-use Rattle.byteorder.specs.Endian.{big_bytes}
 use Rattle.gateway_msgs.specs.declared.request.Request.{Request}
-use Rattle.gateway_msgs.specs.Requests.{type_of, body_of, request_spelling, typed, IsBodyOf, Spells}
+use Rattle.gateway_msgs.specs.Requests.{type_of, body_of, request_spelling, IsBodyOf, Spells}
 use Rattle.gateway_msgs.specs.Fronts.{IsRequest}
 use Rattle.gateway_msgs.specs.Positions.{fits_size}
 use Rattle.gateway_msgs.proofs.Bodies.{sized, one_body}

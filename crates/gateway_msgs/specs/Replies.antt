@@ -1,5 +1,5 @@
 -- The bytes of replies. Numbers stand with their highest byte first.
-use Rattle.std.specs.Prelude.{◌≡◌, ℕ, ◌+◌, List, [], ◌∷◌, ◌++◌, length, true, false}
+use Rattle.std.specs.Prelude.{ℕ, ◌+◌, List, [], ◌∷◌, ◌++◌, length, true, false}
 use Rattle.byteorder.specs.Endian.{big_bytes}
 use Rattle.gateway_msgs.specs.declared.reply.Reply.{Reply}
 use Rattle.gateway_msgs.specs.declared.reply.Reply.TheVariants as replies

@@ -1,5 +1,4 @@
-use Rattle.std.proofs.Common.{◌≡◌, ◌+◌, ◌<◌, ◌≤◌, true, false, length, sym, ◌∙◌, arith}
-use Rattle.gateway_msgs.specs.Positions.{least_length}
+use Rattle.std.proofs.Common.{sym, ◌∙◌, arith}
 use Rattle.gateway_msgs.proofs.Fronting.{none_by_length, more_of_length, none_follows, more_follows}
 use Rattle.gateway_msgs.proofs.Fronting.{whole_follows, cut}
 use Rattle.gateway_msgs.proofs.front.front_of.Goals as goal
