@@ -4,7 +4,7 @@
 use crate::played::Played;
 use case_words::{follow_anew, front, number_text, text_of, yes_text};
 use journal::{By, Head, Journal};
-use stage::{Pump, Turn};
+use stage::{Pump, Stage, Turn};
 use std::alloc::Global;
 use std::test::Fail;
 
@@ -14,6 +14,7 @@ fn word_of(head: &Head) -> &'static str {
         Head::Close => "close",
         Head::Send(..) => "send",
         Head::Take(..) => "take",
+        Head::TakeNone(_) => "none",
         Head::Waits(_) => "waits",
         Head::Hunt(..) => "hunt",
         Head::Cut(_) => "cut",
@@ -60,6 +61,18 @@ fn round_text(alloc: Global, played: &mut Played) -> Result<String, Fail> {
     text_of(alloc, if is_over { "over" } else { "goes on" })
 }
 
+/// The numbers of the makers that are ready.
+fn ready_text(alloc: Global, stage: &Stage) -> Result<String, Fail> {
+    let mut text = String::new(alloc);
+    for place in 0..stage.maker_count() {
+        if stage.is_ready(place + 1) {
+            let number = format!(in alloc; "{} ", place + 1)?;
+            text.push_str(number.as_str())?;
+        }
+    }
+    text_of(alloc, text.trim_end())
+}
+
 /// What comes of a turn, or how many steps there are and who made one.
 fn event_text(alloc: Global, played: &mut Played, event: &str) -> Result<String, Fail> {
     let (word, number) = front(event);
@@ -67,6 +80,7 @@ fn event_text(alloc: Global, played: &mut Played, event: &str) -> Result<String,
         "turn" => turn_text(alloc, played, number.parse()?),
         "pump" => pump_text(alloc, played, number.parse()?),
         "round" => round_text(alloc, played),
+        "ready" => ready_text(alloc, &played.stage),
         "over" => yes_text(alloc, played.stage.is_over()),
         "steps" => number_text(alloc, played.stage.journal().len()),
         "step" => step_text(alloc, played.stage.journal(), number.parse()?),
@@ -148,5 +162,67 @@ fn a_settle_of_a_cut_link_is_one_step(rt: HostRuntime) -> Result<(), Fail> {
         "turn 1: moved, 1 cut
         turn 1: moved, 1 settle
         steps: 2",
+    )
+}
+
+/// Of two that wait in vain the first is at rest, and finds none; and then the other is.
+#[test]
+fn who_waits_in_vain_is_ready_once_at_rest(rt: HostRuntime) -> Result<(), Fail> {
+    follows(
+        rt.alloc(),
+        "node n\nactor p n\nopen a\nrecv 1\nend\nactor q n\nopen b\nrecv 1\nend\n",
+        "ready: 1 2
+        turn 1: moved, 1 open
+        turn 1: waits, 1 waits
+        ready: 2
+        turn 2: moved, 2 open
+        turn 2: waits, 2 waits
+        ready: 1
+        turn 1: moved, 1 none
+        ready: 1
+        turn 1: moved, 1 ended
+        ready: 2
+        turn 2: moved, 2 none
+        turn 2: moved, 2 ended
+        ready:
+        over: yes",
+    )
+}
+
+/// A signal makes its receiver ready, also before that one has looked at it.
+#[test]
+fn who_waits_is_ready_where_something_came(rt: HostRuntime) -> Result<(), Fail> {
+    follows(
+        rt.alloc(),
+        "node n\nactor p n\nopen a\nrecv 1\nend\n\
+            actor q n\nopen b\nhunt a\nrecv 251\nsend last 1\nend\n",
+        "turn 1: moved, 1 open
+        turn 1: waits, 1 waits
+        ready: 2
+        turn 2: moved, 2 open
+        turn 2: moved, 2 hunt
+        turn 2: moved, 2 take
+        ready: 2
+        turn 2: moved, 2 send
+        ready: 1 2",
+    )
+}
+
+/// A link is ready while it stirs, and while it does no actor is at rest.
+#[test]
+fn a_link_is_ready_while_it_stirs(rt: HostRuntime) -> Result<(), Fail> {
+    follows(
+        rt.alloc(),
+        "node m\nnode n\nlink l m n\nactor p m\nopen a\nrecv 1\nend\n\
+            actor q n\nopen b\nsettle l\nend\n",
+        "ready: 1 2 3
+        turn 1: moved, 1 open
+        turn 1: waits, 1 waits
+        ready: 2 3
+        turn 2: moved, 2 open
+        turn 2: moved, 2 wire
+        ready: 2
+        turn 2: moved, 2 ended
+        ready: 1",
     )
 }

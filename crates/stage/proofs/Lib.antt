@@ -1,4 +1,4 @@
-mod Asking
+pub mod Asking
 pub mod LaidOut
 pub mod Makings
 mod Waiting
@@ -24,3 +24,4 @@ pub mod Alike
 pub mod OneState
 pub mod PlannedAlike
 mod OneRun
+pub mod Ready

@@ -81,7 +81,7 @@ module _ (script : ScriptParts) (old new : Layout) where
   turn-grows n made = turn-grows-by (nat_le n (length script.actors)) n made
 
 -- STUCK. An actor whose ask makes no step is idle, and not at rest, unless a link stirs
-record IsStuck (shape : Shape) (P : List Step) (still : Bool) (k : ℕ) : Type 0 where
+pub record IsStuck (shape : Shape) (P : List Step) (still : Bool) (k : ℕ) : Type 0 where
   pub idle : is_idle P k ≡ true
   pub stirs : (is_at_rest shape P k && still) ≡ false
 
@@ -206,7 +206,7 @@ module _ (script : ScriptParts) where
         | inr more ↦ omega arith
       ]
 
-  record AreStill (n : ℕ) (old new : Layout) : Type 0 where
+  pub record AreStill (n : ℕ) (old new : Layout) : Type 0 where
     pub same : new ≡ old
     pub each : (k : ℕ) → 0 < k → k ≤ n → IsTurnOf script k old old
 
@@ -261,7 +261,7 @@ module _ (script : ScriptParts) (f : Layout) (shape : f.shape ≡ shape_of scrip
   count = length script.actors
 
   -- a turn that an actor takes and that adds no step
-  stuck-turn : (k : ℕ) → 0 < k → k ≤ count → (turn : Turn) → has_ended P k ≡ false
+  pub stuck-turn : (k : ℕ) → 0 < k → k ≤ count → (turn : Turn) → has_ended P k ≡ false
       → IsTurn script k f f turn → IsStuck f.shape P still k
   stuck-turn k above within turn running (ended_before ended same came) =
       absurd (true≢false (sym ended ∙ running))
@@ -284,7 +284,7 @@ module _ (script : ScriptParts) (f : Layout) (shape : f.shape ≡ shape_of scrip
       stuck-by k above within running (nat_le k count) (le-leb k count within) made
 
   -- a turn of a link that adds no step
-  calm-turn : (l : LinkNo) (pump : pumps.Pump) → IsPump script l f f pump
+  pub calm-turn : (l : LinkNo) (pump : pumps.Pump) → IsPump script l f f pump
       → is_some (pump_event script P trunks l) ≡ false
   calm-turn l pump (asks_nothing none same came) = ap is_some none
   calm-turn l pump (makes_event event is made) =
@@ -335,7 +335,7 @@ module _ (script : ScriptParts) (f : Layout) (shape : f.shape ≡ shape_of scrip
   actors-count =
       ap (λ (s : Shape). length s.actors) shape ∙ length-map script.actors (λ a. a.node)
 
-  still-over : AreStill script (makers script) f f → is_over f ≡ true
+  pub still-over : AreStill script (makers script) f f → is_over f ≡ true
   still-over turns =
       elim (first-running P count) [
         | inl all ↦

@@ -45,7 +45,9 @@ use Rattle.stage.specs.Plays.{AllFollow, AllFollowWhole, IsPlanned, IsSoFar}
 use Rattle.stage.specs.Pumps.{pump_event}
 use Rattle.stage.specs.Seats.{AreSeated, IsSeated, IsStaged, unstarted}
 use Rattle.stage.specs.Settlings.{Settler, if_stirs, settler_in, settler_of}
-use Rattle.stage.specs.Turns.{IsActed, IsPump, IsRound, IsTurnStopped, asked_next, asks_nothing}
+use Rattle.stage.specs.Ready.{IsSomeReady, is_ready}
+use Rattle.stage.specs.Turns.{IsActed, IsPump, IsRound, IsTurnOf, IsTurnStopped, asked_next}
+use Rattle.stage.specs.Turns.{asks_nothing}
 use Rattle.stage.specs.Turns.{commands_in, commands_of, first_layout, is_over, makes_event}
 use Rattle.stage.specs.Turns.{shape_of}
 use Rattle.stage.proofs.Asking.{may_ask, next-handed}
@@ -53,6 +55,7 @@ use Rattle.stage.proofs.Going.{GoesFar, done-far, half-far}
 use Rattle.stage.proofs.OneRun.{one-run}
 use Rattle.stage.proofs.Planned.{far-planned, new-planned, planned-pumped}
 use Rattle.stage.proofs.Players.{after-goes_on, far-goes_on, none-goes_on, seated-other}
+use Rattle.stage.proofs.Ready.{ready-moves, some-ready, unready-stays}
 use Rattle.stage.proofs.Resting.{over-rests}
 use Rattle.stage.proofs.Rounds.{round-moves}
 
@@ -380,6 +383,24 @@ module _ (script : ScriptParts) (fabric : Layout) (players : List Player)
   staged-moves running next round =
       round-moves script fabric staged.shape staged-follows
       (λ k above within. next-handed script staged.declared fabric.log.steps k) running next round
+
+  -- the turn of a maker that is ready makes a step
+  pub staged-ready : (n : ℕ) → 0 < n → is_ready script fabric n ≡ true → (next : Layout)
+      → IsTurnOf script n fabric next → length fabric.log.steps < length next.log.steps
+  staged-ready =
+      ready-moves script fabric staged.shape staged-follows
+      (λ k above within. next-handed script staged.declared fabric.log.steps k)
+
+  -- that of another changes nothing
+  pub staged-stays : (n : ℕ) → 0 < n → is_ready script fabric n ≡ false
+      → IsTurnOf script n fabric fabric
+  staged-stays = unready-stays script fabric staged-follows
+
+  -- until all is over one is ready
+  pub staged-some : is_over fabric ≡ false → IsSomeReady script fabric
+  staged-some =
+      some-ready script fabric staged.shape staged-follows
+      (λ k above within. next-handed script staged.declared fabric.log.steps k)
 
   pub staged-whole : is_over fabric ≡ true → AllFollowWhole script fabric.log.steps
   staged-whole over =

@@ -4,3 +4,4 @@ pub mod Settlings
 pub mod Turns
 pub mod Plays
 pub mod Seats
+pub mod Ready

@@ -135,11 +135,12 @@ IsTurnBy false script n old new =
 abbrev pub IsTurnOf : ScriptParts → ℕ → Layout → Layout → Type 0
 IsTurnOf script n old new = IsTurnBy (nat_le n (length script.actors)) script n old new
 
--- a turn of maker n that stopped
+-- a turn of the maker of this number that stopped, by whether it is an actor's
 abbrev pub IsStoppedBy : Bool → ScriptParts → ℕ → Layout → Layout → Type 0
 IsStoppedBy true script n old new = IsTurnStopped script n old new
 IsStoppedBy false script n old new = new ≡ old
 
+-- a turn of maker n that stopped
 abbrev pub IsStoppedOf : ScriptParts → ℕ → Layout → Layout → Type 0
 IsStoppedOf script n old new = IsStoppedBy (nat_le n (length script.actors)) script n old new
 

@@ -1,6 +1,6 @@
 //! The actors and the links of a script on a fabric: their turns, rounds and whole runs.
 ghost use Rattle.std.specs.Prelude.{◌≡◌, ℕ, ◌<◌, ◌≤◌, true, false, [], length, map, IfOk, IfErr};
-ghost use Rattle.std.specs.Prelude.{OnOk, OnErr, IsErr, Err, is_some, not, ◌&&◌, ◌||◌, ◌+◌, None};
+ghost use Rattle.std.specs.Prelude.{OnOk, OnErr, IsErr, Err, is_some, ◌||◌, ◌+◌, None};
 ghost use Rattle.journal.specs.History.{has_ended};
 ghost use Rattle.journal.specs.Rest.{is_idle};
 ghost use Rattle.link_laws.specs.Ends.{IsLinkOf};
@@ -8,16 +8,15 @@ ghost use Rattle.link_laws.specs.Moves.{AllResting};
 ghost use Rattle.link_laws.specs.Still.{IsOver};
 ghost use Rattle.run_trunks.specs.States.{trunks_of};
 ghost use Rattle.trunk_moves.specs.Trunks.{links_of};
-ghost use Rattle.fabric.specs.Links.{no_link_stirs};
-ghost use Rattle.fabric.specs.Machine.{is_at_rest};
 ghost use Rattle.fabric.specs.Run.{Layout};
 ghost use Rattle.stage.specs.Plays.{AllFollowWhole, IsSoFar};
+ghost use Rattle.stage.specs.Ready.{IsSomeReady, is_actor_ready, is_ready, waits_on};
 ghost use Rattle.stage.specs.Seats.{IsStaged, unstarted};
 ghost use Rattle.stage.specs.Settlings.{settler_in};
 ghost use Rattle.stage.specs.Stops.{IsCauseOf};
 ghost use Rattle.stage.specs.Turns.{AreRounds, AreTurns, IsBehind, IsDueForActor, IsDueForLink};
 ghost use Rattle.stage.specs.Turns.{IsFullForActor, IsFullForLink};
-ghost use Rattle.stage.specs.Turns.{IsPump, IsRound};
+ghost use Rattle.stage.specs.Turns.{IsPump, IsRound, IsTurnOf};
 ghost use Rattle.stage.specs.Turns.{IsStoppedRound, IsStoppedRun, IsTurn};
 ghost use Rattle.stage.specs.Turns.{IsTurnStopped};
 ghost use Rattle.stage.specs.Turns.{IsWhole, first_layout, is_over, makers, shape_of};
@@ -155,17 +154,78 @@ impl Stage {
         self.fabric.into_journal()
     }
 
-    /// Whether every actor has ended, and no link stirs. Until then the next round makes a step;
-    /// and the journal has no more steps than one takes.
+    /// Whether every actor has ended, and no link stirs. Until then the next round makes a step, and
+    /// some maker is ready; and the journal has no more steps than one takes.
     pub fn is_over(&self) -> bool
         ensures over { result ≡ is_over self.now.run }
         ensures few { length self.now.run.log.steps ≤ 200000 }
         ensures moves { result ≡ false → (next : Layout) → IsRound self.now.script self.now.run next
             → length self.now.run.log.steps < length next.log.steps }
+        ensures ready { result ≡ false → IsSomeReady self.now.script self.now.run }
     {
         let _ = &self.players;
         let _ = self.fabric.journal();
         self.fabric.is_over()
+    }
+
+    /// Whether an actor hasn't ended, and doesn't wait on.
+    fn is_actor_ready(&self, actor: u32) -> bool
+        requires above { 0 < actor }
+        requires within { actor ≤ length self.now.script.actors }
+        ensures { result ≡ is_actor_ready self.now.run actor }
+    {
+        let _ = &self.players;
+        let waits_on = self.fabric.is_idle(actor) && !self.fabric.may_find_none(actor);
+        !self.fabric.has_ended(actor) && !waits_on
+    }
+
+    /// How many actors there are.
+    pub fn actor_count(&self) -> u32
+        ensures { result ≡ length self.now.script.actors }
+    {
+        let _ = &self.players;
+        let _ = &self.fabric;
+        self.script.actors().len() as u32
+    }
+
+    /// How many makers there are: actors and links.
+    pub fn maker_count(&self) -> u32
+        ensures { result ≡ makers self.now.script }
+    {
+        let _ = &self.players;
+        let _ = &self.fabric;
+        self.script.actors().len() as u32 + self.script.links().len() as u32
+    }
+
+    /// Whether the actor of this number is ready, or the link stirs.
+    fn is_maker_ready(&self, maker: u32) -> bool
+        requires above { 0 < maker }
+        requires within { maker ≤ makers self.now.script }
+        ensures { result ≡ is_ready self.now.script self.now.run maker }
+    {
+        let actors = self.script.actors().len() as u32;
+        if maker <= actors {
+            self.is_actor_ready(maker)
+        } else {
+            self.fabric.stirs(LinkNo(maker - actors))
+        }
+    }
+
+    /// Whether the maker of this number is ready: an actor that neither has ended nor waits on, or a
+    /// link that stirs. The numbers of the links come behind those of the actors. The turn of one
+    /// that is ready makes a step, and that of another changes nothing.
+    pub fn is_ready(&self, maker: u32) -> bool
+        requires above { 0 < maker }
+        requires within { maker ≤ makers self.now.script }
+        ensures value { result ≡ is_ready self.now.script self.now.run maker }
+        ensures moves { result ≡ true → (next : Layout)
+            → IsTurnOf self.now.script maker self.now.run next
+            → length self.now.run.log.steps < length next.log.steps }
+        ensures stays { result ≡ false
+            → IsTurnOf self.now.script maker self.now.run self.now.run }
+    {
+        let _ = &self.players;
+        self.is_maker_ready(maker)
     }
 
     /// One turn of an actor. A stop leaves it to be made, and nothing changed; or a settle is half
@@ -213,10 +273,7 @@ impl Stage {
     fn waits_on(&self, actor: u32) -> bool
         requires above { 0 < actor }
         requires within { actor ≤ length self.now.script.actors }
-        ensures { result ≡ true → (is_idle self.now.run.log.steps actor
-            && not (is_at_rest self.now.run.shape self.now.run.log.steps actor
-            && no_link_stirs self.now.run.shape self.now.run.log.steps
-            (trunks_of self.now.run.trunks))) ≡ true }
+        ensures { result ≡ true → waits_on self.now.run actor ≡ true }
     {
         let _ = &self.players;
         self.fabric.is_known_idle(actor) && !self.fabric.may_find_none(actor)
