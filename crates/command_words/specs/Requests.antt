@@ -9,9 +9,9 @@ use Rattle.command_words.specs.declared.page.Page.TheVariants as pages
 use Rattle.command_words.specs.declared.request.Asked.{Asked}
 use Rattle.command_words.specs.declared.request.Asked.TheVariants as asks
 use Rattle.command_words.specs.declared.request.Request.{Request}
-use Rattle.command_words.specs.declared.request.Request.TheVariants.{Show, Play}
+use Rattle.command_words.specs.declared.request.Request.TheVariants.{Show, Play, Echo}
 use Rattle.command_words.specs.declared.word.Word.{Word}
-use Rattle.command_words.specs.declared.word.Word.TheVariants.{Run, Serial, Gen, Help, Version}
+use Rattle.command_words.specs.declared.word.Word.TheVariants.{Run, Serial, Gen, Stream, Help, Version}
 
 -- the text is empty, or begins with `-` (45)
 abbrev pub is_no_name : List ℕ → Bool
@@ -31,6 +31,7 @@ abbrev pub asked_alone : Word → Option Request
 asked_alone Run = Some (Play asks.Run)
 asked_alone Serial = Some (Play asks.Serial)
 asked_alone Gen = None
+asked_alone Stream = Some Echo
 asked_alone Help = Some (Show pages.All)
 asked_alone Version = Some (Show pages.Version)
 
@@ -39,6 +40,7 @@ abbrev pub asked_with_plain : Word → List ℕ → Option Request
 asked_with_plain Run argument = played_from asks.Run argument
 asked_with_plain Serial argument = played_from asks.Serial argument
 asked_with_plain Gen argument = option_map (λ n. Play (asks.Gen n)) (number_spelled argument)
+asked_with_plain Stream argument = None
 asked_with_plain Help argument = option_map (λ word. Show (pages.Of word)) (called argument)
 asked_with_plain Version argument = None
 

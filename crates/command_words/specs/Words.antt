@@ -2,7 +2,7 @@
 use Rattle.std.specs.Prelude.{ℕ, Bool, ◌||◌, List, [], ◌∷◌, codes, Option, Some, None, if◌then◌else◌}
 use Rattle.std.specs.Str.{bytes_eq}
 use Rattle.command_words.specs.declared.word.Word.{Word}
-use Rattle.command_words.specs.declared.word.Word.TheVariants.{Run, Serial, Gen, Help, Version}
+use Rattle.command_words.specs.declared.word.Word.TheVariants.{Run, Serial, Gen, Stream, Help, Version}
 
 -- a row of the table: the name of a word, its use, a line, a paragraph and an example
 pub record Row : Type 0 where
@@ -38,6 +38,14 @@ said_of Gen = record {
       codes "Plays the generated script of the number N, which has one to ten decimal digits and\nis at most 4294967295, as run does, and writes ten lines of a word and a number\neach. Nothing is read.\n";
   example = codes "linx_sim gen 7";
 }
+said_of Stream = record {
+  name = codes "stream";
+  usage = codes "stream";
+  line = codes "serve one peer over a byte stream by an echo";
+  paragraph =
+      codes "Reads the frames of one peer from standard input, in whatever pieces they come, and\nwrites what an endpoint with the name echo says to them to standard output. It\nsends each signal back to its sender. No socket is opened.\n";
+  example = codes "socat -t 60 TCP-LISTEN:9000,bind=127.0.0.1,fork EXEC:'linx_sim stream'";
+}
 said_of Help = record {
   name = codes "help";
   usage = codes "help [WORD]";
@@ -57,7 +65,7 @@ said_of Version = record {
 
 -- all words, in the order of the help
 abbrev pub all_words : List Word
-all_words = Run ∷ Serial ∷ Gen ∷ Help ∷ Version ∷ []
+all_words = Run ∷ Serial ∷ Gen ∷ Stream ∷ Help ∷ Version ∷ []
 
 -- the first of these words whose name is the text
 abbrev pub named : List ℕ → List Word → Option Word

@@ -25,6 +25,8 @@ pub enum Request {
     Show(Page),
     /// A run.
     Play(Asked),
+    /// An echo over the program's streams.
+    Echo,
 }
 
 /// Whether a text names a file, or standard input by `-`. The name of a file isn't empty, and
@@ -54,6 +56,7 @@ pub(crate) fn asked_alone(word: Word) -> Option<Request>
         Word::Run => Some(Request::Play(Asked::Run)),
         Word::Serial => Some(Request::Play(Asked::Serial)),
         Word::Gen => None,
+        Word::Stream => Some(Request::Echo),
         Word::Help => Some(Request::Show(Page::All)),
         Word::Version => Some(Request::Show(Page::Version)),
     }
@@ -71,7 +74,7 @@ pub(crate) fn asked_with(word: Word, argument: &str) -> Option<Request>
         Word::Serial => played_from(Asked::Serial, argument),
         Word::Gen => Some(Request::Play(Asked::Gen(number(argument)?))),
         Word::Help => Some(Request::Show(Page::Of(called(argument)?))),
-        Word::Version => None,
+        Word::Stream | Word::Version => None,
     }
 }
 

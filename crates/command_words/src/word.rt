@@ -11,6 +11,8 @@ pub enum Word {
     Serial,
     /// The run of a generated script.
     Gen,
+    /// An echo over the program's streams.
+    Stream,
     /// The help.
     Help,
     /// The version.
@@ -18,10 +20,11 @@ pub enum Word {
 }
 
 /// All words, in the order of the help.
-pub const WORDS: [Word; 5] = [
+pub const WORDS: [Word; 6] = [
     Word::Run,
     Word::Serial,
     Word::Gen,
+    Word::Stream,
     Word::Help,
     Word::Version,
 ];
@@ -72,6 +75,15 @@ impl Word {
                     is at most 4294967295, as run does, and writes ten lines of a word and a number\n\
                     each. Nothing is read.\n",
                 example: "linx_sim gen 7",
+            },
+            Word::Stream => Said {
+                name: "stream",
+                usage: "stream",
+                line: "serve one peer over a byte stream by an echo",
+                paragraph: "Reads the frames of one peer from standard input, in whatever pieces they come, and\n\
+                    writes what an endpoint with the name echo says to them to standard output. It\n\
+                    sends each signal back to its sender. No socket is opened.\n",
+                example: "socat -t 60 TCP-LISTEN:9000,bind=127.0.0.1,fork EXEC:'linx_sim stream'",
             },
             Word::Help => Said {
                 name: "help",
