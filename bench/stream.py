@@ -1,20 +1,22 @@
 #!/usr/bin/env python3
-"""Talks to `stream_echo` over sockets of the loopback, and gives it spoiled streams.
+"""Talks to `linx_sim stream` over sockets of the loopback, and gives its echo spoiled streams.
 
-Two programs that serve by it are built in a copy of the crates, so that the gate knows nothing of
-them. One serves its standard input and output, and is given each connection as they are, or by
-`socat` where that is there: to one who sends many signals of mixed sizes in pieces cut at random,
-to one who sends each byte by itself, to a slow one, to one who goes away within a frame, to one who
-sends rubbish behind good frames, and to one who sends as much as a stream may have. The other
-serves many streams, some bytes of which are altered, lost or added, in pieces of a size drawn by
-chance, and large ones byte by byte. What is answered and how each session ends must be as
-bench/model/stream_rules.py says by docs/change/wire.md. Prints what each took.
+The built program is given each connection as its streams, or by `socat` where that is there: to one
+who sends many signals of mixed sizes in pieces cut at random, to one who sends each byte by itself,
+to a slow one, to one who ends within a frame, to one who sends rubbish behind good frames, to one
+who is gone before it has read what is answered, to the client of docs/use/stream.md, and to one who
+sends as much as a stream may have. A program over `stream_echo`, which is built in a copy of the
+crates, so that the gate knows nothing of it, serves many streams, some bytes of which are altered,
+lost or added, in pieces of a size drawn by chance, and large ones byte by byte. What is answered
+and how each session ends must be as bench/model/stream_rules.py says by docs/change/wire.md. Prints
+what each took.
 
-    bench/try stream [run|try] [SIGNALS [SPOILED]]      10,000 and 100,000 if unsaid
+    bench/try stream [--unproved] [SIGNALS [SPOILED [PROGRAM]]]      10,000 and 100,000 if unsaid
 
-`try` builds the programs unproved, and serves the spoiled streams alone.
+With `--unproved` the program over `stream_echo` isn't proved, and serves the spoiled streams alone.
 """
 import contextlib
+import functools
 import pathlib
 import random
 import re
@@ -35,29 +37,16 @@ from copied import add_program, copied_crates
 from stream_rules import (CONN, MESSAGE_MOST, PING, PONG, PUBLISH, QUERY_NAME, STREAM_MOST, UDATA,
                           frame, message, session)
 
+PAGE = pathlib.Path(__file__).resolve().parent.parent / "docs/use/stream.md"
+HEARD = r"""(1, 0, 0, b'')
+(2, 0, 0, b'\x01\x00\x00\x00\x00\x00\x00\x01')
+b'echo' is at 1
+(2, 1, 7, b'\x00\x00\x00\x05*')
+"""
 CRATES = ["linx_base", "linx_outside", "sorted_set", "keyed_list", "name_key", "rlnh_messages",
           "link_addresses", "rlnh_end", "request_stream", "tcpcm_frames", "tcpcm_framing",
           "tcpcm_end", "stream_echo"]
 SECONDS = 120
-SERVES_ONE = """#![tactic(auto)]
-
-use linx_outside::{ReadFrom, WriteTo};
-use request_stream::ServeStop;
-use std::process::ExitCode;
-use stream_echo::serve;
-
-fn main(rt: HostRuntime) -> ExitCode {
-    let mut source = ReadFrom::new(rt.stdin());
-    let mut sink = WriteTo::new(rt.stdout());
-    let _ = match serve(rt.alloc(), &mut source, &mut sink) {
-        Ok(()) => eprint!(rt; "done"),
-        Err(ServeStop::Torn { at }) => eprint!(rt; "torn at {at}"),
-        Err(ServeStop::BadStream { at }) => eprint!(rt; "bad stream at {at}"),
-        Err(_) => eprint!(rt; "stopped"),
-    };
-    ExitCode::from(0)
-}
-"""
 SERVES_MANY = """#![tactic(auto)]
 
 use anyhow::Context;
@@ -105,11 +94,14 @@ fn main(rt: HostRuntime) -> anyhow::Result<()> {
 
 
 def build(folder):
-    """The crates of the two programs, beside copies of those that they stand on."""
-    copied_crates(folder, CRATES, [f"serves_one: {' '.join(CRATES)}",
-                                   f"serves_many: {' '.join(CRATES)} anyhow hex"])
-    return (add_program(folder, "serves_one", SERVES_ONE),
-            add_program(folder, "serves_many", SERVES_MANY))
+    """The crate of the program that serves many, beside copies of those that it stands on."""
+    copied_crates(folder, CRATES, [f"serves_many: {' '.join(CRATES)} anyhow hex"])
+    return add_program(folder, "serves_many", SERVES_MANY)
+
+
+def line_of(end):
+    """The line on standard error of a session that ends so."""
+    return "" if end == "done" else f"linx_sim: {end}\n"
 
 
 def talk(draw, count):
@@ -172,39 +164,51 @@ def talked(client, given, wait):
     return bytes(got)
 
 
-def over_socket(program, given, wait=0.0):
-    """What a program answers that has a connection as its streams, and how the session ends."""
+def over_socket(program, client_does):
+    """What a client has of a program with its connection as streams, and the program's line."""
     with socket.create_server(("127.0.0.1", 0)) as door:
         client = socket.create_connection(door.getsockname(), SECONDS)
         there, _ = door.accept()
     with client, there:
-        ran = subprocess.Popen([program], stdin=there, stdout=there, stderr=subprocess.PIPE)
+        ran = subprocess.Popen([program, "stream"], stdin=there, stdout=there,
+                               stderr=subprocess.PIPE)
         there.close()
-        got = talked(client, given, wait)
+        got = client_does(client)
         _, said = ran.communicate(timeout=SECONDS)
     return got, said.decode()
 
 
-def over_socat(program, given, wait=0.0):
-    """The same by `socat`, which listens and gives the connection to the program."""
+@contextlib.contextmanager
+def listening(program):
+    """`socat`, which listens at a port and gives the program one connection."""
     with socket.create_server(("127.0.0.1", 0)) as door:
         port = door.getsockname()[1]
-    ran = subprocess.Popen(["socat", "-t", str(SECONDS),
-                            f"TCP-LISTEN:{port},bind=127.0.0.1,reuseaddr", f"EXEC:{program}"],
-                           stderr=subprocess.PIPE)
+    with subprocess.Popen(["socat", "-t", str(SECONDS),
+                           f"TCP-LISTEN:{port},bind=127.0.0.1,reuseaddr",
+                           f"EXEC:{program} stream"], stderr=subprocess.PIPE) as ran:
+        yield port, ran
+
+
+def connected(port):
+    """A connection to who begins to listen at a port."""
     until = time.monotonic() + SECONDS
     while True:
         try:
-            client = socket.create_connection(("127.0.0.1", port), SECONDS)
-            break
+            return socket.create_connection(("127.0.0.1", port), SECONDS)
         except ConnectionRefusedError:
             if time.monotonic() > until:
                 raise
             time.sleep(0.01)
-    with client:
-        got = talked(client, given, wait)
-    _, said = ran.communicate(timeout=SECONDS)
-    return got, said.decode()
+
+
+def over_socat(program, client_does):
+    """The same by `socat`, without the lines of its own."""
+    with listening(program) as (port, ran):
+        with connected(port) as client:
+            got = client_does(client)
+        _, said = ran.communicate(timeout=SECONDS)
+    lines = said.decode().splitlines(keepends=True)
+    return got, "".join(line for line in lines if " socat[" not in line)
 
 
 def peers(draw, count):
@@ -224,13 +228,49 @@ def wrong_peers(program, draw, count):
     for way in (over_socket, over_socat) if shutil.which("socat") else (over_socket,):
         for name, data, given, wait in peers(draw, count):
             began = time.monotonic()
-            answer = way(program, given, wait)
+            got, line = way(program, functools.partial(talked, given=given, wait=wait))
             took = time.monotonic() - began
-            right = answer == session(data)
+            said, end = session(data)
+            right = (got, line) == (said, line_of(end))
             wrong += not right
-            print(f"{way.__name__}, {name}: {len(data)} bytes, {len(answer[0])} answered, "
-                  f"{took:.2f} s, {answer[1]}{'' if right else ': WRONG'}")
+            print(f"{way.__name__}, {name}: {len(data)} bytes, {len(got)} answered, {took:.2f} s, "
+                  f"{end}{'' if right else ': WRONG'}")
+        wrong += is_wrong_when_left(program, draw, way)
     return wrong
+
+
+def is_wrong_when_left(program, draw, way):
+    """Whether the program ends otherwise than it may where its peer is gone before it has read."""
+    data = talk(draw, 400)
+
+    def leaves(client):
+        client.sendall(data[:-3])
+        client.setsockopt(socket.SOL_SOCKET, socket.SO_LINGER, struct.pack("ii", 1, 0))
+        client.close()
+
+    _, line = way(program, leaves)
+    right = re.fullmatch(r"(linx_sim: (torn at \d+|read fault|write fault)\n)?", line)
+    right = right and (line or way is over_socat)         # who may end the program by a signal
+    print(f"{way.__name__}, gone before it has read: {line.strip() or 'no line'}"
+          f"{'' if right else ': WRONG'}")
+    return not right
+
+
+def is_page_wrong(program):
+    """Whether the client of docs/use/stream.md has another answer than it says, by `socat`."""
+    client = re.search(r"```python\n(.*?)```", PAGE.read_text(), re.S)[1]
+    with listening(program) as (port, ran):
+        until = time.monotonic() + SECONDS
+        while True:
+            there = subprocess.run([sys.executable, "-c", client.replace("9000", str(port))],
+                                   capture_output=True, text=True, check=False)
+            if "ConnectionRefusedError" not in there.stderr or time.monotonic() > until:
+                break
+        _, line = ran.communicate(timeout=SECONDS)
+    right = there.returncode == 0 and there.stdout == HEARD and line == b""
+    print(f"the client of docs/use/stream.md: {there.stdout.splitlines()[-1:]}"
+          f"{'' if right else ': WRONG' + there.stderr}")
+    return not right
 
 
 def wrong_streams(command, crate, draw, count):
@@ -269,29 +309,37 @@ def byte_by_byte(program):
     return wrong
 
 
+def memory_of(ran):
+    """The most memory that a program had so far, in kB."""
+    status = pathlib.Path(f"/proc/{ran.pid}/status").read_text()
+    return int(re.search(r"VmHWM:\s*(\d+)", status)[1])
+
+
 def largest(program):
-    """Whether a stream ends at its limit, and the most memory that the program has on the way."""
+    """Whether a stream ends at its limit, and the memory that the program takes on the way."""
     begin, whole = talk(random.Random(1), 0), frame(UDATA, 7, 1, bytes(MESSAGE_MOST))
     count = (STREAM_MOST - len(begin)) // len(whole)
     wrong = 0
-    for more, ends in (0, b"done"), (1, b"bad stream at %d" % (len(begin) + count * len(whole))):
+    for more, end in (0, "done"), (1, f"bad stream at {len(begin) + count * len(whole)}"):
         began = time.monotonic()
-        ran = subprocess.Popen([program], stdin=subprocess.PIPE, stdout=subprocess.DEVNULL,
-                               stderr=subprocess.PIPE)
-        had = "no"
+        ran = subprocess.Popen([program, "stream"], stdin=subprocess.PIPE, stderr=subprocess.PIPE,
+                               stdout=subprocess.DEVNULL)
+        took = 0
         with contextlib.suppress(BrokenPipeError), ran.stdin as given:
             given.write(begin)
+            given.flush()
+            time.sleep(0.2)
+            had = memory_of(ran)
             for _ in range(count):
                 given.write(whole)
             given.flush()
-            status = pathlib.Path(f"/proc/{ran.pid}/status").read_text()
-            had = re.search(r"VmHWM:\s*(\d+)", status)[1]
+            took = memory_of(ran) - had
             given.write(whole * more)
-        said = ran.stderr.read()
+        line = ran.stderr.read().decode()
         ran.wait()
-        wrong += said != ends
-        size, took = len(begin) + (count + more) * len(whole), time.monotonic() - began
-        print(f"{size} bytes: {took:.2f} s, {had} kB, {said.decode()}")
+        wrong += line != line_of(end)
+        print(f"{len(begin) + (count + more) * len(whole)} bytes: {time.monotonic() - began:.2f} s,"
+              f" {took} kB behind the first {len(begin)} bytes, {end}")
     return wrong
 
 
@@ -303,22 +351,25 @@ def proved(crate):
 
 
 def main():
-    """Builds the programs, and talks to them."""
+    """Talks to the built program, and builds the one that serves many."""
     parser = arguments.parser(__doc__)
-    parser.add_argument("way", choices=["run", "try"], nargs="?", default="run")
+    parser.add_argument("--unproved", action="store_true")
     parser.add_argument("signals", type=arguments.count, nargs="?", default=10_000)
     parser.add_argument("spoiled", type=arguments.count, nargs="?", default=100_000)
+    arguments.add_program(parser)
     given = parser.parse_args()
+    program = arguments.found_program(parser, given)
     draw = random.Random(49)
+    wrong = wrong_peers(program, draw, given.signals) + largest(program)
+    if shutil.which("socat"):
+        wrong += is_page_wrong(program)
     with tempfile.TemporaryDirectory() as folder:
-        one, many = build(pathlib.Path(folder))
-        if given.way == "try":
-            wrong = wrong_streams(["rt", "try"], many, draw, given.spoiled)
+        many = build(pathlib.Path(folder))
+        if given.unproved:
+            wrong += wrong_streams(["rt", "try"], many, draw, given.spoiled)
         else:
-            program = proved(many)
-            wrong = wrong_streams([program], many, draw, given.spoiled) + byte_by_byte(program)
-            program = proved(one)
-            wrong += wrong_peers(program, draw, given.signals) + largest(program)
+            served = proved(many)
+            wrong += wrong_streams([served], many, draw, given.spoiled) + byte_by_byte(served)
     return 1 if wrong else 0
 
 
