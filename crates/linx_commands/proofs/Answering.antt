@@ -26,7 +26,7 @@ use Rattle.command_words.specs.declared.request.Asked.TheVariants.{Run, Serial, 
 use Rattle.linx_commands.specs.declared.outcome.Status.{Status}
 use Rattle.linx_commands.specs.declared.outcome.Status.TheVariants.{Done, Usage, Script, Unopened}
 use Rattle.linx_commands.specs.declared.outcome.Status.TheVariants.{ReadFault, WriteFault, JournalFull}
-use Rattle.linx_commands.specs.declared.outcome.Status.TheVariants.{NoMemory}
+use Rattle.linx_commands.specs.declared.outcome.Status.TheVariants.{NoMemory, Torn, BadStream}
 
 -- a whole run under a command is a run so far under it
 so-far-of : (asked : Asked) (script : ScriptParts) (log : Log) → IsRunUnder asked script log
@@ -58,6 +58,8 @@ answers-written asked (Usage wrong) script log writes run = cc
 answers-written asked (Unopened why) script log writes run = cc
 answers-written asked (Script line fault) script log writes run = cc
 answers-written asked ReadFault script log writes run = cc
+answers-written asked (Torn at) script log writes run = cc
+answers-written asked (BadStream at) script log writes run = cc
 
 -- a run that is over is the whole one that a command asks for
 whole-under : (asked : Asked) (script : ScriptParts) (run : Layout) (log : Log)

@@ -25,6 +25,10 @@ pub enum Status {
     JournalFull,
     /// Memory was refused.
     NoMemory,
+    /// The source of an echo ended within the frame that begins at this byte.
+    Torn { at: u64 },
+    /// The bytes of an echo's source from this one on begin no frame, or one that breaks the rules.
+    BadStream { at: u64 },
 }
 
 /// How a run ended, and its journal so far.

@@ -51,6 +51,10 @@ pub enum Phrase {
     OutOfMemory,
     /// The number of the last step follows.
     AfterStep,
+    /// The place of a frame follows within which a stream ended.
+    TornAt,
+    /// The place follows from which on the bytes of a stream are bad.
+    BadStreamAt,
 }
 
 impl Phrase {
@@ -84,6 +88,8 @@ impl Phrase {
             Phrase::ByteLimit => "67108864 bytes of signals",
             Phrase::OutOfMemory => "out of memory",
             Phrase::AfterStep => " after step ",
+            Phrase::TornAt => "torn at ",
+            Phrase::BadStreamAt => "bad stream at ",
         }
     }
 }

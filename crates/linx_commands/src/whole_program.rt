@@ -1,10 +1,11 @@
 //! The whole program, over what a process is given: its command line, files and streams.
 
-ghost use Rattle.std.specs.Prelude.{◌≡◌, map, string_bytes};
+ghost use Rattle.std.specs.Prelude.{◌≡◌};
 ghost use Rattle.command_words.specs.Requests.{file_by};
 ghost use Rattle.linx_commands.specs.Commands.{ReadsUnder};
 ghost use Rattle.linx_commands.specs.Programs.{IsPlayedFrom, IsServed, IsToldUnread, ReadsFile};
 ghost use Rattle.linx_commands.specs.Programs.{texts_of};
+ghost use Rattle.linx_commands.specs.Sessions.{IsSession};
 ghost use Rattle.linx_commands.specs.Streams.{Writes, WritesLine};
 ghost use Rattle.linx_commands.specs.declared.outcome.Status.TheVariants.{Done};
 
@@ -16,34 +17,6 @@ use linx_outside::{Files, OpenGate, Sink, Source};
 use std::alloc::Global;
 use std::sync::Wait;
 use std::thread::Threads;
-
-/// Does what the words of a command line ask for, and tells how it ended.
-fn serve_words<R: Threads + Wait + Sync, F: Files, S: Source, K: Sink, L: Sink>(
-    rt: &R,
-    alloc: Global,
-    words: &[String],
-    files: &F,
-    script: &mut S,
-    text: &mut K,
-    errors: &mut L,
-) -> Told
-    ensures served { IsServed (map string_bytes words.now) (script.new ≡ script.old) (text.new ≡ text.old)
-        (λ written. Writes K.held K.faults K.last_count K.can_take text.old text.new result written)
-        (λ asked log. IsPlayedFrom asked (file_by (map string_bytes words.now))
-        (S.left script.old) (script.new ≡ script.old)
-        (ReadsUnder asked S.left S.faults S.last_count S.is_faultless script.old script.new result)
-        (F.told files.now) (F.refuses files.now) (text.new ≡ text.old)
-        (λ name. ReadsFile F.File.left F.File.faults F.File.last_count F.File.is_faultless asked
-        (F.told files.now name) result)
-        (λ written. Writes K.held K.faults K.last_count K.can_take text.old text.new result written)
-        result log)
-        (λ line. WritesLine L.held L.faults L.last_count L.can_take errors.old errors.new line)
-        result }
-    ensures silent { result ≡ Done → errors.new ≡ errors.old }
-{
-    let outcome = run(rt, alloc, words, files, script, text, &OpenGate);
-    tell(words, &outcome, errors)
-}
 
 /// Does what a command line asks for, and tells how it ended. It is all that a program does whose
 /// result is a `Told`.
@@ -67,6 +40,8 @@ pub fn program<R: Threads + Wait + Sync, F: Files, S: Source, K: Sink, L: Sink>(
         (F.told files.now name) result)
         (λ written. Writes K.held K.faults K.last_count K.can_take text.old text.new result written)
         result log)
+        (λ log. IsSession S.left S.faults S.last_count S.is_faultless K.held K.faults K.last_count
+        script.old script.new text.old text.new result log)
         (λ line. WritesLine L.held L.faults L.last_count L.can_take errors.old errors.new line)
         result }
 
@@ -77,7 +52,10 @@ pub fn program<R: Threads + Wait + Sync, F: Files, S: Source, K: Sink, L: Sink>(
     ensures silent { result ≡ Done → errors.new ≡ errors.old }
 {
     match words {
-        Words::Read(words) => serve_words(rt, alloc, &words, files, script, text, errors),
+        Words::Read(words) => {
+            let outcome = run(rt, alloc, &words, files, script, text, &OpenGate);
+            tell(&words, &outcome, errors)
+        }
         Words::Unread(why) => tell(&[], &unstarted(alloc, why.status()), errors),
     }
 }

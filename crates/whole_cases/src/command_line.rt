@@ -27,6 +27,7 @@ fn words_of_each_command(rt: HostRuntime) -> Result<(), Fail> {
     let alloc = rt.alloc();
     assert_eq!(rt; status_of(&rt, alloc, &["run"])?, Status::ReadFault);
     assert_eq!(rt; status_of(&rt, alloc, &["serial"])?, Status::ReadFault);
+    assert_eq!(rt; status_of(&rt, alloc, &["stream"])?, Status::ReadFault);
     for number in ["0", "4294967295"] {
         assert_eq!(rt;
             status_of(&rt, alloc, &["gen", number])?,
@@ -37,7 +38,7 @@ fn words_of_each_command(rt: HostRuntime) -> Result<(), Fail> {
 }
 
 /// Words that are near those of a command.
-const NEAR: [&[&str]; 31] = [
+const NEAR: [&[&str]; 32] = [
     &[],
     &[""],
     &["Run"],
@@ -67,6 +68,7 @@ const NEAR: [&[&str]; 31] = [
     &["--", "gen", "7"],
     &["gen", "--", "7"],
     &["run", "a", "b"],
+    &["stream", "-"],
     &["version", "7"],
     &["help", "runs"],
 ];

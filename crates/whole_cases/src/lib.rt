@@ -8,6 +8,8 @@ mod bad_line_rows;
 #[cfg(test)]
 mod command_line;
 #[cfg(test)]
+mod echoes;
+#[cfg(test)]
 mod endpoints;
 #[cfg(test)]
 mod example_rows;

@@ -36,9 +36,10 @@ fn a_bad_line_is_told_with_its_number_and_its_fault(rt: HostRuntime) -> Result<(
 }
 
 const USAGE: &str =
-    "linx_sim: usage: linx_sim WORD ..; the words are: run serial gen help version\n";
+    "linx_sim: usage: linx_sim WORD ..; the words are: run serial gen stream help version\n";
 
-const NO_WORD: &str = "linx_sim: no word 'fast'; the words are: run serial gen help version\n";
+const NO_WORD: &str =
+    "linx_sim: no word 'fast'; the words are: run serial gen stream help version\n";
 
 /// What the program is given, and how it ends.
 #[derive(Clone, Copy)]
@@ -71,7 +72,7 @@ const DONE: Case = Case {
 };
 
 /// An end with each exit status.
-const CASES: [Case; 7] = [
+const CASES: [Case; 9] = [
     DONE,
     Case {
         word: Ok("fast"),
@@ -107,6 +108,19 @@ const CASES: [Case; 7] = [
         word: Err(Unread::NoMemory),
         number: 6,
         line: "linx_sim: out of memory\n",
+        ..DONE
+    },
+    Case {
+        word: Ok("stream"),
+        script: "\u{1}\u{1}",
+        number: 9,
+        line: "linx_sim: torn at 0\n",
+        ..DONE
+    },
+    Case {
+        word: Ok("stream"),
+        number: 11,
+        line: "linx_sim: bad stream at 0\n",
         ..DONE
     },
 ];

@@ -97,6 +97,8 @@ writes everything that happened.
       play a script in the fixed order of rounds
   gen N
       play the generated script of a number, and write its summary
+  stream
+      serve one peer over a byte stream by an echo
   help [WORD]
       write this help, or that of a word
   version
@@ -113,6 +115,8 @@ exit status:
   4  the text can't be written
   5  the journal is full before the run is over
   6  memory was refused
+  9  a stream ended within a frame
+  11 the bytes of a stream are no frame, or break the rules
 
 The manual is docs/use/linx_sim.1, or `man linx_sim` once it is installed.
 ";
@@ -139,7 +143,7 @@ example:
 
 const VERSION: &str = "linx_sim 1.0\n";
 
-const ROWS: [Row; 30] = [
+const ROWS: [Row; 32] = [
     INPUT,
     Row {
         words: &["run", "-"],
@@ -169,6 +173,14 @@ const ROWS: [Row; 30] = [
         text: Text::Empty,
         line: "linx_sim: script line 1: no statement begins with this word here: no\n",
         ..FILE
+    },
+    Row {
+        words: &["stream"],
+        input: Content::NoScript,
+        number: 11,
+        text: Text::Empty,
+        line: "linx_sim: bad stream at 0\n",
+        ..INPUT
     },
     Row {
         words: &["run", "t.linx"],
@@ -273,7 +285,7 @@ const ROWS: [Row; 30] = [
     },
     Row {
         words: &["fast\n\u{7f}"],
-        line: "linx_sim: no word 'fast??'; the words are: run serial gen help version\n",
+        line: "linx_sim: no word 'fast??'; the words are: run serial gen stream help version\n",
         ..MISUSED
     },
     Row {
@@ -284,6 +296,11 @@ const ROWS: [Row; 30] = [
     Row {
         words: &["run", "-x"],
         line: "linx_sim: usage: linx_sim run [FILE]\n",
+        ..MISUSED
+    },
+    Row {
+        words: &["stream", "s.linx"],
+        line: "linx_sim: usage: linx_sim stream\n",
         ..MISUSED
     },
 ];
@@ -381,7 +398,7 @@ fn a_long_word_is_cut(rt: HostRuntime) -> Result<(), Fail> {
     );
     let wanted =
         "linx_sim: no word 'xxxxxxxxxxxxxxxxxxxxxxxxxxxxxxxxxxxxxxxxxxxxxxxxxxxxxxxxxxxxxxxx\
-        '; the words are: run serial gen help version\n";
+        '; the words are: run serial gen stream help version\n";
     assert_eq!(rt; errors.held(), wanted.as_bytes());
     Ok(())
 }

@@ -12,17 +12,28 @@ unread-refused NoMemory = tt
 
 pub returns-in-Read-clause-served : goal.returns-in-Read-clause-served
 returns-in-Read-clause-served g c =
-    rw c.in-Read.is (rw (← c.deref.ensures.value) c.serve_words.ensures.served)
+    let run = c.run-outcome.ensures in
+    rw c.in-Read.is (rw c.tell.ensures.status (rw (← c.deref.ensures.value) (record {
+      log = c.run-outcome.result.journal.log;
+      other_words = run.other_words;
+      untouched = run.untouched;
+      shown = run.shown;
+      played = run.played;
+      echoed = run.echoed;
+      legal = run.legal;
+      line = rw (c.deref.ensures.value, ← c.deref-in-Read.ensures.value) c.tell.ensures.line;
+    })))
 
 pub returns-in-Unread-clause-served : goal.returns-in-Unread-clause-served
 returns-in-Unread-clause-served g c =
     let nothing = c.unstarted.ensures in
-    rw c.tell.ensures.status (rw c.in-Unread.is (record {
+    rw c.tell-in-Unread.ensures.status (rw c.in-Unread.is (record {
       log = c.unstarted.result.journal.log;
       other_words = (rw nothing.status (rw c.status.ensures (unread-refused c.in-Unread.why)), nothing.empty);
       untouched = (refl, refl);
       shown = tt;
       played = tt;
+      echoed = tt;
       legal = nothing.legal;
-      line = c.tell.ensures.line;
+      line = c.tell-in-Unread.ensures.line;
     }))
