@@ -1,6 +1,6 @@
 -- What each call makes of the list of timers.
-use Rattle.std.proofs.Common.{◌≡◌, ℕ, ◌+◌, ◌<◌, Bool, true, false, List, [], ◌∷◌, ◌++◌, map, refl, ap, sym}
-use Rattle.std.proofs.Common.{subst, ◌∙◌, arith, inl, inr, length}
+use Rattle.std.proofs.Common.{◌≡◌, ℕ, Bool, List, [], ◌∷◌, refl, ap, sym}
+use Rattle.std.proofs.Common.{subst, ◌∙◌, inl, inr}
 use Rattle.std.specs.Prelude.{Option, Some, None, is_some, IsSome, not, filter, ◌==◌, slice_get}
 use Rattle.std.specs.List.{list_any}
 use Rattle.std.specs.Option.{option_map}
@@ -10,15 +10,12 @@ use Rattle.linx_base.proofs.FirstMatches.{is_some-first_match}
 use Rattle.keyed_list.proofs.Entries.{first_passing, others_after, others_none, without_none_first}
 use Rattle.deadlines.specs.declared.deadline.Deadline.{Deadline}
 use Rattle.deadlines.specs.Slots.{deadline_at, OnlySlot, at_moment}
-use Rattle.linx_base.specs.SigNotes.{SigNote}
 use Rattle.linx_timers.specs.declared.entry.Entry.{Entry}
 use Rattle.linx_timers.specs.declared.timer.Timer.{Timer}
-use Rattle.linx_timers.specs.declared.timer.Due.{Due}
 use Rattle.linx_timers.specs.Entries.{has_reference, ticket_of, timer_in, timers_in, IsTied}
-use Rattle.linx_timers.specs.Times.{is_timer, is_next, due_of, signal_of, with_due}
-use Rattle.linx_timers.proofs.Taking.{any_first, first_passes}
+use Rattle.linx_timers.specs.Times.{is_timer, is_next, due_of, with_due}
 use Rattle.linx_timers.proofs.Taking.{first-map, without-map, any-map, filter-map}
-use Rattle.linx_timers.proofs.Tying.{first_held, moved_tied, moved_timers, no_entries}
+use Rattle.linx_timers.proofs.Tying.{first_held, moved_tied, moved_timers}
 
 held_some : (k : ℕ) (o : Option Deadline) → ticket_of o ≡ Some k → IsSome o
 held_some k None is = cc

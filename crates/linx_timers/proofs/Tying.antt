@@ -1,7 +1,7 @@
 -- What ties the entries of timers to their deadlines.
-use Rattle.std.proofs.Common.{◌≡◌, ◌≢◌, ◌⊎◌, inl, inr, ℕ, ◌+◌, ◌<◌, ◌≤◌, Bool, true, false, cond, List, [], ◌∷◌, ◌++◌}
-use Rattle.std.proofs.Common.{map, refl, ap, sym, subst, ◌∙◌, arith}
-use Rattle.std.specs.Prelude.{Option, Some, None, ◌==◌, ◌&&◌, nat_le, is_some, IsSome}
+use Rattle.std.proofs.Common.{◌≡◌, ◌≢◌, ◌⊎◌, inl, inr, ℕ, ◌+◌, ◌<◌, ◌≤◌, Bool, true, false, List, [], ◌∷◌, ◌++◌}
+use Rattle.std.proofs.Common.{refl, ap, sym, subst, ◌∙◌, arith}
+use Rattle.std.specs.Prelude.{Option, Some, None, ◌==◌, nat_le, is_some}
 use Rattle.std.specs.List.{AllByRecursion, list_any, list_all}
 use Rattle.std.specs.Option.{option_map}
 use Rattle.std.proofs.lemmas.Bool.{cases_Bool}
@@ -10,14 +10,14 @@ use Rattle.std.proofs.lemmas.List.{map-append}
 use Rattle.linx_base.specs.FirstMatch.{first_match, without_match}
 use Rattle.linx_base.proofs.FirstMatches.{is_some-first_match}
 use Rattle.deadlines.specs.declared.deadline.Deadline.{Deadline}
-use Rattle.deadlines.specs.Slots.{deadline_at, at_moment, OnlySlot, IsNoLater, IsEarliest}
+use Rattle.deadlines.specs.Slots.{deadline_at, at_moment, OnlySlot, IsEarliest}
 use Rattle.linx_timers.specs.declared.entry.Entry.{Entry}
 use Rattle.linx_timers.specs.declared.timer.Timer.{Timer}
 use Rattle.linx_timers.specs.Entries.{has_reference, moment_of, ticket_of, timer_in, timers_in, AreRising, IsTied}
-use Rattle.linx_timers.specs.Times.{is_timer, is_next, with_due}
+use Rattle.linx_timers.specs.Times.{is_next, with_due}
 use Rattle.linx_timers.proofs.Taking.{all_without, all_first, all_push, all_by, all_both, first_passes}
 use Rattle.linx_timers.proofs.Taking.{any_without, any_first, all_fails, all_pass, none_passes}
-use Rattle.linx_timers.proofs.Taking.{first-map, without-map, same_tests}
+use Rattle.linx_timers.proofs.Taking.{first-map, without-map}
 use Rattle.std.proofs.lemmas.List.Folds.{list_all-map}
 
 -- an entry's slot has a deadline with its ticket

@@ -1,19 +1,17 @@
 -- What is sent, cancelled or closed is gone.
-use Rattle.std.proofs.Common.{◌≡◌, ◌≢◌, inl, inr, ℕ, ◌+◌, ◌<◌, ◌≤◌, Bool, true, false, cond, List, [], ◌∷◌, ◌++◌}
-use Rattle.std.proofs.Common.{refl, ap, sym, subst, ◌∙◌, arith}
-use Rattle.std.specs.Prelude.{Option, Some, None, is_some, not, filter, ◌==◌, ◌&&◌, nat_le}
+use Rattle.std.proofs.Common.{◌≡◌, ◌≢◌, inl, inr, ℕ, ◌+◌, ◌<◌, ◌≤◌, Bool, true, false, List, [], ◌∷◌, ◌++◌}
+use Rattle.std.proofs.Common.{refl, sym, subst, arith}
+use Rattle.std.specs.Prelude.{Some, None, not, filter, ◌==◌, nat_le}
 use Rattle.std.specs.List.{AllByRecursion, list_all}
 use Rattle.std.proofs.lemmas.Bool.{cases_Bool, cases_lt}
 use Rattle.std.proofs.lemmas.Bool.Decides.{nat_tests}
 use Rattle.linx_base.specs.FirstMatch.{first_match, without_match}
-use Rattle.linx_base.specs.SigNotes.{SigNote}
 use Rattle.linx_timers.specs.declared.timer.Timer.{Timer}
 use Rattle.linx_timers.specs.Times.{is_timer, is_next, with_due}
-use Rattle.linx_timers.proofs.Taking.{all_without, all_first, all_push, all_by, all_both, first_passes}
+use Rattle.linx_timers.proofs.Taking.{all_without, all_first, all_push, all_by, first_passes}
 use Rattle.linx_timers.proofs.Taking.{all_pass}
-use Rattle.timer_laws.specs.Laws.{TimerState, AreRising, AreNumbered, IsGone, Stays, EachIsSentOnce}
-use Rattle.timer_laws.specs.Laws.{EachIsSentInTime, after_request, after_cancel, after_modify}
-use Rattle.timer_laws.specs.Laws.{after_close, after_sending}
+use Rattle.timer_laws.specs.Laws.{AreRising, AreNumbered, IsGone, Stays, EachIsSentOnce}
+use Rattle.timer_laws.specs.Laws.{EachIsSentInTime}
 
 -- LISTS OF TIMERS
 all_filter : (P : Timer → Type 0) (p : Timer → Bool) (ts : List Timer) → AllByRecursion P ts

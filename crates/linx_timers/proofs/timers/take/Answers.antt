@@ -1,4 +1,4 @@
-use Rattle.std.proofs.Common.{◌≡◌, sym, subst, ap, ◌∙◌}
+use Rattle.std.proofs.Common.{◌≡◌, sym, subst, ◌∙◌}
 use Rattle.linx_timers.specs.Entries.{timers_in, IsTied}
 use Rattle.keyed_list.proofs.Entries.{without_none_first}
 use Rattle.linx_timers.proofs.Tying.{taken_tied, taken_times}

@@ -1,5 +1,4 @@
-use Rattle.std.proofs.Common.{◌≡◌, ◌<◌, length, sym, subst, ap, ◌∙◌, refl, arith}
-use Rattle.linx_base.specs.FirstMatch.{without_match}
+use Rattle.std.proofs.Common.{length, sym, ap, ◌∙◌, refl, arith}
 use Rattle.linx_timers.specs.Entries.{timers_in}
 use Rattle.keyed_list.proofs.Entries.{shorter}
 use Rattle.linx_timers.proofs.Taking.{same_tests}
