@@ -4,9 +4,8 @@
 They are made field by field, often with a number at its limit or one behind it, and in most of them
 some bytes are altered, lost or added. `read` of ethcm_headers and of rlnh_messages, and
 `read_signal`, must call bad just those that aren't one by docs/change/wire.md, as the rules below
-have it. The program that reads them is built in a copy of the crates, so that the gate knows
-nothing of it; `try` builds it unproved. Prints how many answers were right, and the first that
-wasn't.
+have it. The crate layer_speeds reads them; `try` builds it unproved. Prints how many answers were
+right, and the first that wasn't. The first sixty cases are what it reads in the gate.
 
     bench/try packets [run|try] [COUNT]       COUNT is 100,000 if unsaid
 """
@@ -15,74 +14,13 @@ import random
 import re
 import subprocess
 import sys
-import tempfile
 
 sys.dont_write_bytecode = True
 
 import arguments
-from copied import add_program, copied_crates
 
-CRATES = ["linx_base", "ethcm_headers", "rlnh_messages"]
+CRATE = pathlib.Path(__file__).resolve().parent.parent / "crates/layer_speeds"
 NAME = re.compile(rb"[A-Za-z0-9_.-]{1,32}\Z")
-PROGRAM = """#![tactic(auto)]
-
-use anyhow::Context;
-use ethcm_headers::{PacketBytes, ReadError};
-use linx_base::Blob;
-use rlnh_messages::RlnhError;
-use std::alloc::Global;
-use std::io::{BufRead, BufReader};
-
-fn bytes_of(alloc: Global, digits: &str) -> anyhow::Result<Blob> {
-    Blob::shared(hex::decode(alloc, digits.as_bytes())?).context("bytes")
-}
-
-fn is_packet(bytes: Blob) -> anyhow::Result<bool> {
-    match ethcm_headers::read(&PacketBytes::of(bytes).context("bytes")?) {
-        Ok(_) => Ok(true),
-        Err(ReadError::Bad) => Ok(false),
-        Err(ReadError::NoMemory) => anyhow::bail!("memory"),
-    }
-}
-
-fn is_message(alloc: Global, bytes: &Blob) -> anyhow::Result<bool> {
-    match rlnh_messages::read(alloc, bytes.bytes()) {
-        Ok(_) => Ok(true),
-        Err(RlnhError::Bad) => Ok(false),
-        Err(RlnhError::NoMemory) => anyhow::bail!("memory"),
-    }
-}
-
-fn is_signal(bytes: &Blob) -> anyhow::Result<bool> {
-    match rlnh_messages::read_signal(bytes) {
-        Ok(_) => Ok(true),
-        Err(RlnhError::Bad) => Ok(false),
-        Err(RlnhError::NoMemory) => anyhow::bail!("memory"),
-    }
-}
-
-// Whether the bytes of a line are what its first letter says.
-fn is_good(alloc: Global, line: &str) -> anyhow::Result<bool> {
-    if let Some(digits) = line.strip_prefix("p") {
-        return is_packet(bytes_of(alloc, digits)?);
-    }
-    if let Some(digits) = line.strip_prefix("m") {
-        return is_message(alloc, &bytes_of(alloc, digits)?);
-    }
-    is_signal(&bytes_of(alloc, line.strip_prefix("s").context("line")?)?)
-}
-
-fn main(rt: HostRuntime) -> anyhow::Result<()> {
-    let alloc = rt.alloc();
-    let mut answers = String::new(alloc);
-    for line in BufReader::new(alloc, rt.reader())?.lines(alloc) {
-        let letter = if is_good(alloc, &line?)? { "G" } else { "B" };
-        answers.push_str(letter)?;
-    }
-    println!(rt; "{answers}")?;
-    Ok(())
-}
-"""
 
 
 def number(data):
@@ -234,12 +172,6 @@ class Maker:
         return letter, self.spoiled(getattr(self, letter)())
 
 
-def build(folder):
-    """The program's crate, beside copies of those that it stands on."""
-    copied_crates(folder, CRATES, [f"packet_bench: {' '.join(CRATES)} anyhow hex"])
-    return add_program(folder, "packet_bench", PROGRAM)
-
-
 def main():
     """Makes them, has them read, and compares."""
     parser = arguments.parser(__doc__)
@@ -250,10 +182,8 @@ def main():
     maker = Maker(1)
     cases = [maker.line() for _ in range(count)]
     text = "".join(f"{letter}{data.hex()}\n" for letter, data in cases)
-    with tempfile.TemporaryDirectory() as folder:
-        crate = build(pathlib.Path(folder))
-        ran = subprocess.run(["rt", given.way], cwd=crate, input=text, stdout=subprocess.PIPE,
-                             text=True, check=False)
+    ran = subprocess.run(["rt", given.way, "--", "packets"], cwd=CRATE, input=text,
+                         stdout=subprocess.PIPE, text=True, check=False)
     answers = next((line for line in ran.stdout.split("\n") if re.match(r"[GB]+\Z", line)), "")
     wanted = "".join("G" if JUDGES[letter](data) else "B" for letter, data in cases)
     wrong = [at for at in range(count) if answers[at:at + 1] != wanted[at]]

@@ -1,29 +1,20 @@
-#!/usr/bin/env bash
-# What a piece of 1,400 bytes costs on its way from one end of a link to the other, in memory: cut,
-# sent, written, read, taken, joined and acknowledged. The sender has twice its window ahead, so the
-# window is always full; a message has 40 pieces. COUNT pieces are sent, 1,000,000 if unsaid.
-#   bench/try end [run|try [COUNT]]
-set -euo pipefail
-# shellcheck source-path=SCRIPTDIR source=copied.sh
-. "$(dirname "$0")/copied.sh"
-begin end_bench linx_base ethcm_headers fragmenter ethcm_window ethcm_session link_supervisor \
-    ethcm_end
-cat > src/main.rt <<'PROGRAM'
-#![tactic(auto)]
+//! A piece of 1,400 bytes on its way from one end of a link to the other: cut, sent, written, read,
+//! taken, joined and acknowledged. The sender has twice its window ahead, so the window is always
+//! full; a message has 40 pieces.
 
+use crate::watch::{Times, Watch};
 use anyhow::Context;
 use ethcm_end::{End, Input};
 use ethcm_headers::PacketBytes;
 use linx_base::{Blob, Message, NoMemory};
 use std::alloc::Global;
 use std::collections::VecDeque;
-use std::time::Instant;
+use std::io::Print;
+use std::mem;
+use std::time::Clock;
 
 /// The pieces of a message.
-const PIECES: u64 = 40;
-
-/// The pieces that are sent.
-const MOST: u64 = 1_000_000;
+const PIECES: u32 = 40;
 
 fn message(alloc: Global) -> anyhow::Result<Message> {
     let body = vec![in alloc; 0x5a; 56_000].context("body")?;
@@ -121,11 +112,11 @@ fn connect(link: &mut Link) -> anyhow::Result<()> {
 }
 
 /// So many pieces go to the second end. The answer is how many messages are whole there.
-fn send(link: &mut Link, message: &Message, window: u32, pieces: u64) -> anyhow::Result<u64> {
-    let mut offered: u64 = 0;
-    let mut whole: u64 = 0;
+fn send(link: &mut Link, message: &Message, window: u32, pieces: u32) -> anyhow::Result<u32> {
+    let mut offered: u32 = 0;
+    let mut whole: u32 = 0;
     for taken in 0..pieces {
-        if offered < pieces && offered < taken.saturating_add(2 * window as u64) {
+        if offered < pieces && offered < taken.saturating_add(window.saturating_mul(2)) {
             offer(link, message)?;
             offered = offered.saturating_add(PIECES);
         }
@@ -136,26 +127,49 @@ fn send(link: &mut Link, message: &Message, window: u32, pieces: u64) -> anyhow:
     Ok(whole)
 }
 
-fn measured(rt: &HostRuntime, window: u32, pieces: u64) -> anyhow::Result<()> {
-    let message = message(rt.alloc())?;
-    let mut link = Link::new(rt.alloc(), window);
-    connect(&mut link)?;
-    let start = Instant::now(rt).context("clock")?;
-    let whole = send(&mut link, &message, window, pieces)?;
-    let spent = start.elapsed(rt).context("clock")?.as_nanos() / (pieces as u128).max(1);
-    println!(rt; "window {window}, {pieces} pieces: {spent} ns a piece, {whole} messages")?;
-    Ok(())
+/// Both ends go up, and so many pieces are sent.
+fn pieces<R: Clock + Print>(
+    rt: &R,
+    alloc: Global,
+    times: Times,
+    link: &mut Link,
+    window: u32,
+    count: u32,
+) -> anyhow::Result<()> {
+    let message = message(alloc)?;
+    connect(link)?;
+    let watch = Watch::new(rt, times)?;
+    let whole = send(link, &message, window, count)?;
+    let done = format!(in alloc; "window {window}, {count} pieces, {whole} messages")?;
+    watch.tell_each(rt, done.as_str(), count)
 }
 
-fn main(rt: HostRuntime) -> anyhow::Result<()> {
-    for _ in 0..2 {
-        for window in [32, 256] {
-            for pieces in [MOST / 4, MOST] {
-                measured(&rt, window, pieces)?;
-            }
+/// The same over a link of its own. It is never dropped, since to prove the drops of all that it
+/// has takes longer than the rest of this file.
+fn pieces_anew<R: Clock + Print>(
+    rt: &R,
+    alloc: Global,
+    times: Times,
+    window: u32,
+    count: u32,
+) -> anyhow::Result<()> {
+    let mut link = Link::new(alloc, window);
+    let outcome = pieces(rt, alloc, times, &mut link, window, count);
+    mem::forget(link);
+    outcome
+}
+
+/// So many pieces go over a link, and before them a quarter of these over one of its own.
+pub fn work<R: Clock + Print>(
+    rt: &R,
+    alloc: Global,
+    size: u32,
+    times: Times,
+) -> anyhow::Result<()> {
+    for window in [32, 256] {
+        for count in [size / 4, size] {
+            pieces_anew(rt, alloc, times, window, count)?;
         }
     }
     Ok(())
 }
-PROGRAM
-finish "$@"

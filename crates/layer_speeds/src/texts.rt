@@ -1,35 +1,20 @@
-#!/usr/bin/env bash
-# How long the text of a journal of COUNT steps takes, 200,000 if unsaid, by the number of
-# incarnations in it, and that of large signals, one for 400 or 800 of these steps, of which digests
-# are printed, by how many kinds they are of.
-#   bench/try text [run|try [COUNT]]
-set -euo pipefail
-# shellcheck source-path=SCRIPTDIR source=copied.sh
-. "$(dirname "$0")/copied.sh"
-begin text_bench linx_base sigsel journal journal_text
-cat > src/main.rt <<'PROGRAM'
-#![tactic(auto)]
+//! The text of a journal, by the number of incarnations in it, and that of large signals, of which
+//! digests are printed, by how many kinds they are of.
 
 ghost use Rattle.std.specs.Prelude.{◌<◌, ◌≤◌};
 
+use crate::watch::{Times, Watch};
 use anyhow::Context;
 use journal::{By, Effect, Effects, Head, Journal, SentTo, Step};
-use linx_base::{
-    Blob, Inc, ItemAt, Name, NameList, Names, NoMemory, NodeNo, Peer, SigNote, TryCopy,
-};
+use linx_base::{Inc, ItemAt, Name, NameList, Names, NodeNo, Peer, SigNote, Signal, TryCopy};
 use sigsel::Sigsel;
 use std::alloc::Global;
-use std::time::Instant;
+use std::io::Print;
+use std::time::Clock;
 
-/// The steps of a journal.
-const MOST: u32 = 200_000;
-
-/// A small signal.
-fn small(alloc: Global) -> Result<SigNote, NoMemory> {
-    Ok(SigNote {
-        number: 5,
-        bytes: Blob::of(alloc, b"8 bytes.")?,
-    })
+fn small(alloc: Global) -> anyhow::Result<SigNote> {
+    let signal = Signal::alloc(alloc, 5, b"8 bytes.").context("small signal")?;
+    signal.note().context("note")
 }
 
 /// A signal of the largest size, unlike those of another kind. It shares no bytes with any other.
@@ -37,10 +22,8 @@ fn large(alloc: Global, kind: u32) -> anyhow::Result<SigNote> {
     let mut bytes = Vec::new(alloc);
     bytes.extend_from_slice(&kind.to_be_bytes())?;
     bytes.resize(65_532, 0x5a)?;
-    Ok(SigNote {
-        number: 1,
-        bytes: Blob::shared(bytes).context("large signal")?,
-    })
+    let signal = Signal::alloc(alloc, 1, bytes.as_slice()).context("large signal")?;
+    signal.note().context("note")
 }
 
 fn inc_of(actor: u32) -> Inc {
@@ -102,18 +85,26 @@ fn empty_journal(alloc: Global) -> anyhow::Result<Journal> {
     Ok(Journal::new(alloc, names))
 }
 
-/// A journal of so many steps: each incarnation is opened, and then sends to itself and receives.
-fn full_journal(alloc: Global, incarnations: u32) -> anyhow::Result<Journal>
-    requires some { 0 < incarnations }
-    requires bounded { incarnations ≤ 1000 }
+/// A journal in which so many incarnations were opened.
+fn opened_journal(alloc: Global, incarnations: u32) -> anyhow::Result<Journal>
+    requires { incarnations ≤ 1000 }
 {
     let mut journal = empty_journal(alloc)?;
     for actor in 1..incarnations + 1 {
         open(alloc, &mut journal, actor)?;
     }
-    for pair in 0..MOST.saturating_sub(incarnations) / 2 {
+    Ok(journal)
+}
+
+/// A journal of so many steps: each incarnation is opened, and then sends to itself and receives.
+fn full_journal(alloc: Global, steps: u32, incarnations: u32) -> anyhow::Result<Journal>
+    requires some { 0 < incarnations }
+    requires bounded { incarnations ≤ 1000 }
+{
+    let mut journal = opened_journal(alloc, incarnations)?;
+    for pair in 0..steps.saturating_sub(incarnations) / 2 {
         let actor = pair % incarnations + 1;
-        send(alloc, &mut journal, actor, small(alloc).context("note")?)?;
+        send(alloc, &mut journal, actor, small(alloc)?)?;
         take(alloc, &mut journal, actor)?;
     }
     Ok(journal)
@@ -131,29 +122,48 @@ fn large_journal(alloc: Global, count: u32, kinds: u32) -> anyhow::Result<Journa
     Ok(journal)
 }
 
-/// The milliseconds that the text of a journal takes.
-fn measure(rt: &HostRuntime, journal: &Journal) -> anyhow::Result<u128> {
-    let start = Instant::now(rt).context("clock")?;
-    journal_text::text(rt.alloc(), journal).context("text")?;
-    Ok(start.elapsed(rt).context("clock")?.as_millis())
+/// The text of a journal of these is made.
+fn print<R: Clock + Print>(
+    rt: &R,
+    alloc: Global,
+    times: Times,
+    journal: &Journal,
+    of: &str,
+) -> anyhow::Result<()> {
+    let steps = journal.len();
+    let watch = Watch::new(rt, times)?;
+    let text = journal_text::text(alloc, journal).context("text")?;
+    let done = format!(in alloc; "{steps} steps, {of}, {} bytes of text", text.len())?;
+    watch.tell_all(rt, done.as_str())
 }
 
-fn main(rt: HostRuntime) -> anyhow::Result<()> {
-    for incarnations in [1, 10, 100, 1_000] {
-        let journal = full_journal(rt.alloc(), incarnations)?;
-        let spent = measure(&rt, &journal)?;
-        println!(rt;
-            "{} steps, {incarnations} incarnations: {spent} ms",
-            journal.len()
-        )?;
-    }
-    for signals in [MOST / 800, MOST / 400] {
-        for kinds in [1, 2, signals] {
-            let spent = measure(&rt, &large_journal(rt.alloc(), signals, kinds)?)?;
-            println!(rt; "{signals} signals of 65532 bytes of {kinds} kinds: {spent} ms")?;
-        }
+/// The text of so many large signals, of one kind, of two, and each of its own.
+fn large_texts<R: Clock + Print>(
+    rt: &R,
+    alloc: Global,
+    signals: u32,
+    times: Times,
+) -> anyhow::Result<()> {
+    for kinds in [1, 2, signals] {
+        let journal = large_journal(alloc, signals, kinds)?;
+        let of = format!(in alloc; "{signals} signals of 65532 bytes of {kinds} kinds")?;
+        print(rt, alloc, times, &journal, of.as_str())?;
     }
     Ok(())
 }
-PROGRAM
-finish "$@"
+
+/// Journals of so many steps, and of large signals, one for 800 and one for 400 of these steps.
+pub fn work<R: Clock + Print>(
+    rt: &R,
+    alloc: Global,
+    size: u32,
+    times: Times,
+) -> anyhow::Result<()> {
+    for incarnations in [1, 10, 100, 1_000] {
+        let journal = full_journal(alloc, size, incarnations)?;
+        let of = format!(in alloc; "{incarnations} incarnations")?;
+        print(rt, alloc, times, &journal, of.as_str())?;
+    }
+    large_texts(rt, alloc, size / 800, times)?;
+    large_texts(rt, alloc, size / 400, times)
+}
