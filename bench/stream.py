@@ -5,15 +5,14 @@ The built program is given each connection as its streams, or by `socat` where t
 who sends many signals of mixed sizes in pieces cut at random, to one who sends each byte by itself,
 to a slow one, to one who ends within a frame, to one who sends rubbish behind good frames, to one
 who is gone before it has read what is answered, to the client of docs/use/stream.md, and to one who
-sends as much as a stream may have. A program over `stream_echo`, which is built in a copy of the
-crates, so that the gate knows nothing of it, serves many streams, some bytes of which are altered,
-lost or added, in pieces of a size drawn by chance, and large ones byte by byte. What is answered
+sends as much as a stream may have. The crate layer_speeds serves many streams, some bytes of which
+are altered, lost or added, in pieces of a size drawn by chance, and large ones byte by byte. What is answered
 and how each session ends must be as bench/model/stream_rules.py says by docs/change/wire.md. Prints
 what each took.
 
     bench/try stream [--unproved] [SIGNALS [SPOILED [PROGRAM]]]      10,000 and 100,000 if unsaid
 
-With `--unproved` the program over `stream_echo` isn't proved, and serves the spoiled streams alone.
+With `--unproved` layer_speeds isn't proved, and serves the spoiled streams alone.
 """
 import contextlib
 import functools
@@ -33,7 +32,6 @@ sys.dont_write_bytecode = True
 sys.path.insert(0, str(pathlib.Path(__file__).resolve().parent / "model"))
 
 import arguments
-from copied import add_program, copied_crates
 from stream_rules import (CONN, MESSAGE_MOST, PING, PONG, PUBLISH, QUERY_NAME, STREAM_MOST, UDATA,
                           frame, message, session)
 
@@ -43,60 +41,8 @@ HEARD = r"""(1, 0, 0, b'')
 b'echo' is at 1
 (2, 1, 7, b'\x00\x00\x00\x05*')
 """
-CRATES = ["linx_base", "linx_outside", "sorted_set", "keyed_list", "name_key", "rlnh_messages",
-          "link_addresses", "rlnh_end", "request_stream", "tcpcm_frames", "tcpcm_framing",
-          "tcpcm_end", "stream_echo"]
 SECONDS = 120
-SERVES_MANY = """#![tactic(auto)]
-
-use anyhow::Context;
-use linx_outside::{MemSink, MemSource};
-use request_stream::ServeStop;
-use std::alloc::Global;
-use std::io::{BufRead, BufReader};
-use stream_echo::serve;
-
-fn word(alloc: Global, ends: Result<(), ServeStop>) -> anyhow::Result<String> {
-    Ok(match ends {
-        Ok(()) => format!(in alloc; "done")?,
-        Err(ServeStop::Torn { at }) => format!(in alloc; "torn at {at}")?,
-        Err(ServeStop::BadStream { at }) => format!(in alloc; "bad stream at {at}")?,
-        Err(_) => format!(in alloc; "stopped")?,
-    })
-}
-
-// Whether a stream is answered and ends as its line says: the most bytes a read, the stream, the
-// answer and the end.
-fn is_good(alloc: Global, line: &str) -> anyhow::Result<bool> {
-    let (most, rest) = line.split_once(" ").context("line")?;
-    let (stream, rest) = rest.split_once(" ").context("line")?;
-    let (answer, end) = rest.split_once(" ").context("line")?;
-    let most: usize = most.parse().ok().context("number")?;
-    let bytes = hex::decode(alloc, stream.as_bytes())?;
-    let mut source = MemSource::new(bytes, most.max(1), Vec::new(alloc));
-    let mut sink = MemSink::new(alloc, 65_536, 1 << 30, Vec::new(alloc)).ok().context("memory")?;
-    let ends = serve(alloc, &mut source, &mut sink);
-    let answer = hex::decode(alloc, answer.as_bytes())?;
-    Ok(sink.held() == answer.as_slice() && word(alloc, ends)?.as_str() == end)
-}
-
-fn main(rt: HostRuntime) -> anyhow::Result<()> {
-    let alloc = rt.alloc();
-    let mut answers = String::new(alloc);
-    for line in BufReader::new(alloc, rt.reader())?.lines(alloc) {
-        let letter = if is_good(alloc, line?.as_str())? { "G" } else { "B" };
-        answers.push_str(letter)?;
-    }
-    println!(rt; "{answers}")?;
-    Ok(())
-}
-"""
-
-
-def build(folder):
-    """The crate of the program that serves many, beside copies of those that it stands on."""
-    copied_crates(folder, CRATES, [f"serves_many: {' '.join(CRATES)} anyhow hex"])
-    return add_program(folder, "serves_many", SERVES_MANY)
+SPEEDS = pathlib.Path(__file__).resolve().parent.parent / "crates/layer_speeds"
 
 
 def line_of(end):
@@ -273,18 +219,24 @@ def is_page_wrong(program):
     return not right
 
 
-def wrong_streams(command, crate, draw, count):
+def are_answered(command, lines):
+    """The letters that layer_speeds has for streams, their answers and their ends."""
+    text = "".join(f"t{line}\n" for line in lines)
+    ran = subprocess.run([*command, "packets"], cwd=SPEEDS, input=text, stdout=subprocess.PIPE,
+                         text=True, check=False)
+    return next((line for line in ran.stdout.split("\n") if re.match(r"[GB]+\Z", line)), "")
+
+
+def wrong_streams(command, draw, count):
     """How many spoiled streams weren't answered as they should be."""
     lines = []
     for _ in range(count):
         data = spoiled(draw)
         said, ends = session(data)
-        lines.append(f"{draw.choice([1, 3, 16, 4096])} {data.hex()} {said.hex()} {ends}\n")
-    ran = subprocess.run(command, cwd=crate, input="".join(lines), stdout=subprocess.PIPE,
-                         text=True, check=False)
-    answers = next((line for line in ran.stdout.split("\n") if re.match(r"[GB]+\Z", line)), "")
+        lines.append(f"{draw.choice([1, 3, 16, 4096])} {data.hex()} {said.hex()} {ends}")
+    answers = are_answered(command, lines)
     wrong = [at for at in range(count) if answers[at:at + 1] != "G"]
-    done = sum(line.endswith("done\n") for line in lines)
+    done = sum(line.endswith("done") for line in lines)
     print(f"{count - len(wrong)} of {count} spoiled streams answered as they should be, "
           f"{done} of them to the end")
     for at in wrong[:1]:
@@ -292,7 +244,7 @@ def wrong_streams(command, crate, draw, count):
     return len(wrong)
 
 
-def byte_by_byte(program):
+def byte_by_byte(command):
     """Whether streams are answered of which each read gives one byte, and how long each takes."""
     wrong = 0
     for count in 2**20, 2**21:
@@ -302,9 +254,7 @@ def byte_by_byte(program):
         data = data[:count]
         said, ends = session(data)
         began = time.monotonic()
-        ran = subprocess.run([program], input=f"1 {data.hex()} {said.hex()} {ends}\n",
-                             stdout=subprocess.PIPE, text=True, check=False)
-        wrong += ran.stdout != "G\n"
+        wrong += are_answered(command, [f"1 {data.hex()} {said.hex()} {ends}"]) != "G"
         print(f"{count} reads of one byte: {time.monotonic() - began:.2f} s, {ends}")
     return wrong
 
@@ -343,13 +293,6 @@ def largest(program):
     return wrong
 
 
-def proved(crate):
-    """The program that `rt run` leaves in a crate: it runs it once, on nothing."""
-    with open(crate / "run.log", "wb") as log:
-        subprocess.run(["rt", "run"], cwd=crate, stdin=subprocess.DEVNULL, stdout=log, check=False)
-    return crate / "out" / crate.name
-
-
 def main():
     """Talks to the built program, and builds the one that serves many."""
     parser = arguments.parser(__doc__)
@@ -363,13 +306,10 @@ def main():
     wrong = wrong_peers(program, draw, given.signals) + largest(program)
     if shutil.which("socat"):
         wrong += is_page_wrong(program)
-    with tempfile.TemporaryDirectory() as folder:
-        many = build(pathlib.Path(folder))
-        if given.unproved:
-            wrong += wrong_streams(["rt", "try"], many, draw, given.spoiled)
-        else:
-            served = proved(many)
-            wrong += wrong_streams([served], many, draw, given.spoiled) + byte_by_byte(served)
+    command = ["rt", "try" if given.unproved else "run", "--"]
+    wrong += wrong_streams(command, draw, given.spoiled)
+    if not given.unproved:
+        wrong += byte_by_byte(command)
     return 1 if wrong else 0
 
 

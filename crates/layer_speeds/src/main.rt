@@ -8,6 +8,7 @@ mod kernels;
 mod locks;
 mod packets;
 mod queues;
+mod streams;
 mod tables;
 mod texts;
 mod trunks;

@@ -1,7 +1,9 @@
 //! Lines of hexadecimal digits, each behind a letter that says what they are read as: `p` a packet,
-//! `m` a message of RLNH, `s` a body of a signal. It prints a letter for each, `G` where they are
-//! that, or `B` where they are bad.
+//! `m` a message of RLNH, `s` a body of a signal; or, behind `t`, the most bytes a read, a stream, and
+//! the answer of an echo to it and its end. It prints a letter for each, `G` where they are that, or
+//! `B` where they are bad.
 
+use crate::streams::is_answered;
 use anyhow::{Context, bail};
 use ethcm_headers::{PacketBytes, ReadError};
 use linx_base::Blob;
@@ -44,6 +46,9 @@ fn is_good(alloc: Global, line: &str) -> anyhow::Result<bool> {
     }
     if let Some(digits) = line.strip_prefix("m") {
         return is_message(alloc, &bytes_of(alloc, digits)?);
+    }
+    if let Some(stream) = line.strip_prefix("t") {
+        return is_answered(alloc, stream);
     }
     is_signal(&bytes_of(alloc, line.strip_prefix("s").context("line")?)?)
 }
