@@ -24,7 +24,7 @@ use Rattle.linx_timers.proofs.Taking.{all_by, all_first, all_push, all_without}
 use Rattle.keyed_list.proofs.Entries.{shorter}
 use Rattle.timer_laws.specs.Laws.{AreNumbered}
 use Rattle.timer_laws.proofs.Sending.{once}
-use Rattle.gateway_core.specs.Handling.{FiresOne, GateState, IsClient, IsGateway, IsOwner, IsSending}
+use Rattle.gateway_core.specs.Handling.{FiresOne, GateState, IsGateway, IsOwner, IsSending}
 use Rattle.gateway_core.specs.Handling.{last_moment, leaves_open, timer_state, told}
 use Rattle.gateway_core.proofs.Owning.{all-open, others-open}
 use Rattle.gateway_core.proofs.Running.{leaving-client, stays_running}

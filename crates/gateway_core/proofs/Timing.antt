@@ -1,6 +1,6 @@
 -- What becomes of the timers of a gateway: each request changes them as one of the calls does.
-use Rattle.std.proofs.Common.{◌≡◌, ◌≢◌, ℕ, zero, suc, ◌+◌, ◌<◌, ◌≤◌, Bool, true, false, List}
-use Rattle.std.proofs.Common.{refl, sym, ◌∙◌, ap, subst, inl, inr, arith}
+use Rattle.std.proofs.Common.{◌≡◌, ◌≢◌, ℕ, zero, suc, ◌+◌, ◌<◌, Bool, true, false}
+use Rattle.std.proofs.Common.{sym, ap, subst, inl, inr, arith}
 use Rattle.std.specs.Prelude.{Option, Some, None, IsSome, ◌||◌, ◌==◌, nat_lt}
 use Rattle.std.specs.List.{AllByRecursion}
 use Rattle.std.proofs.lemmas.Bool.{cases_Bool}
@@ -12,8 +12,7 @@ use Rattle.journal.specs.History.{closed_step, endpoint_of}
 use Rattle.linx_timers.specs.declared.timer.Timer.{Timer}
 use Rattle.linx_timers.specs.Times.{is_timer}
 use Rattle.linx_timers.proofs.Taking.{all_first, first_passes}
-use Rattle.timer_laws.specs.Laws.{AreNumbered, IsGone, Stays, TimerState, after_cancel, after_close}
-use Rattle.timer_laws.specs.Laws.{after_modify, after_request, after_sending}
+use Rattle.timer_laws.specs.Laws.{IsGone, Stays, TimerState}
 use Rattle.timer_laws.proofs.Sending.{in_time, once}
 use Rattle.gateway_msgs.specs.Filters.{filter_of}
 use Rattle.gateway_msgs.specs.declared.reply.Reply.{Reply}

@@ -1,4 +1,4 @@
-use Rattle.std.proofs.Common.{◌≡◌, refl}
+use Rattle.std.proofs.Common.{refl}
 use Rattle.gateway_core.proofs.gateway.ask.Goals as goal
 
 pub step-requires : goal.step-requires

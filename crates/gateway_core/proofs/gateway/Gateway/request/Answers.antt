@@ -1,4 +1,4 @@
-use Rattle.std.proofs.Common.{◌≡◌, sym, subst, ap}
+use Rattle.std.proofs.Common.{sym, subst, ap}
 use Rattle.journal.specs.History.{endpoint_of}
 use Rattle.fabric.specs.Run.{Layout}
 use Rattle.gateway_core.specs.Handling.{GateState, IsClient, IsGateway, IsOwner}

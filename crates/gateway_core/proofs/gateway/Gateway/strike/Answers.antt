@@ -1,4 +1,4 @@
-use Rattle.std.proofs.Common.{◌≡◌, ◌<◌, suc, length, add-one, sym, subst, ap, ◌∙◌, refl, arith}
+use Rattle.std.proofs.Common.{◌≡◌, length, add-one, sym, subst, ap, ◌∙◌, refl, arith}
 use Rattle.std.specs.Prelude.{None}
 use Rattle.linx_base.specs.FirstMatch.{first_match}
 use Rattle.linx_timers.specs.Times.{is_next}
