@@ -36,7 +36,7 @@ LAYERS = [
     ("All links of a run", "trunk_moves run_trunks run_settling run_numbers run_states"),
     ("The machine", "fabric"),
     ("The script", "script_words script_lang work_gen"),
-    ("A run of a script", "actor_run stage run_orders"),
+    ("A run of a script", "actor_run stage run_orders order_rules orders"),
     ("Threads", "turn_lock linx_api workers"),
     ("The text", "journal_text report"),
     ("A byte stream", "request_stream tcpcm_frames tcpcm_framing tcpcm_end stream_echo"),

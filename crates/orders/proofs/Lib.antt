@@ -1,0 +1,13 @@
+mod Ready
+mod Alike
+mod Both
+mod Splits
+mod Turns
+mod Following
+mod Told
+mod Listed
+mod Ended
+mod Stopped
+mod Circle
+mod Rounds
+mod Orders
