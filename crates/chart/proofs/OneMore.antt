@@ -1,0 +1,111 @@
+-- One more effect at the end, or one more step.
+use Rattle.std.proofs.Common.{◌≡◌, ℕ, suc, ◌+◌, List, [], ◌∷◌, ◌++◌, length, refl, sym, ap, ◌∙◌}
+use Rattle.std.proofs.Common.{Bool, true, false, cond, append_assoc, append-nil, arith}
+use Rattle.std.specs.Prelude.{◌||◌}
+use Rattle.journal.specs.declared.head.Head.{Head}
+use Rattle.journal.specs.declared.effect.Effect.{Effect}
+use Rattle.journal.specs.declared.effect.Step.{Step}
+use Rattle.chart.specs.declared.mark.Mark.{Mark}
+use Rattle.chart.specs.declared.tie.Tie.{Tie}
+use Rattle.chart.specs.Marks.{head_mark, effect_mark, effect_marks, step_marks, marks_of}
+use Rattle.chart.specs.Ties.{head_ties, effect_tie, effect_ties, ties_of}
+
+-- the marks of effects and one more
+pub one_mark_more : (S : List Step) (position place : ℕ) (es : List Effect) (e : Effect)
+    → effect_marks S position place (es ++ e ∷ [])
+    ≡ effect_marks S position place es
+    ++ effect_mark S position (place + length es) e ∷ []
+one_mark_more S position place [] e =
+    let same : place ≡ place + 0 = omega arith in
+    ap (λ (n : ℕ). effect_mark S position n e ∷ []) same
+one_mark_more S position place (x ∷ es) e =
+    let same : place + 1 + length es ≡ place + suc (length es) = omega arith in
+    ap (λ (l : List Mark). effect_mark S position place x ∷ l)
+    (one_mark_more S position (place + 1) es e
+    ∙ ap (λ (n : ℕ). effect_marks S position (place + 1) es ++ effect_mark S position n e ∷ [])
+    same)
+
+-- the ties of effects and one more
+pub one_tie_more : (position place : ℕ) (head : Head) (es : List Effect) (e : Effect)
+    → effect_ties position place head (es ++ e ∷ [])
+    ≡ effect_ties position place head es ++ effect_tie position (place + length es) head e
+one_tie_more position place head [] e =
+    let same : place ≡ place + 0 = omega arith in
+    append-nil (effect_tie position place head e)
+    ∙ ap (λ (n : ℕ). effect_tie position n head e) same
+one_tie_more position place head (x ∷ es) e =
+    let same : place + 1 + length es ≡ place + suc (length es) = omega arith in
+    ap (λ (l : List Tie). effect_tie position place head x ++ l)
+    (one_tie_more position (place + 1) head es e
+    ∙ ap (λ (n : ℕ). effect_ties position (place + 1) head es ++ effect_tie position n head e)
+    same)
+    ∙ sym (append_assoc (effect_tie position place head x)
+    (effect_ties position (place + 1) head es) (effect_tie position (place + suc (length es)) head e))
+
+-- the marks of the effects so far, and of the next one
+pub marks_grown : (S : List Step) (position index : ℕ) (more so_far : List Effect) (e : Effect)
+    (m : Mark) (old before after : List Mark) → after ≡ before ++ m ∷ []
+    → m ≡ effect_mark S position (index + 1) e
+    → before ≡ old ++ effect_marks S position 1 so_far → more ≡ so_far ++ e ∷ []
+    → 1 + length so_far ≡ index + 1 → after ≡ old ++ effect_marks S position 1 more
+marks_grown S position index more so_far e m old before after now mark kept grown count =
+    let marks : List Mark = effect_marks S position 1 so_far in
+    now ∙ ap (λ (l : List Mark). l ++ m ∷ []) kept ∙ append_assoc old marks (m ∷ [])
+    ∙ ap (λ (n : Mark). old ++ (marks ++ n ∷ [])) mark
+    ∙ ap (λ (k : ℕ). old ++ (marks ++ effect_mark S position k e ∷ [])) (sym count)
+    ∙ ap (λ (l : List Mark). old ++ l) (sym (one_mark_more S position 1 so_far e))
+    ∙ ap (λ (es : List Effect). old ++ effect_marks S position 1 es) (sym grown)
+
+-- the ties of the effects so far, and of the next one
+pub ties_grown : (position index : ℕ) (head : Head) (more so_far : List Effect) (e : Effect)
+    (old before after : List Tie) → after ≡ before ++ effect_tie position (index + 1) head e
+    → before ≡ old ++ effect_ties position 1 head so_far → more ≡ so_far ++ e ∷ []
+    → 1 + length so_far ≡ index + 1 → after ≡ old ++ effect_ties position 1 head more
+ties_grown position index head more so_far e old before after now kept grown count =
+    let ties : List Tie = effect_ties position 1 head so_far in
+    now ∙ ap (λ (l : List Tie). l ++ effect_tie position (index + 1) head e) kept
+    ∙ append_assoc old ties (effect_tie position (index + 1) head e)
+    ∙ ap (λ (k : ℕ). old ++ (ties ++ effect_tie position k head e)) (sym count)
+    ∙ ap (λ (l : List Tie). old ++ l) (sym (one_tie_more position 1 head so_far e))
+    ∙ ap (λ (es : List Effect). old ++ effect_ties position 1 head es) (sym grown)
+
+-- the mark of a step's head, and those of its effects
+pub marks_put : (s : Step) (P : List Step) (position : ℕ) (m : Mark) (es : List Effect)
+    (old before after : List Mark) → position ≡ length P + 1 → before ≡ old ++ m ∷ []
+    → m ≡ head_mark position s.by s.head → es ≡ s.effects
+    → after ≡ before ++ effect_marks (s ∷ P) position 1 es → after ≡ old ++ step_marks s P
+marks_put s P position m es old before after at put mark effects now =
+    let same : position ≡ suc (length P) = omega arith in
+    now ∙ ap (λ (l : List Mark). l ++ effect_marks (s ∷ P) position 1 es) put
+    ∙ append_assoc old (m ∷ []) (effect_marks (s ∷ P) position 1 es)
+    ∙ ap (λ (n : Mark). old ++ n ∷ effect_marks (s ∷ P) position 1 es) mark
+    ∙ ap (λ (l : List Effect). old ++ head_mark position s.by s.head
+    ∷ effect_marks (s ∷ P) position 1 l) effects
+    ∙ ap (λ (k : ℕ). old ++ head_mark k s.by s.head ∷ effect_marks (s ∷ P) k 1 s.effects) same
+
+-- the marks of one step more
+pub step_marks_more : (P Q : List Step) (s : Step) (before after : List Mark) → Q ≡ s ∷ P
+    → before ≡ marks_of P → after ≡ before ++ step_marks s P → after ≡ marks_of Q
+step_marks_more P Q s before after grown so_far now =
+    now ∙ ap (λ (l : List Mark). l ++ step_marks s P) so_far ∙ ap marks_of (sym grown)
+
+-- the ties of one step more
+pub step_ties_more : (P Q : List Step) (s : Step) (k : ℕ) (before after : List Tie) → Q ≡ s ∷ P
+    → length P ≡ k → before ≡ ties_of P
+    → after ≡ before ++ (head_ties (k + 1) s.head ++ effect_ties (k + 1) 1 s.head s.effects)
+    → after ≡ ties_of Q
+step_ties_more P Q s k before after grown count so_far now =
+    let position : k + 1 ≡ suc (length P) = omega arith in
+    now
+    ∙ ap (λ (l : List Tie). l
+    ++ (head_ties (k + 1) s.head ++ effect_ties (k + 1) 1 s.head s.effects)) so_far
+    ∙ ap (λ (n : ℕ). ties_of P ++ (head_ties n s.head ++ effect_ties n 1 s.head s.effects)) position
+    ∙ ap ties_of (sym grown)
+
+-- a choice by the later of two tests, and then by the earlier one
+pub later_or_earlier : {X : Type 0} (a b : Bool) (x y : X)
+    → cond b x (cond a x y) ≡ cond (a || b) x y
+later_or_earlier true true x y = refl
+later_or_earlier true false x y = refl
+later_or_earlier false true x y = refl
+later_or_earlier false false x y = refl

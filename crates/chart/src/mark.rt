@@ -1,0 +1,46 @@
+//! Marks: what is drawn of a line.
+
+use crate::column::Column;
+use journal::{Detached, SentTo};
+use linx_base::{ItemAt, Verdict};
+
+/// What a mark is of: the head of a step, or an effect.
+#[derive(Clone, Copy, Debug, PartialEq, Eq)]
+pub enum MarkKind {
+    Open,
+    Close,
+    Send(SentTo),
+    Take,
+    TakeNone,
+    Waits,
+    Hunt,
+    Attach,
+    Detach(Detached),
+    Cut,
+    Mend,
+    Settle,
+    Restart,
+    /// A packet that met this verdict.
+    Packet(Verdict),
+    Tick,
+    Refused,
+    Ended,
+    Opened,
+    Closed,
+    Arrived,
+    Found,
+    Notified,
+    Met,
+    Gone,
+    Up,
+    Down,
+}
+
+/// What is drawn of a line: that of the step at a position, at place 0, or of one of its effects,
+/// which have places from 1 on.
+#[derive(Clone, Copy, Debug, PartialEq, Eq)]
+pub struct Mark {
+    pub line: ItemAt,
+    pub column: Column,
+    pub kind: MarkKind,
+}
