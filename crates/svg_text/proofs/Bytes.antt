@@ -1,5 +1,6 @@
 -- Tests that hold of all bytes of a list.
-use Rattle.std.proofs.Common.{◌≡◌, ℕ, zero, suc, ◌+◌, ◌<◌, Bool, true, false, cond, not, List, [], ◌∷◌}
+use Rattle.std.proofs.Common.{◌≡◌, ℕ, zero, suc, ◌+◌, ◌<◌, Bool, true, false, cond, not, List, []}
+use Rattle.std.proofs.Common.{◌∷◌}
 use Rattle.std.proofs.Common.{◌++◌, refl, sym, ap, ◌∙◌, arith, flat_map}
 use Rattle.std.specs.Prelude.{◌==◌, ◌/◌, ◌%◌, decimal}
 use Rattle.std.specs.Fmt.{digits, digits_onto, digit_glyph}

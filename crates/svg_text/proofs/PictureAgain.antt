@@ -11,4 +11,5 @@ use Rattle.svg_text.proofs.ReadAgain.{read_again}
 -- THE LAW: the text of a picture is a document of XML, and reads as the picture's tree
 pub picture_again : (picture : Picture) → read (picture_text picture) ≡ Some (tree_of picture)
 picture_again picture =
-    ap read (sym (picture_document picture)) ∙ read_again (tree_of picture) (picture_spelled picture)
+    ap read (sym (picture_document picture))
+    ∙ read_again (tree_of picture) (picture_spelled picture)

@@ -1,6 +1,7 @@
 -- WHAT A PICTURE WRITES IS PLAIN: its numbers, classes, paths and style sheet have no character
 -- with a meaning of its own; and what words show is characters.
-use Rattle.std.proofs.Common.{◌≡◌, ℕ, ◌+◌, ◌<◌, ◌≤◌, Bool, true, false, cond, not, List, [], ◌∷◌, ◌++◌}
+use Rattle.std.proofs.Common.{◌≡◌, ℕ, ◌+◌, ◌<◌, ◌≤◌, Bool, true, false, cond, not, List, [], ◌∷◌}
+use Rattle.std.proofs.Common.{◌++◌}
 use Rattle.std.proofs.Common.{refl, ap, ◌∙◌, arith, flat_map, append-nil}
 use Rattle.std.specs.Prelude.{◌&&◌, ◌==◌, ◌/◌, ◌%◌, nat_le, nat_lt, codes, decimal}
 use Rattle.std.specs.Fmt.{digit_glyph}

@@ -10,7 +10,8 @@ use Rattle.svg_text.specs.Reading.{tokens_in, Closed, Nested, opened, with_token
 use Rattle.svg_text.specs.Reading.{whole_in, content_of, content_in, read}
 use Rattle.svg_text.specs.Xml.{Attribute, Content, done, empty, holding, Tag, opens, closes, stands}
 use Rattle.svg_text.specs.Xml.{Token, tokens_of, character_text, tag_text, token_text}
-use Rattle.svg_text.specs.Xml.{document_text, is_character, is_tag, is_token, is_document, is_spelled}
+use Rattle.svg_text.specs.Xml.{document_text, is_character, is_tag, is_token, is_document}
+use Rattle.svg_text.specs.Xml.{is_spelled}
 use Rattle.svg_text.proofs.Bytes.{lacks, lacks_append}
 use Rattle.svg_text.proofs.Cutting.{cut_before, cut_alone}
 use Rattle.svg_text.proofs.TextsAgain.{text_again, text_opens_none, text_ends_none}

@@ -1,4 +1,5 @@
--- How long the text of a picture can be: so many bytes for each shape, row, stroke and byte of words.
+-- How long the text of a picture can be: so many bytes for each shape, row, stroke and byte of
+-- words.
 use Rattle.std.specs.Prelude.{ℕ, ◌+◌, ◌*◌, List, [], ◌∷◌, length}
 use Rattle.svg_text.specs.declared.picture.Picture.{Picture}
 use Rattle.svg_text.specs.declared.picture.Row.{Row}

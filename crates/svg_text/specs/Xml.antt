@@ -55,7 +55,8 @@ tag_text (closes name) = codes "/" ++ name
 tag_text (stands name attributes) = name ++ flat_map attribute_text attributes ++ codes "/"
 
 abbrev pub token_text : Token → List ℕ
-token_text token = codes "<" ++ tag_text token.tag ++ codes ">" ++ flat_map character_text token.behind
+token_text token =
+    codes "<" ++ tag_text token.tag ++ codes ">" ++ flat_map character_text token.behind
 
 -- the document of some elements
 abbrev pub document_text : Content → List ℕ

@@ -15,7 +15,9 @@ pub(crate) fn light_ground() -> &'static [u8]
     b"svg{background:#fff}\ntext{font:11px ui-monospace,'DejaVu Sans Mono',Menlo,\
       Consolas,monospace;fill:#222;white-space:pre}\n\
       .row:hover .hit,.lit .hit{fill:#e69f00;fill-opacity:.2}\n\
-      .front{pointer-events:none}\n"
+      .front{pointer-events:none}\n\
+      .label,.faint,.strong,.wrong-label{paint-order:stroke;stroke:#f6f9fc;\
+      stroke-width:4px;stroke-linejoin:round}\n"
 }
 
 /// What is otherwise in a dark one.
@@ -146,18 +148,10 @@ pub(crate) fn light(class: Class) -> &'static [u8]
         Class::Mark => b"fill:#fff;stroke:#222;stroke-width:1.3",
         Class::Dot => b"fill:#222",
         Class::Wrong => b"stroke:#c04a00;stroke-width:2;fill:none",
-        Class::Label => {
-            b"paint-order:stroke;stroke:#f6f9fc;stroke-width:4px;stroke-linejoin:round"
-        }
-        Class::Faint => {
-            b"paint-order:stroke;stroke:#f6f9fc;stroke-width:4px;stroke-linejoin:round;fill:#667"
-        }
-        Class::Strong => {
-            b"paint-order:stroke;stroke:#f6f9fc;stroke-width:4px;stroke-linejoin:round;font-weight:700"
-        }
-        Class::WrongLabel => {
-            b"paint-order:stroke;stroke:#f6f9fc;stroke-width:4px;stroke-linejoin:round;fill:#b04400;font-weight:700"
-        }
+        Class::Label => b"fill:#222",
+        Class::Faint => b"fill:#667",
+        Class::Strong => b"fill:#222;font-weight:700",
+        Class::WrongLabel => b"fill:#b04400;font-weight:700",
         Class::Line => b"fill:#667",
         Class::Effect => b"fill:#99a",
         Class::Hit => b"fill:#fff;fill-opacity:0",
@@ -197,9 +191,9 @@ pub(crate) fn dark(class: Class) -> &'static [u8]
         Class::Mark => b"fill:#14171b;stroke:#e4e6e8",
         Class::Dot => b"fill:#e4e6e8",
         Class::Wrong => b"stroke:#ff8f45",
-        Class::Label => b"stroke:#181d23",
+        Class::Label => b"fill:#e4e6e8;stroke:#181d23",
         Class::Faint => b"fill:#98a2ae;stroke:#181d23",
-        Class::Strong => b"stroke:#181d23",
+        Class::Strong => b"fill:#e4e6e8;stroke:#181d23",
         Class::WrongLabel => b"fill:#ff9d5c;stroke:#181d23",
         Class::Line => b"fill:#98a2ae",
         Class::Effect => b"fill:#737d88",

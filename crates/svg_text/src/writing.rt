@@ -6,7 +6,8 @@ ghost use Rattle.std.specs.Prelude.{◌<◌, false};
 ghost use Rattle.svg_text.specs.Xml.{character_text, is_character};
 ghost use Rattle.svg_text.specs.Texts.{anchor_text};
 ghost use Rattle.svg_text.specs.Words.{has_character, numbered, byte_text, words_text, point_text};
-ghost use Rattle.svg_text.specs.Words.{anchor_name, stroke_text, strokes_text, effect_text, place_text};
+ghost use Rattle.svg_text.specs.Words.{anchor_name, stroke_text, strokes_text, effect_text};
+ghost use Rattle.svg_text.specs.Words.{place_text};
 
 use crate::shape::{Anchor, Point, Stroke};
 use itoa::Buffer;
