@@ -99,7 +99,7 @@ def hunting(paths, node="m"):
 
 # Queues.
 
-@shape(12_000)
+@shape(22_000)
 def filled_and_taken(size, _chance):
     """Queues that are filled and then taken in order."""
     lines = ["node n"]
@@ -109,22 +109,22 @@ def filled_and_taken(size, _chance):
     return lines
 
 
-@shape(8_000)
+@shape(19_000)
 def two_numbers(size, chance):
     """Two numbers in turn in one queue, of which one is taken."""
     first, second = kinds(chance, 2)
     wanted = chance.choice([first, second, f"not {first}"])
-    takes = repeat(min(size // 2, MOST), f"recv {wanted}")
+    takes = repeat(size // 8, f"recv {wanted}")
     return (["node n", *actor("taker", "n", "open q", *repeat(20, "recv 251"), *takes)]
             + fillers(size, f"send s {first}", f"send s {second}"))
 
 
-@shape(9_000)
+@shape(40_000)
 def ten_senders(size, chance):
     """Ten senders with a number each into one queue, taken by one number after the other."""
     part = size // 10
     numbers = kinds(chance, 10)
-    takes = [line for number in numbers for line in repeat(min(part, 1900), f"recv {number}")]
+    takes = [line for number in numbers for line in repeat(part // 10, f"recv {number}")]
     lines = ["node n", *actor("taker", "n", "open q", *repeat(10, "recv 4"), *takes)]
     for k, number in enumerate(numbers):
         lines += actor(f"f{k}", "n", *finding("a", "q", *repeat(part, f"send s {number}"),
@@ -155,13 +155,13 @@ def middle_by_others(size, chance):
     return speeds.middle(size, f"recv not {chance.choice(['1 3', '1 3 7', '1 3 7 8 9'])}")
 
 
-@shape(2_000)
+@shape(2_400)
 def behind_others(size, _chance):
     """Signals behind ever so many others, taken by what they aren't."""
     return speeds.behind(size)
 
 
-@shape(2_000)
+@shape(2_400)
 def lower_numbers(size, _chance):
     """Signals, and then as many of a lower number."""
     return speeds.lower(size)
@@ -177,21 +177,21 @@ def takers(size, wanted, waiting):
     return lines
 
 
-@shape(12_000)
+@shape(15_000)
 def not_of_many(size, chance):
     """Takes by what they aren't, one to 64 numbers, from behind ever so many of these."""
     numbers = kinds(chance, chance.choice([1, 8, 64, 64]))
     return takers(size, f"not {listed(numbers)}", numbers)
 
 
-@shape(12_000)
+@shape(15_000)
 def only_of_many(size, chance):
     """Takes by a filter of two to 64 numbers, from behind 64 others of ever so many signals."""
     numbers = kinds(chance, 127)
     return takers(size, listed(numbers[:chance.choice([1, 8, 63])] + [5]), numbers[63:])
 
 
-@shape(12_000)
+@shape(30_000)
 def other_filters(size, chance):
     """Takes by filters of a few of a hundred numbers, a new one each time."""
     lines = ["node n"]
@@ -206,7 +206,7 @@ def other_filters(size, chance):
     return lines
 
 
-@shape(20_000)
+@shape(45_000)
 def in_vain(size, chance):
     """An actor that waits for none of the numbers that others send."""
     numbers = kinds(chance, chance.choice([1, 8, 63]))
@@ -214,7 +214,7 @@ def in_vain(size, chance):
             + fillers(size, "send s 5", end="send s 6"))
 
 
-@shape(12_000)
+@shape(30_000)
 def waiters(size, chance):
     """Fifty actors with long filters that wait in vain, while others send to them."""
     numbers = kinds(chance, 63)
@@ -227,7 +227,7 @@ def waiters(size, chance):
     return lines
 
 
-@shape(15_000)
+@shape(40_000)
 def none_found(size, chance):
     """Receives that find none, each printed with 64 numbers."""
     lines = ["node n"]
@@ -236,7 +236,7 @@ def none_found(size, chance):
     return lines
 
 
-@shape(10_000)
+@shape(25_000)
 def notices_among_signals(size, chance):
     """Notices that are detached from among 24 times as many signals."""
     notices = size // 25
@@ -262,9 +262,22 @@ def notices_of_dead(size, chance):
     return lines
 
 
+@shape(40_000)
+def short_data(size, chance):
+    """Signals of up to 33 bytes of two kinds, which are alike at both ends, that stay queued."""
+    middle = chance.choice([0, 15, 16, 17])
+    sends = [f"send s {number} hex:{'ab' * 8}{f'{byte:02x}' * middle}{'cd' * 8}"
+             for byte, number in enumerate(kinds(chance, 2))]
+    lines = ["node n", *actor("q", "n", "open q", "recv 251")]
+    for k in range(20):
+        lines += actor(f"p{k}", "n", *finding(f"a{k}", "q", *["detach none"] * (k % 2),
+                                              *repeat(size // 40, *sends), "recv 7"))
+    return lines
+
+
 # Hunts, names and attaches.
 
-@shape(9_000)
+@shape(20_000)
 def one_opening(size, chance):
     """Hunts for one name that one opening answers."""
     part = size // 10
@@ -275,7 +288,7 @@ def one_opening(size, chance):
     return lines + actor("o", "n", *repeat(part + 100, "detach none"), "open s", "recv 1")
 
 
-@shape(9_000)
+@shape(6_000)
 def unopened_names(size, chance):
     """Hunts for as many names that nobody opens."""
     return ["node n", *hunting(names(chance, size), "n")]
@@ -298,7 +311,7 @@ def hunters(size, _chance):
     return speeds.hunters(size)
 
 
-@shape(9_000)
+@shape(16_000)
 def attached_and_detached(size, chance):
     """Attaches to one peer under names, which are detached in some order."""
     lines = ["node n", *actor("peer", "n", "open s", "recv 1")]
@@ -309,10 +322,10 @@ def attached_and_detached(size, chance):
     return lines
 
 
-@shape(9_000)
+@shape(20_000)
 def notified(size, chance):
     """Attaches to a peer that one closing notifies."""
-    signal = chance.choice(["252", "7", "7 hex:00", "7 fill:300:11"])
+    signal = chance.choice(["252", "7", f"7 hex:{'ab' * 31}", f"7 hex:{'ab' * 33}"])
     lines = ["node n", *actor("peer", "n", "open s", *repeat(size // 10 + 100, "detach none"))]
     for k in range(10):
         lines += actor(f"p{k}", "n", *finding("a", "s", *repeat(size // 10, f"attach s r {signal}"),
@@ -320,7 +333,7 @@ def notified(size, chance):
     return lines
 
 
-@shape(9_000)
+@shape(40_000)
 def two_peers(size, _chance):
     """Two peers that are attached to by turns."""
     lines = ["node n"]
@@ -332,7 +345,7 @@ def two_peers(size, _chance):
     return lines
 
 
-@shape(9_000)
+@shape(40_000)
 def closing_hunters(size, chance):
     """Fifty actors that hunt and attach, close, and begin again."""
     each = chance.choice([2, 20, 60])
@@ -344,7 +357,7 @@ def closing_hunters(size, chance):
     return lines
 
 
-@shape(16_000)
+@shape(45_000)
 def openings(size, _chance):
     """Openings and closings by 64 actors."""
     lines = ["node n"]
@@ -353,7 +366,7 @@ def openings(size, _chance):
     return lines
 
 
-@shape(8_000)
+@shape(4_500)
 def names_kept(size, chance):
     """As many names as commands, of senders that are kept and of attaches."""
     lines = ["node n"]
@@ -367,46 +380,47 @@ def names_kept(size, chance):
 
 # Links.
 
-@shape(1_000)
+@shape(2_000)
 def pings(size, chance):
     """Signals to and fro over a link."""
     return pair(f"window {chance.choice([1, 2, 32])}", "piece 64") + asking(
         f" fill:{chance.choice([0, 5, 300])}:11", size)
 
 
-@shape(2_000)
+@shape(4_500)
 def one_way(size, chance):
     """Signals over a link, one way."""
     return pair(f"window {chance.choice([1, 8, 256])}",
                 f"piece {chance.choice([64, 8192])}") + telling("", size)
 
 
-@shape(10)
+@shape(20)
 def small_pieces(size, chance):
     """Signals of 65,532 bytes in pieces of 64."""
     return pair(f"window {chance.choice([1, 32, 256])}", "piece 64") + telling(
         " fill:65532:11", size)
 
 
-@shape(1_200)
+@shape(2_400)
 def bad_link(size, chance):
     """Signals to and fro over a link that loses, repeats and exchanges by a plan."""
     lot, far = chance.choice(random_script.LOTS), chance.choice([1, 3, 9])
     verdicts = [f"S{chance.randint(1, far)}" if word == "S" else word
-                for word in (chance.choice(lot) for _ in range(2 * size))]
+                for word in (chance.choice(lot) for _ in range(min(2 * size, 10_000)))]
     return (pair(f"window {chance.choice([1, 4, 32])}", f"piece {chance.choice([64, 1400])}")
             + plan(">", verdicts) + plan("<", verdicts[::-1]) + asking(" fill:500:11", size))
 
 
-@shape(1_500)
+@shape(4_000)
 def exchanged(size, chance):
     """Signals over a link that exchanges packets with far ones."""
-    verdicts = [chance.choice(["D", "S9", f"S{chance.randint(1, 9)}"]) for _ in range(size)]
+    verdicts = [chance.choice(["D", "S9", f"S{chance.randint(1, 9)}"])
+                for _ in range(min(size, 10_000))]
     return (pair("window 32", "piece 64") + plan(">", verdicts) + plan("<", verdicts[::-1])
             + telling(" fill:200:11", size))
 
 
-@shape(1_000)
+@shape(1_200)
 def cut_and_mended(size, chance):
     """A link that is cut and mended, its node restarted, and settled, again and again."""
     body = ["cut l0", "mend l0", "restart n", "settle l0"]
@@ -414,7 +428,7 @@ def cut_and_mended(size, chance):
     return pair() + actor("p", "m", "open a", *repeat(size, *body))
 
 
-@shape(30)
+@shape(50)
 def many_settled(size, chance):
     """Settles of 32 links, each after a cut."""
     body = [line for k in range(32) for line in (f"cut l{k}", f"mend l{k}", f"settle l{k}")]
@@ -422,7 +436,7 @@ def many_settled(size, chance):
             + actor("p", "m", "open a", *repeat(size, *body)))
 
 
-@shape(2_500)
+@shape(5_000)
 def asked_each_session(size, chance):
     """Hunts pending over a link, whose other node restarts for each 200: four times the work."""
     return (pair(f"window {chance.choice([32, 256])}") + hunting(["l0/none"] * size)
@@ -430,7 +444,7 @@ def asked_each_session(size, chance):
                     *["restart n", *["detach none"] * 12] * (size // 200)))
 
 
-@shape(9_000)
+@shape(6_000)
 def hunts_over_cut(size, chance):
     """Hunts over a cut link, for one name or for many."""
     every = chance.choice([["x"] * size, names(chance, size)])
@@ -445,7 +459,7 @@ def hunts_unanswered(size, chance):
     return pair() + hunting([f"l0/{name}" for name in every])
 
 
-@shape(1_500)
+@shape(1_150)
 def met_and_gone(size, chance):
     """Openings and closings that are hunted for over a link, again and again."""
     return (pair(f"window {chance.choice([1, 32])}")
@@ -460,7 +474,7 @@ def restarts(size, _chance):
     return speeds.restarts(size // 64)
 
 
-@shape(8_000)
+@shape(40_000)
 def restarts_with_cut_links(size, chance):
     """Restarts of a node with cut links, by 40 actors."""
     links = chance.choice([1, 4, 8])
@@ -470,7 +484,7 @@ def restarts_with_cut_links(size, chance):
     return lines
 
 
-@shape(400)
+@shape(500)
 def many_sessions(size, chance):
     """A hunt, an attach and a signal in each session, and then a restart."""
     data = chance.choice(["", " fill:3000:11"])
@@ -481,25 +495,21 @@ def many_sessions(size, chance):
             + actor("q", "n", *repeat(2 * size, "open b", "recv 1")))
 
 
-def asked_again_on(links, times):
-    """On each of so many links a packet that asks for 255 frames, delivered so often."""
+@shape(2_400)
+def asked_again(size, chance):
+    """A packet that asks for 255 frames, delivered again and again, on one link or more."""
+    links = chance.choice([1, 1, 4])
     lines = pair("window 256", "piece 64", links=links)
     for k in range(links):
-        lines += plan("<", ["D"] * 4 + ["L"], f"l{k}") + plan(
-            ">", ["D"] * 6 + ["R"] * times, f"l{k}")
+        lines += plan("<", ["D"] * 5 + ["L"] * 255, f"l{k}")
+        lines += plan(">", ["D"] * 8 + ["R"] * (size // links), f"l{k}")
         lines += actor(f"p{k}", "m", f"open b{k}", "recv 1")
-        lines += actor(f"q{k}", "n", *finding(f"a{k}", f"l{k}/b{k}", "send s 1 fill:65532:11"))
+        lines += actor(f"q{k}", "n", *finding("a", f"l{k}/b{k}", "send s 1 fill:65532:11",
+                                              "recv 1"))
     return lines
 
 
-@shape(80)
-def asked_again(size, chance):
-    """A packet that asks for missing frames, delivered again and again."""
-    links = chance.choice([1, 4])
-    return asked_again_on(links, size // links)
-
-
-@shape(2_000)
+@shape(4_500)
 def sent_while_cut(size, chance):
     """Signals that are sent over a link while it is cut."""
     data = chance.choice(["", " fill:1000:11"])
@@ -509,7 +519,7 @@ def sent_while_cut(size, chance):
             + actor("q", "n", "open b", *repeat(size, "recv 1")))
 
 
-@shape(200)
+@shape(600)
 def chain(size, chance):
     """Sixteen nodes in a chain, with signals that are sent on from one to the next."""
     lines = [f"node n{k}" for k in range(16)]
@@ -520,7 +530,7 @@ def chain(size, chance):
     return lines + actor("p15", "n15", "open e15", *repeat(size, "recv 1"))
 
 
-@shape(120)
+@shape(150)
 def crowd(size, chance):
     """64 actors on 16 nodes with 32 links, each with a peer of its own."""
     ends = [(k % 16, (k + 1 + k // 16) % 16) for k in range(32)]
@@ -534,7 +544,7 @@ def crowd(size, chance):
     return lines
 
 
-@shape(400)
+@shape(300)
 def attached_over_link(size, chance):
     """Attaches over a link whose other node restarts again and again."""
     each = chance.choice([1, 10])
@@ -544,7 +554,7 @@ def attached_over_link(size, chance):
             + actor("q", "n", *repeat(2 * size, "open b", "recv 1")))
 
 
-@shape(25)
+@shape(100)
 def load(size, _chance):
     """The generated load."""
     return speeds.load(size)
@@ -552,7 +562,7 @@ def load(size, _chance):
 
 # Data, and long scripts.
 
-@shape(9_000)
+@shape(20_000)
 def long_data(size, chance):
     """Signals of 300 bytes of thirty kinds, and their text."""
     lines = ["node n"]
@@ -570,19 +580,19 @@ def unlike(size, _chance):
     return speeds.unlike(size)
 
 
-@shape(8_000)
+@shape(20_000)
 def forwarded(size, chance):
     """A signal that is taken and sent on in a ring."""
     count = chance.choice([10, 30])
     lines = ["node n"]
     for k in range(count):
-        first = ["send s 1 fill:2000:11"] if k == 0 else []
+        first = ["send s 1 fill:200:11"] if k == 0 else []
         lines += actor(f"p{k}", "n", *finding(f"e{k}", f"e{(k + 1) % count}", *first,
                                               *repeat(size // count, "recv 1", "forward s")))
     return lines
 
 
-@shape(12)
+@shape(8)
 def long_data_over_link(size, chance):
     """Long data of eight kinds over a link, sent on and back."""
     sends = [line for place in range(8)
@@ -613,7 +623,7 @@ def many_blocks(size, chance):
     return lines
 
 
-@shape(90_000)
+@shape(48_000)
 def repeated(size, chance):
     """Repeated blocks of commands, of which half is run before the journal is full."""
     command = chance.choice(["detach none", "send s 1 fill:9:00", "hunt none"])
@@ -623,7 +633,7 @@ def repeated(size, chance):
     return lines
 
 
-@shape(40_000)
+@shape(100_000)
 def long_plans(size, chance):
     """Plans that are longer than their runs."""
     lot = chance.choice(["DDDDDLR", "D", "DR"])
@@ -634,7 +644,7 @@ def long_plans(size, chance):
     return lines + actor("p", "m", "open a")
 
 
-@shape(3_000)
+@shape(12_000)
 def ring(size, _chance):
     """64 actors in a ring, each of which waits for the one before it."""
     return speeds.ring(size // 64)

@@ -22,13 +22,13 @@ class Took(NamedTuple):
     kilobytes: int
 
 
-def once(command, given, written=subprocess.DEVNULL, said=None):
-    """A run of a command on a file, for at most a minute."""
+def once(command, given, written=subprocess.DEVNULL, said=None, seconds=SECONDS):
+    """A run of a command on a file, for at most so many seconds."""
     given.seek(0)
     began = time.monotonic()
     ran = subprocess.Popen(command, stdin=given, stdout=written, stderr=said)
     watched = os.pidfd_open(ran.pid)
-    has_ended = bool(select.select([watched], [], [], SECONDS)[0])
+    has_ended = bool(select.select([watched], [], [], seconds)[0])
     os.close(watched)
     if not has_ended:
         ran.kill()
@@ -46,11 +46,11 @@ def several(command, script, runs):
         return [once(command, given) for _ in range(runs)]
 
 
-def failure(runs):
+def failure(runs, seconds=SECONDS):
     """How the first of some runs ended that wasn't done, in words, or no word."""
     for ran in runs:
         if ran.status is None:
-            return f"   no end within {SECONDS} s"
+            return f"   no end within {seconds} s"
         if ran.status:
             return f"   ended with {ran.status}"
     return ""
