@@ -580,7 +580,7 @@ def unlike(size, _chance):
     return speeds.unlike(size)
 
 
-@shape(20_000)
+@shape(12_000)
 def forwarded(size, chance):
     """A signal that is taken and sent on in a ring."""
     count = chance.choice([10, 30])

@@ -20,6 +20,7 @@ more memory than the bound, that is said, and the exit status is 1.
 import os
 import random
 import re
+import resource
 import sys
 import tempfile
 from typing import NamedTuple
@@ -76,8 +77,9 @@ class Line(NamedTuple):
 
     @property
     def share(self):
-        """How much of its bound the memory of the largest takes."""
-        return self.runs[2].memory / self.runs[2].bound
+        """How much of its bound the memory of the largest takes, where it is more than Python's."""
+        own = 1024 * resource.getrusage(resource.RUSAGE_SELF).ru_maxrss
+        return self.runs[2].memory / self.runs[2].bound if self.runs[2].memory > own else 0
 
     @property
     def step_time(self):
@@ -135,7 +137,7 @@ def bound_of(given, came):
         elif words[0] not in DECLARED:
             commands += times
     return (4_000_000 + 8 * size + 150 * commands + 800 * came.steps + 400 * came.effects
-            + came.data + came.text + 100 * packets)
+            + 3 * came.data + came.text + 100 * packets)
 
 
 def write_script(given, shape, size, seed):
@@ -209,8 +211,8 @@ def show(line):
 
 def show_all(lines):
     """Prints the lines by growth, and which take most for a step."""
-    print(f"\n{'by growth':90} {'n':>6} {'time: n':>7} {'2n':>7} {'4n':>7} {'times':>5} {'MB: n':>5} "
-          f"{'2n':>5} {'4n':>5} {'share':>5} {'steps':>7} {'a step':>8} {'bytes':>6}")
+    print(f"\n{'by growth':90} {'n':>6} {'time: n':>7} {'2n':>7} {'4n':>7} {'times':>5} "
+          f"{'MB: n':>5} {'2n':>5} {'4n':>5} {'share':>5} {'steps':>7} {'a step':>8} {'bytes':>6}")
     for line in sorted(lines, key=lambda line: -line.growth):
         show(line)
     for title, key in (("most time for a step", "step_time"),
