@@ -5,6 +5,8 @@ the same seed, whatever the size. It stands in SHAPES under its first line, with
 search begins with; at four times that a run takes 0.1 to 1 s, and fits a script and a journal.
 Twice the size is twice the work, but where the first line says otherwise.
 """
+import random
+
 import random_script
 import speeds
 from speeds import actor, repeat
@@ -44,9 +46,14 @@ def fillers(count, *sends, end="detach none"):
     return lines
 
 
+def lot(chance):
+    """A chance for as many draws as a size asks for: of the given one it takes a single draw."""
+    return random.Random(chance.random())
+
+
 def kinds(chance, count):
     """So many numbers of signals, no two alike."""
-    return chance.sample(range(10, 4_000_000_000), count)
+    return lot(chance).sample(range(10, 4_000_000_000), count)
 
 
 def listed(numbers):
@@ -57,13 +64,13 @@ def listed(numbers):
 def names(chance, count):
     """So many names in any order, with a front in common of no, one or 27 letters."""
     front = "abcdefghijklmnopqrstuvwxyz_"[:chance.choice([0, 1, 27])]
-    return [f"{front}{place}" for place in chance.sample(range(count), count)]
+    return [f"{front}{place}" for place in lot(chance).sample(range(count), count)]
 
 
 def ordered(chance, things):
     """Things in their order, in reverse, or in any order."""
     return chance.choice([list(things), list(reversed(things)),
-                          chance.sample(things, len(things))])
+                          lot(chance).sample(things, len(things))])
 
 
 def pair(*settings, links=1):
@@ -404,9 +411,10 @@ def small_pieces(size, chance):
 @shape(2_400)
 def bad_link(size, chance):
     """Signals to and fro over a link that loses, repeats and exchanges by a plan."""
-    lot, far = chance.choice(random_script.LOTS), chance.choice([1, 3, 9])
-    verdicts = [f"S{chance.randint(1, far)}" if word == "S" else word
-                for word in (chance.choice(lot) for _ in range(min(2 * size, 10_000)))]
+    words, far = chance.choice(random_script.LOTS), chance.choice([1, 3, 9])
+    draws = lot(chance)
+    verdicts = [f"S{draws.randint(1, far)}" if word == "S" else word
+                for word in draws.choices(words, k=min(2 * size, 10_000))]
     return (pair(f"window {chance.choice([1, 4, 32])}", f"piece {chance.choice([64, 1400])}")
             + plan(">", verdicts) + plan("<", verdicts[::-1]) + asking(" fill:500:11", size))
 
@@ -636,10 +644,10 @@ def repeated(size, chance):
 @shape(100_000)
 def long_plans(size, chance):
     """Plans that are longer than their runs."""
-    lot = chance.choice(["DDDDDLR", "D", "DR"])
+    words = chance.choice(["DDDDDLR", "D", "DR"])
     lines = pair(links=32)
     for k, part in enumerate(parts(size, 10_000)):
-        verdicts = [chance.choice(lot) for _ in range(part)]
+        verdicts = lot(chance).choices(words, k=part)
         lines += plan(">" if k % 2 else "<", verdicts, f"l{k // 2}")
     return lines + actor("p", "m", "open a")
 
