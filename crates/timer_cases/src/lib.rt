@@ -3,6 +3,6 @@
 #![tactic(auto)]
 
 #[cfg(test)]
-mod deadlines;
+mod first_due;
 #[cfg(test)]
 mod timers;
