@@ -3,4 +3,4 @@ pub mod Own
 pub mod Answering
 pub mod Calls
 mod Newcomers
-pub mod Sending
+mod Sending
