@@ -1,5 +1,5 @@
 -- Who asks a gateway for something.
-use Rattle.std.proofs.Common.{◌≡◌, ℕ, List, length}
+use Rattle.std.proofs.Common.{ℕ, length}
 use Rattle.fabric.specs.Run.{Layout}
 use Rattle.gateway_msgs.specs.declared.request.Request.{Request}
 use Rattle.gateway_msgs.specs.declared.request.Request.TheVariants as asks

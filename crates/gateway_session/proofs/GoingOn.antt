@@ -28,7 +28,7 @@ use Rattle.gateway_core.specs.Handling.{GateState, Fires, FiresOne, Handles, IfO
 use Rattle.gateway_core.specs.Handling.{IsMadeOf, IsSending, StopsAmid, Strikes, Clocks, Receives}
 use Rattle.gateway_core.specs.Handling.{done_or_none, last_moment}
 use Rattle.gateway_session.specs.Laws.{GoesOnFrom}
-use Rattle.gateway_session.specs.Replying.{IsStopped, Leaves, Replies}
+use Rattle.gateway_session.specs.Replying.{Leaves, Replies}
 
 -- ---- one step, or none
 
@@ -83,11 +83,11 @@ receives client (Some selected) old new reply is =
     of_layouts old new (made_of client _ old.layout new.layout reply is.made)
 
 -- what needs an open endpoint leaves the layout
-where_open : (own : Option Inc) (at : ℕ) (old new made : GateState) (reply done : Reply)
-    → made.layout ≡ old.layout → IfOpen own at old new reply ((reply ≡ done) × (new ≡ made))
+where_open : (own : Option Inc) (at : ℕ) (old new made : GateState) (reply answer : Reply)
+    → made.layout ≡ old.layout → IfOpen own at old new reply ((reply ≡ answer) × (new ≡ made))
     → GoesOnFrom old new
-where_open None at old new made reply done stays is = same old new is.1
-where_open (Some inc) at old new made reply done stays is =
+where_open None at old new made reply answer stays is = same old new is.1
+where_open (Some inc) at old new made reply answer stays is =
     kept old new (ap (λ (g : GateState). g.layout) is.1 ∙ stays)
 
 -- ---- the clock

@@ -1,5 +1,5 @@
 -- What a handled request is to the loop over a stream.
-use Rattle.std.proofs.Common.{◌≡◌, ℕ, List, ◌++◌, refl, sym, ap, ◌∙◌, subst, inr}
+use Rattle.std.proofs.Common.{◌≡◌, ℕ, List, ◌++◌, refl, ap, ◌∙◌, inr}
 use Rattle.std.specs.Prelude.{Result, Ok, Err, OnOk, OnErr, IfErr, true}
 use Rattle.journal.specs.Logs.{is_full}
 use Rattle.request_stream.specs.declared.server.Refusal.{Refusal}

@@ -1,7 +1,6 @@
-use Rattle.std.proofs.Common.{◌≡◌, ℕ, List, length, sym, ap, ◌∙◌, subst}
-use Rattle.std.specs.Prelude.{OnOk, OnErr, IfErr}
+use Rattle.std.proofs.Common.{length, sym, ap, ◌∙◌}
 use Rattle.journal.specs.Shapes.{Shape}
-use Rattle.gateway_core.specs.Handling.{GateState, IsAskerOf, Handles, Stops}
+use Rattle.gateway_core.specs.Handling.{GateState}
 use Rattle.gateway_session.proofs.Asking.{asker}
 use Rattle.gateway_session.proofs.Replying.{on_ok, on_err, anyway, replied, leaves, fills}
 use Rattle.gateway_session.proofs.session.SessionServer.reply.Goals as goal
