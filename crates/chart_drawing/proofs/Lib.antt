@@ -1,0 +1,4 @@
+pub mod EachRow
+pub mod OneMore
+pub mod Counts
+pub mod Behind

@@ -1,0 +1,12 @@
+pub mod Layout
+pub mod Spots
+pub mod LifeMarks
+pub mod LaneMarks
+pub mod Labels
+pub mod Rows
+pub mod Bars
+pub mod Beside
+pub mod Arrows
+pub mod Ground
+pub mod Drawing
+pub mod Failures
