@@ -1,8 +1,10 @@
 //! Worked rows: requests that are read, and replies that are written.
 ghost use Rattle.std.specs.Prelude.{◌<◌};
 
-use gateway_msgs::{Asked, Front, Reply, Request, filter_of, front_of, read, write_reply};
-use linx_base::{Bytes, Inc, Signal};
+use gateway_msgs::{
+    Asked, Front, REPLY_MOST, Reply, Request, filter_of, front_of, read, write_reply,
+};
+use linx_base::{Inc, Signal};
 use sigsel::{Numbers, Sigsel};
 use std::alloc::Global;
 use std::test::Fail;
@@ -11,9 +13,9 @@ use std::test::Fail;
 fn reply_bytes(alloc: Global, kind: u8, reply: &Reply) -> Result<Vec<u8>, Fail>
     requires { kind < 128 }
 {
-    let mut out = Bytes::with_room(alloc, 64)?;
-    write_reply(&mut out, kind, 1, reply)?;
-    Ok(Vec::from_slice(alloc, out.into_blob()?.bytes())?)
+    let mut out = Vec::with_capacity(alloc, REPLY_MOST)?;
+    write_reply(&mut out, kind, 1, reply);
+    Ok(out)
 }
 
 /// The request that the bytes begin with, of one client.

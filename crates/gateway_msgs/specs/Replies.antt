@@ -16,6 +16,14 @@ status_of replies.BadFilter = 7
 status_of replies.BadMoment = 8
 status_of _ = 0
 
+-- the most bytes of a body: those of a signal that was taken
+abbrev pub body_most : ℕ
+body_most = 65544
+
+-- the most bytes of a reply
+abbrev pub reply_most : ℕ
+reply_most = 65552
+
 -- the body of a reply
 abbrev pub body_of_reply : Reply → List ℕ
 body_of_reply (replies.Number n) = big_bytes 8 n

@@ -18,4 +18,4 @@ pub use laws::{none_goes_on, one_front, one_request};
 pub use reading::{Asked, read};
 pub use reply::Reply;
 pub use request::Request;
-pub use writing::write_reply;
+pub use writing::{REPLY_MOST, write_reply};

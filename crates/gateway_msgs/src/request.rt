@@ -1,3 +1,6 @@
+ghost use Rattle.std.specs.Prelude.{◌≡◌, ◌<◌};
+ghost use Rattle.gateway_msgs.specs.Requests.{type_of};
+
 use linx_base::{AttRef, Inc, Name, Signal};
 use sigsel::Numbers;
 
@@ -41,4 +44,26 @@ pub enum Request {
     Modify { reference: u64, delay: u32 },
     /// The moment that it is now. No client asks for it.
     Clock { moment: u64 },
+}
+
+impl Request {
+    /// The type.
+    pub fn kind(&self) -> u8
+        ensures kind { result ≡ type_of self.now }
+        ensures few { result < 128 }
+    {
+        match self {
+            Request::Open(_) => OPEN,
+            Request::Close => CLOSE,
+            Request::Send { .. } => SEND,
+            Request::Receive { .. } => RECEIVE,
+            Request::Hunt(_) => HUNT,
+            Request::Attach(_) => ATTACH,
+            Request::Detach(_) => DETACH,
+            Request::Timer { .. } => TIMER,
+            Request::Cancel { .. } => CANCEL,
+            Request::Modify { .. } => MODIFY,
+            Request::Clock { .. } => CLOCK,
+        }
+    }
 }

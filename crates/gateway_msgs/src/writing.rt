@@ -1,10 +1,15 @@
-ghost use Rattle.std.specs.Prelude.{◌≡◌, ◌+◌, ◌∷◌, ◌++◌, ◌<◌, ◌≤◌, length, OnOk};
+//! The bytes of a reply, which take no memory where there is room for them.
+ghost use Rattle.std.specs.Prelude.{◌≡◌, ◌+◌, ◌∷◌, ◌++◌, ◌<◌, ◌≤◌, length, vec_len, vec_capacity};
 ghost use Rattle.byteorder.specs.Endian.{big_bytes};
-ghost use Rattle.gateway_msgs.specs.Replies.{body_of_reply, reply_spelling, status_of};
+ghost use Rattle.gateway_msgs.specs.Replies.{body_most, body_of_reply, reply_most, reply_spelling};
+ghost use Rattle.gateway_msgs.specs.Replies.{status_of};
 
 use crate::reply::Reply;
 use byteorder::{BigEndian, ByteOrder};
-use linx_base::{Bytes, Inc, NoMemory, Signal};
+use linx_base::{Inc, Signal};
+
+/// The most bytes of a reply.
+pub const REPLY_MOST: usize = 65_552;
 
 /// A number in eight bytes.
 fn eight(number: u64) -> [u8; 8]
@@ -89,42 +94,56 @@ fn taken_head(number: u32, from: u64) -> [u8; 12]
     bytes
 }
 
-/// Adds a signal that was taken: its number, its sender and its data.
-fn write_taken(out: &mut Bytes, from: Inc, signal: &Signal) -> Result<(), NoMemory>
-    ensures { OnOk result (out.new ≡ out.old ++ (big_bytes 4 signal.now.number
-        ++ (big_bytes 8 from.0 ++ signal.now.bytes))) }
+/// Adds bytes where there is room for them.
+fn add(out: &mut Vec<u8>, bytes: &[u8])
+    requires room { vec_len out.old + length bytes.now ≤ vec_capacity out.old }
+    ensures items { out.new.items ≡ out.old.items ++ bytes.now }
+    ensures len { vec_len out.new ≡ vec_len out.old + length bytes.now }
+    ensures room { vec_capacity out.old ≤ vec_capacity out.new }
 {
-    out.extend(&taken_head(signal.number(), from.0))?;
-    out.extend(signal.bytes())
+    out.extend_from_slice(bytes).unwrap();
+}
+
+/// Adds a signal that was taken: its number, its sender and its data.
+fn write_taken(out: &mut Vec<u8>, from: Inc, signal: &Signal)
+    requires room { vec_len out.old + body_most ≤ vec_capacity out.old }
+    ensures { out.new.items ≡ out.old.items ++ (big_bytes 4 signal.now.number
+        ++ (big_bytes 8 from.0 ++ signal.now.bytes)) }
+{
+    add(out, &taken_head(signal.number(), from.0));
+    add(out, signal.bytes());
 }
 
 /// Adds the body of a reply.
-fn write_body(out: &mut Bytes, reply: &Reply) -> Result<(), NoMemory>
-    ensures { OnOk result (out.new ≡ out.old ++ body_of_reply reply.now) }
+fn write_body(out: &mut Vec<u8>, reply: &Reply)
+    requires room { vec_len out.old + body_most ≤ vec_capacity out.old }
+    ensures { out.new.items ≡ out.old.items ++ body_of_reply reply.now }
 {
     match reply {
-        Reply::Number(number) => out.extend(&eight(*number)),
-        Reply::NotOpen { at } => out.extend(&eight(*at)),
-        Reply::IsOpen(inc) => out.extend(&eight(inc.0)),
+        Reply::Number(number) => add(out, &eight(*number)),
+        Reply::NotOpen { at } => add(out, &eight(*at)),
+        Reply::IsOpen(inc) => add(out, &eight(inc.0)),
         Reply::Took { from, signal } => write_taken(out, *from, signal),
-        Reply::Detached { queued } => out.extend(&[u8::from(*queued)]),
-        Reply::Sent(count) => out.extend(&four(*count)),
+        Reply::Detached { queued } => add(out, &[u8::from(*queued)]),
+        Reply::Sent(count) => add(out, &four(*count)),
         Reply::Done
         | Reply::Dead
         | Reply::NotYet
         | Reply::Nothing
         | Reply::NoReference
         | Reply::BadFilter
-        | Reply::BadMoment => Ok(()),
+        | Reply::BadMoment => {}
     }
 }
 
-/// Adds the bytes of the reply to a request of this type, of this client.
-pub fn write_reply(out: &mut Bytes, kind: u8, client: u8, reply: &Reply) -> Result<(), NoMemory>
-    requires { kind < 128 }
-    ensures { OnOk result (out.new ≡ out.old ++ reply_spelling kind client reply.now) }
+/// Adds the bytes of the reply to a request of this type, of this client. It takes no memory: there
+/// is room for the longest reply.
+pub fn write_reply(out: &mut Vec<u8>, kind: u8, client: u8, reply: &Reply)
+    requires kind { kind < 128 }
+    requires room { vec_len out.old + reply_most ≤ vec_capacity out.old }
+    ensures { out.new.items ≡ out.old.items ++ reply_spelling kind client reply.now }
 {
     let head = head(body_size(reply) + 4, kind, client, status_of(reply));
-    out.extend(&head)?;
-    write_body(out, reply)
+    add(out, &head);
+    write_body(out, reply);
 }
