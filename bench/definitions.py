@@ -40,7 +40,8 @@ LAYERS = [
     ("Threads", "turn_lock linx_api workers"),
     ("The text", "journal_text report"),
     ("A byte stream", "request_stream tcpcm_frames tcpcm_framing tcpcm_end stream_echo"),
-    ("Timers, and a gateway", "deadlines linx_timers timer_laws gateway_msgs gateway_core"),
+    ("Timers, and a gateway",
+     "deadlines linx_timers timer_laws gateway_msgs gateway_core gateway_session"),
     ("The program", "command_words linx_commands"),
     ("What stands by itself so far", "deadlines order_rules svg_text"),
 ]

@@ -1,0 +1,4 @@
+pub mod Begun
+pub mod Asking
+pub mod Replying
+pub mod Room

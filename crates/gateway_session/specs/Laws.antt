@@ -1,0 +1,29 @@
+-- What follows for the journal of a session.
+use Rattle.std.specs.Prelude.{◌≡◌, ℕ, Bool, true, false, List, is_some}
+use Rattle.journal.specs.Logs.{is_full}
+use Rattle.gateway_msgs.specs.Filters.{filter_of}
+use Rattle.gateway_msgs.specs.declared.request.Request.{Request}
+use Rattle.gateway_msgs.specs.declared.request.Request.TheVariants as asks
+use Rattle.gateway_core.specs.Handling.{GateState}
+use Rattle.gateway_session.specs.Replying.{Replies}
+
+-- the request is a call that makes a step, or waits for one: no timer's, not the clock, and no
+-- receive whose count is wrong
+abbrev pub is_call : Request → Bool
+is_call (asks.Open name) = true
+is_call asks.Close = true
+is_call (asks.Send to signal) = true
+is_call (asks.Receive count numbers) = is_some (filter_of count numbers)
+is_call (asks.Hunt name) = true
+is_call (asks.Attach peer) = true
+is_call (asks.Detach attach) = true
+is_call (asks.Timer delay signal) = false
+is_call (asks.Cancel reference) = false
+is_call (asks.Modify reference delay) = false
+is_call (asks.Clock moment) = false
+
+-- NO CALL IS REPLIED TO WHILE THE JOURNAL IS FULL
+abbrev pub NoCallWhereFull : Type 0
+NoCallWhereFull =
+    (old new : GateState) (bytes reply : List ℕ) (is : Replies old bytes new reply)
+    → is_call is.request ≡ true → is_full old.layout.log.steps ≡ false
