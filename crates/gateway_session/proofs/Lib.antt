@@ -1,4 +1,5 @@
 pub mod Begun
 pub mod Asking
 pub mod Replying
+pub mod GoingOn
 pub mod Room

@@ -1,11 +1,24 @@
 -- What follows for the journal of a session.
-use Rattle.std.specs.Prelude.{◌≡◌, ℕ, Bool, true, false, List, is_some}
+use Rattle.std.specs.Prelude.{◌≡◌, ℕ, Bool, true, false, List, ◌++◌, is_some}
 use Rattle.journal.specs.Logs.{is_full}
+use Rattle.journal.specs.declared.effect.Step.{Step}
 use Rattle.gateway_msgs.specs.Filters.{filter_of}
 use Rattle.gateway_msgs.specs.declared.request.Request.{Request}
 use Rattle.gateway_msgs.specs.declared.request.Request.TheVariants as asks
 use Rattle.gateway_core.specs.Handling.{GateState}
-use Rattle.gateway_session.specs.Replying.{Replies}
+use Rattle.gateway_session.specs.Replying.{Leaves, Replies}
+
+-- a gateway's journal goes on: further steps were made, the newest first, and all that was done stays
+pub record GoesOnFrom (old new : GateState) : Type 0 where
+  pub made : List Step
+  pub is : new.layout.log.steps ≡ made ++ old.layout.log.steps
+
+-- THE STEPS OF EACH REQUEST STAND DIRECTLY ON THOSE OF THE REQUESTS BEFORE IT, also where it is
+-- stopped
+pub record EachGoesOn : Type 0 where
+  pub replied : (old new : GateState) (bytes reply : List ℕ) → Replies old bytes new reply
+      → GoesOnFrom old new
+  pub stopped : (old new : GateState) (bytes : List ℕ) → Leaves old bytes new → GoesOnFrom old new
 
 -- the request is a call that makes a step, or waits for one: no timer's, not the clock, and no
 -- receive whose count is wrong

@@ -10,5 +10,5 @@ mod handling;
 mod laws;
 mod session;
 
-pub use laws::no_call_where_full;
+pub use laws::{each_goes_on, no_call_where_full};
 pub use session::Session;
