@@ -1,5 +1,6 @@
 -- What the words of a command line ask for.
 use Rattle.std.specs.Prelude.{◌==◌, ℕ, Bool, true, ◌&&◌, ◌||◌, false, not, List, [], ◌∷◌, map, codes}
+use Rattle.std.specs.Prelude.{length, nat_le, nat_lt}
 use Rattle.std.specs.Prelude.{String, string_bytes, Option, Some, None, option_map, option_and_then}
 use Rattle.std.specs.Prelude.{if◌then◌else◌}
 use Rattle.std.specs.Str.{bytes_eq}
@@ -9,9 +10,10 @@ use Rattle.command_words.specs.declared.page.Page.TheVariants as pages
 use Rattle.command_words.specs.declared.request.Asked.{Asked}
 use Rattle.command_words.specs.declared.request.Asked.TheVariants as asks
 use Rattle.command_words.specs.declared.request.Request.{Request}
-use Rattle.command_words.specs.declared.request.Request.TheVariants.{Show, Play, Echo}
+use Rattle.command_words.specs.declared.request.Request.TheVariants.{Show, Play, Echo, Serve}
 use Rattle.command_words.specs.declared.word.Word.{Word}
-use Rattle.command_words.specs.declared.word.Word.TheVariants.{Run, Serial, Gen, Stream, Help, Version}
+use Rattle.command_words.specs.declared.word.Word.TheVariants.{Run, Serial, Gen, Stream, Gateway, Help}
+use Rattle.command_words.specs.declared.word.Word.TheVariants.{Version}
 
 -- the text is empty, or begins with `-` (45)
 abbrev pub is_no_name : List ℕ → Bool
@@ -26,12 +28,22 @@ is_file_name text = bytes_eq text (codes "-") || not (is_no_name text)
 abbrev pub played_from : Asked → List ℕ → Option Request
 played_from asked file = if is_file_name file then Some (Play asked) else None
 
+-- a gateway has 1 to 16 clients
+abbrev pub clients_in : Option ℕ → Option ℕ
+clients_in None = None
+clients_in (Some n) = if nat_le 1 n && nat_le n 16 then Some n else None
+
+-- the clients of a gateway that a word of one or two digits spells
+abbrev pub clients_spelled : List ℕ → Option ℕ
+clients_spelled word = if nat_lt 2 (length word) then None else clients_in (number_spelled word)
+
 -- what a word alone asks for
 abbrev pub asked_alone : Word → Option Request
 asked_alone Run = Some (Play asks.Run)
 asked_alone Serial = Some (Play asks.Serial)
 asked_alone Gen = None
 asked_alone Stream = Some Echo
+asked_alone Gateway = None
 asked_alone Help = Some (Show pages.All)
 asked_alone Version = Some (Show pages.Version)
 
@@ -41,6 +53,7 @@ asked_with_plain Run argument = played_from asks.Run argument
 asked_with_plain Serial argument = played_from asks.Serial argument
 asked_with_plain Gen argument = option_map (λ n. Play (asks.Gen n)) (number_spelled argument)
 asked_with_plain Stream argument = None
+asked_with_plain Gateway argument = option_map (λ n. Serve n) (clients_spelled argument)
 asked_with_plain Help argument = option_map (λ word. Show (pages.Of word)) (called argument)
 asked_with_plain Version argument = None
 

@@ -1,11 +1,17 @@
 //! What the words ask for.
 ghost use Rattle.std.specs.Prelude.{◌≡◌, option_map};
-ghost use Rattle.command_words.specs.Requests.{asked_alone, asked_with, is_file_name};
+ghost use Rattle.command_words.specs.Requests.{asked_alone, asked_with, clients_in};
+ghost use Rattle.command_words.specs.Requests.{clients_spelled, is_file_name};
 ghost use Rattle.command_words.specs.Requests.{file_of, is_reading, played_from, request_of};
 
 use crate::number::number;
 use crate::page::Page;
 use crate::word::{Word, called, is_help_flag};
+
+/// The most clients of a gateway, and the most digits that their number has.
+const CLIENTS_MOST: u32 = 16;
+
+const CLIENTS_DIGITS: usize = 2;
 
 /// What a run is asked for.
 #[derive(Clone, Copy, Debug, PartialEq, Eq, Hash)]
@@ -27,6 +33,8 @@ pub enum Request {
     Play(Asked),
     /// An echo over the program's streams.
     Echo,
+    /// A gateway for so many clients over the program's streams.
+    Serve(u8),
 }
 
 /// Whether a text names a file, or standard input by `-`. The name of a file isn't empty, and
@@ -48,6 +56,26 @@ fn played_from(asked: Asked, file: &str) -> Option<Request>
     }
 }
 
+/// The clients of a gateway, of which there are 1 to 16.
+fn clients_in(number: Option<u32>) -> Option<u8>
+    ensures { result ≡ clients_in number }
+{
+    match number {
+        Some(n) if 1 <= n && n <= CLIENTS_MOST => Some(n as u8),
+        _ => None,
+    }
+}
+
+/// The clients of a gateway that a word of one or two digits spells.
+fn clients(word: &str) -> Option<u8>
+    ensures { result ≡ clients_spelled word.now }
+{
+    if word.len() > CLIENTS_DIGITS {
+        return None;
+    }
+    clients_in(number(word))
+}
+
 /// What a word alone asks for.
 pub(crate) fn asked_alone(word: Word) -> Option<Request>
     ensures { result ≡ asked_alone word }
@@ -57,6 +85,7 @@ pub(crate) fn asked_alone(word: Word) -> Option<Request>
         Word::Serial => Some(Request::Play(Asked::Serial)),
         Word::Gen => None,
         Word::Stream => Some(Request::Echo),
+        Word::Gateway => None,
         Word::Help => Some(Request::Show(Page::All)),
         Word::Version => Some(Request::Show(Page::Version)),
     }
@@ -73,6 +102,7 @@ pub(crate) fn asked_with(word: Word, argument: &str) -> Option<Request>
         Word::Run => played_from(Asked::Run, argument),
         Word::Serial => played_from(Asked::Serial, argument),
         Word::Gen => Some(Request::Play(Asked::Gen(number(argument)?))),
+        Word::Gateway => Some(Request::Serve(clients(argument)?)),
         Word::Help => Some(Request::Show(Page::Of(called(argument)?))),
         Word::Stream | Word::Version => None,
     }

@@ -13,6 +13,8 @@ pub enum Word {
     Gen,
     /// An echo over the program's streams.
     Stream,
+    /// A gateway for clients over the program's streams.
+    Gateway,
     /// The help.
     Help,
     /// The version.
@@ -20,11 +22,12 @@ pub enum Word {
 }
 
 /// All words, in the order of the help.
-pub const WORDS: [Word; 6] = [
+pub const WORDS: [Word; 7] = [
     Word::Run,
     Word::Serial,
     Word::Gen,
     Word::Stream,
+    Word::Gateway,
     Word::Help,
     Word::Version,
 ];
@@ -84,6 +87,15 @@ impl Word {
                     writes what an endpoint with the name echo says to them to standard output. It\n\
                     sends each signal back to its sender. No socket is opened.\n",
                 example: "socat -t 60 TCP-LISTEN:9000,bind=127.0.0.1,fork EXEC:'linx_sim stream'",
+            },
+            Word::Gateway => Said {
+                name: "gateway",
+                usage: "gateway N",
+                line: "serve clients over a byte stream, each with the calls of LINX",
+                paragraph: "Reads the requests of the clients 1 to N, which is at most 16, from standard input,\n\
+                    in whatever pieces they come, and writes the replies to standard output. Each\n\
+                    client has an endpoint and timers. No socket is opened.\n",
+                example: "socat TCP-LISTEN:9000,bind=127.0.0.1,fork EXEC:'linx_sim gateway 4'",
             },
             Word::Help => Said {
                 name: "help",

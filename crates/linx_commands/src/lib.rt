@@ -2,7 +2,7 @@
 //! losses and actors, runs it with a thread for each actor and each link, or in the fixed order, and
 //! writes each endpoint's log and the journal of all steps; or it runs the generated script of a
 //! number with such threads, and writes the summary of the journal; or it writes a page of the help;
-//! or it serves one peer over the program's streams by an echo.
+//! or it serves one peer over the program's streams by an echo, or clients by a gateway.
 //! `alone` does what takes no thread, and `run` all of it. `program` is the whole program, over a
 //! command line, files and streams of any kind. It alone gives a `Told`, so a `main` with this
 //! result can't end in any other way.

@@ -1,5 +1,5 @@
-//! What is done without threads: a page of the help, a run in the fixed order, and an echo over the
-//! streams. It returns where each read and each write does.
+//! What is done without threads: a page of the help, a run in the fixed order, and an echo or a
+//! gateway over the streams. It returns where each read and each write does.
 
 ghost use Rattle.std.specs.Prelude.{◌≡◌, true, Ok};
 ghost use Rattle.std.specs.Prelude.{IfOk, IfErr, OnOk, IfSome, IfNone};
@@ -18,12 +18,13 @@ ghost use Rattle.linx_commands.specs.Commands.{ReadsUnder, written_under};
 ghost use Rattle.linx_commands.specs.Headline.{HeadlineUnder};
 ghost use Rattle.linx_commands.specs.Causes.{IsUnread, is_of_writing, read_status, script_status};
 ghost use Rattle.linx_commands.specs.Causes.{stop_status, report_status};
-ghost use Rattle.linx_commands.specs.Programs.{IfEcho, IfPlay, IfShow, IsLeft, IsPlayedFrom};
+ghost use Rattle.linx_commands.specs.Programs.{IfEcho, IfPlay, IfServe, IfShow, IsLeft};
+ghost use Rattle.linx_commands.specs.Programs.{IsPlayedFrom};
 ghost use Rattle.linx_commands.specs.Programs.{IsPlayedOfFile, IsShown, ReadsFile};
-ghost use Rattle.linx_commands.specs.Sessions.{IsSession};
+ghost use Rattle.linx_commands.specs.Sessions.{IsGatewayOf, IsSession};
 
 use crate::outcome::{Outcome, Status};
-use crate::session::echo;
+use crate::session::{echo, gateway};
 use command_words::{Asked, Misuse, Page, Request, file_named};
 use fabric::StopCause;
 use journal::Journal;
@@ -319,12 +320,18 @@ pub fn alone<F: Files, S: Source, K: Sink>(
     ensures echoed { IfOk result (λ outcome. IfEcho (request_of words.now)
         (IsSession S.left S.faults S.last_count S.is_faultless K.held K.faults K.last_count
         script.old script.new out.old out.new outcome.status outcome.journal.log)) }
+
+    // Of a gateway over the streams.
+    ensures served { IfOk result (λ outcome. IfServe (request_of words.now) (λ clients.
+        IsGatewayOf clients S.left S.faults S.last_count S.is_faultless K.held K.faults
+        K.last_count script.old script.new out.old out.new outcome.status outcome.journal.log)) }
     ensures legal { IfOk result (λ outcome. IsLegalSomehow outcome.journal.log.steps) }
 {
     match Request::of(alloc, words) {
         None => Ok(refuse(alloc, words)),
         Some(Request::Show(page)) => Ok(show(alloc, page, out)),
         Some(Request::Echo) => Ok(echo(alloc, script, out)),
+        Some(Request::Serve(clients)) => Ok(gateway(alloc, clients, script, out)),
         Some(Request::Play(Asked::Serial)) => {
             Ok(serial_from(alloc, file_named(words), files, script, out))
         }

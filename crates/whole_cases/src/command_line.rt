@@ -69,6 +69,9 @@ const NEAR: [&[&str]; 32] = [
     &["gen", "--", "7"],
     &["run", "a", "b"],
     &["stream", "-"],
+    &["gateway"],
+    &["gateway", "0"],
+    &["gateway", "001"],
     &["version", "7"],
     &["help", "runs"],
 ];

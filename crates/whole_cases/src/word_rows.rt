@@ -99,6 +99,8 @@ writes everything that happened.
       play the generated script of a number, and write its summary
   stream
       serve one peer over a byte stream by an echo
+  gateway N
+      serve clients over a byte stream, each with the calls of LINX
   help [WORD]
       write this help, or that of a word
   version
@@ -115,8 +117,8 @@ exit status:
   4  the text can't be written
   5  the journal is full before the run is over
   6  memory was refused
-  9  a stream ended within a frame
-  11 the bytes of a stream are no frame, or break the rules
+  9  a stream ended within a frame or a request
+  11 the bytes of a stream are no frame or request, or break the rules
 
 The manual is docs/use/linx_sim.1, or `man linx_sim` once it is installed.
 ";
@@ -176,6 +178,14 @@ const ROWS: [Row; 32] = [
     },
     Row {
         words: &["stream"],
+        input: Content::NoScript,
+        number: 11,
+        text: Text::Empty,
+        line: "linx_sim: bad stream at 0\n",
+        ..INPUT
+    },
+    Row {
+        words: &["gateway", "16"],
         input: Content::NoScript,
         number: 11,
         text: Text::Empty,
@@ -285,7 +295,7 @@ const ROWS: [Row; 32] = [
     },
     Row {
         words: &["fast\n\u{7f}"],
-        line: "linx_sim: no word 'fast??'; the words are: run serial gen stream help version\n",
+        line: "linx_sim: no word 'fast??'; the words are: run serial gen stream gateway help version\n",
         ..MISUSED
     },
     Row {
@@ -301,6 +311,11 @@ const ROWS: [Row; 32] = [
     Row {
         words: &["stream", "s.linx"],
         line: "linx_sim: usage: linx_sim stream\n",
+        ..MISUSED
+    },
+    Row {
+        words: &["gateway", "17"],
+        line: "linx_sim: usage: linx_sim gateway N\n",
         ..MISUSED
     },
 ];
@@ -398,7 +413,7 @@ fn a_long_word_is_cut(rt: HostRuntime) -> Result<(), Fail> {
     );
     let wanted =
         "linx_sim: no word 'xxxxxxxxxxxxxxxxxxxxxxxxxxxxxxxxxxxxxxxxxxxxxxxxxxxxxxxxxxxxxxxx\
-        '; the words are: run serial gen stream help version\n";
+        '; the words are: run serial gen stream gateway help version\n";
     assert_eq!(rt; errors.held(), wanted.as_bytes());
     Ok(())
 }

@@ -1,0 +1,100 @@
+-- How many clients a gateway has that words ask for.
+use Rattle.std.proofs.Common.{◌≡◌, ℕ, ◌<◌, ◌≤◌, Bool, true, false, List, [], ◌∷◌, refl, arith, subst}
+use Rattle.std.specs.Prelude.{Option, Some, None, option_map, option_and_then, ◌&&◌, nat_le, nat_lt}
+use Rattle.std.specs.Prelude.{if◌then◌else◌, length}
+use Rattle.std.proofs.lemmas.Bool.{and_parts}
+use Rattle.std.proofs.lemmas.Bool.Decides.{nat_tests}
+use Rattle.script_words.specs.Numbers.{number_spelled}
+use Rattle.command_words.specs.Requests.{asked_alone, asked_with, asked_with_plain, clients_in}
+use Rattle.command_words.specs.Requests.{clients_spelled, is_file_name, played_from, request_by}
+use Rattle.command_words.specs.Words.{called, is_help_flag}
+use Rattle.command_words.specs.declared.page.Page.TheVariants as pages
+use Rattle.command_words.specs.declared.request.Asked.{Asked}
+use Rattle.command_words.specs.declared.request.Asked.TheVariants as asks
+use Rattle.command_words.specs.declared.request.Request.{Request}
+use Rattle.command_words.specs.declared.request.Request.TheVariants.{Show, Play, Echo, Serve}
+use Rattle.command_words.specs.declared.word.Word.{Word}
+use Rattle.command_words.specs.declared.word.Word.TheVariants.{Run, Serial, Gen, Stream, Gateway, Help}
+use Rattle.command_words.specs.declared.word.Word.TheVariants.{Version}
+
+-- 1 to 16
+pub record AreFew (n : ℕ) : Type 0 where
+  pub some : 0 < n
+  pub few : n ≤ 16
+
+in_range : (fits : Bool) (k n : ℕ) → (nat_le 1 k && nat_le k 16) ≡ fits
+    → (if fits then Some k else None) ≡ Some n → AreFew n
+in_range true k n is same =
+    let one : k ≡ n = cc in
+    let parts = and_parts (nat_le 1 k) (nat_le k 16) is in
+    let low : nat_le 1 k ≡ true = parts.0 in
+    let high : nat_le k 16 ≡ true = parts.1 in
+    subst AreFew one (record { some = grind (arith, nat_tests); few = grind (arith, nat_tests) })
+in_range false k n is same = absurd cc
+
+few_in : (o : Option ℕ) (n : ℕ) → clients_in o ≡ Some n → AreFew n
+few_in None n is = absurd cc
+few_in (Some k) n is = in_range (nat_le 1 k && nat_le k 16) k n refl is
+
+few_spelled : (long : Bool) (o : Option ℕ) (n : ℕ)
+    → (if long then None else clients_in o) ≡ Some n → AreFew n
+few_spelled true o n is = absurd cc
+few_spelled false o n is = few_in o n is
+
+mapped : (o : Option ℕ) (n : ℕ) → option_map (λ k. Serve k) o ≡ Some (Serve n) → o ≡ Some n
+mapped None n is = absurd cc
+mapped (Some k) n is = cc
+
+no_run : (asked : Asked) (named : Bool) (n : ℕ)
+    → (if named then Some (Play asked) else None) ≡ Some (Serve n) → ⊥
+no_run asked true n is = cc
+no_run asked false n is = cc
+
+no_gen : (o : Option ℕ) (n : ℕ) → option_map (λ k. Play (asks.Gen k)) o ≡ Some (Serve n) → ⊥
+no_gen None n is = cc
+no_gen (Some k) n is = cc
+
+no_page : (o : Option Word) (n : ℕ) → option_map (λ w. Show (pages.Of w)) o ≡ Some (Serve n) → ⊥
+no_page None n is = cc
+no_page (Some w) n is = cc
+
+few_plain : (word : Word) (argument : List ℕ) (n : ℕ)
+    → asked_with_plain word argument ≡ Some (Serve n) → AreFew n
+few_plain Run argument n is = absurd (no_run asks.Run (is_file_name argument) n is)
+few_plain Serial argument n is = absurd (no_run asks.Serial (is_file_name argument) n is)
+few_plain Gen argument n is = absurd (no_gen (number_spelled argument) n is)
+few_plain Stream argument n is = absurd cc
+few_plain Gateway argument n is =
+    few_spelled (nat_lt 2 (length argument)) (number_spelled argument) n
+    (mapped (clients_spelled argument) n is)
+few_plain Help argument n is = absurd (no_page (called argument) n is)
+few_plain Version argument n is = absurd cc
+
+few_with : (flag : Bool) (word : Word) (argument : List ℕ) (n : ℕ)
+    → (if flag then Some (Show (pages.Of word)) else asked_with_plain word argument)
+    ≡ Some (Serve n) → AreFew n
+few_with true word argument n is = absurd cc
+few_with false word argument n is = few_plain word argument n is
+
+few_called : (word : Option Word) (argument : List ℕ) (n : ℕ)
+    → option_and_then (λ w. asked_with w argument) word ≡ Some (Serve n) → AreFew n
+few_called None argument n is = absurd cc
+few_called (Some w) argument n is = few_with (is_help_flag argument) w argument n is
+
+none_alone : (word : Option Word) (n : ℕ)
+    → option_and_then (λ w. asked_alone w) word ≡ Some (Serve n) → ⊥
+none_alone None n is = cc
+none_alone (Some Run) n is = cc
+none_alone (Some Serial) n is = cc
+none_alone (Some Gen) n is = cc
+none_alone (Some Stream) n is = cc
+none_alone (Some Gateway) n is = cc
+none_alone (Some Help) n is = cc
+none_alone (Some Version) n is = cc
+
+-- a gateway that words ask for has 1 to 16 clients
+pub few_clients : (texts : List (List ℕ)) (n : ℕ) → request_by texts ≡ Some (Serve n) → AreFew n
+few_clients [] n is = absurd cc
+few_clients (word ∷ []) n is = absurd (none_alone (called word) n is)
+few_clients (word ∷ argument ∷ []) n is = few_called (called word) argument n is
+few_clients (word ∷ argument ∷ more ∷ rest) n is = absurd cc
