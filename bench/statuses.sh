@@ -62,7 +62,7 @@ printf 'node n\nnod m\n' > "$work/bad"
 # an actor shares a filling with the one before it where they are equal: so these take turns
 printf '%s\n' 'node n' 'actor p n' 'open a' 'repeat 300' 'send self 1 fill:65532:00' \
     'send self 1 fill:65532:01' 'end' 'close' 'end' > "$work/large"
-words='the words are: run serial gen stream help version'
+words='the words are: run serial seed gen stream help version'
 usage="linx_sim: usage: linx_sim WORD ..; $words"$'\n'
 printf x > "$work/closed" && chmod 000 "$work/closed"
 
@@ -74,6 +74,10 @@ row 'a file' 0 '' / "$work/text" plain run "$script"
 cmp -s "$work/text" "$top/crates/self_send_program/stdout" || complain 'a file: another text'
 row 'a dash' 0 '' "$script" "$work/text" plain serial -
 cmp -s "$work/text" "$top/crates/self_send_program/stdout" || complain 'a dash: another text'
+row 'a seed' 0 '' "$script" "$work/text" plain seed 7
+cmp -s "$work/text" "$top/crates/self_send_program/stdout" || complain 'a seed: another text'
+row 'a seed and a file' 0 '' / "$work/text" plain seed 8 "$script"
+cmp -s "$work/text" "$top/crates/self_send_program/stdout" || complain 'a seed: another text'
 row 'a generated script' 0 '' / "$work/text" plain gen 7
 [ "$(wc -l < "$work/text")" = 10 ] || complain 'a generated script: no summary'
 row 'help' 0 '' / "$work/text" plain --help
@@ -86,6 +90,7 @@ row 'another word' 1 $'linx_sim: no word \'seriel\': did you mean \'serial\'?\n'
 row 'three words' 1 $'linx_sim: usage: linx_sim run [FILE]\n' "$script" "$work/text" plain run a b
 row 'a number too large' 1 $'linx_sim: usage: linx_sim gen N\n' "$script" "$work/text" \
     plain gen 4294967296
+row 'no seed' 1 $'linx_sim: usage: linx_sim seed S [FILE]\n' "$script" "$work/text" plain seed x
 row 'a dashed word' 1 "linx_sim: no word '-x'; $words"$'\n' "$script" "$work/text" plain -x
 row 'an empty word' 1 "linx_sim: no word ''; $words"$'\n' "$script" "$work/text" plain ''
 row 'a word that is not UTF-8' 1 "$usage" "$script" "$work/text" plain $'run\xff'

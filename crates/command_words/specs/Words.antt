@@ -2,7 +2,7 @@
 use Rattle.std.specs.Prelude.{ℕ, Bool, ◌||◌, List, [], ◌∷◌, codes, Option, Some, None, if◌then◌else◌}
 use Rattle.std.specs.Str.{bytes_eq}
 use Rattle.command_words.specs.declared.word.Word.{Word}
-use Rattle.command_words.specs.declared.word.Word.TheVariants.{Run, Serial, Gen, Stream, Help, Version}
+use Rattle.command_words.specs.declared.word.Word.TheVariants.{Run, Serial, Seed, Gen, Stream, Help, Version}
 
 -- a row of the table: the name of a word, its use, a line, a paragraph and an example
 pub record Row : Type 0 where
@@ -29,6 +29,14 @@ said_of Serial = record {
   paragraph =
       codes "Reads a script from FILE, or from standard input, plays it in the fixed order of\nrounds, and writes the same kind of text as run. It is the same each time.\n";
   example = codes "linx_sim serial < examples/losses.linx";
+}
+said_of Seed = record {
+  name = codes "seed";
+  usage = codes "seed S [FILE]";
+  line = codes "play a script in the order that a number decides";
+  paragraph =
+      codes "Plays a script as serial does, but in an order that the number S decides, which has\none to ten decimal digits and is at most 4294967295. The text is the same each time\nfor one S; other numbers have other orders.\n";
+  example = codes "linx_sim seed 7 examples/losses.linx";
 }
 said_of Gen = record {
   name = codes "gen";
@@ -65,7 +73,7 @@ said_of Version = record {
 
 -- all words, in the order of the help
 abbrev pub all_words : List Word
-all_words = Run ∷ Serial ∷ Gen ∷ Stream ∷ Help ∷ Version ∷ []
+all_words = Run ∷ Serial ∷ Seed ∷ Gen ∷ Stream ∷ Help ∷ Version ∷ []
 
 -- the first of these words whose name is the text
 abbrev pub named : List ℕ → List Word → Option Word

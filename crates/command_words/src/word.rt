@@ -9,6 +9,8 @@ pub enum Word {
     Run,
     /// The run of a script in the fixed order.
     Serial,
+    /// The run of a script in the order that a number decides.
+    Seed,
     /// The run of a generated script.
     Gen,
     /// An echo over the program's streams.
@@ -20,9 +22,10 @@ pub enum Word {
 }
 
 /// All words, in the order of the help.
-pub const WORDS: [Word; 6] = [
+pub const WORDS: [Word; 7] = [
     Word::Run,
     Word::Serial,
+    Word::Seed,
     Word::Gen,
     Word::Stream,
     Word::Help,
@@ -66,6 +69,15 @@ impl Word {
                 paragraph: "Reads a script from FILE, or from standard input, plays it in the fixed order of\n\
                     rounds, and writes the same kind of text as run. It is the same each time.\n",
                 example: "linx_sim serial < examples/losses.linx",
+            },
+            Word::Seed => Said {
+                name: "seed",
+                usage: "seed S [FILE]",
+                line: "play a script in the order that a number decides",
+                paragraph: "Plays a script as serial does, but in an order that the number S decides, which has\n\
+                    one to ten decimal digits and is at most 4294967295. The text is the same each time\n\
+                    for one S; other numbers have other orders.\n",
+                example: "linx_sim seed 7 examples/losses.linx",
             },
             Word::Gen => Said {
                 name: "gen",

@@ -21,7 +21,7 @@ use Rattle.stage.specs.Plays.{AllFollow}
 use Rattle.stage.specs.Turns.{shape_of}
 use Rattle.work_gen.specs.Generated.{generated}
 use Rattle.command_words.specs.declared.request.Asked.{Asked}
-use Rattle.command_words.specs.declared.request.Asked.TheVariants.{Run, Serial, Gen}
+use Rattle.command_words.specs.declared.request.Asked.TheVariants.{Run, InOrder, Gen}
 use Rattle.linx_commands.specs.Runs.{IsEmptyLog}
 
 -- it holds before the first step, and after each one
@@ -71,5 +71,5 @@ pub record HeadlineOfSource (told : Option (List ℕ)) (log : Log) : Type 0 wher
 -- what a command hands back: an empty journal, or that of the script which it asks for
 abbrev pub HeadlineUnder : Asked → Option (List ℕ) → Log → Type 0
 HeadlineUnder Run told log = IsEmptyLog log ⊎ HeadlineOfSource told log
-HeadlineUnder Serial told log = IsEmptyLog log ⊎ HeadlineOfSource told log
+HeadlineUnder (InOrder order) told log = IsEmptyLog log ⊎ HeadlineOfSource told log
 HeadlineUnder (Gen n) told log = IsEmptyLog log ⊎ Headline (generated n) log.steps

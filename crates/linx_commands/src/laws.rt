@@ -4,8 +4,8 @@
 ghost use Rattle.linx_commands.specs.Decided.{JournalsAreDecided};
 
 /// A script, and the order in which the makers of its run made their steps, decide the journal, and
-/// so the text; under `serial` the script alone does. A script and a text decide the journal too.
-/// Memory and the streams are left aside.
+/// so the text; under `serial` the script alone does, and under `seed` the script and the number. A
+/// script and a text decide the journal too. Memory and the streams are left aside.
 pub fn journals_are_decided()
     ensures { JournalsAreDecided }
 {}

@@ -30,6 +30,12 @@ fn words_of_each_command(rt: HostRuntime) -> Result<(), Fail> {
     assert_eq!(rt; status_of(&rt, alloc, &["stream"])?, Status::ReadFault);
     for number in ["0", "4294967295"] {
         assert_eq!(rt;
+            status_of(&rt, alloc, &["seed", number])?,
+            Status::ReadFault
+        );
+    }
+    for number in ["0", "4294967295"] {
+        assert_eq!(rt;
             status_of(&rt, alloc, &["gen", number])?,
             Status::WriteFault
         );
@@ -38,7 +44,7 @@ fn words_of_each_command(rt: HostRuntime) -> Result<(), Fail> {
 }
 
 /// Words that are near those of a command.
-const NEAR: [&[&str]; 32] = [
+const NEAR: [&[&str]; 40] = [
     &[],
     &[""],
     &["Run"],
@@ -59,6 +65,14 @@ const NEAR: [&[&str]; 32] = [
     &["gen", "7."],
     &["gen", "run"],
     &["gen", "٧"],
+    &["seed"],
+    &["seed", "s.linx"],
+    &["seed", "s.linx", "7"],
+    &["seed", "4294967296", "s.linx"],
+    &["seed", "7", ""],
+    &["seed", "7", "-x"],
+    &["seed", "7", "a", "b"],
+    &["serial", "7", "a"],
     &["run", ""],
     &["run", "-x"],
     &["serial", "--"],

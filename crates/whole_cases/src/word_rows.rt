@@ -95,6 +95,8 @@ writes everything that happened.
       play a script with a thread for each actor and each link
   serial [FILE]
       play a script in the fixed order of rounds
+  seed S [FILE]
+      play a script in the order that a number decides
   gen N
       play the generated script of a number, and write its summary
   stream
@@ -131,6 +133,17 @@ example:
   linx_sim serial < examples/losses.linx
 ";
 
+const HELP_OF_SEED: &str = "\
+linx_sim seed S [FILE]
+
+Plays a script as serial does, but in an order that the number S decides, which has
+one to ten decimal digits and is at most 4294967295. The text is the same each time
+for one S; other numbers have other orders.
+
+example:
+  linx_sim seed 7 examples/losses.linx
+";
+
 const HELP_OF_VERSION: &str = "\
 linx_sim version
 
@@ -143,7 +156,7 @@ example:
 
 const VERSION: &str = "linx_sim 1.0\n";
 
-const ROWS: [Row; 32] = [
+const ROWS: [Row; 40] = [
     INPUT,
     Row {
         words: &["run", "-"],
@@ -160,6 +173,18 @@ const ROWS: [Row; 32] = [
     FILE,
     Row {
         words: &["serial", "s.linx"],
+        ..FILE
+    },
+    Row {
+        words: &["seed", "7"],
+        ..INPUT
+    },
+    Row {
+        words: &["seed", "8", "-"],
+        ..INPUT
+    },
+    Row {
+        words: &["seed", "9", "s.linx"],
         ..FILE
     },
     Row {
@@ -190,6 +215,12 @@ const ROWS: [Row; 32] = [
     },
     Row {
         words: &["serial", "s.linx"],
+        file: Content::Fault(OpenFault::Missing),
+        line: "linx_sim: s.linx: no such file\n",
+        ..UNOPENED
+    },
+    Row {
+        words: &["seed", "7", "s.linx"],
         file: Content::Fault(OpenFault::Missing),
         line: "linx_sim: s.linx: no such file\n",
         ..UNOPENED
@@ -249,6 +280,11 @@ const ROWS: [Row; 32] = [
         ..SHOWN
     },
     Row {
+        words: &["seed", "--help"],
+        text: Text::Is(HELP_OF_SEED),
+        ..SHOWN
+    },
+    Row {
         words: &["help", "version"],
         text: Text::Is(HELP_OF_VERSION),
         ..SHOWN
@@ -285,12 +321,27 @@ const ROWS: [Row; 32] = [
     },
     Row {
         words: &["fast\n\u{7f}"],
-        line: "linx_sim: no word 'fast??'; the words are: run serial gen stream help version\n",
+        line: "linx_sim: no word 'fast??'; the words are: run serial seed gen stream help version\n",
         ..MISUSED
     },
     Row {
         words: &["gen", "x"],
         line: "linx_sim: usage: linx_sim gen N\n",
+        ..MISUSED
+    },
+    Row {
+        words: &["seed", "x"],
+        line: "linx_sim: usage: linx_sim seed S [FILE]\n",
+        ..MISUSED
+    },
+    Row {
+        words: &["seed", "7", "--help"],
+        line: "linx_sim: usage: linx_sim seed S [FILE]\n",
+        ..MISUSED
+    },
+    Row {
+        words: &["sead", "7"],
+        line: "linx_sim: no word 'sead': did you mean 'seed'?\n",
         ..MISUSED
     },
     Row {
@@ -398,7 +449,7 @@ fn a_long_word_is_cut(rt: HostRuntime) -> Result<(), Fail> {
     );
     let wanted =
         "linx_sim: no word 'xxxxxxxxxxxxxxxxxxxxxxxxxxxxxxxxxxxxxxxxxxxxxxxxxxxxxxxxxxxxxxxx\
-        '; the words are: run serial gen stream help version\n";
+        '; the words are: run serial seed gen stream help version\n";
     assert_eq!(rt; errors.held(), wanted.as_bytes());
     Ok(())
 }
