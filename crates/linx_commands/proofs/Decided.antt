@@ -13,8 +13,7 @@ use Rattle.run_orders.proofs.Orders.{orders_decide}
 use Rattle.linx_commands.specs.Decided.{IsRunOrFront, JournalsAreDecided}
 use Rattle.linx_commands.specs.Runs.{IsRunInOrder, IsStoppedFull, seeded_order}
 use Rattle.linx_commands.proofs.Shown.{text-makers}
-use Rattle.orders.specs.Laws.{IsFilledInOrder}
-use Rattle.orders.proofs.Orders.{order_decides}
+use Rattle.orders.specs.Laws.{IsFilledInOrder, OrderDecides}
 use Rattle.command_words.specs.declared.request.Asked.TheVariants.{InOrder}
 use Rattle.command_words.specs.declared.request.TurnOrder.{TurnOrder}
 use Rattle.command_words.specs.declared.request.TurnOrder.TheVariants.{Fixed, Seed}
@@ -49,36 +48,36 @@ seed-filled n script log is = record {
 -- ---- in either
 
 -- the runs of two journals that are whole in one order have one log
-one-whole : (order : TurnOrder) (script : ScriptParts) (one two : Log)
+one-whole : OrderDecides → (order : TurnOrder) (script : ScriptParts) (one two : Log)
     (first : IsRunInOrder order script one) (second : IsRunInOrder order script two)
     → first.run.log ≡ second.run.log
-one-whole Fixed script one two first second =
+one-whole law Fixed script one two first second =
     orders_decide.ended script first.run second.run (ended script one first)
     (ended script two second)
-one-whole (Seed n) script one two first second =
-    order_decides.one script first.is.so_far.so_far.declared (seeded_order script n) first.run
+one-whole law (Seed n) script one two first second =
+    law.one script first.is.so_far.so_far.declared (seeded_order script n) first.run
     second.run first.whole second.whole
 
 -- and so have those of two that were full before the end
-one-full : (order : TurnOrder) (script : ScriptParts) (one two : Log)
+one-full : OrderDecides → (order : TurnOrder) (script : ScriptParts) (one two : Log)
     (first : IsStoppedFull (InOrder order) script one)
     (second : IsStoppedFull (InOrder order) script two)
     → first.run.log ≡ second.run.log
-one-full Fixed script one two first second =
+one-full law Fixed script one two first second =
     orders_decide.filled script first.run second.run (filled script one first)
     (filled script two second)
-one-full (Seed n) script one two first second =
-    order_decides.filled script (seeded_order script n) first.run second.run
+one-full law (Seed n) script one two first second =
+    law.filled script (seeded_order script n) first.run second.run
     (seed-filled n script one first) (seed-filled n script two second)
 
 -- and no order has one of each kind
-apart-in : (order : TurnOrder) (script : ScriptParts) (one two : Log)
+apart-in : OrderDecides → (order : TurnOrder) (script : ScriptParts) (one two : Log)
     → IsRunInOrder order script one → IsStoppedFull (InOrder order) script two → ⊥
-apart-in Fixed script one two first second =
+apart-in law Fixed script one two first second =
     orders_decide.apart script first.run second.run (ended script one first)
     (filled script two second)
-apart-in (Seed n) script one two first second =
-    order_decides.apart script (seeded_order script n) first.run second.run
+apart-in law (Seed n) script one two first second =
+    law.apart script (seeded_order script n) first.run second.run
     first.is.so_far.so_far first.whole (seed-filled n script two second)
 
 of_run : (script : ScriptParts) (one two : Log) → IsRunOrFront script one
@@ -127,13 +126,14 @@ of_text script one two first second same =
     (text-makers (shape_of script) left.actors left.links one two
     (left.names ∙ sym right.names) left.plain left.legal right.legal same)
 
-pub journals_are_decided : JournalsAreDecided
-journals_are_decided = record {
+-- by the law of whoever chooses whose turn is next
+pub journals_are_decided : OrderDecides → JournalsAreDecided
+journals_are_decided law = record {
   run = of_run;
   text = of_text;
   in_order = λ order script one two first second. sym first.is.so_far.logged
-      ∙ one-whole order script one two first second ∙ second.is.so_far.logged;
+      ∙ one-whole law order script one two first second ∙ second.is.so_far.logged;
   full = λ order script one two first second. sym first.so_far.logged
-      ∙ one-full order script one two first second ∙ second.so_far.logged;
-  apart = apart-in;
+      ∙ one-full law order script one two first second ∙ second.so_far.logged;
+  apart = apart-in law;
 }
