@@ -1,5 +1,5 @@
 -- What the words of a command line ask for.
-use Rattle.std.specs.Prelude.{◌==◌, ℕ, Bool, true, ◌&&◌, ◌||◌, false, not, List, [], ◌∷◌, map, codes}
+use Rattle.std.specs.Prelude.{◌==◌, ℕ, Bool, true, ◌||◌, false, not, List, [], ◌∷◌, map, codes}
 use Rattle.std.specs.Prelude.{String, string_bytes, slice_get, Option, Some, None, option_map, option_and_then}
 use Rattle.std.specs.Prelude.{if◌then◌else◌}
 use Rattle.std.specs.Str.{bytes_eq}
