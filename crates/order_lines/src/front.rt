@@ -40,7 +40,8 @@ fn add_turns(front: &mut Vec<u32>, word: &[u8], turns: Turns) -> Result<(), Line
 
 /// The turns of words.
 fn add_words(makers: Makers, front: &mut Vec<u32>, words: &[&[u8]]) -> Result<(), LineError>
-    requires makers { makers.actors ≤ 64 }
+    requires actors { makers.actors ≤ 64 }
+    requires links { makers.links ≤ 64 }
     requires few { length front.old.items ≤ 200000 }
     ensures gives { Gives (λ done. front.new.items) result
         (with_words makers front.old.items (map (λ w. w.now) words.now)) }
@@ -60,7 +61,8 @@ fn add_line(
     front: &mut Vec<u32>,
     line: &[u8],
 ) -> Result<(), LineError>
-    requires makers { makers.actors ≤ 64 }
+    requires actors { makers.actors ≤ 64 }
+    requires links { makers.links ≤ 64 }
     requires few { length front.old.items ≤ 200000 }
     ensures gives { Gives (λ done. front.new.items) result
         (with_line makers front.old.items line.now) }
@@ -88,7 +90,8 @@ fn error_at(line: u32, error: LineError) -> ScriptError
 
 /// The makers that the orders of a text list, in the order of their turns.
 pub(crate) fn front_of(alloc: Global, makers: Makers, bytes: &[u8]) -> Result<Vec<u32>, ScriptError>
-    requires makers { makers.actors ≤ 64 }
+    requires actors { makers.actors ≤ 64 }
+    requires links { makers.links ≤ 64 }
     requires short { length bytes.now < 2 ^ 32 }
     ensures read { IfOk result (λ front. front_of makers bytes.now ≡ Ok front.items) }
     ensures bad { IfErr result (λ e. IsBadOf (front_of makers bytes.now) e) }
@@ -99,8 +102,9 @@ pub(crate) fn front_of(alloc: Global, makers: Makers, bytes: &[u8]) -> Result<Ve
     'lines: while !rest.is_empty() {
         let (next, behind) = first_line(rest);
         line += 1;
-        if let Err(error) = add_line(alloc, makers, &mut front, next) {
-            return Err(error_at(line, error));
+        match add_line(alloc, makers, &mut front, next) {
+            Ok(()) => {}
+            Err(error) => return Err(error_at(line, error)),
         }
         rest = behind;
     }

@@ -1,6 +1,6 @@
 //! A word of an order: so many turns of a maker.
 
-ghost use Rattle.std.specs.Prelude.{◌≡◌, ◌≤◌, length, option_map, IfOk, IsTrue};
+ghost use Rattle.std.specs.Prelude.{◌≡◌, ◌≤◌, ◌==◌, length, option_map, position, IfOk, IsTrue};
 ghost use Rattle.std.specs.Char.{is_ascii_digit};
 ghost use Rattle.std.specs.List.{list_all};
 ghost use Rattle.order_lines.specs.Turns.{maker_named, number_spelled, numbered, times_in};
@@ -74,7 +74,8 @@ fn number(word: &[u8]) -> Option<u32>
 
 /// The maker of a number among so many, which have their numbers behind those before.
 fn numbered(word: &[u8], before: u32, many: u32, digits: &[u8]) -> Result<u32, LineError>
-    requires { before ≤ 64 }
+    requires before { before ≤ 64 }
+    requires many { many ≤ 64 }
     ensures { Gives (λ n. n) result (numbered word.now before many (number_spelled digits.now)) }
 {
     match number(digits) {
@@ -86,7 +87,8 @@ fn numbered(word: &[u8], before: u32, many: u32, digits: &[u8]) -> Result<u32, L
 
 /// The maker that a part of a word names.
 fn maker_named(makers: Makers, word: &[u8], name: &[u8]) -> Result<u32, LineError>
-    requires { makers.actors ≤ 64 }
+    requires actors { makers.actors ≤ 64 }
+    requires links { makers.links ≤ 64 }
     ensures { Gives (λ n. n) result (maker_named makers word.now name.now) }
 {
     match name {
@@ -96,12 +98,21 @@ fn maker_named(makers: Makers, word: &[u8], name: &[u8]) -> Result<u32, LineErro
     }
 }
 
+/// The place of the first star.
+fn star_in(word: &[u8]) -> Option<usize>
+    ensures { result ≡ position (λ b. b == 42) word.now }
+{
+    word.iter().position(|byte| *byte == b'*')
+}
+
 /// What stands before a star, and what behind it.
 fn cut(word: &[u8]) -> Option<(&[u8], &[u8])>
     ensures { option_map (λ parts. (parts.0.now, parts.1.now)) result ≡ cut_at 42 word.now }
 {
-    let place = word.iter().position(|byte| *byte == b'*')?;
-    Some((&word[..place], &word[place + 1..]))
+    match star_in(word) {
+        Some(place) => Some((&word[..place], &word[place + 1..])),
+        None => None,
+    }
 }
 
 /// How often a maker has its turn, by what stands behind the star.
@@ -117,7 +128,8 @@ fn times_in(word: &[u8], digits: &[u8]) -> Result<u32, LineError>
 
 /// The turns that a word spells.
 pub(crate) fn turns_spelled(makers: Makers, word: &[u8]) -> Result<Turns, LineError>
-    requires { makers.actors ≤ 64 }
+    requires actors { makers.actors ≤ 64 }
+    requires links { makers.links ≤ 64 }
     ensures gives { Gives (λ t. t) result (turns_spelled makers word.now) }
     ensures few { IfOk result (λ turns. turns.times ≤ 200000) }
 {
