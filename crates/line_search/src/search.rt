@@ -85,7 +85,7 @@ fn begins_with(wanted: &[String], words: &[&[u8]]) -> bool
 /// Whether what a line says begins with these words.
 #[tactic(auto, unfolding(crate::specs::Search::has))]
 fn has(alloc: Global, line: &[u8], wanted: &[String]) -> Result<bool, AllocError>
-    ensures { IfOk result (λ has. has ≡ has (map string_bytes wanted.now) line.now) }
+    ensures { IfOk result (λ found. found ≡ has (map string_bytes wanted.now) line.now) }
 {
     let words = words_of(alloc, line)?;
     Ok(begins_with(wanted, said(words.as_slice())))
