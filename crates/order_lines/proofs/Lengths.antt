@@ -2,7 +2,7 @@
 use Rattle.std.proofs.Common.{◌≡◌, ◌∙◌, ℕ, ◌+◌, ◌++◌, Bool, true, false, cond, List, [], ◌∷◌, length}
 use Rattle.std.proofs.Common.{drop, refl, arith}
 use Rattle.std.specs.Prelude.{flat_map, sum_by, codes}
-use Rattle.std.proofs.lemmas.List.{length-++}
+use Rattle.std.proofs.lemmas.List.{length-append}
 use Rattle.std.proofs.lemmas.List.Sums.{sum_by-cons}
 use Rattle.script_words.specs.Lines.{lines_of}
 use Rattle.script_words.proofs.Cuts.{sum_by-lines_of}
@@ -26,7 +26,7 @@ length-plain (b ∷ bs) = by_case (is_order_line (b ∷ bs)) b bs
 length-lines : (lines : List (List ℕ)) → length (flat_map plain_line lines) ≡ sum_by length lines
 length-lines [] = refl
 length-lines (line ∷ lines) =
-    length-++ (plain_line line) (flat_map plain_line lines)
+    length-append (plain_line line) (flat_map plain_line lines)
     ∙ omega (arith, length-plain line, length-lines lines, sum_by-cons length line lines)
 
 pub length-without_orders : (bytes : List ℕ) → length (without_orders bytes) ≡ length bytes
