@@ -1,5 +1,6 @@
 -- What the words of a command line ask for.
-use Rattle.std.specs.Prelude.{◌==◌, ℕ, Bool, true, ◌&&◌, ◌||◌, false, not, List, [], ◌∷◌, map, codes}
+use Rattle.std.specs.Prelude.{◌==◌, ℕ, Bool, true, ◌&&◌, ◌||◌, ◌-◌, false, not, List, [], ◌∷◌, map, codes}
+use Rattle.std.specs.Prelude.{length, nat_le, nat_lt}
 use Rattle.std.specs.Prelude.{String, string_bytes, slice_get, Option, Some, None, option_map, option_and_then}
 use Rattle.std.specs.Prelude.{if◌then◌else◌}
 use Rattle.std.specs.Str.{bytes_eq}
@@ -10,9 +11,11 @@ use Rattle.command_words.specs.declared.request.Asked.{Asked}
 use Rattle.command_words.specs.declared.request.Asked.TheVariants as asks
 use Rattle.command_words.specs.declared.request.Request.{Request}
 use Rattle.command_words.specs.declared.request.TurnOrder.TheVariants as orders
-use Rattle.command_words.specs.declared.request.Request.TheVariants.{Show, Play, Echo}
+use Rattle.command_words.specs.declared.request.Request.TheVariants.{Show, Play, Find as Finds, Echo}
+use Rattle.command_words.specs.declared.request.Sought.{Sought}
+use Rattle.command_words.specs.declared.request.Sought.TheVariants.{Line, NoLine}
 use Rattle.command_words.specs.declared.word.Word.{Word}
-use Rattle.command_words.specs.declared.word.Word.TheVariants.{Run, Serial, Seed, Gen, Stream, Help, Version}
+use Rattle.command_words.specs.declared.word.Word.TheVariants.{Run, Serial, Seed, Find, Gen, Stream, Help, Version}
 
 -- the text is empty, or begins with `-` (45)
 abbrev pub is_no_name : List ℕ → Bool
@@ -36,6 +39,7 @@ abbrev pub asked_alone : Word → Option Request
 asked_alone Run = Some (Play asks.Run)
 asked_alone Serial = Some (Play (asks.InOrder orders.Fixed))
 asked_alone Seed = None
+asked_alone Find = None
 asked_alone Gen = None
 asked_alone Stream = Some Echo
 asked_alone Help = Some (Show pages.All)
@@ -47,6 +51,7 @@ asked_with_plain Run argument = played_from asks.Run argument
 asked_with_plain Serial argument = played_from (asks.InOrder orders.Fixed) argument
 asked_with_plain Seed argument = option_map (λ asked. Play asked) (seeded argument)
 asked_with_plain Gen argument = option_map (λ n. Play (asks.Gen n)) (number_spelled argument)
+asked_with_plain Find argument = None
 asked_with_plain Stream argument = None
 asked_with_plain Help argument = option_map (λ word. Show (pages.Of word)) (called argument)
 asked_with_plain Version argument = None
@@ -62,13 +67,37 @@ asked_with_file Seed argument file =
     option_and_then (λ asked. played_from asked file) (seeded argument)
 asked_with_file _ argument file = None
 
+-- what is sought, and the words that are wanted, by the texts behind a range: no line that says
+-- these, behind `not`
+abbrev pub sought_in : List (List ℕ) → Sought × List (List ℕ)
+sought_in [] = (Line, [])
+sought_in (first ∷ rest) =
+    if bytes_eq first (codes "not") then (NoLine, rest) else (Line, first ∷ rest)
+
+-- a search over a range of at most a million numbers, for one to eight words
+abbrev pub searched : Option ℕ → Option ℕ → Sought × List (List ℕ) → Option Request
+searched (Some from) (Some to) it =
+    if nat_le from to && nat_lt (to - from) 1000000 && nat_le 1 (length it.1)
+    && nat_le (length it.1) 8
+    then Some (Finds (record { from = from; to = to; sought = it.0 }))
+    else None
+searched _ _ it = None
+
+-- what a word and further texts ask for, which begin with two arguments
+abbrev pub asked_with_more : Word → List ℕ → List ℕ → List (List ℕ) → Option Request
+asked_with_more Find from to words =
+    searched (number_spelled from) (number_spelled to) (sought_in words)
+asked_with_more _ from to words = None
+
 -- what these texts ask for: nothing where they are those of no command
 abbrev pub request_by : List (List ℕ) → Option Request
 request_by (word ∷ []) = option_and_then (λ w. asked_alone w) (called word)
 request_by (word ∷ argument ∷ []) = option_and_then (λ w. asked_with w argument) (called word)
 request_by (word ∷ argument ∷ file ∷ []) =
     option_and_then (λ w. asked_with_file w argument file) (called word)
-request_by _ = None
+request_by (word ∷ from ∷ to ∷ more ∷ rest) =
+    option_and_then (λ w. asked_with_more w from to (more ∷ rest)) (called word)
+request_by [] = None
 
 -- what the words ask for
 abbrev pub request_of : {Z : Type 0} → List (String Z) → Option Request
@@ -99,3 +128,8 @@ file_by texts = option_and_then (λ place. file_at texts place) (file_place (req
 -- the file that the words name
 abbrev pub file_of : {Z : Type 0} → List (String Z) → Option (List ℕ)
 file_of words = file_by (map string_bytes words)
+
+-- the words that a search wants: those behind the range, and behind `not`
+abbrev pub wanted_by : List (List ℕ) → List (List ℕ)
+wanted_by (word ∷ from ∷ to ∷ behind) = (sought_in behind).1
+wanted_by texts = texts

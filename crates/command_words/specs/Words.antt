@@ -2,7 +2,7 @@
 use Rattle.std.specs.Prelude.{ℕ, Bool, ◌||◌, List, [], ◌∷◌, codes, Option, Some, None, if◌then◌else◌}
 use Rattle.std.specs.Str.{bytes_eq}
 use Rattle.command_words.specs.declared.word.Word.{Word}
-use Rattle.command_words.specs.declared.word.Word.TheVariants.{Run, Serial, Seed, Gen, Stream, Help, Version}
+use Rattle.command_words.specs.declared.word.Word.TheVariants.{Run, Serial, Seed, Find, Gen, Stream, Help, Version}
 
 -- a row of the table: the name of a word, its use, a line, a paragraph and an example
 pub record Row : Type 0 where
@@ -37,6 +37,14 @@ said_of Seed = record {
   paragraph =
       codes "Plays a script as serial does, but in an order that the number S decides, which has\none to ten decimal digits and is at most 4294967295. The text is the same each time\nfor one S; other numbers have other orders.\n";
   example = codes "linx_sim seed 7 examples/losses.linx";
+}
+said_of Find = record {
+  name = codes "find";
+  usage = codes "find A B [not] WORD ..";
+  line = codes "find the first number from A to B in whose order something happens";
+  paragraph =
+      codes "Reads a script from standard input, and plays it in the orders of the numbers from A\nto B, a million at most, until the text of one has a line that says these words, one\nto eight, behind the number and the maker of a step or the + of an effect. _ stands\nfor any word. It writes the number and the line. Behind not it finds the first text\nthat has no such line, and writes the number.\n";
+  example = codes "linx_sim find 1 1000 notified _ _ _ dead < examples/losses.linx";
 }
 said_of Gen = record {
   name = codes "gen";
@@ -73,7 +81,7 @@ said_of Version = record {
 
 -- all words, in the order of the help
 abbrev pub all_words : List Word
-all_words = Run ∷ Serial ∷ Seed ∷ Gen ∷ Stream ∷ Help ∷ Version ∷ []
+all_words = Run ∷ Serial ∷ Seed ∷ Find ∷ Gen ∷ Stream ∷ Help ∷ Version ∷ []
 
 -- the first of these words whose name is the text
 abbrev pub named : List ℕ → List Word → Option Word

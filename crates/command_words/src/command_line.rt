@@ -1,7 +1,7 @@
 //! The command line, as `clap` reads it: a word, and perhaps an argument and a file behind it. Flags,
 //! and `-` for standard input, are read off the table, since clap would take `--` for the end of
 //! flags.
-ghost use Rattle.std.specs.Prelude.{◌≡◌, ◌⊎◌, IfErr, IfOk, None, false, option_map, string_bytes};
+ghost use Rattle.std.specs.Prelude.{◌≡◌, ◌≤◌, ◌⊎◌, length, IfErr, IfOk, None, false, option_map, string_bytes};
 ghost use Rattle.std.specs.List.{list_any};
 ghost use Rattle.clap.specs.Words.{app_of, kind_of};
 ghost use Rattle.command_words.specs.CommandLine.{is_dashed, request_from, three_words};
@@ -51,6 +51,7 @@ fn command_line<'a>(alloc: Global) -> Result<Command<'a>, AllocError>
 
 /// What the words ask for, as clap reads them. Its refusals are errors.
 fn reads(alloc: Global, words: &[String]) -> Result<Option<Request>, Error>
+    requires few { length words.now ≤ 3 }
     requires plain { list_any (λ word. is_dashed (string_bytes word)) words.now ≡ false }
     ensures ok { IfOk result (λ request. request ≡ request_of words.now) }
     ensures err { IfErr result (λ error. (kind_of error ≡ ErrorKind.OutOfMemory)
@@ -65,11 +66,12 @@ fn reads(alloc: Global, words: &[String]) -> Result<Option<Request>, Error>
 
 impl Request {
     /// What the words of a command line ask for; `None` where they ask for nothing. `clap` reads
-    /// them; where it can't, since a word begins with `-` or memory is refused, the table does.
+    /// them; where it can't, since there are more than three, a word begins with `-` or memory is
+    /// refused, the table does.
     pub fn of(alloc: Global, words: &[String]) -> Option<Request>
         ensures { result ≡ request_of words.now }
     {
-        if has_dashed_word(words) {
+        if words.len() > 3 || has_dashed_word(words) {
             return request_by(words);
         }
         match reads(alloc, words) {

@@ -1,12 +1,20 @@
 //! What the words ask for.
 ghost use Rattle.std.specs.Prelude.{◌≡◌, map, option_map, string_bytes};
-ghost use Rattle.command_words.specs.Requests.{asked_alone, asked_with, asked_with_file};
+ghost use Rattle.command_words.specs.Requests.{asked_alone, asked_with, asked_with_file, asked_with_more};
+ghost use Rattle.command_words.specs.Requests.{searched, sought_in, wanted_by};
+ghost use Rattle.script_words.specs.Numbers.{number_spelled};
 ghost use Rattle.command_words.specs.Requests.{file_at, file_place, is_file_name, seeded};
 ghost use Rattle.command_words.specs.Requests.{file_of, played_from, request_of};
 
 use crate::number::number;
 use crate::page::Page;
 use crate::word::{Word, called, is_help_flag};
+
+/// The most numbers of a range.
+const RANGE_MOST: u32 = 1_000_000;
+
+/// The most words that are wanted of a line.
+const WANTED_MOST: usize = 8;
 
 /// The order in which a script is played on one thread.
 #[derive(Clone, Copy, Debug, PartialEq, Eq, Hash)]
@@ -28,6 +36,23 @@ pub enum Asked {
     Gen(u32),
 }
 
+/// What the text of a run is to have.
+#[derive(Clone, Copy, Debug, PartialEq, Eq, Hash)]
+pub enum Sought {
+    /// A line that says the wanted words.
+    Line,
+    /// No such line.
+    NoLine,
+}
+
+/// A search over the orders of the numbers of a range.
+#[derive(Clone, Copy, Debug, PartialEq, Eq, Hash)]
+pub struct Search {
+    pub from: u32,
+    pub to: u32,
+    pub sought: Sought,
+}
+
 /// What the words of a command line ask for.
 #[derive(Clone, Copy, Debug, PartialEq, Eq, Hash)]
 pub enum Request {
@@ -35,6 +60,8 @@ pub enum Request {
     Show(Page),
     /// A run.
     Play(Asked),
+    /// A search for a run.
+    Find(Search),
     /// An echo over the program's streams.
     Echo,
 }
@@ -72,7 +99,7 @@ pub(crate) fn asked_alone(word: Word) -> Option<Request>
     match word {
         Word::Run => Some(Request::Play(Asked::Run)),
         Word::Serial => Some(Request::Play(Asked::InOrder(TurnOrder::Fixed))),
-        Word::Seed | Word::Gen => None,
+        Word::Seed | Word::Find | Word::Gen => None,
         Word::Stream => Some(Request::Echo),
         Word::Help => Some(Request::Show(Page::All)),
         Word::Version => Some(Request::Show(Page::Version)),
@@ -92,7 +119,7 @@ pub(crate) fn asked_with(word: Word, argument: &str) -> Option<Request>
         Word::Seed => Some(Request::Play(seeded(argument)?)),
         Word::Gen => Some(Request::Play(Asked::Gen(number(argument)?))),
         Word::Help => Some(Request::Show(Page::Of(called(argument)?))),
-        Word::Stream | Word::Version => None,
+        Word::Find | Word::Stream | Word::Version => None,
     }
 }
 
@@ -106,6 +133,42 @@ pub(crate) fn asked_with_file(word: Word, argument: &str, file: &str) -> Option<
     }
 }
 
+/// What is sought, and the words that are wanted, by those behind a range.
+fn sought_in(words: &[String]) -> (Sought, &[String])
+    ensures { (result.0, map string_bytes result.1.now) ≡ sought_in (map string_bytes words.now) }
+{
+    match words {
+        [first, wanted @ ..] if first.as_str() == "not" => (Sought::NoLine, wanted),
+        _ => (Sought::Line, words),
+    }
+}
+
+/// A search over a range of numbers.
+fn searched(from: &str, to: &str, words: &[String]) -> Option<Request>
+    ensures { result ≡ searched (number_spelled from.now) (number_spelled to.now)
+        (sought_in (map string_bytes words.now)) }
+{
+    let from = number(from)?;
+    let to = number(to)?;
+    let (sought, wanted) = sought_in(words);
+    let few = from <= to && to - from < RANGE_MOST;
+    if few && 1 <= wanted.len() && wanted.len() <= WANTED_MOST {
+        Some(Request::Find(Search { from, to, sought }))
+    } else {
+        None
+    }
+}
+
+/// What a word and further ones ask for, which begin with two arguments.
+fn asked_with_more(word: Word, from: &str, to: &str, words: &[String]) -> Option<Request>
+    ensures { result ≡ asked_with_more word from.now to.now (map string_bytes words.now) }
+{
+    match word {
+        Word::Find => searched(from, to, words),
+        _ => None,
+    }
+}
+
 /// What the words ask for, read off the table; `None` where they ask for nothing.
 pub(crate) fn request_by(words: &[String]) -> Option<Request>
     ensures { result ≡ request_of words.now }
@@ -115,6 +178,9 @@ pub(crate) fn request_by(words: &[String]) -> Option<Request>
         [word, argument] => asked_with(called(word.as_str())?, argument.as_str()),
         [word, argument, file] => {
             asked_with_file(called(word.as_str())?, argument.as_str(), file.as_str())
+        }
+        [word, from, to, more @ ..] => {
+            asked_with_more(called(word.as_str())?, from.as_str(), to.as_str(), more)
         }
         _ => None,
     }
@@ -147,4 +213,14 @@ pub fn file_named(words: &[String]) -> Option<&str>
     ensures { option_map (λ name. name.now) result ≡ file_of words.now }
 {
     file_at(words, file_place(request_by(words))?)
+}
+
+/// The words that a search wants.
+pub fn wanted(words: &[String]) -> &[String]
+    ensures { map string_bytes result.now ≡ wanted_by (map string_bytes words.now) }
+{
+    match words {
+        [_, _, _, behind @ ..] => sought_in(behind).1,
+        _ => words,
+    }
 }

@@ -11,6 +11,8 @@ pub enum Word {
     Serial,
     /// The run of a script in the order that a number decides.
     Seed,
+    /// The first of the orders of some numbers whose run shows something.
+    Find,
     /// The run of a generated script.
     Gen,
     /// An echo over the program's streams.
@@ -22,10 +24,11 @@ pub enum Word {
 }
 
 /// All words, in the order of the help.
-pub const WORDS: [Word; 7] = [
+pub const WORDS: [Word; 8] = [
     Word::Run,
     Word::Serial,
     Word::Seed,
+    Word::Find,
     Word::Gen,
     Word::Stream,
     Word::Help,
@@ -78,6 +81,17 @@ impl Word {
                     one to ten decimal digits and is at most 4294967295. The text is the same each time\n\
                     for one S; other numbers have other orders.\n",
                 example: "linx_sim seed 7 examples/losses.linx",
+            },
+            Word::Find => Said {
+                name: "find",
+                usage: "find A B [not] WORD ..",
+                line: "find the first number from A to B in whose order something happens",
+                paragraph: "Reads a script from standard input, and plays it in the orders of the numbers from A\n\
+                    to B, a million at most, until the text of one has a line that says these words, one\n\
+                    to eight, behind the number and the maker of a step or the + of an effect. _ stands\n\
+                    for any word. It writes the number and the line. Behind not it finds the first text\n\
+                    that has no such line, and writes the number.\n",
+                example: "linx_sim find 1 1000 notified _ _ _ dead < examples/losses.linx",
             },
             Word::Gen => Said {
                 name: "gen",

@@ -28,7 +28,7 @@ use Rattle.command_words.specs.declared.request.TurnOrder.TheVariants.{Fixed, Se
 use Rattle.linx_commands.specs.declared.outcome.Status.{Status}
 use Rattle.linx_commands.specs.declared.outcome.Status.TheVariants.{Done, Usage, Script, Unopened}
 use Rattle.linx_commands.specs.declared.outcome.Status.TheVariants.{ReadFault, WriteFault, JournalFull}
-use Rattle.linx_commands.specs.declared.outcome.Status.TheVariants.{NoMemory, Torn, BadStream}
+use Rattle.linx_commands.specs.declared.outcome.Status.TheVariants.{NoMemory, FoundNone, Torn, BadStream}
 
 -- a whole run under a command is a run so far under it
 so-far-of : (asked : Asked) (script : ScriptParts) (log : Log) → IsRunUnder asked script log
@@ -60,6 +60,7 @@ answers-written asked (Usage wrong) script log writes run = cc
 answers-written asked (Unopened why) script log writes run = cc
 answers-written asked (Script line fault) script log writes run = cc
 answers-written asked ReadFault script log writes run = cc
+answers-written asked FoundNone script log writes run = cc
 answers-written asked (Torn at) script log writes run = cc
 answers-written asked (BadStream at) script log writes run = cc
 

@@ -13,7 +13,7 @@ use Rattle.linx_commands.specs.Runs.{read_of}
 use Rattle.linx_commands.specs.declared.outcome.Status.{Status}
 use Rattle.linx_commands.specs.declared.outcome.Status.TheVariants.{Done, Usage, Script, Unopened}
 use Rattle.linx_commands.specs.declared.outcome.Status.TheVariants.{ReadFault, WriteFault, JournalFull}
-use Rattle.linx_commands.specs.declared.outcome.Status.TheVariants.{NoMemory, Torn, BadStream}
+use Rattle.linx_commands.specs.declared.outcome.Status.TheVariants.{NoMemory, FoundNone, Torn, BadStream}
 
 -- what each status says of a source's bytes that gave no script
 abbrev pub IsUnread : Status → Option (List ℕ) → Type 0
@@ -33,6 +33,7 @@ is_of_writing ReadFault = false
 is_of_writing WriteFault = true
 is_of_writing JournalFull = false
 is_of_writing NoMemory = true
+is_of_writing FoundNone = false
 is_of_writing (Torn at) = false
 is_of_writing (BadStream at) = false
 

@@ -30,7 +30,7 @@ use Rattle.orders.specs.Seeds.{span_of}
 use Rattle.linx_commands.specs.declared.outcome.Status.{Status}
 use Rattle.linx_commands.specs.declared.outcome.Status.TheVariants.{Done, Usage, Script, Unopened}
 use Rattle.linx_commands.specs.declared.outcome.Status.TheVariants.{ReadFault, WriteFault, JournalFull}
-use Rattle.linx_commands.specs.declared.outcome.Status.TheVariants.{NoMemory, Torn, BadStream}
+use Rattle.linx_commands.specs.declared.outcome.Status.TheVariants.{NoMemory, FoundNone, Torn, BadStream}
 
 -- a run so far of a script, whose journal has this log
 pub record IsRunAs (script : ScriptParts) (run : Layout) (log : Log) : Type 0 where
@@ -170,6 +170,7 @@ IsCaused asked ReadFault told log = IsEmptyLog log
 IsCaused asked WriteFault told log = IsOfSource asked WriteFault told log
 IsCaused asked JournalFull told log = IsOfSource asked JournalFull told log
 IsCaused asked NoMemory told log = IsEmptyLog log ⊎ IsOfSource asked NoMemory told log
+IsCaused asked FoundNone told log = ⊥
 IsCaused asked (Torn at) told log = ⊥
 IsCaused asked (BadStream at) told log = ⊥
 

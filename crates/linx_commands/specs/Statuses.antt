@@ -4,7 +4,7 @@ use Rattle.command_words.specs.Misuses.{misuse_by}
 use Rattle.linx_commands.specs.declared.outcome.Status.{Status}
 use Rattle.linx_commands.specs.declared.outcome.Status.TheVariants.{Done, Usage, Script, Unopened}
 use Rattle.linx_commands.specs.declared.outcome.Status.TheVariants.{ReadFault, WriteFault, JournalFull}
-use Rattle.linx_commands.specs.declared.outcome.Status.TheVariants.{NoMemory, Torn, BadStream}
+use Rattle.linx_commands.specs.declared.outcome.Status.TheVariants.{NoMemory, FoundNone, Torn, BadStream}
 
 -- the exit status of the program
 abbrev pub exit_of : Status → ℕ
@@ -16,6 +16,7 @@ exit_of ReadFault = 3
 exit_of WriteFault = 4
 exit_of JournalFull = 5
 exit_of NoMemory = 6
+exit_of FoundNone = 7
 exit_of (Torn at) = 9
 exit_of (BadStream at) = 11
 
@@ -41,6 +42,7 @@ is_of_whole ReadFault = false
 is_of_whole WriteFault = true
 is_of_whole JournalFull = true
 is_of_whole NoMemory = false
+is_of_whole FoundNone = true
 is_of_whole (Torn at) = false
 is_of_whole (BadStream at) = false
 
@@ -54,6 +56,7 @@ is_script ReadFault = false
 is_script WriteFault = false
 is_script JournalFull = false
 is_script NoMemory = false
+is_script FoundNone = false
 is_script (Torn at) = false
 is_script (BadStream at) = false
 
@@ -67,5 +70,6 @@ is_silent ReadFault = true
 is_silent WriteFault = false
 is_silent JournalFull = true
 is_silent NoMemory = true
+is_silent FoundNone = true
 is_silent (Torn at) = false
 is_silent (BadStream at) = false

@@ -10,6 +10,9 @@ ghost use Rattle.linx_commands.specs.Runs.{Completes, IsCaused, IsEmptyLog, IsLe
 ghost use Rattle.linx_commands.specs.Runs.{IsOutcomeOf, IsRan};
 ghost use Rattle.linx_commands.specs.Commands.{IsCausedUnder, CompletesUnder, ReadsUnder, written_under};
 ghost use Rattle.linx_commands.specs.Headline.{HeadlineUnder};
+ghost use Rattle.command_words.specs.Requests.{wanted_by};
+ghost use Rattle.linx_commands.specs.Searches.{IsSearched};
+ghost use Rattle.linx_commands.specs.Programs.{IfFind};
 ghost use Rattle.linx_commands.specs.Programs.{IfEcho, IfPlay, IfShow, IsPlayedFrom};
 ghost use Rattle.linx_commands.specs.Programs.{IsPlayedOfFile, IsShown, ReadsFile, asked_in};
 ghost use Rattle.linx_commands.specs.Sessions.{IsSession};
@@ -201,6 +204,12 @@ pub fn run<R: Threads + Wait + Sync, G: Gate + Sync, F: Files, S: Source, K: Sin
         (λ written. Writes K.held K.faults K.last_count K.can_take out.old out.new
         result.status written)
         result.status result.journal.log) }
+
+    // Of a search.
+    ensures searched { IfFind (request_of words.now) (λ search.
+        IsSearched S.left S.faults S.last_count S.is_faultless K.held K.faults K.last_count
+        K.can_take script.old script.new out.old out.new search
+        (wanted_by (map string_bytes words.now)) result.status result.journal.log) }
 
     // Of an echo over the streams.
     ensures echoed { IfEcho (request_of words.now) (IsSession S.left S.faults S.last_count

@@ -12,6 +12,7 @@ mod in_threads;
 mod laws;
 mod outcome;
 mod phrase;
+mod search;
 mod serving;
 mod session;
 mod status_line;

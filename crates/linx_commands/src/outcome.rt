@@ -25,6 +25,8 @@ pub enum Status {
     JournalFull,
     /// Memory was refused.
     NoMemory,
+    /// None of the runs that were searched has what is sought.
+    FoundNone,
     /// The source of an echo ended within the frame that begins at this byte.
     Torn { at: u64 },
     /// The bytes of an echo's source from this one on begin no frame, or one that breaks the rules.

@@ -18,13 +18,17 @@ ghost use Rattle.linx_commands.specs.Commands.{ReadsUnder, written_under};
 ghost use Rattle.linx_commands.specs.Headline.{HeadlineUnder};
 ghost use Rattle.linx_commands.specs.Causes.{IsUnread, is_of_writing, read_status, script_status};
 ghost use Rattle.linx_commands.specs.Causes.{stop_status, report_status};
+ghost use Rattle.command_words.specs.Requests.{wanted_by};
+ghost use Rattle.linx_commands.specs.Searches.{IsSearched};
+ghost use Rattle.linx_commands.specs.Programs.{IfFind};
 ghost use Rattle.linx_commands.specs.Programs.{IfEcho, IfPlay, IfShow, IsLeft, IsPlayedFrom};
 ghost use Rattle.linx_commands.specs.Programs.{IsPlayedOfFile, IsShown, ReadsFile};
 ghost use Rattle.linx_commands.specs.Sessions.{IsSession};
 
 use crate::outcome::{Outcome, Status};
+use crate::search::find;
 use crate::session::echo;
-use command_words::{Asked, Misuse, Page, Request, TurnOrder, file_named};
+use command_words::{Asked, Misuse, Page, Request, TurnOrder, file_named, wanted};
 use fabric::StopCause;
 use journal::Journal;
 use linx_base::{NameList, Names, NoMemory};
@@ -103,7 +107,7 @@ fn write_run<K: Sink>(alloc: Global, asked: Asked, journal: &Journal, out: &mut 
 }
 
 /// Plays a script in the order that a number decides.
-fn play_seeded(alloc: Global, seed: u32, script: Script) -> Result<Ran, NoMemory>
+pub(crate) fn play_seeded(alloc: Global, seed: u32, script: Script) -> Result<Ran, NoMemory>
     ensures { IfOk result (IsRan (Asked.InOrder (TurnOrder.Seed seed)) script) }
 {
     let mut rule = rule_of_seed(&script, u64::from(seed));
@@ -357,6 +361,12 @@ pub fn alone<F: Files, S: Source, K: Sink>(
         outcome.status written)
         outcome.status outcome.journal.log)) }
 
+    // Of a search.
+    ensures searched { IfOk result (λ outcome. IfFind (request_of words.now) (λ search.
+        IsSearched S.left S.faults S.last_count S.is_faultless K.held K.faults K.last_count
+        K.can_take script.old script.new out.old out.new search
+        (wanted_by (map string_bytes words.now)) outcome.status outcome.journal.log)) }
+
     // Of an echo over the streams.
     ensures echoed { IfOk result (λ outcome. IfEcho (request_of words.now)
         (IsSession S.left S.faults S.last_count S.is_faultless K.held K.faults K.last_count
@@ -366,6 +376,7 @@ pub fn alone<F: Files, S: Source, K: Sink>(
     match Request::of(alloc, words) {
         None => Ok(refuse(alloc, words)),
         Some(Request::Show(page)) => Ok(show(alloc, page, out)),
+        Some(Request::Find(search)) => Ok(find(alloc, search, wanted(words), script, out)),
         Some(Request::Echo) => Ok(echo(alloc, script, out)),
         Some(Request::Play(Asked::InOrder(order))) => Ok(in_order_from(
             alloc,

@@ -1,10 +1,11 @@
 //! The whole program, over what a process is given: its command line, files and streams.
 
 ghost use Rattle.std.specs.Prelude.{◌≡◌};
-ghost use Rattle.command_words.specs.Requests.{file_by};
+ghost use Rattle.command_words.specs.Requests.{file_by, wanted_by};
 ghost use Rattle.linx_commands.specs.Commands.{ReadsUnder};
 ghost use Rattle.linx_commands.specs.Programs.{IsPlayedFrom, IsServed, IsToldUnread, ReadsFile};
 ghost use Rattle.linx_commands.specs.Programs.{texts_of};
+ghost use Rattle.linx_commands.specs.Searches.{IsSearched};
 ghost use Rattle.linx_commands.specs.Sessions.{IsSession};
 ghost use Rattle.linx_commands.specs.Streams.{Writes, WritesLine};
 ghost use Rattle.linx_commands.specs.declared.outcome.Status.TheVariants.{Done};
@@ -40,6 +41,9 @@ pub fn program<R: Threads + Wait + Sync, F: Files, S: Source, K: Sink, L: Sink>(
         (F.told files.now name) result)
         (λ written. Writes K.held K.faults K.last_count K.can_take text.old text.new result written)
         result log)
+        (λ search log. IsSearched S.left S.faults S.last_count S.is_faultless K.held K.faults
+        K.last_count K.can_take script.old script.new text.old text.new search
+        (wanted_by (texts_of words)) result log)
         (λ log. IsSession S.left S.faults S.last_count S.is_faultless K.held K.faults K.last_count
         script.old script.new text.old text.new result log)
         (λ line. WritesLine L.held L.faults L.last_count L.can_take errors.old errors.new line)
