@@ -1,6 +1,6 @@
 -- What `find` does: which number of a range is the first in whose order the run shows what is sought.
 use Rattle.std.specs.Prelude.{ℕ, ◌≡◌, ◌<◌, ◌≤◌, ◌⊎◌, List, [], ◌++◌, codes, decimal, Option, Some}
-use Rattle.std.specs.Prelude.{None, IfSome, Ok}
+use Rattle.std.specs.Prelude.{None, option_map, IfSome, Ok}
 use Rattle.command_words.specs.declared.request.Asked.TheVariants.{InOrder}
 use Rattle.command_words.specs.declared.request.Search.{Search}
 use Rattle.command_words.specs.declared.request.Sought.{Sought}
@@ -15,6 +15,8 @@ use Rattle.linx_commands.specs.Causes.{IsUnread}
 use Rattle.linx_commands.specs.Runs.{IsEmptyLog, IsRunInOrder, IsStoppedFull}
 use Rattle.linx_commands.specs.Streams.{Reads, Writes}
 use Rattle.linx_commands.specs.declared.outcome.Status.{Status}
+use Rattle.linx_commands.specs.declared.search.Shown.{Shown}
+use Rattle.linx_commands.specs.declared.search.Shown.TheVariants.{Whole, Full}
 use Rattle.linx_commands.specs.declared.outcome.Status.TheVariants.{Done, Usage, Unopened, Script}
 use Rattle.linx_commands.specs.declared.outcome.Status.TheVariants.{ReadFault, WriteFault, NoMemory}
 use Rattle.linx_commands.specs.declared.outcome.Status.TheVariants.{FoundNone}
@@ -55,6 +57,22 @@ pub record IsFirstHit (search : Search) (script : ScriptParts) (wanted : List (L
 abbrev pub HasNoHit : Search → ScriptParts → List (List ℕ) → Type 0
 HasNoHit search script wanted =
     (n : ℕ) → search.from ≤ n → n ≤ search.to → IsMiss search.sought script wanted n
+
+-- what was found in a range: the first number and its line, or none
+abbrev pub IsSearchedFor : Search → ScriptParts → List (List ℕ) → Option (ℕ × List ℕ) → Type 0
+IsSearchedFor search script wanted None = HasNoHit search script wanted
+IsSearchedFor search script wanted (Some hit) = IsFirstHit search script wanted hit.0 hit.1
+
+-- what came of one number: it is a hit with this line, or a miss
+abbrev pub IsTried : Sought → ScriptParts → List (List ℕ) → ℕ → Option (ℕ × List ℕ) → Type 0
+IsTried sought script wanted seed None = IsMiss sought script wanted seed
+IsTried sought script wanted seed (Some hit) =
+    (hit.0 ≡ seed) × IsHit sought script wanted seed hit.1
+
+-- what was seen of a run
+abbrev pub IsShownAs : ScriptParts → List (List ℕ) → ℕ → Shown → Type 0
+IsShownAs script wanted seed (Whole line) = IsRead script wanted seed (option_map (λ l. l.items) line)
+IsShownAs script wanted seed Full = IsFullAt script seed
 
 -- what is written of a number and its line
 abbrev pub hit_text : ℕ → List ℕ → List ℕ

@@ -1,16 +1,17 @@
 //! `find`: the first of the numbers of a range in whose order the run shows what is sought.
 
-ghost use Rattle.std.specs.Prelude.{◌≡◌, ◌⊎◌, ◌≤◌, IfErr, IfOk, IfSome, Ok, map, string_bytes};
+ghost use Rattle.std.specs.Prelude.{◌≡◌, ℕ, List, IfOk, Ok, map, option_map, string_bytes};
 ghost use Rattle.script_lang.specs.Reading.{script_of};
-ghost use Rattle.linx_commands.specs.Causes.{is_of_writing};
 ghost use Rattle.linx_commands.specs.Runs.{IsLegalSomehow};
-ghost use Rattle.linx_commands.specs.Searches.{HasNoHit, IsFirstHit, IsFullAt, IsRead, IsSearched};
-ghost use Rattle.linx_commands.specs.Searches.{hit_text};
-ghost use Rattle.linx_commands.specs.Streams.{Writes};
+ghost use Rattle.linx_commands.specs.Searches.{IsSearched};
+ghost use Rattle.linx_commands.specs.Searches.{IsSearchedFor, IsShownAs, IsTried, hit_text};
+ghost use Rattle.linx_commands.specs.Runs.{IsRan};
+ghost use Rattle.line_search.specs.Search.{find_in};
+ghost use Rattle.script_lang.specs.Parts.{ScriptParts};
 
 use crate::outcome::{Outcome, Status};
 use crate::serving::{play_seeded, unstarted};
-use command_words::{Search, Sought};
+use command_words::{Asked, Search, Sought, TurnOrder};
 use fabric::StopCause;
 use line_search::find as find_line;
 use linx_base::NoMemory;
@@ -21,7 +22,7 @@ use workers::Ran;
 
 /// What the run in the order of a number shows.
 #[derive(Drop)]
-enum Shown {
+pub(crate) enum Shown {
     /// It is whole: the first line of its text that says the wanted words, if there is one.
     Whole(Option<Vec<u8>>),
     /// Its journal is full.
@@ -36,7 +37,10 @@ struct Hit {
 }
 
 /// The first line of a text that says these words.
-fn line_of(alloc: Global, text: &[u8], wanted: &[String]) -> Result<Option<Vec<u8>>, NoMemory> {
+fn line_of(alloc: Global, text: &[u8], wanted: &[String]) -> Result<Option<Vec<u8>>, NoMemory>
+    ensures { IfOk result (λ line. option_map (λ l. l.items) line
+        ≡ find_in (map string_bytes wanted.now) text.now) }
+{
     match find_line(alloc, text, wanted)? {
         Some(line) => Ok(Some(Vec::from_slice(alloc, line)?)),
         None => Ok(None),
@@ -44,7 +48,11 @@ fn line_of(alloc: Global, text: &[u8], wanted: &[String]) -> Result<Option<Vec<u
 }
 
 /// What a run that was made shows.
-fn shown_by(alloc: Global, ran: Ran, wanted: &[String]) -> Result<Shown, NoMemory> {
+fn shown_by(alloc: Global, ran: Ran, wanted: &[String]) -> Result<Shown, NoMemory>
+    ensures { (script : ScriptParts) → (seed : ℕ)
+        → IsRan (Asked.InOrder (TurnOrder.Seed seed)) script ran
+        → IfOk result (IsShownAs script (map string_bytes wanted.now) seed) }
+{
     let Ran { stage, stop } = ran;
     let journal = stage.into_journal();
     match stop {
@@ -58,7 +66,10 @@ fn shown_by(alloc: Global, ran: Ran, wanted: &[String]) -> Result<Shown, NoMemor
 }
 
 /// Makes the run of a script in the order of a number, and looks at it.
-fn show(alloc: Global, bytes: &[u8], seed: u32, wanted: &[String]) -> Result<Shown, NoMemory> {
+fn show(alloc: Global, bytes: &[u8], seed: u32, wanted: &[String]) -> Result<Shown, NoMemory>
+    ensures { (script : ScriptParts) → script_of bytes.now ≡ Ok script
+        → IfOk result (IsShownAs script (map string_bytes wanted.now) seed) }
+{
     match parse(alloc, bytes) {
         Ok(script) => shown_by(alloc, play_seeded(alloc, seed, script)?, wanted),
         Err(_) => Err(NoMemory),
@@ -66,7 +77,11 @@ fn show(alloc: Global, bytes: &[u8], seed: u32, wanted: &[String]) -> Result<Sho
 }
 
 /// Whether it is what is sought, and then the line.
-fn hit_of(alloc: Global, seed: u32, sought: Sought, shown: Shown) -> Option<Hit> {
+fn hit_of(alloc: Global, seed: u32, sought: Sought, shown: Shown) -> Option<Hit>
+    ensures { (script : ScriptParts) → (wanted : List (List ℕ))
+        → IsShownAs script wanted seed shown
+        → IsTried sought script wanted seed (option_map (λ h. (h.seed, h.line.items)) result) }
+{
     match (sought, shown) {
         (Sought::Line, Shown::Whole(Some(line))) => Some(Hit { seed, line }),
         (Sought::NoLine, Shown::Whole(None)) => Some(Hit {
@@ -83,7 +98,11 @@ fn first_hit(
     bytes: &[u8],
     search: Search,
     wanted: &[String],
-) -> Result<Option<Hit>, NoMemory> {
+) -> Result<Option<Hit>, NoMemory>
+    ensures { (script : ScriptParts) → script_of bytes.now ≡ Ok script
+        → IfOk result (λ hit. IsSearchedFor search script (map string_bytes wanted.now)
+        (option_map (λ h. (h.seed, h.line.items)) hit)) }
+{
     'numbers: for seed in search.from..=search.to {
         let shown = show(alloc, bytes, seed, wanted)?;
         if let Some(hit) = hit_of(alloc, seed, search.sought, shown) {
@@ -94,7 +113,9 @@ fn first_hit(
 }
 
 /// What is written of a number and its line.
-fn hit_text(alloc: Global, hit: &Hit) -> Result<Vec<u8>, NoMemory> {
+fn hit_text(alloc: Global, hit: &Hit) -> Result<Vec<u8>, NoMemory>
+    ensures { IfOk result (λ text. text.items ≡ hit_text hit.now.seed hit.now.line.items) }
+{
     let mut text = Vec::new(alloc);
     let mut number = itoa::Buffer::new();
     text.extend_from_slice(b"seed ")?;
