@@ -50,7 +50,7 @@ fn said<'a, 'b>(words: &'a [&'b [u8]]) -> &'a [&'b [u8]]
     match words {
         [] => words,
         [first, behind @ ..] => {
-            if *first == b"+" {
+            if *first == b"+".as_slice() {
                 behind
             } else if is_number(first) {
                 behind_first(behind)

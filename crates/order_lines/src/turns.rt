@@ -106,7 +106,7 @@ fn cut(word: &[u8]) -> Option<(&[u8], &[u8])>
 
 /// How often a maker has its turn, by what stands behind the star.
 fn times_in(word: &[u8], digits: &[u8]) -> Result<u32, LineError>
-    ensures { Gives (λ n. n) result (times_in word.now (number_spelled digits.now)) }
+    ensures gives { Gives (λ n. n) result (times_in word.now (number_spelled digits.now)) }
     ensures few { IfOk result (λ n. n ≤ 200000) }
 {
     match number(digits) {
