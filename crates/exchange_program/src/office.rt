@@ -6,7 +6,7 @@ ghost use Rattle.exchange_program.specs.Office.{office};
 use crate::client::ask;
 use crate::server::serve;
 use anyhow::Result;
-use linx_api::{Endpoint, SharedFabric, share};
+use linx_api::{Endpoint, SharedFabric, fabric_is_send, share};
 use linx_base::{Name, NameList, Names, NodeNo};
 use std::alloc::Global;
 use std::sync::Wait;
@@ -51,5 +51,7 @@ pub fn run_office<R: Threads + Wait + Sync>(rt: &R, alloc: Global) -> Result<Vec
     let each = |pass: Pass<SharedFabric>| -> Result<String>
         requires { IsNewcomer lock office pass }
     { act(rt, alloc, &lock, pass) };
+    // Not a step of the run: what the prover has to know of what the threads share.
+    fabric_is_send();
     Ok(map_vec(rt, passes, &each)?)
 }

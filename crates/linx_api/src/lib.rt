@@ -19,8 +19,10 @@ mod endpoint;
 mod plan;
 mod shared_fabric;
 mod sharing;
+mod threads;
 
 pub use endpoint::{Endpoint, Told};
 pub use plan::Plan;
 pub use shared_fabric::SharedFabric;
 pub use sharing::{Dealt, share};
+pub use threads::fabric_is_send;

@@ -3,7 +3,7 @@
 ghost use Rattle.std.specs.Prelude.{◌≡◌, ◌≤◌, length, option_map, IfOk, IsTrue};
 ghost use Rattle.std.specs.Char.{is_ascii_digit};
 ghost use Rattle.std.specs.List.{list_all};
-ghost use Rattle.order_lines.specs.Turns.{maker_named, name_in, number_spelled, numbered, times_in};
+ghost use Rattle.order_lines.specs.Turns.{maker_named, number_spelled, numbered, times_in};
 ghost use Rattle.order_lines.specs.Turns.{turns_spelled};
 ghost use Rattle.script_words.specs.Faults.{bad};
 ghost use Rattle.script_words.specs.Gives.{Gives};

@@ -6,7 +6,7 @@ use crate::actor_calls::finish;
 use crate::callers::{caller_of, locked};
 use crate::endpoints::follow;
 use crate::link_side::{link_side, pump};
-use linx_api::SharedFabric;
+use linx_api::{SharedFabric, fabric_is_send};
 use std::alloc::{AllocError, Global};
 use std::process::Abort;
 use std::sync::Wait;
@@ -64,6 +64,7 @@ fn work_with_all<R: Abort + Threads + Wait + Sync>(
     let each = |pass: Pass<SharedFabric>| -> u32
         requires { IsFresh lock.now pass }
     { work(rt, alloc, lock, pass) };
+    fabric_is_send();
     thread::map_vec(rt, passes, &each)
 }
 

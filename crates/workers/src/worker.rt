@@ -24,7 +24,7 @@ ghost use Rattle.workers.specs.Working.{IsWorking, StillRuns, seen, stop_at};
 use crate::bells::Bells;
 use crate::rings::{Rings, first_running, rings_since};
 use fabric::{Fabric, StepStop, StopCause};
-use linx_api::SharedFabric;
+use linx_api::{SharedFabric, fabric_is_send};
 use linx_base::{LinkNo, NoMemory};
 use linx_outside::Gate;
 use node_kernel::Ask;
@@ -470,6 +470,7 @@ pub(crate) fn workers<R: Threads + Wait + Sync, G: Gate + Sync>(
         requires { IsReadyJob lock.now script.now job }
         ensures { IsWorked script.entry.now job.pass result }
     { work(rt, alloc, lock, script, gate, bells, job) };
+    fabric_is_send();
     let all = thread::map_vec(rt, jobs, &each)?;
     Ok(all)
 }
