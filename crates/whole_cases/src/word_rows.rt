@@ -97,6 +97,8 @@ writes everything that happened.
       play a script in the fixed order of rounds
   seed S [FILE]
       play a script in the order that a number decides
+  find A B [not] WORD ..
+      find the first number from A to B in whose order something happens
   gen N
       play the generated script of a number, and write its summary
   stream
@@ -117,6 +119,7 @@ exit status:
   4  the text can't be written
   5  the journal is full before the run is over
   6  memory was refused
+  7  no run has what find looks for
   9  a stream ended within a frame
   11 the bytes of a stream are no frame, or break the rules
 
@@ -321,7 +324,7 @@ const ROWS: [Row; 40] = [
     },
     Row {
         words: &["fast\n\u{7f}"],
-        line: "linx_sim: no word 'fast??'; the words are: run serial seed gen stream help version\n",
+        line: "linx_sim: no word 'fast??'; the words are: run serial seed find gen stream help version\n",
         ..MISUSED
     },
     Row {
@@ -449,7 +452,7 @@ fn a_long_word_is_cut(rt: HostRuntime) -> Result<(), Fail> {
     );
     let wanted =
         "linx_sim: no word 'xxxxxxxxxxxxxxxxxxxxxxxxxxxxxxxxxxxxxxxxxxxxxxxxxxxxxxxxxxxxxxxx\
-        '; the words are: run serial seed gen stream help version\n";
+        '; the words are: run serial seed find gen stream help version\n";
     assert_eq!(rt; errors.held(), wanted.as_bytes());
     Ok(())
 }
