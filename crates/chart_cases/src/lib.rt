@@ -6,3 +6,5 @@
 mod charts;
 #[cfg(test)]
 mod pictures;
+#[cfg(test)]
+mod drawings;

@@ -1,0 +1,10 @@
+pub mod Layout
+pub mod Spots
+pub mod LifeMarks
+pub mod LaneMarks
+pub mod Rows
+pub mod Bars
+pub mod Beside
+pub mod Arrows
+pub mod Ground
+pub mod Drawing

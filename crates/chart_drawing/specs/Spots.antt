@@ -1,0 +1,83 @@
+-- Where each mark stands: its row is the number of marks before it, and its cell begins at the left
+-- edge of its column.
+use Rattle.std.specs.Prelude.{ℕ, ◌+◌, ◌*◌, ◌-◌, ◌==◌, Bool, false, not, ◌&&◌, if◌then◌else◌}
+use Rattle.std.specs.Prelude.{List, [], ◌∷◌, Option, Some, None, slice_get, find}
+use Rattle.linx_base.specs.declared.identity.ItemAt.{ItemAt}
+use Rattle.linx_base.specs.Peers.{same_position}
+use Rattle.svg_text.specs.declared.shape.Point.{Point}
+use Rattle.svg_text.specs.declared.shape.Stroke.{Stroke}
+use Rattle.svg_text.specs.declared.shape.Stroke.TheVariants as strokes
+use Rattle.chart.specs.declared.column.Column.{Column}
+use Rattle.chart.specs.declared.column.Column.TheVariants.{Life, Lane, Rail, Nowhere}
+use Rattle.chart.specs.declared.mark.Mark.{Mark}
+use Rattle.chart_drawing.specs.declared.setting.Setting.{Setting}
+use Rattle.chart_drawing.specs.declared.spot.Spot.{Spot}
+use Rattle.chart_drawing.specs.Layout.{column_left, is_turned}
+
+-- a mark is of an effect
+abbrev pub is_effect_if : Option Mark → Bool
+is_effect_if None = false
+is_effect_if (Some m) = not (m.line.place == 0)
+
+-- the spot of a mark in this row, before these marks; it is told where an effect comes next
+abbrev pub spot_of : Setting → ℕ → Mark → List Mark → Spot
+spot_of setting row mark more = record {
+  mark = mark;
+  row = row;
+  told = is_effect_if (slice_get more 0);
+  x = column_left setting mark.column;
+  turned = is_turned setting mark.column;
+}
+
+-- the spots of marks, from this row on
+abbrev pub spots_from : Setting → ℕ → List Mark → List Spot
+spots_from setting row [] = []
+spots_from setting row (mark ∷ more) =
+    spot_of setting row mark more ∷ spots_from setting (row + 1) more
+
+-- THE SPOTS OF MARKS: that of the k-th mark is in row k, in the mark's column
+abbrev pub spots_of : Setting → List Mark → List Spot
+spots_of setting marks = spots_from setting 0 marks
+
+-- the spot of a line
+abbrev pub spot_at : List Spot → ItemAt → Option Spot
+spot_at spots line = find (λ (s : Spot). same_position s.mark.line line) spots
+
+-- one column
+abbrev pub same_column : Column → Column → Bool
+same_column (Life a) (Life b) = a == b
+same_column (Rail l n) (Rail m o) = l.0 == m.0 && n.0 == o.0
+same_column _ _ = false
+
+abbrev pub point : ℕ → ℕ → Point
+point x y = record { x = x; y = y }
+
+-- how far down a row begins; rows are 18 high, and the first one is 78 below the edge
+abbrev pub row_top : ℕ → ℕ
+row_top row = 78 + 18 * row
+
+-- a point of a spot's cell, so far to the right and so far down
+abbrev pub in_cell : Spot → ℕ → ℕ → Point
+in_cell spot right down = point (spot.x + right) (row_top spot.row + down)
+
+-- a point of a lane, which is 156 wide; a turned one is seen from its other edge
+abbrev pub in_lane : Spot → ℕ → ℕ → Point
+in_lane spot along down =
+    in_cell spot (if spot.turned then 156 - along else along) down
+
+-- the same point of the cell, in another spot's row
+abbrev pub beside : Spot → Spot → ℕ → ℕ → Point
+beside spot other right down = point (spot.x + right) (row_top other.row + down)
+
+-- strokes by points of a cell or a lane
+abbrev pub move : Spot → ℕ → ℕ → Stroke
+move spot right down = strokes.Move (in_cell spot right down)
+
+abbrev pub line : Spot → ℕ → ℕ → Stroke
+line spot right down = strokes.Line (in_cell spot right down)
+
+abbrev pub lane_move : Spot → ℕ → ℕ → Stroke
+lane_move spot along down = strokes.Move (in_lane spot along down)
+
+abbrev pub lane_line : Spot → ℕ → ℕ → Stroke
+lane_line spot along down = strokes.Line (in_lane spot along down)

@@ -1,0 +1,233 @@
+//! Labels of marks, and the lines at the left.
+ghost use Rattle.std.specs.Prelude.{◌≡◌, ◌≤◌, ◌++◌, [], ◌∷◌, length, flat_map, decimal, OnOk, IfOk};
+ghost use Rattle.std.specs.Prelude.{◌+◌};
+ghost use Rattle.svg_text.specs.declared.shape.Shape.TheVariants.{Words};
+ghost use Rattle.chart_drawing.specs.Rows.{cut, anchor_of, side_point, lane_words, label_class};
+ghost use Rattle.chart_drawing.specs.Rows.{packet_label, label_shape, label_room, label_shapes};
+ghost use Rattle.chart_drawing.specs.Rows.{line_shapes, line_words};
+ghost use Rattle.chart_drawing.specs.Spots.{point, row_top};
+
+use crate::cells::{in_cell, in_lane, put_words, row_top};
+use crate::layout::gap;
+use crate::rows::{put_bytes, put_number, words_at};
+use crate::setting::Setting;
+use crate::spot::Spot;
+use chart::MarkKind;
+use journal::SentTo;
+use linx_base::{Blob, NoMemory, Verdict};
+use std::alloc::Global;
+use svg_text::{Anchor, Class, Point, Shape};
+
+/// How many characters of a line of the journal there is room for.
+const LINE_ROOM: usize = 42;
+
+/// Words cut to a length, with two dots where some are left out.
+pub(crate) fn cut(alloc: Global, most: usize, words: &[u8]) -> Result<Vec<u8>, NoMemory>
+    requires { 2 ≤ most }
+    ensures { IfOk result (λ made. made.items ≡ cut most words.now) }
+{
+    let mut made = Vec::new(alloc);
+    if words.len() <= most {
+        put_bytes(&mut made, words)?;
+    } else {
+        put_bytes(&mut made, &words[..most - 2])?;
+        put_bytes(&mut made, b"..")?;
+    }
+    Ok(made)
+}
+
+/// Which part of a label stands at its point: its end, where it is turned to the left.
+fn anchor_of(turned: bool) -> Anchor
+    ensures { result ≡ anchor_of turned }
+{
+    if turned {
+        Anchor::End
+    } else {
+        Anchor::Start
+    }
+}
+
+/// Where the label of a mark on a rail stands.
+fn side_point(spot: &Spot, right: u16) -> Point
+    ensures { result ≡ side_point spot.now right }
+{
+    if spot.turned {
+        in_cell(spot, 6, 13)
+    } else {
+        in_cell(spot, right, 13)
+    }
+}
+
+/// A label of a lane, so far along it.
+fn put_lane_words(
+    out: &mut Vec<Shape>,
+    spot: &Spot,
+    along: u16,
+    class: Class,
+    words: &[u8],
+) -> Result<(), NoMemory>
+    ensures { OnOk result (out.new.items
+        ≡ out.old.items ++ lane_words spot.now along class words.now ∷ []) }
+{
+    put_words(out, class, anchor_of(spot.turned), in_lane(spot, along, 13), words)
+}
+
+/// How a label looks.
+fn label_class(kind: MarkKind) -> Class
+    ensures { result ≡ label_class kind }
+{
+    match kind {
+        MarkKind::Send(SentTo::Dead)
+        | MarkKind::TakeNone
+        | MarkKind::Cut
+        | MarkKind::Restart
+        | MarkKind::Refused
+        | MarkKind::Down => Class::WrongLabel,
+        MarkKind::Opened | MarkKind::Up => Class::Strong,
+        MarkKind::Open | MarkKind::Close | MarkKind::Waits | MarkKind::Ended => Class::Faint,
+        _ => Class::Label,
+    }
+}
+
+/// The label of a packet.
+fn put_packet_label(
+    out: &mut Vec<Shape>,
+    spot: &Spot,
+    verdict: Verdict,
+    words: &[u8],
+) -> Result<(), NoMemory>
+    ensures { OnOk result (out.new.items
+        ≡ out.old.items ++ packet_label spot.now verdict words.now ∷ []) }
+{
+    match verdict {
+        Verdict::Deliver => put_lane_words(out, spot, 88, Class::Label, words),
+        Verdict::Lose => put_lane_words(out, spot, 88, Class::WrongLabel, words),
+        Verdict::Repeat => {
+            put_words(out, Class::Label, Anchor::Middle, in_lane(spot, 78, 13), words)
+        }
+        Verdict::Swap(_) => put_lane_words(out, spot, 84, Class::Label, words),
+    }
+}
+
+/// The label of a mark.
+#[tactic(auto, unfolding(crate::specs::Rows::label_shape))]
+fn put_label(
+    out: &mut Vec<Shape>,
+    spot: &Spot,
+    kind: MarkKind,
+    words: &[u8],
+) -> Result<(), NoMemory>
+    ensures { OnOk result (out.new.items
+        ≡ out.old.items ++ label_shape spot.now kind words.now ∷ []) }
+{
+    match kind {
+        MarkKind::Packet(verdict) => put_packet_label(out, spot, verdict, words),
+        MarkKind::Tick => put_lane_words(out, spot, 40, Class::Faint, words),
+        MarkKind::Up | MarkKind::Down | MarkKind::Met | MarkKind::Gone => put_words(
+            out,
+            label_class(kind),
+            anchor_of(spot.turned),
+            side_point(spot, 26),
+            words,
+        ),
+        _ => put_words(out, label_class(kind), Anchor::Start, in_cell(spot, 62, 13), words),
+    }
+}
+
+/// How many characters of a label there is room for.
+fn label_room(setting: &Setting) -> usize
+    ensures room { result ≡ label_room setting.now }
+    ensures some { 2 ≤ result }
+{
+    let actors = setting.actors.len();
+    if actors <= 6 {
+        19
+    } else if actors <= 12 {
+        12
+    } else {
+        7
+    }
+}
+
+/// The label of a row, where it has one.
+fn put_row_label(
+    out: &mut Vec<Shape>,
+    setting: &Setting,
+    labels: &[Blob],
+    spot: &Spot,
+) -> Result<(), NoMemory>
+    ensures { OnOk result (out.new.items
+        ≡ out.old.items ++ label_shapes setting.now labels.now spot.now) }
+{
+    let words = words_at(labels, spot.row);
+    if words.is_empty() {
+        return Ok(());
+    }
+    let words = cut(*out.allocator(), label_room(setting), words)?;
+    put_label(out, spot, spot.mark.kind, &words)
+}
+
+/// The labels of all rows.
+pub(crate) fn put_labels(
+    out: &mut Vec<Shape>,
+    setting: &Setting,
+    labels: &[Blob],
+    spots: &[Spot],
+) -> Result<(), NoMemory>
+    ensures { OnOk result (out.new.items
+        ≡ out.old.items ++ flat_map (label_shapes setting.now labels.now) spots.now) }
+{
+    for spot in spots {
+        put_row_label(out, setting, labels, spot)?;
+    }
+    Ok(())
+}
+
+/// Words at the left of a row.
+fn put_left(
+    out: &mut Vec<Shape>,
+    class: Class,
+    anchor: Anchor,
+    x: u32,
+    row: u16,
+    words: &[u8],
+) -> Result<(), NoMemory>
+    ensures { OnOk result (out.new.items ≡ out.old.items
+        ++ Words class anchor (point x (row_top row + 13)) words.now ∷ []) }
+{
+    let point = Point {
+        x,
+        y: row_top(row) + 13,
+    };
+    put_words(out, class, anchor, point, words)
+}
+
+/// The line of a row, and before that of a step its position.
+fn put_line(out: &mut Vec<Shape>, lines: &[Blob], spot: &Spot) -> Result<(), NoMemory>
+    ensures { OnOk result (out.new.items ≡ out.old.items ++ line_shapes lines.now spot.now) }
+{
+    let alloc = *out.allocator();
+    let words = cut(alloc, LINE_ROOM, words_at(lines, spot.row))?;
+    if spot.mark.line.place != 0 {
+        return put_left(out, Class::Effect, Anchor::Start, 60, spot.row, &words);
+    }
+    let mut number = Vec::new(alloc);
+    put_number(&mut number, spot.mark.line.step)?;
+    put_left(out, Class::Line, Anchor::End, 48, spot.row, &number)?;
+    put_left(out, Class::Line, Anchor::Start, 60, spot.row, &words)
+}
+
+/// The lines of all rows.
+pub(crate) fn put_lines(
+    out: &mut Vec<Shape>,
+    lines: &[Blob],
+    spots: &[Spot],
+) -> Result<(), NoMemory>
+    ensures { OnOk result (out.new.items
+        ≡ out.old.items ++ flat_map (line_shapes lines.now) spots.now) }
+{
+    for spot in spots {
+        put_line(out, lines, spot)?;
+    }
+    Ok(())
+}

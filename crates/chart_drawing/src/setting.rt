@@ -1,0 +1,35 @@
+//! What stands side by side in a drawing: nodes with their actors, and links.
+
+use linx_base::{Blob, LinkNo, NodeNo, Sequence};
+
+/// A node, with its name.
+#[derive(Drop)]
+pub struct DrawnNode {
+    pub node: NodeNo,
+    pub name: Blob,
+}
+
+/// A link between two nodes, with its name.
+#[derive(Drop)]
+pub struct DrawnLink {
+    pub link: LinkNo,
+    pub name: Blob,
+    pub first: NodeNo,
+    pub second: NodeNo,
+}
+
+/// An actor of a node, with its name.
+#[derive(Drop)]
+pub struct DrawnActor {
+    pub actor: u32,
+    pub node: NodeNo,
+    pub name: Blob,
+}
+
+/// What a run is laid out on. Nodes stand in the order of their numbers, and so do a node's actors.
+#[derive(Drop)]
+pub struct Setting {
+    pub nodes: Sequence<DrawnNode>,
+    pub links: Sequence<DrawnLink>,
+    pub actors: Sequence<DrawnActor>,
+}
