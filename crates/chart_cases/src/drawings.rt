@@ -46,7 +46,6 @@ fn a_chart_is_drawn(rt: HostRuntime) -> Result<(), Fail> {
     let chart = Chart {
         marks,
         ties: Sequence::new(alloc),
-        labels: Sequence::new(alloc),
         lines: Sequence::new(alloc),
     };
     let picture = draw(alloc, &setting(alloc)?, &chart)?;

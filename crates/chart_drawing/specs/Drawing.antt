@@ -34,7 +34,7 @@ back_of setting chart spots =
 -- WHAT LIES IN FRONT OF THEM: the labels, and the lines of the journal at the left
 abbrev pub front_of : Setting → Chart → List Spot → List Shape
 front_of setting chart spots =
-    flat_map (label_shapes setting chart.labels) spots ++ flat_map (line_shapes chart.lines) spots
+    flat_map (label_shapes setting chart.lines) spots ++ flat_map (line_shapes chart.lines) spots
 
 -- the picture of marks that stand at these spots
 abbrev pub picture_of : Setting → Chart → List Spot → Picture

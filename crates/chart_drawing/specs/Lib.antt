@@ -2,6 +2,7 @@ pub mod Layout
 pub mod Spots
 pub mod LifeMarks
 pub mod LaneMarks
+pub mod Labels
 pub mod Rows
 pub mod Bars
 pub mod Beside

@@ -19,6 +19,9 @@ use Rattle.chart.specs.declared.mark.MarkKind.{MarkKind}
 use Rattle.chart.specs.declared.mark.MarkKind.TheVariants as kinds
 use Rattle.chart_drawing.specs.declared.setting.Setting.{Setting}
 use Rattle.chart_drawing.specs.declared.spot.Spot.{Spot}
+use Rattle.chart.specs.declared.column.Column.{Column}
+use Rattle.chart.specs.declared.column.Column.TheVariants.{Life}
+use Rattle.chart_drawing.specs.Labels.{label_of}
 use Rattle.chart_drawing.specs.Layout.{gap, width_of}
 use Rattle.chart_drawing.specs.LifeMarks.{ring, level, upright, send_shapes, take_shape}
 use Rattle.chart_drawing.specs.LifeMarks.{none_shapes, diamond, square, struck, flat, ended, cross}
@@ -140,16 +143,21 @@ label_shape spot kinds.Gone words =
     Words (label_class kinds.Gone) (anchor_of spot.turned) (side_point spot 26) words
 label_shape spot kind words = Words (label_class kind) Start (in_cell spot 62 13) words
 
--- how many characters of a label there is room for
-abbrev pub label_room : Setting → ℕ
-label_room setting = (gap setting - 32) / 7
+-- how many characters of a label there is room for beside a column
+abbrev pub label_room : Setting → Column → ℕ
+label_room setting (Life actor) = (gap setting - 32) / 7
+label_room setting column = 13
 
--- the label of a row, where it has one
+-- a label, where it has words
+abbrev pub label_if : Setting → Spot → List ℕ → List Shape
+label_if setting spot [] = []
+label_if setting spot (b ∷ bs) =
+    label_shape spot spot.mark.kind (cut (label_room setting spot.mark.column) (b ∷ bs)) ∷ []
+
+-- the label of a row: words of its line
 abbrev pub label_shapes : Setting → List (List ℕ) → Spot → List Shape
-label_shapes setting labels spot =
-    if nat_le 1 (length (words_at labels spot.row))
-    then label_shape spot spot.mark.kind (cut (label_room setting) (words_at labels spot.row)) ∷ []
-    else []
+label_shapes setting lines spot =
+    label_if setting spot (label_of spot.mark.kind (words_at lines spot.row))
 
 -- the words of a line at the left, and before those of a step its position
 abbrev pub line_words : List (List ℕ) → Spot → List ℕ

@@ -3,16 +3,18 @@ ghost use Rattle.std.specs.Prelude.{◌≡◌, ◌≤◌, ◌++◌, [], ◌∷�
 ghost use Rattle.std.specs.Prelude.{◌+◌};
 ghost use Rattle.svg_text.specs.declared.shape.Shape.TheVariants.{Words};
 ghost use Rattle.chart_drawing.specs.Rows.{cut, anchor_of, side_point, lane_words, label_class};
-ghost use Rattle.chart_drawing.specs.Rows.{packet_label, label_shape, label_room, label_shapes};
+ghost use Rattle.chart_drawing.specs.Rows.{packet_label, label_shape, label_room, label_if};
+ghost use Rattle.chart_drawing.specs.Rows.{label_shapes};
 ghost use Rattle.chart_drawing.specs.Rows.{line_shapes, line_words};
 ghost use Rattle.chart_drawing.specs.Spots.{point, row_top};
 
 use crate::cells::{in_cell, in_lane, put_words, row_top};
+use crate::labels::label_of;
 use crate::layout::gap;
 use crate::rows::{put_bytes, put_number, words_at};
 use crate::setting::Setting;
 use crate::spot::Spot;
-use chart::MarkKind;
+use chart::{Column, MarkKind};
 use journal::SentTo;
 use linx_base::{Blob, NoMemory, Verdict};
 use std::alloc::Global;
@@ -134,51 +136,60 @@ fn put_label(
     }
 }
 
-/// How many characters of a label there is room for.
-fn label_room(setting: &Setting) -> usize
-    ensures room { result ≡ label_room setting.now }
+/// How many characters of a label there is room for beside a column.
+fn label_room(setting: &Setting, column: Column) -> usize
+    ensures room { result ≡ label_room setting.now column }
     ensures some { 2 ≤ result }
 {
-    let actors = setting.actors.len();
-    if actors <= 6 {
-        19
-    } else if actors <= 12 {
-        12
-    } else {
-        7
+    match column {
+        Column::Life(_) => (gap(setting) as usize - 32) / 7,
+        _ => 13,
     }
 }
 
-/// The label of a row, where it has one.
-fn put_row_label(
+/// A label, where it has words.
+fn put_label_if(
     out: &mut Vec<Shape>,
     setting: &Setting,
-    labels: &[Blob],
     spot: &Spot,
+    words: &[u8],
 ) -> Result<(), NoMemory>
     ensures { OnOk result (out.new.items
-        ≡ out.old.items ++ label_shapes setting.now labels.now spot.now) }
+        ≡ out.old.items ++ label_if setting.now spot.now words.now) }
 {
-    let words = words_at(labels, spot.row);
     if words.is_empty() {
         return Ok(());
     }
-    let words = cut(*out.allocator(), label_room(setting), words)?;
+    let words = cut(*out.allocator(), label_room(setting, spot.mark.column), words)?;
     put_label(out, spot, spot.mark.kind, &words)
+}
+
+/// The label of a row.
+fn put_row_label(
+    out: &mut Vec<Shape>,
+    setting: &Setting,
+    lines: &[Blob],
+    spot: &Spot,
+) -> Result<(), NoMemory>
+    ensures { OnOk result (out.new.items
+        ≡ out.old.items ++ label_shapes setting.now lines.now spot.now) }
+{
+    let label = label_of(*out.allocator(), spot.mark.kind, words_at(lines, spot.row))?;
+    put_label_if(out, setting, spot, &label)
 }
 
 /// The labels of all rows.
 pub(crate) fn put_labels(
     out: &mut Vec<Shape>,
     setting: &Setting,
-    labels: &[Blob],
+    lines: &[Blob],
     spots: &[Spot],
 ) -> Result<(), NoMemory>
     ensures { OnOk result (out.new.items
-        ≡ out.old.items ++ flat_map (label_shapes setting.now labels.now) spots.now) }
+        ≡ out.old.items ++ flat_map (label_shapes setting.now lines.now) spots.now) }
 {
     for spot in spots {
-        put_row_label(out, setting, labels, spot)?;
+        put_row_label(out, setting, lines, spot)?;
     }
     Ok(())
 }

@@ -26,13 +26,12 @@ use svg_text::{Picture, Shape};
 /// The most rows of a drawing.
 const ROWS_MOST: usize = 6000;
 
-/// A chart, and the words that go with it: the label of each mark and its line, in the same order.
-/// What has no words has none drawn.
+/// A chart, and the line of each mark as it is printed, that of a step without its position. A mark
+/// whose line isn't there has no words.
 #[derive(Drop)]
 pub struct Chart {
     pub marks: Sequence<Mark>,
     pub ties: Sequence<Tie>,
-    pub labels: Sequence<Blob>,
     pub lines: Sequence<Blob>,
 }
 
@@ -114,7 +113,7 @@ fn front_of(
     ensures { IfOk result (λ front. front ≡ front_of setting.now chart.now spots.now) }
 {
     let mut front = Vec::new(alloc);
-    put_labels(&mut front, setting, chart.labels.as_slice(), spots)?;
+    put_labels(&mut front, setting, chart.lines.as_slice(), spots)?;
     put_lines(&mut front, chart.lines.as_slice(), spots)?;
     Ok(Sequence::of(front))
 }

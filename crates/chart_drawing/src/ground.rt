@@ -275,14 +275,7 @@ fn name_room(setting: &Setting) -> usize
     ensures room { result ≡ name_room setting.now }
     ensures some { 2 ≤ result }
 {
-    let actors = setting.actors.len();
-    if actors <= 6 {
-        24
-    } else if actors <= 12 {
-        17
-    } else {
-        12
-    }
+    gap(setting) as usize / 7
 }
 
 /// The line of an actor, and its number and name over it.

@@ -54,7 +54,8 @@ pub(crate) fn is_right(node: u32, link: &DrawnLink) -> bool
 /// How far apart actors stand.
 pub(crate) fn gap(setting: &Setting) -> u16
     ensures gap { result ≡ gap setting.now }
-    ensures bound { result ≤ 168 }
+    ensures least { 84 ≤ result }
+    ensures most { result ≤ 168 }
 {
     let actors = setting.actors.len();
     if actors <= 6 {

@@ -13,6 +13,7 @@ mod cells;
 mod columns;
 mod drawing;
 mod ground;
+mod labels;
 mod lane_marks;
 mod layout;
 mod life_marks;

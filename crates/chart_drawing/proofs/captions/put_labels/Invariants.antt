@@ -6,4 +6,4 @@ use Rattle.chart_drawing.proofs.captions.put_labels.Given as goal
 abbrev pub invariant-loop-spot : goal.invariant-loop-spot
 invariant-loop-spot l =
     l.out.items
-    ≡ l.initial.out.items ++ flat_map (label_shapes l.setting l.labels) (take l.spot-index l.spots)
+    ≡ l.initial.out.items ++ flat_map (label_shapes l.setting l.lines) (take l.spot-index l.spots)

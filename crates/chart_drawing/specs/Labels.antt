@@ -1,0 +1,84 @@
+-- What is said beside a mark: some words of its line, by what the mark is of.
+use Rattle.std.specs.Prelude.{ℕ, zero, suc, ◌+◌, ◌==◌, Bool, if◌then◌else◌, List, [], ◌∷◌, ◌++◌}
+use Rattle.std.specs.Prelude.{take, drop, position, Option, Some, None, flat_map, codes}
+use Rattle.std.specs.Str.{bytes_eq}
+use Rattle.journal.specs.declared.head.SentTo.{SentTo}
+use Rattle.journal.specs.declared.head.SentTo.TheVariants.{Dead}
+use Rattle.linx_base.specs.declared.frame.Verdict.TheVariants.{Deliver}
+use Rattle.chart.specs.declared.mark.MarkKind.{MarkKind}
+use Rattle.chart.specs.declared.mark.MarkKind.TheVariants as kinds
+
+-- where the first space is
+abbrev pub space_in : List ℕ → Option ℕ
+space_in bytes = position (λ (b : ℕ). b == 32) bytes
+
+abbrev pub word_if : Option ℕ → List ℕ → List ℕ
+word_if None bytes = bytes
+word_if (Some k) bytes = take k bytes
+
+-- the first word: the bytes before the first space
+abbrev pub first_word : List ℕ → List ℕ
+first_word bytes = word_if (space_in bytes) bytes
+
+abbrev pub behind_if : Option ℕ → List ℕ → List ℕ
+behind_if None bytes = []
+behind_if (Some k) bytes = drop (k + 1) bytes
+
+-- what is behind the first space
+abbrev pub behind_word : List ℕ → List ℕ
+behind_word bytes = behind_if (space_in bytes) bytes
+
+-- what is behind so many words
+abbrev pub behind_words : ℕ → List ℕ → List ℕ
+behind_words zero line = line
+behind_words (suc k) line = behind_word (behind_words k line)
+
+-- the word of this number, from 0
+abbrev pub word_at : ℕ → List ℕ → List ℕ
+word_at k line = first_word (behind_words k line)
+
+-- a word behind others; a dash, which says that there are no data, is left out
+abbrev pub with_word : List ℕ → List ℕ → List ℕ
+with_word so_far word =
+    if bytes_eq word (codes "-") then so_far
+    else (if bytes_eq so_far [] then word else so_far ++ codes " " ++ word)
+
+-- these words of a line behind others, with spaces between
+abbrev pub with_words : List ℕ → List ℕ → List ℕ → List ℕ
+with_words line so_far [] = so_far
+with_words line so_far (k ∷ more) = with_words line (with_word so_far (word_at k line)) more
+
+-- which words of its line a mark shows
+unfoldable pub shown_words : MarkKind → List ℕ
+shown_words kinds.Open = 1 ∷ 2 ∷ []
+shown_words kinds.Close = 1 ∷ []
+shown_words (kinds.Send Dead) = 3 ∷ 4 ∷ 5 ∷ []
+shown_words (kinds.Send answer) = 3 ∷ 4 ∷ []
+shown_words kinds.Take = 1 ∷ 3 ∷ []
+shown_words kinds.TakeNone = 1 ∷ []
+shown_words kinds.Waits = 1 ∷ 2 ∷ []
+shown_words kinds.Hunt = 1 ∷ 2 ∷ []
+shown_words kinds.Attach = 1 ∷ 2 ∷ []
+shown_words (kinds.Detach answer) = 1 ∷ 3 ∷ []
+shown_words kinds.Cut = 1 ∷ 2 ∷ []
+shown_words kinds.Mend = 1 ∷ 2 ∷ []
+shown_words kinds.Settle = 1 ∷ 2 ∷ []
+shown_words kinds.Restart = 1 ∷ 2 ∷ []
+shown_words (kinds.Packet Deliver) = []
+shown_words (kinds.Packet verdict) = 4 ∷ []
+shown_words kinds.Tick = 1 ∷ []
+shown_words kinds.Refused = 1 ∷ 2 ∷ []
+shown_words kinds.Ended = 1 ∷ []
+shown_words kinds.Opened = 2 ∷ []
+shown_words kinds.Closed = []
+shown_words kinds.Arrived = 4 ∷ 5 ∷ []
+shown_words kinds.Found = 1 ∷ 4 ∷ []
+shown_words kinds.Notified = 4 ∷ 7 ∷ []
+shown_words kinds.Met = 1 ∷ 4 ∷ []
+shown_words kinds.Gone = 1 ∷ []
+shown_words kinds.Up = 1 ∷ 4 ∷ []
+shown_words kinds.Down = 1 ∷ 4 ∷ []
+
+-- THE LABEL OF A MARK, in words of its line
+unfoldable pub label_of : MarkKind → List ℕ → List ℕ
+label_of kind line = with_words line [] (shown_words kind)
