@@ -3,3 +3,4 @@ pub mod Own
 pub mod Answering
 pub mod Calls
 mod Newcomers
+pub mod Sending

@@ -33,11 +33,13 @@ byte_text b = if has_character b then character_text b else numbered b
 abbrev pub words_text : List ℕ → List ℕ
 words_text bytes = flat_map byte_text bytes
 
+-- where words stand at their point, by the attribute's value
 unfoldable pub anchor_name : Anchor → List ℕ
 anchor_name Start = codes "start"
 anchor_name Middle = codes "middle"
 anchor_name End = codes "end"
 
+-- a point, its two numbers with a space between
 abbrev pub point_text : Point → List ℕ
 point_text p = decimal p.x ++ codes " " ++ decimal p.y
 
@@ -49,6 +51,7 @@ stroke_text (Curve p q r) =
     codes "C" ++ point_text p ++ codes " " ++ point_text q ++ codes " " ++ point_text r
 stroke_text Close = codes "Z"
 
+-- the parts of a path, one behind the other
 abbrev pub strokes_text : List Stroke → List ℕ
 strokes_text strokes = flat_map stroke_text strokes
 
