@@ -51,7 +51,7 @@ fn behind_words(count: usize, line: &[u8]) -> &[u8]
 fn put_word(out: &mut Vec<u8>, word: &[u8]) -> Result<(), NoMemory>
     ensures { OnOk result (out.new.items ≡ with_word out.old.items word.now) }
 {
-    if word == b"-" {
+    if word == b"-".as_slice() {
         return Ok(());
     }
     if !out.is_empty() {
