@@ -1,1 +1,3 @@
 pub mod EachRow
+pub mod OneMore
+pub mod Counts

@@ -71,7 +71,7 @@ coming_if class head (Some step) to = coming_from class head step.mark.kind step
 
 -- the spot of a mark's step
 abbrev pub step_spot : List Spot → Spot → Option Spot
-step_spot spots spot = spot_at spots record { step = spot.mark.line.step; place = 0 }
+step_spot spots spot = spot_at spots (record { step = spot.mark.line.step; place = 0 })
 
 -- the arrow to what came to a queue
 abbrev pub coming : List Spot → MarkKind → Spot → List Shape

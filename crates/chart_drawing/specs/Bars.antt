@@ -45,7 +45,7 @@ reach rows from (Some to) = 18 * (to.row - from.row)
 
 abbrev pub bar : Class → Spot → ℕ → ℕ → ℕ → Shape
 bar class from left width height =
-    Box class record { corner = in_cell from left 9; width = width; height = height }
+    Box class (record { corner = in_cell from left 9; width = width; height = height })
 
 -- what lasts from a mark on, before these marks
 abbrev pub bars_at : ℕ → Spot → MarkKind → List Spot → List Shape

@@ -34,17 +34,17 @@ title_at class x y words = Words class Middle (point x y) words
 -- the ground of a node or a link
 abbrev pub ground : Class → ℕ → ℕ → ℕ → Shape
 ground class left width rows =
-    Box class record { corner = point left 66; width = width; height = 18 * rows + 28 }
+    Box class (record { corner = point left 66; width = width; height = 18 * rows + 28 })
 
 -- THE BOX OF A NODE, and its name over it
 abbrev pub node_shapes : Setting → ℕ → DrawnNode → List Shape
 node_shapes setting rows n =
     ground Node (box_left setting n.node.0) (box_width setting n.node.0) rows
-    ∷ Box NodeCaption record {
+    ∷ Box NodeCaption (record {
         corner = point (box_left setting n.node.0) 6;
         width = box_width setting n.node.0;
         height = 22;
-      }
+      })
     ∷ title_at Strong (box_left setting n.node.0 + box_width setting n.node.0 / 2) 21 n.name ∷ []
 
 -- a level or an upright line
@@ -73,11 +73,11 @@ link_shapes setting rows l =
 abbrev pub stripe_shapes : Setting → Spot → List Shape
 stripe_shapes setting spot =
     if spot.mark.line.step % 2 == 0
-    then Box Stripe record {
+    then Box Stripe (record {
       corner = point 0 (row_top spot.row);
       width = width_of setting;
       height = 18;
-    } ∷ []
+    }) ∷ []
     else []
 
 -- the actor made its last step

@@ -1,6 +1,6 @@
 -- What is said beside a mark: some words of its line, by what the mark is of.
-use Rattle.std.specs.Prelude.{ℕ, zero, suc, ◌+◌, ◌==◌, Bool, if◌then◌else◌, List, [], ◌∷◌, ◌++◌}
-use Rattle.std.specs.Prelude.{take, drop, position, Option, Some, None, flat_map, codes}
+use Rattle.std.specs.Prelude.{ℕ, zero, suc, ◌+◌, ◌==◌, if◌then◌else◌, List, [], ◌∷◌, ◌++◌}
+use Rattle.std.specs.Prelude.{length, take, drop, position, Option, Some, None, codes}
 use Rattle.std.specs.Str.{bytes_eq}
 use Rattle.journal.specs.declared.head.SentTo.{SentTo}
 use Rattle.journal.specs.declared.head.SentTo.TheVariants.{Dead}
@@ -41,7 +41,7 @@ word_at k line = first_word (behind_words k line)
 abbrev pub with_word : List ℕ → List ℕ → List ℕ
 with_word so_far word =
     if bytes_eq word (codes "-") then so_far
-    else (if bytes_eq so_far [] then word else so_far ++ codes " " ++ word)
+    else (if length so_far == 0 then word else so_far ++ codes " " ++ word)
 
 -- these words of a line behind others, with spaces between
 abbrev pub with_words : List ℕ → List ℕ → List ℕ → List ℕ

@@ -9,3 +9,4 @@ pub mod Beside
 pub mod Arrows
 pub mod Ground
 pub mod Drawing
+pub mod Failures

@@ -76,11 +76,12 @@ row_title lines spot = decimal spot.mark.line.step ++ codes " " ++ words_at line
 
 -- what lights under the pointer: the whole row
 abbrev pub hit_shape : Setting → Spot → Shape
-hit_shape setting spot = Box Hit record {
-  corner = point 0 (row_top spot.row);
-  width = width_of setting;
-  height = 18;
-}
+hit_shape setting spot =
+    Box Hit (record {
+      corner = point 0 (row_top spot.row);
+      width = width_of setting;
+      height = 18;
+    })
 
 -- THE ROW OF A MARK: its line's place and title, and its shapes
 abbrev pub row_of : Setting → List (List ℕ) → Spot → Row
@@ -150,9 +151,9 @@ label_room setting column = 13
 
 -- a label, where it has words
 abbrev pub label_if : Setting → Spot → List ℕ → List Shape
-label_if setting spot [] = []
-label_if setting spot (b ∷ bs) =
-    label_shape spot spot.mark.kind (cut (label_room setting spot.mark.column) (b ∷ bs)) ∷ []
+label_if setting spot words =
+    if length words == 0 then []
+    else label_shape spot spot.mark.kind (cut (label_room setting spot.mark.column) words) ∷ []
 
 -- the label of a row: words of its line
 abbrev pub label_shapes : Setting → List (List ℕ) → Spot → List Shape

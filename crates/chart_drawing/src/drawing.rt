@@ -46,6 +46,11 @@ pub enum DrawError {
 }
 
 impl fmt::Display for DrawError {
+    ghost use Rattle.std.specs.Prelude.{Some};
+    ghost use Rattle.chart_drawing.specs.Failures.{draw_error_text};
+
+    ghost output = { λ error. Some (draw_error_text error) };
+
     fn fmt<W: fmt::Write>(&self, f: &mut fmt::Formatter<W>) -> fmt::Result {
         f.write_str(match self {
             DrawError::TooLong => "more rows than a chart has",

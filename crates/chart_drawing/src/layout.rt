@@ -83,6 +83,7 @@ fn gaps(setting: &Setting, count: usize) -> u16
     }
 }
 
+#[tactic(auto, using(crate::proofs::Counts::filter_short))]
 fn nodes_before(setting: &Setting, node: u32) -> usize
     requires { IsNarrow setting.now }
     ensures count { result ≡ nodes_before setting.now node }
@@ -91,6 +92,7 @@ fn nodes_before(setting: &Setting, node: u32) -> usize
     setting.nodes.as_slice().iter().filter(|n| n.node.0 < node).count()
 }
 
+#[tactic(auto, using(crate::proofs::Counts::filter_short))]
 fn actors_before(setting: &Setting, node: u32) -> usize
     requires { IsNarrow setting.now }
     ensures count { result ≡ actors_before setting.now node }
@@ -99,6 +101,7 @@ fn actors_before(setting: &Setting, node: u32) -> usize
     setting.actors.as_slice().iter().filter(|a| a.node.0 < node).count()
 }
 
+#[tactic(auto, using(crate::proofs::Counts::filter_short))]
 fn actors_on(setting: &Setting, node: u32) -> usize
     requires { IsNarrow setting.now }
     ensures count { result ≡ actors_on setting.now node }
@@ -107,6 +110,7 @@ fn actors_on(setting: &Setting, node: u32) -> usize
     setting.actors.as_slice().iter().filter(|a| a.node.0 == node).count()
 }
 
+#[tactic(auto, using(crate::proofs::Counts::filter_short))]
 fn actors_left(setting: &Setting, node: u32, actor: u32) -> usize
     requires { IsNarrow setting.now }
     ensures count { result ≡ actors_left setting.now node actor }
@@ -116,6 +120,7 @@ fn actors_left(setting: &Setting, node: u32, actor: u32) -> usize
     actors.filter(|a| a.node.0 == node && a.actor < actor).count()
 }
 
+#[tactic(auto, using(crate::proofs::Counts::filter_short))]
 fn links_before(setting: &Setting, node: u32) -> usize
     requires { IsNarrow setting.now }
     ensures count { result ≡ links_before setting.now node }
@@ -124,6 +129,7 @@ fn links_before(setting: &Setting, node: u32) -> usize
     setting.links.as_slice().iter().filter(|l| later_end(l) < node).count()
 }
 
+#[tactic(auto, using(crate::proofs::Counts::filter_short))]
 fn links_to(setting: &Setting, node: u32) -> usize
     requires { IsNarrow setting.now }
     ensures count { result ≡ links_to setting.now node }
@@ -132,6 +138,7 @@ fn links_to(setting: &Setting, node: u32) -> usize
     setting.links.as_slice().iter().filter(|l| later_end(l) == node).count()
 }
 
+#[tactic(auto, using(crate::proofs::Counts::filter_short))]
 fn links_left(setting: &Setting, node: u32, link: u32) -> usize
     requires { IsNarrow setting.now }
     ensures count { result ≡ links_left setting.now node link }
