@@ -41,10 +41,10 @@ abbrev pub node_shapes : Setting → ℕ → DrawnNode → List Shape
 node_shapes setting rows n =
     ground Node (box_left setting n.node.0) (box_width setting n.node.0) rows
     ∷ Box NodeCaption (record {
-        corner = point (box_left setting n.node.0) 6;
-        width = box_width setting n.node.0;
-        height = 22;
-      })
+      corner = point (box_left setting n.node.0) 6;
+      width = box_width setting n.node.0;
+      height = 22;
+    })
     ∷ title_at Strong (box_left setting n.node.0 + box_width setting n.node.0 / 2) 21 n.name ∷ []
 
 -- a level or an upright line

@@ -48,7 +48,11 @@ fn put_way(
 ) -> Result<(), NoMemory>
     ensures { OnOk result (out.new.items ≡ out.old.items ++ way_to class from to.now bend tip ∷ []) }
 {
-    let strokes = [Stroke::Move(from), line_to(to, bend, 9), line_to(to, tip, 9)];
+    let strokes = [
+        Stroke::Move(from),
+        line_to(to, bend, 9),
+        line_to(to, tip, 9),
+    ];
     put_path(out, class, &strokes)
 }
 
@@ -97,10 +101,12 @@ const SIGNAL: Look = Look {
     line: Class::Signal,
     head: Class::SignalHead,
 };
+
 const FOUND: Look = Look {
     line: Class::Found,
     head: Class::FoundHead,
 };
+
 const NOTICE: Look = Look {
     line: Class::Notice,
     head: Class::NoticeHead,
@@ -131,7 +137,12 @@ pub(crate) fn put_signals(
     ensures { OnOk result (out.new.items ≡ out.old.items ++ signal_arrows spots.now ties.now) }
 {
     for tie in ties {
-        put_signal(out, tie.kind, spot_at(spots, tie.from), spot_at(spots, tie.to))?;
+        put_signal(
+            out,
+            tie.kind,
+            spot_at(spots, tie.from),
+            spot_at(spots, tie.to),
+        )?;
     }
     Ok(())
 }

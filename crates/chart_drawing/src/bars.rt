@@ -43,8 +43,7 @@ fn going_on_in(column: Column, spots: &[Spot]) -> Option<&Spot>
     ensures { option_copied result ≡ going_on_in column spots.now }
 {
     spots.iter().find(|s| {
-        same_column(s.mark.column, column)
-            && (s.mark.line.place == 0 || is_closing(s.mark.kind))
+        same_column(s.mark.column, column) && (s.mark.line.place == 0 || is_closing(s.mark.kind))
     })
 }
 
@@ -86,25 +85,41 @@ fn put_bar(
 }
 
 /// What lasts from a mark on, before further marks.
-fn put_bars_at(
-    out: &mut Vec<Shape>,
-    rows: u16,
-    from: &Spot,
-    more: &[Spot],
-) -> Result<(), NoMemory>
+fn put_bars_at(out: &mut Vec<Shape>, rows: u16, from: &Spot, more: &[Spot]) -> Result<(), NoMemory>
     ensures { OnOk result (out.new.items
         ≡ out.old.items ++ bars_at rows from.now from.now.mark.kind more.now) }
 {
     let column = from.mark.column;
     match from.mark.kind {
         MarkKind::Opened => {
-            put_bar(out, Class::Bar, from, 27, 10, reach(rows, from, closing_in(column, more)))
+            put_bar(
+                out,
+                Class::Bar,
+                from,
+                27,
+                10,
+                reach(rows, from, closing_in(column, more)),
+            )
         }
         MarkKind::Waits => {
-            put_bar(out, Class::Wait, from, 28, 8, reach(rows, from, going_on_in(column, more)))
+            put_bar(
+                out,
+                Class::Wait,
+                from,
+                28,
+                8,
+                reach(rows, from, going_on_in(column, more)),
+            )
         }
         MarkKind::Up => {
-            put_bar(out, Class::Session, from, 13, 6, reach(rows, from, down_in(column, more)))
+            put_bar(
+                out,
+                Class::Session,
+                from,
+                13,
+                6,
+                reach(rows, from, down_in(column, more)),
+            )
         }
         _ => Ok(()),
     }

@@ -45,7 +45,9 @@ fn are_together(right: bool, from: &Spot, to: &Spot, other: &Loop) -> bool
 fn meets(right: bool, from: &Spot, to: &Spot, out: u8, loops: &[Loop]) -> bool
     ensures { result ≡ meets right from.now to.now out loops.now }
 {
-    loops.iter().any(|l| l.out == out && are_together(right, from, to, l))
+    loops
+        .iter()
+        .any(|l| l.out == out && are_together(right, from, to, l))
 }
 
 /// How far from the line a loop stands.
@@ -104,7 +106,12 @@ fn loops_of(alloc: Global, spots: &[Spot], ties: &[Tie]) -> Result<Vec<Loop>, No
 {
     let mut loops = Vec::new(alloc);
     for tie in ties {
-        put_loop(&mut loops, tie.kind, spot_at(spots, tie.from), spot_at(spots, tie.to))?;
+        put_loop(
+            &mut loops,
+            tie.kind,
+            spot_at(spots, tie.from),
+            spot_at(spots, tie.to),
+        )?;
     }
     Ok(loops)
 }
@@ -173,11 +180,7 @@ fn put_loop_shapes(out: &mut Vec<Shape>, loops: &[Loop]) -> Result<(), NoMemory>
 }
 
 /// The ties that are drawn beside lines.
-pub(crate) fn put_loops(
-    out: &mut Vec<Shape>,
-    spots: &[Spot],
-    ties: &[Tie],
-) -> Result<(), NoMemory>
+pub(crate) fn put_loops(out: &mut Vec<Shape>, spots: &[Spot], ties: &[Tie]) -> Result<(), NoMemory>
     ensures { OnOk result (out.new.items
         ≡ out.old.items ++ map loop_shape (loops_with spots.now [] ties.now)) }
 {

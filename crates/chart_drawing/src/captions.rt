@@ -42,11 +42,7 @@ pub(crate) fn cut(alloc: Global, most: usize, words: &[u8]) -> Result<Vec<u8>, N
 fn anchor_of(turned: bool) -> Anchor
     ensures { result ≡ anchor_of turned }
 {
-    if turned {
-        Anchor::End
-    } else {
-        Anchor::Start
-    }
+    if turned { Anchor::End } else { Anchor::Start }
 }
 
 /// Where the label of a mark on a rail stands.
@@ -71,7 +67,13 @@ fn put_lane_words(
     ensures { OnOk result (out.new.items
         ≡ out.old.items ++ lane_words spot.now along class words.now ∷ []) }
 {
-    put_words(out, class, anchor_of(spot.turned), in_lane(spot, along, 13), words)
+    put_words(
+        out,
+        class,
+        anchor_of(spot.turned),
+        in_lane(spot, along, 13),
+        words,
+    )
 }
 
 /// How a label looks.
@@ -105,7 +107,13 @@ fn put_packet_label(
         Verdict::Deliver => put_lane_words(out, spot, 88, Class::Label, words),
         Verdict::Lose => put_lane_words(out, spot, 88, Class::WrongLabel, words),
         Verdict::Repeat => {
-            put_words(out, Class::Label, Anchor::Middle, in_lane(spot, 78, 13), words)
+            put_words(
+                out,
+                Class::Label,
+                Anchor::Middle,
+                in_lane(spot, 78, 13),
+                words,
+            )
         }
         Verdict::Swap(_) => put_lane_words(out, spot, 84, Class::Label, words),
     }
@@ -132,7 +140,13 @@ fn put_label(
             side_point(spot, 26),
             words,
         ),
-        _ => put_words(out, label_class(kind), Anchor::Start, in_cell(spot, 62, 13), words),
+        _ => put_words(
+            out,
+            label_class(kind),
+            Anchor::Start,
+            in_cell(spot, 62, 13),
+            words,
+        ),
     }
 }
 
@@ -160,7 +174,11 @@ fn put_label_if(
     if words.is_empty() {
         return Ok(());
     }
-    let words = cut(*out.allocator(), label_room(setting, spot.mark.column), words)?;
+    let words = cut(
+        *out.allocator(),
+        label_room(setting, spot.mark.column),
+        words,
+    )?;
     put_label(out, spot, spot.mark.kind, &words)
 }
 

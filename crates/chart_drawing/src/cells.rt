@@ -10,6 +10,7 @@ use svg_text::{Anchor, Area, Class, Point, Shape, Stroke};
 
 /// Where the first row begins, and how high a row is.
 const HEAD: u32 = 78;
+
 const ROW: u32 = 18;
 
 /// How wide a lane is.

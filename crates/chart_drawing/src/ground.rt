@@ -160,7 +160,13 @@ fn put_link(
 {
     let left = lane_left(setting, link);
     put_ground(out, Class::Lane, left, 156, rows)?;
-    put_title(out, Class::Strong, u32::from(left) + 78, 21, link.name.bytes())?;
+    put_title(
+        out,
+        Class::Strong,
+        u32::from(left) + 78,
+        21,
+        link.name.bytes(),
+    )?;
     put_rail(out, setting, rows, earlier_end(link), left + 24)?;
     put_rail(out, setting, rows, later_end(link), left + 132)
 }
@@ -264,7 +270,13 @@ fn put_life(
 {
     match first {
         Some(first) => {
-            put_straight(out, Class::Life, x, row_top(first.row) + 9, end_of(rows, last))
+            put_straight(
+                out,
+                Class::Life,
+                x,
+                row_top(first.row) + 9,
+                end_of(rows, last),
+            )
         }
         None => Ok(()),
     }

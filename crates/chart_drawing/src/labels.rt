@@ -79,11 +79,8 @@ fn shown_words(kind: MarkKind) -> &'static [u8]
         MarkKind::Packet(Verdict::Deliver) | MarkKind::Closed => &[],
         MarkKind::Opened => &[2],
         MarkKind::Packet(_) => &[4],
-        MarkKind::Close
-        | MarkKind::TakeNone
-        | MarkKind::Tick
-        | MarkKind::Ended
-        | MarkKind::Gone => &[1],
+        MarkKind::Close | MarkKind::TakeNone | MarkKind::Tick | MarkKind::Ended | MarkKind::Gone =>
+            &[1],
         MarkKind::Take | MarkKind::Detach(_) => &[1, 3],
         MarkKind::Found | MarkKind::Met | MarkKind::Up | MarkKind::Down => &[1, 4],
         MarkKind::Send(SentTo::Dead) => &[3, 4, 5],

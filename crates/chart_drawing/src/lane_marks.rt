@@ -71,9 +71,17 @@ fn put_swapped(out: &mut Vec<Shape>, spot: &Spot) -> Result<(), NoMemory>
 {
     let strokes = [
         lane_move(spot, 28, 5),
-        Stroke::Curve(in_lane(spot, 78, 5), in_lane(spot, 58, 13), in_lane(spot, 78, 13)),
+        Stroke::Curve(
+            in_lane(spot, 78, 5),
+            in_lane(spot, 58, 13),
+            in_lane(spot, 78, 13),
+        ),
         lane_move(spot, 28, 13),
-        Stroke::Curve(in_lane(spot, 78, 13), in_lane(spot, 58, 5), in_lane(spot, 78, 5)),
+        Stroke::Curve(
+            in_lane(spot, 78, 13),
+            in_lane(spot, 58, 5),
+            in_lane(spot, 78, 5),
+        ),
     ];
     put_path(out, Class::Told, &strokes)
 }

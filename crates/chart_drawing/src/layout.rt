@@ -89,7 +89,12 @@ fn nodes_before(setting: &Setting, node: u32) -> usize
     ensures count { result ≡ nodes_before setting.now node }
     ensures bound { result ≤ 64 }
 {
-    setting.nodes.as_slice().iter().filter(|n| n.node.0 < node).count()
+    setting
+        .nodes
+        .as_slice()
+        .iter()
+        .filter(|n| n.node.0 < node)
+        .count()
 }
 
 #[tactic(auto, using(crate::proofs::Counts::filter_short))]
@@ -98,7 +103,12 @@ fn actors_before(setting: &Setting, node: u32) -> usize
     ensures count { result ≡ actors_before setting.now node }
     ensures bound { result ≤ 64 }
 {
-    setting.actors.as_slice().iter().filter(|a| a.node.0 < node).count()
+    setting
+        .actors
+        .as_slice()
+        .iter()
+        .filter(|a| a.node.0 < node)
+        .count()
 }
 
 #[tactic(auto, using(crate::proofs::Counts::filter_short))]
@@ -107,7 +117,12 @@ fn actors_on(setting: &Setting, node: u32) -> usize
     ensures count { result ≡ actors_on setting.now node }
     ensures bound { result ≤ 64 }
 {
-    setting.actors.as_slice().iter().filter(|a| a.node.0 == node).count()
+    setting
+        .actors
+        .as_slice()
+        .iter()
+        .filter(|a| a.node.0 == node)
+        .count()
 }
 
 #[tactic(auto, using(crate::proofs::Counts::filter_short))]
@@ -117,7 +132,9 @@ fn actors_left(setting: &Setting, node: u32, actor: u32) -> usize
     ensures bound { result ≤ 64 }
 {
     let actors = setting.actors.as_slice().iter();
-    actors.filter(|a| a.node.0 == node && a.actor < actor).count()
+    actors
+        .filter(|a| a.node.0 == node && a.actor < actor)
+        .count()
 }
 
 #[tactic(auto, using(crate::proofs::Counts::filter_short))]
@@ -126,7 +143,12 @@ fn links_before(setting: &Setting, node: u32) -> usize
     ensures count { result ≡ links_before setting.now node }
     ensures bound { result ≤ 64 }
 {
-    setting.links.as_slice().iter().filter(|l| later_end(l) < node).count()
+    setting
+        .links
+        .as_slice()
+        .iter()
+        .filter(|l| later_end(l) < node)
+        .count()
 }
 
 #[tactic(auto, using(crate::proofs::Counts::filter_short))]
@@ -135,7 +157,12 @@ fn links_to(setting: &Setting, node: u32) -> usize
     ensures count { result ≡ links_to setting.now node }
     ensures bound { result ≤ 64 }
 {
-    setting.links.as_slice().iter().filter(|l| later_end(l) == node).count()
+    setting
+        .links
+        .as_slice()
+        .iter()
+        .filter(|l| later_end(l) == node)
+        .count()
 }
 
 #[tactic(auto, using(crate::proofs::Counts::filter_short))]
@@ -145,7 +172,9 @@ fn links_left(setting: &Setting, node: u32, link: u32) -> usize
     ensures bound { result ≤ 64 }
 {
     let links = setting.links.as_slice().iter();
-    links.filter(|l| later_end(l) == node && l.link.0 < link).count()
+    links
+        .filter(|l| later_end(l) == node && l.link.0 < link)
+        .count()
 }
 
 /// Where what belongs to a node begins.
