@@ -45,7 +45,8 @@ node_shapes setting rows n =
       width = box_width setting n.node.0;
       height = 22;
     })
-    ∷ title_at Strong (box_left setting n.node.0 + box_width setting n.node.0 / 2) 21 n.name ∷ []
+    ∷ title_at Strong (box_left setting n.node.0 + box_width setting n.node.0 / 2) 21
+    (codes "node " ++ n.name) ∷ []
 
 -- a level or an upright line
 abbrev pub straight : Class → ℕ → ℕ → ℕ → Shape
@@ -65,7 +66,7 @@ rail_shapes setting rows node x =
 abbrev pub link_shapes : Setting → ℕ → DrawnLink → List Shape
 link_shapes setting rows l =
     ground Lane (lane_left setting l) 156 rows
-    ∷ title_at Strong (lane_left setting l + 78) 21 l.name
+    ∷ title_at Strong (lane_left setting l + 78) 21 (codes "link " ++ l.name)
     ∷ (rail_shapes setting rows (earlier_end l) (lane_left setting l + 24)
     ++ rail_shapes setting rows (later_end l) (lane_left setting l + 132))
 

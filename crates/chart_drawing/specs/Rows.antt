@@ -146,7 +146,7 @@ label_shape spot kind words = Words (label_class kind) Start (in_cell spot 62 13
 
 -- how many characters of a label there is room for beside a column
 abbrev pub label_room : Setting → Column → ℕ
-label_room setting (Life actor) = (gap setting - 32) / 7
+label_room setting (Life actor) = (gap setting - 46) / 7
 label_room setting column = 13
 
 -- a label, where it has words

@@ -156,7 +156,7 @@ fn label_room(setting: &Setting, column: Column) -> usize
     ensures some { 2 ≤ result }
 {
     match column {
-        Column::Life(_) => (gap(setting) as usize - 32) / 7,
+        Column::Life(_) => (gap(setting) as usize - 46) / 7,
         _ => 13,
     }
 }

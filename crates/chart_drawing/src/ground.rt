@@ -18,6 +18,7 @@ use crate::setting::{DrawnActor, DrawnLink, DrawnNode, Setting};
 use crate::spot::{Spot, same_column};
 use chart::{Column, MarkKind};
 use linx_base::NoMemory;
+use std::alloc::Global;
 use svg_text::{Anchor, Area, Class, Point, Shape, Stroke};
 
 /// The foot of lines that nothing ends.
@@ -61,6 +62,16 @@ fn put_ground(
     put_box(out, class, area)
 }
 
+/// What something is, and its name behind that.
+fn kind_and_name(alloc: Global, kind: &[u8], name: &[u8]) -> Result<Vec<u8>, NoMemory>
+    ensures { IfOk result (λ words. words.items ≡ kind.now ++ name.now) }
+{
+    let mut words = Vec::new(alloc);
+    put_bytes(&mut words, kind)?;
+    put_bytes(&mut words, name)?;
+    Ok(words)
+}
+
 /// The box of a node, and its name over it.
 fn put_node(
     out: &mut Vec<Shape>,
@@ -85,7 +96,8 @@ fn put_node(
     };
     put_box(out, Class::NodeCaption, caption)?;
     let middle = u32::from(left) + u32::from(width / 2);
-    put_title(out, Class::Strong, middle, 21, node.name.bytes())
+    let words = kind_and_name(*out.allocator(), b"node ", node.name.bytes())?;
+    put_title(out, Class::Strong, middle, 21, &words)
 }
 
 pub(crate) fn put_nodes(
@@ -160,13 +172,8 @@ fn put_link(
 {
     let left = lane_left(setting, link);
     put_ground(out, Class::Lane, left, 156, rows)?;
-    put_title(
-        out,
-        Class::Strong,
-        u32::from(left) + 78,
-        21,
-        link.name.bytes(),
-    )?;
+    let words = kind_and_name(*out.allocator(), b"link ", link.name.bytes())?;
+    put_title(out, Class::Strong, u32::from(left) + 78, 21, &words)?;
     put_rail(out, setting, rows, earlier_end(link), left + 24)?;
     put_rail(out, setting, rows, later_end(link), left + 132)
 }
