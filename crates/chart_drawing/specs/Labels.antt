@@ -3,8 +3,9 @@ use Rattle.std.specs.Prelude.{ℕ, zero, suc, ◌+◌, ◌==◌, if◌then◌els
 use Rattle.std.specs.Prelude.{length, take, drop, position, Option, Some, None, codes}
 use Rattle.std.specs.Str.{bytes_eq}
 use Rattle.journal.specs.declared.head.SentTo.{SentTo}
-use Rattle.journal.specs.declared.head.SentTo.TheVariants.{Dead}
-use Rattle.linx_base.specs.declared.frame.Verdict.TheVariants.{Deliver}
+use Rattle.journal.specs.declared.head.SentTo.TheVariants.{Queued, Link, Dead}
+use Rattle.linx_base.specs.declared.frame.Verdict.{Verdict}
+use Rattle.linx_base.specs.declared.frame.Verdict.TheVariants.{Deliver, Lose, Repeat, Swap}
 use Rattle.chart.specs.declared.mark.MarkKind.{MarkKind}
 use Rattle.chart.specs.declared.mark.MarkKind.TheVariants as kinds
 
@@ -48,36 +49,39 @@ abbrev pub with_words : List ℕ → List ℕ → List ℕ → List ℕ
 with_words line so_far [] = so_far
 with_words line so_far (k ∷ more) = with_words line (with_word so_far (word_at k line)) more
 
+-- which words of its line a send shows: the signal, and whether its peer was dead
+abbrev pub send_words : SentTo → List ℕ
+send_words Queued = 3 ∷ 4 ∷ []
+send_words Link = 3 ∷ 4 ∷ []
+send_words Dead = 3 ∷ 4 ∷ 5 ∷ []
+
+-- which words a packet shows: what became of it, where it isn't just delivered
+abbrev pub packet_words : Verdict → List ℕ
+packet_words Deliver = []
+packet_words Lose = 4 ∷ []
+packet_words Repeat = 4 ∷ []
+packet_words (Swap place) = 4 ∷ []
+
 -- which words of its line a mark shows
 unfoldable pub shown_words : MarkKind → List ℕ
-shown_words kinds.Open = 1 ∷ 2 ∷ []
+shown_words (kinds.Send answer) = send_words answer
+shown_words (kinds.Packet verdict) = packet_words verdict
 shown_words kinds.Close = 1 ∷ []
-shown_words (kinds.Send Dead) = 3 ∷ 4 ∷ 5 ∷ []
-shown_words (kinds.Send answer) = 3 ∷ 4 ∷ []
-shown_words kinds.Take = 1 ∷ 3 ∷ []
 shown_words kinds.TakeNone = 1 ∷ []
-shown_words kinds.Waits = 1 ∷ 2 ∷ []
-shown_words kinds.Hunt = 1 ∷ 2 ∷ []
-shown_words kinds.Attach = 1 ∷ 2 ∷ []
-shown_words (kinds.Detach answer) = 1 ∷ 3 ∷ []
-shown_words kinds.Cut = 1 ∷ 2 ∷ []
-shown_words kinds.Mend = 1 ∷ 2 ∷ []
-shown_words kinds.Settle = 1 ∷ 2 ∷ []
-shown_words kinds.Restart = 1 ∷ 2 ∷ []
-shown_words (kinds.Packet Deliver) = []
-shown_words (kinds.Packet verdict) = 4 ∷ []
 shown_words kinds.Tick = 1 ∷ []
-shown_words kinds.Refused = 1 ∷ 2 ∷ []
 shown_words kinds.Ended = 1 ∷ []
+shown_words kinds.Gone = 1 ∷ []
+shown_words kinds.Take = 1 ∷ 3 ∷ []
+shown_words (kinds.Detach answer) = 1 ∷ 3 ∷ []
+shown_words kinds.Found = 1 ∷ 4 ∷ []
+shown_words kinds.Met = 1 ∷ 4 ∷ []
+shown_words kinds.Up = 1 ∷ 4 ∷ []
+shown_words kinds.Down = 1 ∷ 4 ∷ []
 shown_words kinds.Opened = 2 ∷ []
 shown_words kinds.Closed = []
 shown_words kinds.Arrived = 4 ∷ 5 ∷ []
-shown_words kinds.Found = 1 ∷ 4 ∷ []
 shown_words kinds.Notified = 4 ∷ 7 ∷ []
-shown_words kinds.Met = 1 ∷ 4 ∷ []
-shown_words kinds.Gone = 1 ∷ []
-shown_words kinds.Up = 1 ∷ 4 ∷ []
-shown_words kinds.Down = 1 ∷ 4 ∷ []
+shown_words _ = 1 ∷ 2 ∷ []
 
 -- THE LABEL OF A MARK, in words of its line
 unfoldable pub label_of : MarkKind → List ℕ → List ℕ

@@ -2,6 +2,7 @@
 use Rattle.std.specs.Prelude.{ℕ, ◌+◌, ◌-◌, ◌/◌, ◌==◌, nat_le, Bool, ◌&&◌, not, if◌then◌else◌}
 use Rattle.std.specs.Prelude.{List, [], ◌∷◌, ◌++◌, length, take, flat_map, Option, Some, None}
 use Rattle.std.specs.Prelude.{slice_get, codes, decimal, ◌≡◌, map}
+use Rattle.journal.specs.declared.head.SentTo.{SentTo}
 use Rattle.journal.specs.declared.head.SentTo.TheVariants.{Dead}
 use Rattle.linx_base.specs.declared.frame.Verdict.{Verdict}
 use Rattle.linx_base.specs.declared.frame.Verdict.TheVariants.{Deliver, Lose, Repeat, Swap}
@@ -107,9 +108,14 @@ abbrev pub lane_words : Spot → ℕ → Class → List ℕ → Shape
 lane_words spot along class words =
     Words class (anchor_of spot.turned) (in_lane spot along 13) words
 
+-- how the label of a send looks
+abbrev pub send_class : SentTo → Class
+send_class Dead = WrongLabel
+send_class _ = Label
+
 -- how a label looks: bold where something goes wrong or begins, faint where it says little
 abbrev pub label_class : MarkKind → Class
-label_class (kinds.Send Dead) = WrongLabel
+label_class (kinds.Send answer) = send_class answer
 label_class kinds.TakeNone = WrongLabel
 label_class kinds.Cut = WrongLabel
 label_class kinds.Restart = WrongLabel

@@ -3,6 +3,7 @@ ghost use Rattle.std.specs.Prelude.{◌≡◌, ◌≤◌, ◌++◌, [], ◌∷�
 ghost use Rattle.std.specs.Prelude.{◌+◌};
 ghost use Rattle.svg_text.specs.declared.shape.Shape.TheVariants.{Words};
 ghost use Rattle.chart_drawing.specs.Rows.{cut, anchor_of, side_point, lane_words, label_class};
+ghost use Rattle.chart_drawing.specs.Rows.{send_class};
 ghost use Rattle.chart_drawing.specs.Rows.{packet_label, label_shape, label_room, label_if};
 ghost use Rattle.chart_drawing.specs.Rows.{label_shapes};
 ghost use Rattle.chart_drawing.specs.Rows.{line_shapes, line_words};
@@ -76,13 +77,23 @@ fn put_lane_words(
     )
 }
 
+/// How the label of a send looks.
+fn send_class(answer: SentTo) -> Class
+    ensures { result ≡ send_class answer }
+{
+    match answer {
+        SentTo::Dead => Class::WrongLabel,
+        _ => Class::Label,
+    }
+}
+
 /// How a label looks.
 fn label_class(kind: MarkKind) -> Class
     ensures { result ≡ label_class kind }
 {
     match kind {
-        MarkKind::Send(SentTo::Dead)
-        | MarkKind::TakeNone
+        MarkKind::Send(answer) => send_class(answer),
+        MarkKind::TakeNone
         | MarkKind::Cut
         | MarkKind::Restart
         | MarkKind::Refused

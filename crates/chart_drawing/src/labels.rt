@@ -1,7 +1,8 @@
 //! What is said beside a mark: some words of its line.
 ghost use Rattle.std.specs.Prelude.{◌≡◌, ◌++◌, [], OnOk, IfOk};
 ghost use Rattle.chart_drawing.specs.Labels.{space_in, first_word, behind_word, behind_words};
-ghost use Rattle.chart_drawing.specs.Labels.{word_at, with_word, with_words, shown_words, label_of};
+ghost use Rattle.chart_drawing.specs.Labels.{word_at, with_word, with_words, send_words, packet_words};
+ghost use Rattle.chart_drawing.specs.Labels.{shown_words, label_of};
 
 use crate::rows::put_bytes;
 use chart::MarkKind;
@@ -70,21 +71,40 @@ fn put_words_of(out: &mut Vec<u8>, line: &[u8], numbers: &[u8]) -> Result<(), No
     Ok(())
 }
 
+/// Which words of its line a send shows.
+fn send_words(answer: SentTo) -> &'static [u8]
+    ensures { result.now ≡ send_words answer }
+{
+    match answer {
+        SentTo::Queued | SentTo::Link => &[3, 4],
+        SentTo::Dead => &[3, 4, 5],
+    }
+}
+
+/// Which words a packet shows.
+fn packet_words(verdict: Verdict) -> &'static [u8]
+    ensures { result.now ≡ packet_words verdict }
+{
+    match verdict {
+        Verdict::Deliver => &[],
+        Verdict::Lose | Verdict::Repeat | Verdict::Swap(_) => &[4],
+    }
+}
+
 /// Which words of its line a mark shows.
 #[tactic(auto, unfolding(crate::specs::Labels::shown_words))]
 fn shown_words(kind: MarkKind) -> &'static [u8]
     ensures { result.now ≡ shown_words kind }
 {
     match kind {
-        MarkKind::Packet(Verdict::Deliver) | MarkKind::Closed => &[],
-        MarkKind::Opened => &[2],
-        MarkKind::Packet(_) => &[4],
+        MarkKind::Send(answer) => send_words(answer),
+        MarkKind::Packet(verdict) => packet_words(verdict),
         MarkKind::Close | MarkKind::TakeNone | MarkKind::Tick | MarkKind::Ended | MarkKind::Gone =>
             &[1],
         MarkKind::Take | MarkKind::Detach(_) => &[1, 3],
         MarkKind::Found | MarkKind::Met | MarkKind::Up | MarkKind::Down => &[1, 4],
-        MarkKind::Send(SentTo::Dead) => &[3, 4, 5],
-        MarkKind::Send(_) => &[3, 4],
+        MarkKind::Opened => &[2],
+        MarkKind::Closed => &[],
         MarkKind::Arrived => &[4, 5],
         MarkKind::Notified => &[4, 7],
         _ => &[1, 2],
