@@ -1,6 +1,6 @@
 -- What lies beside a line: to the right what is in a queue, from its arrival to its take; to the left
 -- what was asked for, from a hunt or an attach to its answer, or to the detach.
-use Rattle.std.specs.Prelude.{ℕ, ◌+◌, ◌-◌, ◌==◌, nat_lt, Bool, true, false, ◌&&◌, if◌then◌else◌}
+use Rattle.std.specs.Prelude.{ℕ, ◌+◌, ◌-◌, ◌==◌, nat_lt, Bool, true, false, not, ◌&&◌, if◌then◌else◌}
 use Rattle.std.specs.Prelude.{List, [], ◌∷◌, ◌++◌, Option, Some, None}
 use Rattle.std.specs.List.{list_any}
 use Rattle.svg_text.specs.declared.class.Class.{Class}
@@ -23,10 +23,14 @@ abbrev pub is_taken : TieKind → Bool
 is_taken Taken = true
 is_taken _ = false
 
+-- a tie is drawn on this side: to the right or to the left
+abbrev pub is_on_side : Bool → TieKind → Bool
+is_on_side right kind = if right then is_taken kind else not (is_taken kind)
+
 -- two loops of one side and line are both in some row
 abbrev pub are_together : Bool → Spot → Spot → Loop → Bool
 are_together right from to other =
-    (is_taken other.kind == right) && same_column other.from.mark.column from.mark.column
+    is_on_side right other.kind && same_column other.from.mark.column from.mark.column
     && nat_lt other.from.row to.row && nat_lt from.row other.to.row
 
 -- a loop would meet another one so far from the line

@@ -1,7 +1,7 @@
 //! What lies beside a line: what is in a queue, and what was asked for.
 ghost use Rattle.std.specs.Prelude.{◌≡◌, ◌++◌, [], ◌∷◌, flat_map, map, OnOk, IfOk};
 ghost use Rattle.std.specs.Option.{option_copied};
-ghost use Rattle.chart_drawing.specs.Beside.{is_taken, are_together, meets, free_out, loop_of};
+ghost use Rattle.chart_drawing.specs.Beside.{is_taken, is_on_side, are_together, meets, free_out, loop_of};
 ghost use Rattle.chart_drawing.specs.Beside.{loop_if, loops_with, queue_class, loop_class, round};
 ghost use Rattle.chart_drawing.specs.Beside.{loop_shape};
 
@@ -31,11 +31,22 @@ fn is_taken(kind: TieKind) -> bool
     }
 }
 
+/// Whether a tie is drawn on this side.
+fn is_on_side(right: bool, kind: TieKind) -> bool
+    ensures { result ≡ is_on_side right kind }
+{
+    if right {
+        is_taken(kind)
+    } else {
+        !is_taken(kind)
+    }
+}
+
 /// Whether two loops of one side and line are both in some row.
 fn are_together(right: bool, from: &Spot, to: &Spot, other: &Loop) -> bool
     ensures { result ≡ are_together right from.now to.now other.now }
 {
-    is_taken(other.kind) == right
+    is_on_side(right, other.kind)
         && same_column(other.from.mark.column, from.mark.column)
         && other.from.row < to.row
         && from.row < other.to.row

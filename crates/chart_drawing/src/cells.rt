@@ -48,9 +48,10 @@ pub(crate) fn in_lane(spot: &Spot, along: u16, down: u16) -> Point
 pub(crate) fn beside(spot: &Spot, other: &Spot, right: u16, down: u16) -> Point
     ensures { result ≡ beside spot.now other.now right down }
 {
+    let row = other.row;
     Point {
         x: u32::from(spot.x) + u32::from(right),
-        y: row_top(other.row) + u32::from(down),
+        y: row_top(row) + u32::from(down),
     }
 }
 

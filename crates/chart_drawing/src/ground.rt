@@ -1,7 +1,7 @@
 //! What a drawing stands on: the boxes of nodes, the lanes of links, and the lines of actors.
 ghost use Rattle.std.specs.Prelude.{◌≡◌, ◌≤◌, ◌++◌, [], ◌∷◌, flat_map, OnOk, IfOk, length};
 ghost use Rattle.std.specs.Option.{option_copied};
-ghost use Rattle.chart_drawing.specs.Layout.{IsNarrow};
+ghost use Rattle.chart_drawing.specs.Layout.{IsNarrow, node_of};
 ghost use Rattle.chart_drawing.specs.Ground.{foot, title_at, ground, node_shapes, straight};
 ghost use Rattle.chart_drawing.specs.Ground.{name_if, rail_shapes, link_shapes, stripe_shapes};
 ghost use Rattle.chart_drawing.specs.Ground.{is_ended, first_of, last_of, end_of, life_shapes};

@@ -3,6 +3,6 @@ use Rattle.chart_drawing.specs.Labels.{behind_words}
 use Rattle.chart_drawing.proofs.labels.behind_words.Given as goal
 
 -- what is behind the words so far is left
-abbrev pub invariant-loop-_done : goal.invariant-loop-_done
-invariant-loop-_done l =
-    l.rest ≡ behind_words l._done l.line
+abbrev pub invariant-loop-done : goal.invariant-loop-done
+invariant-loop-done l =
+    l.rest ≡ behind_words l.done l.line
