@@ -1,5 +1,5 @@
 -- EACH MARK HAS ONE ROW.
-use Rattle.std.proofs.Common.{◌≡◌, ℕ, ◌+◌, List, [], ◌∷◌, refl, ap, map}
+use Rattle.std.proofs.Common.{◌≡◌, ℕ, suc, ◌+◌, List, [], ◌∷◌, length, refl, ap, map}
 use Rattle.linx_base.specs.declared.identity.ItemAt.{ItemAt}
 use Rattle.chart.specs.declared.mark.Mark.{Mark}
 use Rattle.chart_drawing.specs.declared.setting.Setting.{Setting}
@@ -16,3 +16,9 @@ from_each setting lines row (mark ∷ more) =
 pub each_row : (setting : Setting) (lines : List (List ℕ)) (marks : List Mark)
     → RowEachMark (rows_of setting lines (spots_of setting marks)) marks
 each_row setting lines marks = from_each setting lines 0 marks
+
+-- there are as many spots as marks
+pub spots_length : (setting : Setting) (row : ℕ) (marks : List Mark)
+    → length (spots_from setting row marks) ≡ length marks
+spots_length setting row [] = refl
+spots_length setting row (mark ∷ more) = ap suc (spots_length setting (row + 1) more)
