@@ -1,3 +1,4 @@
 pub mod EachRow
 pub mod OneMore
 pub mod Counts
+pub mod Behind

@@ -38,6 +38,7 @@ fn behind_word(bytes: &[u8]) -> &[u8]
 }
 
 /// What is behind so many words.
+#[tactic(auto, using(crate::proofs::Behind::behind_next))]
 fn behind_words(count: usize, line: &[u8]) -> &[u8]
     ensures { result.now ≡ behind_words count line.now }
 {
