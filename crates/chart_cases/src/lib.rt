@@ -5,6 +5,6 @@
 #[cfg(test)]
 mod charts;
 #[cfg(test)]
-mod pictures;
-#[cfg(test)]
 mod drawings;
+#[cfg(test)]
+mod pictures;
