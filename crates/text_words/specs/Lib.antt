@@ -1,0 +1,4 @@
+pub mod Failures
+pub mod Gives
+pub mod Words
+pub mod Numbers
