@@ -20,12 +20,12 @@ use Rattle.image_laws.specs.Images.{KeepsSize, head_by, note_by}
 abbrev pub shown_most : ℕ
 shown_most = 32
 
--- WHAT IS READ of data: as many, and of short data themselves
+-- f gives WHAT IS READ of data: as many, and of short data themselves
 pub record IsImage (f : List ℕ → List ℕ) : Type 0 where
   pub sizes : KeepsSize f
   pub short : (bytes : List ℕ) → length bytes ≤ shown_most → f bytes ≡ bytes
 
--- of an effect, and below of a step
+-- what is read of an effect: its data as any others, those of a notification too
 abbrev pub image_of_effect : (List ℕ → List ℕ) → Effect → Effect
 image_of_effect f (Arrived inc peer note) = Arrived inc peer (note_by f note)
 image_of_effect f (Found inc peer note hunt) = Found inc peer (note_by f note) hunt
@@ -33,6 +33,7 @@ image_of_effect f (Notified inc peer note reference reason) =
     Notified inc peer (note_by f note) reference reason
 image_of_effect f effect = effect
 
+-- what is read of a step
 abbrev pub image_of_step : (List ℕ → List ℕ) → Step → Step
 image_of_step f s = record {
   by = s.by;
@@ -40,24 +41,25 @@ image_of_step f s = record {
   effects = map (image_of_effect f) s.effects;
 }
 
--- of a journal
+-- what is read of a journal
 abbrev pub image_of : (List ℕ → List ℕ) → List Step → List Step
 image_of f P = map (image_of_step f) P
 
--- the signal of the attach that a step begins
+-- the signal of the attach that a head makes
 abbrev pub attach_in_head : Head → Option SigNote
 attach_in_head (Attach peer note) = Some note
 attach_in_head _ = None
 
+-- the signal of the attach that a step makes, where there is one
 abbrev pub attach_in_step : Option Step → Option SigNote
 attach_in_step None = None
 attach_in_step (Some s) = attach_in_head s.head
 
--- by its position
+-- the signal of the attach that the step at this position makes
 abbrev pub attached_at : List Step → ℕ → Option SigNote
 attached_at R k = attach_in_step (step_at R k)
 
--- The data can be those of a notification of the attach, for this reason: they are one more, and
+-- the data can be those of a notification of the attach, for this reason: they are one more, and
 -- where the attach's are known whole, they are what is read of those with the byte of the reason
 abbrev pub can_tell : (List ℕ → List ℕ) → Reason → SigNote → List ℕ → Bool
 can_tell f reason attach bytes =
@@ -73,13 +75,13 @@ told_note f reason (Some attach) note =
     then record note { bytes = (with_reason reason attach).bytes }
     else note
 
--- in an effect of a history, of which the newest step is its own
+-- an effect with what its attach tells of it, in a history of which the newest step is its own
 abbrev pub told_effect : (List ℕ → List ℕ) → List Step → Effect → Effect
 told_effect f R (Notified inc peer note reference reason) =
     Notified inc peer (told_note f reason (attached_at R reference.0) note) reference reason
 told_effect f R effect = effect
 
--- in a journal
+-- a journal with WHAT ITS ATTACHES TELL of its notifications
 abbrev pub told_of : (List ℕ → List ℕ) → List Step → List Step
 told_of f [] = []
 told_of f (s ∷ R) =
@@ -96,14 +98,15 @@ pub data IsNotice (f : List ℕ → List ℕ) (reason : Reason) (attach note : S
   hidden : note.number ≡ attach.number → length note.bytes ≡ length attach.bytes + 1
       → shown_most < length attach.bytes → IsNotice f reason attach note
 
--- in an effect of a history, of which the newest step is its own
+-- an effect of a history of which the newest step is its own: where it notifies, its signal is that
+-- of an attach
 abbrev pub IsNoticed : (List ℕ → List ℕ) → List Step → Effect → Type 0
 IsNoticed f R (Notified inc peer note reference reason) =
     (attach : SigNote)
     × ((attached_at R reference.0 ≡ Some attach) × IsNotice f reason attach note)
 IsNoticed f R _ = Unit {0}
 
--- in each effect of a journal
+-- each notification of a journal has the signal of its attach, as far as what is read can tell
 abbrev pub AllNoticed : (List ℕ → List ℕ) → List Step → Type 0
 AllNoticed f [] = Unit {0}
 AllNoticed f (s ∷ R) = AllNoticed f R × AllByRecursion (IsNoticed f (s ∷ R)) s.effects
