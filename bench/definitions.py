@@ -39,6 +39,7 @@ LAYERS = [
     ("A run of a script", "actor_run stage run_orders order_rules orders"),
     ("Threads", "turn_lock linx_api workers"),
     ("The text", "journal_text report"),
+    ("A text read back", "text_words journal_words reading_laws image_laws"),
     ("A byte stream", "request_stream tcpcm_frames tcpcm_framing tcpcm_end stream_echo"),
     ("Timers, and a gateway", "deadlines linx_timers timer_laws gateway_msgs gateway_core"),
     ("The program", "command_words linx_commands"),
