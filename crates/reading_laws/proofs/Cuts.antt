@@ -1,10 +1,13 @@
 -- Where a word is cut, and what parts a text has.
-use Rattle.std.proofs.Common.{inl, inr, ◌≡◌, ℕ, suc, ◌+◌, ◌<◌, ◌≤◌, Bool, true, false, not, cond, List, [], ◌∷◌}
-use Rattle.std.proofs.Common.{◌++◌, length, take, drop, get_or, refl, sym, ap, ◌∙◌, Option, Some, None, arith}
+use Rattle.std.proofs.Common.{inl, inr, ◌≡◌, ℕ, suc, ◌+◌, ◌<◌, ◌≤◌, Bool, true, false, not, cond}
+use Rattle.std.proofs.Common.{List, [], ◌∷◌}
+use Rattle.std.proofs.Common.{◌++◌, length, take, drop, get_or, refl, sym, ap, ◌∙◌, Option, Some}
+use Rattle.std.proofs.Common.{None, arith}
 use Rattle.std.proofs.Common.{length-append, add-one}
 use Rattle.std.specs.Prelude.{◌==◌, nat_lt, position, option_map}
 use Rattle.std.specs.List.{position_or_len, list_all, onto_first}
-use Rattle.std.proofs.lemmas.Bool.{lt-ltb, le-ltb, not-true, and_parts, and_from, eq-eqb, eqb-true, both_ways}
+use Rattle.std.proofs.lemmas.Bool.{lt-ltb, le-ltb, not-true, and_parts, and_from, eq-eqb, eqb-true}
+use Rattle.std.proofs.lemmas.Bool.{both_ways}
 use Rattle.std.proofs.lemmas.Bool.{cases_Bool, not_from_false, not_from_true, cond-true, cond-false}
 use Rattle.std.proofs.lemmas.List.Quantifiers.{position-Some}
 use Rattle.std.proofs.lemmas.List.Splits.{slice_split-cons_no, slice_split-cons_yes}

@@ -1,11 +1,15 @@
 -- Data are read from their spelling alone.
-use Rattle.std.proofs.Common.{subst, inl, inr, ◌≡◌, ℕ, zero, suc, ◌+◌, ◌*◌, ◌<◌, ◌≤◌, Bool, true, false, cond, List, [], ◌∷◌}
-use Rattle.std.proofs.Common.{◌++◌, length, take, drop, get_or, replicate, refl, sym, ap, ◌∙◌, Option, Some}
+use Rattle.std.proofs.Common.{subst, inl, inr, ◌≡◌, ℕ, zero, suc, ◌+◌, ◌*◌, ◌<◌, ◌≤◌, Bool, true}
+use Rattle.std.proofs.Common.{false, cond, List, [], ◌∷◌}
+use Rattle.std.proofs.Common.{◌++◌, length, take, drop, get_or, replicate, refl, sym, ap, ◌∙◌}
+use Rattle.std.proofs.Common.{Option, Some}
 use Rattle.std.proofs.Common.{None, arith, length-append}
 use Rattle.std.specs.Prelude.{◌&&◌, ◌-◌, ◌==◌, nat_le, nat_lt, decimal, codes, Result, Ok, Err}
 use Rattle.std.specs.Str.{bytes_eq}
-use Rattle.std.proofs.lemmas.Bool.{and_parts, and_from, le-leb, leb-true, lt-leb, lt-ltb, ltb-true, eqb-true}
-use Rattle.std.proofs.lemmas.Bool.{eq-eqb, ne_eqb, cond-true, cond-false, cases_lt, false_from_ne_true}
+use Rattle.std.proofs.lemmas.Bool.{and_parts, and_from, le-leb, leb-true, lt-leb, lt-ltb, ltb-true}
+use Rattle.std.proofs.lemmas.Bool.{eqb-true}
+use Rattle.std.proofs.lemmas.Bool.{eq-eqb, ne_eqb, cond-true, cond-false, cases_lt}
+use Rattle.std.proofs.lemmas.Bool.{false_from_ne_true}
 use Rattle.std.proofs.lemmas.List.{take-append-drop, length-take-le, get_or-take, get_or_past}
 use Rattle.std.proofs.lemmas.List.{take_all, drop_all}
 use Rattle.std.proofs.Math.Seq.{take-append_seam, drop-append_seam}
@@ -17,7 +21,8 @@ use Rattle.hex.proofs.HexLemmas.{decode_of-encode_lower, decode_of-ok, length-en
 use Rattle.linx_base.specs.Content.{data_limit}
 use Rattle.linx_base.specs.SigNotes.{SigNote}
 use Rattle.text_words.specs.Numbers.{number_in, half_limit, whole_limit, u32_in}
-use Rattle.journal_words.specs.Data.{stand_in, if_spelled, hexadecimal_in, if_some, if_long, data_by}
+use Rattle.journal_words.specs.Data.{stand_in, if_spelled, hexadecimal_in, if_some, if_long}
+use Rattle.journal_words.specs.Data.{data_by}
 use Rattle.journal_words.specs.Data.{data_in, note_in}
 use Rattle.text_words.specs.Words.{cut_at}
 use Rattle.text_words.specs.Gives.{◌>>=◌}
@@ -36,7 +41,8 @@ unfolding hexadecimal_in
 hexadecimal_again bytes are few =
     let size = length-encode_with lower_digits bytes in
     let short : nat_le (length (encode_lower bytes)) 64 ≡ true = le-leb _ _ (omega (arith, size)) in
-    cond-true _ _ None short ∙ ap (if_spelled (encode_lower bytes)) (decode_of-encode_lower bytes are)
+    cond-true _ _ None short
+    ∙ ap (if_spelled (encode_lower bytes)) (decode_of-encode_lower bytes are)
     ∙ cond-true _ _ None (text_itself (encode_lower bytes))
 
 -- hexadecimal in lower case, of at most 32 bytes
@@ -128,13 +134,18 @@ bytes_of_front bytes are size i =
       | inr behind ↦ rw (get_or_past (take 32 bytes) i 0 (omega (arith, size))) (omega arith)
     ]
 
-pub data_again : (bytes : List ℕ) → IsShown bytes → data_in (data_text_by printed bytes) ≡ Some bytes
+pub data_again : (bytes : List ℕ) → IsShown bytes
+    → data_in (data_text_by printed bytes) ≡ Some bytes
 unfolding data_text_by
 data_again bytes shown =
     elim (cases_lt 0 (length bytes)) [
       | inr none ↦
           let is : bytes ≡ [] = no_bytes bytes (omega arith) in
-          subst (λ (xs : List ℕ). data_in (cond (length xs == 0) (codes "-") (cond (nat_le (length xs) 32) (encode_lower xs) (decimal (length xs) ++ codes ":" ++ encode_lower (take 32 xs)))) ≡ Some xs) (sym is) mark_again
+          subst (λ (xs : List ℕ). data_in
+          (cond (length xs == 0) (codes "-")
+          (cond (nat_le (length xs) 32) (encode_lower xs)
+          (decimal (length xs) ++ codes ":" ++ encode_lower (take 32 xs)))) ≡ Some xs)
+          (sym is) mark_again
       | inl some ↦
           let no_zero : (length bytes == 0) ≡ false = ne_eqb _ 0 (λ e. absurd (omega arith)) in
           elim (cases_lt 32 (length bytes)) [
@@ -216,11 +227,18 @@ stands : (digest : List ℕ) (size : ℕ) → IsBytes digest → length digest �
 stands digest size are whole long short =
     let filler : List ℕ = replicate (size - length digest) 255 in
     let total : length (stand_in digest size) ≡ size =
-    omega (arith, length-append digest filler, length-replicate {A = ℕ} (size - length digest) 255, whole)
+    omega (
+      arith,
+      length-append digest filler,
+      length-replicate {A = ℕ} (size - length digest) 255,
+      whole,
+    )
     in
     record {
       long = total;
-      front = ap (λ (n : ℕ). take n (digest ++ filler)) (sym whole) ∙ take-append_seam digest filler;
+      front =
+          ap (λ (n : ℕ). take n (digest ++ filler)) (sym whole)
+          ∙ take-append_seam digest filler;
       shown =
           record {
             are_bytes =
@@ -263,7 +281,9 @@ digested_found word bytes parts at h =
     let same : stand_in digest.0 size.0 ≡ bytes = cc in
     let text = long_text (stand_in digest.0 size.0) (omega (arith, is.long)) in
     subst (λ (xs : List ℕ). IsData word xs) same (record {
-      spelled = spelled_digest word digest.0 size.0 parts (stand_in digest.0 size.0) cut number.0 hex.spelled text is.long is.front;
+      spelled =
+          spelled_digest word digest.0 size.0 parts (stand_in digest.0 size.0) cut number.0
+          hex.spelled text is.long is.front;
       shown = is.shown;
     })
 

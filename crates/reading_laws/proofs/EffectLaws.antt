@@ -1,5 +1,6 @@
 -- An effect is read from its words alone.
-use Rattle.std.proofs.Common.{subst, ◌≡◌, ◌≤◌, ℕ, Bool, true, false, cond, List, [], ◌∷◌, refl, sym, ap, ◌∙◌, Option, Some, None}
+use Rattle.std.proofs.Common.{subst, ◌≡◌, ◌≤◌, ℕ, Bool, true, false, cond, List, [], ◌∷◌, refl, sym}
+use Rattle.std.proofs.Common.{ap, ◌∙◌, Option, Some, None}
 use Rattle.std.specs.Prelude.{codes, decimal}
 use Rattle.std.specs.Str.{bytes_eq}
 use Rattle.linx_base.specs.declared.identity.Session.{Session}
@@ -81,7 +82,8 @@ arrived_found names (i_word ∷ q_word ∷ number ∷ shown ∷ []) x h =
     let q_is = peer_found names q_word q.0 q.1 in
     let note_is = note_found number shown note.0 note.1 in
     let same : Arrived (record { 0 = i.0 }) q.0 note.0 ≡ x = cc in
-    subst (λ (y : Effect). IsOfEffect names (codes "arrived" ∷ i_word ∷ q_word ∷ number ∷ shown ∷ []) y) same
+    subst (λ (y : Effect). IsOfEffect names
+    (codes "arrived" ∷ i_word ∷ q_word ∷ number ∷ shown ∷ []) y) same
     (record { spelled = cc; is = (i_is.1, q_is.is, note_is.is) })
 
 found_found : (names : Names) (words : List (List ℕ)) (x : Effect)
@@ -103,7 +105,8 @@ found_found names (i_word ∷ q_word ∷ number ∷ shown ∷ r_word ∷ []) x h
     let note_is = note_found number shown note.0 note.1 in
     let r_is = reference_found r_word r.0 r.1 in
     let same : Found (record { 0 = i.0 }) q.0 note.0 r.0 ≡ x = cc in
-    subst (λ (y : Effect). IsOfEffect names (codes "found" ∷ i_word ∷ q_word ∷ number ∷ shown ∷ r_word ∷ []) y) same
+    subst (λ (y : Effect). IsOfEffect names
+    (codes "found" ∷ i_word ∷ q_word ∷ number ∷ shown ∷ r_word ∷ []) y) same
     (record { spelled = cc; is = (i_is.1, q_is.is, note_is.is, r_is.1) })
 
 notified_found : (names : Names) (words : List (List ℕ)) (x : Effect)
@@ -128,7 +131,8 @@ notified_found names (i_word ∷ q_word ∷ number ∷ shown ∷ r_word ∷ why_
     let r_is = reference_found r_word r.0 r.1 in
     let why_is = reason_found why_word why.0 why.1 in
     let same : Notified (record { 0 = i.0 }) q.0 note.0 (record { 0 = r.0 }) why.0 ≡ x = cc in
-    subst (λ (y : Effect). IsOfEffect names (codes "notified" ∷ i_word ∷ q_word ∷ number ∷ shown ∷ r_word ∷ why_word ∷ []) y) same
+    subst (λ (y : Effect). IsOfEffect names
+    (codes "notified" ∷ i_word ∷ q_word ∷ number ∷ shown ∷ r_word ∷ why_word ∷ []) y) same
     (record { spelled = cc; is = (i_is.1, q_is.is, note_is.is, r_is.1) })
 
 met_found : (names : Names) (words : List (List ℕ)) (x : Effect)
@@ -146,7 +150,8 @@ met_found names (n_word ∷ q_word ∷ called_word ∷ []) x h =
     let q_is = peer_found names q_word q.0 q.1 in
     let called_is = name_found called_word called.0 called.1 in
     let same : Met (record { 0 = n.0 }) q.0 called.0 ≡ x = cc in
-    subst (λ (y : Effect). IsOfEffect names (codes "met" ∷ n_word ∷ q_word ∷ called_word ∷ []) y) same
+    subst (λ (y : Effect). IsOfEffect names
+    (codes "met" ∷ n_word ∷ q_word ∷ called_word ∷ []) y) same
     (record { spelled = cc; is = (n_is.1, q_is.is, called_is.1) })
 
 gone_found : (names : Names) (words : List (List ℕ)) (x : Effect)
@@ -235,7 +240,8 @@ down_found names (n_word ∷ l_word ∷ own_word ∷ []) x h =
     (record { spelled = cc; is = (n_is.1, l_is.1, own_is.1) })
 
 opened_found : (names : Names) (words : List (List ℕ)) (x : Effect)
-    → made (λ n. Opened (record { 0 = n })) (only words >>= halves_in) ≡ Some x → IsOfEffect names (codes "opened" ∷ words) x
+    → made (λ n. Opened (record { 0 = n })) (only words >>= halves_in) ≡ Some x
+    → IsOfEffect names (codes "opened" ∷ words) x
 unfolding effect_words
 opened_found names [] x h = cc
 opened_found names (w ∷ more ∷ words) x h = cc
@@ -246,7 +252,8 @@ opened_found names (w ∷ []) x h =
     (record { spelled = cc; is = is.1 })
 
 closed_found : (names : Names) (words : List (List ℕ)) (x : Effect)
-    → made (λ n. Closed (record { 0 = n })) (only words >>= halves_in) ≡ Some x → IsOfEffect names (codes "closed" ∷ words) x
+    → made (λ n. Closed (record { 0 = n })) (only words >>= halves_in) ≡ Some x
+    → IsOfEffect names (codes "closed" ∷ words) x
 unfolding effect_words
 closed_found names [] x h = cc
 closed_found names (w ∷ more ∷ words) x h = cc
@@ -261,23 +268,28 @@ of_keyword : (names : Names) (first text : List ℕ) (words : List (List ℕ)) (
     → bytes_eq first text ≡ true → IsOfEffect names (text ∷ words) effect
     → IsOfEffect names (first ∷ words) effect
 of_keyword names first text words effect holds is =
-    subst (λ (w : List ℕ). IsOfEffect names (w ∷ words) effect) (sym (same_text first text holds)) is
+    subst (λ (w : List ℕ). IsOfEffect names (w ∷ words) effect)
+    (sym (same_text first text holds)) is
 
 node_effect_found : (names : Names) (first : List ℕ) (words : List (List ℕ)) (effect : Effect)
     → node_effect_in names first words ≡ Some effect → IsOfEffect names (first ∷ words) effect
 unfolding node_effect_in
 node_effect_found names first words effect h0 =
     choice (bytes_eq first (codes "met")) _ _ effect h0
-    (λ holds h. of_keyword names first (codes "met") words effect holds (met_found names words effect h))
+    (λ holds h. of_keyword names first (codes "met") words effect holds
+    (met_found names words effect h))
     (λ no0 h1.
     choice (bytes_eq first (codes "gone")) _ _ effect h1
-    (λ holds h. of_keyword names first (codes "gone") words effect holds (gone_found names words effect h))
+    (λ holds h. of_keyword names first (codes "gone") words effect holds
+    (gone_found names words effect h))
     (λ no1 h2.
     choice (bytes_eq first (codes "up")) _ _ effect h2
-    (λ holds h. of_keyword names first (codes "up") words effect holds (up_found names words effect h))
+    (λ holds h. of_keyword names first (codes "up") words effect holds
+    (up_found names words effect h))
     (λ no2 h3.
     choice (bytes_eq first (codes "down")) _ _ effect h3
-    (λ holds h. of_keyword names first (codes "down") words effect holds (down_found names words effect h))
+    (λ holds h. of_keyword names first (codes "down") words effect holds
+    (down_found names words effect h))
     (λ no3 h4.
     cc))))
 
@@ -286,18 +298,23 @@ pub effect_found : (names : Names) (first : List ℕ) (words : List (List ℕ)) 
 unfolding effect_in
 effect_found names first words effect h0 =
     choice (bytes_eq first (codes "arrived")) _ _ effect h0
-    (λ holds h. of_keyword names first (codes "arrived") words effect holds (arrived_found names words effect h))
+    (λ holds h. of_keyword names first (codes "arrived") words effect holds
+    (arrived_found names words effect h))
     (λ no0 h1.
     choice (bytes_eq first (codes "found")) _ _ effect h1
-    (λ holds h. of_keyword names first (codes "found") words effect holds (found_found names words effect h))
+    (λ holds h. of_keyword names first (codes "found") words effect holds
+    (found_found names words effect h))
     (λ no1 h2.
     choice (bytes_eq first (codes "notified")) _ _ effect h2
-    (λ holds h. of_keyword names first (codes "notified") words effect holds (notified_found names words effect h))
+    (λ holds h. of_keyword names first (codes "notified") words effect holds
+    (notified_found names words effect h))
     (λ no2 h3.
     choice (bytes_eq first (codes "opened")) _ _ effect h3
-    (λ holds h. of_keyword names first (codes "opened") words effect holds (opened_found names words effect h))
+    (λ holds h. of_keyword names first (codes "opened") words effect holds
+    (opened_found names words effect h))
     (λ no3 h4.
     choice (bytes_eq first (codes "closed")) _ _ effect h4
-    (λ holds h. of_keyword names first (codes "closed") words effect holds (closed_found names words effect h))
+    (λ holds h. of_keyword names first (codes "closed") words effect holds
+    (closed_found names words effect h))
     (λ no4 h5.
     node_effect_found names first words effect h5)))))

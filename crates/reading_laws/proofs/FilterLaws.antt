@@ -1,5 +1,6 @@
 -- Filters are read from their spelling alone.
-use Rattle.std.proofs.Common.{subst, inl, inr, ◌≡◌, ℕ, zero, suc, ◌+◌, ◌<◌, ◌≤◌, Bool, true, false, not, cond, List, [], ◌∷◌, ◌++◌}
+use Rattle.std.proofs.Common.{subst, inl, inr, ◌≡◌, ℕ, zero, suc, ◌+◌, ◌<◌, ◌≤◌, Bool, true, false}
+use Rattle.std.proofs.Common.{not, cond, List, [], ◌∷◌, ◌++◌}
 use Rattle.std.proofs.Common.{length, get_or, refl, sym, ap, ◌∙◌, Option, Some, None, arith}
 use Rattle.std.specs.Prelude.{◌==◌, codes, decimal, flat_map}
 use Rattle.std.specs.Str.{bytes_eq}
@@ -18,7 +19,8 @@ use Rattle.text_words.specs.Words.{cut_at, parts_at}
 use Rattle.journal_words.specs.Filter.{numbers_of, listed_in, filter_by, filter_in}
 use Rattle.reading_laws.specs.Forms.{AreNumbers, IsFilter}
 use Rattle.reading_laws.proofs.Tools.{bind_some, made_some, if_some_yes, same_text}
-use Rattle.reading_laws.proofs.Cuts.{lacks, class_lacks, cut_again, cut_found, split_last, split_part}
+use Rattle.reading_laws.proofs.Cuts.{lacks, class_lacks, cut_again, cut_found, split_last}
+use Rattle.reading_laws.proofs.Cuts.{split_part}
 use Rattle.reading_laws.proofs.NumberLaws.{digits_all}
 use Rattle.reading_laws.proofs.PeerLaws.{u32_again, u32_found}
 
@@ -144,11 +146,13 @@ any_again : filter_in (codes "any") ≡ Some Any
 unfolding filter_in
 any_again = refl
 
-pub filter_again : (filter : Sigsel) → IsFilter filter → filter_in (filter_text filter) ≡ Some filter
+pub filter_again : (filter : Sigsel) → IsFilter filter
+    → filter_in (filter_text filter) ≡ Some filter
 unfolding filter_text
 filter_again Any is = any_again
 filter_again (Only listed) is =
-    kind_cut (codes "only") (numbers_text listed) refl refl ∙ ap (made Only) (listed_again listed is)
+    kind_cut (codes "only") (numbers_text listed) refl refl
+    ∙ ap (made Only) (listed_again listed is)
 filter_again (Not listed) is =
     kind_cut (codes "not") (numbers_text listed) refl refl ∙ ap (made Not) (listed_again listed is)
 
@@ -192,7 +196,10 @@ parts_found word filter parts cut h =
           (sym (cond-true _ _ _ holds) ∙ h)
       | inr fails ↦
           let rest = made Not (listed_in parts.1) in
-          let chosen = if_some_yes (bytes_eq parts.0 (codes "not")) rest filter (sym (cond-false _ _ _ fails) ∙ h) in
+          let chosen =
+          if_some_yes (bytes_eq parts.0 (codes "not")) rest filter
+          (sym (cond-false _ _ _ fails) ∙ h)
+          in
           not_found word parts.1 filter
           (cut ∙ ap (λ (k : List ℕ). k ++ 58 ∷ parts.1) (same_text _ _ chosen.0)) chosen.1
     ]

@@ -15,7 +15,8 @@ use Rattle.linx_base.specs.declared.name.Names.{Names}
 use Rattle.linx_base.specs.SigNotes.{SigNote}
 use Rattle.journal.specs.declared.head.Head.{Head}
 use Rattle.journal.specs.declared.head.Head.TheVariants.{Send, Hunt, Attach, Refused}
-use Rattle.journal.specs.declared.head.Refusal.TheVariants.{IsOpen, NoPeer, NoRef, NoSignal, NotOpen}
+use Rattle.journal.specs.declared.head.Refusal.TheVariants.{IsOpen, NoPeer, NoRef, NoSignal}
+use Rattle.journal.specs.declared.head.Refusal.TheVariants.{NotOpen}
 use Rattle.journal.specs.declared.effect.Effect.{Effect}
 use Rattle.journal.specs.declared.effect.Effect.TheVariants.{Arrived, Found, Notified}
 use Rattle.journal.proofs.Lists.{all-append}

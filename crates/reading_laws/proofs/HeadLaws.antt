@@ -1,5 +1,6 @@
 -- A head is read from its words alone.
-use Rattle.std.proofs.Common.{subst, ◌≡◌, ℕ, Bool, true, false, cond, List, [], ◌∷◌, refl, sym, ap, ◌∙◌, Option, Some, None}
+use Rattle.std.proofs.Common.{subst, ◌≡◌, ℕ, Bool, true, false, cond, List, [], ◌∷◌, refl, sym, ap}
+use Rattle.std.proofs.Common.{◌∙◌, Option, Some, None}
 use Rattle.std.specs.Prelude.{codes, decimal}
 use Rattle.std.specs.Str.{bytes_eq}
 use Rattle.linx_base.specs.declared.name.Names.{Names}
@@ -79,7 +80,8 @@ send_found names (q_word ∷ number ∷ shown ∷ sent_word ∷ []) x h =
     let note_is = note_found number shown note.0 note.1 in
     let sent_is = sent_found sent_word sent.0 sent.1 in
     let same : Send q.0 note.0 sent.0 ≡ x = cc in
-    subst (λ (y : Head). IsOfHead names (codes "send" ∷ q_word ∷ number ∷ shown ∷ sent_word ∷ []) y) same
+    subst (λ (y : Head). IsOfHead names
+    (codes "send" ∷ q_word ∷ number ∷ shown ∷ sent_word ∷ []) y) same
     (record { spelled = cc; is = (q_is.is, note_is.is) })
 
 attach_found : (names : Names) (words : List (List ℕ)) (x : Head)
@@ -211,7 +213,8 @@ open_found names (w ∷ []) x h =
     (record { spelled = cc; is = is.1 })
 
 cut_found : (names : Names) (words : List (List ℕ)) (x : Head)
-    → made (λ n. Cut (record { 0 = n })) (only words >>= named_in names.links) ≡ Some x → IsOfHead names (codes "cut" ∷ words) x
+    → made (λ n. Cut (record { 0 = n })) (only words >>= named_in names.links) ≡ Some x
+    → IsOfHead names (codes "cut" ∷ words) x
 unfolding head_words
 cut_found names [] x h = cc
 cut_found names (w ∷ more ∷ words) x h = cc
@@ -222,7 +225,8 @@ cut_found names (w ∷ []) x h =
     (record { spelled = cc; is = is.1 })
 
 mend_found : (names : Names) (words : List (List ℕ)) (x : Head)
-    → made (λ n. Mend (record { 0 = n })) (only words >>= named_in names.links) ≡ Some x → IsOfHead names (codes "mend" ∷ words) x
+    → made (λ n. Mend (record { 0 = n })) (only words >>= named_in names.links) ≡ Some x
+    → IsOfHead names (codes "mend" ∷ words) x
 unfolding head_words
 mend_found names [] x h = cc
 mend_found names (w ∷ more ∷ words) x h = cc
@@ -233,7 +237,8 @@ mend_found names (w ∷ []) x h =
     (record { spelled = cc; is = is.1 })
 
 settle_found : (names : Names) (words : List (List ℕ)) (x : Head)
-    → made (λ n. Settle (record { 0 = n })) (only words >>= named_in names.links) ≡ Some x → IsOfHead names (codes "settle" ∷ words) x
+    → made (λ n. Settle (record { 0 = n })) (only words >>= named_in names.links) ≡ Some x
+    → IsOfHead names (codes "settle" ∷ words) x
 unfolding head_words
 settle_found names [] x h = cc
 settle_found names (w ∷ more ∷ words) x h = cc
@@ -244,7 +249,8 @@ settle_found names (w ∷ []) x h =
     (record { spelled = cc; is = is.1 })
 
 restart_found : (names : Names) (words : List (List ℕ)) (x : Head)
-    → made (λ n. Restart (record { 0 = n })) (only words >>= named_in names.nodes) ≡ Some x → IsOfHead names (codes "restart" ∷ words) x
+    → made (λ n. Restart (record { 0 = n })) (only words >>= named_in names.nodes) ≡ Some x
+    → IsOfHead names (codes "restart" ∷ words) x
 unfolding head_words
 restart_found names [] x h = cc
 restart_found names (w ∷ more ∷ words) x h = cc
@@ -271,7 +277,8 @@ unfolding head_words
 close_found names (w ∷ words) x h = cc
 close_found names [] x h =
     let same : Close ≡ x = cc in
-    subst (λ (y : Head). IsOfHead names (codes "close" ∷ []) y) same (record { spelled = refl; is = tt })
+    subst (λ (y : Head). IsOfHead names (codes "close" ∷ []) y) same
+    (record { spelled = refl; is = tt })
 
 ended_found : (names : Names) (words : List (List ℕ)) (x : Head)
     → alone words Ended ≡ Some x → IsOfHead names (codes "ended" ∷ words) x
@@ -279,7 +286,8 @@ unfolding head_words
 ended_found names (w ∷ words) x h = cc
 ended_found names [] x h =
     let same : Ended ≡ x = cc in
-    subst (λ (y : Head). IsOfHead names (codes "ended" ∷ []) y) same (record { spelled = refl; is = tt })
+    subst (λ (y : Head). IsOfHead names (codes "ended" ∷ []) y) same
+    (record { spelled = refl; is = tt })
 
 -- the words of a head that begin with this keyword
 of_keyword : (names : Names) (first text : List ℕ) (words : List (List ℕ)) (head : Head)
@@ -293,28 +301,36 @@ outer_head_found : (names : Names) (first : List ℕ) (words : List (List ℕ)) 
 unfolding outer_head_in
 outer_head_found names first words head h0 =
     choice (bytes_eq first (codes "wire")) _ _ head h0
-    (λ holds h. of_keyword names first (codes "wire") words head holds (wire_found names words head h))
+    (λ holds h. of_keyword names first (codes "wire") words head holds
+    (wire_found names words head h))
     (λ no0 h1.
     choice (bytes_eq first (codes "tick")) _ _ head h1
-    (λ holds h. of_keyword names first (codes "tick") words head holds (tick_found names words head h))
+    (λ holds h. of_keyword names first (codes "tick") words head holds
+    (tick_found names words head h))
     (λ no1 h2.
     choice (bytes_eq first (codes "cut")) _ _ head h2
-    (λ holds h. of_keyword names first (codes "cut") words head holds (cut_found names words head h))
+    (λ holds h. of_keyword names first (codes "cut") words head holds
+    (cut_found names words head h))
     (λ no2 h3.
     choice (bytes_eq first (codes "mend")) _ _ head h3
-    (λ holds h. of_keyword names first (codes "mend") words head holds (mend_found names words head h))
+    (λ holds h. of_keyword names first (codes "mend") words head holds
+    (mend_found names words head h))
     (λ no3 h4.
     choice (bytes_eq first (codes "settle")) _ _ head h4
-    (λ holds h. of_keyword names first (codes "settle") words head holds (settle_found names words head h))
+    (λ holds h. of_keyword names first (codes "settle") words head holds
+    (settle_found names words head h))
     (λ no4 h5.
     choice (bytes_eq first (codes "restart")) _ _ head h5
-    (λ holds h. of_keyword names first (codes "restart") words head holds (restart_found names words head h))
+    (λ holds h. of_keyword names first (codes "restart") words head holds
+    (restart_found names words head h))
     (λ no5 h6.
     choice (bytes_eq first (codes "refused")) _ _ head h6
-    (λ holds h. of_keyword names first (codes "refused") words head holds (refused_found names words head h))
+    (λ holds h. of_keyword names first (codes "refused") words head holds
+    (refused_found names words head h))
     (λ no6 h7.
     choice (bytes_eq first (codes "ended")) _ _ head h7
-    (λ holds h. of_keyword names first (codes "ended") words head holds (ended_found names words head h))
+    (λ holds h. of_keyword names first (codes "ended") words head holds
+    (ended_found names words head h))
     (λ no7 h8.
     cc))))))))
 
@@ -323,19 +339,24 @@ inner_head_found : (names : Names) (first : List ℕ) (words : List (List ℕ)) 
 unfolding inner_head_in
 inner_head_found names first words head h0 =
     choice (bytes_eq first (codes "take")) _ _ head h0
-    (λ holds h. of_keyword names first (codes "take") words head holds (take_found names words head h))
+    (λ holds h. of_keyword names first (codes "take") words head holds
+    (take_found names words head h))
     (λ no0 h1.
     choice (bytes_eq first (codes "none")) _ _ head h1
-    (λ holds h. of_keyword names first (codes "none") words head holds (none_found names words head h))
+    (λ holds h. of_keyword names first (codes "none") words head holds
+    (none_found names words head h))
     (λ no1 h2.
     choice (bytes_eq first (codes "waits")) _ _ head h2
-    (λ holds h. of_keyword names first (codes "waits") words head holds (waits_found names words head h))
+    (λ holds h. of_keyword names first (codes "waits") words head holds
+    (waits_found names words head h))
     (λ no2 h3.
     choice (bytes_eq first (codes "open")) _ _ head h3
-    (λ holds h. of_keyword names first (codes "open") words head holds (open_found names words head h))
+    (λ holds h. of_keyword names first (codes "open") words head holds
+    (open_found names words head h))
     (λ no3 h4.
     choice (bytes_eq first (codes "close")) _ _ head h4
-    (λ holds h. of_keyword names first (codes "close") words head holds (close_found names words head h))
+    (λ holds h. of_keyword names first (codes "close") words head holds
+    (close_found names words head h))
     (λ no4 h5.
     outer_head_found names first words head h5)))))
 
@@ -344,15 +365,19 @@ pub head_found : (names : Names) (first : List ℕ) (words : List (List ℕ)) (h
 unfolding head_in
 head_found names first words head h0 =
     choice (bytes_eq first (codes "send")) _ _ head h0
-    (λ holds h. of_keyword names first (codes "send") words head holds (send_found names words head h))
+    (λ holds h. of_keyword names first (codes "send") words head holds
+    (send_found names words head h))
     (λ no0 h1.
     choice (bytes_eq first (codes "hunt")) _ _ head h1
-    (λ holds h. of_keyword names first (codes "hunt") words head holds (hunt_found names words head h))
+    (λ holds h. of_keyword names first (codes "hunt") words head holds
+    (hunt_found names words head h))
     (λ no1 h2.
     choice (bytes_eq first (codes "attach")) _ _ head h2
-    (λ holds h. of_keyword names first (codes "attach") words head holds (attach_found names words head h))
+    (λ holds h. of_keyword names first (codes "attach") words head holds
+    (attach_found names words head h))
     (λ no2 h3.
     choice (bytes_eq first (codes "detach")) _ _ head h3
-    (λ holds h. of_keyword names first (codes "detach") words head holds (detach_found names words head h))
+    (λ holds h. of_keyword names first (codes "detach") words head holds
+    (detach_found names words head h))
     (λ no3 h4.
     inner_head_found names first words head h4))))

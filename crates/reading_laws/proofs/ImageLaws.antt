@@ -1,5 +1,6 @@
 -- The image of a line is printed as the line is.
-use Rattle.std.proofs.Common.{inl, inr, ◌≡◌, ℕ, ◌-◌, ◌<◌, ◌≤◌, Bool, true, false, cond, List, [], ◌∷◌, ◌++◌, length}
+use Rattle.std.proofs.Common.{inl, inr, ◌≡◌, ℕ, ◌-◌, ◌<◌, ◌≤◌, Bool, true, false, cond, List, []}
+use Rattle.std.proofs.Common.{◌∷◌, ◌++◌, length}
 use Rattle.std.proofs.Common.{take, replicate, refl, sym, ap, ◌∙◌, arith}
 use Rattle.std.specs.Prelude.{◌==◌, nat_le, codes, decimal}
 use Rattle.std.proofs.lemmas.Bool.{cases_lt, cond-true, cond-false, le-leb, lt-leb, ne_eqb}
@@ -100,7 +101,8 @@ shown_size bytes =
       | inr few ↦ ap length (shown_short bytes few)
     ]
 
-pub shown_alike : (bytes : List ℕ) → data_text_by printed (shown_of bytes) ≡ data_text_by sha256 bytes
+pub shown_alike : (bytes : List ℕ)
+    → data_text_by printed (shown_of bytes) ≡ data_text_by sha256 bytes
 shown_alike bytes =
     elim (cases_lt 32 (length bytes)) [
       | inl long ↦ ap (data_text_by printed) (shown_long bytes long) ∙ long_alike bytes long

@@ -1,5 +1,6 @@
 -- A name is read as itself, and as the number of what it names.
-use Rattle.std.proofs.Common.{◌≡◌, ℕ, zero, suc, ◌+◌, ◌<◌, ◌≤◌, Bool, true, false, List, [], ◌∷◌, ◌++◌, length}
+use Rattle.std.proofs.Common.{◌≡◌, ℕ, zero, suc, ◌+◌, ◌<◌, ◌≤◌, Bool, true, false, List, [], ◌∷◌}
+use Rattle.std.proofs.Common.{◌++◌, length}
 use Rattle.std.proofs.Common.{get_or, refl, sym, ap, ◌∙◌, Option, Some, None, arith, add-one}
 use Rattle.std.specs.Prelude.{◌&&◌, slice_get, position, nat_le, nat_lt, not, ◌==◌, decimal}
 use Rattle.std.specs.Char.{is_ascii_digit}

@@ -1,5 +1,6 @@
 -- Peers, paths, makers, positions and references are read from their spelling alone.
-use Rattle.std.proofs.Common.{subst, inl, inr, ◌≡◌, ℕ, ◌≤◌, Bool, true, false, cond, List, [], ◌∷◌, ◌++◌, refl, sym, ap, ◌∙◌}
+use Rattle.std.proofs.Common.{subst, inl, inr, ◌≡◌, ℕ, ◌≤◌, Bool, true, false, cond, List, [], ◌∷◌}
+use Rattle.std.proofs.Common.{◌++◌, refl, sym, ap, ◌∙◌}
 use Rattle.std.proofs.Common.{Option, Some, None, arith}
 use Rattle.std.specs.Prelude.{◌==◌, decimal, codes}
 use Rattle.std.specs.Char.{is_ascii_digit}
@@ -63,13 +64,16 @@ there_read : (names : Names) (link : LinkNo) (session : Session) (inc : Inc)
     → IsLink names link.0 → session.0 ≤ whole_limit → inc.0 ≤ whole_limit
     → there_by names (link_text names link.0) (halves_text session.0, halves_text inc.0)
     ≡ Some (There link session inc)
-there_read names link session inc l s i = rw (l, halves_again session.0 s, halves_again inc.0 i) refl
+there_read names link session inc l s i =
+    rw (l, halves_again session.0 s, halves_again inc.0 i) refl
 
 pub peer_again : (names : Names) (peer : Peer) → AreNames names → IsPeer names peer
     → peer_in names (peer_text names peer) ≡ Some peer
 unfolding peer_in
 peer_again names (Here inc) are is =
-    ap (peer_in names) (here_spelled names inc) ∙ ap (peer_by names (halves_text inc.0)) (cut_nowhere 58 (halves_text inc.0) (halves_lack 58 inc.0 refl is))
+    ap (peer_in names) (here_spelled names inc)
+    ∙ ap (peer_by names (halves_text inc.0))
+    (cut_nowhere 58 (halves_text inc.0) (halves_lack 58 inc.0 refl is))
     ∙ ap (made (λ n. Here (record { 0 = n }))) (halves_again inc.0 is)
 peer_again names (There link session inc) are is =
     let name = link_text names link.0 in
@@ -163,11 +167,15 @@ pub path_again : (names : Names) (path : Path) → AreNames names → IsPath nam
     → path_in names (path_text names path) ≡ Some path
 unfolding path_in
 path_again names (Local name) are is =
-    ap (path_in names) (local_spelled names name) ∙ ap (path_by names name) (cut_nowhere 47 name (bytes_lack 47 name refl (bytes_of_name name is)))
+    ap (path_in names) (local_spelled names name)
+    ∙ ap (path_by names name)
+    (cut_nowhere 47 name (bytes_lack 47 name refl (bytes_of_name name is)))
     ∙ ap (made Local) (name_again name is)
 path_again names (Over link name) are is =
     let first = link_text names link.0 in
-    let none = bytes_lack 47 first refl (bytes_of_name first (link_is_name names link.0 are is.0)) in
+    let none =
+    bytes_lack 47 first refl (bytes_of_name first (link_is_name names link.0 are is.0))
+    in
     ap (path_in names) (over_spelled names link name)
     ∙ ap (path_by names (first ++ 47 ∷ name)) (cut_again 47 first name none)
     ∙ over_read names link name is.0 is.1

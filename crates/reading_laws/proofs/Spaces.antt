@@ -1,5 +1,6 @@
 -- No word has a space or a line feed in it.
-use Rattle.std.proofs.Common.{inl, inr, ◌≡◌, ℕ, suc, ◌≤◌, Bool, true, List, [], ◌∷◌, ◌++◌, length, take, get_or, refl, ap}
+use Rattle.std.proofs.Common.{inl, inr, ◌≡◌, ℕ, suc, ◌≤◌, Bool, true, List, [], ◌∷◌, ◌++◌, length}
+use Rattle.std.proofs.Common.{take, get_or, refl, ap}
 use Rattle.std.proofs.Common.{◌∙◌, arith}
 use Rattle.std.specs.Prelude.{◌==◌, nat_le, nat_lt, codes, decimal, flat_map}
 use Rattle.std.specs.List.{list_all}
@@ -166,7 +167,8 @@ unfolding filter_text
 filter_spaces Any is = refl
 filter_spaces (Only listed) is =
     spaces-append (codes "only:") (numbers_text listed) refl (numbers_spaces listed is)
-filter_spaces (Not listed) is = spaces-append (codes "not:") (numbers_text listed) refl (numbers_spaces listed is)
+filter_spaces (Not listed) is =
+    spaces-append (codes "not:") (numbers_text listed) refl (numbers_spaces listed is)
 
 pub data_spaces : (bytes : List ℕ) → IsShown bytes
     → has_no_space (data_text_by printed bytes) ≡ true
@@ -177,7 +179,8 @@ data_spaces bytes shown =
           elim (cases_lt 32 (length bytes)) [
             | inr few ↦
                 ap has_no_space (short_text bytes some few)
-                ∙ name_bytes_spaces (encode_lower bytes) (bytes_of_hexadecimal bytes shown.are_bytes)
+                ∙ name_bytes_spaces (encode_lower bytes)
+                (bytes_of_hexadecimal bytes shown.are_bytes)
             | inl long ↦
                 let size : length (take 32 bytes) ≡ 32 =
                 length-take-le 32 bytes (omega arith)

@@ -104,7 +104,8 @@ pub record AnswersAreRead : Type 0 where
 
 -- filters are read from the words that spell them, and from no others
 abbrev pub FiltersAreRead : Type 0
-FiltersAreRead = ReadsExactly filter_in (λ filter word. IsFilter filter × (word ≡ filter_text filter))
+FiltersAreRead =
+    ReadsExactly filter_in (λ filter word. IsFilter filter × (word ≡ filter_text filter))
 
 -- the words spell the head
 abbrev pub SpellsHead : Names → Head → List (List ℕ) → Type 0

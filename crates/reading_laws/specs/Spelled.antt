@@ -16,7 +16,8 @@ use Rattle.journal.specs.declared.effect.Effect.TheVariants.{Notified, Met, Gone
 use Rattle.journal_text.specs.Values.{halves_text, node_text, link_text, peer_text, filter_text}
 use Rattle.journal_words.specs.declared.lines.Line.{Line}
 use Rattle.journal_words.specs.declared.lines.Line.TheVariants.{Made, Happened}
-use Rattle.journal_text.specs.Values.{maker_text, path_text, position_text, reference_text, side_text}
+use Rattle.journal_text.specs.Values.{maker_text, path_text, position_text, reference_text}
+use Rattle.journal_text.specs.Values.{side_text}
 use Rattle.journal_text.specs.Values.{verdict_text, reason_text, sent_text, detached_text}
 use Rattle.journal_text.specs.Values.{refusal_text}
 

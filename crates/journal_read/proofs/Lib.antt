@@ -1,0 +1,4 @@
+pub mod StepLaws
+pub mod TextLaws
+mod LogLaws
+mod PrintedLaws
