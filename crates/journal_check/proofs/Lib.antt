@@ -1,0 +1,13 @@
+pub mod Lists
+pub mod First
+pub mod Heads
+pub mod Actors
+pub mod Nodes
+pub mod Resting
+pub mod Onward
+pub mod Verdicts
+pub mod Ready
+pub mod Telling
+pub mod Whole
+pub mod Passing
+pub mod Exact

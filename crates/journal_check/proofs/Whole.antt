@@ -1,0 +1,82 @@
+-- The steps of a journal in order: what a check keeps, and its answer.
+use Rattle.std.proofs.Common.{◌≡◌, ℕ, suc, ◌+◌, ◌<◌, ◌≤◌, List, [], ◌∷◌, length, drop, Some, None}
+use Rattle.std.proofs.Common.{refl, sym, ◌∙◌, ap, subst, arith, add-one, ◌-◌}
+use Rattle.journal.specs.declared.effect.Step.{Step}
+use Rattle.journal.specs.Histories.{first_steps}
+use Rattle.journal.specs.Shapes.{Shape}
+use Rattle.journal.proofs.Openings.{IsShort}
+use Rattle.link_laws.specs.Laws.{IsLegal}
+use Rattle.journal_check.specs.Faults.{Breaks, IsFault}
+use Rattle.journal_check.specs.Tables.{AreLeft, IsReady, Known}
+use Rattle.journal_check.specs.Told.{IsToldVerdict}
+use Rattle.journal_check.specs.declared.law.Law.{Law}
+use Rattle.journal_check.proofs.Ready.{ready}
+use Rattle.journal_check.proofs.Verdicts.{verdict-broken, verdict-legal}
+
+drop-length : (xs : List Step) → drop (length xs) xs ≡ []
+drop-length [] = refl
+drop-length (x ∷ xs) = drop-length xs
+
+-- no step, and all of them
+pub first-none : (xs : List Step) → first_steps 0 xs ≡ []
+first-none xs =
+    let all : length xs - 0 ≡ length xs = omega arith in
+    ap (λ (n : ℕ). drop n xs) all ∙ drop-length xs
+
+pub first-all : (k : ℕ) (xs : List Step) → length xs ≤ k → first_steps k xs ≡ xs
+first-all k xs past =
+    let none : length xs - k ≡ 0 = omega arith in ap (λ (n : ℕ). drop n xs) none
+
+-- ONE STEP of the check
+module _ (shape : Shape) (steps : List Step) (t : Known) (done : ℕ)
+    (left : AreLeft (first_steps done steps) t) (is : t.shape ≡ shape)
+    (alone : length shape.links ≡ 0) (position : length (first_steps done steps) ≡ done)
+    (few : done < 4294967295) where
+  abbrev P : List Step
+  P = first_steps done steps
+
+  short : IsShort P
+  short = subst (λ (n : ℕ). n < 4294967295) (sym position) few
+
+  pub loop-alone : length t.shape.links ≡ 0
+  loop-alone = ap (λ (x : Shape). length x.links) is ∙ alone
+
+  pub loop-ready : IsReady t
+  loop-ready = ready P t left short
+
+  at : suc (length P) ≡ done + 1
+  at = ap suc position ∙ sym (add-one done)
+
+  module _ (s : Step) (next : first_steps (done + 1) steps ≡ s ∷ P) (new : Known) where
+    pub loop-left : IsToldVerdict t (done + 1) s new None
+        → AreLeft (first_steps (done + 1) steps) new
+    loop-left told =
+        subst (λ (Q : List Step). AreLeft Q new) (sym next)
+        (verdict-legal P t left short loop-alone s new
+        (subst (λ (k : ℕ). IsToldVerdict t k s new None) (sym at) told)).1
+
+    pub loop-shape : IsToldVerdict t (done + 1) s new None → new.shape ≡ shape
+    loop-shape told = told.1.shape ∙ is
+
+    pub loop-fault : (law : Law) → IsToldVerdict t (done + 1) s new (Some law)
+        → IsFault shape steps (record { step = done + 1; law = law })
+    loop-fault law told =
+        let back : done ≡ done + 1 - 1 = omega arith in
+        record {
+          step = s;
+          there = next ∙ ap (λ (k : ℕ). s ∷ first_steps k steps) back;
+          legal = subst (λ (k : ℕ). IsLegal shape (first_steps k steps)) back
+              (subst (λ (x : Shape). IsLegal x P) is left.legal);
+          breaks = subst (λ (k : ℕ). Breaks shape (first_steps k steps) s law) back
+              (subst (λ (x : Shape). Breaks x P s law) is
+              (verdict-broken P t left short loop-alone s new law
+              (subst (λ (k : ℕ). IsToldVerdict t k s new (Some law)) (sym at) told)));
+        }
+
+-- and at its end
+pub loop-legal : (shape : Shape) (steps : List Step) (t : Known) (done : ℕ)
+    → AreLeft (first_steps done steps) t → t.shape ≡ shape → length steps ≤ done
+    → IsLegal shape steps
+loop-legal shape steps t done left is past =
+    subst (λ (x : Shape). IsLegal x steps) is
+    (subst (IsLegal t.shape) (first-all done steps past) left.legal)

@@ -1,0 +1,6 @@
+pub mod Faults
+pub mod Standings
+pub mod Calls
+pub mod Tables
+pub mod Told
+pub mod Words

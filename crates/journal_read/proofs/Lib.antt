@@ -1,0 +1,5 @@
+pub mod StepLaws
+pub mod TextLaws
+mod LogLaws
+mod PrintedLaws
+mod AgreeLaws

@@ -1,0 +1,230 @@
+-- The logs of a run are lines, none of which announces steps.
+use Rattle.std.proofs.Common.{◌≡◌, ℕ, Bool, true, false, cond, List, [], ◌∷◌, ◌++◌}
+use Rattle.std.proofs.Common.{Option, Some, None, refl, sym, ◌∙◌, ap, append_assoc, codes, flat_map}
+use Rattle.std.specs.List.{list_any}
+use Rattle.linx_base.specs.declared.identity.Inc.{Inc}
+use Rattle.linx_base.specs.declared.name.Names.{Names}
+use Rattle.linx_base.specs.declared.name.Path.{Path}
+use Rattle.linx_base.specs.declared.name.Path.TheVariants.{Local, Over}
+use Rattle.linx_base.specs.Numbers.{node_of}
+use Rattle.journal.specs.declared.effect.Effect.{Effect}
+use Rattle.journal.specs.declared.effect.Effect.TheVariants as effects
+use Rattle.journal.specs.declared.effect.Step.{Step}
+use Rattle.journal.specs.declared.head.Head.{Head}
+use Rattle.journal.specs.declared.head.Head.TheVariants as heads
+use Rattle.journal.specs.History.{name_in, opening_name, openings, opens}
+use Rattle.journal.specs.Logs.{Log, effect_at}
+use Rattle.journal.specs.Queues.{reached_by}
+use Rattle.journal.specs.Traffic.{is_endpoint}
+use Rattle.journal_text.specs.Blocks.{effect_log, head_log, if_for, item_text, log_lines}
+use Rattle.journal_text.specs.Blocks.{log_text, logs_text, title_text}
+use Rattle.journal_text.specs.Makers.{owner_by}
+use Rattle.journal_text.specs.Values.{name_or_mark, path_text}
+use Rattle.journal_text.proofs.Lines.{IsClean, ◌+>◌, word}
+use Rattle.journal_text.proofs.Spelling.{ArePlain, detached-clean, halves-clean, link-clean}
+use Rattle.journal_text.proofs.Spelling.{name-clean, node-clean, peer_signal-clean, reason-clean}
+use Rattle.journal_text.proofs.Spelling.{sent-clean, signal-clean}
+use Rattle.text_words.specs.Words.{after}
+use Rattle.reading_laws.specs.Fits.{FitsHead}
+use Rattle.reading_laws.specs.Forms.{AreNames, IsPath}
+use Rattle.journal_read.specs.Reading.{heading}
+use Rattle.journal_read.specs.Spelled.{text_of_lines, AreLogLines}
+use Rattle.journal_read.specs.Printed.{AllFit}
+
+-- ---- texts of lines
+
+pub text_of_lines-append : (xs ys : List (List ℕ))
+    → text_of_lines (xs ++ ys) ≡ text_of_lines xs ++ text_of_lines ys
+text_of_lines-append [] ys = refl
+text_of_lines-append (x ∷ xs) ys =
+    ap (λ (t : List ℕ). x ++ 10 ∷ t) (text_of_lines-append xs ys)
+    ∙ sym (append_assoc x (10 ∷ text_of_lines xs) (text_of_lines ys))
+
+-- the text is that of lines of logs
+pub record IsLogs (text : List ℕ) : Type 0 where
+  pub lines : List (List ℕ)
+  pub are : AreLogLines lines
+  pub is : text ≡ text_of_lines lines
+
+log_lines-append : (xs ys : List (List ℕ)) → AreLogLines xs → AreLogLines ys
+    → AreLogLines (xs ++ ys)
+log_lines-append [] ys first last = last
+log_lines-append (x ∷ xs) ys first last = (first.0, log_lines-append xs ys first.1 last)
+
+logs-none : IsLogs []
+logs-none = record { lines = []; are = tt; is = refl }
+
+logs-both : {a b : List ℕ} → IsLogs a → IsLogs b → IsLogs (a ++ b)
+logs-both {a} {b} first second = record {
+  lines = first.lines ++ second.lines;
+  are = log_lines-append first.lines second.lines first.are second.are;
+  is =
+      ap (λ (t : List ℕ). t ++ b) first.is
+      ∙ ap (λ (t : List ℕ). text_of_lines first.lines ++ t) second.is
+      ∙ sym (text_of_lines-append first.lines second.lines);
+}
+
+-- a line that announces no steps
+logs-line : {line : List ℕ} → IsClean line → after heading line ≡ None
+    → IsLogs (line ++ codes "\n")
+logs-line {line} clean other = record {
+  lines = line ∷ [];
+  are = (record { one_line = clean.is; no_heading = other }, tt);
+  is = refl;
+}
+
+logs-flat : {X : Type 0} (text : X → List ℕ) → ((x : X) → IsLogs (text x)) → (xs : List X)
+    → IsLogs (flat_map text xs)
+logs-flat text each [] = logs-none
+logs-flat text each (x ∷ xs) = logs-both (each x) (logs-flat text each xs)
+
+space : IsClean (codes " ")
+space = word (codes " ") refl
+
+mark : IsClean (codes "?")
+mark = word (codes "?") refl
+
+-- ---- names
+
+-- the name that an incarnation was opened with
+named-clean : (names : Names) (head : Head) → FitsHead names head
+    → IsClean (name_or_mark (name_in head))
+named-clean names (heads.Open name) fits = name-clean name fits
+named-clean names heads.Close fits = mark
+named-clean names (heads.Send q note answer) fits = mark
+named-clean names (heads.Take f at) fits = mark
+named-clean names (heads.TakeNone f) fits = mark
+named-clean names (heads.Waits f) fits = mark
+named-clean names (heads.Hunt path note) fits = mark
+named-clean names (heads.Attach q note) fits = mark
+named-clean names (heads.Detach r answer) fits = mark
+named-clean names (heads.Cut l) fits = mark
+named-clean names (heads.Mend l) fits = mark
+named-clean names (heads.Settle l) fits = mark
+named-clean names (heads.Restart n) fits = mark
+named-clean names (heads.Wire l side verdict) fits = mark
+named-clean names (heads.Tick l side) fits = mark
+named-clean names (heads.Refused reason) fits = mark
+named-clean names heads.Ended fits = mark
+
+opened-clean : (names : Names) (P : List Step) (i : Inc) → AllFit names P
+    → IsClean (name_or_mark (opening_name P i))
+opened-clean names [] i fit = mark
+opened-clean names (s ∷ P) i fit =
+    go (list_any (opens i) s.effects) (named-clean names s.head fit.1.head)
+    (opened-clean names P i fit.0)
+  where
+    go : (b : Bool) → IsClean (name_or_mark (name_in s.head))
+        → IsClean (name_or_mark (opening_name P i))
+        → IsClean (name_or_mark (cond b (name_in s.head) (opening_name P i)))
+    go true here before = here
+    go false here before = before
+
+module _ (names : Names) (plain : ArePlain names) where
+  path-is_clean : (path : Path) → IsPath names path → IsClean (path_text names path)
+  unfolding path_text
+  path-is_clean (Local name) is = name-clean name is
+  path-is_clean (Over link name) is =
+      link-clean names plain link.0 +> word (codes "/") refl +> name-clean name is.1
+
+  -- ---- lines
+
+  item-clean : (e : Option Effect) → IsClean (item_text names e)
+  unfolding item_text
+  item-clean None = mark
+  item-clean (Some (effects.Arrived i q note)) = peer_signal-clean names plain q note
+  item-clean (Some (effects.Found i q note hunt)) = peer_signal-clean names plain q note
+  item-clean (Some (effects.Notified i q note r reason)) = peer_signal-clean names plain q note
+  item-clean (Some (effects.Opened i)) = mark
+  item-clean (Some (effects.Closed i)) = mark
+  item-clean (Some (effects.Met node q name)) = mark
+  item-clean (Some (effects.Gone node q)) = mark
+  item-clean (Some (effects.Up node l x y)) = mark
+  item-clean (Some (effects.Down node l x)) = mark
+
+  effect-logs : (e : Effect) → IsLogs (effect_log names e)
+  unfolding effect_log
+  effect-logs (effects.Closed i) = logs-line (word (codes "closed") refl) refl
+  effect-logs (effects.Arrived i q note) =
+      logs-line (word (codes "arrived ") refl +> peer_signal-clean names plain q note) refl
+  effect-logs (effects.Found i q note hunt) =
+      logs-line (word (codes "found ") refl +> peer_signal-clean names plain q note) refl
+  effect-logs (effects.Notified i q note r reason) =
+      logs-line (word (codes "notified ") refl +> peer_signal-clean names plain q note +> space
+      +> reason-clean reason) refl
+  effect-logs (effects.Opened i) = logs-none
+  effect-logs (effects.Met node q name) = logs-none
+  effect-logs (effects.Gone node q) = logs-none
+  effect-logs (effects.Up node l x y) = logs-none
+  effect-logs (effects.Down node l x) = logs-none
+
+  head-logs : (steps : List Step) (head : Head) → FitsHead names head
+      → IsLogs (head_log names steps head)
+  unfolding head_log
+  head-logs steps (heads.Send q note answer) fits =
+      logs-line (word (codes "sent ") refl +> peer_signal-clean names plain q note +> space
+      +> sent-clean answer) refl
+  head-logs steps (heads.Take f at) fits =
+      logs-line (word (codes "took ") refl +> item-clean (effect_at steps at)) refl
+  head-logs steps (heads.TakeNone f) fits = logs-line (word (codes "none") refl) refl
+  head-logs steps (heads.Hunt path note) fits =
+      logs-line (word (codes "hunt ") refl +> path-is_clean path fits.0 +> space
+      +> signal-clean note) refl
+  head-logs steps (heads.Attach q note) fits =
+      logs-line (word (codes "attach ") refl +> peer_signal-clean names plain q note) refl
+  head-logs steps (heads.Detach r answer) fits =
+      logs-line (word (codes "detach ") refl +> detached-clean answer) refl
+  head-logs steps (heads.Open name) fits = logs-none
+  head-logs steps heads.Close fits = logs-none
+  head-logs steps (heads.Waits f) fits = logs-none
+  head-logs steps (heads.Cut l) fits = logs-none
+  head-logs steps (heads.Mend l) fits = logs-none
+  head-logs steps (heads.Settle l) fits = logs-none
+  head-logs steps (heads.Restart n) fits = logs-none
+  head-logs steps (heads.Wire l side verdict) fits = logs-none
+  head-logs steps (heads.Tick l side) fits = logs-none
+  head-logs steps (heads.Refused reason) fits = logs-none
+  head-logs steps heads.Ended fits = logs-none
+
+  if_for-logs : (i : Inc) (owner : Option Inc) (bytes : List ℕ) → IsLogs bytes
+      → IsLogs (if_for i owner bytes)
+  if_for-logs i owner bytes logs = go (is_endpoint i owner)
+    where
+      go : (b : Bool) → IsLogs (cond b bytes [])
+      go true = logs
+      go false = logs-none
+
+  lines-logs : (steps P : List Step) (i : Inc) → AllFit names P
+      → IsLogs (log_lines names steps P i)
+  unfolding log_lines
+  lines-logs steps [] i fit = logs-none
+  lines-logs steps (s ∷ P) i fit =
+      logs-both
+      (logs-both (lines-logs steps P i fit.0)
+      (if_for-logs i (owner_by P s.by) (head_log names steps s.head)
+      (head-logs steps s.head fit.1.head)))
+      (logs-flat (λ (e : Effect). if_for i (reached_by e) (effect_log names e))
+      (λ e. if_for-logs i (reached_by e) (effect_log names e) (effect-logs e)) s.effects)
+
+  title-logs : (i : Inc) (name : Option (List ℕ)) → IsClean (name_or_mark name)
+      → IsLogs (title_text names i name)
+  unfolding title_text
+  title-logs i name clean =
+      logs-line (word (codes "log ") refl +> halves-clean i.0 +> space +> clean +> space
+      +> node-clean names plain (node_of i)) refl
+
+log-logs : (log : Log) → ArePlain log.names → AllFit log.names log.steps → (i : Inc)
+    → IsLogs (log_text log i)
+unfolding log_text
+log-logs log plain fit i =
+    logs-both
+    (title-logs log.names plain i (opening_name log.steps i)
+    (opened-clean log.names log.steps i fit))
+    (lines-logs log.names plain log.steps log.steps i fit)
+
+pub logs_are_logs : (log : Log) → AreNames log.names → AllFit log.names log.steps
+    → IsLogs (logs_text log)
+unfolding logs_text
+logs_are_logs log are fit =
+    logs-flat (log_text log) (log-logs log (record { nodes = are.0; links = are.1 }) fit)
+    (openings log.steps)

@@ -1,0 +1,159 @@
+//! A printed text, read line by line.
+ghost use Rattle.std.specs.Prelude.{◌≡◌, map, IfOk};
+ghost use Rattle.journal_read.specs.Reading.{unread, read_lines, read_in};
+ghost use Rattle.journal_read.specs.Results.{Reads};
+
+use crate::pending::Pending;
+use crate::unread::Unread;
+use journal::Journal;
+use linx_base::Names;
+use std::alloc::Global;
+use std::marker::Model;
+use text_words::{ReadError, behind, split_at_byte, take_last, u64_of};
+
+/// How far a text was read: how many steps it announces, once it has, and the steps so far.
+#[derive(Drop)]
+struct Reading {
+    announced: Option<u64>,
+    pending: Pending,
+}
+
+impl Model for Reading {
+    ghost use Rattle.journal_read.specs.Reading.{SoFar};
+
+    ghost Value = { SoFar };
+
+    ghost view = { λ r. record {
+      names = r.pending.names;
+      announced = r.announced;
+      steps = r.pending.steps;
+    } };
+}
+
+impl Reading {
+    ghost use Rattle.std.specs.Prelude.{◌≡◌, IfOk, Some};
+    ghost use Rattle.text_words.specs.Gives.{Gives};
+    ghost use Rattle.text_words.specs.Words.{after};
+    ghost use Rattle.journal_read.specs.Reading.{unread, heading, take_front, take_bytes};
+    ghost use Rattle.journal_read.specs.Reading.{take_line, is_whole, ended};
+    ghost use Rattle.journal_read.specs.Results.{Reads};
+
+    fn new(alloc: Global, names: Names) -> Reading
+        ensures { result ≡ unread names }
+    {
+        Reading {
+            announced: None,
+            pending: Pending::new(alloc, names),
+        }
+    }
+
+    /// Takes the line that announces so many steps as these digits spell.
+    fn announce(&mut self, digits: &[u8]) -> Result<(), ReadError>
+        ensures taken { Gives (λ _. self.new) result (take_front self.old (Some digits.now)) }
+        ensures names { self.new.names ≡ self.old.names }
+    {
+        let count = u64_of(digits)?;
+        if count == 0 {
+            return Err(ReadError::Bad);
+        }
+        self.announced = Some(count);
+        Ok(())
+    }
+
+    /// Takes a line before the steps: the one that announces them, or one of a log.
+    fn take_front(&mut self, bytes: &[u8]) -> Result<(), ReadError>
+        ensures taken { Gives (λ _. self.new) result
+            (take_front self.old (after heading bytes.now)) }
+        ensures names { self.new.names ≡ self.old.names }
+    {
+        match behind(bytes, b"journal ") {
+            None => Ok(()),
+            Some(digits) => self.announce(digits),
+        }
+    }
+
+    /// Takes a line of a step, where so many steps are announced.
+    fn take_steps(&mut self, count: u64, bytes: &[u8]) -> Result<(), ReadError>
+        ensures taken { Gives (λ _. self.new) result
+            (take_bytes self.old count bytes.now) }
+        ensures names { self.new.names ≡ self.old.names }
+    {
+        self.pending.put_bytes(bytes)?;
+        if self.pending.has_at_most(count) {
+            Ok(())
+        } else {
+            Err(ReadError::Bad)
+        }
+    }
+
+    /// Takes a line behind those that were read.
+    #[tactic(auto, unfolding(crate::specs::Reading::take_line))]
+    fn take_line(&mut self, bytes: &[u8]) -> Result<(), ReadError>
+        ensures taken { Gives (λ _. self.new) result (take_line self.old bytes.now) }
+        ensures names { self.new.names ≡ self.old.names }
+    {
+        match self.announced {
+            None => self.take_front(bytes),
+            Some(count) => self.take_steps(count, bytes),
+        }
+    }
+
+    /// Whether the text may end before the line of this number.
+    fn is_whole(&self, line: u64) -> bool
+        ensures { result ≡ is_whole self.now.announced self.now.steps line }
+    {
+        match self.announced {
+            None => line == 1,
+            Some(count) => self.pending.has(count),
+        }
+    }
+
+    /// The journal of the steps, where the text ends before the line of this number.
+    #[tactic(auto, unfolding(crate::specs::Reading::ended))]
+    fn end(self, line: u64) -> Result<Journal, Unread>
+        ensures steps { Reads (λ journal. journal.log.steps) result (ended self line) }
+        ensures names { IfOk result (λ journal. journal.log.names ≡ self.names) }
+    {
+        if !self.is_whole(line) {
+            return Err(Unread::Bad { line });
+        }
+        match self.pending.into_journal() {
+            Ok(journal) => Ok(journal),
+            Err(_) => Err(Unread::NoMemory),
+        }
+    }
+}
+
+/// The journal of a text with these lines, and with what stands behind the last one.
+fn read_lines(alloc: Global, names: Names, lines: &[&[u8]], rest: &[u8]) -> Result<Journal, Unread>
+    ensures steps { Reads (λ journal. journal.log.steps) result
+        (read_lines (unread names) 1 (map (λ l. l.now) lines.now) rest.now) }
+    ensures names { IfOk result (λ journal. journal.log.names ≡ names) }
+{
+    let mut reading = Reading::new(alloc, names);
+    let mut number: u64 = 1;
+    for bytes in lines {
+        match reading.take_line(bytes) {
+            Ok(()) => number += 1,
+            Err(ReadError::Bad) => return Err(Unread::Bad { line: number }),
+            Err(ReadError::NoMemory) => return Err(Unread::NoMemory),
+        }
+    }
+    match rest {
+        [] => reading.end(number),
+        _ => Err(Unread::Bad { line: number }),
+    }
+}
+
+/// The journal that a printed text spells: with these names, and with the steps that the text has
+/// behind its line `journal N`. Its logs aren't looked at. Long data are read as what stands for
+/// them. Where the text spells none, `Bad` has its first bad line, from 1.
+pub fn read(alloc: Global, names: Names, text: &[u8]) -> Result<Journal, Unread>
+    ensures steps { Reads (λ journal. journal.log.steps) result (read_in names text.now) }
+    ensures names { IfOk result (λ journal. journal.log.names ≡ names) }
+{
+    let mut lines = split_at_byte(alloc, text, b'\n')?;
+    let rest = take_last(&mut lines);
+    let journal = read_lines(alloc, names, lines.as_slice(), rest)?;
+    Ok(journal)
+}

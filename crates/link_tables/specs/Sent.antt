@@ -1,0 +1,62 @@
+-- What was sent over links, as a list of signals, each with its flow.
+use Rattle.std.specs.Prelude.{◌≡◌, Bool, ◌&&◌, ◌==◌, List, [], ◌∷◌, ◌++◌, filter, map, Option, Some}
+use Rattle.std.specs.Prelude.{None, if◌then◌else◌}
+use Rattle.linx_base.specs.Peers.{same_inc, same_peer}
+use Rattle.linx_base.specs.SigNotes.{SigNote}
+use Rattle.linx_base.specs.declared.identity.Inc.{Inc}
+use Rattle.linx_base.specs.declared.identity.Peer.{Peer}
+use Rattle.linx_base.specs.declared.identity.Peer.TheVariants.{Here, There}
+use Rattle.journal.specs.History.{endpoint_by}
+use Rattle.journal.specs.Traffic.{was_sent}
+use Rattle.journal.specs.declared.effect.Step.{Step}
+use Rattle.journal.specs.declared.head.Head.{Head}
+use Rattle.journal.specs.declared.head.Head.TheVariants.{Send}
+use Rattle.link_tables.specs.declared.sent.Flow.{Flow}
+use Rattle.link_tables.specs.declared.sent.SentOver.{SentOver}
+
+-- a signal is found by its flow
+abbrev pub flow_keys : SentOver → List Flow
+flow_keys sent = sent.flow ∷ []
+
+-- the peer of a flow
+abbrev pub peer_of : Flow → Peer
+peer_of flow = There flow.link flow.session flow.peer
+
+-- one flow
+abbrev pub same_flow : Flow → Flow → Bool
+same_flow f g = same_inc f.at g.at && same_peer (peer_of g) (peer_of f)
+
+-- the signals of a flow, in order
+abbrev pub notes_of : Flow → List SentOver → List SigNote
+notes_of flow sent = map (λ s. s.note) (filter (λ s. same_flow flow s.flow) sent)
+
+-- the flow from an endpoint to a peer over a link; none of a peer on the own node
+abbrev pub flow_to : Inc → Peer → Option Flow
+flow_to at (Here inc) = None
+flow_to at (There link session inc) =
+    Some (record { at = at; link = link; session = session; peer = inc })
+
+-- a signal with its flow, if it has one
+abbrev pub in_flow : Option Flow → SigNote → Option SentOver
+in_flow None note = None
+in_flow (Some flow) note = Some (record { flow = flow; note = note })
+
+-- WHAT AN ENDPOINT SENDS by a head over a link
+abbrev pub sent_over : Inc → Head → Option SentOver
+sent_over at (Send to note answer) = if was_sent answer then in_flow (flow_to at to) note else None
+sent_over at _ = None
+
+-- with one more, if it is something
+abbrev pub with_sent : List SentOver → Option SentOver → List SentOver
+with_sent sent None = sent
+with_sent sent (Some s) = sent ++ s ∷ []
+
+-- after a head of which this is the endpoint
+abbrev pub sent_past : Option Inc → Head → List SentOver → List SentOver
+sent_past None head sent = sent
+sent_past (Some at) head sent = with_sent sent (sent_over at head)
+
+-- all that was sent over links so far
+abbrev pub sent_left : List Step → List SentOver
+sent_left [] = []
+sent_left (s ∷ P) = sent_past (endpoint_by P s.by) s.head (sent_left P)

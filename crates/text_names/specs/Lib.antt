@@ -1,0 +1,5 @@
+pub mod FirstWords
+pub mod Naming
+pub mod ToldNames
+pub mod OtherNames
+pub mod Numbering
