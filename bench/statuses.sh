@@ -62,7 +62,7 @@ printf 'node n\nnod m\n' > "$work/bad"
 # an actor shares a filling with the one before it where they are equal: so these take turns
 printf '%s\n' 'node n' 'actor p n' 'open a' 'repeat 300' 'send self 1 fill:65532:00' \
     'send self 1 fill:65532:01' 'end' 'close' 'end' > "$work/large"
-words='the words are: run serial gen stream help version'
+words='the words are: run serial seed gen stream gateway help version'
 usage="linx_sim: usage: linx_sim WORD ..; $words"$'\n'
 printf x > "$work/closed" && chmod 000 "$work/closed"
 
@@ -74,6 +74,10 @@ row 'a file' 0 '' / "$work/text" plain run "$script"
 cmp -s "$work/text" "$top/crates/self_send_program/stdout" || complain 'a file: another text'
 row 'a dash' 0 '' "$script" "$work/text" plain serial -
 cmp -s "$work/text" "$top/crates/self_send_program/stdout" || complain 'a dash: another text'
+row 'a seed' 0 '' "$script" "$work/text" plain seed 7
+cmp -s "$work/text" "$top/crates/self_send_program/stdout" || complain 'a seed: another text'
+row 'a seed and a file' 0 '' / "$work/text" plain seed 8 "$script"
+cmp -s "$work/text" "$top/crates/self_send_program/stdout" || complain 'a seed: another text'
 row 'a generated script' 0 '' / "$work/text" plain gen 7
 [ "$(wc -l < "$work/text")" = 10 ] || complain 'a generated script: no summary'
 row 'help' 0 '' / "$work/text" plain --help
@@ -86,6 +90,8 @@ row 'another word' 1 $'linx_sim: no word \'seriel\': did you mean \'serial\'?\n'
 row 'three words' 1 $'linx_sim: usage: linx_sim run [FILE]\n' "$script" "$work/text" plain run a b
 row 'a number too large' 1 $'linx_sim: usage: linx_sim gen N\n' "$script" "$work/text" \
     plain gen 4294967296
+row 'no seed' 1 $'linx_sim: usage: linx_sim seed S [FILE]\n' "$script" "$work/text" plain seed x
+row 'no clients' 1 $'linx_sim: usage: linx_sim gateway N\n' "$script" "$work/text" plain gateway 17
 row 'a dashed word' 1 "linx_sim: no word '-x'; $words"$'\n' "$script" "$work/text" plain -x
 row 'an empty word' 1 "linx_sim: no word ''; $words"$'\n' "$script" "$work/text" plain ''
 row 'a word that is not UTF-8' 1 "$usage" "$script" "$work/text" plain $'run\xff'
@@ -109,6 +115,13 @@ row 'a full journal' 5 \
 printf '\1\1' > "$work/torn"
 row 'a torn stream' 9 $'linx_sim: torn at 0\n' "$work/torn" "$work/text" plain stream
 row 'a bad stream' 11 $'linx_sim: bad stream at 0\n' "$work/bad" "$work/text" plain stream
+printf '\0\0\0\5\1\1\0\0a' > "$work/open"
+head -c 8 "$work/open" > "$work/part"
+printf '\0\0\0\14\201\1\0\0\0\0\0\1\0\0\0\1' > "$work/opened"
+row 'a gateway' 0 '' "$work/open" "$work/text" plain gateway 4
+cmp -s "$work/text" "$work/opened" || complain 'a gateway: another reply'
+row 'a torn request' 9 $'linx_sim: torn at 0\n' "$work/part" "$work/text" plain gateway 4
+row 'a bad request' 11 $'linx_sim: bad stream at 0\n' "$work/bad" "$work/text" plain gateway 4
 limited 30000 run < "$work/large" > "$work/text" 2> "$work/errors"
 [ $? = 6 ] || complain 'out of memory: another exit status'
 grep -qx 'linx_sim: out of memory\( after step [0-9]*\)\?' "$work/errors" ||

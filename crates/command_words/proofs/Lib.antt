@@ -1,3 +1,4 @@
 mod CommandLine
 mod Numbers
 mod Shortness
+pub mod Serving

@@ -1,11 +1,10 @@
 -- The number of a word, as std reads it.
-use Rattle.std.proofs.Common.{◌≡◌, ◌∙◌, ◌<◌, ◌≤◌, ◌^◌, ◌&&◌, ◌+◌, ◌-◌, ◌*◌, ℕ, Bool, List}
-use Rattle.std.proofs.Common.{refl, ap, sym, cond, true, false, true≢false, length, nat_le, arith}
-use Rattle.std.proofs.Common.{le-leb, leb-true, Option, Some, None, Result, Ok, Err}
-use Rattle.std.specs.Prelude.{fold}
+use Rattle.std.proofs.Common.{◌≡◌, ◌∙◌, ◌<◌, ◌≤◌, ◌^◌, ◌&&◌, ◌+◌, ◌-◌, ◌*◌, ℕ, Bool, List, refl, ap}
+use Rattle.std.proofs.Common.{sym, cond, true, false, true≢false, length, nat_le, arith, le-leb}
+use Rattle.std.proofs.Common.{leb-true, Option, Some, None, Result, Ok, Err, fold, OkIff}
 use Rattle.std.specs.Char.{is_ascii_digit}
 use Rattle.std.specs.List.{list_all}
-use Rattle.std.specs.Result.{OkIff, result_ok}
+use Rattle.std.specs.Result.{result_ok}
 use Rattle.std.specs.Str.Parse.{ParsesUnsigned}
 use Rattle.std.proofs.lemmas.Str.Parse.{IsDigitsTest, IsNumeralModel, numerals_by_fold}
 use Rattle.std.proofs.lemmas.Str.Parse.{parse_digits}

@@ -1,8 +1,10 @@
 -- The words of the command line, and what is said of each.
-use Rattle.std.specs.Prelude.{ℕ, Bool, ◌||◌, List, [], ◌∷◌, codes, Option, Some, None, if◌then◌else◌}
+use Rattle.std.specs.Prelude.{ℕ, Bool, ◌||◌, List, [], ◌∷◌, codes, Option, Some, None}
+use Rattle.std.specs.Prelude.{if◌then◌else◌}
 use Rattle.std.specs.Str.{bytes_eq}
 use Rattle.command_words.specs.declared.word.Word.{Word}
-use Rattle.command_words.specs.declared.word.Word.TheVariants.{Run, Serial, Gen, Stream, Help, Version}
+use Rattle.command_words.specs.declared.word.Word.TheVariants.{Run, Serial, Seed, Gen, Stream}
+use Rattle.command_words.specs.declared.word.Word.TheVariants.{Gateway, Help, Version}
 
 -- a row of the table: the name of a word, its use, a line, a paragraph and an example
 pub record Row : Type 0 where
@@ -30,6 +32,14 @@ said_of Serial = record {
       codes "Reads a script from FILE, or from standard input, plays it in the fixed order of\nrounds, and writes the same kind of text as run. It is the same each time.\n";
   example = codes "linx_sim serial < examples/losses.linx";
 }
+said_of Seed = record {
+  name = codes "seed";
+  usage = codes "seed S [FILE]";
+  line = codes "play a script in the order that a number decides";
+  paragraph =
+      codes "Plays a script as serial does, but in an order that the number S decides, which has\none to ten decimal digits and is at most 4294967295. The text is the same each time\nfor one S; other numbers have other orders.\n";
+  example = codes "linx_sim seed 7 examples/losses.linx";
+}
 said_of Gen = record {
   name = codes "gen";
   usage = codes "gen N";
@@ -45,6 +55,14 @@ said_of Stream = record {
   paragraph =
       codes "Reads the frames of one peer from standard input, in whatever pieces they come, and\nwrites what an endpoint with the name echo says to them to standard output. It\nsends each signal back to its sender. No socket is opened.\n";
   example = codes "socat -t 60 TCP-LISTEN:9000,bind=127.0.0.1,fork EXEC:'linx_sim stream'";
+}
+said_of Gateway = record {
+  name = codes "gateway";
+  usage = codes "gateway N";
+  line = codes "serve clients over a byte stream, each with the calls of LINX";
+  paragraph =
+      codes "Reads the requests of the clients 1 to N, which is at most 16, from standard input,\nin whatever pieces they come, and writes the replies to standard output. Each\nclient has an endpoint and timers. No socket is opened.\n";
+  example = codes "socat TCP-LISTEN:9000,bind=127.0.0.1,fork EXEC:'linx_sim gateway 4'";
 }
 said_of Help = record {
   name = codes "help";
@@ -65,7 +83,7 @@ said_of Version = record {
 
 -- all words, in the order of the help
 abbrev pub all_words : List Word
-all_words = Run ∷ Serial ∷ Gen ∷ Stream ∷ Help ∷ Version ∷ []
+all_words = Run ∷ Serial ∷ Seed ∷ Gen ∷ Stream ∷ Gateway ∷ Help ∷ Version ∷ []
 
 -- the first of these words whose name is the text
 abbrev pub named : List ℕ → List Word → Option Word

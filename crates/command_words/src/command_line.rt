@@ -1,26 +1,28 @@
-//! The command line, as `clap` reads it: a word, and perhaps an argument behind it. Flags, and `-`
-//! for standard input, are read off the table, since clap would take `--` for the end of flags.
+//! The command line, as `clap` reads it: a word, and perhaps an argument and a file behind it. Flags,
+//! and `-` for standard input, are read off the table, since clap would take `--` for the end of
+//! flags.
 ghost use Rattle.std.specs.Prelude.{◌≡◌, ◌⊎◌, IfErr, IfOk, None, false, option_map, string_bytes};
 ghost use Rattle.std.specs.List.{list_any};
 ghost use Rattle.clap.specs.Words.{app_of, kind_of};
-ghost use Rattle.command_words.specs.CommandLine.{is_dashed, request_from, two_words};
+ghost use Rattle.command_words.specs.CommandLine.{is_dashed, request_from, three_words};
 ghost use Rattle.command_words.specs.Requests.{request_of};
 
-use crate::request::{Request, asked_alone, asked_with, request_by};
+use crate::request::{Request, asked_alone, asked_with, asked_with_file, request_by};
 use crate::word::called;
 use clap::error::ErrorKind;
 use clap::{Arg, Command, Error};
 use std::alloc::{AllocError, Global};
 
-/// What a word and an argument ask for, of which each may be missing.
-fn request_from(word: Option<&str>, argument: Option<&str>) -> Option<Request>
-    ensures { result
-        ≡ request_from (option_map (λ w. w.now) word.entry) (option_map (λ a. a.now) argument.entry) }
+/// What a word, an argument and a file ask for, of which each may be missing.
+fn request_from(word: Option<&str>, argument: Option<&str>, file: Option<&str>) -> Option<Request>
+    ensures { result ≡ request_from (option_map (λ w. w.now) word.entry)
+        (option_map (λ a. a.now) argument.entry) (option_map (λ f. f.now) file.entry) }
 {
-    match (word, argument) {
-        (None, _) => None,
-        (Some(word), None) => asked_alone(called(word)?),
-        (Some(word), Some(argument)) => asked_with(called(word)?, argument),
+    match (word, argument, file) {
+        (None, _, _) => None,
+        (Some(word), None, _) => asked_alone(called(word)?),
+        (Some(word), Some(argument), None) => asked_with(called(word)?, argument),
+        (Some(word), Some(argument), Some(file)) => asked_with_file(called(word)?, argument, file),
     }
 }
 
@@ -31,18 +33,20 @@ fn has_dashed_word(words: &[String]) -> bool
     words.iter().any(|word| word.starts_with('-'))
 }
 
-/// What clap is to find: a word, which must be there, and perhaps an argument.
+/// What clap is to find: a word, which must be there, and perhaps an argument and a file.
 fn command_line<'a>(alloc: Global) -> Result<Command<'a>, AllocError>
-    ensures { IfOk result (λ line. app_of line ≡ two_words) }
+    ensures { IfOk result (λ line. app_of line ≡ three_words) }
 {
     let word = Arg::new(alloc, "word").required(true);
     let argument = Arg::new(alloc, "argument");
+    let file = Arg::new(alloc, "file");
     Command::new(alloc, "linx_sim")
         .no_binary_name(true)
         .disable_help_flag(true)
         .disable_version_flag(true)
         .arg(word)?
-        .arg(argument)
+        .arg(argument)?
+        .arg(file)
 }
 
 /// What the words ask for, as clap reads them. Its refusals are errors.
@@ -53,7 +57,10 @@ fn reads(alloc: Global, words: &[String]) -> Result<Option<Request>, Error>
         ⊎ (request_of words.now ≡ None)) }
 {
     let matches = command_line(alloc)?.try_get_matches_from(words)?;
-    Ok(request_from(matches.get_str("word"), matches.get_str("argument")))
+    let word = matches.get_str("word");
+    let argument = matches.get_str("argument");
+    let file = matches.get_str("file");
+    Ok(request_from(word, argument, file))
 }
 
 impl Request {

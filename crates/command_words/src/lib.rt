@@ -15,5 +15,5 @@ mod word;
 pub use line::Line;
 pub use misuse::Misuse;
 pub use page::Page;
-pub use request::{Asked, Request, file_named};
+pub use request::{Asked, Request, TurnOrder, file_named};
 pub use word::{Said, WORDS, Word};

@@ -1,7 +1,7 @@
 //! The pages of the help.
 ghost use Rattle.std.specs.Prelude.{◌≡◌, ◌++◌, flat_map, IfOk, OnOk};
-ghost use Rattle.command_words.specs.Pages.{example_lines, example_title, help_page, page_foot, page_head, page_of, pages_line};
-ghost use Rattle.command_words.specs.Pages.{word_page};
+ghost use Rattle.command_words.specs.Pages.{example_lines, example_title, help_page, page_foot};
+ghost use Rattle.command_words.specs.Pages.{page_head, page_of, pages_line, word_page};
 
 use crate::word::{Said, WORDS, Word};
 use linx_base::NoMemory;
@@ -43,8 +43,8 @@ fn foot() -> &'static str
     4  the text can't be written\n  \
     5  the journal is full before the run is over\n  \
     6  memory was refused\n  \
-    9  a stream ended within a frame\n  \
-    11 the bytes of a stream are no frame, or break the rules\n\n\
+    9  a stream ended within a frame or a request\n  \
+    11 the bytes of a stream are no frame or request, or break the rules\n\n\
     The manual is docs/use/linx_sim.1, or `man linx_sim` once it is installed.\n"
 }
 

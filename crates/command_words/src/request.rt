@@ -1,19 +1,35 @@
 //! What the words ask for.
-ghost use Rattle.std.specs.Prelude.{◌≡◌, option_map};
-ghost use Rattle.command_words.specs.Requests.{asked_alone, asked_with, is_file_name};
-ghost use Rattle.command_words.specs.Requests.{file_of, is_reading, played_from, request_of};
+ghost use Rattle.std.specs.Prelude.{◌≡◌, map, option_map, string_bytes};
+ghost use Rattle.command_words.specs.Requests.{asked_alone, asked_with, asked_with_file};
+ghost use Rattle.command_words.specs.Requests.{clients_in, clients_spelled, file_at, file_of};
+ghost use Rattle.command_words.specs.Requests.{file_place, is_file_name, played_from, request_of};
+ghost use Rattle.command_words.specs.Requests.{seeded};
 
 use crate::number::number;
 use crate::page::Page;
 use crate::word::{Word, called, is_help_flag};
+
+/// The most clients of a gateway, and the most digits that their number has.
+const CLIENTS_MOST: u32 = 16;
+
+const CLIENTS_DIGITS: usize = 2;
+
+/// The order in which a script is played on one thread.
+#[derive(Clone, Copy, Debug, PartialEq, Eq, Hash)]
+pub enum TurnOrder {
+    /// `serial`: the fixed order of rounds.
+    Fixed,
+    /// `seed S`: the order that a number decides.
+    Seed(u32),
+}
 
 /// What a run is asked for.
 #[derive(Clone, Copy, Debug, PartialEq, Eq, Hash)]
 pub enum Asked {
     /// `run`: the run of the script that is read, and its text.
     Run,
-    /// `serial`: the same, on one thread.
-    Serial,
+    /// `serial` or `seed S`: the same, on one thread and in an order.
+    InOrder(TurnOrder),
     /// `gen N`: the run of the generated script of a number, and its summary.
     Gen(u32),
 }
@@ -27,6 +43,8 @@ pub enum Request {
     Play(Asked),
     /// An echo over the program's streams.
     Echo,
+    /// A gateway for so many clients over the program's streams.
+    Serve(u8),
 }
 
 /// Whether a text names a file, or standard input by `-`. The name of a file isn't empty, and
@@ -48,15 +66,43 @@ fn played_from(asked: Asked, file: &str) -> Option<Request>
     }
 }
 
+/// The clients of a gateway, of which there are 1 to 16.
+fn clients_in(number: Option<u32>) -> Option<u8>
+    ensures { result ≡ clients_in number }
+{
+    match number {
+        Some(n) if 1 <= n && n <= CLIENTS_MOST => Some(n as u8),
+        _ => None,
+    }
+}
+
+/// The clients of a gateway that a word of one or two digits spells.
+fn clients(word: &str) -> Option<u8>
+    ensures { result ≡ clients_spelled word.now }
+{
+    if word.len() > CLIENTS_DIGITS {
+        return None;
+    }
+    clients_in(number(word))
+}
+
+/// The run in the order of a number.
+fn seeded(argument: &str) -> Option<Asked>
+    ensures { result ≡ seeded argument.now }
+{
+    Some(Asked::InOrder(TurnOrder::Seed(number(argument)?)))
+}
+
 /// What a word alone asks for.
 pub(crate) fn asked_alone(word: Word) -> Option<Request>
     ensures { result ≡ asked_alone word }
 {
     match word {
         Word::Run => Some(Request::Play(Asked::Run)),
-        Word::Serial => Some(Request::Play(Asked::Serial)),
-        Word::Gen => None,
+        Word::Serial => Some(Request::Play(Asked::InOrder(TurnOrder::Fixed))),
+        Word::Seed | Word::Gen => None,
         Word::Stream => Some(Request::Echo),
+        Word::Gateway => None,
         Word::Help => Some(Request::Show(Page::All)),
         Word::Version => Some(Request::Show(Page::Version)),
     }
@@ -71,10 +117,22 @@ pub(crate) fn asked_with(word: Word, argument: &str) -> Option<Request>
     }
     match word {
         Word::Run => played_from(Asked::Run, argument),
-        Word::Serial => played_from(Asked::Serial, argument),
+        Word::Serial => played_from(Asked::InOrder(TurnOrder::Fixed), argument),
+        Word::Seed => Some(Request::Play(seeded(argument)?)),
         Word::Gen => Some(Request::Play(Asked::Gen(number(argument)?))),
+        Word::Gateway => Some(Request::Serve(clients(argument)?)),
         Word::Help => Some(Request::Show(Page::Of(called(argument)?))),
         Word::Stream | Word::Version => None,
+    }
+}
+
+/// What a word, an argument and a file ask for.
+pub(crate) fn asked_with_file(word: Word, argument: &str, file: &str) -> Option<Request>
+    ensures { result ≡ asked_with_file word argument.now file.now }
+{
+    match word {
+        Word::Seed => played_from(seeded(argument)?, file),
+        _ => None,
     }
 }
 
@@ -85,28 +143,38 @@ pub(crate) fn request_by(words: &[String]) -> Option<Request>
     match words {
         [word] => asked_alone(called(word.as_str())?),
         [word, argument] => asked_with(called(word.as_str())?, argument.as_str()),
+        [word, argument, file] => {
+            asked_with_file(called(word.as_str())?, argument.as_str(), file.as_str())
+        }
         _ => None,
     }
 }
 
-/// Whether a run that reads a script is asked for.
-fn is_reading(request: Option<Request>) -> bool
-    ensures { result ≡ is_reading request }
+/// The place, from 0, of the file among the words of a run that reads a script.
+fn file_place(request: Option<Request>) -> Option<usize>
+    ensures { result ≡ file_place request }
 {
     match request {
-        Some(Request::Play(Asked::Run | Asked::Serial)) => true,
-        _ => false,
+        Some(Request::Play(Asked::Run | Asked::InOrder(TurnOrder::Fixed))) => Some(1),
+        Some(Request::Play(Asked::InOrder(TurnOrder::Seed(_)))) => Some(2),
+        _ => None,
     }
 }
 
-/// The file that the words name: the argument of a run that reads a script. `None` where that is
-/// read from standard input.
+/// The file that is named at a place of the words; `None` where there is none, or `-`.
+fn file_at(words: &[String], place: usize) -> Option<&str>
+    ensures { option_map (λ name. name.now) result ≡ file_at (map string_bytes words.now) place }
+{
+    match words.get(place) {
+        Some(file) if file.as_str() != "-" => Some(file.as_str()),
+        _ => None,
+    }
+}
+
+/// The file that the words name: that of a run that reads a script. `None` where that is read from
+/// standard input.
 pub fn file_named(words: &[String]) -> Option<&str>
     ensures { option_map (λ name. name.now) result ≡ file_of words.now }
 {
-    let reads = is_reading(request_by(words));
-    match words {
-        [_, file] if reads && file.as_str() != "-" => Some(file.as_str()),
-        _ => None,
-    }
+    file_at(words, file_place(request_by(words))?)
 }

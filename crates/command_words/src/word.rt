@@ -9,10 +9,14 @@ pub enum Word {
     Run,
     /// The run of a script in the fixed order.
     Serial,
+    /// The run of a script in the order that a number decides.
+    Seed,
     /// The run of a generated script.
     Gen,
     /// An echo over the program's streams.
     Stream,
+    /// A gateway for clients over the program's streams.
+    Gateway,
     /// The help.
     Help,
     /// The version.
@@ -20,11 +24,13 @@ pub enum Word {
 }
 
 /// All words, in the order of the help.
-pub const WORDS: [Word; 6] = [
+pub const WORDS: [Word; 8] = [
     Word::Run,
     Word::Serial,
+    Word::Seed,
     Word::Gen,
     Word::Stream,
+    Word::Gateway,
     Word::Help,
     Word::Version,
 ];
@@ -67,6 +73,15 @@ impl Word {
                     rounds, and writes the same kind of text as run. It is the same each time.\n",
                 example: "linx_sim serial < examples/losses.linx",
             },
+            Word::Seed => Said {
+                name: "seed",
+                usage: "seed S [FILE]",
+                line: "play a script in the order that a number decides",
+                paragraph: "Plays a script as serial does, but in an order that the number S decides, which has\n\
+                    one to ten decimal digits and is at most 4294967295. The text is the same each time\n\
+                    for one S; other numbers have other orders.\n",
+                example: "linx_sim seed 7 examples/losses.linx",
+            },
             Word::Gen => Said {
                 name: "gen",
                 usage: "gen N",
@@ -84,6 +99,15 @@ impl Word {
                     writes what an endpoint with the name echo says to them to standard output. It\n\
                     sends each signal back to its sender. No socket is opened.\n",
                 example: "socat -t 60 TCP-LISTEN:9000,bind=127.0.0.1,fork EXEC:'linx_sim stream'",
+            },
+            Word::Gateway => Said {
+                name: "gateway",
+                usage: "gateway N",
+                line: "serve clients over a byte stream, each with the calls of LINX",
+                paragraph: "Reads the requests of the clients 1 to N, which is at most 16, from standard input,\n\
+                    in whatever pieces they come, and writes the replies to standard output. Each\n\
+                    client has an endpoint and timers. No socket is opened.\n",
+                example: "socat TCP-LISTEN:9000,bind=127.0.0.1,fork EXEC:'linx_sim gateway 4'",
             },
             Word::Help => Said {
                 name: "help",

@@ -1,6 +1,5 @@
 -- What bytes begin with, as the loop over a stream says it.
-use Rattle.std.proofs.Common.{ℕ, ◌<◌, List, length, take, arith}
-use Rattle.std.proofs.lemmas.List.{length-take-le}
+use Rattle.std.proofs.Common.{ℕ, ◌<◌, List, length, take, arith, length-take-le}
 use Rattle.request_stream.specs.Fronts.{BeginsWith, GoesOn, BeginsNone}
 use Rattle.gateway_msgs.specs.Fronts.{IsRequest, BeginsWith as IsBegun, GoesOn as IsPart}
 use Rattle.gateway_msgs.specs.Fronts.{BeginsNone as IsNone}

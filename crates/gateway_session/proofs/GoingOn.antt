@@ -1,7 +1,7 @@
 -- The journal of a gateway goes on.
-use Rattle.std.proofs.Common.{◌≡◌, ℕ, zero, suc, Bool, true, false, List, [], ◌∷◌, ◌++◌, refl, sym, ap}
-use Rattle.std.proofs.Common.{◌∙◌, inl, inr, append_assoc}
-use Rattle.std.specs.Prelude.{◌||◌, ◌+◌, nat_lt, Option, Some, None}
+use Rattle.std.proofs.Common.{◌≡◌, ℕ, zero, suc, Bool, true, false, List, [], ◌∷◌, ◌++◌, refl, sym}
+use Rattle.std.proofs.Common.{ap, ◌∙◌, inl, inr, append_assoc, ◌||◌, ◌+◌, nat_lt, Option, Some}
+use Rattle.std.proofs.Common.{None}
 use Rattle.std.specs.List.{list_any}
 use Rattle.linx_base.specs.FirstMatch.{without_match}
 use Rattle.linx_base.specs.declared.identity.Inc.{Inc}

@@ -1,6 +1,6 @@
 -- What a handled request is to the loop over a stream.
-use Rattle.std.proofs.Common.{◌≡◌, ℕ, List, ◌++◌, refl, ap, ◌∙◌, inr}
-use Rattle.std.specs.Prelude.{Result, Ok, Err, OnOk, OnErr, IfErr, true}
+use Rattle.std.proofs.Common.{◌≡◌, ℕ, List, ◌++◌, refl, ap, ◌∙◌, inr, Result, Ok, Err, OnOk, OnErr}
+use Rattle.std.proofs.Common.{IfErr, true}
 use Rattle.journal.specs.Logs.{is_full}
 use Rattle.request_stream.specs.declared.server.Refusal.{Refusal}
 use Rattle.request_stream.specs.declared.server.Refusal.TheVariants.{Full}

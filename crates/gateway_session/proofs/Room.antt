@@ -1,6 +1,5 @@
 -- A journal that is full takes no call.
-use Rattle.std.proofs.Common.{◌≡◌, ℕ, true, false, List}
-use Rattle.std.specs.Prelude.{Option, Some, None, is_some}
+use Rattle.std.proofs.Common.{◌≡◌, ℕ, true, false, List, Option, Some, None, is_some}
 use Rattle.sigsel.specs.declared.sigsel.Sigsel.{Sigsel}
 use Rattle.journal.specs.Logs.{is_full}
 use Rattle.gateway_msgs.specs.declared.reply.Reply.{Reply}

@@ -1,6 +1,6 @@
 -- From what a play and the writing of its text say to the answer of a status.
-use Rattle.std.proofs.Common.{◌≡◌, ℕ, true, false, List, [], inl, inr, sym, subst}
-use Rattle.std.specs.Prelude.{Option, Some, None, Result, Ok, Err, IfOk, IfSome, OnSome}
+use Rattle.std.proofs.Common.{◌≡◌, ℕ, true, false, List, [], inl, inr, sym, subst, Option, Some}
+use Rattle.std.proofs.Common.{None, Result, Ok, Err, IfOk, IfSome, OnSome}
 use Rattle.linx_base.specs.declared.memory.NoMemory.{NoMemory as Refused}
 use Rattle.journal.specs.declared.effect.Step.{Step}
 use Rattle.journal.specs.Logs.{Log, is_full}
@@ -20,13 +20,16 @@ use Rattle.stage.specs.Turns.{is_over, shape_of}
 use Rattle.workers.specs.declared.ran.Ran.{Ran}
 use Rattle.linx_commands.specs.Causes.{is_of_writing, stop_status}
 use Rattle.linx_commands.specs.Runs.{IsAnswerTo, IsLegalSomehow, IsOverUnder, IsRan, IsRunAs}
-use Rattle.linx_commands.specs.Runs.{IsRunSoFar, IsRunUnder, IsStoppedUnder, IsWholeAs}
-use Rattle.command_words.specs.declared.request.Asked.{Asked}
-use Rattle.command_words.specs.declared.request.Asked.TheVariants.{Run, Serial, Gen}
+use Rattle.linx_commands.specs.Runs.{IsRunSoFar, IsRunUnder, IsStoppedUnder, IsWholeAs, IsWholeIn}
 use Rattle.linx_commands.specs.declared.outcome.Status.{Status}
 use Rattle.linx_commands.specs.declared.outcome.Status.TheVariants.{Done, Usage, Script, Unopened}
-use Rattle.linx_commands.specs.declared.outcome.Status.TheVariants.{ReadFault, WriteFault, JournalFull}
-use Rattle.linx_commands.specs.declared.outcome.Status.TheVariants.{NoMemory, Torn, BadStream}
+use Rattle.linx_commands.specs.declared.outcome.Status.TheVariants.{ReadFault, WriteFault}
+use Rattle.linx_commands.specs.declared.outcome.Status.TheVariants.{JournalFull, NoMemory, Torn}
+use Rattle.linx_commands.specs.declared.outcome.Status.TheVariants.{BadStream}
+use Rattle.command_words.specs.declared.request.Asked.{Asked}
+use Rattle.command_words.specs.declared.request.TurnOrder.{TurnOrder}
+use Rattle.command_words.specs.declared.request.TurnOrder.TheVariants.{Fixed, Seed}
+use Rattle.command_words.specs.declared.request.Asked.TheVariants.{Run, InOrder, Gen}
 
 -- a whole run under a command is a run so far under it
 so-far-of : (asked : Asked) (script : ScriptParts) (log : Log) → IsRunUnder asked script log
@@ -36,7 +39,7 @@ so-far-of Run script log run = record {
   so_far = run.1.so_far;
   order = inl run.1.over;
 }
-so-far-of Serial script log run = record {
+so-far-of (InOrder order) script log run = record {
   run = run.run;
   so_far = run.is.so_far;
   order = inl run.whole;
@@ -61,14 +64,20 @@ answers-written asked ReadFault script log writes run = cc
 answers-written asked (Torn at) script log writes run = cc
 answers-written asked (BadStream at) script log writes run = cc
 
+-- a whole run in an order is over
+over-in : (order : TurnOrder) (script : ScriptParts) (run : Layout) → IsWholeIn order script run
+    → is_over run ≡ true
+over-in Fixed script run whole = whole.over
+over-in (Seed n) script run whole = whole.over
+
 -- a run that is over is the whole one that a command asks for
 whole-under : (asked : Asked) (script : ScriptParts) (run : Layout) (log : Log)
     → (is_over run ≡ true → IsWholeAs script run log) → IsOverUnder asked script run
     → IsRunUnder asked script log
 whole-under Run script run log whole over = (run, whole over)
-whole-under Serial script run log whole in_order = record {
+whole-under (InOrder order) script run log whole in_order = record {
   run = run;
-  is = whole in_order.over;
+  is = whole (over-in order script run in_order);
   whole = in_order;
 }
 whole-under (Gen n) script run log whole over = (run, whole over)

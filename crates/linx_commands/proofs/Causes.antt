@@ -1,8 +1,7 @@
 -- From what each part of a run says to the cause of the status.
-use Rattle.std.proofs.Common.{◌≡◌, ℕ, ◌≤◌, inl, inr, true, false, List, length, refl, sym}
-use Rattle.std.proofs.Common.{◌∙◌, subst, arith}
-use Rattle.std.specs.Prelude.{◌≢◌, Option, Some, None, Result, Ok, Err, IfSome, IsOk}
-use Rattle.std.proofs.lemmas.List.{take_all}
+use Rattle.std.proofs.Common.{◌≡◌, ℕ, ◌≤◌, inl, inr, true, false, List, length, refl, sym, ◌∙◌}
+use Rattle.std.proofs.Common.{subst, arith, ◌≢◌, Option, Some, None, Result, Ok, Err, IfSome, IsOk}
+use Rattle.std.proofs.Common.{take_all}
 use Rattle.journal.specs.Logs.{Log, is_full}
 use Rattle.script_words.specs.declared.fault.Fault.{Fault}
 use Rattle.script_lang.specs.Parts.{ScriptParts}
@@ -16,8 +15,9 @@ use Rattle.command_words.specs.declared.request.Asked.{Asked}
 use Rattle.command_words.specs.declared.request.Asked.TheVariants.{Run}
 use Rattle.linx_commands.specs.declared.outcome.Status.{Status}
 use Rattle.linx_commands.specs.declared.outcome.Status.TheVariants.{Done, Usage, Script, Unopened}
-use Rattle.linx_commands.specs.declared.outcome.Status.TheVariants.{ReadFault, WriteFault, JournalFull}
-use Rattle.linx_commands.specs.declared.outcome.Status.TheVariants.{NoMemory, Torn, BadStream}
+use Rattle.linx_commands.specs.declared.outcome.Status.TheVariants.{ReadFault, WriteFault}
+use Rattle.linx_commands.specs.declared.outcome.Status.TheVariants.{JournalFull, NoMemory, Torn}
+use Rattle.linx_commands.specs.declared.outcome.Status.TheVariants.{BadStream}
 
 -- the cause of a status that no script gave
 pub caused_unread : (asked : Asked) (status : Status) (told : Option (List ℕ)) (log : Log)

@@ -1,5 +1,5 @@
 -- That journals are decided, by the law of the runs behind them.
-use Rattle.std.proofs.Common.{◌≡◌, ◌∙◌, ◌≤◌, ap, arith, length, sym, subst, true}
+use Rattle.std.proofs.Common.{◌≡◌, ◌∙◌, ◌≤◌, ℕ, ap, arith, length, sym, subst, true}
 use Rattle.std.proofs.lemmas.List.{length-map}
 use Rattle.journal.specs.Logs.{Log, is_full}
 use Rattle.journal_text.specs.Text.{text_of}
@@ -11,14 +11,20 @@ use Rattle.stage.specs.Turns.{shape_of}
 use Rattle.run_orders.specs.Laws.{IsEnded, IsFilled, makers_of}
 use Rattle.run_orders.proofs.Orders.{orders_decide}
 use Rattle.linx_commands.specs.Decided.{IsRunOrFront, JournalsAreDecided}
-use Rattle.linx_commands.specs.Runs.{IsRunInOrder, IsStoppedFull}
+use Rattle.linx_commands.specs.Runs.{IsRunInOrder, IsStoppedFull, seeded_order}
 use Rattle.linx_commands.proofs.Shown.{text-makers}
-use Rattle.command_words.specs.declared.request.Asked.TheVariants.{Serial}
+use Rattle.orders.specs.Laws.{IsFilledInOrder, OrderDecides}
+use Rattle.command_words.specs.declared.request.Asked.TheVariants.{InOrder}
+use Rattle.command_words.specs.declared.request.TurnOrder.{TurnOrder}
+use Rattle.command_words.specs.declared.request.TurnOrder.TheVariants.{Fixed, Seed}
 
-ended : (script : ScriptParts) (log : Log) (is : IsRunInOrder script log) → IsEnded script is.run
+-- ---- in the fixed order
+
+ended : (script : ScriptParts) (log : Log) (is : IsRunInOrder Fixed script log)
+    → IsEnded script is.run
 ended script log is = record { so_far = is.is.so_far.so_far; whole = is.whole }
 
-filled : (script : ScriptParts) (log : Log) (is : IsStoppedFull Serial script log)
+filled : (script : ScriptParts) (log : Log) (is : IsStoppedFull (InOrder Fixed) script log)
     → IsFilled script is.run
 filled script log is = record {
   so_far = is.so_far.so_far;
@@ -26,6 +32,53 @@ filled script log is = record {
   full = subst (λ (l : Log). is_full l.steps ≡ true) (sym is.so_far.logged) is.full;
   due = is.turn;
 }
+
+-- ---- in the order of a number
+
+seed-filled : (n : ℕ) (script : ScriptParts) (log : Log)
+    (is : IsStoppedFull (InOrder (Seed n)) script log)
+    → IsFilledInOrder script (seeded_order script n) is.run
+seed-filled n script log is = record {
+  so_far = is.so_far.so_far;
+  stopped = is.order;
+  full = subst (λ (l : Log). is_full l.steps ≡ true) (sym is.so_far.logged) is.full;
+  due = is.turn;
+}
+
+-- ---- in either
+
+-- the runs of two journals that are whole in one order have one log
+one-whole : OrderDecides → (order : TurnOrder) (script : ScriptParts) (one two : Log)
+    (first : IsRunInOrder order script one) (second : IsRunInOrder order script two)
+    → first.run.log ≡ second.run.log
+one-whole law Fixed script one two first second =
+    orders_decide.ended script first.run second.run (ended script one first)
+    (ended script two second)
+one-whole law (Seed n) script one two first second =
+    law.one script first.is.so_far.so_far.declared (seeded_order script n) first.run
+    second.run first.whole second.whole
+
+-- and so have those of two that were full before the end
+one-full : OrderDecides → (order : TurnOrder) (script : ScriptParts) (one two : Log)
+    (first : IsStoppedFull (InOrder order) script one)
+    (second : IsStoppedFull (InOrder order) script two)
+    → first.run.log ≡ second.run.log
+one-full law Fixed script one two first second =
+    orders_decide.filled script first.run second.run (filled script one first)
+    (filled script two second)
+one-full law (Seed n) script one two first second =
+    law.filled script (seeded_order script n) first.run second.run
+    (seed-filled n script one first) (seed-filled n script two second)
+
+-- and no order has one of each kind
+apart-in : OrderDecides → (order : TurnOrder) (script : ScriptParts) (one two : Log)
+    → IsRunInOrder order script one → IsStoppedFull (InOrder order) script two → ⊥
+apart-in law Fixed script one two first second =
+    orders_decide.apart script first.run second.run (ended script one first)
+    (filled script two second)
+apart-in law (Seed n) script one two first second =
+    law.apart script (seeded_order script n) first.run second.run
+    first.is.so_far.so_far first.whole (seed-filled n script two second)
 
 of_run : (script : ScriptParts) (one two : Log) → IsRunOrFront script one
     → IsRunOrFront script two → makers_of one.steps ≡ makers_of two.steps → one ≡ two
@@ -73,17 +126,14 @@ of_text script one two first second same =
     (text-makers (shape_of script) left.actors left.links one two
     (left.names ∙ sym right.names) left.plain left.legal right.legal same)
 
-pub journals_are_decided : JournalsAreDecided
-journals_are_decided = record {
+-- by the law of whoever chooses whose turn is next
+pub journals_are_decided : OrderDecides → JournalsAreDecided
+journals_are_decided law = record {
   run = of_run;
   text = of_text;
-  serial = λ script one two first second. sym first.is.so_far.logged
-      ∙ orders_decide.ended script first.run second.run (ended script one first)
-      (ended script two second) ∙ second.is.so_far.logged;
-  full = λ script one two first second. sym first.so_far.logged
-      ∙ orders_decide.filled script first.run second.run (filled script one first)
-      (filled script two second) ∙ second.so_far.logged;
-  apart = λ script one two first second.
-      orders_decide.apart script first.run second.run (ended script one first)
-      (filled script two second);
+  in_order = λ order script one two first second. sym first.is.so_far.logged
+      ∙ one-whole law order script one two first second ∙ second.is.so_far.logged;
+  full = λ order script one two first second. sym first.so_far.logged
+      ∙ one-full law order script one two first second ∙ second.so_far.logged;
+  apart = apart-in law;
 }

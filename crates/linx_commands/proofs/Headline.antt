@@ -20,7 +20,7 @@ use Rattle.stage.specs.Plays.{IsScriptRun, IsSoFar}
 use Rattle.stage.specs.Turns.{shape_of}
 use Rattle.work_gen.specs.Generated.{generated}
 use Rattle.command_words.specs.declared.request.Asked.{Asked}
-use Rattle.command_words.specs.declared.request.Asked.TheVariants.{Run, Serial, Gen}
+use Rattle.command_words.specs.declared.request.Asked.TheVariants.{Run, InOrder, Gen}
 use Rattle.linx_commands.specs.Commands.{IsCausedUnder}
 use Rattle.linx_commands.specs.Decided.{IsRunOrFront}
 use Rattle.linx_commands.specs.Headline.{AllReceived, Headline, HeadlineOfSource, HeadlineUnder}
@@ -29,8 +29,9 @@ use Rattle.linx_commands.specs.Runs.{IsAnswerTo, IsCaused, IsEmptyLog, IsOfSourc
 use Rattle.linx_commands.specs.Runs.{IsRunUnder}
 use Rattle.linx_commands.specs.declared.outcome.Status.{Status}
 use Rattle.linx_commands.specs.declared.outcome.Status.TheVariants.{Done, Usage, Script, Unopened}
-use Rattle.linx_commands.specs.declared.outcome.Status.TheVariants.{ReadFault, WriteFault, JournalFull}
-use Rattle.linx_commands.specs.declared.outcome.Status.TheVariants.{NoMemory, Torn, BadStream}
+use Rattle.linx_commands.specs.declared.outcome.Status.TheVariants.{ReadFault, WriteFault}
+use Rattle.linx_commands.specs.declared.outcome.Status.TheVariants.{JournalFull, NoMemory, Torn}
+use Rattle.linx_commands.specs.declared.outcome.Status.TheVariants.{BadStream}
 
 -- ---- of a run so far
 
@@ -83,7 +84,7 @@ of_run script log is =
 run_under : (asked : Asked) (script : ScriptParts) (log : Log) → IsRunUnder asked script log
     → IsRunOrFront script log
 run_under Run script log run = (run.0, run.1.so_far)
-run_under Serial script log run = (run.run, run.is.so_far)
+run_under (InOrder order) script log run = (run.run, run.is.so_far)
 run_under (Gen n) script log run = (run.0, run.1.so_far)
 
 run_of_answer : (asked : Asked) (status : Status) (script : ScriptParts) (log : Log)
@@ -136,6 +137,7 @@ headline_caused asked (BadStream at) told log cause = absurd cause
 pub headline_under : (asked : Asked) (status : Status) (told : Option (List ℕ)) (log : Log)
     → IsCausedUnder asked status told log → HeadlineUnder asked told log
 headline_under Run status told log cause = headline_caused Run status told log cause
-headline_under Serial status told log cause = headline_caused Serial status told log cause
+headline_under (InOrder order) status told log cause =
+    headline_caused (InOrder order) status told log cause
 headline_under (Gen n) status told log cause =
     headline_outcome (Gen n) status (generated n) log cause

@@ -1,6 +1,5 @@
 -- From a read up to a limit to what a run took of its source.
-use Rattle.std.proofs.Common.{◌≡◌, ◌∙◌, ℕ, List, [], ◌++◌, length, refl, ap, sym, inl, inr}
-use Rattle.std.specs.Prelude.{Option}
+use Rattle.std.proofs.Common.{◌≡◌, ◌∙◌, ℕ, List, [], ◌++◌, length, refl, ap, sym, inl, inr, Option}
 use Rattle.std.specs.Io.KnownBytes.{IsAtEnd}
 use Rattle.linx_outside.specs.Told.{MovesBytes}
 use Rattle.linx_outside.specs.declared.whole_reads.Reached.{Reached}

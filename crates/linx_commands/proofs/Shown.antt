@@ -21,8 +21,8 @@ use Rattle.journal.specs.declared.effect.Step.{Step}
 use Rattle.journal.specs.declared.head.Head.{Head}
 use Rattle.journal.specs.declared.head.Head.TheVariants as heads
 use Rattle.journal.specs.Effects.{arrivals_of, attached, closings, ending, found, hunted, notice}
-use Rattle.journal.specs.History.{endpoint_by, name_in, name_of, name_or_none, open_endpoints, opening_name}
-use Rattle.journal.specs.History.{opens}
+use Rattle.journal.specs.History.{endpoint_by, name_in, name_of, name_or_none, open_endpoints}
+use Rattle.journal.specs.History.{opening_name, opens}
 use Rattle.journal.specs.Laws.{IsBounded, IsMaker, effects_by}
 use Rattle.journal.specs.Living.{find, is_alive}
 use Rattle.journal.specs.Logs.{Log}
@@ -36,8 +36,8 @@ use Rattle.journal_text.proofs.Showing.{text_shows_makers}
 use Rattle.journal_text.proofs.Spelling.{ArePlain, name-clean}
 use Rattle.link_laws.specs.Brought.{Brought, MayBring, arrives, brought_at, goes_down, goes_up}
 use Rattle.link_laws.specs.Brought.{meets, nothing, parts}
-use Rattle.link_laws.specs.Laws.{HasEffects, IsHandedOver, IsLegal, IsTick, KeepsPackets, KeepsTicks}
-use Rattle.link_laws.specs.Laws.{delivers, down_if, downs_of, loses, stays}
+use Rattle.link_laws.specs.Laws.{HasEffects, IsHandedOver, IsLegal, IsTick, KeepsPackets}
+use Rattle.link_laws.specs.Laws.{KeepsTicks, delivers, down_if, downs_of, loses, stays}
 
 -- ---- the effects of a step
 

@@ -12,8 +12,9 @@ use Rattle.script_lang.specs.Reading.{script_of}
 use Rattle.linx_commands.specs.Runs.{read_of}
 use Rattle.linx_commands.specs.declared.outcome.Status.{Status}
 use Rattle.linx_commands.specs.declared.outcome.Status.TheVariants.{Done, Usage, Script, Unopened}
-use Rattle.linx_commands.specs.declared.outcome.Status.TheVariants.{ReadFault, WriteFault, JournalFull}
-use Rattle.linx_commands.specs.declared.outcome.Status.TheVariants.{NoMemory, Torn, BadStream}
+use Rattle.linx_commands.specs.declared.outcome.Status.TheVariants.{ReadFault, WriteFault}
+use Rattle.linx_commands.specs.declared.outcome.Status.TheVariants.{JournalFull, NoMemory, Torn}
+use Rattle.linx_commands.specs.declared.outcome.Status.TheVariants.{BadStream}
 
 -- what each status says of a source's bytes that gave no script
 abbrev pub IsUnread : Status → Option (List ℕ) → Type 0

@@ -9,7 +9,7 @@ use Rattle.linx_commands.specs.Runs.{Completes, IsOutcomeOf, IsCaused}
 use Rattle.linx_commands.specs.Statuses.{IsDoneOrRefused}
 use Rattle.linx_commands.specs.Streams.{Reads}
 use Rattle.command_words.specs.declared.request.Asked.{Asked}
-use Rattle.command_words.specs.declared.request.Asked.TheVariants.{Run, Serial, Gen}
+use Rattle.command_words.specs.declared.request.Asked.TheVariants.{Run, InOrder, Gen}
 use Rattle.linx_commands.specs.declared.outcome.Status.{Status}
 use Rattle.linx_commands.specs.declared.outcome.Status.TheVariants.{WriteFault}
 
@@ -17,14 +17,14 @@ use Rattle.linx_commands.specs.declared.outcome.Status.TheVariants.{WriteFault}
 -- spell, where it told them, or of the generated one, and of the journal
 abbrev pub IsCausedUnder : Asked → Status → Option (List ℕ) → Log → Type 0
 IsCausedUnder Run status told log = IsCaused Run status told log
-IsCausedUnder Serial status told log = IsCaused Serial status told log
+IsCausedUnder (InOrder order) status told log = IsCaused (InOrder order) status told log
 IsCausedUnder (Gen n) status told log = IsOutcomeOf (Gen n) status (generated n) log
 
 -- the run that a command asks for is done, or memory was refused, where neither a read nor a write
 -- failed, and the journal has room
 abbrev pub CompletesUnder : Asked → Option (List ℕ) → Status → Log → Type 0
 CompletesUnder Run told status log = IfSome told (λ bytes. Completes bytes status log)
-CompletesUnder Serial told status log = IfSome told (λ bytes. Completes bytes status log)
+CompletesUnder (InOrder order) told status log = IfSome told (λ bytes. Completes bytes status log)
 CompletesUnder (Gen n) told status log =
     is_full log.steps ≡ false → status ≢ WriteFault → IsDoneOrRefused status
 
@@ -33,12 +33,12 @@ abbrev pub ReadsUnder : {S : Type 0} → Asked → (S → Option (List ℕ)) →
     → (S → Type 0) → S → S → Status → Type 0
 ReadsUnder Run left faults last is_faultless old new status =
     Reads left faults last is_faultless old new status
-ReadsUnder Serial left faults last is_faultless old new status =
+ReadsUnder (InOrder order) left faults last is_faultless old new status =
     Reads left faults last is_faultless old new status
 ReadsUnder (Gen n) left faults last is_faultless old new status = new ≡ old
 
 -- what a command writes of a whole run: its text, or the summary of a generated one
 abbrev pub written_under : Asked → Log → List ℕ
 written_under Run log = text_of log
-written_under Serial log = text_of log
+written_under (InOrder order) log = text_of log
 written_under (Gen n) log = summary_of log

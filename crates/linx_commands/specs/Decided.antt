@@ -6,13 +6,15 @@ use Rattle.run_orders.specs.Laws.{makers_of}
 use Rattle.script_lang.specs.Parts.{ScriptParts}
 use Rattle.fabric.specs.Run.{Layout}
 use Rattle.linx_commands.specs.Runs.{IsRunAs, IsRunInOrder, IsStoppedFull}
-use Rattle.command_words.specs.declared.request.Asked.TheVariants.{Serial}
+use Rattle.command_words.specs.declared.request.TurnOrder.{TurnOrder}
+use Rattle.command_words.specs.declared.request.Asked.TheVariants.{InOrder}
 
 -- a journal is that of a run of a script, whole or stopped, in whichever order the turns came
 abbrev pub IsRunOrFront : ScriptParts → Log → Type 0
 IsRunOrFront script log = (run : Layout) × IsRunAs script run log
 
--- THE ORDER OF THE STEPS' MAKERS DECIDES A JOURNAL, and so does its text; `serial` leaves no choice
+-- THE ORDER OF THE STEPS' MAKERS DECIDES A JOURNAL, and so does its text; `serial` leaves no choice,
+-- and neither does a seed
 pub record JournalsAreDecided : Type 0 where
   -- two journals of runs, whose steps were made by the same makers in the same order, are one
   pub run :
@@ -22,15 +24,16 @@ pub record JournalsAreDecided : Type 0 where
   pub text :
       (script : ScriptParts) (one two : Log) → IsRunOrFront script one
       → IsRunOrFront script two → text_of one ≡ text_of two → one ≡ two
-  -- two journals of the whole run in the fixed order are one, so `serial` has one text
-  pub serial :
-      (script : ScriptParts) (one two : Log) → IsRunInOrder script one → IsRunInOrder script two
-      → one ≡ two
+  -- two journals of the whole run in one order are one: so `serial` has one text, and so has a seed
+  pub in_order :
+      (order : TurnOrder) (script : ScriptParts) (one two : Log) → IsRunInOrder order script one
+      → IsRunInOrder order script two → one ≡ two
   -- so are two that were full before the end
   pub full :
-      (script : ScriptParts) (one two : Log) → IsStoppedFull Serial script one
-      → IsStoppedFull Serial script two → one ≡ two
-  -- and no script has one of each kind, so `serial` has one status of both
+      (order : TurnOrder) (script : ScriptParts) (one two : Log)
+      → IsStoppedFull (InOrder order) script one → IsStoppedFull (InOrder order) script two
+      → one ≡ two
+  -- and no script has one of each kind in one order, so `serial` and a seed have one status of both
   pub apart :
-      (script : ScriptParts) (one two : Log) → IsRunInOrder script one
-      → IsStoppedFull Serial script two → ⊥
+      (order : TurnOrder) (script : ScriptParts) (one two : Log) → IsRunInOrder order script one
+      → IsStoppedFull (InOrder order) script two → ⊥

@@ -1,6 +1,5 @@
 -- What a run promises of its signals, in the words of who uses it.
-use Rattle.std.specs.Prelude.{◌≡◌, ◌⊎◌, ℕ, List, [], ◌∷◌, Option, None, Ok, IfSome}
-use Rattle.std.specs.Prelude.{IsSomeAnd}
+use Rattle.std.specs.Prelude.{◌≡◌, ◌⊎◌, ℕ, List, [], ◌∷◌, Option, None, Ok, IfSome, IsSomeAnd}
 use Rattle.sigsel.specs.Selection.{first_selected}
 use Rattle.sigsel.specs.declared.sigsel.Sigsel.{Sigsel}
 use Rattle.journal.specs.History.{endpoint_by}
@@ -21,7 +20,7 @@ use Rattle.stage.specs.Plays.{AllFollow}
 use Rattle.stage.specs.Turns.{shape_of}
 use Rattle.work_gen.specs.Generated.{generated}
 use Rattle.command_words.specs.declared.request.Asked.{Asked}
-use Rattle.command_words.specs.declared.request.Asked.TheVariants.{Run, Serial, Gen}
+use Rattle.command_words.specs.declared.request.Asked.TheVariants.{Run, InOrder, Gen}
 use Rattle.linx_commands.specs.Runs.{IsEmptyLog}
 
 -- it holds before the first step, and after each one
@@ -71,5 +70,5 @@ pub record HeadlineOfSource (told : Option (List ℕ)) (log : Log) : Type 0 wher
 -- what a command hands back: an empty journal, or that of the script which it asks for
 abbrev pub HeadlineUnder : Asked → Option (List ℕ) → Log → Type 0
 HeadlineUnder Run told log = IsEmptyLog log ⊎ HeadlineOfSource told log
-HeadlineUnder Serial told log = IsEmptyLog log ⊎ HeadlineOfSource told log
+HeadlineUnder (InOrder order) told log = IsEmptyLog log ⊎ HeadlineOfSource told log
 HeadlineUnder (Gen n) told log = IsEmptyLog log ⊎ Headline (generated n) log.steps

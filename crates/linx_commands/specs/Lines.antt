@@ -16,8 +16,9 @@ use Rattle.script_words.specs.Failures.{reason_of}
 use Rattle.script_words.specs.declared.fault.Fault.{Fault}
 use Rattle.linx_commands.specs.declared.outcome.Status.{Status}
 use Rattle.linx_commands.specs.declared.outcome.Status.TheVariants.{Done, Usage, Script, Unopened}
-use Rattle.linx_commands.specs.declared.outcome.Status.TheVariants.{ReadFault, WriteFault, JournalFull}
-use Rattle.linx_commands.specs.declared.outcome.Status.TheVariants.{NoMemory, Torn, BadStream}
+use Rattle.linx_commands.specs.declared.outcome.Status.TheVariants.{ReadFault, WriteFault}
+use Rattle.linx_commands.specs.declared.outcome.Status.TheVariants.{JournalFull, NoMemory, Torn}
+use Rattle.linx_commands.specs.declared.outcome.Status.TheVariants.{BadStream}
 use Rattle.linx_commands.specs.declared.phrase.Phrase.{Phrase}
 use Rattle.linx_commands.specs.declared.phrase.Phrase.TheVariants as says
 

@@ -8,7 +8,7 @@ use Rattle.command_words.specs.declared.page.Page.{Page}
 use Rattle.command_words.specs.declared.request.Asked.{Asked}
 use Rattle.command_words.specs.declared.request.Asked.TheVariants as asks
 use Rattle.command_words.specs.declared.request.Request.{Request}
-use Rattle.command_words.specs.declared.request.Request.TheVariants.{Show, Play, Echo}
+use Rattle.command_words.specs.declared.request.Request.TheVariants.{Show, Play, Echo, Serve}
 use Rattle.journal.specs.Logs.{Log}
 use Rattle.linx_outside.specs.declared.files.OpenFault.{OpenFault}
 use Rattle.linx_commands.specs.Causes.{is_of_writing}
@@ -55,6 +55,11 @@ IfPlay _ holds = Unit {0}
 abbrev pub IfEcho : Option Request → Type 0 → Type 0
 IfEcho (Some Echo) holds = holds
 IfEcho _ holds = Unit {0}
+
+-- if a gateway is asked for, this holds of its clients
+abbrev pub IfServe : Option Request → (ℕ → Type 0) → Type 0
+IfServe (Some (Serve clients)) holds = holds clients
+IfServe _ holds = Unit {0}
 
 -- what is asked for by a run in threads
 abbrev pub asked_in : InThreads → Asked
@@ -127,10 +132,11 @@ IsPlayedFrom asked (Some name) told unread reads of_file refuses silent reads_fi
     log
 
 -- WHAT THE PROGRAM TELLS of its words, its files and its streams. The words ask for nothing, and
--- nothing is touched but standard error; or for a page of the help; or for a run; or for an echo
+-- nothing is touched but standard error; or for a page of the help; or for a run; or for an echo;
+-- or for a gateway
 pub record IsServed (texts : List (List ℕ)) (unread silent : Type 0) (writes : List ℕ → Type 0)
-    (plays : Asked → Log → Type 0) (echoes : Log → Type 0) (tells : List ℕ → Type 0)
-    (status : Status) : Type 0 where
+    (plays : Asked → Log → Type 0) (echoes : Log → Type 0) (serves : ℕ → Log → Type 0)
+    (tells : List ℕ → Type 0) (status : Status) : Type 0 where
   -- the journal of the run
   pub log : Log
   -- where the words ask for nothing the status says what is wrong, or memory was refused
@@ -143,6 +149,8 @@ pub record IsServed (texts : List (List ℕ)) (unread silent : Type 0) (writes :
   pub played : IfPlay (request_by texts) (λ asked. plays asked log)
   -- an echo that is asked for
   pub echoed : IfEcho (request_by texts) (echoes log)
+  -- a gateway that is asked for
+  pub served : IfServe (request_by texts) (λ clients. serves clients log)
   -- the journal is legal
   pub legal : IsLegalSomehow log.steps
   -- the line on standard error, by the words, the status and the journal

@@ -1,6 +1,6 @@
 -- What a run of a script is, and what each status says of it.
-use Rattle.std.specs.Prelude.{ℕ, ◌≡◌, ◌≢◌, ◌⊎◌, true, false, List, [], take, Option}
-use Rattle.std.specs.Prelude.{Some, None, Ok, Err, IfSome, OnSome, IsOk}
+use Rattle.std.specs.Prelude.{ℕ, ◌≡◌, ◌≢◌, ◌⊎◌, true, false, List, [], take, Option, Some, None, Ok}
+use Rattle.std.specs.Prelude.{Err, IfSome, OnSome, IsOk}
 use Rattle.journal.specs.declared.effect.Step.{Step}
 use Rattle.journal.specs.Logs.{Log, is_full}
 use Rattle.journal.specs.Shapes.{Shape}
@@ -20,11 +20,18 @@ use Rattle.workers.specs.declared.ran.Ran.{Ran}
 use Rattle.linx_commands.specs.Statuses.{IsDoneOrRefused}
 use Rattle.linx_commands.specs.Streams.{read_most}
 use Rattle.command_words.specs.declared.request.Asked.{Asked}
-use Rattle.command_words.specs.declared.request.Asked.TheVariants.{Run, Serial, Gen}
+use Rattle.command_words.specs.declared.request.TurnOrder.{TurnOrder}
+use Rattle.command_words.specs.declared.request.TurnOrder.TheVariants.{Fixed, Seed}
+use Rattle.command_words.specs.declared.request.Asked.TheVariants.{Run, InOrder, Gen}
+use Rattle.order_rules.specs.Orders.{Order}
+use Rattle.order_rules.specs.Seeds.{rule_of}
+use Rattle.orders.specs.Runs.{IsInOrder, IsStoppedInOrder}
+use Rattle.orders.specs.Seeds.{span_of}
 use Rattle.linx_commands.specs.declared.outcome.Status.{Status}
 use Rattle.linx_commands.specs.declared.outcome.Status.TheVariants.{Done, Usage, Script, Unopened}
-use Rattle.linx_commands.specs.declared.outcome.Status.TheVariants.{ReadFault, WriteFault, JournalFull}
-use Rattle.linx_commands.specs.declared.outcome.Status.TheVariants.{NoMemory, Torn, BadStream}
+use Rattle.linx_commands.specs.declared.outcome.Status.TheVariants.{ReadFault, WriteFault}
+use Rattle.linx_commands.specs.declared.outcome.Status.TheVariants.{JournalFull, NoMemory, Torn}
+use Rattle.linx_commands.specs.declared.outcome.Status.TheVariants.{BadStream}
 
 -- a run so far of a script, whose journal has this log
 pub record IsRunAs (script : ScriptParts) (run : Layout) (log : Log) : Type 0 where
@@ -46,29 +53,44 @@ pub record IsWholeAs (script : ScriptParts) (run : Layout) (log : Log) : Type 0 
 abbrev pub IsRunOf : ScriptParts → Log → Type 0
 IsRunOf script log = (run : Layout) × IsWholeAs script run log
 
--- A JOURNAL IS THAT OF THE WHOLE RUN IN THE FIXED ORDER: what its rounds make until all is over
-pub record IsRunInOrder (script : ScriptParts) (log : Log) : Type 0 where
+-- the order that a number decides for a script: its rule, and no maker before it
+abbrev pub seeded_order : ScriptParts → ℕ → Order
+seeded_order script seed = record { left = []; rule = rule_of (span_of script) seed }
+
+-- a whole run in an order: what the rounds of the fixed one make until all is over, or the turns of
+-- whom the order of a number names
+abbrev pub IsWholeIn : TurnOrder → ScriptParts → Layout → Type 0
+IsWholeIn Fixed script run = IsWhole script run
+IsWholeIn (Seed n) script run = IsInOrder script (seeded_order script n) run
+
+-- a run in an order that stopped: behind so many rounds, and of the next one so many turns; or behind
+-- so many turns of whom the order of a number names
+abbrev pub IsStoppedIn : TurnOrder → ScriptParts → Layout → Type 0
+IsStoppedIn Fixed script run = IsStoppedRun script (first_layout script) run
+IsStoppedIn (Seed n) script run = IsStoppedInOrder script (seeded_order script n) run
+
+-- A JOURNAL IS THAT OF THE WHOLE RUN IN AN ORDER
+pub record IsRunInOrder (order : TurnOrder) (script : ScriptParts) (log : Log) : Type 0 where
   pub run : Layout
   pub is : IsWholeAs script run log
-  pub whole : IsWhole script run
+  pub whole : IsWholeIn order script run
 
--- the whole run that a command asks for: under `serial` the one in the fixed order
+-- the whole run that a command asks for: under `serial` and `seed` the one in their order
 abbrev pub IsRunUnder : Asked → ScriptParts → Log → Type 0
 IsRunUnder Run script log = IsRunOf script log
-IsRunUnder Serial script log = IsRunInOrder script log
+IsRunUnder (InOrder order) script log = IsRunInOrder order script log
 IsRunUnder (Gen n) script log = IsRunOf script log
 
--- a run is over: under `serial` it is that of the fixed order
+-- a run is over: under `serial` and `seed` it is that of their order
 abbrev pub IsOverUnder : Asked → ScriptParts → Layout → Type 0
 IsOverUnder Run script run = is_over run ≡ true
-IsOverUnder Serial script run = IsWhole script run
+IsOverUnder (InOrder order) script run = IsWholeIn order script run
 IsOverUnder (Gen n) script run = is_over run ≡ true
 
--- a run was stopped: under `serial` in the fixed order, so behind so many of its rounds, and of
--- the next round so many turns
+-- a run was stopped: under `serial` and `seed` in their order
 abbrev pub IsStoppedUnder : Asked → ScriptParts → Layout → Type 0
 IsStoppedUnder Run script run = Unit {0}
-IsStoppedUnder Serial script run = IsStoppedRun script (first_layout script) run
+IsStoppedUnder (InOrder order) script run = IsStoppedIn order script run
 IsStoppedUnder (Gen n) script run = Unit {0}
 
 -- a script was run: until all was over, or as far as memory and the journal let it
@@ -81,7 +103,7 @@ pub record IsRan (asked : Asked) (script : ScriptParts) (ran : Ran) : Type 0 whe
   pub turn : OnSome ran.stop (is_over ran.stage.run ≡ false)
 
 -- a run of a script stopped where an actor or a link has a turn to take, and the journal takes no
--- further step; under `serial` in the fixed order
+-- further step; under `serial` and `seed` in their order
 pub record IsStoppedFull (asked : Asked) (script : ScriptParts) (log : Log) : Type 0 where
   pub run : Layout
   pub so_far : IsRunAs script run log
@@ -90,7 +112,7 @@ pub record IsStoppedFull (asked : Asked) (script : ScriptParts) (log : Log) : Ty
   pub order : IsStoppedUnder asked script run
 
 -- memory was refused to a run where an actor or a link has a turn to take, and the journal has room;
--- under `serial` in the fixed order
+-- under `serial` and `seed` in their order
 pub record IsRefusedUnder (asked : Asked) (script : ScriptParts) (run : Layout) : Type 0 where
   pub room : is_full run.log.steps ≡ false
   pub turn : is_over run ≡ false

@@ -8,11 +8,12 @@ ghost use Rattle.linx_commands.specs.Statuses.{IsUsageOrRefused};
 ghost use Rattle.linx_commands.specs.Streams.{Reads, Writes};
 ghost use Rattle.linx_commands.specs.Runs.{Completes, IsCaused, IsEmptyLog, IsLegalSomehow};
 ghost use Rattle.linx_commands.specs.Runs.{IsOutcomeOf, IsRan};
-ghost use Rattle.linx_commands.specs.Commands.{IsCausedUnder, CompletesUnder, ReadsUnder, written_under};
+ghost use Rattle.linx_commands.specs.Commands.{IsCausedUnder, CompletesUnder, ReadsUnder};
+ghost use Rattle.linx_commands.specs.Commands.{written_under};
 ghost use Rattle.linx_commands.specs.Headline.{HeadlineUnder};
-ghost use Rattle.linx_commands.specs.Programs.{IfEcho, IfPlay, IfShow, IsPlayedFrom};
+ghost use Rattle.linx_commands.specs.Programs.{IfEcho, IfPlay, IfServe, IfShow, IsPlayedFrom};
 ghost use Rattle.linx_commands.specs.Programs.{IsPlayedOfFile, IsShown, ReadsFile, asked_in};
-ghost use Rattle.linx_commands.specs.Sessions.{IsSession};
+ghost use Rattle.linx_commands.specs.Sessions.{IsGatewayOf, IsSession};
 
 use crate::outcome::{Outcome, Status};
 use crate::serving::{InThreads, alone, conclude, read_script, unstarted};
@@ -206,6 +207,11 @@ pub fn run<R: Threads + Wait + Sync, G: Gate + Sync, F: Files, S: Source, K: Sin
     ensures echoed { IfEcho (request_of words.now) (IsSession S.left S.faults S.last_count
         S.is_faultless K.held K.faults K.last_count script.old script.new out.old out.new
         result.status result.journal.log) }
+
+    // Of a gateway over the streams.
+    ensures served { IfServe (request_of words.now) (λ clients. IsGatewayOf clients S.left S.faults
+        S.last_count S.is_faultless K.held K.faults K.last_count script.old script.new out.old
+        out.new result.status result.journal.log) }
     ensures legal { IsLegalSomehow result.journal.log.steps }
 {
     match alone(alloc, words, files, script, out) {

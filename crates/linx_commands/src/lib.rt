@@ -1,8 +1,9 @@
 //! linx_commands is what the program `linx_sim` does. It reads a script of nodes, links, planned
-//! losses and actors, runs it with a thread for each actor and each link, or in the fixed order, and
-//! writes each endpoint's log and the journal of all steps; or it runs the generated script of a
-//! number with such threads, and writes the summary of the journal; or it writes a page of the help;
-//! or it serves one peer over the program's streams by an echo.
+//! losses and actors, runs it with a thread for each actor and each link, in the fixed order, or in
+//! one that a number decides, and writes each endpoint's log and the journal of all steps; or it runs
+//! the generated script of a number with such threads, and writes the summary of the journal; or it
+//! writes a page of the help; or it serves one peer over the program's streams by an echo, or clients
+//! by a gateway.
 //! `alone` does what takes no thread, and `run` all of it. `program` is the whole program, over a
 //! command line, files and streams of any kind. It alone gives a `Told`, so a `main` with this
 //! result can't end in any other way.
@@ -22,7 +23,7 @@ mod words;
 pub use in_threads::run;
 pub use laws::journals_are_decided;
 pub use outcome::{Outcome, Status};
-pub use serving::{InThreads, alone, serial};
+pub use serving::{InThreads, alone, in_order};
 pub use told::Told;
 pub use whole_program::program;
 pub use words::{Unread, Words};

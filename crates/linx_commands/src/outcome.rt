@@ -25,9 +25,10 @@ pub enum Status {
     JournalFull,
     /// Memory was refused.
     NoMemory,
-    /// The source of an echo ended within the frame that begins at this byte.
+    /// The source of an echo or a gateway ended within the frame or the request that begins at this byte.
     Torn { at: u64 },
-    /// The bytes of an echo's source from this one on begin no frame, or one that breaks the rules.
+    /// The bytes of such a source from this one on begin no frame or request, or a frame that breaks
+    /// the rules.
     BadStream { at: u64 },
 }
 

@@ -1,9 +1,8 @@
-//! What is done without threads: a page of the help, a run in the fixed order, and an echo over the
-//! streams. It returns where each read and each write does.
+//! What is done without threads: a page of the help, a run in an order, and an echo or a gateway
+//! over the streams. It returns where each read and each write does.
 
-ghost use Rattle.std.specs.Prelude.{◌≡◌, true, Ok};
-ghost use Rattle.std.specs.Prelude.{IfOk, IfErr, OnOk, IfSome, IfNone};
-ghost use Rattle.std.specs.Prelude.{map, option_map, string_bytes};
+ghost use Rattle.std.specs.Prelude.{◌≡◌, true, Ok, IfOk, IfErr, OnOk, IfSome, IfNone, map};
+ghost use Rattle.std.specs.Prelude.{option_map, string_bytes};
 ghost use Rattle.std.specs.Io.KnownBytes.{IsAtEnd};
 ghost use Rattle.journal_text.specs.Text.{text_of};
 ghost use Rattle.script_lang.specs.Parts.{ScriptParts};
@@ -18,17 +17,18 @@ ghost use Rattle.linx_commands.specs.Commands.{ReadsUnder, written_under};
 ghost use Rattle.linx_commands.specs.Headline.{HeadlineUnder};
 ghost use Rattle.linx_commands.specs.Causes.{IsUnread, is_of_writing, read_status, script_status};
 ghost use Rattle.linx_commands.specs.Causes.{stop_status, report_status};
-ghost use Rattle.linx_commands.specs.Programs.{IfEcho, IfPlay, IfShow, IsLeft, IsPlayedFrom};
-ghost use Rattle.linx_commands.specs.Programs.{IsPlayedOfFile, IsShown, ReadsFile};
-ghost use Rattle.linx_commands.specs.Sessions.{IsSession};
+ghost use Rattle.linx_commands.specs.Programs.{IfEcho, IfPlay, IfServe, IfShow, IsLeft};
+ghost use Rattle.linx_commands.specs.Programs.{IsPlayedFrom, IsPlayedOfFile, IsShown, ReadsFile};
+ghost use Rattle.linx_commands.specs.Sessions.{IsGatewayOf, IsSession};
 
 use crate::outcome::{Outcome, Status};
-use crate::session::echo;
-use command_words::{Asked, Misuse, Page, Request, file_named};
+use crate::session::{echo, gateway};
+use command_words::{Asked, Misuse, Page, Request, TurnOrder, file_named};
 use fabric::StopCause;
 use journal::Journal;
 use linx_base::{NameList, Names, NoMemory};
 use linx_outside::{Files, ReadStop, Sink, Source, WriteFault, read_up_to, write_all};
+use orders::rule_of_seed;
 use report::{ReportError, write_report, write_summary};
 use script_lang::{Script, ScriptError, parse};
 use stage::Stage;
@@ -96,14 +96,27 @@ fn write_run<K: Sink>(alloc: Global, asked: Asked, journal: &Journal, out: &mut 
         result (written_under asked journal.now.log) }
 {
     match asked {
-        Asked::Run | Asked::Serial => status_of_report(write_report(alloc, journal, out)),
+        Asked::Run | Asked::InOrder(_) => status_of_report(write_report(alloc, journal, out)),
         Asked::Gen(_) => status_of_report(write_summary(alloc, journal, out)),
     }
 }
 
+/// Plays a script in the order that a number decides.
+fn play_seeded(alloc: Global, seed: u32, script: Script) -> Result<Ran, NoMemory>
+    ensures { IfOk result (IsRan (Asked.InOrder (TurnOrder.Seed seed)) script) }
+{
+    let mut rule = rule_of_seed(&script, u64::from(seed));
+    let mut stage = Stage::new(alloc, script)?;
+    let stop = match orders::play_in_order(alloc, &mut stage, &[], &mut rule) {
+        Ok(()) => None,
+        Err(cause) => Some(cause),
+    };
+    Ok(Ran { stage, stop })
+}
+
 /// Plays a script in the fixed order.
-fn play_in_order(alloc: Global, script: Script) -> Result<Ran, NoMemory>
-    ensures { IfOk result (IsRan Asked.Serial script) }
+fn play_fixed(alloc: Global, script: Script) -> Result<Ran, NoMemory>
+    ensures { IfOk result (IsRan (Asked.InOrder TurnOrder.Fixed) script) }
 {
     let mut stage = Stage::new(alloc, script)?;
     let stop = match stage.play() {
@@ -111,6 +124,16 @@ fn play_in_order(alloc: Global, script: Script) -> Result<Ran, NoMemory>
         Err(cause) => Some(cause),
     };
     Ok(Ran { stage, stop })
+}
+
+/// Plays a script in an order.
+fn play_in_order(alloc: Global, order: TurnOrder, script: Script) -> Result<Ran, NoMemory>
+    ensures { IfOk result (IsRan (Asked.InOrder order) script) }
+{
+    match order {
+        TurnOrder::Fixed => play_fixed(alloc, script),
+        TurnOrder::Seed(seed) => play_seeded(alloc, seed, script),
+    }
 }
 
 /// What is asked for of a run that came to its end goes to the sink.
@@ -169,11 +192,17 @@ pub(crate) fn read_script<S: Source>(alloc: Global, source: &mut S) -> Result<Sc
     }
 }
 
-/// Reads a script, runs it in the fixed order, and writes the text of the whole run.
-pub fn serial<S: Source, K: Sink>(alloc: Global, script: &mut S, out: &mut K) -> Outcome
-    ensures cause { IsCaused Asked.Serial result.status (S.left script.old) result.journal.log }
+/// Reads a script, runs it in an order, and writes the text of the whole run.
+pub fn in_order<S: Source, K: Sink>(
+    alloc: Global,
+    order: TurnOrder,
+    script: &mut S,
+    out: &mut K,
+) -> Outcome
+    ensures cause { IsCaused (Asked.InOrder order) result.status (S.left script.old)
+        result.journal.log }
     ensures legal { IsLegalSomehow result.journal.log.steps }
-    ensures headline { HeadlineUnder Asked.Serial (S.left script.old) result.journal.log }
+    ensures headline { HeadlineUnder (Asked.InOrder order) (S.left script.old) result.journal.log }
     ensures complete { IfSome (S.left script.old) (λ told.
         Completes told result.status result.journal.log) }
     ensures source { Reads S.left S.faults S.last_count S.is_faultless script.old script.new
@@ -182,51 +211,63 @@ pub fn serial<S: Source, K: Sink>(alloc: Global, script: &mut S, out: &mut K) ->
         result.status (text_of result.journal.log) }
 {
     match read_script(alloc, script) {
-        Ok(script) => conclude(alloc, Asked::Serial, play_in_order(alloc, script), out),
+        Ok(script) => conclude(
+            alloc,
+            Asked::InOrder(order),
+            play_in_order(alloc, order, script),
+            out,
+        ),
         Err(status) => unstarted(alloc, status),
     }
 }
 
-/// The run of a file's script in the fixed order.
-fn serial_of_file<F: Files, K: Sink>(alloc: Global, files: &F, name: &str, out: &mut K) -> Outcome
-    ensures played { IsPlayedOfFile Asked.Serial (F.told files.now name.now)
+/// The run of a file's script in an order.
+fn in_order_of_file<F: Files, K: Sink>(
+    alloc: Global,
+    order: TurnOrder,
+    files: &F,
+    name: &str,
+    out: &mut K,
+) -> Outcome
+    ensures played { IsPlayedOfFile (Asked.InOrder order) (F.told files.now name.now)
         (F.refuses files.now name.now) (out.new ≡ out.old)
-        (ReadsFile F.File.left F.File.faults F.File.last_count F.File.is_faultless Asked.Serial
-        (F.told files.now name.now) result.status)
+        (ReadsFile F.File.left F.File.faults F.File.last_count F.File.is_faultless
+        (Asked.InOrder order) (F.told files.now name.now) result.status)
         (λ written. Writes K.held K.faults K.last_count K.can_take out.old out.new
         result.status written)
         result.status result.journal.log }
     ensures legal { IsLegalSomehow result.journal.log.steps }
 {
     match files.open(name) {
-        Ok(mut file) => serial(alloc, &mut file, out),
+        Ok(mut file) => in_order(alloc, order, &mut file, out),
         Err(why) => unstarted(alloc, Status::Unopened(why)),
     }
 }
 
-/// The run in the fixed order of a file's script, or of that of standard input where none is named.
-fn serial_from<F: Files, S: Source, K: Sink>(
+/// The run in an order of a file's script, or of that of standard input where none is named.
+fn in_order_from<F: Files, S: Source, K: Sink>(
     alloc: Global,
+    order: TurnOrder,
     file: Option<&str>,
     files: &F,
     script: &mut S,
     out: &mut K,
 ) -> Outcome
-    ensures played { IsPlayedFrom Asked.Serial (option_map (λ name. name.now) file.entry)
+    ensures played { IsPlayedFrom (Asked.InOrder order) (option_map (λ name. name.now) file.entry)
         (S.left script.old) (script.new ≡ script.old)
-        (ReadsUnder Asked.Serial S.left S.faults S.last_count S.is_faultless script.old script.new
+        (ReadsUnder (Asked.InOrder order) S.left S.faults S.last_count S.is_faultless script.old script.new
         result.status)
         (F.told files.now) (F.refuses files.now) (out.new ≡ out.old)
         (λ name. ReadsFile F.File.left F.File.faults F.File.last_count F.File.is_faultless
-        Asked.Serial (F.told files.now name) result.status)
+        (Asked.InOrder order) (F.told files.now name) result.status)
         (λ written. Writes K.held K.faults K.last_count K.can_take out.old out.new
         result.status written)
         result.status result.journal.log }
     ensures legal { IsLegalSomehow result.journal.log.steps }
 {
     match file {
-        Some(name) => serial_of_file(alloc, files, name, out),
-        None => serial(alloc, script, out),
+        Some(name) => in_order_of_file(alloc, order, files, name, out),
+        None => in_order(alloc, order, script, out),
     }
 }
 
@@ -319,15 +360,26 @@ pub fn alone<F: Files, S: Source, K: Sink>(
     ensures echoed { IfOk result (λ outcome. IfEcho (request_of words.now)
         (IsSession S.left S.faults S.last_count S.is_faultless K.held K.faults K.last_count
         script.old script.new out.old out.new outcome.status outcome.journal.log)) }
+
+    // Of a gateway over the streams.
+    ensures served { IfOk result (λ outcome. IfServe (request_of words.now) (λ clients.
+        IsGatewayOf clients S.left S.faults S.last_count S.is_faultless K.held K.faults
+        K.last_count script.old script.new out.old out.new outcome.status outcome.journal.log)) }
     ensures legal { IfOk result (λ outcome. IsLegalSomehow outcome.journal.log.steps) }
 {
     match Request::of(alloc, words) {
         None => Ok(refuse(alloc, words)),
         Some(Request::Show(page)) => Ok(show(alloc, page, out)),
         Some(Request::Echo) => Ok(echo(alloc, script, out)),
-        Some(Request::Play(Asked::Serial)) => {
-            Ok(serial_from(alloc, file_named(words), files, script, out))
-        }
+        Some(Request::Serve(clients)) => Ok(gateway(alloc, clients, script, out)),
+        Some(Request::Play(Asked::InOrder(order))) => Ok(in_order_from(
+            alloc,
+            order,
+            file_named(words),
+            files,
+            script,
+            out,
+        )),
         Some(Request::Play(Asked::Run)) => Err(InThreads::Run),
         Some(Request::Play(Asked::Gen(number))) => Err(InThreads::Gen(number)),
     }

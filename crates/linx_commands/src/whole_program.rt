@@ -5,7 +5,7 @@ ghost use Rattle.command_words.specs.Requests.{file_by};
 ghost use Rattle.linx_commands.specs.Commands.{ReadsUnder};
 ghost use Rattle.linx_commands.specs.Programs.{IsPlayedFrom, IsServed, IsToldUnread, ReadsFile};
 ghost use Rattle.linx_commands.specs.Programs.{texts_of};
-ghost use Rattle.linx_commands.specs.Sessions.{IsSession};
+ghost use Rattle.linx_commands.specs.Sessions.{IsGatewayOf, IsSession};
 ghost use Rattle.linx_commands.specs.Streams.{Writes, WritesLine};
 ghost use Rattle.linx_commands.specs.declared.outcome.Status.TheVariants.{Done};
 
@@ -42,6 +42,8 @@ pub fn program<R: Threads + Wait + Sync, F: Files, S: Source, K: Sink, L: Sink>(
         result log)
         (λ log. IsSession S.left S.faults S.last_count S.is_faultless K.held K.faults K.last_count
         script.old script.new text.old text.new result log)
+        (λ clients log. IsGatewayOf clients S.left S.faults S.last_count S.is_faultless K.held
+        K.faults K.last_count script.old script.new text.old text.new result log)
         (λ line. WritesLine L.held L.faults L.last_count L.can_take errors.old errors.new line)
         result }
 

@@ -28,6 +28,18 @@ fn words_of_each_command(rt: HostRuntime) -> Result<(), Fail> {
     assert_eq!(rt; status_of(&rt, alloc, &["run"])?, Status::ReadFault);
     assert_eq!(rt; status_of(&rt, alloc, &["serial"])?, Status::ReadFault);
     assert_eq!(rt; status_of(&rt, alloc, &["stream"])?, Status::ReadFault);
+    for clients in ["1", "01", "16"] {
+        assert_eq!(rt;
+            status_of(&rt, alloc, &["gateway", clients])?,
+            Status::ReadFault
+        );
+    }
+    for number in ["0", "4294967295"] {
+        assert_eq!(rt;
+            status_of(&rt, alloc, &["seed", number])?,
+            Status::ReadFault
+        );
+    }
     for number in ["0", "4294967295"] {
         assert_eq!(rt;
             status_of(&rt, alloc, &["gen", number])?,
@@ -38,7 +50,7 @@ fn words_of_each_command(rt: HostRuntime) -> Result<(), Fail> {
 }
 
 /// Words that are near those of a command.
-const NEAR: [&[&str]; 32] = [
+const NEAR: [&[&str]; 43] = [
     &[],
     &[""],
     &["Run"],
@@ -59,6 +71,14 @@ const NEAR: [&[&str]; 32] = [
     &["gen", "7."],
     &["gen", "run"],
     &["gen", "٧"],
+    &["seed"],
+    &["seed", "s.linx"],
+    &["seed", "s.linx", "7"],
+    &["seed", "4294967296", "s.linx"],
+    &["seed", "7", ""],
+    &["seed", "7", "-x"],
+    &["seed", "7", "a", "b"],
+    &["serial", "7", "a"],
     &["run", ""],
     &["run", "-x"],
     &["serial", "--"],
@@ -69,6 +89,9 @@ const NEAR: [&[&str]; 32] = [
     &["gen", "--", "7"],
     &["run", "a", "b"],
     &["stream", "-"],
+    &["gateway"],
+    &["gateway", "0"],
+    &["gateway", "001"],
     &["version", "7"],
     &["help", "runs"],
 ];

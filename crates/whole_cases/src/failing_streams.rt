@@ -5,7 +5,8 @@ use crate::requests::{log_of_client, log_of_server, script_of_requests};
 use crate::runs::{Ended, end_of, roomy_sink, source_of};
 use crate::signals::SELF_SEND;
 use crate::texts::unindented;
-use linx_commands::{Status, serial};
+use command_words::TurnOrder;
+use linx_commands::{Status, in_order};
 use linx_outside::{MemSink, MemSource};
 use std::alloc::Global;
 use std::test::Fail;
@@ -36,7 +37,7 @@ pub fn failing_sink(alloc: Global, most: usize, failing: u64) -> Result<MemSink,
 
 /// How the run in the fixed order ends of a script that this source gives.
 fn end_over(alloc: Global, source: &mut MemSource, sink: &mut MemSink) -> Ended {
-    end_of(serial(alloc, source, sink))
+    end_of(in_order(alloc, TurnOrder::Fixed, source, sink))
 }
 
 const FAULTY_READ: Ended = Ended {
@@ -90,7 +91,7 @@ fn a_read_that_is_never_made_changes_nothing(rt: HostRuntime) -> Result<(), Fail
 /// How the run in the fixed order of a script ends whose text goes to this sink.
 fn end_into(alloc: Global, script: &str, sink: &mut MemSink) -> Result<Ended, Fail> {
     let mut source = source_of(alloc, unindented(alloc, script)?.as_str())?;
-    Ok(end_of(serial(alloc, &mut source, sink)))
+    Ok(end_of(in_order(alloc, TurnOrder::Fixed, &mut source, sink)))
 }
 
 #[test]

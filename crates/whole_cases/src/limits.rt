@@ -7,7 +7,8 @@ ghost use Rattle.linx_commands.specs.Statuses.{IsDoneOrRefused};
 
 use crate::runs::{Ended, end_of, end_without_text, source_of};
 use crate::texts::unindented;
-use linx_commands::{Outcome, Status, serial};
+use command_words::TurnOrder;
+use linx_commands::{Outcome, Status, in_order};
 use linx_outside::{MemSink, PlainSource};
 use std::alloc::Global;
 use std::test::Fail;
@@ -86,7 +87,7 @@ fn run_in_memory(alloc: Global, source: &mut PlainSource, sink: &mut MemSink) ->
         → length sink.old.held + length (text_of result.journal.log) ≤ sink.old.room
         → IsDoneOrRefused result.status }
 {
-    serial(alloc, source, sink)
+    in_order(alloc, TurnOrder::Fixed, source, sink)
 }
 
 #[test]

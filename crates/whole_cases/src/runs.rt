@@ -91,6 +91,22 @@ pub fn end_without_text<R: Threads + Wait + Sync>(
     Ok(end)
 }
 
+/// The text of the whole run of a script under these words.
+fn text_by<R: Threads + Wait + Sync>(
+    rt: &R,
+    alloc: Global,
+    words: &[&str],
+    script: &str,
+) -> Result<String, Fail> {
+    let mut source = source_of(alloc, script)?;
+    let mut sink = roomy_sink(alloc)?;
+    let Ended { status, .. } = run_of(rt, alloc, words, &mut source, &mut sink)?;
+    if status != Status::Done {
+        return Err(Fail::from(status));
+    }
+    Ok(String::from_str(alloc, str::from_utf8(sink.held())?)?)
+}
+
 /// The text of the whole run of a script under a word.
 pub fn text_under<R: Threads + Wait + Sync>(
     rt: &R,
@@ -98,31 +114,25 @@ pub fn text_under<R: Threads + Wait + Sync>(
     word: &str,
     script: &str,
 ) -> Result<String, Fail> {
-    let mut source = source_of(alloc, script)?;
-    let mut sink = roomy_sink(alloc)?;
-    let Ended { status, .. } = run_of(rt, alloc, &[word], &mut source, &mut sink)?;
-    if status != Status::Done {
-        return Err(Fail::from(status));
-    }
-    Ok(String::from_str(alloc, str::from_utf8(sink.held())?)?)
+    text_by(rt, alloc, &[word], script)
 }
 
-/// The run of a script under a word writes its text.
-fn prints_under<R: Threads + Wait + Sync>(
+/// The run of a script under these words writes its text.
+pub fn prints_by<R: Threads + Wait + Sync>(
     rt: &R,
     alloc: Global,
-    word: &str,
+    words: &[&str],
     worked: Worked,
 ) -> Result<(), Fail> {
     let script = unindented(alloc, worked.script)?;
     let wanted = unindented(alloc, worked.text)?;
-    let text = text_under(rt, alloc, word, script.as_str())?;
+    let text = text_by(rt, alloc, words, script.as_str())?;
     compare(text.as_str(), wanted.as_str())
 }
 
 /// The same in the fixed order.
 pub fn prints<R: Threads + Wait + Sync>(rt: &R, alloc: Global, worked: Worked) -> Result<(), Fail> {
-    prints_under(rt, alloc, "serial", worked)
+    prints_by(rt, alloc, &["serial"], worked)
 }
 
 /// The same under each word, for a text in which the order of the turns doesn't show.
@@ -132,7 +142,7 @@ pub fn prints_in_any_order<R: Threads + Wait + Sync>(
     worked: Worked,
 ) -> Result<(), Fail> {
     for word in RUN_AND_SERIAL {
-        prints_under(rt, alloc, word, worked)?;
+        prints_by(rt, alloc, &[word], worked)?;
     }
     Ok(())
 }

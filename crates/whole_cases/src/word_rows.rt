@@ -95,10 +95,14 @@ writes everything that happened.
       play a script with a thread for each actor and each link
   serial [FILE]
       play a script in the fixed order of rounds
+  seed S [FILE]
+      play a script in the order that a number decides
   gen N
       play the generated script of a number, and write its summary
   stream
       serve one peer over a byte stream by an echo
+  gateway N
+      serve clients over a byte stream, each with the calls of LINX
   help [WORD]
       write this help, or that of a word
   version
@@ -115,8 +119,8 @@ exit status:
   4  the text can't be written
   5  the journal is full before the run is over
   6  memory was refused
-  9  a stream ended within a frame
-  11 the bytes of a stream are no frame, or break the rules
+  9  a stream ended within a frame or a request
+  11 the bytes of a stream are no frame or request, or break the rules
 
 The manual is docs/use/linx_sim.1, or `man linx_sim` once it is installed.
 ";
@@ -131,6 +135,28 @@ example:
   linx_sim serial < examples/losses.linx
 ";
 
+const HELP_OF_SEED: &str = "\
+linx_sim seed S [FILE]
+
+Plays a script as serial does, but in an order that the number S decides, which has
+one to ten decimal digits and is at most 4294967295. The text is the same each time
+for one S; other numbers have other orders.
+
+example:
+  linx_sim seed 7 examples/losses.linx
+";
+
+const HELP_OF_GATEWAY: &str = "\
+linx_sim gateway N
+
+Reads the requests of the clients 1 to N, which is at most 16, from standard input,
+in whatever pieces they come, and writes the replies to standard output. Each
+client has an endpoint and timers. No socket is opened.
+
+example:
+  socat TCP-LISTEN:9000,bind=127.0.0.1,fork EXEC:'linx_sim gateway 4'
+";
+
 const HELP_OF_VERSION: &str = "\
 linx_sim version
 
@@ -143,7 +169,7 @@ example:
 
 const VERSION: &str = "linx_sim 1.0\n";
 
-const ROWS: [Row; 32] = [
+const ROWS: [Row; 43] = [
     INPUT,
     Row {
         words: &["run", "-"],
@@ -160,6 +186,18 @@ const ROWS: [Row; 32] = [
     FILE,
     Row {
         words: &["serial", "s.linx"],
+        ..FILE
+    },
+    Row {
+        words: &["seed", "7"],
+        ..INPUT
+    },
+    Row {
+        words: &["seed", "8", "-"],
+        ..INPUT
+    },
+    Row {
+        words: &["seed", "9", "s.linx"],
         ..FILE
     },
     Row {
@@ -183,6 +221,14 @@ const ROWS: [Row; 32] = [
         ..INPUT
     },
     Row {
+        words: &["gateway", "16"],
+        input: Content::NoScript,
+        number: 11,
+        text: Text::Empty,
+        line: "linx_sim: bad stream at 0\n",
+        ..INPUT
+    },
+    Row {
         words: &["run", "t.linx"],
         file: Content::Fault(OpenFault::Other),
         line: "linx_sim: t.linx: no such file\n",
@@ -190,6 +236,12 @@ const ROWS: [Row; 32] = [
     },
     Row {
         words: &["serial", "s.linx"],
+        file: Content::Fault(OpenFault::Missing),
+        line: "linx_sim: s.linx: no such file\n",
+        ..UNOPENED
+    },
+    Row {
+        words: &["seed", "7", "s.linx"],
         file: Content::Fault(OpenFault::Missing),
         line: "linx_sim: s.linx: no such file\n",
         ..UNOPENED
@@ -249,6 +301,11 @@ const ROWS: [Row; 32] = [
         ..SHOWN
     },
     Row {
+        words: &["seed", "--help"],
+        text: Text::Is(HELP_OF_SEED),
+        ..SHOWN
+    },
+    Row {
         words: &["help", "version"],
         text: Text::Is(HELP_OF_VERSION),
         ..SHOWN
@@ -285,12 +342,27 @@ const ROWS: [Row; 32] = [
     },
     Row {
         words: &["fast\n\u{7f}"],
-        line: "linx_sim: no word 'fast??'; the words are: run serial gen stream help version\n",
+        line: "linx_sim: no word 'fast??'; the words are: run serial seed gen stream gateway help version\n",
         ..MISUSED
     },
     Row {
         words: &["gen", "x"],
         line: "linx_sim: usage: linx_sim gen N\n",
+        ..MISUSED
+    },
+    Row {
+        words: &["seed", "x"],
+        line: "linx_sim: usage: linx_sim seed S [FILE]\n",
+        ..MISUSED
+    },
+    Row {
+        words: &["seed", "7", "--help"],
+        line: "linx_sim: usage: linx_sim seed S [FILE]\n",
+        ..MISUSED
+    },
+    Row {
+        words: &["sead", "7"],
+        line: "linx_sim: no word 'sead': did you mean 'seed'?\n",
         ..MISUSED
     },
     Row {
@@ -301,6 +373,16 @@ const ROWS: [Row; 32] = [
     Row {
         words: &["stream", "s.linx"],
         line: "linx_sim: usage: linx_sim stream\n",
+        ..MISUSED
+    },
+    Row {
+        words: &["gateway", "--help"],
+        text: Text::Is(HELP_OF_GATEWAY),
+        ..SHOWN
+    },
+    Row {
+        words: &["gateway", "17"],
+        line: "linx_sim: usage: linx_sim gateway N\n",
         ..MISUSED
     },
 ];
@@ -398,7 +480,7 @@ fn a_long_word_is_cut(rt: HostRuntime) -> Result<(), Fail> {
     );
     let wanted =
         "linx_sim: no word 'xxxxxxxxxxxxxxxxxxxxxxxxxxxxxxxxxxxxxxxxxxxxxxxxxxxxxxxxxxxxxxxx\
-        '; the words are: run serial gen stream help version\n";
+        '; the words are: run serial seed gen stream gateway help version\n";
     assert_eq!(rt; errors.held(), wanted.as_bytes());
     Ok(())
 }

@@ -13,7 +13,9 @@ returns-in_err-matches-clause-err c =
 pub returns-clause-ok : goal.returns-clause-ok
 returns-clause-ok c =
     asked_is (app_of c.in_ok-command_line.field-0) c.args.words.now
-    (found_of c.in_ok-matches.matches) c.request_from.result c.get_str.result c.get_str-2.result
+    (found_of c.in_ok-matches.matches) c.request_from.result c.get_str-word.result
+    c.get_str-argument.result c.get_str-file.result
     c.in_ok-command_line.ensures c.requires.plain c.in_ok-matches.ensures.kinds
     (λ simple. (c.in_ok-matches.ensures.matches simple).0)
-    c.get_str.ensures c.get_str-2.ensures c.request_from.ensures
+    c.get_str-word.ensures c.get_str-argument.ensures c.get_str-file.ensures
+    c.request_from.ensures

@@ -1,5 +1,4 @@
-use Rattle.std.proofs.Common.{sym, arith}
-use Rattle.std.proofs.lemmas.List.{length-take-le, take_all}
+use Rattle.std.proofs.Common.{sym, arith, length-take-le, take_all}
 use Rattle.command_words.proofs.line.cut.Goals as goal
 
 pub slice_bounds-result-end : goal.slice_bounds-result-end

@@ -1,5 +1,4 @@
-use Rattle.std.proofs.Common.{◌≡◌, drop}
-use Rattle.std.specs.Prelude.{None}
+use Rattle.std.proofs.Common.{◌≡◌, drop, None}
 use Rattle.command_words.specs.Nearest.{nearest_from}
 use Rattle.command_words.proofs.nearest.nearest_of.Given as goal
 

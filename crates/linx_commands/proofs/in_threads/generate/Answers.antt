@@ -1,5 +1,4 @@
-use Rattle.std.proofs.Common.{subst}
-use Rattle.std.specs.Prelude.{IfOk}
+use Rattle.std.proofs.Common.{subst, IfOk}
 use Rattle.script_lang.specs.Parts.{ScriptParts}
 use Rattle.work_gen.specs.Generated.{generated}
 use Rattle.linx_commands.specs.Runs.{IsRan}

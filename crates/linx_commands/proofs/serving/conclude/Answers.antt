@@ -1,5 +1,4 @@
-use Rattle.std.proofs.Common.{inr, subst, sym}
-use Rattle.std.specs.Prelude.{Result, IfOk}
+use Rattle.std.proofs.Common.{inr, subst, sym, Result, IfOk}
 use Rattle.linx_base.specs.declared.memory.NoMemory.{NoMemory}
 use Rattle.workers.specs.declared.ran.Ran.{Ran}
 use Rattle.linx_commands.specs.Runs.{IsOutcomeOf, IsRan}

@@ -20,6 +20,7 @@ returns-in-Read-clause-served g c =
       shown = run.shown;
       played = run.played;
       echoed = run.echoed;
+      served = run.served;
       legal = run.legal;
       line = rw (c.deref.ensures.value, ← c.deref-in-Read.ensures.value) c.tell.ensures.line;
     })))
@@ -34,6 +35,7 @@ returns-in-Unread-clause-served g c =
       shown = tt;
       played = tt;
       echoed = tt;
+      served = tt;
       legal = nothing.legal;
       line = c.tell-in-Unread.ensures.line;
     }))

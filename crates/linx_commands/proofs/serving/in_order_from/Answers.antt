@@ -1,8 +1,8 @@
-use Rattle.linx_commands.proofs.serving.serial_from.Goals as goal
+use Rattle.linx_commands.proofs.serving.in_order_from.Goals as goal
 
 pub returns-in-None-clause-played : goal.returns-in-None-clause-played
 returns-in-None-clause-played g c =
-    let ran = c.serial.ensures in
+    let ran = c.in_order.ensures in
     rw c.in-None.is (record {
       cause = ran.cause;
       headline = ran.headline;

@@ -1,9 +1,9 @@
 use Rattle.std.proofs.Common.{inl, inr, refl}
-use Rattle.linx_commands.proofs.serving.serial_of_file.Goals as goal
+use Rattle.linx_commands.proofs.serving.in_order_of_file.Goals as goal
 
 pub returns-in-Ok-clause-played : goal.returns-in-Ok-clause-played
 returns-in-Ok-clause-played g c =
-    let ran = c.serial.ensures in
+    let ran = c.in_order.ensures in
     let told = c.in-Ok.ensures.told in
     inr (record {
       cause = rw (← told) ran.cause;
@@ -11,7 +11,7 @@ returns-in-Ok-clause-played g c =
       complete = rw (← told) ran.complete;
       read = record {
         opened = c.in-Ok.file;
-        rest = c.serial.new.script;
+        rest = c.in_order.new.script;
         told = told;
         read = ran.source;
       };

@@ -1,8 +1,8 @@
 use Rattle.std.proofs.Common.{inl}
-use Rattle.command_words.specs.declared.request.Asked.TheVariants.{Serial}
+use Rattle.command_words.specs.declared.request.Asked.TheVariants.{InOrder}
 use Rattle.linx_commands.proofs.Causes.{completes_unread}
 use Rattle.linx_commands.proofs.Headline.{headline_read}
-use Rattle.linx_commands.proofs.serving.serial.Goals as goal
+use Rattle.linx_commands.proofs.serving.in_order.Goals as goal
 
 pub returns-in-Err-clause-complete : goal.returns-in-Err-clause-complete
 returns-in-Err-clause-complete g c =
@@ -12,7 +12,7 @@ returns-in-Err-clause-complete g c =
 
 pub returns-in-Ok-clause-headline : goal.returns-in-Ok-clause-headline
 returns-in-Ok-clause-headline g c =
-    headline_read Serial c.conclude.result.status (g.S.Source.left c.args.script.now)
+    headline_read (InOrder c.args.order) c.conclude.result.status (g.S.Source.left c.args.script.now)
     c.in-Ok.script c.conclude.result.journal.log c.in-Ok.ensures.spelled
     (c.conclude.ensures.answer c.in-Ok.script c.play_in_order.ensures)
 

@@ -1,0 +1,128 @@
+-- How many clients a gateway has that words ask for.
+use Rattle.std.proofs.Common.{◌≡◌, ℕ, ◌<◌, ◌≤◌, Bool, true, false, List, [], ◌∷◌, refl, arith}
+use Rattle.std.proofs.Common.{subst, Option, Some, None, option_map, option_and_then, ◌&&◌, nat_le}
+use Rattle.std.proofs.Common.{nat_lt, if◌then◌else◌, length}
+use Rattle.std.proofs.lemmas.Bool.{and_parts}
+use Rattle.std.proofs.lemmas.Bool.Decides.{nat_tests}
+use Rattle.script_words.specs.Numbers.{number_spelled}
+use Rattle.command_words.specs.Requests.{asked_alone, asked_with, asked_with_file, asked_with_plain}
+use Rattle.command_words.specs.Requests.{clients_in, clients_spelled, is_file_name, played_from}
+use Rattle.command_words.specs.Requests.{request_by, seeded}
+use Rattle.command_words.specs.Words.{called, is_help_flag}
+use Rattle.command_words.specs.declared.request.Asked.{Asked}
+use Rattle.command_words.specs.declared.request.Request.{Request}
+use Rattle.command_words.specs.declared.request.Request.TheVariants.{Show, Play, Echo, Serve}
+use Rattle.command_words.specs.declared.word.Word.{Word}
+use Rattle.command_words.specs.declared.request.TurnOrder.TheVariants.{Fixed}
+use Rattle.command_words.specs.declared.page.Page.TheVariants as pages
+use Rattle.command_words.specs.declared.request.Asked.TheVariants as asks
+use Rattle.command_words.specs.declared.word.Word.TheVariants.{Run, Serial, Seed, Gen, Stream}
+use Rattle.command_words.specs.declared.word.Word.TheVariants.{Gateway, Help, Version}
+
+-- 1 to 16
+pub record AreFew (n : ℕ) : Type 0 where
+  pub some : 0 < n
+  pub few : n ≤ 16
+
+in_range : (fits : Bool) (k n : ℕ) → (nat_le 1 k && nat_le k 16) ≡ fits
+    → (if fits then Some k else None) ≡ Some n → AreFew n
+in_range true k n is same =
+    let one : k ≡ n = cc in
+    let parts = and_parts (nat_le 1 k) (nat_le k 16) is in
+    let low : nat_le 1 k ≡ true = parts.0 in
+    let high : nat_le k 16 ≡ true = parts.1 in
+    subst AreFew one (record { some = grind (arith, nat_tests); few = grind (arith, nat_tests) })
+in_range false k n is same = absurd cc
+
+few_in : (o : Option ℕ) (n : ℕ) → clients_in o ≡ Some n → AreFew n
+few_in None n is = absurd cc
+few_in (Some k) n is = in_range (nat_le 1 k && nat_le k 16) k n refl is
+
+few_spelled : (long : Bool) (o : Option ℕ) (n : ℕ)
+    → (if long then None else clients_in o) ≡ Some n → AreFew n
+few_spelled true o n is = absurd cc
+few_spelled false o n is = few_in o n is
+
+mapped : (o : Option ℕ) (n : ℕ) → option_map (λ k. Serve k) o ≡ Some (Serve n) → o ≡ Some n
+mapped None n is = absurd cc
+mapped (Some k) n is = cc
+
+no_run : (asked : Asked) (named : Bool) (n : ℕ)
+    → (if named then Some (Play asked) else None) ≡ Some (Serve n) → ⊥
+no_run asked true n is = cc
+no_run asked false n is = cc
+
+no_order : (o : Option Asked) (n : ℕ) → option_map (λ asked. Play asked) o ≡ Some (Serve n) → ⊥
+no_order None n is = cc
+no_order (Some asked) n is = cc
+
+no_file : (o : Option Asked) (named : Bool) (n : ℕ)
+    → option_and_then (λ asked. if named then Some (Play asked) else None) o ≡ Some (Serve n) → ⊥
+no_file None named n is = cc
+no_file (Some asked) named n is = no_run asked named n is
+
+no_gen : (o : Option ℕ) (n : ℕ) → option_map (λ k. Play (asks.Gen k)) o ≡ Some (Serve n) → ⊥
+no_gen None n is = cc
+no_gen (Some k) n is = cc
+
+no_page : (o : Option Word) (n : ℕ) → option_map (λ w. Show (pages.Of w)) o ≡ Some (Serve n) → ⊥
+no_page None n is = cc
+no_page (Some w) n is = cc
+
+few_plain : (word : Word) (argument : List ℕ) (n : ℕ)
+    → asked_with_plain word argument ≡ Some (Serve n) → AreFew n
+few_plain Run argument n is = absurd (no_run asks.Run (is_file_name argument) n is)
+few_plain Serial argument n is =
+    absurd (no_run (asks.InOrder Fixed) (is_file_name argument) n is)
+few_plain Seed argument n is = absurd (no_order (seeded argument) n is)
+few_plain Gen argument n is = absurd (no_gen (number_spelled argument) n is)
+few_plain Stream argument n is = absurd cc
+few_plain Gateway argument n is =
+    few_spelled (nat_lt 2 (length argument)) (number_spelled argument) n
+    (mapped (clients_spelled argument) n is)
+few_plain Help argument n is = absurd (no_page (called argument) n is)
+few_plain Version argument n is = absurd cc
+
+few_with : (flag : Bool) (word : Word) (argument : List ℕ) (n : ℕ)
+    → (if flag then Some (Show (pages.Of word)) else asked_with_plain word argument)
+    ≡ Some (Serve n) → AreFew n
+few_with true word argument n is = absurd cc
+few_with false word argument n is = few_plain word argument n is
+
+few_called : (word : Option Word) (argument : List ℕ) (n : ℕ)
+    → option_and_then (λ w. asked_with w argument) word ≡ Some (Serve n) → AreFew n
+few_called None argument n is = absurd cc
+few_called (Some w) argument n is = few_with (is_help_flag argument) w argument n is
+
+none_alone : (word : Option Word) (n : ℕ)
+    → option_and_then (λ w. asked_alone w) word ≡ Some (Serve n) → ⊥
+none_alone None n is = cc
+none_alone (Some Run) n is = cc
+none_alone (Some Serial) n is = cc
+none_alone (Some Seed) n is = cc
+none_alone (Some Gen) n is = cc
+none_alone (Some Stream) n is = cc
+none_alone (Some Gateway) n is = cc
+none_alone (Some Help) n is = cc
+none_alone (Some Version) n is = cc
+
+none_with_file : (word : Option Word) (argument file : List ℕ) (n : ℕ)
+    → option_and_then (λ w. asked_with_file w argument file) word ≡ Some (Serve n) → ⊥
+none_with_file None argument file n is = cc
+none_with_file (Some Run) argument file n is = cc
+none_with_file (Some Serial) argument file n is = cc
+none_with_file (Some Seed) argument file n is = no_file (seeded argument) (is_file_name file) n is
+none_with_file (Some Gen) argument file n is = cc
+none_with_file (Some Stream) argument file n is = cc
+none_with_file (Some Gateway) argument file n is = cc
+none_with_file (Some Help) argument file n is = cc
+none_with_file (Some Version) argument file n is = cc
+
+-- a gateway that words ask for has 1 to 16 clients
+pub few_clients : (texts : List (List ℕ)) (n : ℕ) → request_by texts ≡ Some (Serve n) → AreFew n
+few_clients [] n is = absurd cc
+few_clients (word ∷ []) n is = absurd (none_alone (called word) n is)
+few_clients (word ∷ argument ∷ []) n is = few_called (called word) argument n is
+few_clients (word ∷ argument ∷ file ∷ []) n is =
+    absurd (none_with_file (called word) argument file n is)
+few_clients (word ∷ argument ∷ file ∷ more ∷ rest) n is = absurd cc

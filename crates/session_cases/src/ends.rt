@@ -1,0 +1,80 @@
+//! How a session ends where the bytes end within a request or begin none, or where a read or a write
+//! fails.
+ghost use Rattle.std.specs.Prelude.{◌<◌, ◌≤◌};
+
+use crate::talking::{joined, talk};
+use gateway_session::Session;
+use linx_outside::{MemSink, MemSource};
+use request_stream::ServeStop;
+use std::alloc::Global;
+use std::test::Fail;
+
+const OPEN: &str = "000000050101000061";
+
+const OPENED: &str = "0000000c810100000000000100000001";
+
+const CLOSE: &str = "0000000402010000";
+
+/// The words of what is asked behind OPEN, which is replied to, and how the session of one client
+/// ends.
+const CASES: [(&str, ServeStop); 9] = [
+    ("000000", ServeStop::Torn { at: 9 }),
+    ("000000040201", ServeStop::Torn { at: 9 }),
+    ("00000003", ServeStop::BadStream { at: 9 }),
+    ("0001000d", ServeStop::BadStream { at: 9 }),
+    ("000000040c", ServeStop::BadStream { at: 9 }),
+    ("000000040202", ServeStop::BadStream { at: 9 }),
+    ("0000000c0b01", ServeStop::BadStream { at: 9 }),
+    ("00000004020101", ServeStop::BadStream { at: 9 }),
+    ("000000060101000020", ServeStop::BadStream { at: 9 }),
+];
+
+#[test]
+fn what_is_behind_a_bad_request_is_not_read(rt: HostRuntime) -> Result<(), Fail> {
+    let alloc = rt.alloc();
+    for (asked, stop) in CASES {
+        for most in [1, 3, 16, 4096] {
+            let talk = talk(alloc, 1, joined(alloc, &[OPEN, asked])?, most)?;
+            assert!(rt; talk.ended == Err(stop), "{asked:?} by {most}");
+            assert!(rt;
+                talk.said.as_slice() == joined(alloc, &[OPENED])?.as_slice(),
+                "{asked:?}"
+            );
+        }
+    }
+    let talk = talk(alloc, 1, joined(alloc, &[OPEN, "00000003", CLOSE])?, 4096)?;
+    assert!(rt; talk.ended == Err(ServeStop::BadStream { at: 9 }));
+    assert!(rt; talk.said.as_slice() == joined(alloc, &[OPENED])?.as_slice());
+    Ok(())
+}
+
+/// The calls that fail.
+fn calls(alloc: Global, call: u64) -> Result<Vec<u64>, Fail> {
+    let mut fails = Vec::new(alloc);
+    fails.push(call)?;
+    Ok(fails)
+}
+
+#[test]
+fn a_read_that_fails_leaves_no_request_without_its_reply(rt: HostRuntime) -> Result<(), Fail> {
+    let alloc = rt.alloc();
+    let asked = joined(alloc, &[OPEN, CLOSE])?;
+    let mut source = MemSource::new(asked, 10, calls(alloc, 2)?);
+    let mut sink = MemSink::new(alloc, 4096, 4096, Vec::new(alloc))?;
+    let mut session = Session::new(alloc, 1)?;
+    assert!(rt; session.serve(&mut source, &mut sink) == Err(ServeStop::ReadFault));
+    assert!(rt; sink.held() == joined(alloc, &[OPENED])?.as_slice());
+    Ok(())
+}
+
+#[test]
+fn a_write_that_fails_leaves_a_front_of_the_replies(rt: HostRuntime) -> Result<(), Fail> {
+    let alloc = rt.alloc();
+    let asked = joined(alloc, &[OPEN, CLOSE])?;
+    let mut source = MemSource::new(asked, 4096, Vec::new(alloc));
+    let mut sink = MemSink::new(alloc, 4096, 20, Vec::new(alloc))?;
+    let mut session = Session::new(alloc, 1)?;
+    assert!(rt; session.serve(&mut source, &mut sink) == Err(ServeStop::WriteFault));
+    assert!(rt; sink.held() == joined(alloc, &[OPENED, "00000004"])?.as_slice());
+    Ok(())
+}
