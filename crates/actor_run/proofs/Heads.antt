@@ -1,6 +1,6 @@
 -- What heads and events have in common: an end, a look, a step on a link are told by the event.
 use Rattle.std.proofs.Common.{◌≡◌, ℕ, Bool, true, false, cond, List, Option, Some, None, refl, sym}
-use Rattle.std.proofs.Common.{◌∙◌, ap, inl, inr, ◌⊎◌}
+use Rattle.std.proofs.Common.{◌∙◌, ap, inl, inr, ◌⊎◌, is_some}
 use Rattle.linx_base.specs.declared.identity.Inc.{Inc}
 use Rattle.sigsel.specs.declared.sigsel.Sigsel.{Sigsel}
 use Rattle.journal.specs.declared.event.Event.{Event}
@@ -11,7 +11,6 @@ use Rattle.journal.specs.declared.head.Refusal.{Refusal}
 use Rattle.journal.specs.declared.head.Refusal.TheVariants.{NotOpen, IsOpen}
 use Rattle.journal.specs.declared.effect.Effect.{Effect}
 use Rattle.journal.specs.declared.effect.Step.{Step}
-use Rattle.std.specs.Prelude.{is_some}
 use Rattle.journal.specs.Rest.{waits_in}
 use Rattle.journal.specs.History.{is_end, last_opened}
 use Rattle.node_kernel.specs.Answers.{event_of, granted_by, is_pump_event, is_pumped, is_end_event}

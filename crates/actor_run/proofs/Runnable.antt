@@ -1,7 +1,6 @@
 -- The actors of a script can be run.
 use Rattle.std.proofs.Common.{◌≡◌, ℕ, zero, suc, ◌≤◌, Bool, true, false, ◌&&◌, List, [], ◌∷◌, Some}
-use Rattle.std.proofs.Common.{refl, sym, arith}
-use Rattle.std.specs.Prelude.{slice_get, nat_le, length}
+use Rattle.std.proofs.Common.{refl, sym, arith, slice_get, nat_le, length}
 use Rattle.std.specs.List.{list_all}
 use Rattle.std.proofs.lemmas.Bool.Decides.{nat_tests}
 use Rattle.linx_base.specs.declared.identity.NodeNo.{NodeNo}

@@ -1,6 +1,6 @@
 -- a table to whose name nothing can be given, since it has no row
 use Rattle.std.proofs.Common.{◌≡◌, ℕ, Bool, true, false, cond, List, [], ◌∷◌, Option, refl, ap}
-use Rattle.std.specs.Prelude.{Some, None}
+use Rattle.std.proofs.Common.{Some, None}
 use Rattle.std.specs.Map.{lookup as found, set_value}
 use Rattle.actor_run.specs.Bindings.{Table}
 

@@ -1,7 +1,7 @@
 -- The turns of an actor: what holds between two turns holds after the next.
 use Rattle.std.proofs.Common.{◌≡◌, ℕ, ◌+◌, ◌<◌, ◌≤◌, arith, length-drop, Bool, true, false, List}
 use Rattle.std.proofs.Common.{[], ◌∷◌, length, Option, None, refl, sym, ◌∙◌, ap, eq-eqb, inl, inr}
-use Rattle.std.specs.Prelude.{◌⊎◌, slice_get, drop}
+use Rattle.std.proofs.Common.{◌⊎◌, slice_get, drop}
 use Rattle.linx_base.specs.declared.identity.Inc.{Inc}
 use Rattle.journal.specs.declared.by.By.{By}
 use Rattle.journal.specs.declared.by.By.TheVariants.{Actor}

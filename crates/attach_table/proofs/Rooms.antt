@@ -1,6 +1,5 @@
 -- What holds of every element holds of those that are left.
-use Rattle.std.proofs.Common.{Bool, true, false, cond, List, [], ◌∷◌, ◌++◌}
-use Rattle.std.specs.Prelude.{filter}
+use Rattle.std.proofs.Common.{Bool, true, false, cond, List, [], ◌∷◌, ◌++◌, filter}
 use Rattle.std.specs.List.{AllByRecursion}
 
 module _ {X : Type 0} (P : X → Type 0) where

@@ -2,7 +2,7 @@
 -- that each piece that it sends is within its window.
 use Rattle.std.proofs.Common.{◌≡◌, ◌⊎◌, ◌+◌, ◌-◌, ◌<◌, ◌≤◌, ℕ, suc, leb, true, Some, List, [], ◌∷◌}
 use Rattle.std.proofs.Common.{◌++◌, All, length, take, map, refl, ap, ◌∙◌, arith, inl, inr}
-use Rattle.std.proofs.lemmas.List.{length-append, length-drop, length-take}
+use Rattle.std.proofs.Common.{length-append, length-drop, length-take}
 use Rattle.std.proofs.lemmas.List.Elements.{All-nil, All-cons, All-append, All-filter, All-map}
 use Rattle.std.proofs.lemmas.List.Elements.{All-take}
 use Rattle.linx_base.specs.declared.identity.Session.{Session}

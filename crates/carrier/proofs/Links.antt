@@ -1,8 +1,6 @@
 -- Each event keeps what holds of a link, and tells rightly what became of a side.
-use Rattle.std.proofs.Common.{◌≡◌, ◌<◌, ◌≤◌, ℕ, Bool, true, false, Option, Some, None, List}
-use Rattle.std.proofs.Common.{[], All, length, refl, sym, subst, arith}
-use Rattle.std.specs.Prelude.{IsSome, slice_get}
-use Rattle.std.specs.List.{remove, swap}
+use Rattle.std.proofs.Common.{◌≡◌, ◌<◌, ◌≤◌, ℕ, Bool, true, false, Option, Some, None, List, []}
+use Rattle.std.proofs.Common.{All, length, refl, sym, subst, arith, IsSome, slice_get, remove, swap}
 use Rattle.std.proofs.lemmas.List.Elements.{All-nil}
 use Rattle.linx_base.specs.declared.identity.Session.{Session}
 use Rattle.linx_base.specs.declared.identity.Side.{Side}

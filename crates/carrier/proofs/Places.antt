@@ -1,7 +1,6 @@
 -- Lists from which an element is taken out, or in which two are exchanged.
-use Rattle.std.proofs.Common.{◌≡◌, ◌<◌, ℕ, zero, suc, List, [], ◌∷◌, All, length, map, take}
-use Rattle.std.proofs.Common.{drop, get_or, set, refl, sym, ◌∙◌}
-use Rattle.std.specs.List.{remove, swap}
+use Rattle.std.proofs.Common.{◌≡◌, ◌<◌, ℕ, zero, suc, List, [], ◌∷◌, All, length, map, take, drop}
+use Rattle.std.proofs.Common.{get_or, set, refl, sym, ◌∙◌, remove, swap}
 use Rattle.std.proofs.lemmas.List.{drop-map, map-append, map-set, take-map}
 use Rattle.std.proofs.lemmas.List.Elements.{All-append, All-drop, All-get_or, All-set, All-take}
 

@@ -1,6 +1,5 @@
 -- A link in which an event begins: no packet was lost or exchanged in it yet.
-use Rattle.std.proofs.Common.{◌≡◌, length, sym, subst, arith}
-use Rattle.std.proofs.lemmas.List.{take_all}
+use Rattle.std.proofs.Common.{◌≡◌, length, sym, subst, arith, take_all}
 use Rattle.linx_base.specs.declared.identity.Side.{Side}
 use Rattle.linx_base.specs.Both.{Both, still}
 use Rattle.carrier.specs.Events.{LinkState, flight_from}

@@ -1,8 +1,7 @@
 -- The packets that bytes spell.
 use Rattle.std.proofs.Common.{◌≡◌, ℕ, List, [], ◌∷◌, ◌++◌, All, length, map, take, drop, refl, sym}
-use Rattle.std.proofs.Common.{ap, ◌∙◌, subst, Result, Ok, Err}
-use Rattle.std.proofs.lemmas.List.{drop_at, take-map, length-map}
-use Rattle.std.specs.Prelude.{OnErr, OnOk}
+use Rattle.std.proofs.Common.{ap, ◌∙◌, subst, Result, Ok, Err, drop_at, OnErr, OnOk}
+use Rattle.std.proofs.lemmas.List.{take-map, length-map}
 use Rattle.std.proofs.lemmas.List.Elements.{All-head, All-push, All-tail}
 use Rattle.linx_base.specs.Both.{Both}
 use Rattle.ethcm_headers.specs.declared.packets.Packet.{Packet}

@@ -23,8 +23,7 @@ use Rattle.ethcm_end.specs.States.{EndState, peer_of}
 use Rattle.ethcm_end.specs.Rules.{take_behind}
 use Rattle.ethcm_end.specs.Sessions.{GoesOn, GoesUp, IsAnew, KeepsSizes}
 use Rattle.ethcm_end.proofs.Taking.{takes_in_turn}
-use Rattle.carrier.specs.Records.{HalfState, entries, has_session, is_pair, mine_of, names}
-use Rattle.carrier.specs.Records.{source}
+use Rattle.carrier.specs.Records.{HalfState, entries, has_session, is_pair, mine_of, names, source}
 use Rattle.carrier.specs.Events.{drained}
 use Rattle.carrier.specs.Keeping.{Bound, HoldsRest, IsFlying, KeepsHalf, KeptBelow, OfferedMessages}
 use Rattle.carrier.specs.Keeping.{PeersUpTo, Receives, WasSent}

@@ -1,7 +1,7 @@
 -- What lies beside a line: to the right what is in a queue, from its arrival to its take; to the left
 -- what was asked for, from a hunt or an attach to its answer, or to the detach.
-use Rattle.std.specs.Prelude.{ℕ, ◌+◌, ◌-◌, ◌==◌, nat_lt, Bool, true, false, not, ◌&&◌, if◌then◌else◌}
-use Rattle.std.specs.Prelude.{List, [], ◌∷◌, ◌++◌, Option, Some, None}
+use Rattle.std.specs.Prelude.{ℕ, ◌+◌, ◌-◌, ◌==◌, nat_lt, Bool, true, false, not, ◌&&◌}
+use Rattle.std.specs.Prelude.{if◌then◌else◌, List, [], ◌∷◌, ◌++◌, Option, Some, None}
 use Rattle.std.specs.List.{list_any}
 use Rattle.svg_text.specs.declared.class.Class.{Class}
 use Rattle.svg_text.specs.declared.class.Class.TheVariants.{Queue, QueueFound, QueueNotice, Found}

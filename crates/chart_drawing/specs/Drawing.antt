@@ -1,5 +1,6 @@
 -- The drawing of a chart.
-use Rattle.std.specs.Prelude.{◌≡◌, ℕ, ◌+◌, ◌*◌, List, [], ◌++◌, length, map, flat_map, codes, decimal}
+use Rattle.std.specs.Prelude.{◌≡◌, ℕ, ◌+◌, ◌*◌, List, [], ◌++◌, length, map, flat_map, codes}
+use Rattle.std.specs.Prelude.{decimal}
 use Rattle.linx_base.specs.declared.identity.ItemAt.{ItemAt}
 use Rattle.svg_text.specs.declared.picture.Picture.{Picture}
 use Rattle.svg_text.specs.declared.picture.Row.{Row}

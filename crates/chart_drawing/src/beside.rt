@@ -1,9 +1,9 @@
 //! What lies beside a line: what is in a queue, and what was asked for.
 ghost use Rattle.std.specs.Prelude.{◌≡◌, ◌++◌, [], ◌∷◌, flat_map, map, OnOk, IfOk};
 ghost use Rattle.std.specs.Option.{option_copied};
-ghost use Rattle.chart_drawing.specs.Beside.{is_taken, is_on_side, are_together, meets, free_out, loop_of};
-ghost use Rattle.chart_drawing.specs.Beside.{loop_if, loops_with, queue_class, loop_class, round};
-ghost use Rattle.chart_drawing.specs.Beside.{loop_shape};
+ghost use Rattle.chart_drawing.specs.Beside.{is_taken, is_on_side, are_together, meets, free_out};
+ghost use Rattle.chart_drawing.specs.Beside.{loop_of, loop_if, loops_with, queue_class, loop_class};
+ghost use Rattle.chart_drawing.specs.Beside.{round, loop_shape};
 
 use crate::cells::{beside, line_to, move_to, put_path};
 use crate::spot::{Spot, same_column, spot_at};

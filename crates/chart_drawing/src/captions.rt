@@ -3,10 +3,8 @@ ghost use Rattle.std.specs.Prelude.{◌≡◌, ◌≤◌, ◌++◌, [], ◌∷�
 ghost use Rattle.std.specs.Prelude.{◌+◌};
 ghost use Rattle.svg_text.specs.declared.shape.Shape.TheVariants.{Words};
 ghost use Rattle.chart_drawing.specs.Rows.{cut, anchor_of, side_point, lane_words, label_class};
-ghost use Rattle.chart_drawing.specs.Rows.{send_class};
-ghost use Rattle.chart_drawing.specs.Rows.{packet_label, label_shape, label_room, label_if};
-ghost use Rattle.chart_drawing.specs.Rows.{label_shapes};
-ghost use Rattle.chart_drawing.specs.Rows.{line_shapes, line_words};
+ghost use Rattle.chart_drawing.specs.Rows.{send_class, packet_label, label_shape, label_room};
+ghost use Rattle.chart_drawing.specs.Rows.{label_if, label_shapes, line_shapes, line_words};
 ghost use Rattle.chart_drawing.specs.Spots.{point, row_top};
 
 use crate::cells::{in_cell, in_lane, put_words, row_top};

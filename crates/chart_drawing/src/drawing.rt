@@ -1,6 +1,6 @@
 //! The drawing of a chart.
-ghost use Rattle.std.specs.Prelude.{◌≡◌, ◌≤◌, ◌<◌, ◌++◌, [], false, length, decimal, codes, OnOk, IfOk};
-ghost use Rattle.std.specs.Prelude.{IfErr};
+ghost use Rattle.std.specs.Prelude.{◌≡◌, ◌≤◌, ◌<◌, ◌++◌, [], false, length, decimal, codes, OnOk};
+ghost use Rattle.std.specs.Prelude.{IfOk, IfErr};
 ghost use Rattle.chart_drawing.specs.declared.drawing.DrawError.TheVariants.{NoMemory as OutOfMemory};
 ghost use Rattle.chart_drawing.specs.Drawing.{ground_of, back_of, front_of, picture_of, drawing_of};
 ghost use Rattle.chart_drawing.specs.Drawing.{RowEachMark};

@@ -1,8 +1,8 @@
 //! What is said beside a mark: some words of its line.
 ghost use Rattle.std.specs.Prelude.{◌≡◌, ◌++◌, [], OnOk, IfOk};
 ghost use Rattle.chart_drawing.specs.Labels.{space_in, first_word, behind_word, behind_words};
-ghost use Rattle.chart_drawing.specs.Labels.{word_at, with_word, with_words, send_words, packet_words};
-ghost use Rattle.chart_drawing.specs.Labels.{shown_words, label_of};
+ghost use Rattle.chart_drawing.specs.Labels.{word_at, with_word, with_words, send_words};
+ghost use Rattle.chart_drawing.specs.Labels.{packet_words, shown_words, label_of};
 
 use crate::rows::put_bytes;
 use chart::MarkKind;

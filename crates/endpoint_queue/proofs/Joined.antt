@@ -1,11 +1,8 @@
 -- The first match in two lists, one behind the other, and the last element of both.
-use mathlib.Core.Bool.{true≢false}
-use Rattle.std.proofs.Common.{◌≡◌, ℕ, zero, suc, ◌+◌, ◌-◌, ◌<◌, inl, inr, Bool, true, false, List, []}
-use Rattle.std.proofs.Common.{◌∷◌, ◌++◌, ◌∙◌, length, take, get_or, refl, ap, sym, subst}
-use Rattle.std.proofs.Common.{append-nil, length-append, arith}
-use Rattle.std.specs.Prelude.{Option, Some, None, Result, Ok, Err, IfNone, IfSome, OnOk, is_some}
-use Rattle.std.specs.Prelude.{slice_get}
-use Rattle.std.specs.List.{All}
+use Rattle.std.proofs.Common.{true≢false, ◌≡◌, ℕ, zero, suc, ◌+◌, ◌-◌, ◌<◌, inl, inr, Bool, true}
+use Rattle.std.proofs.Common.{false, List, [], ◌∷◌, ◌++◌, ◌∙◌, length, take, get_or, refl, ap, sym}
+use Rattle.std.proofs.Common.{subst, append-nil, length-append, arith, Option, Some, None, Result}
+use Rattle.std.proofs.Common.{Ok, Err, IfNone, IfSome, OnOk, is_some, slice_get, All}
 use Rattle.std.proofs.lemmas.Option.{slice_get-get_or, slice_get_within}
 use Rattle.linx_base.specs.FirstMatch.{TakesEarliest, first_match, without_match}
 use Rattle.linx_base.proofs.FirstMatches.{all_fail_first_match, earliest_first_match}

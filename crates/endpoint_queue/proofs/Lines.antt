@@ -1,8 +1,6 @@
 -- What a filter selects of a line.
-use mathlib.Core.Bool.{true≢false}
-use Rattle.std.proofs.Common.{◌≡◌, ℕ, true, false, not, ◌==◌, List, [], ◌∷◌, ◌∙◌, length, refl, ap}
-use Rattle.std.proofs.Common.{ne_eqb, arith}
-use Rattle.std.specs.Prelude.{None, is_some}
+use Rattle.std.proofs.Common.{true≢false, ◌≡◌, ℕ, true, false, not, ◌==◌, List, [], ◌∷◌, ◌∙◌}
+use Rattle.std.proofs.Common.{length, refl, ap, ne_eqb, arith, None, is_some}
 use Rattle.linx_base.specs.FirstMatch.{first_match}
 use Rattle.linx_base.specs.declared.identity.AttRef.{AttRef}
 use Rattle.linx_base.specs.declared.item.Item.{Item}

@@ -1,5 +1,5 @@
-ghost use Rattle.std.specs.Prelude.{◌≡◌, ◌==◌, ◌-◌, [], ◌∷◌, ◌++◌, is_some, length, slice_get, take};
-ghost use Rattle.std.specs.Prelude.{true, None, IfErr, OnErr, OnOk};
+ghost use Rattle.std.specs.Prelude.{◌≡◌, ◌==◌, ◌-◌, [], ◌∷◌, ◌++◌, is_some, length, slice_get};
+ghost use Rattle.std.specs.Prelude.{take, true, None, IfErr, OnErr, OnOk};
 ghost use Rattle.linx_base.specs.FirstMatch.{first_match};
 ghost use Rattle.sigsel.specs.Selection.{first_selected, is_notice_of, without_first};
 ghost use Rattle.endpoint_queue.specs.Line.{FitsLine};

@@ -1,7 +1,8 @@
 -- The table of sessions once, as cases: what each of its rows makes of an end; and the data rules
 -- by the number of a piece.
 use Rattle.std.proofs.Common.{◌≡◌, ◌<◌, Bool, true, false, Some, None, ap, refl, arith, inl, inr}
-use Rattle.std.proofs.lemmas.Bool.{cases_lt, le-ltb, lt-ltb}
+use Rattle.std.proofs.Common.{le-ltb, lt-ltb}
+use Rattle.std.proofs.lemmas.Bool.{cases_lt}
 use Rattle.std.proofs.lemmas.Bool.Decides.{eqb_tells}
 use Rattle.linx_base.specs.declared.identity.Session.{Session}
 use Rattle.linx_base.specs.declared.frame.ConnKind.{ConnKind}

@@ -1,7 +1,6 @@
 -- What a packet, a tick and an offered message make of an end is what their rules say.
 use Rattle.std.proofs.Common.{◌≡◌, ◌≢◌, ℕ, ◌+◌, ◌<◌, eqb, Bool, true, false, None, Some, List, []}
-use Rattle.std.proofs.Common.{◌∷◌, refl, ap, ◌∙◌, arith}
-use Rattle.std.proofs.lemmas.Bool.{eq-eqb, le-ltb, lt-ltb, ne_eqb}
+use Rattle.std.proofs.Common.{◌∷◌, refl, ap, ◌∙◌, arith, eq-eqb, le-ltb, lt-ltb, ne_eqb}
 use Rattle.linx_base.specs.declared.identity.Session.{Session}
 use Rattle.linx_base.specs.declared.frame.ConnKind.TheVariants as kinds
 use Rattle.linx_base.specs.declared.frame.Frame.{Frame}

@@ -2,9 +2,9 @@
 -- that are taken are the frames of their numbers in it.
 use Rattle.std.proofs.Common.{◌≡◌, ◌+◌, ◌-◌, ◌≤◌, ℕ, zero, suc, Bool, true, false, ltb, Option}
 use Rattle.std.proofs.Common.{Some, List, [], ◌∷◌, ◌++◌, All, length, drop, refl, sym, ap, ◌∙◌}
-use Rattle.std.proofs.Common.{arith, if◌then◌else◌}
-use Rattle.std.specs.Prelude.{slice_get}
-use Rattle.std.proofs.lemmas.List.{drop-append-le, drop-drop, length-append, length-drop}
+use Rattle.std.proofs.Common.{arith, if◌then◌else◌, slice_get, drop-drop, length-append}
+use Rattle.std.proofs.Common.{length-drop}
+use Rattle.std.proofs.lemmas.List.{drop-append-le}
 use Rattle.std.proofs.lemmas.List.Elements.{All-append, All-cons, All-filter}
 use Rattle.linx_base.specs.declared.frame.Frame.{Frame}
 use Rattle.linx_base.specs.declared.frame.SentFrame.{SentFrame}

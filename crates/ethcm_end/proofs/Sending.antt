@@ -2,9 +2,7 @@
 -- frame of its number.
 use Rattle.std.proofs.Common.{◌≡◌, ◌-◌, ◌≤◌, ℕ, zero, suc, leb, Option, Some, None, List, [], ◌∷◌}
 use Rattle.std.proofs.Common.{◌++◌, All, take, drop, map, refl, sym, ap, subst, ◌∙◌, arith, inl}
-use Rattle.std.proofs.Common.{inr, append_assoc}
-use Rattle.std.specs.Prelude.{slice_get}
-use Rattle.std.proofs.lemmas.List.{append-nil, take-append-drop}
+use Rattle.std.proofs.Common.{inr, append_assoc, slice_get, append-nil, take-append-drop}
 use Rattle.std.proofs.lemmas.List.Elements.{All-nil, All-cons, All-append, All-filter, All-map}
 use Rattle.std.proofs.lemmas.List.Elements.{All-take, All-weaker}
 use Rattle.linx_base.specs.declared.identity.Session.{Session}

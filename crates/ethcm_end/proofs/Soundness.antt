@@ -1,10 +1,10 @@
 -- Each event leaves an end sound, and what it sends are packets.
 use Rattle.std.proofs.Common.{◌≡◌, ◌≢◌, if◌then◌else◌, ℕ, suc, ◌+◌, ◌-◌, ◌^◌, ◌<◌, ◌≤◌, Bool, true}
 use Rattle.std.proofs.Common.{false, ltb, leb, ◌&&◌, Option, List, [], ◌∷◌, ◌++◌, length, take}
-use Rattle.std.proofs.Common.{drop, map, All, refl, ap, sym, subst, arith, inl, inr}
-use Rattle.std.proofs.lemmas.Bool.{cases_lt, le-ltb, leb-true, lt-ltb, ltb-true}
+use Rattle.std.proofs.Common.{drop, map, All, refl, ap, sym, subst, arith, inl, inr, le-ltb}
+use Rattle.std.proofs.Common.{leb-true, lt-ltb, ltb-true, length-append, length-take, length-drop}
+use Rattle.std.proofs.lemmas.Bool.{cases_lt}
 use Rattle.std.proofs.lemmas.Bool.Decides.{eqb_tells}
-use Rattle.std.proofs.lemmas.List.{length-append, length-take, length-drop}
 use Rattle.std.proofs.lemmas.List.Elements.{All-nil, All-cons, All-head, All-tail, All-append}
 use Rattle.std.proofs.lemmas.List.Elements.{All-take, All-drop, All-filter, All-map}
 use Rattle.linx_base.specs.declared.identity.Session.{Session}

@@ -18,9 +18,8 @@ use Rattle.ethcm_end.specs.declared.answers.Ticked.{Ticked}
 use Rattle.ethcm_end.specs.declared.answers.Ticked.TheVariants as ticks
 use Rattle.ethcm_end.specs.States.{EndState, Reaction, gives, peer_of}
 use Rattle.ethcm_end.specs.Rules.{acked, anew, connect, gone_down, heard, input_of, lost, nacked}
-use Rattle.ethcm_end.specs.Rules.{offer_of}
-use Rattle.ethcm_end.specs.Rules.{put, put_ack, put_pieces, replied, take_frames, tick_of, ticked}
-use Rattle.ethcm_end.specs.Rules.{with_early, with_taken}
+use Rattle.ethcm_end.specs.Rules.{offer_of, put, put_ack, put_pieces, replied, take_frames, tick_of}
+use Rattle.ethcm_end.specs.Rules.{ticked, with_early, with_taken}
 
 -- the end is up with this session, which has confirmed it or not
 abbrev pub up : EndState → Session → Bool → EndState

@@ -1,7 +1,6 @@
 -- A packet is its headers and the payload behind them.
 use Rattle.std.proofs.Common.{◌≡◌, ℕ, ◌+◌, ◌≤◌, List, ◌++◌, length, Some, refl, sym, ap, ◌∙◌}
-use Rattle.std.proofs.Common.{append_assoc, arith}
-use Rattle.std.proofs.lemmas.List.{length-append, append-nil}
+use Rattle.std.proofs.Common.{append_assoc, arith, length-append, append-nil}
 use Rattle.linx_base.specs.declared.frame.Frame.TheVariants as frames
 use Rattle.ethcm_headers.specs.declared.packets.Packet.{Packet}
 use Rattle.ethcm_headers.specs.declared.packets.Part.{Part}

@@ -1,7 +1,7 @@
 -- What holds of every row of the table of sessions.
 use Rattle.std.proofs.Common.{◌≡◌, ◌≢◌, ℕ, ◌<◌, ◌≤◌, ◌↔◌, Bool, true, false, Option, None, Some}
-use Rattle.std.proofs.Common.{eqb, ltb, refl, sym, ap, subst, ◌⊎◌, inl, inr, arith}
-use Rattle.std.proofs.lemmas.Bool.{ltb-true, ltb-false}
+use Rattle.std.proofs.Common.{eqb, ltb, refl, sym, ap, subst, ◌⊎◌, inl, inr, arith, ltb-true}
+use Rattle.std.proofs.Common.{ltb-false}
 use Rattle.std.proofs.lemmas.Bool.Decides.{eqb_tells}
 use Rattle.linx_base.specs.declared.identity.Session.{Session}
 use Rattle.linx_base.specs.declared.frame.ConnKind.{ConnKind}
@@ -13,8 +13,7 @@ use Rattle.ethcm_session.specs.declared.standing.TalkState.{TalkState}
 use Rattle.ethcm_session.specs.declared.standing.Change.{Change}
 use Rattle.ethcm_session.specs.declared.standing.Change.TheVariants.{WentDown}
 use Rattle.ethcm_session.specs.Table.{Outcome, SessionRules, HasNext, gives, while_connecting}
-use Rattle.ethcm_session.specs.Table.{from_peer}
-use Rattle.ethcm_session.specs.Table.{while_up, outcome_in, outcome_of}
+use Rattle.ethcm_session.specs.Table.{from_peer, while_up, outcome_in, outcome_of}
 
 -- ---- what holds of each row holds of what a packet gives
 

@@ -1,11 +1,10 @@
 -- Frames that are kept in order of their numbers.
 use Rattle.std.proofs.Common.{◌≡◌, ◌≢◌, ℕ, zero, suc, ◌+◌, ◌<◌, ◌≤◌, min, Bool, true, false, List}
 use Rattle.std.proofs.Common.{[], ◌∷◌, ◌++◌, length, take, drop, get_or, refl, ap, sym, ◌∙◌, arith}
-use Rattle.std.proofs.Common.{◌⊎◌, inl, inr, eqb, ltb, filter, find}
-use Rattle.std.specs.Prelude.{◌-◌, None, insert, if◌then◌else◌}
-use Rattle.std.proofs.lemmas.Bool.{ltb-true, ltb-false, eq-eqb, lt-ltb}
-use Rattle.std.proofs.lemmas.List.{get_or_default, get_or-drop, drop_more, drop_all, drop-drop}
-use Rattle.std.proofs.lemmas.List.{length-drop}
+use Rattle.std.proofs.Common.{◌⊎◌, inl, inr, eqb, ltb, filter, find, ◌-◌, None, insert}
+use Rattle.std.proofs.Common.{if◌then◌else◌, ltb-true, ltb-false, eq-eqb, lt-ltb, get_or-drop}
+use Rattle.std.proofs.Common.{drop-drop, length-drop}
+use Rattle.std.proofs.lemmas.List.{get_or_default, drop_more, drop_all}
 use Rattle.std.proofs.Math.Dec.{lit≤}
 use Rattle.std.proofs.lemmas.Bool.Decides.{nat_tests, eqb_tells}
 use Rattle.linx_base.specs.declared.frame.SentFrame.{SentFrame}

@@ -1,9 +1,9 @@
 -- Which frames come into a window, and with which numbers.
 use Rattle.std.proofs.Common.{◌≡◌, ℕ, zero, suc, ◌+◌, ◌-◌, ◌<◌, ◌≤◌, min, List, [], ◌∷◌, ◌++◌}
 use Rattle.std.proofs.Common.{length, take, drop, get_or, refl, ap, sym, ◌∙◌, arith, ◌⊎◌, inl, inr}
-use Rattle.std.proofs.Common.{add-zero, leb, true, false, Result, Ok, Err, IfOk}
-use Rattle.std.proofs.lemmas.List.{take_more, take_all, take-take, take_min, drop_at, drop_all}
-use Rattle.std.proofs.lemmas.List.{drop-drop, length-take, length-drop, get_or-drop}
+use Rattle.std.proofs.Common.{add-zero, leb, true, false, Result, Ok, Err, IfOk, take_all}
+use Rattle.std.proofs.Common.{take-take, drop_at, drop-drop, length-take, length-drop, get_or-drop}
+use Rattle.std.proofs.lemmas.List.{take_more, take_min, drop_all}
 use Rattle.std.proofs.lemmas.Bool.Decides.{nat_tests}
 use Rattle.linx_base.specs.declared.memory.NoMemory.{NoMemory}
 use Rattle.linx_base.specs.declared.frame.Frame.{Frame}

@@ -1,7 +1,6 @@
 -- Queues that hold what was and what is.
 use Rattle.std.proofs.Common.{◌≡◌, ℕ, zero, suc, ◌+◌, ◌≤◌, List, [], ◌∷◌, ◌++◌, length, drop, refl}
-use Rattle.std.proofs.Common.{ap, ◌∙◌, arith}
-use Rattle.std.specs.Prelude.{insert, remove}
+use Rattle.std.proofs.Common.{ap, ◌∙◌, arith, insert, remove}
 use Rattle.ethcm_window.specs.WaysBack.{without_put}
 
 -- what was put at a place is taken out again

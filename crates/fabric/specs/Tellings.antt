@@ -14,8 +14,7 @@ use Rattle.link_laws.specs.Ends.{IsLinkOf}
 use Rattle.node_kernel.specs.Nodes.{NodeState, find_at, is_living, name_at}
 use Rattle.run_trunks.specs.Changes.{AllGrant, at_link, each_does}
 use Rattle.run_trunks.specs.States.{HasLink, OnlyChangedAt, TrunksState, over, trunks_of}
-use Rattle.trunk.specs.Events.{HasNumbersLeft, TrunkState, asked_at, closed_at, sent_at}
-use Rattle.trunk.specs.Events.{side_of}
+use Rattle.trunk.specs.Events.{HasNumbersLeft, TrunkState, asked_at, closed_at, sent_at, side_of}
 use Rattle.trunk.specs.Laws.{MayPublish}
 use Rattle.trunk_record.specs.Sayings.{heard_as, is_live}
 use Rattle.trunk_moves.specs.Trunks.{does, side_on}

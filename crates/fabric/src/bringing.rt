@@ -14,8 +14,8 @@ ghost use Rattle.run_trunks.specs.States.{HasLink, OnlyChangedAt, resting, trunk
 ghost use Rattle.trunk.specs.Events.{HasNumbersLeft, IsReading, delivered, ticked_at, told_by};
 ghost use Rattle.trunk.specs.Tells.{up_of_tick};
 ghost use Rattle.fabric.specs.Bringings.{HasNumbersOver, IsDelivered, MayAnswer, MayTellNode};
-ghost use Rattle.fabric.specs.Bringings.{answers_over, answers_told, asks_over, comes_by, node_told};
-ghost use Rattle.fabric.specs.Bringings.{passes_by, told_on};
+ghost use Rattle.fabric.specs.Bringings.{answers_over, answers_told, asks_over, comes_by};
+ghost use Rattle.fabric.specs.Bringings.{node_told, passes_by, told_on};
 
 use crate::watched_journal::WatchedJournal;
 use crate::wires::Coming;

@@ -1,15 +1,13 @@
 //! What a fabric says of its links.
 
-ghost use Rattle.std.specs.Prelude.{◌≡◌, ◌||◌, ◌+◌, true, false};
-ghost use Rattle.std.specs.Prelude.{length};
+ghost use Rattle.std.specs.Prelude.{◌≡◌, ◌||◌, ◌+◌, true, false, length};
 ghost use Rattle.carrier.specs.Events.{flight_from};
 ghost use Rattle.journal.specs.declared.head.Head.TheVariants as heads;
 ghost use Rattle.link_laws.specs.Ends.{IsLinkOf};
 ghost use Rattle.link_laws.specs.Sessions.{is_cut};
 ghost use Rattle.run_trunks.specs.States.{trunks_of};
-ghost use Rattle.fabric.specs.Links.{flies_from, are_plans_ended, no_link_stirs, is_up_at, line_left};
-ghost use Rattle.fabric.specs.Links.{stirs};
-ghost use Rattle.fabric.specs.Links.{tick_steps, wire_steps};
+ghost use Rattle.fabric.specs.Links.{flies_from, are_plans_ended, no_link_stirs, is_up_at};
+ghost use Rattle.fabric.specs.Links.{line_left, stirs, tick_steps, wire_steps};
 
 use crate::fabric::Fabric;
 use crate::line::Line;

@@ -7,8 +7,7 @@ ghost use Rattle.std.specs.Prelude.{IfOk, OnOk, Some, None, true};
 ghost use Rattle.journal.specs.History.{endpoint_of};
 ghost use Rattle.journal.specs.Logs.{is_full};
 ghost use Rattle.journal.specs.Rest.{is_idle};
-ghost use Rattle.fabric.specs.Idle.{noted_past, unless_at, unless_reached};
-ghost use Rattle.fabric.specs.Idle.{without_maker};
+ghost use Rattle.fabric.specs.Idle.{noted_past, unless_at, unless_reached, without_maker};
 
 use journal::{By, Effect, Effects, Head, Journal, Step};
 use linx_base::{Inc, Names, NoMemory};
@@ -106,7 +105,7 @@ fn forget(idle: &mut [Option<Inc>], step: &Step)
 
 impl WatchedJournal {
     /// A journal without steps, of so many actors.
-    #[tactic(auto, using(crate::proofs::Idling::idle_none))]
+    #[tactic(auto, using(crate::proofs::Standings::Idling::idle_none))]
     pub(crate) fn new(
         alloc: Global,
         names: Names,
@@ -183,7 +182,7 @@ impl WatchedJournal {
     }
 
     /// Notes that an actor waits in vain, at its endpoint.
-    #[tactic(auto, using(crate::proofs::Idling::idle_noted))]
+    #[tactic(auto, using(crate::proofs::Standings::Idling::idle_noted))]
     pub(crate) fn note_idle(&mut self, actor: u32, at: Inc)
         requires at { endpoint_of self.old.log.steps actor ≡ Some at }
         requires idle { is_idle self.old.log.steps actor ≡ true }

@@ -1,9 +1,7 @@
 //! The steps of a link: a packet that meets a verdict, a tick, and what an actor does to the link
 //! as a whole.
 
-ghost use Rattle.std.specs.Prelude.{◌≡◌, ◌<◌, true, false};
-ghost use Rattle.std.specs.Prelude.{IfOk, IfErr, OnErr, OnOk};
-ghost use Rattle.std.specs.Prelude.{None};
+ghost use Rattle.std.specs.Prelude.{◌≡◌, ◌<◌, true, false, IfOk, IfErr, OnErr, OnOk, None};
 ghost use Rattle.journal.specs.declared.head.Head.TheVariants as heads;
 ghost use Rattle.link_laws.specs.Ends.{IsLinkOf};
 ghost use Rattle.fabric.specs.Actings.{HasMade, LeavesAll, MayMake, OnlyRuns, asking};

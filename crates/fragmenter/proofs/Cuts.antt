@@ -1,17 +1,16 @@
 -- The frames that a message is cut into.
 use Rattle.std.proofs.Common.{◌≡◌, ℕ, suc, zero, ◌+◌, ◌-◌, ◌*◌, ◌/◌, ◌%◌, ◌<◌, ◌≤◌, min, Bool, ltb}
 use Rattle.std.proofs.Common.{List, [], ◌∷◌, ◌++◌, length, take, drop, refl, sym, ap, ◌∙◌, subst}
-use Rattle.std.proofs.Common.{arith, All, inl, inr, append_assoc}
+use Rattle.std.proofs.Common.{arith, All, inl, inr, append_assoc, MatchBool, flat_map, slice_range}
+use Rattle.std.proofs.Common.{lt-ltb, le-ltb, take-append-drop, length-drop, length-take}
+use Rattle.std.proofs.Common.{append-nil, drop-drop}
 use Rattle.std.proofs.Math.Nat.{add-div_right, add-mod_right, zero-div, zero-mod, mod-eq_of_lt}
 use Rattle.std.proofs.Math.Nat.{mul-le-mul_right}
-use Rattle.std.specs.Prelude.{MatchBool}
 use Rattle.std.specs.Int.{div_ceil}
-use Rattle.std.specs.List.{flat_map, slice_range}
-use Rattle.std.proofs.lemmas.Bool.{cases_lt, lt-ltb, le-ltb}
+use Rattle.std.proofs.lemmas.Bool.{cases_lt}
 use Rattle.std.proofs.lemmas.Grind.{div_ceil_times}
 use Rattle.std.proofs.lemmas.Nat.{div_below}
-use Rattle.std.proofs.lemmas.List.{take-append-drop, length-drop, length-take, append-nil, take_min}
-use Rattle.std.proofs.lemmas.List.{drop_min, drop-drop}
+use Rattle.std.proofs.lemmas.List.{take_min, drop_min}
 use Rattle.std.proofs.lemmas.List.Elements.{All-nil, All-cons}
 use Rattle.linx_base.specs.declared.frame.Message.{Message}
 use Rattle.linx_base.specs.declared.frame.Frame.{Frame}

@@ -1,9 +1,8 @@
 -- Which endpoints a step of a client leaves open.
 use Rattle.std.proofs.Common.{◌≡◌, ◌≢◌, ℕ, zero, suc, ◌<◌, Bool, true, false, cond, List, [], ◌∷◌}
-use Rattle.std.proofs.Common.{length, refl, sym, ◌∙◌, ap, subst, arith}
-use Rattle.std.specs.Prelude.{Option, Some, None, IsSome}
+use Rattle.std.proofs.Common.{length, refl, sym, ◌∙◌, ap, subst, arith, Option, Some, None, IsSome}
+use Rattle.std.proofs.Common.{ne_eqb}
 use Rattle.std.specs.List.{list_any}
-use Rattle.std.proofs.lemmas.Bool.{ne_eqb}
 use Rattle.linx_base.specs.declared.identity.Inc.{Inc}
 use Rattle.linx_base.specs.declared.identity.Peer.TheVariants.{Here}
 use Rattle.linx_base.specs.declared.name.Path.TheVariants.{Local}
@@ -27,9 +26,9 @@ use Rattle.node_kernel.specs.declared.answers.StepAnswer.{StepAnswer}
 use Rattle.node_kernel.specs.declared.ask.Ask.{Ask}
 use Rattle.node_kernel.specs.Answers.{event_of}
 use Rattle.fabric.specs.Run.{IsStepped, Layout}
-use Rattle.fabric.proofs.Effects.{only-arrivals, only-attached, only-founds, only-hunted}
-use Rattle.fabric.proofs.Kept.{other-not_lost}
-use Rattle.fabric.proofs.Legal.{is_restart}
+use Rattle.fabric.proofs.AfterStep.Effects.{only-arrivals, only-attached, only-founds, only-hunted}
+use Rattle.fabric.proofs.Methods.Keeps.{other-not_lost}
+use Rattle.fabric.proofs.Methods.Legal.{is_restart}
 use Rattle.gateway_core.specs.Handling.{leaves_open}
 use Rattle.gateway_core.proofs.Running.{after_ask, is_clients, leaving-client}
 

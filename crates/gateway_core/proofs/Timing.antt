@@ -1,7 +1,6 @@
 -- What becomes of the timers of a gateway: each request changes them as one of the calls does.
-use Rattle.std.proofs.Common.{◌≡◌, ◌≢◌, ℕ, zero, suc, ◌+◌, ◌<◌, Bool, true, false}
-use Rattle.std.proofs.Common.{sym, ap, subst, inl, inr, arith}
-use Rattle.std.specs.Prelude.{Option, Some, None, IsSome, ◌||◌, ◌==◌, nat_lt}
+use Rattle.std.proofs.Common.{◌≡◌, ◌≢◌, ℕ, zero, suc, ◌+◌, ◌<◌, Bool, true, false, sym, ap, subst}
+use Rattle.std.proofs.Common.{inl, inr, arith, Option, Some, None, IsSome, ◌||◌, ◌==◌, nat_lt}
 use Rattle.std.specs.List.{AllByRecursion}
 use Rattle.std.proofs.lemmas.Bool.{cases_Bool}
 use Rattle.std.proofs.lemmas.Bool.Decides.{nat_tests}
@@ -18,8 +17,9 @@ use Rattle.gateway_msgs.specs.Filters.{filter_of}
 use Rattle.gateway_msgs.specs.declared.reply.Reply.{Reply}
 use Rattle.gateway_msgs.specs.declared.request.Request.{Request}
 use Rattle.gateway_msgs.specs.declared.request.Request.TheVariants as asks
-use Rattle.gateway_core.specs.Handling.{Clocks, Fires, FiresOne, GateState, Handles, IfOpen, Receives}
-use Rattle.gateway_core.specs.Handling.{IsGateway, IsOwner, Stops, Strikes, last_moment, timer_state}
+use Rattle.gateway_core.specs.Handling.{Clocks, Fires, FiresOne, GateState, Handles, IfOpen}
+use Rattle.gateway_core.specs.Handling.{Receives, IsGateway, IsOwner, Stops, Strikes, last_moment}
+use Rattle.gateway_core.specs.Handling.{timer_state}
 use Rattle.gateway_core.specs.Timers.{EachTimerIsSentOnce}
 
 -- SOMETHING THAT EACH CALL KEEPS

@@ -1,11 +1,10 @@
 -- What is told of a legal journal is the journal; and where what is told is legal, each notification
 -- is that of its attach.
 use Rattle.std.proofs.Common.{◌≡◌, ℕ, suc, ◌+◌, Bool, true, false, cond, ◌||◌, inl, inr, List, []}
-use Rattle.std.proofs.Common.{◌∷◌, map, length, Option, Some, refl, sym, ap, ◌∙◌}
-use Rattle.std.specs.Prelude.{◌==◌, nat_lt}
+use Rattle.std.proofs.Common.{◌∷◌, map, length, Option, Some, refl, sym, ap, ◌∙◌, ◌==◌, nat_lt}
+use Rattle.std.proofs.Common.{bytes_eq, eqb-true, ltb-true}
 use Rattle.std.specs.List.{AllByRecursion}
-use Rattle.std.specs.Str.{bytes_eq}
-use Rattle.std.proofs.lemmas.Bool.{eqb-true, ltb-true, or_cases}
+use Rattle.std.proofs.lemmas.Bool.{or_cases}
 use Rattle.linx_base.specs.Content.{with_reason}
 use Rattle.linx_base.specs.declared.signal.Reason.{Reason}
 use Rattle.linx_base.specs.SigNotes.{SigNote}
@@ -15,8 +14,8 @@ use Rattle.journal.specs.declared.effect.Effect.{Effect}
 use Rattle.journal.specs.declared.effect.Effect.TheVariants.{Arrived, Notified}
 use Rattle.journal.specs.declared.effect.Step.{Step}
 use Rattle.link_laws.specs.Laws.{IsLegal}
-use Rattle.link_laws.proofs.Names.{bytes_eq-is}
-use Rattle.link_laws.proofs.Opened.{both_true}
+use Rattle.link_laws.proofs.Endpoints.Names.{bytes_eq-is}
+use Rattle.link_laws.proofs.Endpoints.OpenAfterStep.{both_true}
 use Rattle.image_laws.specs.Told.{AllNoticed, IsNotice, IsNoticed, attach_in_step, attached_at}
 use Rattle.image_laws.specs.Told.{can_tell, hidden, read, shown_most, told_effect, told_note}
 use Rattle.image_laws.specs.Told.{told_of, whole}

@@ -1,7 +1,6 @@
 -- What is pending: hunts, and attaches that are owed a notification.
 use Rattle.std.proofs.Common.{◌≡◌, ℕ, suc, Bool, true, false, cond, not, List, [], ◌∷◌, ◌++◌, map}
-use Rattle.std.proofs.Common.{length, Option, Some, None, refl, sym, ap, ◌∙◌}
-use Rattle.std.specs.List.{filter}
+use Rattle.std.proofs.Common.{length, Option, Some, None, refl, sym, ap, ◌∙◌, filter}
 use Rattle.std.proofs.lemmas.List.{map-append}
 use Rattle.linx_base.specs.Numbers.{is_on}
 use Rattle.linx_base.specs.declared.identity.Inc.{Inc}

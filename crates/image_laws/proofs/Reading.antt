@@ -1,11 +1,9 @@
 -- What is read of a legal journal, with what its attaches tell, is the map of it.
 use Rattle.std.proofs.Common.{◌≡◌, ℕ, suc, ◌+◌, ◌<◌, ◌≤◌, Bool, true, false, cond, ◌||◌, List, []}
 use Rattle.std.proofs.Common.{◌∷◌, map, length, Option, Some, None, ◌⊎◌, inl, inr, refl, sym, ap}
-use Rattle.std.proofs.Common.{◌∙◌, subst, arith}
-use Rattle.std.specs.Prelude.{◌==◌, nat_lt}
-use Rattle.std.specs.Str.{bytes_eq}
-use Rattle.std.proofs.lemmas.Bool.{cases_lt, cond-true, lt-ltb, or_right}
-use Rattle.std.proofs.lemmas.List.{length-append, length-map}
+use Rattle.std.proofs.Common.{◌∙◌, subst, arith, ◌==◌, nat_lt, bytes_eq, lt-ltb, length-append}
+use Rattle.std.proofs.lemmas.Bool.{cases_lt, cond-true, or_right}
+use Rattle.std.proofs.lemmas.List.{length-map}
 use Rattle.linx_base.specs.Content.{reason_byte, with_reason}
 use Rattle.linx_base.specs.declared.signal.Reason.{Reason}
 use Rattle.linx_base.specs.SigNotes.{SigNote}
@@ -17,7 +15,7 @@ use Rattle.journal.specs.declared.effect.Effect.{Effect}
 use Rattle.journal.specs.declared.effect.Effect.TheVariants.{Arrived, Notified}
 use Rattle.journal.specs.declared.effect.Step.{Step}
 use Rattle.link_laws.specs.Laws.{IsLegal}
-use Rattle.link_laws.proofs.Names.{bytes_eq-itself}
+use Rattle.link_laws.proofs.Endpoints.Names.{bytes_eq-itself}
 use Rattle.image_laws.specs.Images.{effect_by, head_by, journal_by, note_by, step_by, told_data}
 use Rattle.image_laws.specs.Told.{IsImage, attach_in_head, attach_in_step, attached_at, can_tell}
 use Rattle.image_laws.specs.Told.{image_of, image_of_effect, image_of_step, shown_most, told_effect}

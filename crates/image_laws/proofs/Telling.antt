@@ -1,8 +1,7 @@
 -- In a legal journal each notification has the signal of its attach, with the byte of its reason.
 use Rattle.std.proofs.Common.{◌≡◌, ℕ, zero, suc, Bool, true, false, List, [], ◌∷◌, map, length}
-use Rattle.std.proofs.Common.{Option, Some, None, refl, sym, subst}
-use Rattle.std.specs.Prelude.{not}
-use Rattle.std.specs.List.{AllByRecursion, filter}
+use Rattle.std.proofs.Common.{Option, Some, None, refl, sym, subst, not, filter}
+use Rattle.std.specs.List.{AllByRecursion}
 use Rattle.linx_base.specs.Content.{with_reason}
 use Rattle.linx_base.specs.Peers.{same_inc, same_peer}
 use Rattle.linx_base.specs.Pending.{is_of_session}

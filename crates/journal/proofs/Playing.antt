@@ -1,9 +1,9 @@
 -- The words of worked runs of nodes, and tests that compute of the laws of a step.
 use Rattle.std.proofs.Common.{◌≡◌, ◌≢◌, ℕ, zero, suc, ◌<◌, ◌≤◌, nat_lt, nat_le, ◌==◌, Bool, true}
 use Rattle.std.proofs.Common.{false, not, ◌&&◌, ◌||◌, List, [], ◌∷◌, length, Option, is_none}
-use Rattle.std.proofs.Common.{is_some, inl, inr, refl, sym, ap, ◌∙◌, arith}
-use Rattle.std.proofs.lemmas.Bool.{and_parts, cases_eq, eqb-true, or_cases, not-true, leb-true}
-use Rattle.std.proofs.lemmas.Bool.{ltb-true, true≢false}
+use Rattle.std.proofs.Common.{is_some, inl, inr, refl, sym, ap, ◌∙◌, arith, eqb-true, leb-true}
+use Rattle.std.proofs.Common.{ltb-true, true≢false}
+use Rattle.std.proofs.lemmas.Bool.{and_parts, cases_eq, or_cases, not-true}
 use Rattle.linx_base.specs.Numbers.{inc_of}
 use Rattle.linx_base.specs.declared.identity.AttRef.{AttRef}
 use Rattle.linx_base.specs.declared.identity.Inc.{Inc}

@@ -1,8 +1,7 @@
 -- The steps of a journal by their positions, in order.
 use Rattle.std.proofs.Common.{◌≡◌, ℕ, suc, ◌+◌, ◌-◌, ◌<◌, ◌≤◌, List, [], ◌∷◌, length, drop, Some}
-use Rattle.std.proofs.Common.{None, refl, ◌∙◌, sym, ap, arith, length-drop}
-use Rattle.std.proofs.lemmas.Bool.{eq-eqb, ne_eqb, cases_eq}
-use Rattle.std.proofs.Common.{⊎_elim}
+use Rattle.std.proofs.Common.{None, refl, ◌∙◌, sym, ap, arith, length-drop, eq-eqb, ne_eqb, ⊎_elim}
+use Rattle.std.proofs.lemmas.Bool.{cases_eq}
 use Rattle.std.proofs.Math.Nat.{sub-zero}
 use Rattle.std.proofs.Math.Seq.{drop-length}
 use Rattle.journal.specs.declared.effect.Step.{Step}

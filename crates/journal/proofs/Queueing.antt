@@ -1,7 +1,7 @@
 -- The queue of an endpoint after one more step.
 use Rattle.std.proofs.Common.{◌≡◌, ℕ, suc, ◌≤◌, ◌+◌, Bool, true, false, cond, not, List, [], ◌∷◌}
-use Rattle.std.proofs.Common.{◌++◌, length, Some, refl, sym, ap, subst, arith}
-use Rattle.std.specs.List.{list_any, filter, AllByRecursion}
+use Rattle.std.proofs.Common.{◌++◌, length, Some, refl, sym, ap, subst, arith, filter}
+use Rattle.std.specs.List.{list_any, AllByRecursion}
 use Rattle.std.proofs.lemmas.Bool.Decides.{nat_tests}
 use Rattle.linx_base.specs.FirstMatch.{first_match, without_match}
 use Rattle.linx_base.specs.Peers.{same_position}

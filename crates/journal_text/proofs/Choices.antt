@@ -1,6 +1,5 @@
 -- Choices by two tests.
-use Rattle.std.proofs.Common.{◌≡◌, Bool, true, false, cond, refl}
-use Rattle.std.specs.Prelude.{◌||◌}
+use Rattle.std.proofs.Common.{◌≡◌, Bool, true, false, cond, refl, ◌||◌}
 
 -- the later test first, and then the earlier one
 pub cond-or : {X : Type 0} (a b : Bool) (x y : X) → cond b x (cond a x y) ≡ cond (a || b) x y

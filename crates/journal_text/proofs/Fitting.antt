@@ -1,9 +1,8 @@
 -- Digests fit the signals at their places, as more are made and as they are looked up.
-use Rattle.std.proofs.Common.{◌≡◌, ℕ, zero, suc, ◌+◌, ◌-◌, ◌<◌, List, [], ◌∷◌, ◌++◌}
-use Rattle.std.proofs.Common.{length, drop, refl, sym, subst, ap, arith, length-drop, Bor, inl, inr}
-use Rattle.std.specs.Option.{option_copied}
-use Rattle.std.specs.Prelude.{◌⊎◌, Option, Some, None, IfSome, IsSomeAnd, slice_get}
-use Rattle.std.proofs.lemmas.Bool.{eq-eqb, ne_eqb}
+use Rattle.std.proofs.Common.{◌≡◌, ℕ, zero, suc, ◌+◌, ◌-◌, ◌<◌, List, [], ◌∷◌, ◌++◌, length, drop}
+use Rattle.std.proofs.Common.{refl, sym, subst, ap, arith, length-drop, Bor, inl, inr}
+use Rattle.std.proofs.Common.{option_copied, ◌⊎◌, Option, Some, None, IfSome, IsSomeAnd, slice_get}
+use Rattle.std.proofs.Common.{eq-eqb, ne_eqb}
 use Rattle.linx_base.specs.SigNotes.{SigNote}
 use Rattle.linx_base.specs.declared.identity.ItemAt.{ItemAt}
 use Rattle.journal.specs.declared.effect.Effect.{Effect}

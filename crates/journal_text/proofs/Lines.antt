@@ -1,11 +1,10 @@
 -- A TEXT IS READ LINE BY LINE: which of its lines begin with a digit, and what stands before the
 -- first space of a line.
 use Rattle.std.proofs.Common.{◌≡◌, ℕ, Bool, true, false, not, List, [], ◌∷◌, ◌++◌, refl, sym, ◌∙◌}
-use Rattle.std.proofs.Common.{ap, subst, append_assoc}
-use Rattle.std.specs.Prelude.{◌&&◌, ◌==◌, nat_le, codes, flat_map, if◌then◌else◌}
-use Rattle.std.specs.List.{filter, list_all}
+use Rattle.std.proofs.Common.{ap, subst, append_assoc, ◌&&◌, ◌==◌, nat_le, codes, flat_map}
+use Rattle.std.proofs.Common.{if◌then◌else◌, filter, append-nil}
+use Rattle.std.specs.List.{list_all}
 use Rattle.std.proofs.lemmas.Bool.{and_from, and_parts}
-use Rattle.std.proofs.lemmas.List.{append-nil}
 use Rattle.std.proofs.lemmas.List.Folds.{list_all-append}
 
 -- ---- what ends no line

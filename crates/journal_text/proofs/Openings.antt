@@ -1,7 +1,6 @@
 -- Openings among several effects.
-use Rattle.std.proofs.Common.{◌≡◌, ℕ, List, [], ◌∷◌, ◌++◌, flat_map, refl, ap}
-use Rattle.std.specs.Prelude.{Option, Some}
-use Rattle.std.specs.List.{filter_map}
+use Rattle.std.proofs.Common.{◌≡◌, ℕ, List, [], ◌∷◌, ◌++◌, flat_map, refl, ap, Option, Some}
+use Rattle.std.proofs.Common.{filter_map}
 use Rattle.linx_base.specs.declared.identity.Inc.{Inc}
 use Rattle.journal.specs.declared.effect.Effect.{Effect}
 use Rattle.journal.specs.declared.effect.Effect.TheVariants.{Opened}

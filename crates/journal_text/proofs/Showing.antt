@@ -2,11 +2,10 @@
 -- heads, each with the maker of its step.
 use Rattle.std.proofs.Common.{◌≡◌, ℕ, suc, ◌<◌, Bool, true, false, cond, List, [], ◌∷◌, ◌++◌}
 use Rattle.std.proofs.Common.{length, map, Option, Some, None, refl, sym, ◌∙◌, ap, subst, arith}
-use Rattle.std.proofs.Common.{append_assoc}
-use Rattle.std.specs.Prelude.{◌^◌, codes, decimal, flat_map}
+use Rattle.std.proofs.Common.{append_assoc, ◌^◌, codes, decimal, flat_map, append-nil}
 use Rattle.std.specs.List.{list_any}
 use Rattle.std.proofs.lemmas.Fmt.{decimal_injective}
-use Rattle.std.proofs.lemmas.List.{append-nil, append_cancel_left, length-map}
+use Rattle.std.proofs.lemmas.List.{append_cancel_left, length-map}
 use Rattle.linx_base.specs.declared.identity.Inc.{Inc}
 use Rattle.linx_base.specs.declared.name.Names.{Names}
 use Rattle.linx_base.specs.Numbers.{node_of}
@@ -32,10 +31,11 @@ use Rattle.journal_text.proofs.Lines.{IsClean, Reads, ◌+>◌, begins, begins-m
 use Rattle.journal_text.proofs.Lines.{is_word, reads-both, reads-digits, reads-flat, reads-none}
 use Rattle.journal_text.proofs.Lines.{reads-other, word, word-same}
 use Rattle.journal_text.proofs.Spelling.{ArePlain, begins-number, detached-clean, filter-clean}
-use Rattle.journal_text.proofs.Spelling.{halves-clean, link-clean, name-clean, node-clean, number-clean}
-use Rattle.journal_text.proofs.Spelling.{number-word, path-clean, peer-clean, peer_signal-clean}
-use Rattle.journal_text.proofs.Spelling.{position-clean, reason-clean, reference-clean, refusal-clean}
-use Rattle.journal_text.proofs.Spelling.{sent-clean, side-clean, signal-clean, verdict-clean}
+use Rattle.journal_text.proofs.Spelling.{halves-clean, link-clean, name-clean, node-clean}
+use Rattle.journal_text.proofs.Spelling.{number-clean, number-word, path-clean, peer-clean}
+use Rattle.journal_text.proofs.Spelling.{peer_signal-clean, position-clean, reason-clean}
+use Rattle.journal_text.proofs.Spelling.{reference-clean, refusal-clean, sent-clean, side-clean}
+use Rattle.journal_text.proofs.Spelling.{signal-clean, verdict-clean}
 
 -- the name that an effect tells ends no line
 abbrev pub IsNamed : Effect → Type 0

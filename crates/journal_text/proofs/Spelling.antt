@@ -1,12 +1,11 @@
 -- NO WORD OF A TEXT ENDS A LINE: numbers, data, peers, paths and names.
 use Rattle.std.proofs.Common.{◌≡◌, ℕ, zero, suc, ◌+◌, ◌≤◌, ◌<◌, Bool, true, false, cond, not, List}
-use Rattle.std.proofs.Common.{[], ◌∷◌, length, refl, subst}
-use Rattle.std.proofs.Common.{arith}
-use Rattle.std.specs.Prelude.{◌&&◌, ◌==◌, ◌/◌, ◌%◌, nat_le, nat_lt, codes, decimal, flat_map}
-use Rattle.std.specs.Prelude.{slice_get, slice_index}
+use Rattle.std.proofs.Common.{[], ◌∷◌, length, refl, subst, arith, ◌&&◌, ◌==◌, ◌/◌, ◌%◌, nat_le}
+use Rattle.std.proofs.Common.{nat_lt, codes, decimal, flat_map, slice_get, slice_index, eqb-true}
+use Rattle.std.proofs.Common.{le-leb, leb-true, lt-ltb}
 use Rattle.std.specs.Fmt.{digits, digits_onto, digit_glyph}
 use Rattle.std.specs.List.{list_all}
-use Rattle.std.proofs.lemmas.Bool.{and_from, and_parts, eqb-true, le-leb, leb-true, lt-ltb}
+use Rattle.std.proofs.lemmas.Bool.{and_from, and_parts}
 use Rattle.hex.specs.Hex.{encode_with, encode_lower, lower_digits}
 use Rattle.sha2.specs.Sha256.{sha256}
 use Rattle.linx_base.specs.NameText.{is_name, is_name_byte}
@@ -35,9 +34,10 @@ use Rattle.journal.specs.declared.head.SentTo.{SentTo}
 use Rattle.journal.specs.declared.head.SentTo.TheVariants as sends
 use Rattle.journal_text.specs.Values.{data_text, detached_text, digest_text, filter_text}
 use Rattle.journal_text.specs.Values.{further_text, halves_text, link_text, name_or_mark, node_text}
-use Rattle.journal_text.specs.Values.{nth_name, numbers_text, path_text, peer_signal_text, peer_text}
-use Rattle.journal_text.specs.Values.{position_text, reason_text, reference_text, refusal_text}
-use Rattle.journal_text.specs.Values.{sent_text, side_text, signal_text, swapped_text, verdict_text}
+use Rattle.journal_text.specs.Values.{nth_name, numbers_text, path_text, peer_signal_text}
+use Rattle.journal_text.specs.Values.{peer_text, position_text, reason_text, reference_text}
+use Rattle.journal_text.specs.Values.{refusal_text, sent_text, side_text, signal_text, swapped_text}
+use Rattle.journal_text.specs.Values.{verdict_text}
 use Rattle.journal_text.proofs.Lines.{IsClean, ◌+>◌, begins, is_line, is_word, word}
 
 -- ---- numbers

@@ -1,7 +1,6 @@
 -- The lines of steps, in order.
 use Rattle.std.proofs.Common.{◌≡◌, ◌≢◌, ℕ, suc, ◌+◌, List, [], ◌∷◌, ◌++◌, length, refl, ◌∙◌, sym}
-use Rattle.std.proofs.Common.{ap, append_assoc, arith}
-use Rattle.std.proofs.lemmas.List.{append-nil}
+use Rattle.std.proofs.Common.{ap, append_assoc, arith, append-nil}
 use Rattle.linx_base.specs.declared.name.Names.{Names}
 use Rattle.journal.specs.declared.effect.Step.{Step}
 use Rattle.journal.specs.Logs.{Log}

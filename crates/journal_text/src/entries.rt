@@ -2,8 +2,7 @@
 ghost use Rattle.std.specs.Prelude.{◌≡◌, ◌++◌, codes, OnOk, IfSome};
 ghost use Rattle.std.specs.Option.{option_copied};
 ghost use Rattle.journal_text.specs.Values.{peer_signal_text, reason_text};
-ghost use Rattle.journal_text.specs.Blocks.{title_text, effect_log};
-ghost use Rattle.journal_text.specs.Blocks.{item_text, head_log};
+ghost use Rattle.journal_text.specs.Blocks.{title_text, effect_log, item_text, head_log};
 ghost use Rattle.journal_text.specs.Known.{signal_in, signal_brought, signal_of, AreOf, Fits};
 
 use crate::digests::{Digested, Digests};

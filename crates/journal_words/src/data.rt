@@ -4,7 +4,8 @@ ghost use Rattle.std.specs.Str.{bytes_eq};
 ghost use Rattle.hex.specs.Hex.{encode_lower, decode_of};
 ghost use Rattle.linx_base.specs.Content.{data_limit};
 ghost use Rattle.text_words.specs.Gives.{Gives};
-ghost use Rattle.journal_words.specs.Data.{stand_in, if_spelled, hexadecimal_in, data_by, data_in, note_in};
+ghost use Rattle.journal_words.specs.Data.{stand_in, if_spelled, hexadecimal_in, data_by, data_in};
+ghost use Rattle.journal_words.specs.Data.{note_in};
 
 use hex::FromHexError;
 use linx_base::{Blob, NoMemory, SigNote, Signal};

@@ -2,7 +2,8 @@
 ghost use Rattle.std.specs.Prelude.{◌≡◌, map};
 ghost use Rattle.text_words.specs.Gives.{Gives};
 ghost use Rattle.journal_words.specs.Effects.{arrived_in, found_in, notified_in, met_in, gone_in};
-ghost use Rattle.journal_words.specs.Effects.{sessions_in, up_in, down_in, node_effect_in, effect_in};
+ghost use Rattle.journal_words.specs.Effects.{sessions_in, up_in, down_in, node_effect_in};
+ghost use Rattle.journal_words.specs.Effects.{effect_in};
 
 use crate::answers::reason_of;
 use crate::data::note;

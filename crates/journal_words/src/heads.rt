@@ -2,7 +2,8 @@
 ghost use Rattle.std.specs.Prelude.{◌≡◌, map};
 ghost use Rattle.text_words.specs.Gives.{Gives};
 ghost use Rattle.journal_words.specs.Heads.{send_in, attach_in, hunt_in, take_in, detach_in};
-ghost use Rattle.journal_words.specs.Heads.{wire_in, tick_in, outer_head_in, inner_head_in, head_in};
+ghost use Rattle.journal_words.specs.Heads.{wire_in, tick_in, outer_head_in, inner_head_in};
+ghost use Rattle.journal_words.specs.Heads.{head_in};
 
 use crate::answers::{detached_of, refusal_of, sent_of, side_of, verdict_of};
 use crate::data::note;

@@ -1,11 +1,10 @@
 -- The groups follow each change.
 use Rattle.std.proofs.Common.{◌≡◌, ◌≢◌, ℕ, suc, ◌+◌, ◌*◌, ◌/◌, ◌<◌, ◌≤◌, Bool, true, false, List}
-use Rattle.std.proofs.Common.{length, take, get_or, sym, ap, ◌∙◌, inl, inr, arith}
-use Rattle.std.specs.Prelude.{slice_set, ◌⊎◌}
+use Rattle.std.proofs.Common.{length, take, get_or, sym, ap, ◌∙◌, inl, inr, arith, slice_set, ◌⊎◌}
+use Rattle.std.proofs.Common.{length-set, get_or-set_same, get_or-set_other, get_or-take}
+use Rattle.std.proofs.Common.{length-take}
 use Rattle.std.proofs.lemmas.Bool.{cases_lt}
 use Rattle.std.proofs.lemmas.Bool.Decides.{eqb_tells}
-use Rattle.std.proofs.lemmas.List.{length-set, get_or-set_same, get_or-set_other, get_or-take}
-use Rattle.std.proofs.lemmas.List.{length-take}
 use Rattle.link_addresses.specs.declared.meaning.Meaning.{Meaning}
 use Rattle.link_addresses.specs.declared.meaning.Meaning.TheVariants.{Free}
 use Rattle.link_addresses.specs.Meanings.{meaning_of, ChangesMeaning}

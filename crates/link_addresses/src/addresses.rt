@@ -1,5 +1,4 @@
-ghost use Rattle.std.specs.Prelude.{◌≡◌, ◌≢◌, [], ℕ, IfSome, IfNone, OnSome, IfOk, OnOk};
-ghost use Rattle.std.specs.Prelude.{OnErr};
+ghost use Rattle.std.specs.Prelude.{◌≡◌, ◌≢◌, [], ℕ, IfSome, IfNone, OnSome, IfOk, OnOk, OnErr};
 ghost use Rattle.linx_base.specs.Both.{still};
 ghost use Rattle.linx_base.specs.declared.identity.Inc.{Inc as AnyInc};
 ghost use Rattle.link_addresses.specs.declared.meaning.Meaning.TheVariants.{Free, Live, Closing};

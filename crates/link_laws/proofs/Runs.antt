@@ -1,6 +1,5 @@
 -- EVERY RUN IS LEGAL, hangs together with the records of its links, and keeps its promises.
-use Rattle.std.proofs.Common.{◌≤◌, List, [], ◌∷◌, length, refl}
-use Rattle.std.proofs.Common.{arith}
+use Rattle.std.proofs.Common.{◌≤◌, List, [], ◌∷◌, length, refl, arith}
 use Rattle.linx_base.specs.Sides.{other_of}
 use Rattle.journal.specs.History.{endpoint_by}
 use Rattle.journal.specs.Logs.{step_limit}
@@ -18,26 +17,25 @@ use Rattle.link_laws.specs.Laws.{IsLegal, KeepsNodeLaws}
 use Rattle.link_laws.specs.Moves.{IsMove, Moves}
 use Rattle.link_laws.specs.Promises.{KeepsLinkPromises}
 use Rattle.link_laws.specs.Runs.{IsBoundedRun, IsRun, KeepsPromises, KeepsThroughout}
-use Rattle.link_laws.specs.Runs.{NothingVanishesThere}
-use Rattle.link_laws.specs.Runs.{RunsAreLegal, RunsKeepPromises}
-use Rattle.link_laws.proofs.Carried.{all_carried}
-use Rattle.link_laws.proofs.Good.{IsGood, IsKnown, step_of}
+use Rattle.link_laws.specs.Runs.{NothingVanishesThere, RunsAreLegal, RunsKeepPromises}
+use Rattle.link_laws.proofs.Promises.Arrivals.{all_carried}
+use Rattle.link_laws.proofs.Moves.Shown.{IsGood, IsKnown, step_of}
 use Rattle.link_laws.proofs.Legal.{legal_plain}
-use Rattle.link_laws.proofs.MovesClose.{close_head, ended_head, ending_good}
-use Rattle.link_laws.proofs.MovesHunt.{hunting_good}
-use Rattle.link_laws.proofs.MovesOpen.{opening_good}
-use Rattle.link_laws.proofs.MovesPass.{passing_good, ticking_good}
-use Rattle.link_laws.proofs.MovesQuiet.{finding_good, quiet_good, resting_still}
-use Rattle.link_laws.proofs.MovesRestart.{restarting_good}
-use Rattle.link_laws.proofs.MovesSend.{sending_good}
-use Rattle.link_laws.proofs.New.{links_new}
-use Rattle.link_laws.proofs.NodePromises.{keeps-node_promises}
-use Rattle.link_laws.proofs.Stillness.{nothing_vanishes}
-use Rattle.link_laws.proofs.BetweenLiving.{between_living}
-use Rattle.link_laws.proofs.Unfound.{unfound}
-use Rattle.link_laws.proofs.UnfoundHere.{unfound_here}
-use Rattle.link_laws.proofs.ToldClosed.{EachIsSoFar, IsSoFar, all_got_fronts, all_told_whole}
-use Rattle.link_laws.proofs.ToldClosed.{never_after_told}
+use Rattle.link_laws.proofs.Moves.Closes.{close_head, ended_head, ending_good}
+use Rattle.link_laws.proofs.Moves.Hunts.{hunting_good}
+use Rattle.link_laws.proofs.Moves.Openings.{opening_good}
+use Rattle.link_laws.proofs.Moves.PacketsAndTicks.{passing_good, ticking_good}
+use Rattle.link_laws.proofs.Moves.QuietSteps.{finding_good, quiet_good, resting_still}
+use Rattle.link_laws.proofs.Moves.Restarts.{restarting_good}
+use Rattle.link_laws.proofs.Moves.Sends.{sending_good}
+use Rattle.link_laws.proofs.Sides.AtTheBeginning.{links_new}
+use Rattle.link_laws.proofs.Promises.OneNode.{keeps-node_promises}
+use Rattle.link_laws.proofs.Promises.Stillness.{nothing_vanishes}
+use Rattle.link_laws.proofs.Peers.AttachesBetweenLiving.{between_living}
+use Rattle.link_laws.proofs.Hunts.UnfoundPeers.{unfound}
+use Rattle.link_laws.proofs.Hunts.UnfoundNames.{unfound_here}
+use Rattle.link_laws.proofs.Promises.Closes.{EachIsSoFar, IsSoFar, all_got_fronts, all_told_whole}
+use Rattle.link_laws.proofs.Promises.Closes.{never_after_told}
 
 -- EACH MOVE is legal, keeps the links and what is promised
 module _ (shape : Shape) (P : List Step) (before after : Links) (known : IsKnown shape P before)

@@ -11,9 +11,8 @@ use Rattle.linx_base.specs.declared.identity.Peer.TheVariants.{Here, There}
 use Rattle.linx_base.specs.declared.identity.Session.{Session}
 use Rattle.trunk_record.specs.Records.{SessionRecord, SideRecord, all, given_in, peer_in, said_in}
 use Rattle.trunk_record.specs.Records.{up_in}
-use Rattle.trunk_record.specs.Sayings.{Said, asked}
-use Rattle.trunk_record.specs.Sayings.{heard_as, is_live, is_shown, is_signal, published}
-use Rattle.trunk_record.specs.Sayings.{signaled, unpublished}
+use Rattle.trunk_record.specs.Sayings.{Said, asked, heard_as, is_live, is_shown, is_signal}
+use Rattle.trunk_record.specs.Sayings.{published, signaled, unpublished}
 use Rattle.journal.specs.History.{is_closed, name_of}
 use Rattle.journal.specs.Living.{is_alive}
 use Rattle.journal.specs.Pending.{hunting}

@@ -21,8 +21,7 @@ use Rattle.trunk_record.specs.Changes.{beginning, giving, going_up, saying, says
 use Rattle.trunk_record.specs.Records.{SessionRecord, SideRecord, all, has_session, peer_in}
 use Rattle.trunk_record.specs.Records.{said_in}
 use Rattle.trunk_record.specs.Sayings.{Given, Said, arrived, asked, asked_for, freed, gone}
-use Rattle.trunk_record.specs.Sayings.{heard_as}
-use Rattle.trunk_record.specs.Sayings.{is_live, met, published, unpublished}
+use Rattle.trunk_record.specs.Sayings.{heard_as, is_live, met, published, unpublished}
 use Rattle.trunk_record.specs.Trunks.{FitsReceiver, IsQuiet}
 use Rattle.journal.specs.Effects.{losing}
 use Rattle.journal.specs.History.{endpoint_by, name_of, next_inc, opened_on}
@@ -37,8 +36,7 @@ use Rattle.journal.specs.declared.head.Head.TheVariants.{TakeNone, Tick, Wire}
 use Rattle.journal.specs.declared.head.SentTo.{SentTo}
 use Rattle.journal.specs.declared.head.SentTo.TheVariants.{Link}
 use Rattle.link_laws.specs.Brought.{Brought, arrives, brought_at, goes_down, goes_up, meets}
-use Rattle.link_laws.specs.Brought.{nothing}
-use Rattle.link_laws.specs.Brought.{parts}
+use Rattle.link_laws.specs.Brought.{nothing, parts}
 use Rattle.link_laws.specs.Ends.{IsLinkOf, node_at}
 use Rattle.link_laws.specs.Sides.{Links, SideState}
 use Rattle.link_laws.specs.Laws.{KeepsNodeLaws, delivers}

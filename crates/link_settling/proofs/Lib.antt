@@ -1,22 +1,3 @@
-pub mod Sent
-pub mod Steps
-pub mod Counting
-mod Weighing
-pub mod Lowering
-pub mod Inducting
-pub mod Ending
-pub mod Apart
-pub mod HalfOpen
-pub mod Joining
-pub mod Calling
-pub mod Flowing
-pub mod Ordering
-pub mod Hearing
-pub mod Ticking
-pub mod Fresh
-pub mod Left
-pub mod Turns
-pub mod Settling
-pub mod Moving
-pub mod Rounds
-pub mod Worked
+pub mod Flights
+pub mod Sides
+pub mod Ticks

@@ -1,5 +1,6 @@
 -- That a link settles.
-use Rattle.std.specs.Prelude.{◌≡◌, ℕ, suc, ◌+◌, ◌<◌, ◌≤◌, true, false, IsSome, List, [], ◌∷◌, length}
+use Rattle.std.specs.Prelude.{◌≡◌, ℕ, suc, ◌+◌, ◌<◌, ◌≤◌, true, false, IsSome, List, [], ◌∷◌}
+use Rattle.std.specs.Prelude.{length}
 use Rattle.linx_base.specs.Frames.{IsMessage}
 use Rattle.linx_base.specs.Sides.{other_of}
 use Rattle.linx_base.specs.declared.frame.Message.{Message}

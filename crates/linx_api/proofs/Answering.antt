@@ -1,7 +1,6 @@
 -- What the machine makes of what a maker asks is what a call promises.
-use Rattle.std.proofs.Common.{◌≡◌, ℕ, Bool, true, false, cond, List, Option, Some, None}
-use Rattle.std.proofs.Common.{refl, sym, ◌∙◌, ap, subst, inl, inr, ◌&&◌}
-use Rattle.std.specs.Prelude.{Result, Ok, Err, IfOk, IfErr, is_some}
+use Rattle.std.proofs.Common.{◌≡◌, ℕ, Bool, true, false, cond, List, Option, Some, None, refl, sym}
+use Rattle.std.proofs.Common.{◌∙◌, ap, subst, inl, inr, ◌&&◌, Result, Ok, Err, IfOk, IfErr, is_some}
 use Rattle.linx_base.specs.declared.identity.Inc.{Inc}
 use Rattle.linx_base.specs.declared.item.Item.{Item}
 use Rattle.linx_base.specs.SigNotes.{SigNote}
@@ -34,7 +33,7 @@ use Rattle.fabric.specs.Links.{no_link_stirs}
 use Rattle.fabric.specs.Machine.{head_for, head_of, is_at_rest, look, pumped_head}
 use Rattle.fabric.specs.Machine.{signal_in, vain_look}
 use Rattle.fabric.specs.Run.{IsStepFor, IsStepOf, IsStepped, Layout}
-use Rattle.fabric.proofs.InVain.{LooksInVain}
+use Rattle.fabric.proofs.Methods.LooksInVain.{LooksInVain}
 use Rattle.linx_api.specs.Asked.{FindsNothing, Gives, IsAnswered, MakesStep}
 
 -- the head, if there is one, is an end

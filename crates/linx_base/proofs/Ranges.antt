@@ -1,8 +1,7 @@
 -- A part of a part, and a range with what stands right before it.
 use Rattle.std.proofs.Common.{◌≡◌, ℕ, ◌+◌, ◌-◌, ◌≤◌, ◌++◌, List, length, take, drop, slice_range}
-use Rattle.std.proofs.Common.{ap, sym, take-add}
-use Rattle.std.proofs.Common.{◌∙◌, arith}
-use Rattle.std.proofs.lemmas.List.{drop-take, take-take, drop-drop, length-take}
+use Rattle.std.proofs.Common.{ap, sym, take-add, ◌∙◌, arith, take-take, drop-drop, length-take}
+use Rattle.std.proofs.lemmas.List.{drop-take}
 
 cut : (n k from : ℕ) (ys : List ℕ) → from + k ≤ n
     → take k (drop from (take n ys)) ≡ take k (drop from ys)

@@ -1,6 +1,5 @@
 -- What is pending at a node: hunts for a path, and attaches to a peer.
-use Rattle.std.specs.Prelude.{Bool, false, ◌&&◌, ◌==◌, List, Option, Some, None, if◌then◌else◌}
-use Rattle.std.specs.Prelude.{ℕ}
+use Rattle.std.specs.Prelude.{Bool, false, ◌&&◌, ◌==◌, List, Option, Some, None, if◌then◌else◌, ℕ}
 use Rattle.std.specs.List.{filter_map}
 use Rattle.linx_base.specs.Peers.{same_inc, same_path}
 use Rattle.linx_base.specs.declared.identity.AttRef.{AttRef}

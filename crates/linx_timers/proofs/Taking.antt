@@ -1,9 +1,7 @@
 -- Lists out of which the first element that passes a test is taken.
-use Rattle.std.proofs.Common.{◌≡◌, Bool, true, false, cond, List, [], ◌∷◌, ◌++◌, map}
-use Rattle.std.proofs.Common.{refl, ap, sym, subst, inl, inr}
-use Rattle.std.specs.Prelude.{Some, None, filter, ◌||◌}
+use Rattle.std.proofs.Common.{◌≡◌, Bool, true, false, cond, List, [], ◌∷◌, ◌++◌, map, refl, ap, sym}
+use Rattle.std.proofs.Common.{subst, inl, inr, Some, None, filter, ◌||◌, option_map}
 use Rattle.std.specs.List.{AllByRecursion, list_any, list_all}
-use Rattle.std.specs.Option.{option_map}
 use Rattle.std.proofs.lemmas.Bool.{cases_Bool}
 use Rattle.linx_base.specs.FirstMatch.{first_match, without_match}
 

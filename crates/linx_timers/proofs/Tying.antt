@@ -1,9 +1,8 @@
 -- What ties the entries of timers to their deadlines.
-use Rattle.std.proofs.Common.{◌≡◌, ◌≢◌, ◌⊎◌, inl, inr, ℕ, ◌+◌, ◌<◌, ◌≤◌, Bool, true, false, List, [], ◌∷◌, ◌++◌}
-use Rattle.std.proofs.Common.{refl, ap, sym, subst, ◌∙◌, arith}
-use Rattle.std.specs.Prelude.{Option, Some, None, ◌==◌, nat_le, is_some}
+use Rattle.std.proofs.Common.{◌≡◌, ◌≢◌, ◌⊎◌, inl, inr, ℕ, ◌+◌, ◌<◌, ◌≤◌, Bool, true, false, List}
+use Rattle.std.proofs.Common.{[], ◌∷◌, ◌++◌, refl, ap, sym, subst, ◌∙◌, arith, Option, Some, None}
+use Rattle.std.proofs.Common.{◌==◌, nat_le, is_some, option_map}
 use Rattle.std.specs.List.{AllByRecursion, list_any, list_all}
-use Rattle.std.specs.Option.{option_map}
 use Rattle.std.proofs.lemmas.Bool.{cases_Bool}
 use Rattle.std.proofs.lemmas.Bool.Decides.{nat_tests}
 use Rattle.std.proofs.lemmas.List.{map-append}
@@ -13,11 +12,12 @@ use Rattle.deadlines.specs.declared.deadline.Deadline.{Deadline}
 use Rattle.deadlines.specs.Slots.{deadline_at, at_moment, OnlySlot, IsEarliest}
 use Rattle.linx_timers.specs.declared.entry.Entry.{Entry}
 use Rattle.linx_timers.specs.declared.timer.Timer.{Timer}
-use Rattle.linx_timers.specs.Entries.{has_reference, moment_of, ticket_of, timer_in, timers_in, AreRising, IsTied}
+use Rattle.linx_timers.specs.Entries.{has_reference, moment_of, ticket_of, timer_in, timers_in}
+use Rattle.linx_timers.specs.Entries.{AreRising, IsTied}
 use Rattle.linx_timers.specs.Times.{is_next, with_due}
-use Rattle.linx_timers.proofs.Taking.{all_without, all_first, all_push, all_by, all_both, first_passes}
-use Rattle.linx_timers.proofs.Taking.{any_without, any_first, all_fails, all_pass, none_passes}
-use Rattle.linx_timers.proofs.Taking.{first-map, without-map}
+use Rattle.linx_timers.proofs.Taking.{all_without, all_first, all_push, all_by, all_both}
+use Rattle.linx_timers.proofs.Taking.{first_passes, any_without, any_first, all_fails, all_pass}
+use Rattle.linx_timers.proofs.Taking.{none_passes, first-map, without-map}
 use Rattle.std.proofs.lemmas.List.Folds.{list_all-map}
 
 -- an entry's slot has a deadline with its ticket

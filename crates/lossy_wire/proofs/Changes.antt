@@ -1,7 +1,6 @@
 -- A change of packets, with one more packet behind them.
 use Rattle.std.proofs.Common.{◌≡◌, ℕ, ◌<◌, List, [], ◌∷◌, ◌++◌, length, set, get_or, refl, arith}
-use Rattle.std.proofs.Common.{length-set}
-use Rattle.std.specs.List.{swap}
+use Rattle.std.proofs.Common.{length-set, swap}
 use Rattle.std.proofs.lemmas.List.{set-append_left, get_or_append_left}
 use Rattle.std.proofs.lemmas.List.Edits.{remove-append_left}
 use Rattle.lossy_wire.specs.declared.wire.Change.{Change}

@@ -1,12 +1,10 @@
 -- What effects bring to endpoints, one after another, and taken back.
-use Rattle.std.proofs.Common.{◌≡◌, ℕ, ◌+◌, ◌-◌, ◌<◌, Bool, true, false, cond, List, []}
-use Rattle.std.proofs.Common.{◌∷◌, ◌++◌, length, map, take, get_or, refl, ap, sym, ◌∙◌}
-use Rattle.std.proofs.Common.{arith}
-use Rattle.std.specs.Prelude.{Some, None}
+use Rattle.std.proofs.Common.{◌≡◌, ℕ, ◌+◌, ◌-◌, ◌<◌, Bool, true, false, cond, List, [], ◌∷◌, ◌++◌}
+use Rattle.std.proofs.Common.{length, map, take, get_or, refl, ap, sym, ◌∙◌, arith, Some, None}
+use Rattle.std.proofs.Common.{append-nil, append_assoc, take_at, length-append, length-take-le}
 use Rattle.std.specs.List.{AllByRecursion}
 use Rattle.std.proofs.lemmas.Bool.Decides.{nat_tests}
-use Rattle.std.proofs.lemmas.List.{append-nil, append_assoc, take_more, take_at, length-append}
-use Rattle.std.proofs.lemmas.List.{length-take-le}
+use Rattle.std.proofs.lemmas.List.{take_more}
 use Rattle.linx_base.specs.Peers.{same_inc}
 use Rattle.linx_base.specs.declared.identity.Inc.{Inc}
 use Rattle.linx_base.specs.declared.identity.ItemAt.{ItemAt}
@@ -17,8 +15,7 @@ use Rattle.journal.specs.declared.effect.Effect.TheVariants.{Notified, Met, Gone
 use Rattle.journal.specs.Queues.{is_item_of, items_from, items_in}
 use Rattle.journal.proofs.Lists.{all-impl}
 use Rattle.node_kernel.specs.declared.delivery.Delivery.{Delivery}
-use Rattle.node_kernel.specs.Nodes.{OpenEndpoint, is_open, items_at, put_all}
-use Rattle.node_kernel.specs.Nodes.{put_into, with_items}
+use Rattle.node_kernel.specs.Nodes.{OpenEndpoint, is_open, items_at, put_all, put_into, with_items}
 use Rattle.node_kernel.specs.Kept.{AreRising, bring_into, change_items, delivery_at, put_item}
 use Rattle.node_kernel.specs.Kept.{receiver_of, without_last}
 

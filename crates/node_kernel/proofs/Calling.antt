@@ -1,7 +1,7 @@
 -- What calls leave of a node, in the words of their contracts.
 use Rattle.std.proofs.Common.{◌≡◌, ℕ, ◌+◌, Bool, true, false, not, cond, List, [], ◌∷◌, ◌++◌, map}
-use Rattle.std.proofs.Common.{refl, ap, sym, subst, ◌∙◌}
-use Rattle.std.specs.Prelude.{Option, Some, None, Result, Ok, Err, IfOk, OnOk, filter}
+use Rattle.std.proofs.Common.{refl, ap, sym, subst, ◌∙◌, Option, Some, None, Result, Ok, Err, IfOk}
+use Rattle.std.proofs.Common.{OnOk, filter}
 use Rattle.std.specs.List.{list_any}
 use Rattle.linx_base.specs.Peers.{same_inc, same_path, same_peer}
 use Rattle.linx_base.specs.Pending.{is_attach, is_of_session}

@@ -1,12 +1,9 @@
 -- What a roster keeps, after each change.
 use Rattle.std.proofs.Common.{◌≡◌, ℕ, ◌+◌, ◌<◌, Bool, true, false, cond, List, [], ◌∷◌, ◌++◌, map}
 use Rattle.std.proofs.Common.{refl, ap, ap₂, sym, subst, ◌∙◌, arith, drop, is_ok, length}
-use Rattle.std.proofs.Common.{length-append, option_to_list, true≢false}
-use Rattle.std.specs.Prelude.{Option, Some, Result, Ok, Err, OnOk, OnErr, IfOk, IfErr}
-use Rattle.std.specs.Result.{is_err}
+use Rattle.std.proofs.Common.{length-append, option_to_list, true≢false, Option, Some, Result, Ok}
+use Rattle.std.proofs.Common.{Err, OnOk, OnErr, IfOk, IfErr, is_err, option_map, bytes_eq}
 use Rattle.std.specs.List.{AllByRecursion}
-use Rattle.std.specs.Option.{option_map}
-use Rattle.std.specs.Str.{bytes_eq}
 use Rattle.std.proofs.lemmas.List.{map_push}
 use Rattle.std.proofs.lemmas.Bool.Decides.{nat_tests}
 use Rattle.linx_base.specs.FirstMatch.{first_match, without_match}

@@ -1,9 +1,8 @@
 -- Open endpoints in order of incarnation.
 use Rattle.std.proofs.Common.{◌≡◌, ℕ, zero, suc, ◌<◌, ◌≤◌, ◌⊎◌, inl, inr, Bool, true, false, cond}
-use Rattle.std.proofs.Common.{List, [], ◌∷◌, length, map, get_or}
-use Rattle.std.proofs.Common.{arith}
-use Rattle.std.specs.Prelude.{Some, None, nat_lt}
-use Rattle.std.specs.List.{AllByRecursion, position}
+use Rattle.std.proofs.Common.{List, [], ◌∷◌, length, map, get_or, arith, Some, None, nat_lt}
+use Rattle.std.proofs.Common.{position}
+use Rattle.std.specs.List.{AllByRecursion}
 use Rattle.std.specs.List.Sorted.{IsNonDecreasingBy, IsPartitionedBy, IsPartitionPoint}
 use Rattle.std.proofs.lemmas.Bool.Decides.{nat_tests}
 use Rattle.std.proofs.lemmas.List.{get_or_default}

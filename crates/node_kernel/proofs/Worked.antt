@@ -1,6 +1,5 @@
 -- The effects and the nodes of worked calls: hunts and attaches on one node.
-use Rattle.std.proofs.Common.{◌≡◌, ℕ, false, List, [], ◌∷◌, refl}
-use Rattle.std.specs.Prelude.{codes}
+use Rattle.std.proofs.Common.{◌≡◌, ℕ, false, List, [], ◌∷◌, refl, codes}
 use Rattle.linx_base.specs.Numbers.{inc_of}
 use Rattle.linx_base.specs.declared.identity.Inc.{Inc}
 use Rattle.linx_base.specs.declared.identity.Peer.TheVariants.{Here}
@@ -15,8 +14,7 @@ use Rattle.journal.specs.declared.effect.Effect.TheVariants.{Opened, Closed, Fou
 use Rattle.journal.specs.declared.head.Detached.TheVariants.{Pending, Queued, None as Neither}
 use Rattle.journal.specs.Effects.{attached, closing, hunted, opening}
 use Rattle.node_kernel.specs.Nodes.{NodeState, OpenEndpoint, find_at}
-use Rattle.node_kernel.specs.Calls.{after_attach, after_close, after_detach, after_open}
-use Rattle.node_kernel.specs.Calls.{detached}
+use Rattle.node_kernel.specs.Calls.{after_attach, after_close, after_detach, after_open, detached}
 
 abbrev first : Inc
 first = inc_of 1 1

@@ -25,9 +25,8 @@ use Rattle.node_kernel.specs.declared.answers.OpenError.{OpenError}
 use Rattle.node_kernel.specs.declared.answers.OpenError.TheVariants.{Full, NoMemory}
 use Rattle.node_kernel.specs.declared.answers.Sent.{Sent}
 use Rattle.node_kernel.specs.declared.answers.Sent.TheVariants.{Queued, Link, Dead}
-use Rattle.node_kernel.specs.Nodes.{OpenEndpoint, NodeState, endpoint_limit, items_at}
-use Rattle.node_kernel.specs.Nodes.{with_items, without_endpoint, put_all, find_at, is_living}
-use Rattle.node_kernel.specs.Nodes.{next_of}
+use Rattle.node_kernel.specs.Nodes.{OpenEndpoint, NodeState, endpoint_limit, items_at, with_items}
+use Rattle.node_kernel.specs.Nodes.{without_endpoint, put_all, find_at, is_living, next_of}
 
 -- OPENING. The node after it: one more endpoint at the end, whose queue is empty; what was found is
 -- put, and no hunt for the name is pending

@@ -1,8 +1,6 @@
 -- Whom an order names is one of those that are ready.
-use Rattle.std.proofs.Common.{◌≡◌, ℕ, ◌<◌, Bool, true, false, List, [], ◌∷◌, length, refl}
-use Rattle.std.proofs.Common.{get_or, arith, ◌%◌}
-use Rattle.std.specs.Prelude.{◌==◌, ◌||◌, ◌-◌, nat_lt, if◌then◌else◌}
-use Rattle.std.proofs.lemmas.Bool.{eq-eqb}
+use Rattle.std.proofs.Common.{◌≡◌, ℕ, ◌<◌, Bool, true, false, List, [], ◌∷◌, length, refl, get_or}
+use Rattle.std.proofs.Common.{arith, ◌%◌, ◌==◌, ◌||◌, ◌-◌, nat_lt, if◌then◌else◌, eq-eqb}
 use Rattle.std.proofs.lemmas.List.Folds.{list_any_at}
 use Rattle.rand_xoshiro.specs.SplitMix64.{mix_u64}
 use Rattle.order_rules.specs.Dice.{below}

@@ -1,6 +1,6 @@
 -- Tables of what a die throws, place by place.
 use Rattle.std.proofs.Common.{◌≡◌, ℕ, zero, suc, ◌+◌, ◌^◌, List, replicate, refl, sym, ◌∙◌, ap}
-use Rattle.std.specs.Prelude.{slice_set}
+use Rattle.std.proofs.Common.{slice_set}
 use Rattle.order_rules.specs.Dice.{below, with_next, word, words}
 use Rattle.order_rules.specs.Seeds.{changes, with_change}
 

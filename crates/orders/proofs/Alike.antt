@@ -1,8 +1,7 @@
 -- Who is ready is the same in states that are alike.
-use Rattle.std.proofs.Common.{◌≡◌, ℕ, zero, suc, ◌-◌, ◌<◌, ◌≤◌, ◌++◌, ◌∷◌, [], Bool, true, false, List}
-use Rattle.std.proofs.Common.{length, refl, ◌∙◌, ap, arith}
-use Rattle.std.specs.Prelude.{nat_le, not, ◌&&◌, if◌then◌else◌}
-use Rattle.std.proofs.lemmas.Bool.{leb-false}
+use Rattle.std.proofs.Common.{◌≡◌, ℕ, zero, suc, ◌-◌, ◌<◌, ◌≤◌, ◌++◌, ◌∷◌, [], Bool, true, false}
+use Rattle.std.proofs.Common.{List, length, refl, ◌∙◌, ap, arith, nat_le, not, ◌&&◌, if◌then◌else◌}
+use Rattle.std.proofs.Common.{leb-false}
 use Rattle.linx_base.specs.declared.identity.LinkNo.{LinkNo}
 use Rattle.journal.specs.History.{has_ended}
 use Rattle.journal.specs.Rest.{is_idle}
@@ -15,7 +14,7 @@ use Rattle.fabric.specs.Run.{Layout}
 use Rattle.stage.specs.Ready.{is_actor_ready, is_ready, is_ready_by}
 use Rattle.stage.specs.Settlings.{stirs_in}
 use Rattle.stage.specs.Turns.{makers, shape_of}
-use Rattle.stage.proofs.Alike.{still_alike, stirs_alike}
+use Rattle.stage.proofs.Plans.SameTrunks.{still_alike, stirs_alike}
 use Rattle.run_orders.proofs.States.{AreAlike, by-alike}
 use Rattle.orders.specs.Makers.{ready, ready_among}
 

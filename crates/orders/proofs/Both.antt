@@ -4,9 +4,9 @@ use Rattle.journal.specs.Shapes.{Shape}
 use Rattle.link_laws.specs.Ends.{HasTwoEnds}
 use Rattle.script_lang.specs.Fits.{IsScript}
 use Rattle.script_lang.specs.Parts.{ScriptParts}
-use Rattle.fabric.proofs.Reaching.{two-ends}
+use Rattle.fabric.proofs.Methods.Runs.{two-ends}
 use Rattle.stage.specs.Turns.{IsTurnOf, first_layout, shape_of}
-use Rattle.stage.proofs.LaidOut.{laid_out}
+use Rattle.stage.proofs.Rounds.LayingOut.{laid_out}
 use Rattle.run_orders.proofs.States.{AreAlike, alike-same}
 use Rattle.run_orders.proofs.Turns.{turn-alike}
 use Rattle.order_rules.specs.Orders.{Named, Order, named}

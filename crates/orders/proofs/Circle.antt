@@ -1,8 +1,8 @@
 -- Who comes next in a circle: the first one that is ready behind the last, or else the first one.
 use Rattle.std.proofs.Common.{◌≡◌, ℕ, zero, suc, ◌<◌, ◌≤◌, Bool, true, false, List, [], ◌∷◌, ◌++◌}
-use Rattle.std.proofs.Common.{length, refl, sym, ◌∙◌, ap, subst, inl, inr, arith}
-use Rattle.std.specs.Prelude.{nat_lt, if◌then◌else◌}
-use Rattle.std.proofs.lemmas.Bool.{cases_order, eq-eqb, lt-ltb, ltb-true, true≢false}
+use Rattle.std.proofs.Common.{length, refl, sym, ◌∙◌, ap, subst, inl, inr, arith, nat_lt}
+use Rattle.std.proofs.Common.{if◌then◌else◌, eq-eqb, lt-ltb, ltb-true, true≢false}
+use Rattle.std.proofs.lemmas.Bool.{cases_order}
 use Rattle.script_lang.specs.Parts.{ScriptParts}
 use Rattle.fabric.specs.Run.{Layout}
 use Rattle.stage.specs.Ready.{is_ready}

@@ -1,20 +1,19 @@
 -- A run in an order is also the one whose turns are listed, as its journal tells them.
 use Rattle.std.proofs.Common.{◌≡◌, ℕ, zero, suc, ◌<◌, List, [], ◌∷◌, ◌++◌, length, append_assoc}
-use Rattle.std.proofs.Common.{refl, sym, ◌∙◌, ap, subst}
-use Rattle.std.proofs.lemmas.List.{append-nil}
+use Rattle.std.proofs.Common.{refl, sym, ◌∙◌, ap, subst, append-nil}
 use Rattle.script_lang.specs.Fits.{IsScript}
 use Rattle.script_lang.specs.Parts.{ScriptParts}
 use Rattle.fabric.specs.Run.{Layout}
 use Rattle.stage.specs.Plays.{AllFollow, IsSoFar}
 use Rattle.stage.specs.Turns.{shape_of}
-use Rattle.stage.proofs.Asking.{next-handed}
-use Rattle.stage.proofs.Ready.{ready-moves}
+use Rattle.stage.proofs.Actors.Asks.{next-handed}
+use Rattle.stage.proofs.Rounds.WhoIsReady.{ready-moves}
 use Rattle.run_orders.proofs.States.{AreAlike}
 use Rattle.order_rules.specs.Orders.{Order, named}
 use Rattle.order_rules.specs.declared.rule.Rule.{Rule}
 use Rattle.orders.specs.Makers.{IsReadyMaker, ready}
-use Rattle.orders.specs.Runs.{AreNextTurns, IsInOrder, IsNextTurn, Standing, first_standing, next_in}
-use Rattle.orders.specs.Runs.{standing}
+use Rattle.orders.specs.Runs.{AreNextTurns, IsInOrder, IsNextTurn, Standing, first_standing}
+use Rattle.orders.specs.Runs.{next_in, standing}
 use Rattle.orders.specs.Turns.{turns_of}
 use Rattle.orders.proofs.Both.{many-both, start, start-both}
 use Rattle.orders.proofs.Following.{before-turn}

@@ -8,7 +8,7 @@ use Rattle.fabric.specs.Run.{Layout}
 use Rattle.stage.specs.Plays.{AllFollow, IsSoFar}
 use Rattle.stage.specs.Turns.{AreRounds, AreTurns, IsStoppedOf, IsStoppedRun, IsTurnOf, IsWhole}
 use Rattle.stage.specs.Turns.{first_layout, is_over, makers}
-use Rattle.stage.proofs.Ready.{over-unready, unready-stays}
+use Rattle.stage.proofs.Rounds.WhoIsReady.{over-unready, unready-stays}
 use Rattle.run_orders.proofs.Turns.{stopped-grows}
 use Rattle.order_rules.specs.Orders.{Named, Order, named}
 use Rattle.order_rules.specs.Rules.{next_round}

@@ -1,8 +1,8 @@
 -- Two runs in one order that a full journal stopped have one journal, and none of them is beside one
 -- that came to its end.
-use Rattle.std.proofs.Common.{◌≡◌, ℕ, ◌<◌, ◌⊎◌, Bool, true, false, length, sym, ◌∙◌, subst, inl, inr}
-use Rattle.std.specs.Prelude.{nat_le}
-use Rattle.std.proofs.lemmas.Bool.{cases_order, true≢false}
+use Rattle.std.proofs.Common.{◌≡◌, ℕ, ◌<◌, ◌⊎◌, Bool, true, false, length, sym, ◌∙◌, subst, inl}
+use Rattle.std.proofs.Common.{inr, nat_le, true≢false}
+use Rattle.std.proofs.lemmas.Bool.{cases_order}
 use Rattle.journal.specs.Logs.{is_full}
 use Rattle.script_lang.specs.Fits.{IsScript}
 use Rattle.script_lang.specs.Parts.{ScriptParts}

@@ -1,9 +1,7 @@
 -- The makers of its turns are told by a journal.
-use Rattle.std.proofs.Common.{◌≡◌, ℕ, zero, suc, ◌+◌, ◌-◌, ◌<◌, ◌⊎◌, Bool, true, false, List}
-use Rattle.std.proofs.Common.{[], ◌∷◌, ◌++◌, length, Option, Some, None, refl, sym}
-use Rattle.std.proofs.Common.{◌∙◌, ap, subst, inl, inr, arith}
-use Rattle.std.specs.Prelude.{nat_le, not}
-use Rattle.std.proofs.lemmas.Bool.{leb-false}
+use Rattle.std.proofs.Common.{◌≡◌, ℕ, zero, suc, ◌+◌, ◌-◌, ◌<◌, ◌⊎◌, Bool, true, false, List, []}
+use Rattle.std.proofs.Common.{◌∷◌, ◌++◌, length, Option, Some, None, refl, sym, ◌∙◌, ap, subst, inl}
+use Rattle.std.proofs.Common.{inr, arith, nat_le, not, leb-false}
 use Rattle.linx_base.specs.declared.identity.LinkNo.{LinkNo}
 use Rattle.journal.specs.declared.by.By.TheVariants.{Actor, Pump}
 use Rattle.journal.specs.declared.effect.Step.{Step}
@@ -20,10 +18,10 @@ use Rattle.stage.specs.Turns.{IsPump, IsTurn, IsTurnBy, IsTurnOf, acts_next, ask
 use Rattle.stage.specs.Turns.{asks_nothing, commands_of, ended_before, makes_event}
 use Rattle.stage.specs.declared.stage.Pump as pumps
 use Rattle.stage.specs.declared.stage.Turn.{Turn}
-use Rattle.stage.proofs.Going.{SettlesOn, done-far, settle-made}
-use Rattle.stage.proofs.Makings.{head-unpumped}
-use Rattle.stage.proofs.Pumping.{pump-heads}
-use Rattle.stage.proofs.Settling.{has-moved, move-pumped}
+use Rattle.stage.proofs.Actors.Going.{SettlesOn, done-far, settle-made}
+use Rattle.stage.proofs.Actors.Steps.{head-unpumped}
+use Rattle.stage.proofs.Plans.PumpsRule.{pump-heads}
+use Rattle.stage.proofs.Settling.Steps.{has-moved, move-pumped}
 use Rattle.orders.specs.Turns.{begins_turn, number_of, turns_of}
 
 not_longer : (old new : Layout) → new ≡ old → length old.log.steps < length new.log.steps → ⊥

@@ -1,15 +1,15 @@
 -- Where a word is cut, and what parts a text has.
-use Rattle.std.proofs.Common.{inl, inr, ◌≡◌, ℕ, suc, ◌+◌, ◌<◌, ◌≤◌, Bool, true, false, not, cond, List, [], ◌∷◌}
-use Rattle.std.proofs.Common.{◌++◌, length, take, drop, get_or, refl, sym, ap, ◌∙◌, Option, Some, None, arith}
-use Rattle.std.proofs.Common.{length-append, add-one}
-use Rattle.std.specs.Prelude.{◌==◌, nat_lt, position, option_map}
+use Rattle.std.proofs.Common.{inl, inr, ◌≡◌, ℕ, suc, ◌+◌, ◌<◌, ◌≤◌, Bool, true, false, not, cond}
+use Rattle.std.proofs.Common.{List, [], ◌∷◌, ◌++◌, length, take, drop, get_or, refl, sym, ap, ◌∙◌}
+use Rattle.std.proofs.Common.{Option, Some, None, arith, length-append, add-one, ◌==◌, nat_lt}
+use Rattle.std.proofs.Common.{position, option_map, lt-ltb, le-ltb, eq-eqb, eqb-true, append_assoc}
+use Rattle.std.proofs.Common.{take-append-drop}
 use Rattle.std.specs.List.{position_or_len, list_all, onto_first}
-use Rattle.std.proofs.lemmas.Bool.{lt-ltb, le-ltb, not-true, and_parts, and_from, eq-eqb, eqb-true, both_ways}
-use Rattle.std.proofs.lemmas.Bool.{cases_Bool, not_from_false, not_from_true, cond-true, cond-false}
+use Rattle.std.proofs.lemmas.Bool.{not-true, and_parts, and_from, both_ways, cases_Bool}
+use Rattle.std.proofs.lemmas.Bool.{not_from_false, not_from_true, cond-true, cond-false}
 use Rattle.std.proofs.lemmas.List.Quantifiers.{position-Some}
 use Rattle.std.proofs.lemmas.List.Splits.{slice_split-cons_no, slice_split-cons_yes}
 use Rattle.std.proofs.lemmas.List.Folds.{list_all-append}
-use Rattle.std.proofs.lemmas.List.{append_assoc, take-append-drop}
 use Rattle.std.proofs.Math.Seq.{drop-cons, take-append_seam, drop-append_seam}
 use Rattle.text_words.specs.Words.{cut_at, parts_at}
 

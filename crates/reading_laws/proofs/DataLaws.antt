@@ -1,24 +1,24 @@
 -- Data are read from their spelling alone.
-use Rattle.std.proofs.Common.{subst, inl, inr, ◌≡◌, ℕ, zero, suc, ◌+◌, ◌*◌, ◌<◌, ◌≤◌, Bool, true, false, cond, List, [], ◌∷◌}
-use Rattle.std.proofs.Common.{◌++◌, length, take, drop, get_or, replicate, refl, sym, ap, ◌∙◌, Option, Some}
-use Rattle.std.proofs.Common.{None, arith, length-append}
-use Rattle.std.specs.Prelude.{◌&&◌, ◌-◌, ◌==◌, nat_le, nat_lt, decimal, codes, Result, Ok, Err}
-use Rattle.std.specs.Str.{bytes_eq}
-use Rattle.std.proofs.lemmas.Bool.{and_parts, and_from, le-leb, leb-true, lt-leb, lt-ltb, ltb-true, eqb-true}
-use Rattle.std.proofs.lemmas.Bool.{eq-eqb, ne_eqb, cond-true, cond-false, cases_lt, false_from_ne_true}
-use Rattle.std.proofs.lemmas.List.{take-append-drop, length-take-le, get_or-take, get_or_past}
-use Rattle.std.proofs.lemmas.List.{take_all, drop_all}
+use Rattle.std.proofs.Common.{subst, inl, inr, ◌≡◌, ℕ, zero, suc, ◌+◌, ◌*◌, ◌<◌, ◌≤◌, Bool, true}
+use Rattle.std.proofs.Common.{false, cond, List, [], ◌∷◌, ◌++◌, length, take, drop, get_or}
+use Rattle.std.proofs.Common.{replicate, refl, sym, ap, ◌∙◌, Option, Some, None, arith}
+use Rattle.std.proofs.Common.{length-append, ◌&&◌, ◌-◌, ◌==◌, nat_le, nat_lt, decimal, codes}
+use Rattle.std.proofs.Common.{Result, Ok, Err, bytes_eq, le-leb, leb-true, lt-ltb, ltb-true}
+use Rattle.std.proofs.Common.{eqb-true, eq-eqb, ne_eqb, take-append-drop, length-take-le}
+use Rattle.std.proofs.Common.{get_or-take, take_all}
+use Rattle.std.proofs.lemmas.Bool.{and_parts, and_from, lt-leb, cond-true, cond-false, cases_lt}
+use Rattle.std.proofs.lemmas.Bool.{false_from_ne_true, cases_Bool}
+use Rattle.std.proofs.lemmas.List.{get_or_past, drop_all, length-replicate, get_or_append_left}
+use Rattle.std.proofs.lemmas.List.{get_or-append_right}
 use Rattle.std.proofs.Math.Seq.{take-append_seam, drop-append_seam}
-use Rattle.std.proofs.lemmas.List.{length-replicate, get_or_append_left, get_or-append_right}
-use Rattle.std.proofs.lemmas.Bool.{cases_Bool}
 use Rattle.hex.specs.Hex.{IsBytes, encode_lower, decode_of, lower_digits}
 use Rattle.hex.specs.declared.error.FromHexError.{FromHexError}
 use Rattle.hex.proofs.HexLemmas.{decode_of-encode_lower, decode_of-ok, length-encode_with}
 use Rattle.linx_base.specs.Content.{data_limit}
 use Rattle.linx_base.specs.SigNotes.{SigNote}
 use Rattle.text_words.specs.Numbers.{number_in, half_limit, whole_limit, u32_in}
-use Rattle.journal_words.specs.Data.{stand_in, if_spelled, hexadecimal_in, if_some, if_long, data_by}
-use Rattle.journal_words.specs.Data.{data_in, note_in}
+use Rattle.journal_words.specs.Data.{stand_in, if_spelled, hexadecimal_in, if_some, if_long}
+use Rattle.journal_words.specs.Data.{data_by, data_in, note_in}
 use Rattle.text_words.specs.Words.{cut_at}
 use Rattle.text_words.specs.Gives.{◌>>=◌}
 use Rattle.reading_laws.specs.Spelled.{data_text_by}

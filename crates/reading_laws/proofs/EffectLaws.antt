@@ -1,7 +1,6 @@
 -- An effect is read from its words alone.
-use Rattle.std.proofs.Common.{subst, ◌≡◌, ◌≤◌, ℕ, Bool, true, false, cond, List, [], ◌∷◌, refl, sym, ap, ◌∙◌, Option, Some, None}
-use Rattle.std.specs.Prelude.{codes, decimal}
-use Rattle.std.specs.Str.{bytes_eq}
+use Rattle.std.proofs.Common.{subst, ◌≡◌, ◌≤◌, ℕ, Bool, true, false, cond, List, [], ◌∷◌, refl, sym}
+use Rattle.std.proofs.Common.{ap, ◌∙◌, Option, Some, None, codes, decimal, bytes_eq}
 use Rattle.linx_base.specs.declared.identity.Session.{Session}
 use Rattle.linx_base.specs.declared.name.Names.{Names}
 use Rattle.journal_text.specs.Values.{halves_text, node_text, link_text}

@@ -1,14 +1,13 @@
 -- Filters are read from their spelling alone.
-use Rattle.std.proofs.Common.{subst, inl, inr, ◌≡◌, ℕ, zero, suc, ◌+◌, ◌<◌, ◌≤◌, Bool, true, false, not, cond, List, [], ◌∷◌, ◌++◌}
-use Rattle.std.proofs.Common.{length, get_or, refl, sym, ap, ◌∙◌, Option, Some, None, arith}
-use Rattle.std.specs.Prelude.{◌==◌, codes, decimal, flat_map}
-use Rattle.std.specs.Str.{bytes_eq}
+use Rattle.std.proofs.Common.{subst, inl, inr, ◌≡◌, ℕ, zero, suc, ◌+◌, ◌<◌, ◌≤◌, Bool, true, false}
+use Rattle.std.proofs.Common.{not, cond, List, [], ◌∷◌, ◌++◌, length, get_or, refl, sym, ap, ◌∙◌}
+use Rattle.std.proofs.Common.{Option, Some, None, arith, ◌==◌, codes, decimal, flat_map, bytes_eq}
+use Rattle.std.proofs.Common.{append-nil, length-append}
 use Rattle.std.specs.List.{join_with_byte}
 use Rattle.std.specs.Char.{is_ascii_digit}
 use Rattle.std.proofs.lemmas.Bool.{cases_Bool, cond-true, cond-false, and_parts, not-true}
 use Rattle.std.proofs.lemmas.List.Splits.{join_with_byte-slice_split}
 use Rattle.std.proofs.lemmas.Fmt.{decimal_nonempty}
-use Rattle.std.proofs.lemmas.List.{append-nil, length-append}
 use Rattle.sigsel.specs.declared.sigsel.Sigsel.{Sigsel}
 use Rattle.sigsel.specs.declared.sigsel.Sigsel.TheVariants.{Any, Only, Not}
 use Rattle.journal_text.specs.Values.{further_text, numbers_text, filter_text}
@@ -18,7 +17,8 @@ use Rattle.text_words.specs.Words.{cut_at, parts_at}
 use Rattle.journal_words.specs.Filter.{numbers_of, listed_in, filter_by, filter_in}
 use Rattle.reading_laws.specs.Forms.{AreNumbers, IsFilter}
 use Rattle.reading_laws.proofs.Tools.{bind_some, made_some, if_some_yes, same_text}
-use Rattle.reading_laws.proofs.Cuts.{lacks, class_lacks, cut_again, cut_found, split_last, split_part}
+use Rattle.reading_laws.proofs.Cuts.{lacks, class_lacks, cut_again, cut_found, split_last}
+use Rattle.reading_laws.proofs.Cuts.{split_part}
 use Rattle.reading_laws.proofs.NumberLaws.{digits_all}
 use Rattle.reading_laws.proofs.PeerLaws.{u32_again, u32_found}
 

@@ -1,12 +1,11 @@
 -- No word has a space or a line feed in it.
-use Rattle.std.proofs.Common.{inl, inr, ◌≡◌, ℕ, suc, ◌≤◌, Bool, true, List, [], ◌∷◌, ◌++◌, length, take, get_or, refl, ap}
-use Rattle.std.proofs.Common.{◌∙◌, arith}
-use Rattle.std.specs.Prelude.{◌==◌, nat_le, nat_lt, codes, decimal, flat_map}
+use Rattle.std.proofs.Common.{inl, inr, ◌≡◌, ℕ, suc, ◌≤◌, Bool, true, List, [], ◌∷◌, ◌++◌, length}
+use Rattle.std.proofs.Common.{take, get_or, refl, ap, ◌∙◌, arith, ◌==◌, nat_le, nat_lt, codes}
+use Rattle.std.proofs.Common.{decimal, flat_map, leb-true, length-take-le}
 use Rattle.std.specs.List.{list_all}
-use Rattle.std.proofs.lemmas.Bool.{cases_lt, and_parts, and_from, leb-true, cond-true}
+use Rattle.std.proofs.lemmas.Bool.{cases_lt, and_parts, and_from, cond-true}
 use Rattle.std.proofs.lemmas.Bool.Decides.{nat_tests}
 use Rattle.std.proofs.lemmas.List.Folds.{list_all-append}
-use Rattle.std.proofs.lemmas.List.{length-take-le}
 use Rattle.hex.specs.Hex.{encode_lower}
 use Rattle.linx_base.specs.NameText.{is_name, is_name_byte}
 use Rattle.linx_base.specs.Numbers.{high_half, low_half}

@@ -1,6 +1,6 @@
 -- Which values are read: those that their spelling shows whole.
-use Rattle.std.specs.Prelude.{◌≡◌, ℕ, ◌-◌, ◌<◌, ◌≤◌, true, List, length, drop, take, replicate, Some}
-use Rattle.std.specs.Prelude.{get_or}
+use Rattle.std.specs.Prelude.{◌≡◌, ℕ, ◌-◌, ◌<◌, ◌≤◌, true, List, length, drop, take, replicate}
+use Rattle.std.specs.Prelude.{Some, get_or}
 use Rattle.std.specs.List.{list_all}
 use Rattle.linx_base.specs.Content.{data_limit}
 use Rattle.linx_base.specs.NameText.{is_name}

@@ -27,10 +27,8 @@ use Rattle.text_words.specs.Numbers.{number_in, whole_limit, halves_in}
 use Rattle.journal_words.specs.Data.{data_in}
 use Rattle.journal_words.specs.Peers.{peer_in, path_in, maker_in, position_in, reference_in}
 use Rattle.reading_laws.specs.Forms.{AreNames, IsPeer, IsPath, IsMaker, IsPosition, IsShown}
-use Rattle.reading_laws.specs.Forms.{IsFilter, IsRefusal, IsHead, IsEffect, IsLine}
-use Rattle.reading_laws.specs.Forms.{printed}
-use Rattle.reading_laws.specs.Spelled.{data_text_by, head_words, effect_words}
-use Rattle.reading_laws.specs.Spelled.{line_of, line_words}
+use Rattle.reading_laws.specs.Forms.{IsFilter, IsRefusal, IsHead, IsEffect, IsLine, printed}
+use Rattle.reading_laws.specs.Spelled.{data_text_by, head_words, effect_words, line_of, line_words}
 
 -- a value is read from each text that spells it, and from no other
 pub record ReadsExactly {A W : Type 0} (read : W → Option A) (Spells : A → W → Type 0) : Type 0

@@ -14,11 +14,11 @@ use Rattle.journal.specs.declared.effect.Effect.{Effect}
 use Rattle.journal.specs.declared.effect.Effect.TheVariants.{Opened, Closed, Arrived, Found}
 use Rattle.journal.specs.declared.effect.Effect.TheVariants.{Notified, Met, Gone, Up, Down}
 use Rattle.journal_text.specs.Values.{halves_text, node_text, link_text, peer_text, filter_text}
+use Rattle.journal_text.specs.Values.{maker_text, path_text, position_text, reference_text}
+use Rattle.journal_text.specs.Values.{side_text, verdict_text, reason_text, sent_text}
+use Rattle.journal_text.specs.Values.{detached_text, refusal_text}
 use Rattle.journal_words.specs.declared.lines.Line.{Line}
 use Rattle.journal_words.specs.declared.lines.Line.TheVariants.{Made, Happened}
-use Rattle.journal_text.specs.Values.{maker_text, path_text, position_text, reference_text, side_text}
-use Rattle.journal_text.specs.Values.{verdict_text, reason_text, sent_text, detached_text}
-use Rattle.journal_text.specs.Values.{refusal_text}
 
 -- data: `-` for none, hexadecimal for 1 to 32 bytes, and for more their number and a digest
 unfoldable pub data_text_by : (List ℕ → List ℕ) → List ℕ → List ℕ

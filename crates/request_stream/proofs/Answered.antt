@@ -1,14 +1,15 @@
 -- A session that its bytes ended gives the answers to them.
-use Rattle.std.proofs.Common.{◌≡◌, ℕ, ◌+◌, ◌-◌, ◌<◌, ◌≤◌, ◌⊎◌, List, [], ◌++◌, length, take, Option, Some, inl, inr}
-use Rattle.std.proofs.Common.{refl, sym, ap, ◌∙◌, subst, append_assoc, arith, length-append, length-take}
-use Rattle.std.specs.Prelude.{None, Result, Ok, Err, IfSome}
+use Rattle.std.proofs.Common.{◌≡◌, ℕ, ◌+◌, ◌-◌, ◌<◌, ◌≤◌, ◌⊎◌, List, [], ◌++◌, length, take, Option}
+use Rattle.std.proofs.Common.{Some, inl, inr, refl, sym, ap, ◌∙◌, subst, append_assoc, arith}
+use Rattle.std.proofs.Common.{length-append, length-take, None, Result, Ok, Err, IfSome, append-nil}
 use Rattle.std.specs.Io.KnownBytes.{Consumes, IsAtEnd}
 use Rattle.std.proofs.lemmas.Bool.{cases_lt}
-use Rattle.std.proofs.lemmas.List.{append-nil, take-append-le}
+use Rattle.std.proofs.lemmas.List.{take-append-le}
 use Rattle.std.proofs.Math.Seq.{take-append-add}
 use Rattle.request_stream.specs.declared.stop.ServeStop.{ServeStop}
 use Rattle.request_stream.specs.declared.stop.ServeStop.TheVariants.{Torn, BadStream, Full}
-use Rattle.request_stream.specs.declared.stop.ServeStop.TheVariants.{ReadFault, WriteFault, NoMemory}
+use Rattle.request_stream.specs.declared.stop.ServeStop.TheVariants.{ReadFault, WriteFault}
+use Rattle.request_stream.specs.declared.stop.ServeStop.TheVariants.{NoMemory}
 use Rattle.request_stream.specs.Answers.{Answered, EndsBy, EndsItself}
 use Rattle.request_stream.specs.Ending.{Done, IsTorn, Next, Stopped, first, room_at, stream_limit}
 use Rattle.request_stream.specs.Fronts.{BeginsWith, BeginsNone, GoesOn}

@@ -1,7 +1,7 @@
 -- Bytes have one front.
-use Rattle.std.proofs.Common.{◌≡◌, ℕ, ◌<◌, ◌≤◌, List, ◌++◌, length, take, drop, inl, inr, refl}
-use Rattle.std.proofs.Common.{sym, ap, ◌∙◌, subst, append_assoc, arith, length-append, length-take, length-drop}
-use Rattle.std.proofs.lemmas.List.{take-append-drop, take-take}
+use Rattle.std.proofs.Common.{◌≡◌, ℕ, ◌<◌, ◌≤◌, List, ◌++◌, length, take, drop, inl, inr, refl, sym}
+use Rattle.std.proofs.Common.{ap, ◌∙◌, subst, append_assoc, arith, length-append, length-take}
+use Rattle.std.proofs.Common.{length-drop, take-append-drop, take-take}
 use Rattle.request_stream.specs.declared.front.Front.{Front}
 use Rattle.request_stream.specs.declared.front.Front.TheVariants.{Whole, More, Bad}
 use Rattle.request_stream.specs.Fronts.{BeginsWith, GoesOn, IsFront}

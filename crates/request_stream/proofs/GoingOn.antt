@@ -1,17 +1,21 @@
 -- Sessions that go on from one moment to the next.
-use Rattle.std.proofs.Common.{◌≡◌, ◌≢◌, ℕ, ◌+◌, ◌<◌, ◌≤◌, List, [], ◌∷◌, ◌++◌, length, take, drop, Option, Some}
-use Rattle.std.proofs.Common.{inl, inr, refl, sym, ap, ◌∙◌, append_assoc, arith, length-append, length-take, subst}
-use Rattle.std.specs.Prelude.{None, Err}
-use Rattle.std.proofs.lemmas.List.{drop-append-le, append-nil, take-append-drop}
+use Rattle.std.proofs.Common.{◌≡◌, ◌≢◌, ℕ, ◌+◌, ◌<◌, ◌≤◌, List, [], ◌∷◌, ◌++◌, length, take, drop}
+use Rattle.std.proofs.Common.{Option, Some, inl, inr, refl, sym, ap, ◌∙◌, append_assoc, arith}
+use Rattle.std.proofs.Common.{length-append, length-take, subst, None, Err, append-nil}
+use Rattle.std.proofs.Common.{take-append-drop}
+use Rattle.std.proofs.lemmas.List.{drop-append-le}
 use Rattle.std.specs.Io.KnownBytes.{Appends, Consumes, Keeps}
 use Rattle.std.proofs.KnownBytes.{Appends-trans, Consumes-trans, Consumes-kept}
 use Rattle.request_stream.specs.Backlogs.{Come, Comes}
-use Rattle.request_stream.specs.Ending.{CountsReads, CountsWrites, HasReplied, Stopped, moment, room_at, stream_limit}
+use Rattle.request_stream.specs.Ending.{CountsReads, CountsWrites, HasReplied, Stopped, moment}
+use Rattle.request_stream.specs.Ending.{room_at, stream_limit}
 use Rattle.request_stream.specs.Fronts.{GoesOn}
 use Rattle.request_stream.specs.declared.stop.ServeStop.{ServeStop}
 use Rattle.request_stream.specs.declared.stop.ServeStop.TheVariants.{Torn, BadStream, Full}
-use Rattle.request_stream.specs.declared.stop.ServeStop.TheVariants.{ReadFault, WriteFault, NoMemory}
-use Rattle.request_stream.specs.Serving.{Exchange, Moment, Serves, AreServed, asked, said, server_after}
+use Rattle.request_stream.specs.declared.stop.ServeStop.TheVariants.{ReadFault, WriteFault}
+use Rattle.request_stream.specs.declared.stop.ServeStop.TheVariants.{NoMemory}
+use Rattle.request_stream.specs.Serving.{Exchange, Moment, Serves, AreServed, asked, said}
+use Rattle.request_stream.specs.Serving.{server_after}
 
 pub drop_front : (n : ℕ) (xs ys : List ℕ) → n ≤ length xs → drop n (xs ++ ys) ≡ drop n xs ++ ys
 drop_front n xs ys h = drop-append-le n xs ys h

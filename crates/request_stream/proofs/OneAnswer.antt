@@ -1,11 +1,12 @@
 -- The bytes of a stream have one end and one list of answers.
-use Rattle.std.proofs.Common.{◌≡◌, ℕ, ◌+◌, ◌<◌, ◌≤◌, ◌⊎◌, List, [], ◌∷◌, ◌++◌, length, take, inl, inr, refl}
-use Rattle.std.proofs.Common.{sym, ap, ◌∙◌, subst, append_assoc, arith, length-append}
-use Rattle.std.specs.Prelude.{Result, Ok, Err}
-use Rattle.std.proofs.lemmas.List.{take_at, append_cancel_left}
+use Rattle.std.proofs.Common.{◌≡◌, ℕ, ◌+◌, ◌<◌, ◌≤◌, ◌⊎◌, List, [], ◌∷◌, ◌++◌, length, take, inl}
+use Rattle.std.proofs.Common.{inr, refl, sym, ap, ◌∙◌, subst, append_assoc, arith, length-append}
+use Rattle.std.proofs.Common.{Result, Ok, Err, take_at}
+use Rattle.std.proofs.lemmas.List.{append_cancel_left}
 use Rattle.request_stream.specs.declared.stop.ServeStop.{ServeStop}
 use Rattle.request_stream.specs.declared.stop.ServeStop.TheVariants.{Torn, BadStream, Full}
-use Rattle.request_stream.specs.declared.stop.ServeStop.TheVariants.{ReadFault, WriteFault, NoMemory}
+use Rattle.request_stream.specs.declared.stop.ServeStop.TheVariants.{ReadFault, WriteFault}
+use Rattle.request_stream.specs.declared.stop.ServeStop.TheVariants.{NoMemory}
 use Rattle.request_stream.specs.Ending.{Next, room_at, stream_limit}
 use Rattle.request_stream.specs.Fronts.{BeginsWith, BeginsNone, GoesOn}
 use Rattle.request_stream.specs.Serving.{Exchange, AreServed, asked, server_after}

@@ -1,5 +1,6 @@
 -- The answers to a whole stream, as far as its bytes decide them.
-use Rattle.std.specs.Prelude.{◌≡◌, ℕ, ◌+◌, ◌≤◌, ◌⊎◌, List, [], ◌++◌, length, Option, Result, Ok, Err}
+use Rattle.std.specs.Prelude.{◌≡◌, ℕ, ◌+◌, ◌≤◌, ◌⊎◌, List, [], ◌++◌, length, Option, Result, Ok}
+use Rattle.std.specs.Prelude.{Err}
 use Rattle.std.specs.Io.KnownBytes.{Appends}
 use Rattle.request_stream.specs.declared.stop.ServeStop.{ServeStop}
 use Rattle.request_stream.specs.declared.stop.ServeStop.TheVariants.{Torn, BadStream}

@@ -1,5 +1,6 @@
 -- How a session over a stream ends.
-use Rattle.std.specs.Prelude.{◌≡◌, ℕ, ◌+◌, ◌-◌, ◌<◌, ◌≤◌, ◌⊎◌, List, [], Option, Result, Err, length, take}
+use Rattle.std.specs.Prelude.{◌≡◌, ℕ, ◌+◌, ◌-◌, ◌<◌, ◌≤◌, ◌⊎◌, List, [], Option, Result, Err}
+use Rattle.std.specs.Prelude.{length, take}
 use Rattle.std.specs.Io.KnownBytes.{IsAtEnd}
 use Rattle.linx_outside.specs.Counts.{HasFaulted}
 use Rattle.linx_outside.specs.Told.{AppendsFront}

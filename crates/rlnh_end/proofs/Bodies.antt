@@ -1,9 +1,7 @@
 -- What an end says has bodies of 1 to 65,536 bytes.
 use Rattle.std.proofs.Common.{◌≡◌, ℕ, ◌≤◌, Bool, true, false, ◌&&◌, List, [], ◌∷◌, ◌++◌, length}
-use Rattle.std.proofs.Common.{drop, refl, arith}
-use Rattle.std.specs.Prelude.{IsTrue, nat_le}
+use Rattle.std.proofs.Common.{drop, refl, arith, IsTrue, nat_le, leb-true}
 use Rattle.std.specs.List.{list_all}
-use Rattle.std.proofs.lemmas.Bool.{leb-true}
 use Rattle.linx_base.specs.Frames.{IsMessage}
 use Rattle.linx_base.specs.NameText.{is_name, is_name_byte}
 use Rattle.linx_base.specs.declared.frame.Message.{Message}

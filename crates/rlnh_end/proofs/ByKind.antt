@@ -1,10 +1,8 @@
 -- The peers and the names among facts, as facts come and go.
 use Rattle.std.proofs.Common.{◌≡◌, ℕ, Bool, true, false, cond, ◌||◌, List, [], ◌∷◌, ◌++◌, refl, ap}
-use Rattle.std.proofs.Common.{Bor, sym, ◌∙◌}
-use Rattle.std.specs.Prelude.{Option, Some, None, is_some, option_map}
-use Rattle.std.specs.Option.{option_copied}
+use Rattle.std.proofs.Common.{Bor, sym, ◌∙◌, Option, Some, None, is_some, option_map, option_copied}
+use Rattle.std.proofs.Common.{bytes_eq}
 use Rattle.std.specs.List.{list_any}
-use Rattle.std.specs.Str.{bytes_eq}
 use Rattle.linx_base.specs.declared.identity.Inc.{Inc as AnInc}
 use Rattle.linx_base.specs.FirstMatch.{first_match, without_match}
 use Rattle.rlnh_end.specs.declared.met_at.MetAt.{MetAt}

@@ -1,9 +1,8 @@
 -- What a list of entries holds: the facts that were when an event began, and those that are now.
 use Rattle.std.proofs.Common.{◌≡◌, ℕ, zero, suc, ◌+◌, ◌<◌, ◌≤◌, Bool, true, false, cond, not, ◌&&◌}
 use Rattle.std.proofs.Common.{◌||◌, ◌==◌, List, [], ◌∷◌, ◌++◌, length, drop, map, refl, ap, sym}
-use Rattle.std.proofs.Common.{◌∙◌, subst, get_or, take, append-nil}
-use Rattle.std.proofs.Common.{arith}
-use Rattle.std.specs.Prelude.{Option, Some, None, slice_get, filter, option_map}
+use Rattle.std.proofs.Common.{◌∙◌, subst, get_or, take, append-nil, arith, Option, Some, None}
+use Rattle.std.proofs.Common.{slice_get, filter, option_map}
 use Rattle.std.specs.List.{AllByRecursion, list_any}
 use Rattle.std.proofs.lemmas.Bool.Decides.{nat_tests}
 use Rattle.std.proofs.lemmas.List.{map-append, take_more}

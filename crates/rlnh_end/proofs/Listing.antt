@@ -1,7 +1,6 @@
 -- A message is bad exactly where it is in the list of bad messages.
-use Rattle.std.proofs.Common.{◌≡◌, ◌≢◌, ℕ, cond, ◌||◌, List, refl, ap}
-use Rattle.std.proofs.Common.{sym, subst, ◌∙◌, ◌⊎◌, inl, inr, arith}
-use Rattle.std.specs.Prelude.{Option, Some, None, is_some, IsSome}
+use Rattle.std.proofs.Common.{◌≡◌, ◌≢◌, ℕ, cond, ◌||◌, List, refl, ap, sym, subst, ◌∙◌, ◌⊎◌, inl}
+use Rattle.std.proofs.Common.{inr, arith, Option, Some, None, is_some, IsSome}
 use Rattle.linx_base.specs.declared.identity.Inc.{Inc}
 use Rattle.linx_base.specs.declared.frame.Message.{Message}
 use Rattle.linx_base.specs.SigNotes.{SigNote}
@@ -15,9 +14,8 @@ use Rattle.rlnh_end.specs.declared.heard.Heard.{Heard}
 use Rattle.rlnh_end.specs.declared.heard.Heard.TheVariants.{Control, Signal, Garbage}
 use Rattle.rlnh_end.specs.declared.up.Up.TheVariants.{Met, Bad}
 use Rattle.rlnh_end.specs.States.{RlnhTables, inc_met, addr_met, with_met}
-use Rattle.rlnh_end.specs.Hearing.{HasAddresses, IsControl, IsRead, IsSignalFrom}
-use Rattle.rlnh_end.specs.Hearing.{only, hears, heard_publish, heard_unpublish, heard_ack}
-use Rattle.rlnh_end.specs.Hearing.{heard_signal}
+use Rattle.rlnh_end.specs.Hearing.{HasAddresses, IsControl, IsRead, IsSignalFrom, only, hears}
+use Rattle.rlnh_end.specs.Hearing.{heard_publish, heard_unpublish, heard_ack, heard_signal}
 use Rattle.rlnh_end.specs.BadList.{IsBad, no_meaning, met_address, met_incarnation, unmet_address}
 use Rattle.rlnh_end.specs.BadList.{not_closing, unmet_sender, free_receiver}
 

@@ -14,10 +14,8 @@ use Rattle.rlnh_end.specs.declared.up.Up.{Up}
 use Rattle.rlnh_end.specs.declared.up.Up.TheVariants.{Nothing, Arrived, Freed, Met, Gone}
 use Rattle.rlnh_end.specs.declared.up.Up.TheVariants.{Asked, Bad}
 use Rattle.rlnh_end.specs.States.{RlnhTables, new_end, no_tables}
-use Rattle.rlnh_end.specs.Words.{Word, announce, tell, withdraw}
-use Rattle.rlnh_end.specs.Words.{confirm, message_of}
-use Rattle.rlnh_end.specs.Calls.{Saying, after, begin_of, publish_of, opened_of}
-use Rattle.rlnh_end.specs.Calls.{close_of, send_of}
+use Rattle.rlnh_end.specs.Words.{Word, announce, tell, withdraw, confirm, message_of}
+use Rattle.rlnh_end.specs.Calls.{Saying, after, begin_of, publish_of, opened_of, close_of, send_of}
 use Rattle.rlnh_end.specs.Hearing.{Hearing, hears}
 
 -- incarnations of the own node, 1, and of the other one, 2

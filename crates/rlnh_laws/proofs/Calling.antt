@@ -1,13 +1,10 @@
 -- The calls of an end keep what is kept.
-use Rattle.std.proofs.Common.{◌≡◌, ℕ, true, false, List, [], ◌++◌, Some}
-use Rattle.std.proofs.Common.{None, inl, inr, refl, sym, ◌∙◌, ap, subst}
-use Rattle.std.specs.Prelude.{if◌then◌else◌}
-use Rattle.std.proofs.lemmas.List.{append_assoc}
+use Rattle.std.proofs.Common.{◌≡◌, ℕ, true, false, List, [], ◌++◌, Some, None, inl, inr, refl, sym}
+use Rattle.std.proofs.Common.{◌∙◌, ap, subst, if◌then◌else◌, append_assoc}
 use Rattle.linx_base.specs.declared.identity.Inc.{Inc}
 use Rattle.linx_base.specs.SigNotes.{SigNote}
 use Rattle.link_addresses.specs.declared.meaning.Meaning.TheVariants.{Live, Closing}
-use Rattle.link_addresses.specs.Meanings.{with_meaning, lowest_free, with_lowest}
-use Rattle.link_addresses.specs.Meanings.{address_of}
+use Rattle.link_addresses.specs.Meanings.{with_meaning, lowest_free, with_lowest, address_of}
 use Rattle.rlnh_laws.proofs.Addresses.{address_found, address_missing}
 use Rattle.rlnh_end.specs.States.{RlnhTables, addr_met, is_noted, without_note}
 use Rattle.rlnh_end.specs.Words.{question, announce, tell, withdraw}

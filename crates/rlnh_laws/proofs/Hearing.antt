@@ -1,9 +1,9 @@
 -- What an end hears is understood, and keeps what is kept.
-use Rattle.std.proofs.Common.{◌≡◌, ℕ, Bool, true, false, ◌||◌, List, [], ◌∷◌, ◌++◌}
-use Rattle.std.proofs.Common.{Some, None, inl, inr, map, refl, sym, ◌∙◌, ap, subst}
+use Rattle.std.proofs.Common.{◌≡◌, ℕ, Bool, true, false, ◌||◌, List, [], ◌∷◌, ◌++◌, Some, None, inl}
+use Rattle.std.proofs.Common.{inr, map, refl, sym, ◌∙◌, ap, subst, append_assoc, append-nil}
+use Rattle.std.proofs.Common.{true≢false, eq-eqb}
 use Rattle.std.specs.List.{list_any}
-use Rattle.std.proofs.lemmas.List.{append_assoc, append-nil}
-use Rattle.std.proofs.lemmas.Bool.{or_cases, true≢false, eq-eqb}
+use Rattle.std.proofs.lemmas.Bool.{or_cases}
 use Rattle.std.proofs.lemmas.Option.{same_Some}
 use Rattle.linx_base.specs.Peers.{same_inc}
 use Rattle.rlnh_end.specs.declared.met_at.MetAt.{MetAt}
@@ -13,20 +13,17 @@ use Rattle.link_addresses.specs.declared.meaning.Meaning.{Meaning}
 use Rattle.link_addresses.specs.declared.meaning.Meaning.TheVariants.{Free, Live, Closing}
 use Rattle.link_addresses.specs.Meanings.{meaning_of, with_meaning}
 use Rattle.rlnh_end.specs.States.{addr_met, inc_met, with_met, without_met}
-use Rattle.rlnh_laws.specs.Ties.{AreApart}
+use Rattle.rlnh_laws.specs.Ties.{AreApart, announcing, signaling, withdrawing, signal_to}
+use Rattle.rlnh_laws.specs.Ties.{confirming, about, toward, Talk, Alone, Pair, Speaks, Stands, Ties}
+use Rattle.rlnh_laws.specs.Ties.{bearer}
 use Rattle.rlnh_end.specs.Words.{Word, hello, hello_back, question, announce, tell, withdraw}
 use Rattle.rlnh_end.specs.Words.{confirm}
-use Rattle.rlnh_laws.specs.Meanings.{heard_of}
+use Rattle.rlnh_laws.specs.Meanings.{heard_of, said_by, saids, given_for, Understands}
 use Rattle.rlnh_end.specs.Hearing.{Hearing, answers, heard_signal, hears, only}
 use Rattle.rlnh_end.specs.declared.up.Up.{Up}
 use Rattle.rlnh_end.specs.declared.up.Up.TheVariants.{Nothing, Arrived, Freed, Met, Gone}
 use Rattle.rlnh_end.specs.declared.up.Up.TheVariants.{Asked, Bad}
-use Rattle.rlnh_laws.specs.Meanings.{said_by, saids, given_for, Understands}
-use Rattle.trunk_record.specs.Sayings.{Given, heard_as, frees}
-use Rattle.trunk_record.specs.Sayings.{was_unpublished}
-use Rattle.rlnh_laws.specs.Ties.{announcing, signaling, withdrawing, signal_to, confirming, about}
-use Rattle.rlnh_laws.specs.Ties.{toward, Talk, Alone, Pair, Speaks, Stands}
-use Rattle.rlnh_laws.specs.Ties.{Ties, bearer}
+use Rattle.trunk_record.specs.Sayings.{Given, heard_as, frees, was_unpublished}
 use Rattle.rlnh_laws.specs.Talks.{heard_with, Right}
 use Rattle.rlnh_laws.proofs.Standing.{stand_heard_publish, stand_heard_signal, stand_heard_close}
 use Rattle.rlnh_laws.proofs.Standing.{stand_heard_ack, stand_heard_aimed}

@@ -1,17 +1,14 @@
 -- The peers that an end met.
-use Rattle.std.proofs.Common.{◌≡◌, ◌≢◌, ℕ, true, false, List, [], ◌∷◌, Option, Some}
-use Rattle.std.proofs.Common.{None, ◌⊎◌, inl, inr, arith, refl, sym, ◌∙◌, ap, subst}
-use Rattle.std.specs.Prelude.{◌==◌}
+use Rattle.std.proofs.Common.{◌≡◌, ◌≢◌, ℕ, true, false, List, [], ◌∷◌, Option, Some, None, ◌⊎◌, inl}
+use Rattle.std.proofs.Common.{inr, arith, refl, sym, ◌∙◌, ap, subst, ◌==◌, eq-eqb}
 use Rattle.std.proofs.lemmas.Option.{same_Some}
-use Rattle.std.proofs.lemmas.Bool.{eq-eqb}
 use Rattle.std.proofs.lemmas.Bool.Decides.{nat_tests, eqb_tells}
 use Rattle.linx_base.specs.declared.identity.Inc.{Inc}
 use Rattle.link_addresses.specs.declared.meaning.Meaning.{Meaning}
 use Rattle.rlnh_end.specs.declared.met_at.MetAt.{MetAt}
 use Rattle.rlnh_end.specs.States.{addr_met, inc_met, with_met, without_met}
 use Rattle.rlnh_laws.specs.Ties.{About, Toward, Stands, AreApart, unused, announced, known}
-use Rattle.rlnh_laws.specs.Ties.{answered}
-use Rattle.rlnh_laws.specs.Ties.{bearer}
+use Rattle.rlnh_laws.specs.Ties.{answered, bearer}
 use Rattle.rlnh_laws.proofs.Standing.{tells_bearer}
 
 pub option_cases : {X : Type 0} (o : Option X) → (o ≡ None) ⊎ ((x : X) × (o ≡ Some x))

@@ -1,10 +1,9 @@
 -- An end's own addresses and what it has said, through all that it says and hears.
 use Rattle.std.proofs.Common.{◌≡◌, ◌≢◌, ℕ, zero, suc, Bool, true, false, not, ◌&&◌, ◌||◌, List, []}
-use Rattle.std.proofs.Common.{◌∷◌, ◌++◌, Some, None, ◌⊎◌, inl, inr, refl, sym, ◌∙◌}
-use Rattle.std.proofs.Common.{ap, subst}
+use Rattle.std.proofs.Common.{◌∷◌, ◌++◌, Some, None, ◌⊎◌, inl, inr, refl, sym, ◌∙◌, ap, subst}
+use Rattle.std.proofs.Common.{append_assoc, append-nil, true≢false}
 use Rattle.std.proofs.lemmas.Option.{same_Some}
-use Rattle.std.proofs.lemmas.List.{append_assoc, append-nil}
-use Rattle.std.proofs.lemmas.Bool.{or_cases, or_left, or_right, true≢false, false_from_ne_true}
+use Rattle.std.proofs.lemmas.Bool.{or_cases, or_left, or_right, false_from_ne_true}
 use Rattle.std.proofs.lemmas.Bool.Decides.{eqb_tells}
 use Rattle.linx_base.specs.Peers.{same_inc}
 use Rattle.linx_base.specs.declared.identity.Inc.{Inc}
@@ -13,8 +12,7 @@ use Rattle.link_addresses.specs.declared.meaning.Meaning.{Meaning}
 use Rattle.link_addresses.specs.declared.meaning.Meaning.TheVariants.{Free, Live, Closing}
 use Rattle.link_addresses.specs.Meanings.{meaning_of, with_meaning, lowest_free, with_lowest}
 use Rattle.link_addresses.specs.Meanings.{address_of, ChangesMeaning}
-use Rattle.rlnh_laws.proofs.Addresses.{changes_at, live_taken, closing_taken}
-use Rattle.rlnh_laws.proofs.Addresses.{address_missing}
+use Rattle.rlnh_laws.proofs.Addresses.{changes_at, live_taken, closing_taken, address_missing}
 use Rattle.rlnh_end.specs.Words.{Word}
 use Rattle.rlnh_laws.specs.Meanings.{said_by, saids}
 use Rattle.trunk_record.specs.Sayings.{Said, published, asked, signaled, unpublished}

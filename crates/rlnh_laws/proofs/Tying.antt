@@ -1,19 +1,16 @@
 -- What ties two ends, through all that one of them says or hears.
-use Rattle.std.proofs.Common.{◌≡◌, ℕ, List, [], ◌∷◌, ◌++◌}
-use Rattle.std.proofs.Common.{Option, Some, None, inl, inr, refl, sym, ◌∙◌, ap, subst}
-use Rattle.std.proofs.lemmas.List.{append_assoc, append-nil}
+use Rattle.std.proofs.Common.{◌≡◌, ℕ, List, [], ◌∷◌, ◌++◌, Option, Some, None, inl, inr, refl, sym}
+use Rattle.std.proofs.Common.{◌∙◌, ap, subst, append_assoc, append-nil}
 use Rattle.std.proofs.lemmas.Bool.Decides.{eqb_tells}
 use Rattle.rlnh_end.specs.declared.met_at.MetAt.{MetAt}
 use Rattle.linx_base.specs.declared.identity.Inc.{Inc}
 use Rattle.linx_base.specs.SigNotes.{SigNote}
 use Rattle.link_addresses.specs.declared.meaning.Meaning.{Meaning}
 use Rattle.link_addresses.specs.declared.meaning.Meaning.TheVariants.{Free, Live, Closing}
-use Rattle.link_addresses.specs.Meanings.{meaning_of, with_meaning}
-use Rattle.link_addresses.specs.Meanings.{ChangesMeaning}
+use Rattle.link_addresses.specs.Meanings.{meaning_of, with_meaning, ChangesMeaning}
 use Rattle.rlnh_laws.proofs.Addresses.{changes_at, live_taken, closing_taken}
 use Rattle.rlnh_end.specs.States.{inc_met, with_met, without_met}
-use Rattle.rlnh_end.specs.Words.{Word, announce, tell, withdraw}
-use Rattle.rlnh_end.specs.Words.{confirm}
+use Rattle.rlnh_end.specs.Words.{Word, announce, tell, withdraw, confirm}
 use Rattle.rlnh_laws.specs.Ties.{About, announcing, signaling, withdrawing, Toward, signal_to}
 use Rattle.rlnh_laws.specs.Ties.{confirming, about_by}
 use Rattle.rlnh_laws.specs.Ties.{toward_by, about, toward, Stands, Ties, AreApart}

@@ -1,20 +1,18 @@
 -- What an end says of its own accord keeps what is kept.
-use Rattle.std.proofs.Common.{◌≡◌, true, List, [], ◌∷◌, ◌++◌}
-use Rattle.std.proofs.Common.{refl, sym, ◌∙◌, ap, subst}
+use Rattle.std.proofs.Common.{◌≡◌, true, List, [], ◌∷◌, ◌++◌, refl, sym, ◌∙◌, ap, subst}
+use Rattle.std.proofs.Common.{append_assoc, append-nil}
 use Rattle.std.specs.List.{list_any}
-use Rattle.std.proofs.lemmas.List.{append_assoc, append-nil}
 use Rattle.std.proofs.lemmas.Bool.{or_right}
 use Rattle.std.proofs.lemmas.List.Folds.{list_any-append}
 use Rattle.rlnh_end.specs.declared.met_at.MetAt.{MetAt}
 use Rattle.linx_base.specs.declared.identity.Inc.{Inc}
 use Rattle.link_addresses.specs.declared.meaning.Meaning.{Meaning}
 use Rattle.rlnh_end.specs.States.{RlnhTables}
-use Rattle.rlnh_laws.specs.Ties.{AreApart}
+use Rattle.rlnh_laws.specs.Ties.{AreApart, Talk, Alone, Pair, Speaks, Ties}
 use Rattle.rlnh_end.specs.Words.{Word, hello, hello_back, question, announce, tell, withdraw}
 use Rattle.rlnh_end.specs.Words.{confirm}
 use Rattle.rlnh_laws.specs.Meanings.{said_by, saids}
 use Rattle.trunk_record.specs.Sayings.{Said, unpublishes, was_unpublished}
-use Rattle.rlnh_laws.specs.Ties.{Talk, Alone, Pair, Speaks, Ties}
 use Rattle.rlnh_laws.specs.Talks.{Utters, Grows}
 use Rattle.rlnh_laws.proofs.Tying.{ties_says, ties_says_back, ties_announce, ties_tell}
 use Rattle.rlnh_laws.proofs.Tying.{ties_tell_back, ties_withdraw}

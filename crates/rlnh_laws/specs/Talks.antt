@@ -9,10 +9,9 @@ use Rattle.rlnh_end.specs.Words.{Word, hello, hello_back, question, announce, te
 use Rattle.rlnh_end.specs.Words.{confirm}
 use Rattle.rlnh_end.specs.Hearing.{Hearing, hears}
 use Rattle.rlnh_end.specs.Calls.{Saying}
-use Rattle.rlnh_laws.specs.Meanings.{heard_of}
+use Rattle.rlnh_laws.specs.Meanings.{heard_of, saids, given_for, Understands}
 use Rattle.rlnh_end.specs.declared.up.Up.TheVariants.{Arrived}
 use Rattle.trunk_record.specs.Sayings.{Said, is_live, was_unpublished}
-use Rattle.rlnh_laws.specs.Meanings.{saids, given_for, Understands}
 use Rattle.rlnh_laws.specs.Ties.{Talk, Alone, Pair}
 
 -- a session whose end said these words

@@ -10,8 +10,7 @@ use Rattle.link_addresses.specs.declared.meaning.Meaning.{Meaning}
 use Rattle.link_addresses.specs.declared.meaning.Meaning.TheVariants.{Free, Live, Closing}
 use Rattle.link_addresses.specs.Meanings.{meaning_of, IsLive}
 use Rattle.rlnh_end.specs.States.{RlnhTables, addr_met, inc_met}
-use Rattle.rlnh_end.specs.Words.{Word, announce, tell, withdraw}
-use Rattle.rlnh_end.specs.Words.{confirm}
+use Rattle.rlnh_end.specs.Words.{Word, announce, tell, withdraw, confirm}
 use Rattle.trunk_record.specs.Sayings.{Said, Given, heard_as, frees, is_live, was_unpublished}
 use Rattle.trunk_record.specs.Sayings.{IsProper}
 use Rattle.rlnh_laws.specs.Meanings.{saids}

@@ -1,8 +1,7 @@
 -- The messages of each type.
 use Rattle.std.proofs.Common.{◌≡◌, ℕ, ◌<◌, ◌≤◌, ◌^◌, List, [], ◌++◌, drop, refl, sym, ap, ◌∙◌}
-use Rattle.std.proofs.Common.{arith}
-use Rattle.std.specs.Prelude.{◌==◌, if◌then◌else◌, slice_index, IsTrue, Option, None, Some, Result}
-use Rattle.std.specs.Prelude.{Ok, Err, IfOk}
+use Rattle.std.proofs.Common.{arith, ◌==◌, if◌then◌else◌, slice_index, IsTrue, Option, None, Some}
+use Rattle.std.proofs.Common.{Result, Ok, Err, IfOk}
 use Rattle.std.proofs.lemmas.Option.{same_Some}
 use Rattle.byteorder.specs.Endian.{big_bytes, big_number}
 use Rattle.byteorder.specs.Numbers.{big_number-reads_back}

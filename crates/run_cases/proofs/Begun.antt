@@ -13,7 +13,7 @@ use Rattle.trunk.specs.Keeping.{KeepsTrunk}
 use Rattle.trunk.specs.Tells.{IsUp, TellsSide}
 use Rattle.trunk.specs.declared.up.TrunkUp.{TrunkUp}
 use Rattle.trunk.specs.declared.up.TrunkUp.TheVariants.{WentUp}
-use Rattle.trunk.proofs.Trunks.{events_tell}
+use Rattle.trunk.proofs.EachEvent.Trunks.{events_tell}
 
 half-of : (side : Side) (t : TrunkState) → IsTrunk t.first.kept t.second.kept
     → IsHalf (kept_of side t) (kept_of (other_of side) t)

@@ -1,7 +1,6 @@
 -- The numbers of a session are those of the frames of what was offered in it.
 use Rattle.std.proofs.Common.{◌≡◌, ◌≤◌, ◌+◌, ◌*◌, ℕ, List, [], ◌∷◌, length, arith, sym, ap, subst}
-use Rattle.std.specs.Prelude.{All}
-use Rattle.std.proofs.lemmas.List.{length-append, length-drop}
+use Rattle.std.proofs.Common.{All, length-append, length-drop}
 use Rattle.std.proofs.lemmas.List.Elements.{All-head, All-tail}
 use Rattle.linx_base.specs.Frames.{IsMessage}
 use Rattle.linx_base.specs.declared.frame.Frame.{Frame}

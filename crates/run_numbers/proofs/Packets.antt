@@ -1,8 +1,7 @@
 -- How many messages a side has offered in its session once a packet came, or a tick or a restart: a
 -- packet is answered by one message at most, and a session begins with none.
-use Rattle.std.proofs.Common.{◌≡◌, ◌≤◌, ◌+◌, ℕ, Bool, List, [], ◌∷◌, Option, Some}
-use Rattle.std.proofs.Common.{None, length, arith, refl, sym, ◌∙◌, ap, subst}
-use Rattle.std.specs.Prelude.{slice_get}
+use Rattle.std.proofs.Common.{◌≡◌, ◌≤◌, ◌+◌, ℕ, Bool, List, [], ◌∷◌, Option, Some, None, length}
+use Rattle.std.proofs.Common.{arith, refl, sym, ◌∙◌, ap, subst, slice_get}
 use Rattle.linx_base.specs.Sides.{other_of}
 use Rattle.linx_base.specs.declared.identity.Session.{Session}
 use Rattle.linx_base.specs.declared.identity.Side.{Side}
@@ -32,8 +31,8 @@ use Rattle.trunk.specs.Events.{near_beat, near_took, restarted_at, swapped_from,
 use Rattle.trunk.specs.Events.{turned, with_link}
 use Rattle.trunk.specs.Keeping.{KeepsTrunk}
 use Rattle.trunk.specs.Tells.{TellsSide}
-use Rattle.trunk.proofs.Reading.{reply_few}
-use Rattle.trunk.proofs.Trunks.{agree, events_tell}
+use Rattle.trunk.proofs.Messages.Reading.{reply_few}
+use Rattle.trunk.proofs.EachEvent.Trunks.{agree, events_tell}
 use Rattle.trunk_moves.specs.Packets.{asks_for}
 use Rattle.run_numbers.proofs.Offers.{HasSaidAll, OffersUpTo, near_count, near_other, offers}
 use Rattle.run_numbers.proofs.Offers.{said_all, said_offers, said_stays, words_few}

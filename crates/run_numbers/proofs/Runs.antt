@@ -39,8 +39,8 @@ use Rattle.trunk.specs.declared.up.TrunkUp.TheVariants.{Gone, Asked}
 use Rattle.trunk.specs.Events.{HasNumbersLeft, IsReading, TrunkState, asked_at, closed_at}
 use Rattle.trunk.specs.Events.{delivered, new_trunk, opened_at, restarted_at, sent_at, told_by}
 use Rattle.trunk.specs.Keeping.{KeepsTrunk}
-use Rattle.trunk.proofs.Events.{events_keep}
-use Rattle.trunk.proofs.Trunks.{agree}
+use Rattle.trunk.proofs.EachEvent.BothSides.{events_keep}
+use Rattle.trunk.proofs.EachEvent.Trunks.{agree}
 use Rattle.trunk_moves.specs.Grants.{AreNames}
 use Rattle.trunk_moves.specs.Packets.{Comes, Meets, answered, asks_for, names_hunted}
 use Rattle.trunk_moves.specs.Packets.{place_of, publishes_if}

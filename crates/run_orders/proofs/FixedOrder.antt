@@ -1,18 +1,18 @@
 -- A SCRIPT HAS ONE RUN in the fixed order: it comes to its end, or a full journal stops it.
-use Rattle.std.proofs.Common.{◌≡◌, ℕ, ◌<◌, ◌⊎◌, true, length, refl, sym, ◌∙◌, inl, inr}
-use Rattle.std.proofs.Common.{subst}
-use Rattle.std.proofs.lemmas.Bool.{cases_order, true≢false}
+use Rattle.std.proofs.Common.{◌≡◌, ℕ, ◌<◌, ◌⊎◌, true, length, refl, sym, ◌∙◌, inl, inr, subst}
+use Rattle.std.proofs.Common.{true≢false}
+use Rattle.std.proofs.lemmas.Bool.{cases_order}
 use Rattle.journal.specs.Shapes.{Shape}
 use Rattle.journal.specs.Logs.{is_full}
 use Rattle.link_laws.specs.Ends.{HasTwoEnds}
 use Rattle.script_lang.specs.Fits.{IsScript}
 use Rattle.script_lang.specs.Parts.{ScriptParts}
 use Rattle.fabric.specs.Run.{Layout}
-use Rattle.fabric.proofs.Reaching.{two-ends}
+use Rattle.fabric.proofs.Methods.Runs.{two-ends}
 use Rattle.stage.specs.Plays.{IsSoFar}
 use Rattle.stage.specs.Turns.{AreRounds, IsStoppedRun, IsWhole, first_layout, is_over, makers}
 use Rattle.stage.specs.Turns.{shape_of}
-use Rattle.stage.proofs.LaidOut.{laid_out}
+use Rattle.stage.proofs.Rounds.LayingOut.{laid_out}
 use Rattle.run_orders.specs.Laws.{IsEnded, IsFilled}
 use Rattle.run_orders.proofs.Rounds.{HasRound, over-alike, rounds-alike, rounds-split, stop-stops}
 use Rattle.run_orders.proofs.Rounds.{stop-turns, stopped-grow}

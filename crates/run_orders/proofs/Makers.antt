@@ -1,8 +1,7 @@
 -- Two runs so far whose steps have the same makers in the same order have one journal.
 use Rattle.std.proofs.Common.{◌≡◌, ℕ, ◌<◌, ◌≤◌, Bool, true, false, not, List, [], ◌∷◌, length}
-use Rattle.std.proofs.Common.{Option, Some, None, refl, sym, ◌∙◌, ap, subst}
-use Rattle.std.specs.Prelude.{◌&&◌, ◌==◌}
-use Rattle.std.proofs.lemmas.Bool.{eq-eqb, eqb-true, true≢false}
+use Rattle.std.proofs.Common.{Option, Some, None, refl, sym, ◌∙◌, ap, subst, ◌&&◌, ◌==◌, eq-eqb}
+use Rattle.std.proofs.Common.{eqb-true, true≢false}
 use Rattle.std.proofs.lemmas.List.{length-map}
 use Rattle.linx_base.specs.declared.frame.Verdict.{Verdict}
 use Rattle.linx_base.specs.declared.identity.LinkNo.{LinkNo}
@@ -38,8 +37,8 @@ use Rattle.stage.specs.Pumps.{verdict_for}
 use Rattle.stage.specs.Settlings.{Settler, settler_now, settler_of}
 use Rattle.stage.specs.Turns.{commands_of, shape_of}
 use Rattle.run_orders.specs.Laws.{makers_of}
-use Rattle.stage.proofs.Alike.{pump_alike, settled_there, settler_alike, still_alike}
-use Rattle.stage.proofs.OneState.{IsRunOf, one_state, script_run}
+use Rattle.stage.proofs.Plans.SameTrunks.{pump_alike, settled_there, settler_alike, still_alike}
+use Rattle.stage.proofs.Plans.OneState.{IsRunOf, one_state, script_run}
 
 -- ---- a head of a pump is told by its event
 

@@ -1,7 +1,6 @@
 -- Rounds leave no choice, and a run that stopped in one went as far as another.
-use Rattle.std.proofs.Common.{◌≡◌, ℕ, zero, suc, ◌<◌, ◌≤◌, ◌⊎◌, Bool, false, refl, sym, ap}
-use Rattle.std.proofs.Common.{subst, inl, inr, arith}
-use Rattle.std.specs.Prelude.{◌&&◌}
+use Rattle.std.proofs.Common.{◌≡◌, ℕ, zero, suc, ◌<◌, ◌≤◌, ◌⊎◌, Bool, false, refl, sym, ap, subst}
+use Rattle.std.proofs.Common.{inl, inr, arith, ◌&&◌}
 use Rattle.std.proofs.lemmas.Bool.{cases_order}
 use Rattle.journal.specs.Shapes.{Shape}
 use Rattle.link_laws.specs.Ends.{HasTwoEnds}
@@ -11,7 +10,7 @@ use Rattle.fabric.specs.Machine.{all_have_ended}
 use Rattle.fabric.specs.Run.{Layout}
 use Rattle.stage.specs.Turns.{AreRounds, AreTurns, IsRound, IsStoppedRound, IsTurnOf, is_over}
 use Rattle.stage.specs.Turns.{makers, shape_of}
-use Rattle.stage.proofs.Alike.{still_alike}
+use Rattle.stage.proofs.Plans.SameTrunks.{still_alike}
 use Rattle.run_orders.proofs.States.{AreAlike, GoesOn, Grows, alike-as, alike-turned, by-alike}
 use Rattle.run_orders.proofs.States.{goes-grows, grows-on}
 use Rattle.run_orders.proofs.Turns.{stop-stop, stop-turn, stopped-grows, turn-alike, turn-grows}

@@ -25,8 +25,8 @@ use Rattle.fabric.specs.Machine.{head_for}
 use Rattle.fabric.specs.Run.{IsStepFor, IsStepOf, IsStepped, Layout}
 use Rattle.run_states.proofs.States.{runs_reach_one_state}
 use Rattle.stage.specs.Settlings.{AreSettlings, IsSettling, stirs_in}
-use Rattle.stage.proofs.Settling.{HasMoved, by-move, due-stirs, has-moved}
-use Rattle.stage.proofs.Alike.{settling_alike, still_alike, stirs_alike}
+use Rattle.stage.proofs.Settling.Steps.{HasMoved, by-move, due-stirs, has-moved}
+use Rattle.stage.proofs.Plans.SameTrunks.{settling_alike, still_alike, stirs_alike}
 use Rattle.run_orders.proofs.States.{AreAlike, Grows, IsLonger, alike-as, alike-turned, by-alike}
 use Rattle.run_orders.proofs.States.{grows-on, longer-as, longer-on, longer-one, state}
 

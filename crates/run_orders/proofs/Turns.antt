@@ -1,8 +1,7 @@
 -- A turn leaves no choice, and one that stopped went as far as another.
 use Rattle.std.proofs.Common.{◌≡◌, ℕ, ◌-◌, ◌<◌, ◌≤◌, ◌⊎◌, Bool, true, false, length, Option, Some}
-use Rattle.std.proofs.Common.{None, refl, sym, ◌∙◌, ap, subst, inl, inr, arith}
-use Rattle.std.specs.Prelude.{nat_le}
-use Rattle.std.proofs.lemmas.Bool.{leb-false, true≢false}
+use Rattle.std.proofs.Common.{None, refl, sym, ◌∙◌, ap, subst, inl, inr, arith, nat_le, leb-false}
+use Rattle.std.proofs.Common.{true≢false}
 use Rattle.std.proofs.lemmas.Option.{same_Some}
 use Rattle.linx_base.specs.declared.identity.LinkNo.{LinkNo}
 use Rattle.journal.specs.Logs.{Log}
@@ -26,10 +25,10 @@ use Rattle.stage.specs.Settlings.{leaves_cut, settled_by, settles_none, settles_
 use Rattle.stage.specs.Turns.{IsActed, IsPump, IsStoppedBy, IsStoppedOf, IsTurn, IsTurnBy}
 use Rattle.stage.specs.Turns.{IsTurnOf, IsTurnStopped, acts_next, asked_next, asks_nothing}
 use Rattle.stage.specs.Turns.{commands_of, ended_before, makers, makes_event, shape_of}
-use Rattle.stage.proofs.Going.{GoesFar, SettlesOn, done-far, goes-nowhere, goes-settling, half-far}
-use Rattle.stage.proofs.Going.{settle-made, settles_it}
-use Rattle.stage.proofs.Turns.{pump-makes, pump-rests, turn-acts, turn-over}
-use Rattle.stage.proofs.Alike.{pump_alike}
+use Rattle.stage.proofs.Actors.Going.{GoesFar, SettlesOn, done-far, goes-nowhere, goes-settling}
+use Rattle.stage.proofs.Actors.Going.{half-far, settle-made, settles_it}
+use Rattle.stage.proofs.Rounds.Turns.{pump-makes, pump-rests, turn-acts, turn-over}
+use Rattle.stage.proofs.Plans.SameTrunks.{pump_alike}
 use Rattle.run_orders.proofs.States.{AreAlike, GoesOn, Grows, IsLonger, alike-as, alike-grows}
 use Rattle.run_orders.proofs.States.{alike-turned, by-alike, grows-on}
 use Rattle.run_orders.proofs.Settlings.{abreast, longer, settlings-compared, settlings-grow}

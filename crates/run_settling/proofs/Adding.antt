@@ -7,7 +7,7 @@ use Rattle.linx_base.specs.declared.identity.Inc.{Inc}
 use Rattle.carrier.specs.Events.{LinkState}
 use Rattle.link_addresses.specs.Meanings.{address_of}
 use Rattle.link_settling.specs.Measure.{Falls, Measure, measure}
-use Rattle.link_settling.proofs.Ending.{deliveries_end}
+use Rattle.link_settling.proofs.Flights.PacketsEnd.{deliveries_end}
 use Rattle.rlnh_messages.specs.Messages.{spelling_of}
 use Rattle.rlnh_end.specs.Calls.{announced, publish_of}
 use Rattle.rlnh_end.specs.States.{RlnhTables, without_note}

@@ -1,7 +1,7 @@
 -- What holds of a link once nothing is in flight does so too after a packet came, with all that is
 -- said to it.
-use Rattle.std.proofs.Common.{◌≡◌, ℕ, false, List, ◌∷◌, Some, refl, sym, ◌∙◌, subst}
-use Rattle.std.specs.Prelude.{IsSome, slice_get}
+use Rattle.std.proofs.Common.{◌≡◌, ℕ, false, List, ◌∷◌, Some, refl, sym, ◌∙◌, subst, IsSome}
+use Rattle.std.proofs.Common.{slice_get}
 use Rattle.linx_base.specs.Sides.{other_of}
 use Rattle.linx_base.specs.declared.frame.Message.{Message}
 use Rattle.linx_base.specs.declared.identity.Inc.{Inc}
@@ -29,8 +29,8 @@ use Rattle.trunk.specs.Events.{IsReading, TrunkState, delivered, near_delivered,
 use Rattle.trunk.specs.Events.{told_by, turned, with_link}
 use Rattle.trunk.specs.Keeping.{KeepsTrunk, messages_of}
 use Rattle.trunk.specs.Laws.{IsOffered, MayPublish}
-use Rattle.trunk.proofs.Events.{events_keep, near_tells, turned_keeps}
-use Rattle.trunk.proofs.Trunks.{agree, offers, understood}
+use Rattle.trunk.proofs.EachEvent.BothSides.{events_keep, near_tells, turned_keeps}
+use Rattle.trunk.proofs.EachEvent.Trunks.{agree, offers, understood}
 use Rattle.trunk_moves.specs.Grants.{AreNames, GrantsAnswer}
 use Rattle.trunk_moves.specs.Packets.{Comes, answered, names_hunted}
 use Rattle.run_settling.proofs.Offering.{over_asks, over_publishes, over_says}

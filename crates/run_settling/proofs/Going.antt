@@ -1,9 +1,7 @@
 -- While a link isn't cut a step of its settling can be made: a packet in flight may come, and a
 -- side may tick; and a run goes on by such a step.
-use Rattle.std.proofs.Common.{◌≡◌, ◌<◌, ℕ, Bool, true, false, List}
-use Rattle.std.proofs.Common.{◌∷◌, length, refl, arith}
-use Rattle.std.specs.Prelude.{nat_le, ◌==◌, ◌||◌}
-use Rattle.std.proofs.lemmas.Bool.{eq-eqb}
+use Rattle.std.proofs.Common.{◌≡◌, ◌<◌, ℕ, Bool, true, false, List, ◌∷◌, length, refl, arith}
+use Rattle.std.proofs.Common.{nat_le, ◌==◌, ◌||◌, eq-eqb}
 use Rattle.linx_base.specs.Sides.{other_of}
 use Rattle.linx_base.specs.declared.frame.Verdict.TheVariants.{Deliver}
 use Rattle.linx_base.specs.declared.identity.LinkNo.{LinkNo}
@@ -25,7 +23,7 @@ use Rattle.rlnh_end.specs.declared.heard.Heard.TheVariants.{Garbage}
 use Rattle.trunk.specs.Events.{IsReading, TrunkState, delivered, ticked_at, told_by}
 use Rattle.trunk.specs.Keeping.{KeepsTrunk}
 use Rattle.trunk.specs.Tells.{up_of_tick}
-use Rattle.trunk.proofs.Trunks.{understood}
+use Rattle.trunk.proofs.EachEvent.Trunks.{understood}
 use Rattle.trunk_moves.specs.Packets.{answered, told_at}
 use Rattle.trunk_moves.specs.Steps.{IsBoundedTrunkRun}
 use Rattle.trunk_moves.specs.Trunks.{RunTrunks, with_trunk}

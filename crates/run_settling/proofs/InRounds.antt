@@ -12,7 +12,7 @@ use Rattle.journal.specs.declared.head.Head.TheVariants.{Tick, Wire}
 use Rattle.link_laws.specs.Ends.{IsLinkOf}
 use Rattle.carrier.specs.Events.{LinkState, is_quiet, ticked_at}
 use Rattle.link_settling.specs.Runs.{IsEmpty, OnceEmpty, SettlesInRounds}
-use Rattle.link_settling.proofs.Rounds.{links_settle_in_rounds}
+use Rattle.link_settling.proofs.Ticks.SixRounds.{links_settle_in_rounds}
 use Rattle.trunk_moves.specs.Steps.{IsBoundedTrunkRun}
 use Rattle.trunk_moves.specs.Trunks.{RunTrunks}
 use Rattle.trunk_moves.proofs.Runs.{trunk_runs_are_runs}

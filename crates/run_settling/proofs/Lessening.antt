@@ -1,7 +1,6 @@
 -- A packet that comes, with all that its node answers, leaves less to do.
-use Rattle.std.proofs.Common.{◌≡◌, ◌+◌, ◌<◌, ◌≤◌, ℕ, false, List, [], Some, refl, sym, ◌∙◌}
-use Rattle.std.proofs.Common.{ap, arith, subst}
-use Rattle.std.specs.Prelude.{IsSome, length, slice_get}
+use Rattle.std.proofs.Common.{◌≡◌, ◌+◌, ◌<◌, ◌≤◌, ℕ, false, List, [], Some, refl, sym, ◌∙◌, ap}
+use Rattle.std.proofs.Common.{arith, subst, IsSome, length, slice_get}
 use Rattle.linx_base.specs.Sides.{other_of}
 use Rattle.linx_base.specs.declared.frame.Message.{Message}
 use Rattle.linx_base.specs.declared.identity.Inc.{Inc}
@@ -19,7 +18,7 @@ use Rattle.carrier.specs.declared.handed.Handed.{Handed}
 use Rattle.carrier.specs.declared.handed.Handed.TheVariants as handed
 use Rattle.carrier.proofs.Links as link_events
 use Rattle.link_settling.specs.Measure.{Falls}
-use Rattle.link_settling.proofs.Ending.{deliveries_end, turned_measure}
+use Rattle.link_settling.proofs.Flights.PacketsEnd.{deliveries_end, turned_measure}
 use Rattle.rlnh_end.specs.Calls.{begin_of, query_of, with_words}
 use Rattle.rlnh_end.specs.Hearing.{hears}
 use Rattle.rlnh_end.specs.declared.heard.Heard.{Heard}
@@ -32,8 +31,8 @@ use Rattle.trunk.specs.Events.{near_took}
 use Rattle.trunk.specs.Events.{seen_from, side_of, told_by, told_of, told_up, turned, with_link}
 use Rattle.trunk.specs.Keeping.{KeepsTrunk, messages_of}
 use Rattle.trunk.specs.Laws.{IsOffered, MayPublish}
-use Rattle.trunk.proofs.Events.{events_keep, near_tells, turned_keeps}
-use Rattle.trunk.proofs.Trunks.{agree, offers}
+use Rattle.trunk.proofs.EachEvent.BothSides.{events_keep, near_tells, turned_keeps}
+use Rattle.trunk.proofs.EachEvent.Trunks.{agree, offers}
 use Rattle.trunk_moves.specs.Grants.{AreNames, GrantsAnswer}
 use Rattle.trunk_moves.specs.Packets.{Comes, answered, names_hunted}
 use Rattle.run_settling.specs.Asking.{asks}

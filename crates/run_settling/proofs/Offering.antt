@@ -1,8 +1,7 @@
 -- What spreads as a side of a trunk says something: what holds between a link and itself, from one
 -- link to the next, and between a link and the same one with a message offered.
 use Rattle.std.proofs.Common.{◌≡◌, ℕ, Bool, true, false, List, [], ◌∷◌, ◌++◌, Option, Some, None}
-use Rattle.std.proofs.Common.{refl, sym, ◌∙◌, ap, subst}
-use Rattle.std.specs.Prelude.{IsSome, if◌then◌else◌, is_some}
+use Rattle.std.proofs.Common.{refl, sym, ◌∙◌, ap, subst, IsSome, if◌then◌else◌, is_some}
 use Rattle.std.specs.List.{AllByRecursion}
 use Rattle.linx_base.specs.Frames.{IsMessage}
 use Rattle.linx_base.specs.declared.frame.Message.{Message}
@@ -21,9 +20,9 @@ use Rattle.trunk.specs.Events.{TrunkState, asked_at, near_offers, near_said, nea
 use Rattle.trunk.specs.Events.{side_of, tables_of, turned}
 use Rattle.trunk.specs.Keeping.{KeepsTrunk, messages_of}
 use Rattle.trunk.specs.Laws.{MayPublish}
-use Rattle.trunk.proofs.Events.{events_keep, turned_keeps}
-use Rattle.trunk.proofs.Offering.{out_words}
-use Rattle.trunk.proofs.Trunks.{agree, offers}
+use Rattle.trunk.proofs.EachEvent.BothSides.{events_keep, turned_keeps}
+use Rattle.trunk.proofs.Messages.Offers.{out_words}
+use Rattle.trunk.proofs.EachEvent.Trunks.{agree, offers}
 use Rattle.trunk_moves.specs.Grants.{AreNames}
 use Rattle.trunk_moves.specs.Packets.{asks_for, publishes_if}
 

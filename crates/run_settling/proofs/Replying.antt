@@ -1,6 +1,6 @@
 -- A message that is answered asks, and its answer doesn't; to any other nothing is said.
 use Rattle.std.proofs.Common.{◌≡◌, ℕ, Bool, true, false, List, [], Option, Some, None, refl}
-use Rattle.std.specs.Prelude.{if◌then◌else◌, is_some, ◌||◌}
+use Rattle.std.proofs.Common.{if◌then◌else◌, is_some, ◌||◌}
 use Rattle.std.specs.List.{AllByRecursion}
 use Rattle.linx_base.specs.declared.frame.Message.{Message}
 use Rattle.linx_base.specs.declared.identity.Inc.{Inc}

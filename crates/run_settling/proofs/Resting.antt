@@ -13,14 +13,13 @@ use Rattle.journal.specs.declared.head.Head.TheVariants.{Tick, Wire}
 use Rattle.link_laws.specs.Ends.{IsLinkOf}
 use Rattle.link_laws.specs.Sessions.{cut_after, is_cut}
 use Rattle.link_settling.specs.Measure.{Falls, Measure}
-use Rattle.link_settling.proofs.Counting.{no_length}
-use Rattle.link_settling.proofs.Inducting.{falls_inducts}
+use Rattle.link_settling.proofs.Flights.Counting.{no_length}
+use Rattle.link_settling.proofs.Flights.Measures.{falls_inducts}
 use Rattle.trunk_moves.specs.Steps.{IsBoundedTrunkRun}
 use Rattle.trunk_moves.specs.Trunks.{RunTrunks}
-use Rattle.run_settling.specs.Laws.{LinkSettlesIn}
+use Rattle.run_settling.specs.Laws.{LinkSettlesIn, LinksComeToRest}
 use Rattle.run_settling.proofs.Settling.{runs_settle}
 use Rattle.run_settling.specs.Asking.{left_over}
-use Rattle.run_settling.specs.Laws.{LinksComeToRest}
 use Rattle.run_settling.specs.Resting.{ComesToRest, IsJoined, IsMadeAs, NoneFlies, Settles}
 use Rattle.run_settling.specs.Resting.{after_ticks, comes, over, ticks}
 use Rattle.run_settling.proofs.Elsewhere.{elsewhere}

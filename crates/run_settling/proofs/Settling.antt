@@ -17,9 +17,9 @@ use Rattle.carrier.specs.Events as links
 use Rattle.carrier.specs.declared.handed.TickedSide.{TickedSide}
 use Rattle.carrier.specs.declared.handed.TickedSide.TheVariants as tells
 use Rattle.link_settling.specs.Runs.{OnceEmpty, SettlesIn}
-use Rattle.link_settling.proofs.Settling.{links_settle}
+use Rattle.link_settling.proofs.Ticks.SixTicks.{links_settle}
 use Rattle.trunk.specs.Events.{TrunkState, near_beat, ticked_at, turned, with_link}
-use Rattle.trunk.proofs.Quiet.{quiet}
+use Rattle.trunk.proofs.EachEvent.Quiet.{quiet}
 use Rattle.trunk.specs.Keeping.{KeepsTrunk}
 use Rattle.trunk_moves.specs.Grants.{AreNames, GrantsAnswer}
 use Rattle.trunk_moves.specs.Packets.{names_hunted}

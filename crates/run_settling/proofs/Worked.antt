@@ -1,9 +1,8 @@
 -- The definitions computed: what each word asks, and the answers that are due on a worked link.
-use Rattle.std.proofs.Common.{◌≡◌, ℕ, List, refl}
+use Rattle.std.proofs.Common.{◌≡◌, ℕ, List, refl, false}
 use Rattle.linx_base.specs.declared.identity.Inc.{Inc}
 use Rattle.linx_base.specs.declared.identity.Side.TheVariants.{First, Second}
 use Rattle.carrier.specs.Events.{LinkState, delivered, new_link, offered_to, ticked_at}
-use Rattle.std.specs.Prelude.{false}
 use Rattle.ethcm_window.specs.Sending.{numbered_from}
 use Rattle.fragmenter.specs.Pieces.{cut, followers, framed, pieces_of}
 use Rattle.ethcm_end.specs.Rules.{data_in, input_of, offer_of, take_kept, tick_of}

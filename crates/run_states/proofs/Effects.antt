@@ -1,6 +1,5 @@
 -- The head of a step leaves no choice of its effects.
-use Rattle.std.proofs.Common.{◌≡◌, ℕ, Bool, true, false, List, Option}
-use Rattle.std.proofs.Common.{sym, ◌∙◌, ap, subst}
+use Rattle.std.proofs.Common.{◌≡◌, ℕ, Bool, true, false, List, Option, sym, ◌∙◌, ap, subst}
 use Rattle.linx_base.specs.Sides.{other_of}
 use Rattle.linx_base.specs.declared.frame.Verdict.{Verdict}
 use Rattle.linx_base.specs.declared.frame.Verdict.TheVariants.{Deliver, Lose, Repeat, Swap}

@@ -1,8 +1,6 @@
 -- A step makes the same of the same trunks, whatever it is.
-use Rattle.std.proofs.Common.{◌≡◌, ℕ, Bool, true, false, cond, List, Option, Some, None}
-use Rattle.std.proofs.Common.{refl, sym, ◌∙◌, ap, subst}
-use Rattle.std.specs.Prelude.{◌==◌, ◌+◌}
-use Rattle.std.proofs.lemmas.Bool.{eq-eqb, true≢false}
+use Rattle.std.proofs.Common.{◌≡◌, ℕ, Bool, true, false, cond, List, Option, Some, None, refl, sym}
+use Rattle.std.proofs.Common.{◌∙◌, ap, subst, ◌==◌, ◌+◌, eq-eqb, true≢false}
 use Rattle.linx_base.specs.Sides.{other_of}
 use Rattle.linx_base.specs.declared.frame.Verdict.{Verdict}
 use Rattle.linx_base.specs.declared.frame.Verdict.TheVariants.{Deliver, Lose, Repeat, Swap}
@@ -38,9 +36,10 @@ use Rattle.trunk.specs.Events.{IsReading, TrunkState, asked_at, closed_at, deliv
 use Rattle.trunk.specs.Events.{near_took, opened_at, restarted_at, sent_at, tables_of, ticked_at}
 use Rattle.trunk.specs.Events.{told_by, told_of, told_up, turned, with_link}
 use Rattle.trunk.specs.declared.up.TrunkUp.{TrunkUp}
-use Rattle.trunk.proofs.Reading.{reads_once}
+use Rattle.trunk.proofs.Messages.Reading.{reads_once}
 use Rattle.trunk_moves.specs.Packets.{Comes, Meets, answered}
-use Rattle.trunk_moves.specs.Steps.{HuntMakes, Makes, PacketMakes, SendMakes, TickMakes, trunks_ending}
+use Rattle.trunk_moves.specs.Steps.{HuntMakes, Makes, PacketMakes, SendMakes, TickMakes}
+use Rattle.trunk_moves.specs.Steps.{trunks_ending}
 use Rattle.trunk_moves.specs.Trunks.{Become, RunTrunks, all_do, does, side_on, with_trunk}
 
 -- ---- a packet has one reading

@@ -1,7 +1,6 @@
 -- What a change of the trunk at a place makes of what all were, and of what all are.
 use Rattle.std.proofs.Common.{ℕ, ◌≡◌, ◌<◌, ◌+◌, ◌-◌, List, length, get_or, set, take, map, refl, ap}
-use Rattle.std.proofs.Common.{sym, ◌∙◌, subst, add-one, arith}
-use Rattle.std.specs.Prelude.{Option, Some}
+use Rattle.std.proofs.Common.{sym, ◌∙◌, subst, add-one, arith, Option, Some}
 use Rattle.std.proofs.lemmas.List.{get_or-map, map-set}
 use Rattle.linx_base.specs.Both.{Both, still}
 use Rattle.linx_base.specs.declared.frame.LinkDecl.{LinkDecl}

@@ -1,7 +1,7 @@
 -- What holds between the beginning of an event and its end.
-use Rattle.std.proofs.Common.{ℕ, zero, suc, ◌≡◌, ◌-◌, List, [], ◌∷◌, length, get_or, set}
-use Rattle.std.proofs.Common.{refl, sym, ◌∙◌, ap, subst, arith}
-use Rattle.std.proofs.lemmas.List.{get_or-set_same, set-get_or, take_all}
+use Rattle.std.proofs.Common.{ℕ, zero, suc, ◌≡◌, ◌-◌, List, [], ◌∷◌, length, get_or, set, refl, sym}
+use Rattle.std.proofs.Common.{◌∙◌, ap, subst, arith, get_or-set_same, take_all}
+use Rattle.std.proofs.lemmas.List.{set-get_or}
 use Rattle.linx_base.specs.declared.identity.LinkNo.{LinkNo}
 use Rattle.linx_base.specs.declared.identity.Side.{Side}
 use Rattle.carrier.specs.Events.{flight_from}

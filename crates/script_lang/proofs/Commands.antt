@@ -1,7 +1,5 @@
 -- a command with its names looked up fits the script
-use Rattle.std.proofs.Common.{◌≡◌, ◌-◌, true, ◌||◌, ◌==◌, refl}
-use Rattle.std.specs.Prelude.{Some}
-use Rattle.std.specs.List.{slice_get}
+use Rattle.std.proofs.Common.{◌≡◌, ◌-◌, true, ◌||◌, ◌==◌, refl, Some, slice_get}
 use Rattle.linx_base.specs.declared.identity.LinkNo.{LinkNo}
 use Rattle.linx_base.specs.declared.identity.NodeNo.{NodeNo}
 use Rattle.linx_base.specs.declared.frame.LinkDecl.{LinkDecl}

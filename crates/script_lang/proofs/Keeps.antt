@@ -1,10 +1,9 @@
 -- each new entry keeps a script within its limits
 use Rattle.std.proofs.Common.{◌≡◌, ℕ, suc, ◌+◌, ◌-◌, ◌<◌, ◌≤◌, true, false, not, ◌&&◌, zero, List}
-use Rattle.std.proofs.Common.{[], ◌∷◌, ◌++◌, length, refl, ◌∙◌, arith, length-append}
-use Rattle.std.specs.List.{list_all, list_any, slice_get}
-use Rattle.std.specs.Str.{bytes_eq}
+use Rattle.std.proofs.Common.{[], ◌∷◌, ◌++◌, length, refl, ◌∙◌, arith, length-append, slice_get}
+use Rattle.std.proofs.Common.{bytes_eq, leb-true, le-leb}
+use Rattle.std.specs.List.{list_all, list_any}
 use Rattle.std.proofs.lemmas.Bool.{and_parts, and_from, or_parts, not_from_false, not-true}
-use Rattle.std.proofs.lemmas.Bool.{leb-true, le-leb}
 use Rattle.std.proofs.lemmas.List.Sums.{sum_by_push}
 use Rattle.linx_base.specs.NameText.{is_name}
 use Rattle.linx_base.specs.Verdicts.{fits_verdict}
@@ -25,8 +24,7 @@ use Rattle.script_lang.specs.Limits.{all_commands_limit, verdict_limit}
 use Rattle.script_words.proofs.Lists.{list_all_push}
 use Rattle.script_lang.specs.declared.actor_script.ActorScript.{ActorScript}
 use Rattle.script_lang.specs.Parts.{ScriptParts, planned_verdicts, with_node, with_link}
-use Rattle.script_lang.specs.Parts.{with_verdict}
-use Rattle.script_lang.specs.Parts.{with_actor, planned_at}
+use Rattle.script_lang.specs.Parts.{with_verdict, with_actor, planned_at}
 use Rattle.script_lang.specs.declared.plans.Plans.{Plans}
 use Rattle.script_lang.specs.Fits.{is_numbered, is_node, joins, has_end, fits_link, fits_plans}
 use Rattle.script_lang.specs.Fits.{fits_path, fits_command, fits_actor, command_count, is_among}

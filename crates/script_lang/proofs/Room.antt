@@ -1,8 +1,8 @@
 -- an actor with more commands stays within the script's limits
 use Rattle.std.proofs.Common.{◌≡◌, ℕ, ◌+◌, ◌*◌, ◌<◌, ◌≤◌, true, false, nat_le, List, [], ◌∷◌, ◌++◌}
-use Rattle.std.proofs.Common.{length, refl, ◌∙◌, ap, arith, length-append}
+use Rattle.std.proofs.Common.{length, refl, ◌∙◌, ap, arith, length-append, leb-true}
 use Rattle.std.specs.List.{list_all}
-use Rattle.std.proofs.lemmas.Bool.{and_parts, and_from, leb-true, lt-leb}
+use Rattle.std.proofs.lemmas.Bool.{and_parts, and_from, lt-leb}
 use Rattle.std.proofs.lemmas.List.Folds.{list_all-append}
 use Rattle.std.proofs.lemmas.List.Sums.{sum_by_more, sum_by_more_le}
 use Rattle.linx_base.specs.declared.identity.NodeNo.{NodeNo}

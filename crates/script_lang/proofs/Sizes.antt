@@ -1,8 +1,6 @@
 -- how many bytes a script has at most
 use Rattle.std.proofs.Common.{◌≡◌, ℕ, ◌+◌, ◌≤◌, Bool, true, false, cond, List, [], ◌∷◌, Result, Ok}
-use Rattle.std.proofs.Common.{Err, length, refl, arith}
-use Rattle.std.specs.Prelude.{sum_by, nat_lt}
-use Rattle.std.proofs.lemmas.Bool.{ltb-false}
+use Rattle.std.proofs.Common.{Err, length, refl, arith, sum_by, nat_lt, ltb-false}
 use Rattle.std.proofs.lemmas.List.Sums.{sum_by-cons}
 use Rattle.script_words.specs.declared.fault.Fault.{Fault}
 use Rattle.script_words.specs.declared.bad_kind.BadKind.TheVariants.{ScriptTooLong}

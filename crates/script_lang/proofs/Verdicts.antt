@@ -1,10 +1,11 @@
 -- one verdict more in a plan
 use Rattle.std.proofs.Common.{◌≡◌, ℕ, suc, zero, ◌+◌, ◌-◌, ◌<◌, true, nat_le, slice_set}
 use Rattle.std.proofs.Common.{slice_index_or, List, [], ◌∷◌, ◌++◌, length, take, get_or, refl, sym}
-use Rattle.std.proofs.Common.{◌∙◌, ap, subst, arith, length-append, append_assoc}
-use Rattle.std.specs.List.{list_all, slice_get}
-use Rattle.std.proofs.lemmas.Bool.{and_parts, and_from, le-leb}
-use Rattle.std.proofs.lemmas.List.{append-nil, take_more}
+use Rattle.std.proofs.Common.{◌∙◌, ap, subst, arith, length-append, append_assoc, slice_get, le-leb}
+use Rattle.std.proofs.Common.{append-nil}
+use Rattle.std.specs.List.{list_all}
+use Rattle.std.proofs.lemmas.Bool.{and_parts, and_from}
+use Rattle.std.proofs.lemmas.List.{take_more}
 use Rattle.linx_base.specs.Verdicts.{fits_verdict}
 use Rattle.linx_base.specs.declared.identity.LinkNo.{LinkNo}
 use Rattle.linx_base.specs.declared.identity.Side.{Side}
@@ -14,10 +15,8 @@ use Rattle.script_lang.specs.Limits.{verdict_limit}
 use Rattle.script_words.proofs.Lists.{list_all_push}
 use Rattle.script_lang.specs.declared.plans.Plans.{Plans}
 use Rattle.script_lang.specs.Parts.{ScriptParts, side_of, plan_in, planned_verdicts, planned}
-use Rattle.script_lang.specs.Parts.{planned_at}
-use Rattle.script_lang.specs.Parts.{with_verdict}
+use Rattle.script_lang.specs.Parts.{planned_at, with_verdict, with_verdicts}
 use Rattle.script_lang.specs.Fits.{fits_plan, fits_plans}
-use Rattle.script_lang.specs.Parts.{with_verdicts}
 
 module _ (from : Side) (verdicts : List Verdict) where
   -- no link more

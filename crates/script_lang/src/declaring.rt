@@ -10,8 +10,8 @@ ghost use Rattle.script_words.specs.Declaration.{has_link_size, is_in_range};
 ghost use Rattle.script_lang.specs.Parts.{planned_verdicts, with_verdicts};
 ghost use Rattle.script_lang.specs.Fits.{is_link};
 ghost use Rattle.script_lang.specs.Block.{CanGoOn};
-ghost use Rattle.script_lang.specs.Declaring.{twice_named, over_limit, node_added, link_added, plan_added};
-ghost use Rattle.script_lang.specs.Declaring.{actor_begun, declared};
+ghost use Rattle.script_lang.specs.Declaring.{twice_named, over_limit, node_added, link_added};
+ghost use Rattle.script_lang.specs.Declaring.{plan_added, actor_begun, declared};
 
 use crate::actor_script::{ActorScript, Commands};
 use crate::naming::{is_taken, link_of_name, node_of_name};

@@ -1,10 +1,9 @@
 -- how a text is cut into lines
 use Rattle.std.proofs.Common.{◌≡◌, ℕ, suc, ◌+◌, ◌==◌, ◌<◌, ◌≤◌, Bool, true, false, not, cond, List}
-use Rattle.std.proofs.Common.{[], ◌∷◌, length, take, drop, refl, ◌∙◌, ap, arith}
-use Rattle.std.specs.Prelude.{Some, None, position, sum_by, nat_lt}
+use Rattle.std.proofs.Common.{[], ◌∷◌, length, take, drop, refl, ◌∙◌, ap, arith, Some, None}
+use Rattle.std.proofs.Common.{position, sum_by, nat_lt, ltb-true, ltb-false, take_all}
 use Rattle.std.specs.List.{position_or_len, onto_first}
-use Rattle.std.proofs.lemmas.Bool.{ltb-true, ltb-false}
-use Rattle.std.proofs.lemmas.List.{take_all, drop_all}
+use Rattle.std.proofs.lemmas.List.{drop_all}
 use Rattle.std.proofs.lemmas.List.Sums.{sum_by-cons}
 use Rattle.script_words.specs.Lines.{lines_of}
 

@@ -1,9 +1,8 @@
 -- bytes in an array with zeros behind them, and bytes as they are shown
 use Rattle.std.proofs.Common.{◌≡◌, ℕ, ◌+◌, ◌-◌, ◌<◌, ◌≤◌, List, [], ◌∷◌, ◌++◌, length, get_or, take}
-use Rattle.std.proofs.Common.{drop, replicate, sym, ◌∙◌, ap, arith, length-append}
+use Rattle.std.proofs.Common.{drop, replicate, sym, ◌∙◌, ap, arith, length-append, length-take-le}
 use Rattle.std.proofs.Math.Seq.{take-append_seam, drop-append_seam}
-use Rattle.std.proofs.lemmas.List.{length-map, length-replicate, length-take-le}
-use Rattle.std.proofs.lemmas.List.{map_push, take_more}
+use Rattle.std.proofs.lemmas.List.{length-map, length-replicate, map_push, take_more}
 use Rattle.script_words.specs.Failures.{shown, shown_byte}
 
 -- so many zeros behind some bytes

@@ -1,6 +1,6 @@
 -- all that is said of a bad line is printable
-use Rattle.std.proofs.Common.{◌≡◌, ℕ, Bool, true, false, List, [], ◌∷◌, refl, ◌∙◌}
-use Rattle.std.specs.Prelude.{codes, if◌then◌else◌}
+use Rattle.std.proofs.Common.{◌≡◌, ℕ, Bool, true, false, List, [], ◌∷◌, refl, ◌∙◌, codes}
+use Rattle.std.proofs.Common.{if◌then◌else◌}
 use Rattle.std.specs.List.{list_all}
 use Rattle.std.proofs.lemmas.Bool.{and_from}
 use Rattle.std.proofs.lemmas.List.Folds.{list_all-append}
@@ -10,7 +10,8 @@ use Rattle.script_words.specs.declared.bad_kind.BadKind.TheVariants.{BadByte, Un
 use Rattle.script_words.specs.declared.bad_kind.BadKind.TheVariants.{UnknownName, TwiceNamed}
 use Rattle.script_words.specs.declared.bad_kind.BadKind.TheVariants.{OverLimit, Unfinished}
 use Rattle.script_words.specs.declared.fault.Fault.{Fault}
-use Rattle.script_words.specs.Failures.{phrase_of, is_printable, shown_byte, shown, about, reason_of}
+use Rattle.script_words.specs.Failures.{phrase_of, is_printable, shown_byte, shown, about}
+use Rattle.script_words.specs.Failures.{reason_of}
 
 either_is : (byte : ℕ) (test : Bool) → is_printable byte ≡ test
     → is_printable (if test then byte else 63) ≡ true

@@ -1,7 +1,6 @@
 -- statements with too few words
-use Rattle.std.proofs.Common.{◌≡◌, ℕ, ◌<◌, true, List, [], ◌∷◌, Result, Ok, Err, length, refl, subst}
-use Rattle.std.proofs.Common.{arith}
-use Rattle.std.specs.Prelude.{IfOk}
+use Rattle.std.proofs.Common.{◌≡◌, ℕ, ◌<◌, true, List, [], ◌∷◌, Result, Ok, Err, length, refl}
+use Rattle.std.proofs.Common.{subst, arith, IfOk}
 use Rattle.script_words.specs.declared.declaration.Declaration.{Declaration}
 use Rattle.script_words.specs.declared.fault.Fault.{Fault}
 use Rattle.script_words.specs.declared.line_error.LineError.{LineError}

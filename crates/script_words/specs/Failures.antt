@@ -1,6 +1,5 @@
 -- The texts of what is wrong with a line.
-use Rattle.std.specs.Prelude.{List, [], ◌∷◌, ◌++◌, ℕ, Bool, nat_le, ◌&&◌, map, codes}
-use Rattle.std.specs.Prelude.{if◌then◌else◌}
+use Rattle.std.specs.Prelude.{List, [], ◌∷◌, ◌++◌, ℕ, Bool, nat_le, ◌&&◌, map, codes, if◌then◌else◌}
 use Rattle.linx_base.specs.Failures.{no_memory_text}
 use Rattle.script_words.specs.declared.bad_kind.BadKind.{BadKind}
 use Rattle.script_words.specs.declared.bad_kind.BadKind.TheVariants.{ScriptTooLong, LineTooLong}

@@ -5,9 +5,8 @@ ghost use Rattle.std.specs.Char.{is_ascii_digit};
 ghost use Rattle.std.specs.List.{list_all};
 ghost use Rattle.script_words.specs.Limits.{digit_limit};
 ghost use Rattle.script_words.specs.Gives.{Gives};
-ghost use Rattle.script_words.specs.Numbers.{decimal_of, number_spelled, is_within, number_in, within};
-ghost use Rattle.script_words.specs.Numbers.{any_number};
-ghost use Rattle.script_words.specs.Numbers.{numbers_of, number_or};
+ghost use Rattle.script_words.specs.Numbers.{decimal_of, number_spelled, is_within, number_in};
+ghost use Rattle.script_words.specs.Numbers.{within, any_number, numbers_of, number_or};
 
 use crate::line_error::{LineError, bad_shape};
 use linx_base::Sequence;

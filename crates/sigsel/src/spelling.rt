@@ -1,5 +1,4 @@
-ghost use Rattle.std.specs.Prelude.{◌≡◌, false, true, IsTrue, IfOk, IfErr, map};
-ghost use Rattle.std.specs.Prelude.{pos};
+ghost use Rattle.std.specs.Prelude.{◌≡◌, false, true, IsTrue, IfOk, IfErr, map, pos};
 ghost use Rattle.std.specs.List.{list_all};
 ghost use Rattle.sigsel.specs.Spelling.{spelling_of, IsCounted, has_count, is_number};
 ghost use Rattle.sigsel.specs.Spelling.{lists_numbers};

@@ -1,20 +1,17 @@
 -- What a call on one chunk does to the elements of all.
-use Rattle.std.proofs.Common.{◌≡◌, ℕ, zero, suc, ◌+◌, ◌-◌, ◌<◌, ◌≤◌, Bool, true, false, List}
-use Rattle.std.proofs.Common.{[], ◌∷◌, ◌++◌, length, get_or, set, take, drop, refl, ap, sym, subst}
-use Rattle.std.proofs.Common.{◌∙◌, ◌==◌, arith, add-one, ◌⊎◌, inl, inr, append_assoc}
-use mathlib.Core.Bool.{true≢false}
-use Rattle.std.specs.Prelude.{slice_get}
-use Rattle.std.specs.List.{AllByRecursion, insert, remove}
+use Rattle.std.proofs.Common.{◌≡◌, ℕ, zero, suc, ◌+◌, ◌-◌, ◌<◌, ◌≤◌, Bool, true, false, List, []}
+use Rattle.std.proofs.Common.{◌∷◌, ◌++◌, length, get_or, set, take, drop, refl, ap, sym, subst, ◌∙◌}
+use Rattle.std.proofs.Common.{◌==◌, arith, add-one, ◌⊎◌, inl, inr, append_assoc, true≢false}
+use Rattle.std.proofs.Common.{slice_get, insert, remove, Ordering, Less, Equal, Greater, is_ge}
+use Rattle.std.proofs.Common.{is_le, length-set, length-drop, get_or-set_same}
+use Rattle.std.specs.List.{AllByRecursion}
 use Rattle.std.specs.List.Sorted.{IsPartitionPoint, IsPartitionedBy}
-use Rattle.std.specs.declared.cmp.Ordering.{Ordering}
-use Rattle.std.specs.declared.cmp.Ordering.TheVariants.{Less, Equal, Greater}
-use Rattle.std.specs.Ordering.{is_ge, is_le, match_ordering}
+use Rattle.std.specs.Ordering.{match_ordering}
 use Rattle.std.specs.Cmp.{IsTotalOrder}
 use Rattle.std.specs.BTreeMap.{is_at}
 use Rattle.std.specs.BTreeSet.{insert_key}
 use Rattle.std.specs.Set.{remove_key}
-use Rattle.std.proofs.lemmas.List.{set_split, drop_all, drop_more, length-set, length-drop}
-use Rattle.std.proofs.lemmas.List.{get_or-set_same}
+use Rattle.std.proofs.lemmas.List.{set_split, drop_all, drop_more}
 use Rattle.std.proofs.lemmas.List.Concat.{flat_map-append}
 use Rattle.std.proofs.lemmas.List.Elements.{filter-append}
 use Rattle.sorted_set.specs.Sorted.{Ascends, elements_from, AreBelow, AreAbove}
@@ -23,8 +20,7 @@ use Rattle.sorted_set.proofs.Placing.{insert_key-below, insert_key-middle, remov
 use Rattle.sorted_set.proofs.Placing.{remove_key-middle, elements_from-below, elements_from-above}
 use Rattle.sorted_set.proofs.Placing.{all-append, all-map, ascends-front, ascends-back}
 use Rattle.sorted_set.proofs.Placing.{ascends-before, split_at, turned_less, turned_greater}
-use Rattle.sorted_set.proofs.Placing.{below_equal, ascends-insert_key}
-use Rattle.sorted_set.proofs.Placing.{ascends-remove_key}
+use Rattle.sorted_set.proofs.Placing.{below_equal, ascends-insert_key, ascends-remove_key}
 
 -- CHUNKS IN PARTS: those before a place, the one there, and those after it
 module _ {X : Type 0} where

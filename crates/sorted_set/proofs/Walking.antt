@@ -1,7 +1,6 @@
 -- A walk over the elements of chunks.
 use Rattle.std.proofs.Common.{◌≡◌, ℕ, zero, suc, ◌<◌, List, [], ◌∷◌, ◌++◌, length, drop, refl, sym}
-use Rattle.std.proofs.Common.{ap, ◌∙◌, subst, arith}
-use Rattle.std.specs.Prelude.{Some, None, slice_get}
+use Rattle.std.proofs.Common.{ap, ◌∙◌, subst, arith, Some, None, slice_get}
 use Rattle.sorted_set.specs.Chunks.{AreFilled, IsReady, joined}
 
 module _ {X : Type 0} where

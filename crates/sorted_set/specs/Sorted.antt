@@ -1,5 +1,4 @@
-use Rattle.std.specs.Prelude.{◌≡◌, List, [], ◌∷◌, filter}
-use Rattle.std.specs.Prelude.{⊤}
+use Rattle.std.specs.Prelude.{◌≡◌, List, [], ◌∷◌, filter, ⊤}
 use Rattle.std.specs.List.{AllByRecursion}
 use Rattle.std.specs.declared.cmp.Ordering.{Ordering}
 use Rattle.std.specs.declared.cmp.Ordering.TheVariants.{Less, Greater}

@@ -1,8 +1,7 @@
 //! What an actor asks for, on a fabric that is at hand: the step, and after a settle the steps that
 //! settle the link.
 
-ghost use Rattle.std.specs.Prelude.{◌≡◌, true, false, is_some, None, IfOk, IfErr, OnOk};
-ghost use Rattle.std.specs.Prelude.{OnErr, Err};
+ghost use Rattle.std.specs.Prelude.{◌≡◌, true, false, is_some, None, IfOk, IfErr, OnOk, OnErr, Err};
 ghost use Rattle.journal.specs.Laws.{IsMaker};
 ghost use Rattle.journal.specs.Logs.{is_full};
 ghost use Rattle.journal.specs.declared.by.By.TheVariants.{Actor};

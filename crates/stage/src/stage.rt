@@ -15,11 +15,9 @@ ghost use Rattle.stage.specs.Seats.{IsStaged, unstarted};
 ghost use Rattle.stage.specs.Settlings.{settler_in};
 ghost use Rattle.stage.specs.Stops.{IsCauseOf};
 ghost use Rattle.stage.specs.Turns.{AreRounds, AreTurns, IsBehind, IsDueForActor, IsDueForLink};
-ghost use Rattle.stage.specs.Turns.{IsFullForActor, IsFullForLink};
-ghost use Rattle.stage.specs.Turns.{IsPump, IsRound, IsTurnOf};
-ghost use Rattle.stage.specs.Turns.{IsStoppedRound, IsStoppedRun, IsTurn};
-ghost use Rattle.stage.specs.Turns.{IsTurnStopped};
-ghost use Rattle.stage.specs.Turns.{IsWhole, first_layout, is_over, makers, shape_of};
+ghost use Rattle.stage.specs.Turns.{IsFullForActor, IsFullForLink, IsPump, IsRound, IsTurnOf};
+ghost use Rattle.stage.specs.Turns.{IsStoppedRound, IsStoppedRun, IsTurn, IsTurnStopped, IsWhole};
+ghost use Rattle.stage.specs.Turns.{first_layout, is_over, makers, shape_of};
 
 use crate::acting::{is_settling, unsettled};
 use crate::player::{Player, turn_of};

@@ -1,11 +1,10 @@
 -- Tests that hold of all bytes of a list.
 use Rattle.std.proofs.Common.{◌≡◌, ℕ, zero, suc, ◌+◌, ◌<◌, Bool, true, false, cond, not, List, []}
-use Rattle.std.proofs.Common.{◌∷◌}
-use Rattle.std.proofs.Common.{◌++◌, refl, sym, ap, ◌∙◌, arith, flat_map}
-use Rattle.std.specs.Prelude.{◌==◌, ◌/◌, ◌%◌, decimal}
+use Rattle.std.proofs.Common.{◌∷◌, ◌++◌, refl, sym, ap, ◌∙◌, arith, flat_map, ◌==◌, ◌/◌, ◌%◌}
+use Rattle.std.proofs.Common.{decimal, eqb-true, lt-ltb}
 use Rattle.std.specs.Fmt.{digits, digits_onto, digit_glyph}
 use Rattle.std.specs.List.{list_all}
-use Rattle.std.proofs.lemmas.Bool.{and_from, and_parts, eqb-true, lt-ltb}
+use Rattle.std.proofs.lemmas.Bool.{and_from, and_parts}
 
 -- none of the bytes is c
 abbrev pub lacks : ℕ → List ℕ → Bool

@@ -1,7 +1,6 @@
 -- THE TREE OF A PICTURE MAY STAND IN A DOCUMENT: its names are names, no element has two attributes
 -- of one name, values are plain, and texts are characters.
-use Rattle.std.proofs.Common.{◌≡◌, ℕ, Bool, true, List, [], ◌∷◌, ◌++◌, refl}
-use Rattle.std.specs.Prelude.{◌&&◌, codes}
+use Rattle.std.proofs.Common.{◌≡◌, ℕ, Bool, true, List, [], ◌∷◌, ◌++◌, refl, ◌&&◌, codes}
 use Rattle.std.specs.List.{list_all}
 use Rattle.std.proofs.lemmas.Bool.{and_from, and_parts}
 use Rattle.svg_text.specs.declared.picture.Picture.{Picture}

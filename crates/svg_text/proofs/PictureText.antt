@@ -1,7 +1,6 @@
 -- THE TEXT OF A PICTURE IS THE DOCUMENT OF ITS TREE.
 use Rattle.std.proofs.Common.{◌≡◌, ℕ, List, [], ◌∷◌, ◌++◌, refl, sym, ap, ◌∙◌, flat_map}
-use Rattle.std.proofs.Common.{append_assoc}
-use Rattle.std.specs.Prelude.{codes, decimal}
+use Rattle.std.proofs.Common.{append_assoc, codes, decimal}
 use Rattle.std.proofs.lemmas.Grind.{flat_map-append}
 use Rattle.svg_text.specs.declared.class.Class.{Class}
 use Rattle.svg_text.specs.declared.picture.Picture.{Picture}

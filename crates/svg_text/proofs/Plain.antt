@@ -1,13 +1,12 @@
 -- WHAT A PICTURE WRITES IS PLAIN: its numbers, classes, paths and style sheet have no character
 -- with a meaning of its own; and what words show is characters.
 use Rattle.std.proofs.Common.{◌≡◌, ℕ, ◌+◌, ◌<◌, ◌≤◌, Bool, true, false, cond, not, List, [], ◌∷◌}
-use Rattle.std.proofs.Common.{◌++◌}
-use Rattle.std.proofs.Common.{refl, ap, ◌∙◌, arith, flat_map, append-nil}
-use Rattle.std.specs.Prelude.{◌&&◌, ◌==◌, ◌/◌, ◌%◌, nat_le, nat_lt, codes, decimal}
+use Rattle.std.proofs.Common.{◌++◌, refl, ap, ◌∙◌, arith, flat_map, append-nil, ◌&&◌, ◌==◌, ◌/◌}
+use Rattle.std.proofs.Common.{◌%◌, nat_le, nat_lt, codes, decimal, ne_eqb, le-leb, ltb-true}
+use Rattle.std.proofs.Common.{true≢false}
 use Rattle.std.specs.Fmt.{digit_glyph}
 use Rattle.std.specs.List.{list_all}
-use Rattle.std.proofs.lemmas.Bool.{and_from, and_parts, or_right, ne_eqb, le-leb, ltb-true}
-use Rattle.std.proofs.lemmas.Bool.{true≢false}
+use Rattle.std.proofs.lemmas.Bool.{and_from, and_parts, or_right}
 use Rattle.std.proofs.lemmas.Grind.{flat_map-append}
 use Rattle.svg_text.specs.declared.class.Class.{Class}
 use Rattle.svg_text.specs.declared.class.Class.TheVariants.{Node}

@@ -1,10 +1,8 @@
 -- A DOCUMENT READ AGAIN: elements that may stand in a document are read back as they were.
-use Rattle.std.proofs.Common.{◌≡◌, ℕ, true, List, [], ◌∷◌, ◌++◌, refl, sym, ap, ◌∙◌}
-use Rattle.std.proofs.Common.{map, flat_map, Option, Some, None, append_assoc, append-nil}
-use Rattle.std.specs.Prelude.{codes}
+use Rattle.std.proofs.Common.{◌≡◌, ℕ, true, List, [], ◌∷◌, ◌++◌, refl, sym, ap, ◌∙◌, map, flat_map}
+use Rattle.std.proofs.Common.{Option, Some, None, append_assoc, append-nil, codes, bytes_eq, eq-eqb}
 use Rattle.std.specs.List.{list_all}
-use Rattle.std.specs.Str.{bytes_eq}
-use Rattle.std.proofs.lemmas.Bool.{and_from, and_parts, eq-eqb, cond-true}
+use Rattle.std.proofs.lemmas.Bool.{and_from, and_parts, cond-true}
 use Rattle.svg_text.specs.Reading.{of_both, put_first, cut_at, text_in, token_with, token_in}
 use Rattle.svg_text.specs.Reading.{tokens_in, Closed, Nested, opened, with_token, nested_in}
 use Rattle.svg_text.specs.Reading.{whole_in, content_of, content_in, read}

@@ -1,10 +1,8 @@
 -- THE TEXT OF A PICTURE IS SHORT: linear in its shapes, rows, strokes and words.
 use Rattle.std.proofs.Common.{◌≡◌, ℕ, zero, suc, ◌+◌, ◌*◌, ◌≤◌, Bool, true, false, cond, List, []}
-use Rattle.std.proofs.Common.{◌∷◌}
-use Rattle.std.proofs.Common.{◌++◌, length, refl, arith, length-append}
-use Rattle.std.specs.Prelude.{◌==◌, ◌/◌, ◌%◌, nat_le, codes, decimal}
+use Rattle.std.proofs.Common.{◌∷◌, ◌++◌, length, refl, arith, length-append, ◌==◌, ◌/◌, ◌%◌, nat_le}
+use Rattle.std.proofs.Common.{codes, decimal, leb-true}
 use Rattle.std.specs.Fmt.{digits, digits_onto, digit_glyph}
-use Rattle.std.proofs.lemmas.Bool.{leb-true}
 use Rattle.svg_text.specs.declared.class.Class.{Class}
 use Rattle.svg_text.specs.declared.class.Class.TheVariants.{Node}
 use Rattle.svg_text.specs.declared.picture.Picture.{Picture}

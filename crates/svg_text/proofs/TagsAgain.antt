@@ -1,8 +1,7 @@
 -- TAGS READ AGAIN: a tag is read back as it was, and has no angle in it.
 use Rattle.std.proofs.Common.{◌≡◌, ℕ, Bool, true, false, cond, not, List, [], ◌∷◌, ◌++◌, refl, sym}
-use Rattle.std.proofs.Common.{ap}
-use Rattle.std.proofs.Common.{◌∙◌, flat_map, Option, Some, None, append_assoc, append-nil}
-use Rattle.std.specs.Prelude.{◌&&◌, ◌==◌, codes}
+use Rattle.std.proofs.Common.{ap, ◌∙◌, flat_map, Option, Some, None, append_assoc, append-nil, ◌&&◌}
+use Rattle.std.proofs.Common.{◌==◌, codes}
 use Rattle.std.specs.List.{list_all}
 use Rattle.std.proofs.lemmas.Bool.{and_from, and_parts, false≢true, cond-true}
 use Rattle.svg_text.specs.Reading.{Parts, cut_at, last_parts, put_attribute, with_key, with_value}

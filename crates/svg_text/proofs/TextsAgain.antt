@@ -1,10 +1,9 @@
 -- TEXTS READ AGAIN: a text is read back as it was, and has no angle in it.
 use Rattle.std.proofs.Common.{◌≡◌, ℕ, Bool, true, false, cond, not, List, [], ◌∷◌, ◌++◌, refl, sym}
-use Rattle.std.proofs.Common.{ap}
-use Rattle.std.proofs.Common.{◌∙◌, flat_map, Option, Some, None}
-use Rattle.std.specs.Prelude.{◌&&◌, ◌==◌, codes}
+use Rattle.std.proofs.Common.{ap, ◌∙◌, flat_map, Option, Some, None, ◌&&◌, ◌==◌, codes, eqb-true}
+use Rattle.std.proofs.Common.{true≢false}
 use Rattle.std.specs.List.{list_all}
-use Rattle.std.proofs.lemmas.Bool.{and_parts, eqb-true, false≢true, true≢false}
+use Rattle.std.proofs.lemmas.Bool.{and_parts, false≢true}
 use Rattle.svg_text.specs.Reading.{of_both, put_first, text_in}
 use Rattle.svg_text.specs.Xml.{is_character, is_plain, character_text}
 use Rattle.svg_text.proofs.Bytes.{lacks, all_flat_map}

@@ -1,8 +1,7 @@
 //! How bytes, numbers and words are written. What is written goes to the end of a buffer; after a
 //! refusal the buffer holds some front of it, which the callers throw away.
-ghost use Rattle.std.specs.Prelude.{◌≡◌, ◌++◌, ◌∷◌, [], flat_map, decimal, OnOk};
+ghost use Rattle.std.specs.Prelude.{◌≡◌, ◌++◌, ◌∷◌, [], flat_map, decimal, OnOk, ◌<◌, false};
 ghost use Rattle.std.specs.Fmt.{digit_glyph};
-ghost use Rattle.std.specs.Prelude.{◌<◌, false};
 ghost use Rattle.svg_text.specs.Xml.{character_text, is_character};
 ghost use Rattle.svg_text.specs.Texts.{anchor_text};
 ghost use Rattle.svg_text.specs.Words.{has_character, numbered, byte_text, words_text, point_text};

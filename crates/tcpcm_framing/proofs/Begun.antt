@@ -1,10 +1,12 @@
 -- Where bytes have a shortest frame, they begin it.
-use Rattle.std.proofs.Common.{◌≡◌, ℕ, zero, suc, ◌+◌, ◌^◌, ◌-◌, ◌<◌, ◌≤◌, ◌⊎◌, inl, inr, Bool, true, false, List, [], ◌∷◌, ◌++◌}
-use Rattle.std.proofs.Common.{length, take, drop, replicate, slice_index, Option, Some, refl, sym, ap, ◌∙◌, subst, arith, ltb, eqb}
-use Rattle.std.specs.Prelude.{None, if◌then◌else◌, ◌&&◌, ◌||◌, nat_le}
-use Rattle.std.proofs.lemmas.Bool.{cases_lt, eqb-true, ltb-true, leb-true}
-use Rattle.std.proofs.lemmas.List.{take_all, take_at, take-take, take-append-le, take-append-drop}
-use Rattle.std.proofs.lemmas.List.{length-append, length-take-le, length-replicate, length-drop}
+use Rattle.std.proofs.Common.{◌≡◌, ℕ, zero, suc, ◌+◌, ◌^◌, ◌-◌, ◌<◌, ◌≤◌, ◌⊎◌, inl, inr, Bool, true}
+use Rattle.std.proofs.Common.{false, List, [], ◌∷◌, ◌++◌, length, take, drop, replicate}
+use Rattle.std.proofs.Common.{slice_index, Option, Some, refl, sym, ap, ◌∙◌, subst, arith, ltb, eqb}
+use Rattle.std.proofs.Common.{None, if◌then◌else◌, ◌&&◌, ◌||◌, nat_le, eqb-true, ltb-true, leb-true}
+use Rattle.std.proofs.Common.{take_all, take_at, take-take, take-append-drop, length-append}
+use Rattle.std.proofs.Common.{length-take-le, length-drop}
+use Rattle.std.proofs.lemmas.Bool.{cases_lt}
+use Rattle.std.proofs.lemmas.List.{take-append-le, length-replicate}
 use Rattle.std.proofs.Math.Seq.{take-append-add}
 use Rattle.byteorder.specs.Endian.{big_bytes, big_number}
 use Rattle.byteorder.specs.Numbers.{big_from-lt}

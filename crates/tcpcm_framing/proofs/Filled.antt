@@ -1,8 +1,7 @@
 -- A header as far as it has come, and zeros behind it.
-use Rattle.std.proofs.Common.{◌≡◌, ℕ, zero, suc, ◌<◌, ◌≤◌, min, List, [], ◌∷◌, ◌++◌, length, take, drop, replicate}
-use Rattle.std.proofs.Common.{slice_index, refl, ap, ◌∙◌, sym, arith}
+use Rattle.std.proofs.Common.{◌≡◌, ℕ, zero, suc, ◌<◌, ◌≤◌, min, List, [], ◌∷◌, ◌++◌, length, take}
+use Rattle.std.proofs.Common.{drop, replicate, slice_index, refl, ap, ◌∙◌, sym, arith, take_all}
 use Rattle.std.specs.Bool.{⊤}
-use Rattle.std.proofs.lemmas.List.{take_all}
 use Rattle.tcpcm_framing.specs.Shortest.{filled, header_in}
 
 zeros_left : (n : ℕ) → replicate n 0 ≡ filled n []

@@ -1,8 +1,7 @@
 -- What bytes begin with, by their shortest frame.
-use Rattle.std.proofs.Common.{◌≡◌, ℕ, ◌<◌, ◌≤◌, inl, inr, List, ◌++◌, length, take, drop, slice_index}
-use Rattle.std.proofs.Common.{Option, Some, sym, ap, ◌∙◌, arith}
-use Rattle.std.specs.Prelude.{None}
-use Rattle.std.proofs.lemmas.List.{take_all, take-append-drop, length-drop, length-take-le}
+use Rattle.std.proofs.Common.{◌≡◌, ℕ, ◌<◌, ◌≤◌, inl, inr, List, ◌++◌, length, take, drop}
+use Rattle.std.proofs.Common.{slice_index, Option, Some, sym, ap, ◌∙◌, arith, None, take_all}
+use Rattle.std.proofs.Common.{take-append-drop, length-drop, length-take-le}
 use Rattle.request_stream.specs.Fronts.{BeginsWith, BeginsNone, GoesOn}
 use Rattle.tcpcm_frames.specs.Frames.{IsSpelled, spelling_of}
 use Rattle.tcpcm_framing.specs.Shortest.{header_in, shortest_of}

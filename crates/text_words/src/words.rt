@@ -1,7 +1,8 @@
 //! What a word is, where it is cut, and the words of a line.
 ghost use Rattle.std.specs.Prelude.{◌≡◌, ◌==◌, map, position, option_map, IfOk};
 ghost use Rattle.std.specs.Str.{bytes_eq};
-ghost use Rattle.text_words.specs.Words.{after, alone, but_last, cut_at, last_of, only, parts_at, words_of};
+ghost use Rattle.text_words.specs.Words.{after, alone, but_last, cut_at, last_of, only, parts_at};
+ghost use Rattle.text_words.specs.Words.{words_of};
 ghost use Rattle.text_words.specs.Gives.{Gives};
 
 use crate::read_error::ReadError;

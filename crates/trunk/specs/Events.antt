@@ -1,8 +1,7 @@
 -- What each event makes of the two sides of a trunk: of the link, of the RLNH ends, and of what is
 -- recorded of both sides. What is heard is given beside an event that hands a message up: a message
 -- has one reading.
-use Rattle.std.specs.Prelude.{ℕ, Bool, if◌then◌else◌, List, [], ◌∷◌, ◌++◌, ◌≤◌}
-use Rattle.std.specs.Prelude.{is_some, slice_get}
+use Rattle.std.specs.Prelude.{ℕ, Bool, if◌then◌else◌, List, [], ◌∷◌, ◌++◌, ◌≤◌, is_some, slice_get}
 use Rattle.linx_base.specs.Numbers.{first_session, next_session}
 use Rattle.linx_base.specs.Sides.{other_of}
 use Rattle.linx_base.specs.declared.frame.Message.{Message}

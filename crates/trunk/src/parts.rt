@@ -22,8 +22,7 @@ ghost use Rattle.trunk.specs.Events.{new_trunk, side_of, tables_of, taken_out, t
 ghost use Rattle.trunk.specs.Events.{kept_of, lost_from, swapped_from, with_link};
 ghost use Rattle.trunk.specs.Publishing.{newest_unpublished};
 ghost use Rattle.trunk.specs.Parts.{HasOnlyGrownAt, offers_to, sends_at, side_begins, side_ends};
-ghost use Rattle.trunk.specs.Parts.{side_hears};
-ghost use Rattle.trunk.specs.Parts.{side_says, with_side};
+ghost use Rattle.trunk.specs.Parts.{side_hears, side_says, with_side};
 
 use crate::half::Half;
 use crate::up::TrunkUp;

@@ -1,5 +1,5 @@
-ghost use Rattle.std.specs.Prelude.{◌≡◌, ◌≢◌, ◌≤◌, ◌<◌, true, ◌&&◌, length, map, IfOk, IsOk, OnOk, OnErr};
-ghost use Rattle.std.specs.Prelude.{None, [], ◌∷◌};
+ghost use Rattle.std.specs.Prelude.{◌≡◌, ◌≢◌, ◌≤◌, ◌<◌, true, ◌&&◌, length, map, IfOk, IsOk, OnOk};
+ghost use Rattle.std.specs.Prelude.{OnErr, None, [], ◌∷◌};
 ghost use Rattle.linx_base.specs.declared.identity.Side.{Side as AnySide};
 ghost use Rattle.linx_base.specs.Both.{still};
 ghost use Rattle.linx_base.specs.Numbers.{boot_of, first_session};

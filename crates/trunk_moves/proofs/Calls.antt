@@ -1,11 +1,9 @@
 -- What a call at a side of a trunk, and a restart of it, makes of the sides that a run of moves
 -- sees.
-use Rattle.std.proofs.Common.{◌≡◌, ◌≢◌, ◌≤◌, ℕ, Bool, true, false, cond, ◌&&◌, ◌||◌, List, []}
-use Rattle.std.proofs.Common.{◌∷◌, Option}
-use Rattle.std.proofs.Common.{Some, None, map, refl, sym, ◌∙◌, ap, subst, arith}
-use Rattle.std.specs.Prelude.{◌==◌, is_some}
+use Rattle.std.proofs.Common.{◌≡◌, ◌≢◌, ◌≤◌, ℕ, Bool, true, false, cond, ◌&&◌, ◌||◌, List, [], ◌∷◌}
+use Rattle.std.proofs.Common.{Option, Some, None, map, refl, sym, ◌∙◌, ap, subst, arith, ◌==◌}
+use Rattle.std.proofs.Common.{is_some, bytes_eq}
 use Rattle.std.specs.List.{list_any}
-use Rattle.std.specs.Str.{bytes_eq}
 use Rattle.linx_base.specs.FirstMatch.{without_match}
 use Rattle.linx_base.specs.Numbers.{first_session}
 use Rattle.linx_base.specs.Sides.{other_of}
@@ -21,12 +19,12 @@ use Rattle.trunk_record.specs.Records.{SideRecord}
 use Rattle.trunk_record.specs.Sayings.{asked, heard_as, is_live, published, unpublished}
 use Rattle.trunk_record.specs.Trunks.{IsHalf}
 use Rattle.link_laws.specs.Moves.{Begins, ClosesAt, IsLeft, KeepsNotes, PublishesOpened, is_up}
-use Rattle.link_laws.proofs.Names.{bytes_eq-is, bytes_eq-itself}
+use Rattle.link_laws.proofs.Endpoints.Names.{bytes_eq-is, bytes_eq-itself}
 use Rattle.trunk.specs.Events.{TrunkSide, TrunkState, asked_at, closed_at, kept_of, opened_at}
 use Rattle.trunk.specs.Events.{restarted_at, said_at, sent_at, side_of}
 use Rattle.trunk.specs.Keeping.{KeepsTrunk}
 use Rattle.trunk.specs.Tells.{noted_of, silent_of}
-use Rattle.trunk.proofs.Trunks.{events_tell, trunk_record}
+use Rattle.trunk.proofs.EachEvent.Trunks.{events_tell, trunk_record}
 use Rattle.trunk_moves.specs.Trunks.{state_of}
 
 -- ---- lists of names

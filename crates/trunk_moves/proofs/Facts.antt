@@ -1,11 +1,10 @@
 -- What a run so far tells of the endpoints, names and sessions that its next step hands to trunks:
 -- that they may be handed there.
-use Rattle.std.proofs.Common.{◌≡◌, ◌≤◌, ◌<◌, ◌+◌, ℕ, suc, Bool, true, false, cond}
-use Rattle.std.proofs.Common.{inl, inr, List, [], ◌∷◌, ◌++◌, Option, Some, None, length}
-use Rattle.std.proofs.Common.{refl, sym, ◌∙◌, ap, subst, arith}
-use Rattle.std.specs.Prelude.{◌==◌, ◌||◌, not, IsTrue}
-use Rattle.std.specs.List.{list_any, filter_map, AllByRecursion}
-use Rattle.std.proofs.lemmas.Bool.{eqb-true, false_from_ne_true, or_cases, true≢false}
+use Rattle.std.proofs.Common.{◌≡◌, ◌≤◌, ◌<◌, ◌+◌, ℕ, suc, Bool, true, false, cond, inl, inr, List}
+use Rattle.std.proofs.Common.{[], ◌∷◌, ◌++◌, Option, Some, None, length, refl, sym, ◌∙◌, ap, subst}
+use Rattle.std.proofs.Common.{arith, ◌==◌, ◌||◌, not, IsTrue, filter_map, eqb-true, true≢false}
+use Rattle.std.specs.List.{list_any, AllByRecursion}
+use Rattle.std.proofs.lemmas.Bool.{false_from_ne_true, or_cases}
 use Rattle.std.proofs.lemmas.List.Elements.{filter_map-append}
 use Rattle.std.proofs.lemmas.List.Folds.{list_any-append}
 use Rattle.linx_base.specs.NameText.{is_name}
@@ -45,14 +44,14 @@ use Rattle.link_laws.specs.Fits.{CanSend}
 use Rattle.link_laws.specs.Linked.{IsLinked}
 use Rattle.link_laws.specs.Runs.{IsRun, IsSoundRun}
 use Rattle.link_laws.specs.Sessions.{boots, downs, ends_session, own_session, restarts}
-use Rattle.link_laws.proofs.Brings.{published-opened, unpublished-closed}
-use Rattle.link_laws.proofs.Fresh.{opens-new, step-opens}
-use Rattle.link_laws.proofs.LivingPeers.{alive-known, open-not_unpublished}
-use Rattle.link_laws.proofs.Opened.{both_true, open-on, open-opened, opened-any}
-use Rattle.link_laws.proofs.Places.{opened_on-few}
+use Rattle.link_laws.proofs.Sides.Brings.{published-opened, unpublished-closed}
+use Rattle.link_laws.proofs.Endpoints.Fresh.{opens-new, step-opens}
+use Rattle.link_laws.proofs.Peers.Living.{alive-known, open-not_unpublished}
+use Rattle.link_laws.proofs.Endpoints.OpenAfterStep.{both_true, open-on, open-opened, opened-any}
+use Rattle.link_laws.proofs.Endpoints.Places.{opened_on-few}
 use Rattle.trunk.specs.Events.{TrunkState, kept_of, side_of}
 use Rattle.trunk.specs.Laws.{MayPublish}
-use Rattle.trunk.proofs.Trunks.{agree}
+use Rattle.trunk.proofs.EachEvent.Trunks.{agree}
 use Rattle.trunk_moves.specs.Grants.{AreNames}
 use Rattle.linx_base.specs.Pending.{name_over}
 use Rattle.trunk_moves.specs.Packets.{names_hunted}

@@ -1,11 +1,8 @@
 -- Calls and restarts at the sides of a node are moves, and keep every trunk.
-use Rattle.std.proofs.Common.{◌≡◌, ◌≤◌, ℕ, suc, Bool, true, false, cond, ◌&&◌, List, []}
-use Rattle.std.proofs.Common.{◌∷◌, Option}
-use Rattle.std.proofs.Common.{Some, None, length, refl, sym, ◌∙◌, ap, subst}
-use Rattle.std.specs.Prelude.{◌==◌, ◌+◌, IsTrue}
+use Rattle.std.proofs.Common.{◌≡◌, ◌≤◌, ℕ, suc, Bool, true, false, cond, ◌&&◌, List, [], ◌∷◌}
+use Rattle.std.proofs.Common.{Option, Some, None, length, refl, sym, ◌∙◌, ap, subst, ◌==◌, ◌+◌}
+use Rattle.std.proofs.Common.{IsTrue, bytes_eq, eq-eqb}
 use Rattle.std.specs.List.{list_any}
-use Rattle.std.specs.Str.{bytes_eq}
-use Rattle.std.proofs.lemmas.Bool.{eq-eqb}
 use Rattle.linx_base.specs.NameText.{is_name}
 use Rattle.linx_base.specs.Numbers.{first_session}
 use Rattle.linx_base.specs.Sides.{other_of}
@@ -40,12 +37,12 @@ use Rattle.link_laws.specs.Moves.{AsksOver, Closes, ClosesAt, IsLeft, Opens, Ope
 use Rattle.link_laws.specs.Moves.{Restarts, RestartsAt, SendsOver}
 use Rattle.link_laws.specs.Moves as moves
 use Rattle.link_laws.specs.Sessions.{boots}
-use Rattle.link_laws.proofs.Makers.{maker-open}
+use Rattle.link_laws.proofs.Endpoints.Makers.{maker-open}
 use Rattle.trunk.specs.Events.{TrunkState, asked_at, closed_at, kept_of, opened_at, restarted_at}
 use Rattle.trunk.specs.Events.{sent_at}
 use Rattle.trunk.specs.Keeping.{KeepsTrunk}
 use Rattle.trunk.specs.Tells.{noted_of, silent_of}
-use Rattle.trunk.proofs.Events.{events_keep}
+use Rattle.trunk.proofs.EachEvent.BothSides.{events_keep}
 use Rattle.trunk_moves.specs.Steps.{AsksThere, HuntMakes, SendMakes, SendsThere, trunks_ending}
 use Rattle.trunk_moves.specs.Steps.{trunks_opening, trunks_restarting}
 use Rattle.trunk_moves.specs.Trunks.{AllKept, AllUseUpTo, Become, RunTrunks, UsesUpTo, links_of}
@@ -56,8 +53,7 @@ use Rattle.trunk_moves.proofs.Calls.{side_restarted}
 use Rattle.trunk_moves.proofs.Facts.{IsKnown, boots_later, new_may, new_not_live, open_may}
 use Rattle.trunk_moves.proofs.Facts.{peer_sent, sent_lives, short}
 use Rattle.trunk_moves.proofs.Sides.{all_left, each_side, each_trunk, is_trunk, one_trunk}
-use Rattle.trunk_moves.proofs.Sides.{others_left}
-use Rattle.trunk_moves.proofs.Sides.{trunks_stay}
+use Rattle.trunk_moves.proofs.Sides.{others_left, trunks_stay}
 use Rattle.trunk_moves.proofs.Used.{asked_uses, closed_uses, opened_uses, restarted_uses, sent_uses}
 use Rattle.trunk_moves.proofs.Used.{up_to_more}
 

@@ -1,9 +1,7 @@
 -- Packets and ticks are moves, and keep every trunk.
 use Rattle.std.proofs.Common.{◌≡◌, ◌<◌, ℕ, suc, Bool, true, false, cond, List, [], ◌∷◌, Option}
-use Rattle.std.proofs.Common.{Some, None, length, refl, sym, ◌∙◌, ap, subst, arith}
-use Rattle.std.specs.Prelude.{◌-◌, ◌==◌, nat_lt, IsTrue}
-use Rattle.std.specs.Str.{bytes_eq}
-use Rattle.std.proofs.lemmas.Bool.{eq-eqb}
+use Rattle.std.proofs.Common.{Some, None, length, refl, sym, ◌∙◌, ap, subst, arith, ◌-◌, ◌==◌}
+use Rattle.std.proofs.Common.{nat_lt, IsTrue, bytes_eq, eq-eqb}
 use Rattle.std.proofs.lemmas.Bool.Decides.{nat_tests}
 use Rattle.linx_base.specs.NameText.{is_name}
 use Rattle.linx_base.specs.Sides.{other_of}
@@ -30,7 +28,7 @@ use Rattle.link_laws.specs.Moves.{Delivers, IsLeft, IsResting}
 use Rattle.link_laws.specs.Laws.{delivers}
 use Rattle.link_laws.specs.Moves as moves
 use Rattle.link_laws.specs.Sessions.{LosesIfCut}
-use Rattle.link_laws.proofs.Names.{bytes_eq-is}
+use Rattle.link_laws.proofs.Endpoints.Names.{bytes_eq-is}
 use Rattle.trunk.specs.declared.up.TrunkUp.{TrunkUp}
 use Rattle.trunk.specs.declared.up.TrunkUp.TheVariants.{Nothing, WentUp, WentDown, Arrived, Met}
 use Rattle.trunk.specs.declared.up.TrunkUp.TheVariants.{Gone, Asked}
@@ -39,9 +37,9 @@ use Rattle.trunk.specs.Events.{side_of, swapped_from, ticked_at, told_by}
 use Rattle.trunk.specs.Keeping.{KeepsTrunk}
 use Rattle.trunk.specs.Laws.{MayPublish}
 use Rattle.trunk.specs.Tells.{IsGiven, TellsSide}
-use Rattle.trunk.proofs.Events.{events_keep}
-use Rattle.trunk.proofs.Quiet.{quiet}
-use Rattle.trunk.proofs.Trunks.{events_tell}
+use Rattle.trunk.proofs.EachEvent.BothSides.{events_keep}
+use Rattle.trunk.proofs.EachEvent.Quiet.{quiet}
+use Rattle.trunk.proofs.EachEvent.Trunks.{events_tell}
 use Rattle.trunk_moves.specs.Grants.{AreNames}
 use Rattle.trunk_moves.specs.Packets.{Comes, IsBeat, IsLostThere, IsSwapped, Meets, answered}
 use Rattle.trunk_moves.specs.Packets.{asks_for, names_hunted, place_of, publishes_if}

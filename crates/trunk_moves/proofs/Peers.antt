@@ -17,7 +17,7 @@ use Rattle.link_laws.specs.Laws.{IsLegal}
 use Rattle.link_laws.specs.Linked.{IsLinked}
 use Rattle.link_laws.specs.Runs.{IsSoundRun}
 use Rattle.link_laws.specs.Sessions.{boots}
-use Rattle.link_laws.proofs.Reached.{IsEndOf, living-reached}
+use Rattle.link_laws.proofs.Peers.OverItsLinks.{IsEndOf, living-reached}
 use Rattle.trunk.specs.Events.{kept_of}
 use Rattle.trunk_moves.specs.Steps.{IsBoundedTrunkRun}
 use Rattle.trunk_moves.specs.Trunks.{RunTrunks, links_of}

@@ -1,8 +1,6 @@
 -- EVERY RUN WITH TRUNKS is a run of moves, keeps every trunk, and so all that is promised of runs.
 use Rattle.std.proofs.Common.{◌≡◌, ◌≤◌, ◌<◌, ℕ, true, List, [], ◌∷◌, length, refl, sym, subst}
-use Rattle.std.proofs.Common.{arith}
-use Rattle.std.specs.Prelude.{◌==◌}
-use Rattle.std.proofs.lemmas.Bool.{eq-eqb}
+use Rattle.std.proofs.Common.{arith, ◌==◌, eq-eqb}
 use Rattle.linx_base.specs.Sides.{other_of}
 use Rattle.linx_base.specs.declared.identity.LinkNo.{LinkNo}
 use Rattle.linx_base.specs.declared.identity.Side.{Side}
@@ -20,13 +18,13 @@ use Rattle.link_laws.specs.Ends.{HasTwoEnds, IsLinkOf, node_at}
 use Rattle.link_laws.specs.Laws.{KeepsNodeLaws}
 use Rattle.link_laws.specs.Moves.{IsLeft}
 use Rattle.link_laws.specs.Runs.{AreFirst, IsRun, IsBoundedRun, first_state}
-use Rattle.link_laws.proofs.Good.{step_of}
+use Rattle.link_laws.proofs.Moves.Shown.{step_of}
 use Rattle.link_laws.proofs.Runs.{runs_are_legal, runs_keep_promises}
 use Rattle.trunk.specs.Tells.{TellsSide}
 use Rattle.trunk.specs.Events.{TrunkState, delivered, kept_of, new_trunk}
 use Rattle.trunk.specs.Keeping.{KeepsTrunk}
-use Rattle.trunk.proofs.Events.{events_keep}
-use Rattle.trunk.proofs.Trunks.{events_tell}
+use Rattle.trunk.proofs.EachEvent.BothSides.{events_keep}
+use Rattle.trunk.proofs.EachEvent.Trunks.{events_tell}
 use Rattle.trunk_moves.specs.Grants.{GrantsAnswer, GrantsSide, TrunkRunsGrant}
 use Rattle.trunk_moves.specs.Laws.{TrunkRunsAreRuns, TrunkRunsKeepAll}
 use Rattle.trunk_moves.specs.Steps.{IsTrunkRun, IsTrunkStep, IsBoundedTrunkRun, Makes}
@@ -35,9 +33,8 @@ use Rattle.trunk_moves.specs.Trunks.{UsesUpTo, links_of, state_of}
 use Rattle.trunk_moves.proofs.Facts.{IsKnown, boots_later, hunted_named, new_may}
 use Rattle.trunk_moves.proofs.Facts.{open_may, peer_sent}
 use Rattle.trunk_moves.proofs.Moved.{IsMoved, close_moved, ended_moved, hunting_moved}
-use Rattle.trunk_moves.proofs.Moved.{opening_moved}
-use Rattle.trunk_moves.proofs.Moved.{restarted_kept, restarted_used, restarts_all, sending_moved}
-use Rattle.trunk_moves.proofs.Moved.{stay_kept, stay_used}
+use Rattle.trunk_moves.proofs.Moved.{opening_moved, restarted_kept, restarted_used, restarts_all}
+use Rattle.trunk_moves.proofs.Moved.{sending_moved, stay_kept, stay_used}
 use Rattle.trunk_moves.proofs.Passed.{finding_moved, may_answer, passing_moved, ticking_moved}
 use Rattle.trunk_moves.proofs.Sides.{all_left}
 

@@ -1,13 +1,12 @@
 -- What a packet makes of the side that it comes to, with what its node does when it is told, is
 -- what a packet of a run of moves makes of it; and so for a tick.
 use Rattle.std.proofs.Common.{◌≡◌, ◌≢◌, ◌≤◌, ℕ, Bool, true, false, cond, ◌||◌, ◌⊎◌, inl, inr, List}
-use Rattle.std.proofs.Common.{[]}
-use Rattle.std.proofs.Common.{◌∷◌, ◌++◌, Option, Some, None, refl, sym, ◌∙◌, ap, subst, arith}
-use Rattle.std.specs.Prelude.{◌==◌, is_some, slice_get, IsTrue}
-use Rattle.std.specs.List.{list_any, filter_map}
+use Rattle.std.proofs.Common.{[], ◌∷◌, ◌++◌, Option, Some, None, refl, sym, ◌∙◌, ap, subst, arith}
+use Rattle.std.proofs.Common.{◌==◌, is_some, slice_get, IsTrue, filter_map, bytes_eq, eq-eqb}
+use Rattle.std.proofs.Common.{eqb-true}
+use Rattle.std.specs.List.{list_any}
 use Rattle.std.specs.Option.{ForSome}
-use Rattle.std.specs.Str.{bytes_eq}
-use Rattle.std.proofs.lemmas.Bool.{or_cases, or_left, or_right, eq-eqb, eqb-true}
+use Rattle.std.proofs.lemmas.Bool.{or_cases, or_left, or_right}
 use Rattle.std.proofs.lemmas.List.Folds.{list_any-append}
 use Rattle.linx_base.specs.FirstMatch.{first_match}
 use Rattle.linx_base.specs.NameText.{is_name}
@@ -54,8 +53,8 @@ use Rattle.link_laws.specs.Moves.{Delivers, IsAfter, IsQuestionAnswered, NotesNa
 use Rattle.link_laws.specs.Moves.{TicksAt, brings_down, brings_nothing, brings_up, brought_of}
 use Rattle.link_laws.specs.Moves.{gives, is_up, loses_it, questions, ticks_on}
 use Rattle.link_laws.specs.Promises.{IsNotAbove}
-use Rattle.link_laws.proofs.Names.{bytes_eq-is}
-use Rattle.link_laws.proofs.Opened.{both_true}
+use Rattle.link_laws.proofs.Endpoints.Names.{bytes_eq-is}
+use Rattle.link_laws.proofs.Endpoints.OpenAfterStep.{both_true}
 use Rattle.trunk.specs.declared.up.TrunkUp.{TrunkUp}
 use Rattle.trunk.specs.declared.up.TrunkUp.TheVariants.{WentUp, WentDown}
 use Rattle.trunk.specs.Events.{IsReading, TrunkSide, TrunkState, asked_at, delivered, kept_of}
@@ -64,13 +63,12 @@ use Rattle.trunk.specs.Events.{told_by, told_of, told_up, turned, with_link}
 use Rattle.trunk.specs.Keeping.{KeepsTrunk}
 use Rattle.trunk.specs.Tells.{DownForLater, HeardNow, IsDown, IsGiven, IsQuietly, IsUp, TellsNotes}
 use Rattle.trunk.specs.Tells.{TellsSide, frees, noted_of, publishing, silent_of, stays, up_of_tick}
-use Rattle.trunk.proofs.Events.{events_keep, near_tells, turned_keeps}
-use Rattle.trunk.proofs.Silence.{offers_ticks}
-use Rattle.trunk.proofs.Trunks.{events_tell}
+use Rattle.trunk.proofs.EachEvent.BothSides.{events_keep, near_tells, turned_keeps}
+use Rattle.trunk.proofs.Sessions.Silence.{offers_ticks}
+use Rattle.trunk.proofs.EachEvent.Trunks.{events_tell}
 use Rattle.trunk_moves.specs.Grants.{AreNames}
 use Rattle.linx_base.specs.Pending.{is_for, name_over}
-use Rattle.trunk_moves.specs.Packets.{answered, asks_for}
-use Rattle.trunk_moves.specs.Packets.{names_hunted, publishes_if, told_at}
+use Rattle.trunk_moves.specs.Packets.{answered, asks_for, names_hunted, publishes_if, told_at}
 use Rattle.trunk_moves.specs.Trunks.{state_of}
 use Rattle.trunk_moves.proofs.Beats.{lost_silent}
 use Rattle.trunk_moves.proofs.Calls.{left_of, others_stay, side_asked}

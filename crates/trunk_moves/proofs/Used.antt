@@ -1,8 +1,7 @@
 -- How many addresses a side has in use: a call takes at most one more, and nothing else takes any.
 use Rattle.std.proofs.Common.{◌≡◌, ◌≤◌, ◌+◌, ℕ, zero, suc, Bool, true, false, cond, List, [], ◌∷◌}
-use Rattle.std.proofs.Common.{Option}
-use Rattle.std.proofs.Common.{Some, None, ap, arith}
-use Rattle.std.specs.Prelude.{◌||◌, is_some, slice_get, slice_set, ◌-◌}
+use Rattle.std.proofs.Common.{Option, Some, None, ap, arith, ◌||◌, is_some, slice_get, slice_set}
+use Rattle.std.proofs.Common.{◌-◌}
 use Rattle.std.proofs.lemmas.List.Sums.{sum_by-cons}
 use Rattle.linx_base.specs.declared.identity.Inc.{Inc}
 use Rattle.linx_base.specs.declared.identity.Side.{Side}
@@ -10,8 +9,7 @@ use Rattle.linx_base.specs.declared.identity.Side.TheVariants.{First, Second}
 use Rattle.linx_base.specs.SigNotes.{SigNote}
 use Rattle.link_addresses.specs.declared.meaning.Meaning.{Meaning}
 use Rattle.link_addresses.specs.declared.meaning.Meaning.TheVariants.{Free, Live, Closing}
-use Rattle.link_addresses.specs.Meanings.{address_of, is_used, meaning_of, used_in}
-use Rattle.link_addresses.specs.Meanings.{with_lowest}
+use Rattle.link_addresses.specs.Meanings.{address_of, is_used, meaning_of, used_in, with_lowest}
 use Rattle.rlnh_messages.specs.declared.rlnh.Rlnh.TheVariants.{Init, InitReply, QueryName}
 use Rattle.rlnh_messages.specs.declared.rlnh.Rlnh.TheVariants.{Publish, Unpublish, UnpublishAck}
 use Rattle.rlnh_end.specs.declared.heard.Heard.{Heard}
@@ -33,7 +31,7 @@ use Rattle.trunk.specs.Events.{TrunkSide, TrunkState, asked_at, closed_at, deliv
 use Rattle.trunk.specs.Events.{near_said}
 use Rattle.trunk.specs.Events.{near_says, near_took, opened_at, published_at, restarted_at, said_at}
 use Rattle.trunk.specs.Events.{sent_at, side_of, tables_of, ticked_at, turned, with_link}
-use Rattle.trunk.proofs.Trunks.{events_tell}
+use Rattle.trunk.proofs.EachEvent.Trunks.{events_tell}
 use Rattle.trunk_moves.specs.Trunks.{UsesUpTo}
 
 -- ---- addresses

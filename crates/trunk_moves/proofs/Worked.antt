@@ -1,9 +1,7 @@
 -- A worked run with trunks, step by step: two endpoints open, a name is hunted over the link, the
 -- link goes up, the name is asked for, published, and met.
 use Rattle.std.proofs.Common.{◌≡◌, ◌<◌, ℕ, zero, suc, true, false, List, [], ◌∷◌, length, refl, sym}
-use Rattle.std.proofs.Common.{◌∙◌, arith, subst}
-use Rattle.std.specs.Prelude.{◌==◌, codes, nat_lt}
-use Rattle.std.proofs.lemmas.Bool.{ltb-true, true≢false}
+use Rattle.std.proofs.Common.{◌∙◌, arith, subst, ◌==◌, codes, nat_lt, ltb-true, true≢false}
 use Rattle.linx_base.specs.Sides.{other_of}
 use Rattle.linx_base.specs.declared.frame.Verdict.TheVariants.{Deliver}
 use Rattle.linx_base.specs.declared.identity.LinkNo.{LinkNo}
@@ -28,8 +26,9 @@ use Rattle.journal.specs.declared.head.Head.TheVariants.{Hunt, Tick, Wire}
 use Rattle.journal.proofs.Playing.{made, note, opens}
 use Rattle.link_laws.specs.Ends.{HasTwoEnds, node_at}
 use Rattle.link_laws.specs.Sessions.{is_cut}
-use Rattle.link_laws.proofs.Playing.{a, b, back, each, keeps_laws, l, met_at, one_of, only_link}
-use Rattle.link_laws.proofs.Playing.{pump, there, tick_laws, two_ends, up, wire_laws, x11}
+use Rattle.link_laws.proofs.Worked.Playing.{a, b, back, each, keeps_laws, l, met_at, one_of}
+use Rattle.link_laws.proofs.Worked.Playing.{only_link}
+use Rattle.link_laws.proofs.Worked.Playing.{pump, there, tick_laws, two_ends, up, wire_laws, x11}
 use Rattle.trunk.specs.Events.{IsReading, TrunkState, delivered, new_trunk, ticked_at, told_by}
 use Rattle.trunk_moves.specs.Laws.{KeepsAll}
 use Rattle.trunk_moves.specs.Packets.{answered, told_at}

@@ -1,6 +1,5 @@
 -- What a packet, and a tick, makes of a trunk, with what its node does when it is told of it.
-use Rattle.std.specs.Prelude.{ℕ, ◌-◌, ◌≡◌, nat_lt, Bool, true, false, if◌then◌else◌}
-use Rattle.std.specs.Prelude.{List, [], ◌∷◌}
+use Rattle.std.specs.Prelude.{ℕ, ◌-◌, ◌≡◌, nat_lt, Bool, true, false, if◌then◌else◌, List, [], ◌∷◌}
 use Rattle.std.specs.Prelude.{length, Option, Some, None}
 use Rattle.linx_base.specs.Pending.{names_over}
 use Rattle.linx_base.specs.Sides.{other_of}

@@ -27,8 +27,7 @@ use Rattle.journal.specs.declared.head.SentTo.TheVariants.{Link}
 use Rattle.link_laws.specs.Ends.{HasTwoEnds, IsLinkOf, node_at}
 use Rattle.link_laws.specs.Laws.{KeepsNodeLaws}
 use Rattle.link_laws.specs.Sessions.{LosesIfCut, boots, is_cut}
-use Rattle.trunk.specs.Events.{TrunkState, asked_at, closed_at, opened_at, restarted_at}
-use Rattle.trunk.specs.Events.{sent_at}
+use Rattle.trunk.specs.Events.{TrunkState, asked_at, closed_at, opened_at, restarted_at, sent_at}
 use Rattle.trunk_moves.specs.Packets.{IsBeat, Meets}
 use Rattle.trunk_moves.specs.Trunks.{AllNew, Become, NodesFit, RunTrunks, all_do, with_trunk}
 

@@ -1,11 +1,10 @@
 -- What a trunk keeps is inductive in the words of its records: saying more, giving the next thing
 -- heard, going up, beginning a new session.
 use Rattle.std.proofs.Common.{[], ◌≡◌, ◌≢◌, ℕ, Bool, true, false, cond, inl, inr, List, ◌∷◌, ◌++◌}
-use Rattle.std.proofs.Common.{Some, None, map, refl, sym, ◌∙◌, ap, subst, append_assoc}
-use Rattle.std.specs.Prelude.{◌==◌}
+use Rattle.std.proofs.Common.{Some, None, map, refl, sym, ◌∙◌, ap, subst, append_assoc, ◌==◌}
+use Rattle.std.proofs.Common.{true≢false, eqb-true}
 use Rattle.std.specs.List.{list_any, AllByRecursion}
-use Rattle.std.proofs.lemmas.Bool.{or_cases, or_right, true≢false, eqb-true, false_from_ne_true}
-use Rattle.std.proofs.lemmas.Bool.{or_left}
+use Rattle.std.proofs.lemmas.Bool.{or_cases, or_right, false_from_ne_true, or_left}
 use Rattle.std.proofs.lemmas.List.Folds.{list_any-append}
 use Rattle.linx_base.specs.FirstMatch.{first_match}
 use Rattle.linx_base.specs.Peers.{same_inc}

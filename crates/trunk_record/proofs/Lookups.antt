@@ -1,9 +1,7 @@
 -- Sessions looked up in a side, also in one that said or was given more.
 use Rattle.std.proofs.Common.{[], ◌≡◌, ◌<◌, ℕ, true, false, cond, List, ◌∷◌, ◌++◌, Option, Some}
-use Rattle.std.proofs.Common.{None, refl, ◌∙◌, ap, arith}
-use Rattle.std.specs.Prelude.{◌==◌}
+use Rattle.std.proofs.Common.{None, refl, ◌∙◌, ap, arith, ◌==◌, eq-eqb}
 use Rattle.std.specs.List.{AllByRecursion}
-use Rattle.std.proofs.lemmas.Bool.{eq-eqb}
 use Rattle.std.proofs.lemmas.Bool.Decides.{nat_tests}
 use Rattle.linx_base.specs.FirstMatch.{first_match}
 use Rattle.linx_base.specs.declared.identity.Session.{Session}

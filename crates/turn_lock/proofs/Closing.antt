@@ -1,6 +1,7 @@
 -- Joining two seats that rest keeps the rule, and all seats joined to one find the state at home.
 use Rattle.std.proofs.Common.{◌≡◌, ◌≢◌, ℕ, ◌<◌, ◌≤◌, eqb, cond, List, set, Option, Some, true}
 use Rattle.std.proofs.Common.{false, sym, ap, ◌∙◌, subst, arith, map, All, Contains, eq-eqb, ne_eqb}
+use Rattle.std.proofs.Common.{IsSomeAnd}
 use Rattle.std.proofs.lemmas.List.Elements.{All-nil, All-append, All-weaker, All-same, All-map}
 use Rattle.std.proofs.lemmas.List.Elements.{All-contains}
 use mathlib.Core.Logic.{dite}
@@ -12,7 +13,6 @@ use Rattle.atomic_table.proofs.Lists.{set_else}
 use Rattle.turn_lock.specs.declared.turns.Front.{Front}
 use Rattle.turn_lock.specs.declared.turns.Known.{Known}
 use Rattle.turn_lock.specs.Passes.{PassView, numbers, Tells, TellsOfEach}
-use Rattle.std.specs.Prelude.{IsSomeAnd}
 use Rattle.turn_lock.specs.Stories.{AllMadeUpTo, RestsFor}
 use Rattle.turn_lock.specs.Turns.{front, joined, spent, front_of, FitsFront, FitsView, HasFronts}
 use Rattle.turn_lock.proofs.Lists.{All-unmap}

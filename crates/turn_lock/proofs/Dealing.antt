@@ -1,8 +1,7 @@
 -- A new lock meets the rule, and a deal keeps it.
 use Rattle.std.proofs.Common.{◌≡◌, ◌≢◌, ℕ, zero, suc, ◌+◌, ◌<◌, eqb, cond, List, [], ◌∷◌, ◌++◌}
 use Rattle.std.proofs.Common.{length, set, Option, Some, true, false, sym, refl, ap, ◌∙◌, subst}
-use Rattle.std.proofs.Common.{⊎_elim, arith, length-set, eq-eqb, ne_eqb}
-use Rattle.std.proofs.lemmas.List.{append-nil}
+use Rattle.std.proofs.Common.{⊎_elim, arith, length-set, eq-eqb, ne_eqb, append-nil}
 use Rattle.std.proofs.lemmas.List.Elements.{All-nil, All-cons, All-weaker}
 use mathlib.Core.Option.{some, some-injective, some-ne-none}
 use lib.ListN.{get_elem?}

@@ -1,8 +1,7 @@
 -- Lists read by place, and lists with one more at the end.
 use Rattle.std.proofs.Common.{◌≡◌, ℕ, zero, suc, ◌<◌, ◌⊎◌, List, [], ◌∷◌, ◌++◌, length, get_or, map}
-use Rattle.std.proofs.Common.{Some, All, refl, ap, inl, inr, ⊎_elim, sym, arith}
+use Rattle.std.proofs.Common.{Some, All, refl, ap, inl, inr, ⊎_elim, sym, arith, slice_get}
 use Rattle.std.proofs.lemmas.List.Elements.{All-nil, All-cons, All-head, All-tail}
-use Rattle.std.specs.Prelude.{slice_get}
 use mathlib.Core.Option.{some, some-injective, some-ne-none}
 use lib.ListN.{get_elem?}
 

@@ -1,8 +1,7 @@
 -- WHAT IS DEALT comes back: the jobs of a new lock are ready, and a stage can go on from what their
 -- workers leave.
-use Rattle.std.proofs.Common.{◌≡◌, ℕ, zero, suc, ◌<◌, ◌≤◌, ◌+◌, List, [], ◌∷◌, length, All}
-use Rattle.std.proofs.Common.{Option, Some, None, true, refl, sym, ◌∙◌, ap, subst, arith}
-use Rattle.std.specs.Prelude.{slice_get}
+use Rattle.std.proofs.Common.{◌≡◌, ℕ, zero, suc, ◌<◌, ◌≤◌, ◌+◌, List, [], ◌∷◌, length, All, Option}
+use Rattle.std.proofs.Common.{Some, None, true, refl, sym, ◌∙◌, ap, subst, arith, slice_get}
 use Rattle.std.proofs.lemmas.List.{length-map}
 use Rattle.std.proofs.lemmas.List.Elements.{All-nil}
 use Rattle.std.proofs.lemmas.Option.{get_or_from_slice_get}
@@ -18,7 +17,7 @@ use Rattle.linx_api.specs.Telling.{PlanParts, plan_of, story_of}
 use Rattle.stage.specs.declared.player.Player.{Player}
 use Rattle.stage.specs.Seats.{IsStaged, unstarted}
 use Rattle.stage.specs.Turns.{first_layout, is_over, makers, shape_of}
-use Rattle.stage.proofs.Seats.{staged-first, unstarted-seated}
+use Rattle.stage.proofs.Rounds.Seats.{staged-first, unstarted-seated}
 use Rattle.workers.specs.declared.worker.Job.{Job}
 use Rattle.workers.specs.declared.worker.Worked.{Worked}
 use Rattle.workers.specs.Running.{AreFinished, AreShares, jobs_with, passes_in, players_in}

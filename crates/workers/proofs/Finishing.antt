@@ -2,9 +2,8 @@
 -- where all actors have ended, the pumps of other links leave a link as it is.
 use Rattle.std.proofs.Common.{◌≡◌, ℕ, zero, suc, ◌+◌, ◌-◌, ◌<◌, ◌≤◌, Bool, true, false, List, []}
 use Rattle.std.proofs.Common.{◌∷◌, ◌++◌, length, Option, Some, None, refl, sym, ◌∙◌, ap, subst}
-use Rattle.std.proofs.Common.{eq-eqb, arith}
-use Rattle.std.specs.Prelude.{◌==◌, ◌&&◌, ◌||◌}
-use Rattle.std.proofs.lemmas.Bool.{and_parts, eqb-true, true≢false}
+use Rattle.std.proofs.Common.{eq-eqb, arith, ◌==◌, ◌&&◌, ◌||◌, eqb-true, true≢false}
+use Rattle.std.proofs.lemmas.Bool.{and_parts}
 use Rattle.std.proofs.lemmas.List.{length-map}
 use Rattle.std.proofs.lemmas.List.Elements.{All-head, All-tail}
 use Rattle.linx_base.specs.declared.identity.LinkNo.{LinkNo}
@@ -26,7 +25,7 @@ use Rattle.trunk_moves.specs.Steps.{IsTrunkStep, Makes}
 use Rattle.trunk_moves.specs.Trunks.{Become, RunTrunks, with_trunk}
 use Rattle.fabric.specs.Links.{none_stirs, stirs, stirs_if}
 use Rattle.fabric.specs.Machine.{all_have_ended, have_ended}
-use Rattle.fabric.proofs.Resting.{ended-each}
+use Rattle.fabric.proofs.Trunks.Resting.{ended-each}
 use Rattle.linx_api.specs.Telling.{maker_number}
 use Rattle.stage.specs.declared.player.Player.{Player}
 use Rattle.stage.specs.Turns.{makers, shape_of}

@@ -1,7 +1,7 @@
 -- What a turn gives back to the lock is its maker's, and what a link's worker knows after it.
 use Rattle.std.proofs.Common.{◌≡◌, ℕ, ◌<◌, ◌+◌, ◌-◌, true, false, List, length, map, Option, Some}
-use Rattle.std.proofs.Common.{None, refl, sym, ◌∙◌, ap, subst, arith, inl, inr}
-use Rattle.std.specs.Prelude.{is_some, Result, Ok, Err}
+use Rattle.std.proofs.Common.{None, refl, sym, ◌∙◌, ap, subst, arith, inl, inr, is_some, Result, Ok}
+use Rattle.std.proofs.Common.{Err}
 use Rattle.std.proofs.lemmas.List.{length-map}
 use Rattle.linx_base.specs.declared.identity.LinkNo.{LinkNo}
 use Rattle.journal.specs.declared.by.By.TheVariants.{Pump}
@@ -24,14 +24,13 @@ use Rattle.stage.specs.declared.stage.Pump as pumps
 use Rattle.stage.specs.declared.stage.Pump.TheVariants.{NoWork}
 use Rattle.stage.specs.Settlings.{IsActedAs, settler_in, stirs_in}
 use Rattle.stage.specs.Turns.{IsPump, asks_nothing, makes_event, shape_of}
-use Rattle.stage.proofs.Pumping.{pump-stirs}
+use Rattle.stage.proofs.Plans.PumpsRule.{pump-stirs}
 use Rattle.workers.specs.Turning.{IsInTurnOf, IsPumpDone, IsPumpTurn, IsPumpedAs}
 use Rattle.workers.specs.Working.{IsFinished, IsStillThen, IsWorking, OwnPlanned, seen}
-use Rattle.stage.proofs.Alike.{stirs_alike}
-use Rattle.stage.proofs.OneState.{IsOneState, IsRunOf, reached_run}
+use Rattle.stage.proofs.Plans.SameTrunks.{stirs_alike}
+use Rattle.stage.proofs.Plans.OneState.{IsOneState, IsRunOf, reached_run}
 use Rattle.workers.proofs.Resting.{found-planned, found-shape, having_seen, seen-all, working-after}
-use Rattle.workers.proofs.Turning.{added-acted, added-none, added-pump, found-known}
-use Rattle.workers.proofs.Turning.{pumped-working}
+use Rattle.workers.proofs.Turning.{added-acted, added-none, added-pump, found-known, pumped-working}
 
 -- the link of a maker's number
 abbrev link_by : ScriptParts → ℕ → LinkNo

@@ -1,7 +1,6 @@
 -- Jobs are made of passes and players one by one, and what came back is taken apart one by one.
-use Rattle.std.proofs.Common.{◌≡◌, List, [], ◌∷◌, ◌++◌, Option, Some, None, refl, sym, ◌∙◌}
-use Rattle.std.proofs.Common.{ap, append_assoc, length, arith}
-use Rattle.std.specs.Prelude.{option_to_list}
+use Rattle.std.proofs.Common.{◌≡◌, List, [], ◌∷◌, ◌++◌, Option, Some, None, refl, sym, ◌∙◌, ap}
+use Rattle.std.proofs.Common.{append_assoc, length, arith, option_to_list}
 use Rattle.journal.specs.declared.effect.Step.{Step}
 use Rattle.turn_lock.specs.Passes.{PassView}
 use Rattle.linx_api.specs.Telling.{PlanParts}

@@ -7,8 +7,8 @@ use Rattle.trunk_moves.specs.Steps.{IsTrunkStep}
 use Rattle.trunk_moves.specs.Trunks.{RunTrunks}
 use Rattle.stage.specs.Plays.{IsPlannedStep}
 use Rattle.stage.specs.Turns.{shape_of}
-use Rattle.stage.proofs.OneState.{IsOneState, IsRunOf, reached_run}
-use Rattle.stage.proofs.PlannedAlike.{planned-same}
+use Rattle.stage.proofs.Plans.OneState.{IsOneState, IsRunOf, reached_run}
+use Rattle.stage.proofs.Plans.PlannedAlike.{planned-same}
 use Rattle.workers.specs.Working.{IsPlannedThen}
 
 -- SO IN EACH STATE that the steps before it reach

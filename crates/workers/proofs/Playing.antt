@@ -26,11 +26,11 @@ use Rattle.stage.specs.declared.player.Player.{Player}
 use Rattle.stage.specs.Seats.{IsSeated, Learns}
 use Rattle.stage.specs.Settlings.{IsActedAs}
 use Rattle.stage.specs.Turns.{commands_of}
-use Rattle.stage.proofs.Stops.{stops-full}
-use Rattle.stage.proofs.Turned.{turn-asks, turn-learned}
+use Rattle.stage.proofs.Rounds.Stops.{stops-full}
+use Rattle.stage.proofs.Actors.Turns.{turn-asks, turn-learned}
 use Rattle.workers.specs.Turning.{Asks, IsActedIn, IsRightlyFull, stop_of}
 use Rattle.workers.specs.Working.{IsPlayedBy, IsWorking, OwnPlanned, seen}
-use Rattle.stage.proofs.OneState.{IsOneState}
+use Rattle.stage.proofs.Plans.OneState.{IsOneState}
 use Rattle.workers.proofs.Resting.{as-actor, found-goes_on, found-names, found-planned}
 use Rattle.workers.proofs.Resting.{found-played, found-shape, seen-all, working-after}
 use Rattle.workers.proofs.Turning.{acted-working}

@@ -1,8 +1,6 @@
 -- What a pass knows of its maker's steps stays true while others make steps.
-use Rattle.std.proofs.Common.{◌≡◌, ℕ, Bool, true, false, cond, List, [], ◌∷◌, ◌++◌}
-use Rattle.std.proofs.Common.{All, Option, Some, None, refl, sym, ◌∙◌, ap, subst, eq-eqb}
-use Rattle.std.specs.Prelude.{◌==◌}
-use Rattle.std.proofs.lemmas.Bool.{true≢false}
+use Rattle.std.proofs.Common.{◌≡◌, ℕ, Bool, true, false, cond, List, [], ◌∷◌, ◌++◌, All, Option}
+use Rattle.std.proofs.Common.{Some, None, refl, sym, ◌∙◌, ap, subst, eq-eqb, ◌==◌, true≢false}
 use Rattle.std.proofs.lemmas.List.Elements.{All-nil, All-cons, All-head, All-tail, All-weaker}
 use Rattle.journal.specs.declared.by.By.{By}
 use Rattle.journal.specs.declared.by.By.TheVariants.{Actor, Pump}
@@ -19,7 +17,7 @@ use Rattle.linx_api.specs.Telling.{PlanParts, made_steps, maker_number, plan_of,
 use Rattle.linx_api.proofs.Own.{steps_in-told}
 use Rattle.stage.specs.declared.player.Player.{Player}
 use Rattle.stage.specs.Turns.{shape_of}
-use Rattle.stage.proofs.Players.{seated-other}
+use Rattle.stage.proofs.Rounds.PlayersBetweenTurns.{seated-other}
 use Rattle.workers.specs.Working.{IsPlayedBy, IsWorking, OwnPlanned, seen}
 
 -- the maker of this number made none of these steps

@@ -1,8 +1,7 @@
 -- A turn under the lock keeps what a worker knows: each step that it adds is its maker's, and is as
 -- planned in whatever state the steps before it reach.
-use Rattle.std.proofs.Common.{◌≡◌, ℕ, zero, suc, false, List, [], ◌∷◌, ◌++◌, length}
-use Rattle.std.proofs.Common.{Option, Some, None, refl, sym, ◌∙◌, ap, subst, inl, inr}
-use Rattle.std.proofs.Common.{append_assoc}
+use Rattle.std.proofs.Common.{◌≡◌, ℕ, zero, suc, false, List, [], ◌∷◌, ◌++◌, length, Option, Some}
+use Rattle.std.proofs.Common.{None, refl, sym, ◌∙◌, ap, subst, inl, inr, append_assoc}
 use Rattle.std.proofs.lemmas.List.Elements.{All-nil, All-cons, All-append}
 use Rattle.linx_base.specs.declared.identity.LinkNo.{LinkNo}
 use Rattle.linx_base.specs.declared.name.Names.{Names}
@@ -38,15 +37,15 @@ use Rattle.stage.specs.Pumps.{pump_event}
 use Rattle.stage.specs.Settlings.{AreSettlings, IsActedAs, Settler, settler, settler_in}
 use Rattle.stage.specs.Settlings.{settler_now}
 use Rattle.stage.specs.Turns.{IsPump, asks_nothing, commands_of, makes_event, shape_of}
-use Rattle.stage.proofs.Going.{GoesFar, begun-under, done-far, half-far, settle-made}
-use Rattle.stage.proofs.Going.{settles-there}
-use Rattle.stage.proofs.Makings.{head-unpumped}
-use Rattle.stage.proofs.Planned.{unpumped-planned}
-use Rattle.stage.proofs.Pumping.{pump-planned}
-use Rattle.stage.proofs.Settling.{HasMoved, IsUnder, by-move, due-stirs, has-moved, pump-settles}
-use Rattle.stage.proofs.Settling.{settles-now, under-moved}
+use Rattle.stage.proofs.Actors.Going.{GoesFar, begun-under, done-far, half-far, settle-made}
+use Rattle.stage.proofs.Actors.Going.{settles-there}
+use Rattle.stage.proofs.Actors.Steps.{head-unpumped}
+use Rattle.stage.proofs.Plans.EachStep.{unpumped-planned}
+use Rattle.stage.proofs.Plans.PumpsRule.{pump-planned}
+use Rattle.stage.proofs.Settling.Steps.{HasMoved, IsUnder, by-move, due-stirs, has-moved}
+use Rattle.stage.proofs.Settling.Steps.{pump-settles, settles-now, under-moved}
 use Rattle.workers.specs.Working.{IsPlayedBy, IsWorking, OwnPlanned}
-use Rattle.stage.proofs.OneState.{IsOneState, IsRunOf, reached_run}
+use Rattle.stage.proofs.Plans.OneState.{IsOneState, IsRunOf, reached_run}
 use Rattle.workers.proofs.Planning.{planned-then}
 use Rattle.workers.proofs.Resting.{found-names, found-planned, found-shape, having_seen}
 use Rattle.workers.proofs.Resting.{working-after}

@@ -15,9 +15,8 @@ ghost use Rattle.stage.specs.Settlings.{IsActedAs, settler_in};
 ghost use Rattle.stage.specs.Stops.{IsCauseOf};
 ghost use Rattle.stage.specs.Turns.{shape_of};
 ghost use Rattle.workers.specs.Turning.{Asks, IsActedIn, IsCalm, IsPumpDone, IsPumpTurn};
-ghost use Rattle.workers.specs.Turning.{IsPumpedAs};
-ghost use Rattle.workers.specs.Turning.{IsRightlyFull, IsRightlyFullOn, goes_on, noted_with, stop_in};
-ghost use Rattle.workers.specs.Turning.{stop_met, stop_of};
+ghost use Rattle.workers.specs.Turning.{IsPumpedAs, IsRightlyFull, IsRightlyFullOn, goes_on};
+ghost use Rattle.workers.specs.Turning.{noted_with, stop_in, stop_met, stop_of};
 ghost use Rattle.workers.specs.Working.{AreWorkedJobs, IsFinished, IsReadyJob, IsWorked};
 ghost use Rattle.workers.specs.Working.{IsWorking, StillRuns, seen, stop_at};
 

@@ -1,5 +1,5 @@
-use Rattle.std.proofs.Common.{◌≡◌, ◌∙◌}
-use Rattle.std.specs.Ordering.{is_eq, nat_cmp, ordering_then}
+use Rattle.std.proofs.Common.{◌≡◌, ◌∙◌, is_eq, nat_cmp}
+use Rattle.std.specs.Ordering.{ordering_then}
 use Rattle.linx_base.specs.Pending.{is_attach}
 use Rattle.linx_base.specs.declared.pending.PendingAttach.{PendingAttach}
 use Rattle.keyed_list.proofs.Finding.{alone, flipped, same_number, same_parts}

@@ -1,5 +1,4 @@
-use Rattle.std.proofs.Common.{◌∙◌, sym, drop, arith}
-use Rattle.std.proofs.lemmas.List.{get_or-drop, length-drop}
+use Rattle.std.proofs.Common.{◌∙◌, sym, drop, arith, get_or-drop, length-drop}
 use Rattle.ethcm_window.proofs.Keeping.{count_here, count_past}
 use Rattle.ethcm_window.proofs.rx.count.Goals as goal
 

@@ -1,5 +1,4 @@
-use Rattle.std.proofs.Common.{◌∙◌, ◌≤◌, ap, sym, drop, length, arith}
-use Rattle.std.proofs.lemmas.List.{length-drop}
+use Rattle.std.proofs.Common.{◌∙◌, ◌≤◌, ap, sym, drop, length, arith, length-drop}
 use Rattle.ethcm_window.specs.Sending.{sent_frame}
 use Rattle.ethcm_window.proofs.Keeping.{kept_inserted}
 use Rattle.ethcm_window.proofs.Storing.{drop-insert, without_more}

@@ -4,8 +4,8 @@ use Rattle.linx_base.specs.declared.pending.PendingHunt.{PendingHunt}
 use Rattle.node_kernel.proofs.Gathering.{falls}
 use Rattle.run_trunks.specs.Changes.{at_link}
 use Rattle.trunk_moves.specs.Packets.{asks_for}
-use Rattle.fabric.proofs.Tells.{asks-done, asks-next, asks-none, names-all, numbers-next}
-use Rattle.fabric.proofs.Tells.{numbers-none, numbers-now}
+use Rattle.fabric.proofs.Trunks.Tells.{asks-done, asks-next, asks-none, names-all, numbers-next}
+use Rattle.fabric.proofs.Trunks.Tells.{numbers-none, numbers-now}
 use Rattle.fabric.specs.Bringings.{HasNumbersOver}
 use Rattle.fabric.proofs.bringing.ask_again.Goals as goal
 

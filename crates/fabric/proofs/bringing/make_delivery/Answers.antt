@@ -2,7 +2,7 @@ use Rattle.std.proofs.Common.{sym, ap, subst, ◌∙◌}
 use Rattle.linx_base.specs.Sides.{other_of}
 use Rattle.linx_base.specs.declared.identity.Side.{Side}
 use Rattle.carrier.specs.Events.{HasNextAt}
-use Rattle.link_laws.proofs.Sides.{other_twice}
+use Rattle.link_laws.proofs.AllLinks.OthersStay.{other_twice}
 use Rattle.run_trunks.specs.States.{trunks_of}
 use Rattle.trunk.specs.Events.{HasNumbersLeft}
 use Rattle.fabric.proofs.bringing.make_delivery.Goals as goal

@@ -1,4 +1,4 @@
-use Rattle.fabric.proofs.OneLink.{told-kept}
+use Rattle.fabric.proofs.Trunks.OneLink.{told-kept}
 use Rattle.fabric.proofs.bringing.make_told.Goals as goal
 
 pub returns-in-Ok-clause-trunks : goal.returns-in-Ok-clause-trunks

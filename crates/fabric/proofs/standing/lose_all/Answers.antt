@@ -2,7 +2,7 @@ use Rattle.std.proofs.Common.{ℕ, ◌≡◌, ◌++◌, sym, ◌∙◌, ap, add-
 use Rattle.std.proofs.Common.{drop}
 use Rattle.fabric.specs.Standings.{past_effects}
 use Rattle.fabric.specs.declared.standing.Standing.{Standing}
-use Rattle.fabric.proofs.Counting.{map-turn}
+use Rattle.fabric.proofs.Standings.Counting.{map-turn}
 use Rattle.fabric.proofs.standing.lose_all.Goals as goal
 
 pub loop-standing-preserved : goal.loop-standing-preserved

@@ -1,5 +1,5 @@
 use Rattle.std.proofs.Common.{sym, ◌∙◌}
-use Rattle.fabric.proofs.Tells.{hunt-numbers}
+use Rattle.fabric.proofs.Trunks.Tells.{hunt-numbers}
 use Rattle.fabric.proofs.telling.tell_hunt.Goals as goal
 
 pub asked-requires-clause-numbers : goal.asked-requires-clause-numbers

@@ -1,8 +1,7 @@
-use Rattle.std.proofs.Common.{◌≡◌, ◌∙◌, ap, sym, true, arith}
-use Rattle.std.specs.Prelude.{option_copied}
+use Rattle.std.proofs.Common.{◌≡◌, ◌∙◌, ap, sym, true, arith, option_copied}
 use Rattle.rlnh_messages.specs.Signals.{IsSignal}
 use Rattle.node_kernel.specs.Nodes.{is_living}
-use Rattle.fabric.proofs.Tells.{may-send, open-named, send-numbers}
+use Rattle.fabric.proofs.Trunks.Tells.{may-send, open-named, send-numbers}
 use Rattle.fabric.proofs.telling.tell_send.Goals as goal
 
 pub unreachable-requires : goal.unreachable-requires

@@ -2,7 +2,7 @@ use Rattle.std.proofs.Common.{ℕ, ◌++◌, sym, ◌∙◌, ap, add-one, set, g
 use Rattle.std.proofs.Common.{Option}
 use Rattle.linx_base.specs.declared.identity.Inc.{Inc}
 use Rattle.fabric.specs.Idle.{unless_at}
-use Rattle.fabric.proofs.Idling.{map-turned}
+use Rattle.fabric.proofs.Standings.Idling.{map-turned}
 use Rattle.fabric.proofs.watched_journal.forget_at.Goals as goal
 
 pub loop-noted-preserved : goal.loop-noted-preserved

@@ -1,5 +1,5 @@
 use Rattle.std.proofs.Common.{sym, ◌∙◌}
-use Rattle.fabric.proofs.Idling.{forgets_none}
+use Rattle.fabric.proofs.Standings.Idling.{forgets_none}
 use Rattle.fabric.proofs.watched_journal.forget_by.Goals as goal
 
 pub returns-in_default : goal.returns-in_default

@@ -2,7 +2,7 @@ use Rattle.std.proofs.Common.{sym, ◌∙◌, ◌++◌, ◌∷◌, [], ap, ℕ, 
 use Rattle.std.proofs.lemmas.List.{take_more}
 use Rattle.journal.specs.declared.effect.Effect.{Effect}
 use Rattle.fabric.specs.Idle.{unless_reached}
-use Rattle.fabric.proofs.Idling.{one_more, unreached}
+use Rattle.fabric.proofs.Standings.Idling.{one_more, unreached}
 use Rattle.fabric.proofs.watched_journal.forget_reached.Goals as goal
 
 pub loop-effect-init : goal.loop-effect-init

@@ -1,5 +1,5 @@
-use Rattle.std.proofs.Common.{◌≡◌, ℕ, ◌+◌, Bool, List, take, cond, sym, ap, ◌∙◌, arith}
-use Rattle.std.specs.Prelude.{nat_eq, Option, ◌||◌}
+use Rattle.std.proofs.Common.{◌≡◌, ℕ, ◌+◌, Bool, List, take, cond, sym, ap, ◌∙◌, arith, nat_eq}
+use Rattle.std.proofs.Common.{Option, ◌||◌}
 use Rattle.std.specs.List.{list_any}
 use Rattle.std.specs.HashMap.{get}
 use Rattle.std.proofs.lemmas.Grind.{common_steps}

@@ -1,4 +1,4 @@
-use Rattle.std.specs.Prelude.{Some}
+use Rattle.std.proofs.Common.{Some}
 use Rattle.journal_text.proofs.steps.write_step.Goals as goal
 
 pub write_lines-requires : goal.write_lines-requires

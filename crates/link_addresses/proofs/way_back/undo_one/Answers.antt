@@ -1,6 +1,6 @@
 use Rattle.std.proofs.Common.{rules, ◌≡◌, ◌+◌, ◌<◌, ℕ, length, nat_eq, suc, subst, arith, Some}
+use Rattle.std.proofs.Common.{slice_set}
 use Rattle.std.specs.HashMap.{get}
-use Rattle.std.specs.Prelude.{slice_set}
 use Rattle.link_addresses.specs.declared.meaning.Meaning.TheVariants.{Free, Live, Closing}
 use Rattle.link_addresses.specs.Finding.{AnswersAt}
 use Rattle.link_addresses.specs.WayBack.{CanReturn}

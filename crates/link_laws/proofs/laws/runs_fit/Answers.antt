@@ -1,4 +1,4 @@
-use Rattle.link_laws.proofs.Fitting.{runs_fit}
+use Rattle.link_laws.proofs.AllLinks.NodesFit.{runs_fit}
 use Rattle.link_laws.proofs.laws.runs_fit.Goals as goal
 
 pub returns : goal.returns

@@ -1,5 +1,4 @@
-use Rattle.std.proofs.Common.{◌≡◌, ◌∙◌, ◌+◌, ◌-◌, ◌<◌, length, map, take, sym, ap}
-use Rattle.std.proofs.Common.{arith}
+use Rattle.std.proofs.Common.{◌≡◌, ◌∙◌, ◌+◌, ◌-◌, ◌<◌, length, map, take, sym, ap, arith}
 use Rattle.node_kernel.specs.Nodes.{put_all}
 use Rattle.node_kernel.specs.Kept.{bring_into}
 use Rattle.node_kernel.proofs.Bringing.{put_more, put_none}

@@ -1,5 +1,4 @@
-use Rattle.std.proofs.Common.{sym, ap, not}
-use Rattle.std.specs.Prelude.{filter}
+use Rattle.std.proofs.Common.{sym, ap, not, filter}
 use Rattle.std.specs.List.{list_any}
 use Rattle.sigsel.specs.Selection.{is_notice_of}
 use Rattle.node_kernel.specs.Nodes.{items_at}

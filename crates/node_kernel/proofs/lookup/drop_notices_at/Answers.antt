@@ -1,5 +1,4 @@
-use Rattle.std.proofs.Common.{get_or, not}
-use Rattle.std.specs.Prelude.{filter}
+use Rattle.std.proofs.Common.{get_or, not, filter}
 use Rattle.sigsel.specs.Selection.{is_notice_of}
 use Rattle.node_kernel.proofs.Places.{put_in_place, items_at-position}
 use Rattle.node_kernel.proofs.lookup.drop_notices_at.Goals as goal

@@ -1,5 +1,4 @@
-use Rattle.std.proofs.Common.{◌∙◌, sym, ap, Some}
-use Rattle.std.specs.Option.{option_copied}
+use Rattle.std.proofs.Common.{◌∙◌, sym, ap, Some, option_copied}
 use Rattle.linx_base.proofs.FirstMatches.{first_match-no_place, first_match-position}
 use Rattle.node_kernel.specs.Nodes.{OpenEndpoint, is_at, name_if}
 use Rattle.node_kernel.proofs.lookup.name_of.Goals as goal

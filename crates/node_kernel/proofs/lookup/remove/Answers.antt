@@ -1,5 +1,4 @@
-use Rattle.std.proofs.Common.{◌∙◌, sym, ap}
-use Rattle.std.specs.List.{position}
+use Rattle.std.proofs.Common.{◌∙◌, sym, ap, position}
 use Rattle.linx_base.proofs.FirstMatches.{without_match-no_place, without_match-position}
 use Rattle.node_kernel.specs.Nodes.{is_at}
 use Rattle.node_kernel.proofs.lookup.remove.Goals as goal

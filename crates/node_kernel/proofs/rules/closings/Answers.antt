@@ -1,5 +1,4 @@
-use Rattle.std.proofs.Common.{◌∙◌, ◌++◌, ◌∷◌, [], ap, arith, map, refl, sym}
-use Rattle.std.proofs.lemmas.List.{take_all}
+use Rattle.std.proofs.Common.{◌∙◌, ◌++◌, ◌∷◌, [], ap, arith, map, refl, sym, take_all}
 use Rattle.journal.specs.declared.effect.Effect.TheVariants.{Closed}
 use Rattle.node_kernel.specs.Nodes.{OpenEndpoint}
 use Rattle.node_kernel.proofs.Bringing.{map_both}

@@ -1,5 +1,4 @@
-use Rattle.std.proofs.Common.{◌∙◌, sym, ap, add-one}
-use Rattle.std.specs.Prelude.{ℕ}
+use Rattle.std.proofs.Common.{◌∙◌, sym, ap, add-one, ℕ}
 use Rattle.order_rules.specs.Dice.{words}
 use Rattle.order_rules.proofs.Thrown.{words_none, words_on}
 use Rattle.order_rules.proofs.dice.words.Goals as goal

@@ -1,5 +1,4 @@
-use Rattle.std.proofs.Common.{◌∙◌, sym, ap, add-one}
-use Rattle.std.specs.Prelude.{ℕ}
+use Rattle.std.proofs.Common.{◌∙◌, sym, ap, add-one, ℕ}
 use Rattle.order_rules.specs.Seeds.{changes}
 use Rattle.order_rules.proofs.Thrown.{changes_none, changes_on}
 use Rattle.order_rules.proofs.seed.changes.Goals as goal

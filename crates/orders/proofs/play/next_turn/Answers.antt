@@ -3,7 +3,8 @@ use Rattle.order_rules.specs.Orders.{Order}
 use Rattle.orders.specs.Makers.{IsReadyMaker, ready}
 use Rattle.orders.specs.Runs.{next_in, standing}
 use Rattle.orders.proofs.Ready.{ready-some}
-use Rattle.orders.proofs.Turns.{err-next, maker-ready, named-next, next-ready, ok-next, stopped-none}
+use Rattle.orders.proofs.Turns.{err-next, maker-ready, named-next, next-ready, ok-next}
+use Rattle.orders.proofs.Turns.{stopped-none}
 use Rattle.orders.proofs.play.next_turn.Goals as goal
 
 pub name-maker-requires-clause-some : goal.name-maker-requires-clause-some

@@ -1,5 +1,5 @@
-use Rattle.std.proofs.Common.{ℕ, ◌-◌, ◌<◌, ◌≤◌, Bool, length, sym, subst, arith}
-use Rattle.std.proofs.lemmas.Bool.{le-leb, lt-leb}
+use Rattle.std.proofs.Common.{ℕ, ◌-◌, ◌<◌, ◌≤◌, Bool, length, sym, subst, arith, le-leb}
+use Rattle.std.proofs.lemmas.Bool.{lt-leb}
 use Rattle.stage.specs.Turns.{IsPump, IsTurnBy}
 use Rattle.orders.proofs.play.take_turn.Goals as goal
 

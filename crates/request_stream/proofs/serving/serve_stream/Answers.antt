@@ -1,9 +1,8 @@
-use Rattle.std.proofs.Common.{◌≡◌, ◌∙◌, length, refl, sym, subst, rules, arith}
-use Rattle.std.proofs.Common.{inl, ◌++◌, List, ℕ, [], ◌<◌}
+use Rattle.std.proofs.Common.{◌≡◌, ◌∙◌, length, refl, sym, subst, rules, arith, inl, ◌++◌, List, ℕ}
+use Rattle.std.proofs.Common.{[], ◌<◌, length-append}
 use Rattle.request_stream.specs.Serving.{Serves}
 use Rattle.request_stream.specs.declared.stop.ServeStop.TheVariants.{Torn, ReadFault, NoMemory}
 use Rattle.request_stream.proofs.Answered.{told_done, told_stopped}
-use Rattle.std.proofs.Common.{length-append}
 use Rattle.request_stream.proofs.GoingOn.{is_empty_list, reads_none, writes_later}
 use Rattle.request_stream.specs.Backlogs.{Come}
 use Rattle.request_stream.specs.Ending.{HasReplied, first, moment}

@@ -1,5 +1,4 @@
-use Rattle.std.proofs.Common.{◌≡◌, take}
-use Rattle.std.specs.Prelude.{filter}
+use Rattle.std.proofs.Common.{◌≡◌, take, filter}
 use Rattle.rlnh_end.specs.Facts.{has_none}
 use Rattle.rlnh_end.proofs.facts.drop_numbers.Given as goal
 

@@ -1,5 +1,4 @@
-use Rattle.std.proofs.Common.{◌≡◌, not, ap, sym, arith, Some, None}
-use Rattle.std.specs.Prelude.{filter, slice_get}
+use Rattle.std.proofs.Common.{◌≡◌, not, ap, sym, arith, Some, None, filter, slice_get}
 use Rattle.rlnh_end.specs.Facts.{has_none, is_sought_entry}
 use Rattle.rlnh_end.proofs.Entries.{nth_same, place_within, filter_shorter, few_entries}
 use Rattle.rlnh_end.proofs.Entries.{is_first, is_missing, passed_over}

@@ -1,5 +1,4 @@
-use Rattle.std.proofs.Common.{◌≡◌, ◌-◌, ◌≤◌, length, drop}
-use Rattle.std.specs.Prelude.{filter}
+use Rattle.std.proofs.Common.{◌≡◌, ◌-◌, ◌≤◌, length, drop, filter}
 use Rattle.linx_base.specs.FirstMatch.{first_match}
 use Rattle.rlnh_end.specs.Facts.{has_none, is_sought_entry}
 use Rattle.rlnh_end.proofs.facts.find.Given as goal

@@ -1,5 +1,4 @@
-use Rattle.std.proofs.Common.{◌∙◌}
-use Rattle.std.proofs.lemmas.List.{length-set}
+use Rattle.std.proofs.Common.{◌∙◌, length-set}
 use Rattle.run_trunks.proofs.Lists.{length-each}
 use Rattle.run_trunks.proofs.Numbered.{all-do, all-new, one-changes}
 use Rattle.run_trunks.proofs.laws.changes_are_of_runs.Goals as goal

@@ -1,5 +1,4 @@
-use Rattle.std.proofs.Common.{◌<◌, ◌∙◌, sym, length, arith}
-use Rattle.std.proofs.lemmas.Bool.{true≢false}
+use Rattle.std.proofs.Common.{◌<◌, ◌∙◌, sym, length, arith, true≢false}
 use Rattle.run_trunks.specs.Calls.{HasNumbersFor, MayCall, SaysNothing, makes}
 use Rattle.run_trunks.specs.States.{is_of}
 use Rattle.run_trunks.proofs.Placed.{calls-more, granted-there, was_stays}

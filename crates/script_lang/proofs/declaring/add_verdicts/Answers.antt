@@ -1,5 +1,4 @@
-use Rattle.std.proofs.Common.{List, ap, ◌∙◌, arith}
-use Rattle.std.proofs.lemmas.List.{take_all}
+use Rattle.std.proofs.Common.{List, ap, ◌∙◌, arith, take_all}
 use Rattle.linx_base.specs.declared.frame.Verdict.{Verdict}
 use Rattle.script_lang.specs.Parts.{with_verdicts}
 use Rattle.script_lang.proofs.Verdicts.{room_more, plans_stay, verdicts_none, verdicts_more}

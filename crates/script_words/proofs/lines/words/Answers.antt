@@ -1,10 +1,9 @@
-use Rattle.std.proofs.Common.{◌==◌, not, length, rules}
+use Rattle.std.proofs.Common.{◌==◌, not, length, rules, tests}
 use Rattle.std.proofs.lemmas.Iterator.Consumers.{YieldsList-from_filter, map_from_collect}
 use Rattle.std.proofs.lemmas.Iterator.Search.{YieldsList-from_take_while}
 use Rattle.std.proofs.lemmas.Iterator.Splits.{YieldsList-from_slice_split}
 use Rattle.script_words.specs.Lines.{is_space, is_comment, words_of}
 use Rattle.script_words.proofs.lines.words.Goals as goal
-use borrow.Author.Tests.{tests}
 
 pub returns : goal.returns
 unfolding words_of

@@ -1,5 +1,4 @@
-use Rattle.std.proofs.Common.{length-take-le, sym, arith}
-use Rattle.std.proofs.lemmas.List.{take_all}
+use Rattle.std.proofs.Common.{length-take-le, sym, arith, take_all}
 use Rattle.script_words.proofs.word.front_of.Goals as goal
 
 pub slice_bounds-result-end : goal.slice_bounds-result-end

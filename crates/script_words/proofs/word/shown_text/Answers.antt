@@ -1,5 +1,4 @@
-use Rattle.std.proofs.Common.{List, ℕ, ap, sym, ◌∙◌, arith}
-use Rattle.std.proofs.lemmas.List.{take_all}
+use Rattle.std.proofs.Common.{List, ℕ, ap, sym, ◌∙◌, arith, take_all}
 use Rattle.script_words.specs.Failures.{shown}
 use Rattle.script_words.proofs.Padding.{length-shown, shown_more}
 use Rattle.script_words.proofs.word.shown_text.Goals as goal

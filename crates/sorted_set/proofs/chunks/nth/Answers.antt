@@ -1,5 +1,4 @@
-use Rattle.std.proofs.Common.{◌∙◌, ap, sym, ◌+◌, drop, arith}
-use Rattle.std.specs.Prelude.{slice_get}
+use Rattle.std.proofs.Common.{◌∙◌, ap, sym, ◌+◌, drop, arith, slice_get}
 use Rattle.sorted_set.specs.Chunks.{joined}
 use Rattle.sorted_set.proofs.Chunking.{slice_get-front, slice_get-back, joined_drop}
 use Rattle.sorted_set.proofs.chunks.nth.Goals as goal

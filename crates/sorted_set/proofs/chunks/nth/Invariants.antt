@@ -1,5 +1,4 @@
-use Rattle.std.proofs.Common.{◌≡◌, drop}
-use Rattle.std.specs.Prelude.{slice_get}
+use Rattle.std.proofs.Common.{◌≡◌, drop, slice_get}
 use Rattle.sorted_set.specs.Chunks.{joined}
 use Rattle.sorted_set.proofs.chunks.nth.Given as goal
 

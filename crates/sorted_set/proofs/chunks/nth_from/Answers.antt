@@ -1,5 +1,4 @@
-use Rattle.std.proofs.Common.{◌∙◌, ap, ◌+◌, ◌-◌, refl, arith}
-use Rattle.std.specs.Prelude.{slice_get}
+use Rattle.std.proofs.Common.{◌∙◌, ap, ◌+◌, ◌-◌, refl, arith, slice_get}
 use Rattle.std.proofs.lemmas.List.{take_rest}
 use Rattle.sorted_set.specs.Chunks.{joined}
 use Rattle.sorted_set.proofs.Chunking.{ascends_at, nth_here, nth_later}

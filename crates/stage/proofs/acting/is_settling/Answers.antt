@@ -1,8 +1,7 @@
-use Rattle.std.proofs.Common.{◌≡◌, ℕ, Some, None, sym, ◌∙◌, ap, subst, length}
-use Rattle.std.specs.Option.{option_copied}
+use Rattle.std.proofs.Common.{◌≡◌, ℕ, Some, None, sym, ◌∙◌, ap, subst, length, option_copied}
 use Rattle.journal.specs.Logs.{Log, step_at}
 use Rattle.journal.specs.declared.effect.Step.{Step}
-use Rattle.stage.proofs.Latest.{last-tells, none-tells}
+use Rattle.stage.proofs.Settling.Settlers.{last-tells, none-tells}
 use Rattle.stage.proofs.acting.is_settling.Goals as goal
 
 pub returns-in-Some : goal.returns-in-Some

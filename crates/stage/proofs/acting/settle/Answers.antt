@@ -1,12 +1,12 @@
 use Rattle.std.proofs.Common.{ℕ, ◌+◌, ◌<◌, length, sym, subst, arith}
 use Rattle.fabric.specs.Run.{Layout}
 use Rattle.stage.specs.Settlings.{StopsSettling}
-use Rattle.stage.proofs.Going.{not_full}
-use Rattle.stage.proofs.Lasting.{steps_left}
-use Rattle.stage.proofs.Settled.{IsUnderWay, way-begins, way-ends, way-more, way-stops}
-use Rattle.stage.proofs.Settling.{settle-asks}
-use Rattle.stage.proofs.Shortening.{fewer_left, way_at}
-use Rattle.stage.proofs.Whole.{on_err-said}
+use Rattle.stage.proofs.Actors.Going.{not_full}
+use Rattle.stage.proofs.Settling.StepsLeft.{steps_left}
+use Rattle.stage.proofs.Settling.SixTicks.{IsUnderWay, way-begins, way-ends, way-more, way-stops}
+use Rattle.stage.proofs.Settling.Steps.{settle-asks}
+use Rattle.stage.proofs.Settling.FewerLeft.{fewer_left, way_at}
+use Rattle.stage.proofs.Rounds.WholeRuns.{on_err-said}
 use Rattle.stage.proofs.acting.settle.Goals as goal
 
 pub steps-init : goal.steps-init

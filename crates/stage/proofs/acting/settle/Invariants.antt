@@ -1,6 +1,6 @@
-use Rattle.stage.proofs.Lasting.{steps_left}
-use Rattle.stage.proofs.Settled.{IsUnderWay}
-use Rattle.stage.proofs.Shortening.{way_at}
+use Rattle.stage.proofs.Settling.StepsLeft.{steps_left}
+use Rattle.stage.proofs.Settling.SixTicks.{IsUnderWay}
+use Rattle.stage.proofs.Settling.FewerLeft.{way_at}
 use Rattle.stage.proofs.acting.settle.Given as goal
 
 -- the settling is under way

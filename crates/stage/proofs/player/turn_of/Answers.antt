@@ -1,5 +1,4 @@
-use Rattle.std.proofs.Common.{List, ◌∙◌, ap, refl, subst, sym}
-use Rattle.std.specs.Prelude.{IfErr, IfOk, OnErr, Result}
+use Rattle.std.proofs.Common.{List, ◌∙◌, ap, refl, subst, sym, IfErr, IfOk, OnErr, Result}
 use Rattle.script_words.specs.declared.command.Command.{Command}
 use Rattle.actor_run.specs.Asking.{asked_by, handed}
 use Rattle.fabric.specs.declared.stop.StopCause.{StopCause}
@@ -8,7 +7,7 @@ use Rattle.stage.specs.declared.stage.Turn.{Turn}
 use Rattle.stage.specs.Seats.{Learns}
 use Rattle.stage.specs.Stops.{IsCauseOf}
 use Rattle.stage.specs.Turns.{IsActed, IsTurnStopped}
-use Rattle.stage.proofs.Turned.{turn-asks, turn-came, turn-cause, turn-learned, turn-stopped}
+use Rattle.stage.proofs.Actors.Turns.{turn-asks, turn-came, turn-cause, turn-learned, turn-stopped}
 use Rattle.stage.proofs.player.turn_of.Goals as goal
 
 pub act-acted-requires : goal.act-acted-requires

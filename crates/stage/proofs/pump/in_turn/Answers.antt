@@ -1,4 +1,4 @@
-use Rattle.stage.proofs.Pumping.{even-first, odd-second}
+use Rattle.stage.proofs.Plans.PumpsRule.{even-first, odd-second}
 use Rattle.stage.proofs.pump.in_turn.Goals as goal
 
 pub returns-then-ticks-eq0 : goal.returns-then-ticks-eq0

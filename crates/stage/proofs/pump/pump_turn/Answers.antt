@@ -1,12 +1,11 @@
-use Rattle.std.proofs.Common.{◌≡◌, true, ◌∙◌, ap, inl, refl, sym, subst}
-use Rattle.std.specs.Prelude.{is_some}
+use Rattle.std.proofs.Common.{◌≡◌, true, ◌∙◌, ap, inl, refl, sym, subst, is_some}
 use Rattle.journal.specs.Shapes.{Shape}
 use Rattle.link_laws.specs.Ends.{IsLinkOf}
 use Rattle.run_trunks.specs.States.{trunks_of}
 use Rattle.stage.specs.Settlings.{stirs_in}
 use Rattle.stage.specs.Turns.{IsDueForLink, makes_event}
-use Rattle.stage.proofs.Pumping.{pump-asks, pump-stirs}
-use Rattle.stage.proofs.Whole.{on_err-said}
+use Rattle.stage.proofs.Plans.PumpsRule.{pump-asks, pump-stirs}
+use Rattle.stage.proofs.Rounds.WholeRuns.{on_err-said}
 use Rattle.stage.proofs.pump.pump_turn.Goals as goal
 
 pub make_step-requires : goal.make_step-requires

@@ -1,7 +1,7 @@
 use Rattle.std.proofs.Common.{subst}
 use Rattle.journal.specs.Shapes.{Shape}
 use Rattle.link_laws.specs.Ends.{IsLinkOf}
-use Rattle.stage.proofs.Pumping.{link-named}
+use Rattle.stage.proofs.Plans.PumpsRule.{link-named}
 use Rattle.stage.proofs.pump.verdict_for.Goals as goal
 
 pub plan-requires : goal.plan-requires

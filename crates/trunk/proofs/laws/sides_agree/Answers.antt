@@ -1,4 +1,4 @@
-use Rattle.trunk.proofs.Trunks.{agree}
+use Rattle.trunk.proofs.EachEvent.Trunks.{agree}
 use Rattle.trunk.proofs.laws.sides_agree.Goals as goal
 
 pub returns : goal.returns

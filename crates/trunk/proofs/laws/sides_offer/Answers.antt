@@ -1,4 +1,4 @@
-use Rattle.trunk.proofs.Trunks.{offers}
+use Rattle.trunk.proofs.EachEvent.Trunks.{offers}
 use Rattle.trunk.proofs.laws.sides_offer.Goals as goal
 
 pub returns : goal.returns

@@ -1,4 +1,4 @@
-use Rattle.trunk.proofs.Trunks.{trunk_record}
+use Rattle.trunk.proofs.EachEvent.Trunks.{trunk_record}
 use Rattle.trunk.proofs.laws.trunks_keep_records.Goals as goal
 
 pub returns : goal.returns

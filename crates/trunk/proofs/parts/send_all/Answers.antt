@@ -1,7 +1,6 @@
-use Rattle.std.proofs.Common.{◌∙◌, sym, subst}
-use Rattle.std.specs.Prelude.{IsSome}
-use Rattle.trunk.proofs.Going.{all_went, goes_on, messages_left, none_left, numbers_left, same_side}
-use Rattle.trunk.proofs.Going.{shorter}
+use Rattle.std.proofs.Common.{◌∙◌, sym, subst, IsSome}
+use Rattle.trunk.proofs.Messages.Sends.{all_went, goes_on, messages_left, none_left, numbers_left}
+use Rattle.trunk.proofs.Messages.Sends.{same_side, shorter}
 use Rattle.trunk.proofs.parts.send_all.Goals as goal
 
 pub sending-smaller : goal.sending-smaller

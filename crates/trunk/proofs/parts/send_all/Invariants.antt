@@ -1,5 +1,4 @@
-use Rattle.std.proofs.Common.{◌≡◌, ◌≤◌, ◌*◌, length}
-use Rattle.std.specs.Prelude.{IsSome}
+use Rattle.std.proofs.Common.{◌≡◌, ◌≤◌, ◌*◌, length, IsSome}
 use Rattle.std.specs.List.{AllByRecursion}
 use Rattle.linx_base.specs.Frames.{IsMessage}
 use Rattle.ethcm_window.specs.Sending.{left_of}

@@ -1,5 +1,5 @@
 use Rattle.std.proofs.Common.{◌∙◌, sym}
-use Rattle.trunk.proofs.Coming.{began_ready, heard_ready}
+use Rattle.trunk.proofs.Messages.Answers.{began_ready, heard_ready}
 use Rattle.trunk.proofs.steps.deliver.Goals as goal
 
 pub send_out-requires-clause-messages : goal.send_out-requires-clause-messages

@@ -1,7 +1,7 @@
 use Rattle.rlnh_end.specs.Calls.{query_of}
 use Rattle.trunk.specs.Events.{tables_of}
-use Rattle.trunk.proofs.Sending.{call_messages}
-use Rattle.trunk.proofs.Trunks.{offers}
+use Rattle.trunk.proofs.Messages.MaySend.{call_messages}
+use Rattle.trunk.proofs.EachEvent.Trunks.{offers}
 use Rattle.trunk.proofs.steps.query.Goals as goal
 
 pub send_out-requires-clause-messages : goal.send_out-requires-clause-messages

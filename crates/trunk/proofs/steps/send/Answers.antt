@@ -2,8 +2,8 @@ use Rattle.std.proofs.Common.{◌∙◌}
 use Rattle.rlnh_end.specs.Calls.{send_of}
 use Rattle.trunk.specs.Events.{side_of, tables_of}
 use Rattle.trunk.specs.Parts.{side_says}
-use Rattle.trunk.proofs.Sending.{call_messages, meets_up, sends_up, stays_up}
-use Rattle.trunk.proofs.Trunks.{agree, offers}
+use Rattle.trunk.proofs.Messages.MaySend.{call_messages, meets_up, sends_up, stays_up}
+use Rattle.trunk.proofs.EachEvent.Trunks.{agree, offers}
 use Rattle.trunk.proofs.steps.send.Goals as goal
 
 pub send-requires-clause-met : goal.send-requires-clause-met

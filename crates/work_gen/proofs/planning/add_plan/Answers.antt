@@ -1,5 +1,4 @@
-use Rattle.std.proofs.Common.{◌+◌, ◌<◌, List, length, ap, ◌∙◌, sym, arith}
-use Rattle.std.proofs.lemmas.List.{take_all}
+use Rattle.std.proofs.Common.{◌+◌, ◌<◌, List, length, ap, ◌∙◌, sym, arith, take_all}
 use Rattle.linx_base.specs.declared.identity.LinkNo.{LinkNo}
 use Rattle.linx_base.specs.declared.frame.Verdict.{Verdict}
 use Rattle.script_lang.specs.Parts.{with_verdict, with_verdicts}

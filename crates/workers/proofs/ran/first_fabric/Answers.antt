@@ -1,6 +1,6 @@
 use Rattle.std.proofs.Common.{List, map, ◌∙◌, ap}
 use Rattle.script_lang.specs.declared.actor_script.ActorScript.{ActorScript}
-use Rattle.stage.proofs.LaidOut.{laid_out-as}
+use Rattle.stage.proofs.Rounds.LayingOut.{laid_out-as}
 use Rattle.workers.proofs.ran.first_fabric.Goals as goal
 
 pub new-requires : goal.new-requires

@@ -5,7 +5,7 @@ use Rattle.turn_lock.specs.Passes.{PassView}
 use Rattle.linx_api.specs.Telling.{PlanParts}
 use Rattle.workers.specs.Working.{seen}
 use Rattle.workers.proofs.Giving.{pump-finished, pumped-gives, pumped-knows}
-use Rattle.stage.proofs.OneState.{one_state}
+use Rattle.stage.proofs.Plans.OneState.{one_state}
 use Rattle.workers.proofs.Resting.{found-shape, given-back, seen-all}
 use Rattle.workers.proofs.worker.pump_in_turn.Goals as goal
 

@@ -6,7 +6,7 @@ use Rattle.stage.specs.declared.player.Player.{Player}
 use Rattle.stage.specs.Seats.{Learns}
 use Rattle.stage.specs.Turns.{commands_of}
 use Rattle.workers.specs.Turning.{stop_met}
-use Rattle.stage.proofs.OneState.{one_state}
+use Rattle.stage.proofs.Plans.OneState.{one_state}
 use Rattle.workers.proofs.Playing.{acted-done, acted-full, acted-knows, acted-runs, seat-within}
 use Rattle.workers.proofs.worker.turn_of.Goals as goal
 

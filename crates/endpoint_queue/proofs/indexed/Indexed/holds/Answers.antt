@@ -1,5 +1,4 @@
-use Rattle.std.proofs.Common.{◌∙◌, ap}
-use Rattle.std.specs.Prelude.{is_some}
+use Rattle.std.proofs.Common.{◌∙◌, ap, is_some}
 use Rattle.sigsel.specs.Selection.{first_selected, is_selected}
 use Rattle.sigsel.specs.Selects.{selects}
 use Rattle.endpoint_queue.proofs.Kept.{held, is_some_items}

@@ -1,5 +1,4 @@
-use Rattle.std.proofs.Common.{refl, subst, sym, ◌+◌, ◌∙◌, ap, ◌==◌, cond, ℕ, ◌≡◌}
-use Rattle.std.specs.Prelude.{Some, unwrap_or}
+use Rattle.std.proofs.Common.{refl, subst, sym, ◌+◌, ◌∙◌, ap, ◌==◌, cond, ℕ, ◌≡◌, Some, unwrap_or}
 use Rattle.front_heap.specs.Heap.{ticket_of}
 use Rattle.endpoint_queue.specs.declared.queued.Queued.{Queued}
 use Rattle.endpoint_queue.specs.Waiting.{IsQueue}

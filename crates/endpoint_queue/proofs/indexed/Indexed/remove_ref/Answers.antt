@@ -1,9 +1,8 @@
 use Rattle.std.proofs.Common.{◌∙◌}
 use Rattle.sigsel.specs.Selection.{is_notice_of}
 use Rattle.endpoint_queue.specs.Keys.{is_notice}
-use Rattle.endpoint_queue.proofs.Kept.{item_found, item_missing, items_left}
-use Rattle.endpoint_queue.proofs.Kept.{number_waits, others_agree, same_first, same_without, taken}
-use Rattle.endpoint_queue.proofs.Kept.{unchanged}
+use Rattle.endpoint_queue.proofs.Kept.{item_found, item_missing, items_left, number_waits}
+use Rattle.endpoint_queue.proofs.Kept.{others_agree, same_first, same_without, taken, unchanged}
 use Rattle.endpoint_queue.proofs.indexed.Indexed.remove_ref.Goals as goal
 
 -- NO NOTICE

@@ -1,5 +1,4 @@
-use Rattle.std.proofs.Common.{◌∙◌, ap, not, sym}
-use Rattle.std.specs.Prelude.{is_some}
+use Rattle.std.proofs.Common.{◌∙◌, ap, not, sym, is_some}
 use Rattle.endpoint_queue.proofs.Lines.{any_of_line, none_of_line}
 use Rattle.endpoint_queue.proofs.line.Line.holds.Goals as goal
 

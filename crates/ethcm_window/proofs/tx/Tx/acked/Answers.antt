@@ -1,5 +1,4 @@
-use Rattle.std.proofs.Common.{◌≡◌, ◌∙◌, ◌-◌, refl, sym, arith, length, drop}
-use Rattle.std.proofs.lemmas.List.{drop-drop}
+use Rattle.std.proofs.Common.{◌≡◌, ◌∙◌, ◌-◌, refl, sym, arith, length, drop, drop-drop}
 use Rattle.ethcm_window.proofs.Numbering.{sender_now, unchanged_coming, acked_answer}
 use Rattle.ethcm_window.proofs.tx.Tx.acked.Goals as goal
 

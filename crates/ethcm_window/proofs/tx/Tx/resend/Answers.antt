@@ -1,5 +1,4 @@
-use Rattle.std.proofs.Common.{arith}
-use Rattle.std.proofs.lemmas.List.{drop-drop}
+use Rattle.std.proofs.Common.{arith, drop-drop}
 use Rattle.ethcm_window.proofs.Numbering.{sender_now, resend_answer}
 use Rattle.ethcm_window.proofs.tx.Tx.resend.Goals as goal
 

@@ -1,10 +1,9 @@
 use Rattle.std.proofs.Common.{ℕ, ◌≡◌, ◌&&◌, Bool, false, suc, ◌∙◌, sym, ap, refl, add-one, arith}
-use Rattle.std.proofs.Common.{length, List}
-use Rattle.std.specs.Prelude.{◌==◌, ◌||◌}
+use Rattle.std.proofs.Common.{length, List, ◌==◌, ◌||◌}
 use Rattle.journal.specs.declared.effect.Step.{Step}
 use Rattle.journal.specs.Rest.{leaves_at_rest}
 use Rattle.fabric.specs.Machine.{all_leave_at_rest}
-use Rattle.fabric.proofs.Counting.{fails-on}
+use Rattle.fabric.proofs.Standings.Counting.{fails-on}
 use Rattle.fabric.proofs.fabric.Fabric.all_leave_at_rest.Goals as goal
 
 pub returns-then-not-leaves_at_rest : goal.returns-then-not-leaves_at_rest

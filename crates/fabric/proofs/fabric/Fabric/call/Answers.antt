@@ -1,13 +1,12 @@
-use Rattle.std.proofs.Common.{◌-◌, sym, ◌∙◌, subst}
-use Rattle.std.specs.Prelude.{slice_set}
+use Rattle.std.proofs.Common.{◌-◌, sym, ◌∙◌, subst, slice_set}
 use Rattle.node_kernel.specs.Nodes.{NodeState}
 use Rattle.fabric.specs.Calls.{IsKnown, ask_of_call}
 use Rattle.fabric.specs.declared.fabric.Fabric.TheView.{view}
-use Rattle.fabric.proofs.Called.{made-call}
-use Rattle.fabric.proofs.Granted.{may-tell}
-use Rattle.fabric.proofs.Placed.{acting, endpoint-seen, kernel-is, may-seen, node-is, own_open}
-use Rattle.fabric.proofs.Placed.{sees}
-use Rattle.fabric.proofs.Seen.{IsMadeSeen, made-told, parts_of}
+use Rattle.fabric.proofs.Methods.Calls.{made-call}
+use Rattle.fabric.proofs.Trunks.Grants.{may-tell}
+use Rattle.fabric.proofs.Standings.KernelAndStanding.{acting, endpoint-seen, kernel-is, may-seen}
+use Rattle.fabric.proofs.Standings.KernelAndStanding.{node-is, own_open, sees}
+use Rattle.fabric.proofs.Methods.FieldsOfFabric.{IsMadeSeen, made-told, parts_of}
 use Rattle.fabric.proofs.fabric.Fabric.call.Goals as goal
 use Rattle.fabric.proofs.fabric.Fabric.call.Goals.{After-call}
 

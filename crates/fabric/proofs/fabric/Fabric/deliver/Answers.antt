@@ -1,5 +1,4 @@
-use Rattle.std.proofs.Common.{None, ◌-◌, ◌∙◌, ap, arith, refl}
-use Rattle.std.specs.Prelude.{slice_set}
+use Rattle.std.proofs.Common.{None, ◌-◌, ◌∙◌, ap, arith, refl, slice_set}
 use Rattle.linx_base.specs.Sides.{other_of}
 use Rattle.journal.specs.declared.event.Event.TheVariants as asks
 use Rattle.journal.specs.declared.head.Head.TheVariants as heads
@@ -8,11 +7,12 @@ use Rattle.fabric.specs.Bringings.{IsThere}
 use Rattle.fabric.specs.Run.{Layout}
 use Rattle.fabric.specs.Standings.{waiting_no_more}
 use Rattle.fabric.specs.declared.fabric.Fabric.TheView.{view}
-use Rattle.fabric.proofs.Counting.{take-front}
-use Rattle.fabric.proofs.OnLinks.{IsMadeThere, made-there, parts_there}
-use Rattle.fabric.proofs.Passing.{made-delivered, may-deliver}
-use Rattle.fabric.proofs.Placed.{at-value, back, may-seen, sees}
-use Rattle.fabric.proofs.There.{above-there, kernel-there, line-room, node-at, numbers-there}
+use Rattle.fabric.proofs.Standings.Counting.{take-front}
+use Rattle.fabric.proofs.Methods.StepsOnLinks.{IsMadeThere, made-there, parts_there}
+use Rattle.fabric.proofs.Methods.Packets.{made-delivered, may-deliver}
+use Rattle.fabric.proofs.Standings.KernelAndStanding.{at-value, back, may-seen, sees}
+use Rattle.fabric.proofs.Methods.KernelAndLine.{above-there, kernel-there, line-room, node-at}
+use Rattle.fabric.proofs.Methods.KernelAndLine.{numbers-there}
 use Rattle.fabric.proofs.fabric.Fabric.deliver.Goals as goal
 use Rattle.fabric.proofs.fabric.Fabric.deliver.Goals.{After-wait_no_more}
 

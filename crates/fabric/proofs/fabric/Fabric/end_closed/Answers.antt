@@ -1,9 +1,9 @@
 use Rattle.std.proofs.Common.{None}
 use Rattle.journal.specs.declared.event.Event.TheVariants as asks
 use Rattle.node_kernel.specs.declared.answers.StepAnswer.TheVariants as answers
-use Rattle.fabric.proofs.Placed.{acting-home, endpoint-seen, makes-seen, sees}
+use Rattle.fabric.proofs.Standings.KernelAndStanding.{acting-home, endpoint-seen, makes-seen, sees}
 use Rattle.fabric.specs.Actings.{asking}
-use Rattle.fabric.proofs.Looking.{lay_still, made-end_closed}
+use Rattle.fabric.proofs.Methods.QuietSteps.{lay_still, made-end_closed}
 use Rattle.fabric.proofs.fabric.Fabric.end_closed.Goals as goal
 
 pub invariant_of-self : goal.invariant_of-self

@@ -3,7 +3,7 @@ use Rattle.std.proofs.Common.{length, List}
 use Rattle.journal.specs.declared.effect.Step.{Step}
 use Rattle.journal.specs.History.{has_ended}
 use Rattle.fabric.specs.Machine.{have_ended}
-use Rattle.fabric.proofs.Counting.{fails-on}
+use Rattle.fabric.proofs.Standings.Counting.{fails-on}
 use Rattle.fabric.proofs.fabric.Fabric.have_ended.Goals as goal
 
 pub returns-then-not-has_ended : goal.returns-then-not-has_ended

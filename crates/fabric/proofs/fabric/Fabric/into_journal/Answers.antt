@@ -1,5 +1,5 @@
-use Rattle.fabric.proofs.Placed.{at-value, legal-seen, promises-seen, sees}
-use Rattle.fabric.proofs.Resting.{all-over}
+use Rattle.fabric.proofs.Standings.KernelAndStanding.{at-value, legal-seen, promises-seen, sees}
+use Rattle.fabric.proofs.Trunks.Resting.{all-over}
 use Rattle.fabric.proofs.fabric.Fabric.into_journal.Goals as goal
 
 pub returns-clause-legal : goal.returns-clause-legal

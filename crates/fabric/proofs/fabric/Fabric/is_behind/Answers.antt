@@ -1,5 +1,5 @@
 use Rattle.std.proofs.Common.{◌+◌, arith}
-use Rattle.fabric.proofs.Leading.{behind}
+use Rattle.fabric.proofs.Standings.Leading.{behind}
 use Rattle.fabric.proofs.fabric.Fabric.is_behind.Goals as goal
 
 pub returns-then-self-actor_count : goal.returns-then-self-actor_count

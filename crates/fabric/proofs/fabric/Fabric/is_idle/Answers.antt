@@ -1,5 +1,5 @@
 use Rattle.std.proofs.Common.{◌∙◌}
-use Rattle.fabric.proofs.Placed.{idle-is, idle-open, sees, stands}
+use Rattle.fabric.proofs.Standings.KernelAndStanding.{idle-is, idle-open, sees, stands}
 use Rattle.fabric.proofs.fabric.Fabric.is_idle.Goals as goal
 
 pub is_vain-requires : goal.is_vain-requires

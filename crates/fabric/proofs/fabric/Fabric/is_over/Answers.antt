@@ -1,6 +1,6 @@
 use Rattle.std.proofs.Common.{sym, ◌∙◌}
-use Rattle.fabric.proofs.Placed.{at-value}
-use Rattle.fabric.proofs.Resting.{all-over}
+use Rattle.fabric.proofs.Standings.KernelAndStanding.{at-value}
+use Rattle.fabric.proofs.Trunks.Resting.{all-over}
 use Rattle.fabric.proofs.fabric.Fabric.is_over.Goals as goal
 
 pub returns-clause-over : goal.returns-clause-over

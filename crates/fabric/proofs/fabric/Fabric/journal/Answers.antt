@@ -1,4 +1,4 @@
-use Rattle.fabric.proofs.Placed.{at-value, legal-seen, promises-seen, sees}
+use Rattle.fabric.proofs.Standings.KernelAndStanding.{at-value, legal-seen, promises-seen, sees}
 use Rattle.fabric.proofs.fabric.Fabric.journal.Goals as goal
 
 pub returns-clause-legal : goal.returns-clause-legal

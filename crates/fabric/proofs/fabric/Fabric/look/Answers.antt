@@ -1,5 +1,4 @@
-use Rattle.std.proofs.Common.{None, ◌≡◌, sym, ◌∙◌, ap, subst}
-use Rattle.std.specs.Result.{IfOk}
+use Rattle.std.proofs.Common.{None, ◌≡◌, sym, ◌∙◌, ap, subst, IfOk}
 use Rattle.sigsel.specs.declared.sigsel.Sigsel.{Sigsel}
 use Rattle.journal.specs.Logs.{Log}
 use Rattle.journal.specs.declared.by.By.TheVariants.{Actor}
@@ -7,11 +6,11 @@ use Rattle.journal.specs.declared.event.Event.TheVariants as asks
 use Rattle.node_kernel.specs.declared.answers.StepAnswer.TheVariants as answers
 use Rattle.fabric.specs.Actings.{HasMade, asking}
 use Rattle.fabric.specs.Run.{Layout}
-use Rattle.fabric.proofs.Placed.{acting, endpoint-seen, makes-seen, own_open, sees}
-use Rattle.fabric.proofs.Unchanged.{after_take-none, found-is, kept-same, still-vain}
-use Rattle.fabric.proofs.Unchanged.{take-none_log}
-use Rattle.fabric.proofs.Unchanged.{vain-filter, vain-is}
-use Rattle.fabric.proofs.Looking.{lay_still, made-take, vain-queue}
+use Rattle.fabric.proofs.Standings.KernelAndStanding.{acting, endpoint-seen, makes-seen, own_open}
+use Rattle.fabric.proofs.Standings.KernelAndStanding.{sees}
+use Rattle.fabric.proofs.Methods.Unchanged.{after_take-none, found-is, kept-same, still-vain}
+use Rattle.fabric.proofs.Methods.Unchanged.{take-none_log, vain-filter, vain-is}
+use Rattle.fabric.proofs.Methods.QuietSteps.{lay_still, made-take, vain-queue}
 use Rattle.fabric.proofs.fabric.Fabric.look.Goals as goal
 
 pub make_take-made-requires : goal.make_take-made-requires

@@ -4,8 +4,8 @@ use Rattle.node_kernel.specs.declared.answers.StepAnswer.TheVariants as answers
 use Rattle.fabric.specs.Actings.{asking}
 use Rattle.fabric.specs.Lines.{event_of_mark}
 use Rattle.fabric.specs.Run.{Layout}
-use Rattle.fabric.proofs.Marking.{made-marked, mark-fits}
-use Rattle.fabric.proofs.Placed.{acting-home, back, makes-seen, sees}
+use Rattle.fabric.proofs.Methods.Marks.{made-marked, mark-fits}
+use Rattle.fabric.proofs.Standings.KernelAndStanding.{acting-home, back, makes-seen, sees}
 use Rattle.fabric.proofs.fabric.Fabric.mark.Goals as goal
 
 pub invariant_of-self : goal.invariant_of-self

@@ -1,6 +1,6 @@
 use Rattle.std.proofs.Common.{sym, ◌∙◌}
-use Rattle.fabric.proofs.Placed.{at-value}
-use Rattle.fabric.proofs.Resting.{at-rest}
+use Rattle.fabric.proofs.Standings.KernelAndStanding.{at-value}
+use Rattle.fabric.proofs.Trunks.Resting.{at-rest}
 use Rattle.fabric.proofs.fabric.Fabric.may_find_none.Goals as goal
 
 pub returns-clause-rest : goal.returns-clause-rest

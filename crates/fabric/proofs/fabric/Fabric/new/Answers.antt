@@ -1,7 +1,7 @@
 use Rattle.std.proofs.Common.{◌≡◌, length, replicate, refl, ◌∙◌, ap, arith}
 use Rattle.run_trunks.specs.States.{new_trunks}
 use Rattle.fabric.specs.Standings.{empty_nodes}
-use Rattle.fabric.proofs.Counting.{kept-new}
+use Rattle.fabric.proofs.Standings.Counting.{kept-new}
 use Rattle.fabric.proofs.fabric.Fabric.new.Goals as goal
 
 pub invariant_of-result : goal.invariant_of-result

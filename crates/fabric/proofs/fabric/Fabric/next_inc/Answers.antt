@@ -1,5 +1,5 @@
 use Rattle.std.proofs.Common.{◌∙◌, arith}
-use Rattle.fabric.proofs.Placed.{openings-at, openings_fit, sees, stands}
+use Rattle.fabric.proofs.Standings.KernelAndStanding.{openings-at, openings_fit, sees, stands}
 use Rattle.fabric.proofs.fabric.Fabric.next_inc.Goals as goal
 
 pub overflow_add-openings : goal.overflow_add-openings

@@ -1,11 +1,10 @@
 use Rattle.std.proofs.Common.{ℕ, ◌≡◌, ◌&&◌, not, Bool, false, suc, ◌∙◌, sym, ap, refl, add-one}
-use Rattle.std.proofs.Common.{arith}
-use Rattle.std.proofs.Common.{length, List}
+use Rattle.std.proofs.Common.{arith, length, List}
 use Rattle.journal.specs.declared.effect.Step.{Step}
 use Rattle.run_trunks.specs.States.{trunks_of}
 use Rattle.trunk_moves.specs.Trunks.{RunTrunks}
 use Rattle.fabric.specs.Links.{none_stirs, stirs}
-use Rattle.fabric.proofs.Counting.{fails-on}
+use Rattle.fabric.proofs.Standings.Counting.{fails-on}
 use Rattle.fabric.proofs.fabric.Fabric.no_link_stirs.Goals as goal
 
 pub returns-then-stirs : goal.returns-then-stirs

@@ -1,10 +1,10 @@
-use Rattle.std.specs.Prelude.{◌-◌, slice_set}
+use Rattle.std.proofs.Common.{◌-◌, slice_set}
 use Rattle.node_kernel.specs.Answers.{refused}
 use Rattle.node_kernel.specs.declared.answers.StepAnswer.TheVariants as answers
 use Rattle.fabric.specs.declared.fabric.Fabric.TheView.{view}
-use Rattle.fabric.proofs.Placed.{acting-home, sees}
-use Rattle.fabric.proofs.Looking.{made-refuse}
-use Rattle.fabric.proofs.Seen.{IsMadeSeen, made-still, parts_of}
+use Rattle.fabric.proofs.Standings.KernelAndStanding.{acting-home, sees}
+use Rattle.fabric.proofs.Methods.QuietSteps.{made-refuse}
+use Rattle.fabric.proofs.Methods.FieldsOfFabric.{IsMadeSeen, made-still, parts_of}
 use Rattle.fabric.proofs.fabric.Fabric.note_refusal.Goals as goal
 use Rattle.fabric.proofs.fabric.Fabric.note_refusal.Goals.{After-wait}
 

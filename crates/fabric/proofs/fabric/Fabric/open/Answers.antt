@@ -1,15 +1,15 @@
-use Rattle.std.proofs.Common.{None, ◌-◌, ◌∙◌, ap}
-use Rattle.std.specs.Prelude.{slice_set}
+use Rattle.std.proofs.Common.{None, ◌-◌, ◌∙◌, ap, slice_set}
 use Rattle.journal.specs.declared.event.Event.TheVariants as asks
 use Rattle.node_kernel.specs.declared.answers.StepAnswer.TheVariants as answers
 use Rattle.node_kernel.specs.Nodes.{next_of}
 use Rattle.fabric.specs.Actings.{asking}
 use Rattle.fabric.specs.declared.fabric.Fabric.TheView.{view}
-use Rattle.fabric.proofs.Granted.{granted-numbers, granted-open}
-use Rattle.fabric.proofs.Opening.{made-opened}
-use Rattle.fabric.proofs.Own.{as_opened}
-use Rattle.fabric.proofs.Placed.{acting, endpoint-seen, endpoints_fit, next-at, openings_fit, sees}
-use Rattle.fabric.proofs.Seen.{IsMadeSeen, made-told, parts_of}
+use Rattle.fabric.proofs.Trunks.Grants.{granted-numbers, granted-open}
+use Rattle.fabric.proofs.Methods.Openings.{made-opened}
+use Rattle.fabric.proofs.Standings.MakerAfterStep.{as_opened}
+use Rattle.fabric.proofs.Standings.KernelAndStanding.{acting, endpoint-seen, endpoints_fit, next-at}
+use Rattle.fabric.proofs.Standings.KernelAndStanding.{openings_fit, sees}
+use Rattle.fabric.proofs.Methods.FieldsOfFabric.{IsMadeSeen, made-told, parts_of}
 use Rattle.fabric.proofs.fabric.Fabric.open.Goals as goal
 use Rattle.fabric.proofs.fabric.Fabric.open.Goals.{After-open}
 

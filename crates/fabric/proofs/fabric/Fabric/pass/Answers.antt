@@ -5,11 +5,11 @@ use Rattle.run_trunks.specs.States.{TrunksState}
 use Rattle.fabric.specs.Actings.{asking}
 use Rattle.fabric.specs.Standings.{waiting_no_more}
 use Rattle.fabric.specs.declared.fabric.Fabric.TheView.{view}
-use Rattle.fabric.proofs.Counting.{take-front}
-use Rattle.fabric.proofs.OnLinks.{IsMadeThere, made-there, parts_there}
-use Rattle.fabric.proofs.Passing.{made-passed}
-use Rattle.fabric.proofs.Placed.{at-value, may-seen, sees}
-use Rattle.fabric.proofs.There.{line-room}
+use Rattle.fabric.proofs.Standings.Counting.{take-front}
+use Rattle.fabric.proofs.Methods.StepsOnLinks.{IsMadeThere, made-there, parts_there}
+use Rattle.fabric.proofs.Methods.Packets.{made-passed}
+use Rattle.fabric.proofs.Standings.KernelAndStanding.{at-value, may-seen, sees}
+use Rattle.fabric.proofs.Methods.KernelAndLine.{line-room}
 use Rattle.fabric.proofs.fabric.Fabric.pass.Goals as goal
 use Rattle.fabric.proofs.fabric.Fabric.pass.Goals.{After-wait_no_more}
 

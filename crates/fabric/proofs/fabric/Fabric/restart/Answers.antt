@@ -1,15 +1,14 @@
-use Rattle.std.proofs.Common.{◌≡◌, ℕ, None, ◌+◌, ◌-◌, List, length, refl, ◌∙◌, ap, arith}
-use Rattle.std.specs.Prelude.{slice_set}
+use Rattle.std.proofs.Common.{◌≡◌, ℕ, None, ◌+◌, ◌-◌, List, length, refl, ◌∙◌, ap, arith, slice_set}
 use Rattle.journal.specs.declared.event.Event.TheVariants as asks
 use Rattle.node_kernel.specs.declared.answers.StepAnswer.TheVariants as answers
 use Rattle.fabric.specs.Actings.{asking}
 use Rattle.fabric.specs.declared.fabric.Fabric.TheView.{view}
 use Rattle.fabric.specs.declared.standing.Standing.{Standing}
-use Rattle.fabric.proofs.Counting.{take-front}
-use Rattle.fabric.proofs.Granted.{granted-restart}
-use Rattle.fabric.proofs.Placed.{acting-home, at-value, may-seen, sees}
-use Rattle.fabric.proofs.Restarted.{boot-fits, made-restart}
-use Rattle.fabric.proofs.Seen.{IsMadeSeen, made-told, parts_of, refilled}
+use Rattle.fabric.proofs.Standings.Counting.{take-front}
+use Rattle.fabric.proofs.Trunks.Grants.{granted-restart}
+use Rattle.fabric.proofs.Standings.KernelAndStanding.{acting-home, at-value, may-seen, sees}
+use Rattle.fabric.proofs.Methods.Restarts.{boot-fits, made-restart}
+use Rattle.fabric.proofs.Methods.FieldsOfFabric.{IsMadeSeen, made-told, parts_of, refilled}
 use Rattle.fabric.proofs.fabric.Fabric.restart.Goals as goal
 use Rattle.fabric.proofs.fabric.Fabric.restart.Goals.{After-wait}
 

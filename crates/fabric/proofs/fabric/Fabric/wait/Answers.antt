@@ -2,11 +2,11 @@ use Rattle.std.proofs.Common.{None, ◌∙◌, ap}
 use Rattle.journal.specs.Logs.{Log}
 use Rattle.journal.specs.declared.event.Event.TheVariants as asks
 use Rattle.node_kernel.specs.declared.answers.StepAnswer.TheVariants as answers
-use Rattle.fabric.proofs.Own.{as_waiting}
-use Rattle.fabric.proofs.Placed.{acting-home, makes-seen, sees}
+use Rattle.fabric.proofs.Standings.MakerAfterStep.{as_waiting}
+use Rattle.fabric.proofs.Standings.KernelAndStanding.{acting-home, makes-seen, sees}
 use Rattle.fabric.specs.Actings.{asking}
-use Rattle.fabric.proofs.Idling.{waits-idle}
-use Rattle.fabric.proofs.Looking.{lay_still, made-wait}
+use Rattle.fabric.proofs.Standings.Idling.{waits-idle}
+use Rattle.fabric.proofs.Methods.QuietSteps.{lay_still, made-wait}
 use Rattle.fabric.proofs.fabric.Fabric.wait.Goals as goal
 
 pub invariant_of-self : goal.invariant_of-self

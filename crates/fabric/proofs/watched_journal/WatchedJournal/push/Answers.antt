@@ -3,8 +3,8 @@ use Rattle.std.proofs.Common.{arith}
 use Rattle.linx_base.specs.declared.identity.Inc.{Inc}
 use Rattle.journal.specs.Logs.{Log}
 use Rattle.fabric.specs.Idle.{AreIdle, noted_past}
-use Rattle.fabric.proofs.Counting.{take-front}
-use Rattle.fabric.proofs.Idling.{idle-past}
+use Rattle.fabric.proofs.Standings.Counting.{take-front}
+use Rattle.fabric.proofs.Standings.Idling.{idle-past}
 use Rattle.fabric.proofs.watched_journal.WatchedJournal.push.Goals as goal
 
 pub invariant_of-self : goal.invariant_of-self

@@ -5,8 +5,8 @@ use Rattle.journal.specs.Logs.{Log}
 use Rattle.journal.specs.declared.effect.Effect.{Effect}
 use Rattle.journal.specs.declared.effect.Step.{Step}
 use Rattle.fabric.specs.Idle.{AreIdle, noted_past, unless_reached, without_maker}
-use Rattle.fabric.proofs.Counting.{take-front}
-use Rattle.fabric.proofs.Idling.{idle-past, unreached}
+use Rattle.fabric.proofs.Standings.Counting.{take-front}
+use Rattle.fabric.proofs.Standings.Idling.{idle-past, unreached}
 use Rattle.fabric.proofs.watched_journal.WatchedJournal.push_quiet.Goals as goal
 
 pub invariant_of-self : goal.invariant_of-self

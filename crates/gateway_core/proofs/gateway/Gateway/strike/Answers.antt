@@ -1,5 +1,4 @@
-use Rattle.std.proofs.Common.{◌≡◌, length, add-one, sym, subst, ap, ◌∙◌, refl, arith}
-use Rattle.std.specs.Prelude.{None}
+use Rattle.std.proofs.Common.{◌≡◌, length, add-one, sym, subst, ap, ◌∙◌, refl, arith, None}
 use Rattle.linx_base.specs.FirstMatch.{first_match}
 use Rattle.linx_timers.specs.Times.{is_next}
 use Rattle.keyed_list.proofs.Entries.{without_none_first}

@@ -1,5 +1,4 @@
-use Rattle.std.proofs.Common.{◌∙◌, sym, ap, arith, ◌<◌, ◌-◌}
-use Rattle.std.specs.List.{slice_get}
+use Rattle.std.proofs.Common.{◌∙◌, sym, ap, arith, ◌<◌, ◌-◌, slice_get}
 use Rattle.journal.specs.Logs.{Book, step_at}
 use Rattle.journal.proofs.Steps.{step_at-zero, step_at-reverse}
 use Rattle.journal.proofs.journal.Journal.step.Goals as goal

@@ -1,5 +1,4 @@
-use Rattle.std.proofs.Common.{◌≡◌, ◌+◌, Some, None, sym, ◌∙◌, ap}
-use Rattle.std.specs.Option.{option_copied}
+use Rattle.std.proofs.Common.{◌≡◌, ◌+◌, Some, None, sym, ◌∙◌, ap, option_copied}
 use Rattle.journal.specs.Logs.{step_at}
 use Rattle.journal.proofs.Positions.{first_steps_next, step_at_stands}
 use Rattle.journal.proofs.journal.Journal.step_after.Goals as goal

@@ -1,5 +1,4 @@
-use Rattle.std.proofs.Common.{sym, ap, ◌∙◌, ◌≡◌, ℕ, List, Some, slice_get}
-use Rattle.std.specs.Option.{option_copied}
+use Rattle.std.proofs.Common.{sym, ap, ◌∙◌, ◌≡◌, ℕ, List, Some, slice_get, option_copied}
 use Rattle.journal_text.specs.declared.digests.Placed.{Placed}
 use Rattle.journal_text.proofs.Fitting.{looked_up}
 use Rattle.journal_text.proofs.digests.Digests.look.Goals as goal

@@ -1,7 +1,6 @@
 use Rattle.std.proofs.Common.{◌≡◌, ◌+◌, ◌∙◌, ℕ, suc, nat_eq, refl, sym, ap, subst, arith, List}
-use Rattle.std.proofs.Common.{Some}
+use Rattle.std.proofs.Common.{Some, vec_capacity}
 use Rattle.std.specs.HashMap.{get}
-use Rattle.std.specs.Prelude.{vec_capacity}
 use Rattle.linx_base.specs.Both.{Both}
 use Rattle.link_addresses.specs.declared.meaning.Meaning.{Meaning}
 use Rattle.link_addresses.specs.declared.meaning.Meaning.TheVariants.{Live}

@@ -1,5 +1,4 @@
-use Rattle.std.proofs.Common.{◌≡◌, ◌≤◌, length, None, Some, sym, ◌∙◌, ap}
-use Rattle.std.specs.Option.{option_copied}
+use Rattle.std.proofs.Common.{◌≡◌, ◌≤◌, length, None, Some, sym, ◌∙◌, ap, option_copied}
 use Rattle.std.proofs.lemmas.List.{length-map}
 use Rattle.journal.specs.Logs.{Log, step_at}
 use Rattle.linx_api.specs.Sharing.{Shared}

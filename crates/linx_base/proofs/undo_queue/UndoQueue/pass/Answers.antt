@@ -1,5 +1,4 @@
-use Rattle.std.proofs.Common.{sym}
-use Rattle.std.proofs.lemmas.List.{drop-drop}
+use Rattle.std.proofs.Common.{sym, drop-drop}
 use Rattle.linx_base.proofs.undo_queue.UndoQueue.pass.Goals as goal
 
 pub returns-then-self-len-clause-is : goal.returns-then-self-len-clause-is

@@ -1,5 +1,4 @@
-use Rattle.std.proofs.Common.{◌∙◌, ap}
-use Rattle.std.specs.Option.{option_map}
+use Rattle.std.proofs.Common.{◌∙◌, ap, option_map}
 use Rattle.name_table.specs.Naming.{has_name}
 use Rattle.keyed_list.proofs.Finding.{same_text, alone, found_first}
 use Rattle.name_table.proofs.name_table.NameTable.first.Goals as goal

@@ -1,5 +1,4 @@
-use Rattle.std.proofs.Common.{◌∙◌, ap}
-use Rattle.std.specs.Option.{option_map, option_copied}
+use Rattle.std.proofs.Common.{◌∙◌, ap, option_map, option_copied}
 use Rattle.name_table.specs.Naming.{is_endpoint}
 use Rattle.keyed_list.proofs.Finding.{same_number, alone, found_first}
 use Rattle.name_table.proofs.name_table.NameTable.name_of.Goals as goal

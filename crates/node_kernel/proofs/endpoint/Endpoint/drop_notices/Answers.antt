@@ -1,5 +1,4 @@
-use Rattle.std.proofs.Common.{◌∙◌, sym, ap, List}
-use Rattle.std.specs.Prelude.{is_some}
+use Rattle.std.proofs.Common.{◌∙◌, sym, ap, List, is_some}
 use Rattle.linx_base.specs.declared.item.Item.{Item}
 use Rattle.linx_base.proofs.FirstMatches.{is_some-first_match}
 use Rattle.sigsel.specs.Selection.{is_notice_of}

@@ -1,5 +1,4 @@
-use Rattle.std.proofs.Common.{◌≡◌, ◌∙◌, ◌++◌, ap, arith, drop, length, map, take, List}
-use Rattle.std.proofs.lemmas.List.{take_at}
+use Rattle.std.proofs.Common.{◌≡◌, ◌∙◌, ◌++◌, ap, arith, drop, length, map, take, List, take_at}
 use Rattle.node_kernel.specs.Nodes.{OpenEndpoint, put_all, without_endpoint}
 use Rattle.node_kernel.specs.Kept.{NodeEndpoints, name_entry}
 use Rattle.node_kernel.proofs.Calling.{without_put}

@@ -1,5 +1,4 @@
-use Rattle.std.proofs.Common.{◌≡◌, ◌∙◌, ◌++◌, ap, arith, drop, length, map, take}
-use Rattle.std.proofs.lemmas.List.{take_at}
+use Rattle.std.proofs.Common.{◌≡◌, ◌∙◌, ◌++◌, ap, arith, drop, length, map, take, take_at}
 use Rattle.node_kernel.specs.Kept.{name_entry}
 use Rattle.node_kernel.proofs.Keeping.{kept_alike_of}
 use Rattle.node_kernel.proofs.roster.Roster.take_back_all.Goals as goal

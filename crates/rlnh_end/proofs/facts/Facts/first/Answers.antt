@@ -1,5 +1,4 @@
-use Rattle.std.proofs.Common.{◌∙◌, ap, sym}
-use Rattle.std.specs.Prelude.{filter, option_map}
+use Rattle.std.proofs.Common.{◌∙◌, ap, sym, filter, option_map}
 use Rattle.rlnh_end.specs.Facts.{has_none, is_sought}
 use Rattle.rlnh_end.proofs.Entries.{first_fact}
 use Rattle.rlnh_end.proofs.facts.Facts.first.Goals as goal

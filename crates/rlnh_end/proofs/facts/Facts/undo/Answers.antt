@@ -1,5 +1,4 @@
-use Rattle.std.proofs.Common.{ap}
-use Rattle.std.specs.Prelude.{filter}
+use Rattle.std.proofs.Common.{ap, filter}
 use Rattle.linx_base.specs.Both.{still}
 use Rattle.rlnh_end.specs.Facts.{began_with, has_none}
 use Rattle.rlnh_end.proofs.Entries.{undone, without_none}

@@ -1,5 +1,4 @@
-use Rattle.std.proofs.Common.{◌∙◌, ap, sym}
-use Rattle.std.specs.Prelude.{is_some}
+use Rattle.std.proofs.Common.{◌∙◌, ap, sym, is_some}
 use Rattle.linx_base.specs.Both.{Both}
 use Rattle.rlnh_end.specs.States.{RlnhState, is_noted}
 use Rattle.rlnh_end.proofs.ByKind.{noted_first, some_copied}

@@ -3,7 +3,8 @@ use Rattle.script_lang.specs.Parts.{ScriptParts}
 use Rattle.fabric.specs.Run.{Layout}
 use Rattle.stage.specs.Plays.{Play}
 use Rattle.stage.specs.Turns.{AreTurns, IsTurn, IsTurnStopped}
-use Rattle.stage.proofs.Whole.{HasFront, front-of_actor, on_err-said, turn-of_actor, turns-more}
+use Rattle.stage.proofs.Rounds.WholeRuns.{HasFront, front-of_actor, on_err-said, turn-of_actor}
+use Rattle.stage.proofs.Rounds.WholeRuns.{turns-more}
 use Rattle.stage.proofs.stage.Stage.actor_turns.Goals as goal
 
 pub turns-init : goal.turns-init

@@ -1,7 +1,7 @@
 use Rattle.std.proofs.Common.{sym, ◌∙◌, subst}
 use Rattle.script_lang.specs.Parts.{ScriptParts}
 use Rattle.stage.specs.Turns.{IsRound, IsStoppedRun}
-use Rattle.stage.proofs.Whole.{HasFront, on_err-said, rounds-more, run-stopped}
+use Rattle.stage.proofs.Rounds.WholeRuns.{HasFront, on_err-said, rounds-more, run-stopped}
 use Rattle.stage.proofs.stage.Stage.finish.Goals as goal
 
 pub rounds-preserved : goal.rounds-preserved

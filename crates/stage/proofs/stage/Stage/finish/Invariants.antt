@@ -1,5 +1,5 @@
 use Rattle.std.proofs.Common.{◌≡◌, ◌-◌, length}
-use Rattle.stage.proofs.Whole.{HaveRounds}
+use Rattle.stage.proofs.Rounds.WholeRuns.{HaveRounds}
 use Rattle.stage.proofs.stage.Stage.finish.Given as goal
 
 -- so many rounds were made, and all wasn't over before any of them

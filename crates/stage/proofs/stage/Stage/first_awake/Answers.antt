@@ -1,12 +1,12 @@
-use Rattle.std.proofs.Common.{◌≡◌, ◌<◌, ◌≤◌, ◌+◌, ℕ, true, false, length, ap, sym, ◌∙◌, subst, arith}
-use Rattle.std.specs.Prelude.{◌||◌}
+use Rattle.std.proofs.Common.{◌≡◌, ◌<◌, ◌≤◌, ◌+◌, ℕ, true, false, length, ap, sym, ◌∙◌, subst}
+use Rattle.std.proofs.Common.{arith, ◌||◌}
 use Rattle.journal.specs.History.{has_ended}
 use Rattle.journal.specs.Rest.{is_idle}
 use Rattle.stage.specs.Plays.{AllFollow, Play}
 use Rattle.stage.specs.Turns.{shape_of}
-use Rattle.stage.proofs.Idling.{asleep-passed, later-behind}
-use Rattle.stage.proofs.Seats.{staged-follows}
-use Rattle.stage.proofs.Whole.{turns-more}
+use Rattle.stage.proofs.Actors.Idling.{asleep-passed, later-behind}
+use Rattle.stage.proofs.Rounds.Seats.{staged-follows}
+use Rattle.stage.proofs.Rounds.WholeRuns.{turns-more}
 use Rattle.stage.proofs.stage.Stage.first_awake.Goals as goal
 
 pub passing-preserved : goal.passing-preserved

@@ -1,8 +1,8 @@
 use Rattle.std.proofs.Common.{◌≡◌, ◌≤◌, ◌+◌, ℕ, true, length, ap, sym, ◌∙◌, subst, arith}
 use Rattle.journal.specs.History.{has_ended}
 use Rattle.stage.specs.Plays.{Play}
-use Rattle.stage.proofs.Idling.{ended-passed}
-use Rattle.stage.proofs.Whole.{turns-more}
+use Rattle.stage.proofs.Actors.Idling.{ended-passed}
+use Rattle.stage.proofs.Rounds.WholeRuns.{turns-more}
 use Rattle.stage.proofs.stage.Stage.first_left.Goals as goal
 
 pub passing-preserved : goal.passing-preserved

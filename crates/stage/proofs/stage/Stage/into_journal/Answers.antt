@@ -1,5 +1,5 @@
 use Rattle.std.proofs.Common.{sym}
-use Rattle.stage.proofs.Seats.{staged-over, staged-rest, staged-so_far, staged-whole}
+use Rattle.stage.proofs.Rounds.Seats.{staged-over, staged-rest, staged-so_far, staged-whole}
 use Rattle.stage.proofs.stage.Stage.into_journal.Goals as goal
 
 pub returns-clause-so_far : goal.returns-clause-so_far

@@ -1,5 +1,5 @@
 use Rattle.std.proofs.Common.{sym, ◌∙◌}
-use Rattle.stage.proofs.Seats.{staged-moves, staged-some}
+use Rattle.stage.proofs.Rounds.Seats.{staged-moves, staged-some}
 use Rattle.stage.proofs.stage.Stage.is_over.Goals as goal
 
 pub returns-clause-moves : goal.returns-clause-moves

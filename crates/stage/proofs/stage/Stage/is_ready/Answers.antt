@@ -3,7 +3,7 @@ use Rattle.fabric.specs.Run.{Layout}
 use Rattle.stage.specs.Plays.{Play}
 use Rattle.stage.specs.Ready.{is_ready}
 use Rattle.stage.specs.Turns.{IsTurnOf}
-use Rattle.stage.proofs.Seats.{staged-ready, staged-stays}
+use Rattle.stage.proofs.Rounds.Seats.{staged-ready, staged-stays}
 use Rattle.stage.proofs.stage.Stage.is_ready.Goals as goal
 
 pub returns-clause-moves : goal.returns-clause-moves

@@ -1,5 +1,5 @@
 use Rattle.std.proofs.Common.{sym}
-use Rattle.stage.proofs.Seats.{staged-so_far}
+use Rattle.stage.proofs.Rounds.Seats.{staged-so_far}
 use Rattle.stage.proofs.stage.Stage.journal.Goals as goal
 
 pub returns-clause-so_far : goal.returns-clause-so_far

@@ -3,8 +3,8 @@ use Rattle.link_laws.specs.Ends.{IsLinkOf}
 use Rattle.stage.specs.Plays.{Play}
 use Rattle.stage.specs.Settlings.{settler_in}
 use Rattle.stage.specs.Turns.{shape_of}
-use Rattle.stage.proofs.Seats.{pumped-calm, staged-pumped_calm}
-use Rattle.stage.proofs.Whole.{pump-not_over}
+use Rattle.stage.proofs.Rounds.Seats.{pumped-calm, staged-pumped_calm}
+use Rattle.stage.proofs.Rounds.WholeRuns.{pump-not_over}
 use Rattle.stage.proofs.stage.Stage.link_turn.Goals as goal
 
 pub invariant_of-self : goal.invariant_of-self

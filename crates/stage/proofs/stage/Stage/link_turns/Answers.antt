@@ -5,7 +5,7 @@ use Rattle.script_lang.specs.Parts.{ScriptParts}
 use Rattle.fabric.specs.Run.{Layout}
 use Rattle.stage.specs.Plays.{Play}
 use Rattle.stage.specs.Turns.{AreTurns, IsPump, makers, shape_of}
-use Rattle.stage.proofs.Whole.{HasFront, front-of_link, links-more, on_err-said}
+use Rattle.stage.proofs.Rounds.WholeRuns.{HasFront, front-of_link, links-more, on_err-said}
 use Rattle.stage.proofs.stage.Stage.link_turns.Goals as goal
 
 pub turns-init : goal.turns-init

@@ -2,8 +2,8 @@ use Rattle.std.proofs.Common.{List, map, ◌∙◌, ap, subst}
 use Rattle.script_lang.specs.declared.actor_script.ActorScript.{ActorScript}
 use Rattle.script_lang.specs.Fits.{IsScript}
 use Rattle.stage.specs.Seats.{unstarted}
-use Rattle.stage.proofs.LaidOut.{laid_out-as}
-use Rattle.stage.proofs.Seats.{first-same, staged-first}
+use Rattle.stage.proofs.Rounds.LayingOut.{laid_out-as}
+use Rattle.stage.proofs.Rounds.Seats.{first-same, staged-first}
 use Rattle.stage.proofs.stage.Stage.new.Goals as goal
 
 pub new-requires : goal.new-requires

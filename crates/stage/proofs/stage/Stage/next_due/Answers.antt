@@ -1,11 +1,12 @@
-use Rattle.std.proofs.Common.{◌≡◌, ◌<◌, ◌≤◌, ◌+◌, ℕ, true, false, length, ap, sym, ◌∙◌, subst, arith}
+use Rattle.std.proofs.Common.{◌≡◌, ◌<◌, ◌≤◌, ◌+◌, ℕ, true, false, length, ap, sym, ◌∙◌, subst}
+use Rattle.std.proofs.Common.{arith}
 use Rattle.journal.specs.History.{has_ended}
 use Rattle.actor_run.specs.Following.{Follows}
 use Rattle.stage.specs.Plays.{Play}
 use Rattle.stage.specs.Turns.{commands_of}
-use Rattle.stage.proofs.Idling.{waiting-passed}
-use Rattle.stage.proofs.Seats.{staged-follows}
-use Rattle.stage.proofs.Whole.{turns-more}
+use Rattle.stage.proofs.Actors.Idling.{waiting-passed}
+use Rattle.stage.proofs.Rounds.Seats.{staged-follows}
+use Rattle.stage.proofs.Rounds.WholeRuns.{turns-more}
 use Rattle.stage.proofs.stage.Stage.next_due.Goals as goal
 
 pub returns-clause-passed : goal.returns-clause-passed

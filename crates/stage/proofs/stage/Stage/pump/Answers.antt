@@ -1,4 +1,4 @@
-use Rattle.stage.proofs.Seats.{staged-pumped}
+use Rattle.stage.proofs.Rounds.Seats.{staged-pumped}
 use Rattle.stage.proofs.stage.Stage.pump.Goals as goal
 
 pub invariant_of-self : goal.invariant_of-self

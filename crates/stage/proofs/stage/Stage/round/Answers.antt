@@ -3,8 +3,8 @@ use Rattle.script_lang.specs.Parts.{ScriptParts}
 use Rattle.fabric.specs.Run.{Layout}
 use Rattle.stage.specs.Stops.{IsCauseOf}
 use Rattle.stage.specs.Turns.{AreTurns, IsRound, is_over}
-use Rattle.stage.proofs.Whole.{HasFront, front-of_link, on_err-said}
-use Rattle.stage.proofs.Whole.{settling-linked, settling-not_over}
+use Rattle.stage.proofs.Rounds.WholeRuns.{HasFront, front-of_link, on_err-said}
+use Rattle.stage.proofs.Rounds.WholeRuns.{settling-linked, settling-not_over}
 use Rattle.stage.specs.Plays.{Play}
 use Rattle.stage.proofs.stage.Stage.round.Goals as goal
 

@@ -1,7 +1,7 @@
 use Rattle.std.proofs.Common.{◌≡◌, ◌<◌, ◌≤◌, ◌+◌, ℕ, Bool, false, length, sym, ◌∙◌, subst, arith}
 use Rattle.journal.specs.History.{has_ended}
 use Rattle.stage.specs.Plays.{Play}
-use Rattle.stage.proofs.Idling.{not_true}
+use Rattle.stage.proofs.Actors.Idling.{not_true}
 use Rattle.stage.proofs.stage.Stage.runs_before.Goals as goal
 
 pub returns : goal.returns

@@ -1,12 +1,12 @@
 use Rattle.std.proofs.Common.{◌≡◌, ◌-◌, ◌≤◌, false, length, None, refl, sym, ◌∙◌, subst, arith}
-use Rattle.std.proofs.lemmas.Bool.{true≢false}
+use Rattle.std.proofs.Common.{true≢false}
 use Rattle.std.proofs.lemmas.Option.{slice_get_read}
 use Rattle.stage.specs.Plays.{Play}
 use Rattle.stage.specs.Settlings.{settler_in}
 use Rattle.stage.specs.Turns.{is_over}
-use Rattle.stage.proofs.Asking.{may_ask}
-use Rattle.stage.proofs.Seats.{none-settles, seat-playing, staged-turned}
-use Rattle.stage.proofs.Whole.{settling-not_over, turn-due, turn-not_over}
+use Rattle.stage.proofs.Actors.Asks.{may_ask}
+use Rattle.stage.proofs.Rounds.Seats.{none-settles, seat-playing, staged-turned}
+use Rattle.stage.proofs.Rounds.WholeRuns.{settling-not_over, turn-due, turn-not_over}
 use Rattle.stage.proofs.stage.Stage.turn.Goals as goal
 
 pub turn_of-requires-clause-playing : goal.turn_of-requires-clause-playing

@@ -2,7 +2,7 @@ use Rattle.std.proofs.Common.{refl}
 use Rattle.rlnh_end.specs.declared.up.Up.TheVariants.{Nothing, Arrived, Freed, Met, Gone, Asked}
 use Rattle.rlnh_end.specs.declared.up.Up.TheVariants.{Bad}
 use Rattle.trunk.specs.Events.{TrunkSide}
-use Rattle.trunk.proofs.Handing.{heard_given}
+use Rattle.trunk.proofs.Messages.HandedUp.{heard_given}
 use Rattle.trunk.proofs.half.Half.hear.Goals as goal
 
 pub returns-in-Nothing-clause-is : goal.returns-in-Nothing-clause-is

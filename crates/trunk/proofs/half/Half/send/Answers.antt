@@ -1,6 +1,6 @@
 use Rattle.std.proofs.Common.{ap}
 use Rattle.rlnh_end.specs.Calls.{after, send_of}
-use Rattle.trunk.proofs.Wording.{sends_new, with_kept}
+use Rattle.trunk.proofs.Messages.Signals.{sends_new, with_kept}
 use Rattle.trunk.proofs.half.Half.send.Goals as goal
 
 pub returns-clause-is : goal.returns-clause-is

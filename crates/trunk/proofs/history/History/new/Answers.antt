@@ -1,5 +1,5 @@
 use Rattle.std.proofs.Common.{refl}
-use Rattle.trunk.proofs.Noting.{none_yet}
+use Rattle.trunk.proofs.Messages.Notes.{none_yet}
 use Rattle.trunk.proofs.history.History.new.Goals as goal
 
 pub invariant_of-result : goal.invariant_of-result

@@ -1,8 +1,8 @@
 use Rattle.std.proofs.Common.{sym, ◌∙◌, ap}
 use Rattle.trunk.specs.Notes.{record_of}
 use Rattle.trunk.specs.Publishing.{newest_noted}
-use Rattle.trunk.proofs.Noting.{one_more}
-use Rattle.trunk.proofs.Publishing.{newest_more}
+use Rattle.trunk.proofs.Messages.Notes.{one_more}
+use Rattle.trunk.proofs.Messages.Publishings.{newest_more}
 use Rattle.trunk.proofs.history.History.note.Goals as goal
 
 pub invariant_of-self : goal.invariant_of-self

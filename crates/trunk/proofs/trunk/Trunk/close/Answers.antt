@@ -1,5 +1,5 @@
-use Rattle.trunk.proofs.Events.{events_keep}
-use Rattle.trunk.proofs.Trunks.{calls_tell}
+use Rattle.trunk.proofs.EachEvent.BothSides.{events_keep}
+use Rattle.trunk.proofs.EachEvent.Trunks.{calls_tell}
 use Rattle.trunk.proofs.trunk.Trunk.close.Goals as goal
 
 pub invariant_of-self : goal.invariant_of-self

@@ -1,5 +1,5 @@
 use Rattle.std.proofs.Common.{◌∙◌}
-use Rattle.trunk.proofs.Trunks.{agree}
+use Rattle.trunk.proofs.EachEvent.Trunks.{agree}
 use Rattle.trunk.proofs.trunk.Trunk.is_met.Goals as goal
 
 pub returns : goal.returns

@@ -1,10 +1,9 @@
-use Rattle.std.proofs.Common.{◌^◌, ◌<◌, ◌≡◌, sym, ◌∙◌, arith, true}
-use Rattle.std.proofs.lemmas.Bool.{ltb-true}
+use Rattle.std.proofs.Common.{◌^◌, ◌<◌, ◌≡◌, sym, ◌∙◌, arith, true, ltb-true}
 use Rattle.link_addresses.specs.Meanings.{used_in}
 use Rattle.trunk_record.specs.Sayings.{is_live}
 use Rattle.trunk.specs.Events.{kept_of, tables_of}
 use Rattle.trunk.specs.Publishing.{newest_unpublished}
-use Rattle.trunk.proofs.Publishing.{publishes_again, publishes_new}
+use Rattle.trunk.proofs.Messages.Publishings.{publishes_again, publishes_new}
 use Rattle.trunk.proofs.trunk.Trunk.may_publish.Goals as goal
 
 pub returns-then-is_published-clause-may : goal.returns-then-is_published-clause-may

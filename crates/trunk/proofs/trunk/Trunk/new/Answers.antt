@@ -1,6 +1,6 @@
 use Rattle.trunk.specs.Events.{new_trunk}
-use Rattle.trunk.proofs.Events.{events_keep}
-use Rattle.trunk.proofs.Resting.{rests}
+use Rattle.trunk.proofs.EachEvent.BothSides.{events_keep}
+use Rattle.trunk.proofs.EachEvent.AtRest.{rests}
 use Rattle.trunk.proofs.trunk.Trunk.new.Goals as goal
 
 pub invariant_of-result : goal.invariant_of-result

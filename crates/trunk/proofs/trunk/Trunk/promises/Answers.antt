@@ -1,4 +1,4 @@
-use Rattle.trunk.proofs.Trunks.{promises, trunk_record}
+use Rattle.trunk.proofs.EachEvent.Trunks.{promises, trunk_record}
 use Rattle.trunk.proofs.trunk.Trunk.promises.Goals as goal
 
 pub returns-clause-records : goal.returns-clause-records

@@ -1,4 +1,4 @@
-use Rattle.trunk.proofs.Events.{events_keep}
+use Rattle.trunk.proofs.EachEvent.BothSides.{events_keep}
 use Rattle.trunk.proofs.trunk.Trunk.query.Goals as goal
 
 pub invariant_of-self : goal.invariant_of-self

@@ -1,5 +1,5 @@
 use Rattle.std.proofs.Common.{◌∙◌, sym}
-use Rattle.trunk.proofs.Quiet.{quiet}
+use Rattle.trunk.proofs.EachEvent.Quiet.{quiet}
 use Rattle.trunk.proofs.trunk.Trunk.quiet.Goals as goal
 
 pub returns-clause-complete : goal.returns-clause-complete

@@ -1,6 +1,6 @@
-use Rattle.trunk.proofs.Events.{events_keep}
-use Rattle.trunk.proofs.Sending.{meets_peer}
-use Rattle.trunk.proofs.Trunks.{calls_tell}
+use Rattle.trunk.proofs.EachEvent.BothSides.{events_keep}
+use Rattle.trunk.proofs.Messages.MaySend.{meets_peer}
+use Rattle.trunk.proofs.EachEvent.Trunks.{calls_tell}
 use Rattle.trunk.proofs.trunk.Trunk.send.Goals as goal
 
 pub invariant_of-self : goal.invariant_of-self

@@ -1,4 +1,4 @@
-use Rattle.trunk.proofs.Resting.{rests}
+use Rattle.trunk.proofs.EachEvent.AtRest.{rests}
 use Rattle.trunk.proofs.trunk.Trunk.undo.Goals as goal
 
 pub returns-clause-grown : goal.returns-clause-grown

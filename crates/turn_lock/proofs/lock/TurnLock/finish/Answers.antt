@@ -1,5 +1,4 @@
-use Rattle.std.proofs.Common.{◌<◌, length, ap, ◌∙◌, subst, arith}
-use Rattle.std.specs.Prelude.{IsSomeAnd}
+use Rattle.std.proofs.Common.{◌<◌, length, ap, ◌∙◌, subst, arith, IsSomeAnd}
 use Rattle.turn_lock.specs.Passes.{TellsOfEach}
 use Rattle.turn_lock.proofs.Passes.{some_pass}
 use Rattle.turn_lock.proofs.Closing.{closes}
