@@ -21,7 +21,7 @@ def main(words):
     """The text of the script on standard input, or why there is none."""
     try:
         run = Run(parse(sys.stdin.read()))
-        text = orders.play(run, int(words[0])) if words else run.play()
+        text = orders.play(run, int(words[0])) if words else orders.play_fixed(run)
     except Refused as reason:
         print(f"model: {reason}", file=sys.stderr)
         return 2

@@ -5,12 +5,14 @@ MOST_BYTES, MOST_IN_LINE = 1_048_576, 4_096
 MOST_NODES, MOST_LINKS, MOST_ACTORS, MOST_VERDICTS = 16, 32, 64, 10_000
 MOST_COMMANDS, MOST_COMMANDS_OF_ALL, MOST_COPIES = 20_000, 400_000, 20_000
 MOST_LISTED, MOST_DATA = 64, 65_532
+MOST_TURNS = 200_000
 
 NAME = re.compile(rb"[A-Za-z0-9_.-]{1,32}\Z")
 NUMBER = re.compile(rb"[0-9]{1,10}\Z")
 HEX = re.compile(rb"([0-9A-Fa-f]{2})+\Z")
 FILL = re.compile(rb"fill:([0-9]{1,10}):[0-9A-Fa-f]{2}\Z")
 VERDICT = re.compile(rb"([DLR]|S[1-9])\Z")
+TURNS = re.compile(rb"([AP])([0-9]{1,6})(?:\*([0-9]{1,6}))?\Z")
 PLAIN = re.compile(rb"[\t\x20-\x7e]*\Z")
 
 
@@ -219,8 +221,41 @@ def words_of(line):
     return words[:comment]
 
 
+class Orders:
+    """What the lines `order` so far list, of so many makers of each kind."""
+
+    def __init__(self, script):
+        self.most = {b"A": len(script.actors), b"P": len(script.links)}
+        self.turns = 0
+
+    def line(self, words):
+        """A line that says an order."""
+        for word in words[1:]:
+            spelled = TURNS.match(word)
+            want(spelled)
+            want(1 <= int(spelled[2]) <= self.most[spelled[1]])
+            times = int(spelled[3] or 1)
+            want(1 <= times <= MOST_TURNS)
+            self.turns += times
+            want(self.turns <= MOST_TURNS)
+
+
+def first_bad_order(lines, script):
+    """The number of the first of these lines whose order is bad, or None."""
+    orders = Orders(script)
+    for at, line in enumerate(lines, 1):
+        try:
+            words = words_of(line)
+            if words[:1] == [b"order"]:
+                orders.line(words)
+        except Bad:
+            return at
+    return None
+
+
 def first_bad_line(script):
-    """The number of the first bad line of these bytes, or None where they are a script."""
+    """The number of the first bad line of these bytes, or None where they are a script. The lines
+    that say an order are comments of the script, and looked at where all others are good."""
     lines = script.split(b"\n")
     if lines[-1] == b"":
         lines.pop()
@@ -230,9 +265,9 @@ def first_bad_line(script):
         try:
             want(end <= MOST_BYTES)
             words = words_of(line)
-            if words:
+            if words and words[0] != b"order":
                 declared.line(words)
             want(at < len(lines) or declared.node is None)
         except Bad:
             return at
-    return None
+    return first_bad_order(lines, declared)

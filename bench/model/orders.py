@@ -1,5 +1,5 @@
-"""The order that a number decides, as docs/use/orders.md has it: who is ready, and whom each of the
-three rules names of those."""
+"""The order of the turns, as docs/use/orders.md has it: who is ready, who comes first by the lines of
+the script, and whom each of the three rules of a number names behind these."""
 import itertools
 
 MASK = 2**64 - 1
@@ -33,6 +33,18 @@ class Dice:
     def words(self):
         """One for each maker that there may be."""
         return [self.word() for _ in range(MAKERS)]
+
+
+class Rounds:
+    """In a circle, by number, behind the one that it named last."""
+
+    def __init__(self):
+        self.last = 0
+
+    def choose(self, ready):
+        """The number of the maker that comes next."""
+        self.last = next((maker for maker in ready if maker > self.last), ready[0])
+        return self.last
 
 
 class Walk:
@@ -84,14 +96,35 @@ def is_ready(run, actor):
     return not actor.has_ended and (not actor.waits_in_vain() or run.is_at_rest(actor))
 
 
+def named(front, rule, ready):
+    """Whose turn it is: the first of the front that is ready, those before it being passed over, or
+    else whom the rule chooses."""
+    while front:
+        maker = front.pop(0)
+        if maker in ready:
+            return maker
+    return rule.choose(ready)
+
+
+def play_by(run, rule):
+    """Makes a run, its front first and then by a rule, until all is over; the text."""
+    turns = [actor.turn for actor in run.actors] + [link.pump for link in run.links]
+    numbers = {maker.maker: n for n, maker in enumerate(run.actors + run.links, 1)}
+    front = [numbers[maker] for maker in run.front]
+    while not run.is_over():
+        ready = [n for n, actor in enumerate(run.actors, 1) if is_ready(run, actor)]
+        ready += [n for n, link in enumerate(run.links, len(run.actors) + 1) if link.stirs()]
+        turns[named(front, rule, ready) - 1](run.journal)
+    return run.journal.text()
+
+
 def play(run, seed):
     """Makes a run in the order of a number until all is over; the text."""
     commands = sum(len(actor.commands) for actor in run.actors)
     span = 1 + commands + len(run.actors) + 40 * len(run.links)
-    rule = (Bursts, Walk, Priorities)[seed % 3](Dice(seed), seed // 3 % 6, span)
-    turns = [actor.turn for actor in run.actors] + [link.pump for link in run.links]
-    while not run.is_over():
-        ready = [n for n, actor in enumerate(run.actors, 1) if is_ready(run, actor)]
-        ready += [n for n, link in enumerate(run.links, len(run.actors) + 1) if link.stirs()]
-        turns[rule.choose(ready) - 1](run.journal)
-    return run.journal.text()
+    return play_by(run, (Bursts, Walk, Priorities)[seed % 3](Dice(seed), seed // 3 % 6, span))
+
+
+def play_fixed(run):
+    """Makes a run in the fixed order, behind its front, until all is over; the text."""
+    return play_by(run, Rounds()) if run.front else run.play()

@@ -12,6 +12,7 @@ class Run:
 
     def __init__(self, script):
         self.journal = Journal()
+        self.front = script.front
         names = enumerate(script.nodes, 1)
         self.nodes = [Node(number, name, self.journal) for number, name in names]
         self.links = []

@@ -29,8 +29,9 @@ class ActorBlock:
 
 @dataclass
 class Script:
-    """A whole script."""
+    """A whole script; its front has the makers whose turns come first, as `A1` or `P1`."""
 
+    front: list = field(default_factory=list)
     nodes: list = field(default_factory=list)
     links: list = field(default_factory=list)
     actors: list = field(default_factory=list)
@@ -61,6 +62,12 @@ def link_line(words):
     return link
 
 
+def turns_of(word):
+    """The makers that a word of an order names, each for a turn."""
+    maker, _, times = word.partition("*")
+    return [maker] * int(times or 1)
+
+
 def words_of(line):
     """The words of a line, without its comment."""
     words = []
@@ -74,7 +81,11 @@ def words_of(line):
 def parse(text):
     """The script that a text spells."""
     script = Script()
-    lines = iter(filter(None, map(words_of, text.split("\n"))))
+    lines = list(filter(None, map(words_of, text.split("\n"))))
+    for words in lines:
+        if words[0] == "order":
+            script.front.extend(turn for word in words[1:] for turn in turns_of(word))
+    lines = iter([words for words in lines if words[0] != "order"])
     for words in lines:
         script.declare(words)
         if words[0] == "actor":

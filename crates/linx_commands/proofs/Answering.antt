@@ -1,6 +1,6 @@
 -- From what a play and the writing of its text say to the answer of a status.
-use Rattle.std.proofs.Common.{◌≡◌, ℕ, true, false, List, [], inl, inr, sym, subst, Option, Some}
-use Rattle.std.proofs.Common.{None, Result, Ok, Err, IfOk, IfSome, OnSome}
+use Rattle.std.proofs.Common.{◌≡◌, ℕ, true, false, List, [], ◌∷◌, inl, inr, sym, subst, Option, Some}
+use Rattle.std.proofs.Common.{None, Result, Ok, Err, IfOk, IfSome, OnSome, length, ◌==◌}
 use Rattle.linx_base.specs.declared.memory.NoMemory.{NoMemory as Refused}
 use Rattle.journal.specs.declared.effect.Step.{Step}
 use Rattle.journal.specs.Logs.{Log, is_full}
@@ -14,87 +14,91 @@ use Rattle.fabric.specs.Run.{Layout}
 use Rattle.fabric.specs.declared.stop.StopCause.{StopCause}
 use Rattle.fabric.specs.declared.stop.StopCause.TheVariants as stops
 use Rattle.script_lang.specs.Parts.{ScriptParts}
+use Rattle.order_lines.specs.Fronts.{OrderedParts}
+use Rattle.order_rules.specs.Seeds.{rule_of}
+use Rattle.order_rules.specs.declared.rule.Rule.{Rule}
+use Rattle.orders.specs.Seeds.{span_of}
 use Rattle.stage.specs.Plays.{AllFollowWhole, IsSoFar, Play}
 use Rattle.stage.specs.Stops.{IsCauseOf}
 use Rattle.stage.specs.Turns.{is_over, shape_of}
 use Rattle.workers.specs.declared.ran.Ran.{Ran}
 use Rattle.linx_commands.specs.Causes.{is_of_writing, stop_status}
-use Rattle.linx_commands.specs.Runs.{IsAnswerTo, IsLegalSomehow, IsOverUnder, IsRan, IsRunAs}
-use Rattle.linx_commands.specs.Runs.{IsRunSoFar, IsRunUnder, IsStoppedUnder, IsWholeAs, IsWholeIn}
+use Rattle.linx_commands.specs.Runs.{IsAnswerTo, IsLegalSomehow, IsOverUnder, IsRan, IsRanBy}
+use Rattle.linx_commands.specs.Runs.{IsRunAs, IsStoppedBehind, rounds_behind, seeded_order}
+use Rattle.linx_commands.specs.Runs.{unordered}
+use Rattle.linx_commands.specs.Runs.{IsRunSoFar, IsRunUnder, IsStoppedUnder, IsWholeAs, IsWholeBehind, IsWholeIn}
 use Rattle.linx_commands.specs.declared.outcome.Status.{Status}
-use Rattle.linx_commands.specs.declared.outcome.Status.TheVariants.{Done, Usage, Script, Unopened}
-use Rattle.linx_commands.specs.declared.outcome.Status.TheVariants.{ReadFault, WriteFault}
-use Rattle.linx_commands.specs.declared.outcome.Status.TheVariants.{JournalFull, NoMemory, Torn}
-use Rattle.linx_commands.specs.declared.outcome.Status.TheVariants.{BadStream}
+use Rattle.linx_commands.specs.declared.outcome.Status.TheVariants.{Done, WriteFault, NoMemory}
 use Rattle.command_words.specs.declared.request.Asked.{Asked}
 use Rattle.command_words.specs.declared.request.TurnOrder.{TurnOrder}
 use Rattle.command_words.specs.declared.request.TurnOrder.TheVariants.{Fixed, Seed}
 use Rattle.command_words.specs.declared.request.Asked.TheVariants.{Run, InOrder, Gen}
 
 -- a whole run under a command is a run so far under it
-so-far-of : (asked : Asked) (script : ScriptParts) (log : Log) → IsRunUnder asked script log
-    → IsRunSoFar asked script log
-so-far-of Run script log run = record {
+so-far-of : (asked : Asked) (ordered : OrderedParts) (log : Log) → IsRunUnder asked ordered log
+    → IsRunSoFar asked ordered log
+so-far-of Run ordered log run = record {
   run = run.0;
   so_far = run.1.so_far;
   order = inl run.1.over;
 }
-so-far-of (InOrder order) script log run = record {
+so-far-of (InOrder order) ordered log run = record {
   run = run.run;
   so_far = run.is.so_far;
   order = inl run.whole;
 }
-so-far-of (Gen n) script log run = record {
+so-far-of (Gen n) ordered log run = record {
   run = run.0;
   so_far = run.1.so_far;
   order = inl run.1.over;
 }
 
 -- a whole run whose text was written, or was to be
-answers-written : (asked : Asked) (status : Status) (script : ScriptParts) (log : Log)
-    → is_of_writing status ≡ true → IsRunUnder asked script log → IsAnswerTo asked status script log
-answers-written asked Done script log writes run = run
-answers-written asked WriteFault script log writes run = run
-answers-written asked NoMemory script log writes run = so-far-of asked script log run
-answers-written asked JournalFull script log writes run = cc
-answers-written asked (Usage wrong) script log writes run = cc
-answers-written asked (Unopened why) script log writes run = cc
-answers-written asked (Script line fault) script log writes run = cc
-answers-written asked ReadFault script log writes run = cc
-answers-written asked (Torn at) script log writes run = cc
-answers-written asked (BadStream at) script log writes run = cc
+answers-written : (asked : Asked) (status : Status) (ordered : OrderedParts) (log : Log)
+    → is_of_writing status ≡ true → IsRunUnder asked ordered log
+    → IsAnswerTo asked status ordered log
+answers-written asked Done ordered log writes run = run
+answers-written asked WriteFault ordered log writes run = run
+answers-written asked NoMemory ordered log writes run = so-far-of asked ordered log run
+answers-written asked _ ordered log writes run = cc
+
+-- a whole run in the fixed order is over, whoever comes first
+over-behind : (front : List ℕ) (script : ScriptParts) (run : Layout) → IsWholeBehind front script run
+    → is_over run ≡ true
+over-behind [] script run whole = whole.over
+over-behind (maker ∷ front) script run whole = whole.over
 
 -- a whole run in an order is over
-over-in : (order : TurnOrder) (script : ScriptParts) (run : Layout) → IsWholeIn order script run
+over-in : (order : TurnOrder) (ordered : OrderedParts) (run : Layout) → IsWholeIn order ordered run
     → is_over run ≡ true
-over-in Fixed script run whole = whole.over
-over-in (Seed n) script run whole = whole.over
+over-in Fixed ordered run whole = over-behind ordered.front ordered.script run whole
+over-in (Seed n) ordered run whole = whole.over
 
 -- a run that is over is the whole one that a command asks for
-whole-under : (asked : Asked) (script : ScriptParts) (run : Layout) (log : Log)
-    → (is_over run ≡ true → IsWholeAs script run log) → IsOverUnder asked script run
-    → IsRunUnder asked script log
-whole-under Run script run log whole over = (run, whole over)
-whole-under (InOrder order) script run log whole in_order = record {
+whole-under : (asked : Asked) (ordered : OrderedParts) (run : Layout) (log : Log)
+    → (is_over run ≡ true → IsWholeAs ordered.script run log) → IsOverUnder asked ordered run
+    → IsRunUnder asked ordered log
+whole-under Run ordered run log whole over = (run, whole over)
+whole-under (InOrder order) ordered run log whole in_order = record {
   run = run;
-  is = whole (over-in order script run in_order);
+  is = whole (over-in order ordered run in_order);
   whole = in_order;
 }
-whole-under (Gen n) script run log whole over = (run, whole over)
+whole-under (Gen n) ordered run log whole over = (run, whole over)
 
 -- a run that stopped
-answers-stopped : (asked : Asked) (cause : StopCause) (script : ScriptParts) (run : Layout)
-    (log : Log) → IsRunAs script run log → IsStoppedUnder asked script run
+answers-stopped : (asked : Asked) (cause : StopCause) (ordered : OrderedParts) (run : Layout)
+    (log : Log) → IsRunAs ordered.script run log → IsStoppedUnder asked ordered run
     → IsCauseOf cause run.log.steps → is_over run ≡ false
-    → IsAnswerTo asked (stop_status cause) script log
-answers-stopped asked stops.JournalFull script run log so_far order full turn = record {
+    → IsAnswerTo asked (stop_status cause) ordered log
+answers-stopped asked stops.JournalFull ordered run log so_far order full turn = record {
   run = run;
   so_far = so_far;
   full = subst (λ (l : Log). is_full l.steps ≡ true) so_far.logged full;
   turn = turn;
   order = order;
 }
-answers-stopped asked stops.NoMemory script run log so_far order room turn = record {
+answers-stopped asked stops.NoMemory ordered run log so_far order room turn = record {
   run = run;
   so_far = so_far;
   order = inr (record {
@@ -133,47 +137,104 @@ whole-as script stage log of so_far is over follows still rest = record {
 }
 
 -- a script that was run to its end, and whose text was written, or was to be
-pub answers-played : (asked : Asked) (status : Status) (script : ScriptParts) (ran : Ran)
-    (log : Log) → IsRan asked script ran → ran.stop ≡ None
+pub answers-played : (asked : Asked) (status : Status) (ordered : OrderedParts) (ran : Ran)
+    (log : Log) → IsRan asked ordered ran → ran.stop ≡ None
     → IsSoFar ran.stage.script ran.stage.run
     → (is_over ran.stage.run ≡ true → AllFollowWhole ran.stage.script ran.stage.run.log.steps)
     → (is_over ran.stage.run ≡ true
     → IsOver (shape_of ran.stage.script) ran.stage.run.log.steps)
     → (is_over ran.stage.run ≡ true → AllResting (shape_of ran.stage.script)
     ran.stage.run.log.steps (links_of (trunks_of ran.stage.run.trunks)))
-    → log ≡ ran.stage.run.log → is_of_writing status ≡ true → IsAnswerTo asked status script log
-answers-played asked status script ran log is_ran none so_far whole still rest is writes =
-    answers-written asked status script log writes
-    (whole-under asked script ran.stage.run log
-    (λ over. whole-as script ran.stage log is_ran.of so_far is over (whole over) (still over)
+    → log ≡ ran.stage.run.log → is_of_writing status ≡ true → IsAnswerTo asked status ordered log
+answers-played asked status ordered ran log is_ran none so_far whole still rest is writes =
+    answers-written asked status ordered log writes
+    (whole-under asked ordered ran.stage.run log
+    (λ over. whole-as ordered.script ran.stage log is_ran.of so_far is over (whole over) (still over)
     (rest over))
     (is_ran.over none))
 
 -- a script that was run until it was stopped
-pub answers-halted : (asked : Asked) (cause : StopCause) (script : ScriptParts) (ran : Ran)
-    (log : Log) → IsRan asked script ran → ran.stop ≡ Some cause
+pub answers-halted : (asked : Asked) (cause : StopCause) (ordered : OrderedParts) (ran : Ran)
+    (log : Log) → IsRan asked ordered ran → ran.stop ≡ Some cause
     → IsSoFar ran.stage.script ran.stage.run → log ≡ ran.stage.run.log
-    → IsAnswerTo asked (stop_status cause) script log
-answers-halted asked cause script ran log is_ran stopped so_far is =
-    answers-stopped asked cause script ran.stage.run log
-    (run-as script ran.stage log is_ran.of so_far is)
+    → IsAnswerTo asked (stop_status cause) ordered log
+answers-halted asked cause ordered ran log is_ran stopped so_far is =
+    answers-stopped asked cause ordered ran.stage.run log
+    (run-as ordered.script ran.stage log is_ran.of so_far is)
     (is_ran.order cause stopped)
     (subst (λ (stop : Option StopCause).
     IfSome stop (λ met. IsCauseOf met ran.stage.run.log.steps)) stopped is_ran.cause)
     (subst (λ (stop : Option StopCause). OnSome stop (is_over ran.stage.run ≡ false)) stopped
     is_ran.turn)
 
+-- what a script that was run by the rule of a number was run in: the order of that number
+pub ran-seeded : (n : ℕ) (ordered : OrderedParts) (rule : Rule) (played : Result Ran Refused)
+    → rule ≡ rule_of (span_of ordered.script) n
+    → IfOk played (IsRanBy (record { left = ordered.front; rule = rule }) ordered.script)
+    → IfOk played (IsRan (InOrder (Seed n)) ordered)
+ran-seeded n ordered rule (Ok ran) named is =
+    let ran-by : IsRanBy (seeded_order ordered n) ordered.script ran =
+    subst (λ (r : Rule). IsRanBy (record { left = ordered.front; rule = r }) ordered.script ran) named
+    is in
+    record {
+      of = ran-by.of;
+      over = ran-by.over;
+      order = ran-by.order;
+      cause = ran-by.cause;
+      turn = ran-by.turn;
+    }
+ran-seeded n ordered rule (Err refused) named is = tt
+
+-- by rounds behind makers that come first: the fixed order
+pub ran-behind : (ordered : OrderedParts) (front : List ℕ) (played : Result Ran Refused)
+    → ordered.front ≡ front → (length front == 0) ≡ false
+    → IfOk played (IsRanBy (rounds_behind ordered.front) ordered.script)
+    → IfOk played (IsRan (InOrder Fixed) ordered)
+ran-behind ordered [] played listed some is = cc
+ran-behind ordered (maker ∷ front) (Ok ran) listed some is =
+    let ran-by : IsRanBy (rounds_behind (maker ∷ front)) ordered.script ran =
+    subst (λ (f : List ℕ). IsRanBy (rounds_behind f) ordered.script ran) listed is in
+    record {
+      of = ran-by.of;
+      over = λ none. subst (λ (f : List ℕ). IsWholeBehind f ordered.script ran.stage.run)
+          (sym listed) (ran-by.over none);
+      order = λ cause stopped. subst
+          (λ (f : List ℕ). IsStoppedBehind f ordered.script ran.stage.run)
+          (sym listed) (ran-by.order cause stopped);
+      cause = ran-by.cause;
+      turn = ran-by.turn;
+    }
+ran-behind ordered (maker ∷ front) (Err refused) listed some is = tt
+
+-- and by rounds where none comes first
+pub ran-rounds : (ordered : OrderedParts) (front : List ℕ) (played : Result Ran Refused)
+    → ordered.front ≡ front → (length front == 0) ≡ true
+    → IfOk played (IsRan (InOrder Fixed) (unordered ordered.script))
+    → IfOk played (IsRan (InOrder Fixed) ordered)
+ran-rounds ordered (maker ∷ front) played listed none is = cc
+ran-rounds ordered [] (Ok ran) listed none is = record {
+  of = is.of;
+  over = λ ended. subst (λ (f : List ℕ). IsWholeBehind f ordered.script ran.stage.run)
+      (sym listed) (is.over ended);
+  order = λ cause stopped. subst
+      (λ (f : List ℕ). IsStoppedBehind f ordered.script ran.stage.run)
+      (sym listed) (is.order cause stopped);
+  cause = is.cause;
+  turn = is.turn;
+}
+ran-rounds ordered [] (Err refused) listed none is = tt
+
 -- a generated script is run as any other one
-pub ran-generated : (n : ℕ) (script : ScriptParts) (played : Result Ran Refused)
-    → IfOk played (IsRan Run script) → IfOk played (IsRan (Gen n) script)
-ran-generated n script (Ok ran) is = record {
+pub ran-generated : (n : ℕ) (ordered : OrderedParts) (played : Result Ran Refused)
+    → IfOk played (IsRan Run ordered) → IfOk played (IsRan (Gen n) ordered)
+ran-generated n ordered (Ok ran) is = record {
   of = is.of;
   over = is.over;
   order = is.order;
   cause = is.cause;
   turn = is.turn;
 }
-ran-generated n script (Err refused) is = tt
+ran-generated n ordered (Err refused) is = tt
 
 -- A JOURNAL IS LEGAL whatever the answer: one without steps is
 pub legal-none : (P : List Step) → P ≡ [] → IsLegalSomehow P

@@ -4,9 +4,8 @@ use Rattle.std.proofs.Common.{subst, arith, ◌≢◌, Option, Some, None, Resul
 use Rattle.std.proofs.Common.{take_all}
 use Rattle.journal.specs.Logs.{Log, is_full}
 use Rattle.script_words.specs.declared.fault.Fault.{Fault}
-use Rattle.script_lang.specs.Parts.{ScriptParts}
-use Rattle.script_lang.specs.Reading.{script_of}
-use Rattle.script_lang.proofs.Sizes.{script_within}
+use Rattle.order_lines.specs.Fronts.{OrderedParts, ordered_of}
+use Rattle.order_lines.proofs.Lengths.{ordered_within}
 use Rattle.linx_commands.specs.Streams.{read_most}
 use Rattle.linx_commands.specs.Runs.{IsCaused, IsEmptyLog, IsOutcomeOf, Completes, read_of}
 use Rattle.linx_commands.specs.Causes.{IsUnread}
@@ -14,10 +13,9 @@ use Rattle.linx_commands.specs.Statuses.{IsDoneOrRefused}
 use Rattle.command_words.specs.declared.request.Asked.{Asked}
 use Rattle.command_words.specs.declared.request.Asked.TheVariants.{Run}
 use Rattle.linx_commands.specs.declared.outcome.Status.{Status}
-use Rattle.linx_commands.specs.declared.outcome.Status.TheVariants.{Done, Usage, Script, Unopened}
-use Rattle.linx_commands.specs.declared.outcome.Status.TheVariants.{ReadFault, WriteFault}
-use Rattle.linx_commands.specs.declared.outcome.Status.TheVariants.{JournalFull, NoMemory, Torn}
-use Rattle.linx_commands.specs.declared.outcome.Status.TheVariants.{BadStream}
+use Rattle.linx_commands.specs.declared.outcome.Status.TheVariants.{Done, Script, ReadFault}
+use Rattle.linx_commands.specs.declared.outcome.Status.TheVariants.{WriteFault, JournalFull}
+use Rattle.linx_commands.specs.declared.outcome.Status.TheVariants.{NoMemory}
 
 -- the cause of a status that no script gave
 pub caused_unread : (asked : Asked) (status : Status) (told : Option (List ℕ)) (log : Log)
@@ -25,23 +23,17 @@ pub caused_unread : (asked : Asked) (status : Status) (told : Option (List ℕ))
 caused_unread asked (Script line fault) told log unread empty = (unread, empty)
 caused_unread asked ReadFault told log unread empty = empty
 caused_unread asked NoMemory told log unread empty = inl empty
-caused_unread asked (Usage wrong) told log unread empty = absurd unread
-caused_unread asked (Unopened why) told log unread empty = absurd unread
-caused_unread asked Done told log unread empty = absurd unread
-caused_unread asked WriteFault told log unread empty = absurd unread
-caused_unread asked JournalFull told log unread empty = absurd unread
-caused_unread asked (Torn at) told log unread empty = absurd unread
-caused_unread asked (BadStream at) told log unread empty = absurd unread
+caused_unread asked _ told log unread empty = absurd unread
 
-spelled_not_bad : (spells : Result ScriptParts (ℕ × Fault)) (line : ℕ) (fault : Fault)
+spelled_not_bad : (spells : Result OrderedParts (ℕ × Fault)) (line : ℕ) (fault : Fault)
     → IsOk spells → spells ≡ Err (line, fault) → ⊥
 spelled_not_bad (Ok s) line fault spelled bad = cc
 spelled_not_bad (Err told) line fault spelled bad = cc
 
-read_whole : (bytes : List ℕ) (spells : Result ScriptParts (ℕ × Fault)) → script_of bytes ≡ spells
+read_whole : (bytes : List ℕ) (spells : Result OrderedParts (ℕ × Fault)) → ordered_of bytes ≡ spells
     → IsOk spells → read_of bytes ≡ bytes
 read_whole bytes (Ok s) is spelled =
-    take_all read_most bytes (let short : length bytes ≤ 1048576 = script_within bytes s is in omega
+    take_all read_most bytes (let short : length bytes ≤ 1048576 = ordered_within bytes s is in omega
     (arith, short))
 read_whole bytes (Err fault) is spelled = cc
 
@@ -50,18 +42,15 @@ pub completes : (asked : Asked) (status : Status) (bytes : List ℕ) (log : Log)
     → IsCaused asked status (Some bytes) log → Completes bytes status log
 completes asked Done bytes log cause spelled room read write = tt
 completes asked NoMemory bytes log cause spelled room read write = tt
-completes asked (Usage wrong) bytes log cause spelled room read write = absurd cause
-completes asked (Unopened why) bytes log cause spelled room read write = absurd cause
 completes asked ReadFault bytes log cause spelled room read write = absurd (read refl)
 completes asked WriteFault bytes log cause spelled room read write = absurd (write refl)
 completes asked JournalFull bytes log cause spelled room read write =
     absurd (let no : true ≡ false = sym cause.answer.full ∙ room in cc)
 completes asked (Script line fault) bytes log cause spelled room read write =
-    let whole : read_of bytes ≡ bytes = read_whole bytes (script_of bytes) refl spelled in
-    absurd (spelled_not_bad (script_of bytes) line fault spelled
-    (subst (λ (read : List ℕ). script_of read ≡ Err (line, fault)) whole cause.0))
-completes asked (Torn at) bytes log cause spelled room read write = absurd cause
-completes asked (BadStream at) bytes log cause spelled room read write = absurd cause
+    let whole : read_of bytes ≡ bytes = read_whole bytes (ordered_of bytes) refl spelled in
+    absurd (spelled_not_bad (ordered_of bytes) line fault spelled
+    (subst (λ (read : List ℕ). ordered_of read ≡ Err (line, fault)) whole cause.0))
+completes asked _ bytes log cause spelled room read write = absurd cause
 
 -- the same where the bytes may be untold
 pub completes_told : (asked : Asked) (status : Status) (told : Option (List ℕ)) (log : Log)
@@ -78,24 +67,14 @@ completes_unread ended status told log is unread empty =
     (subst (λ (s : Status). IsUnread s told) (sym is) unread) empty)
 
 -- what the outcome of a script that is at hand says of its status
-pub completes_outcome : (asked : Asked) (status : Status) (script : ScriptParts) (log : Log)
-    → IsOutcomeOf asked status script log
+pub completes_outcome : (asked : Asked) (status : Status) (ordered : OrderedParts) (log : Log)
+    → IsOutcomeOf asked status ordered log
     → is_full log.steps ≡ false → status ≢ WriteFault → IsDoneOrRefused status
-completes_outcome asked Done script log outcome room write = tt
-completes_outcome asked NoMemory script log outcome room write = tt
-completes_outcome asked WriteFault script log outcome room write = absurd (write refl)
-completes_outcome asked JournalFull script log (inl refused) room write = cc
-completes_outcome asked JournalFull script log (inr answer) room write =
+completes_outcome asked Done ordered log outcome room write = tt
+completes_outcome asked NoMemory ordered log outcome room write = tt
+completes_outcome asked WriteFault ordered log outcome room write = absurd (write refl)
+completes_outcome asked JournalFull ordered log (inl refused) room write = cc
+completes_outcome asked JournalFull ordered log (inr answer) room write =
     absurd (let no_room : true ≡ false = sym answer.full ∙ room in cc)
-completes_outcome asked (Usage wrong) script log (inl refused) room write = cc
-completes_outcome asked (Usage wrong) script log (inr answer) room write = answer
-completes_outcome asked (Unopened why) script log (inl refused) room write = cc
-completes_outcome asked (Unopened why) script log (inr answer) room write = answer
-completes_outcome asked (Script line fault) script log (inl refused) room write = cc
-completes_outcome asked (Script line fault) script log (inr answer) room write = answer
-completes_outcome asked ReadFault script log (inl refused) room write = cc
-completes_outcome asked ReadFault script log (inr answer) room write = answer
-completes_outcome asked (Torn at) script log (inl refused) room write = cc
-completes_outcome asked (Torn at) script log (inr answer) room write = answer
-completes_outcome asked (BadStream at) script log (inl refused) room write = cc
-completes_outcome asked (BadStream at) script log (inr answer) room write = answer
+completes_outcome asked _ ordered log (inl refused) room write = cc
+completes_outcome asked _ ordered log (inr answer) room write = absurd answer

@@ -13,9 +13,9 @@ use Rattle.link_laws.specs.Promises.{AllGotFronts}
 use Rattle.link_laws.specs.Runs.{KeepsPromises}
 use Rattle.run_trunks.specs.States.{trunks_of}
 use Rattle.script_lang.specs.Parts.{ScriptParts}
-use Rattle.script_lang.specs.Reading.{script_of}
 use Rattle.trunk_moves.specs.Trunks.{RunTrunks, links_of}
 use Rattle.fabric.specs.Run.{Layout}
+use Rattle.order_lines.specs.Fronts.{OrderedParts, ordered_of}
 use Rattle.stage.specs.Plays.{IsScriptRun, IsSoFar}
 use Rattle.stage.specs.Turns.{shape_of}
 use Rattle.work_gen.specs.Generated.{generated}
@@ -26,12 +26,11 @@ use Rattle.linx_commands.specs.Decided.{IsRunOrFront}
 use Rattle.linx_commands.specs.Headline.{AllReceived, Headline, HeadlineOfSource, HeadlineUnder}
 use Rattle.linx_commands.specs.Headline.{IsReceived, Throughout}
 use Rattle.linx_commands.specs.Runs.{IsAnswerTo, IsCaused, IsEmptyLog, IsOfSource, IsOutcomeOf}
-use Rattle.linx_commands.specs.Runs.{IsRunUnder}
+use Rattle.linx_commands.specs.Runs.{IsRunUnder, unordered}
 use Rattle.linx_commands.specs.declared.outcome.Status.{Status}
-use Rattle.linx_commands.specs.declared.outcome.Status.TheVariants.{Done, Usage, Script, Unopened}
-use Rattle.linx_commands.specs.declared.outcome.Status.TheVariants.{ReadFault, WriteFault}
-use Rattle.linx_commands.specs.declared.outcome.Status.TheVariants.{JournalFull, NoMemory, Torn}
-use Rattle.linx_commands.specs.declared.outcome.Status.TheVariants.{BadStream}
+use Rattle.linx_commands.specs.declared.outcome.Status.TheVariants.{Done, Script, ReadFault}
+use Rattle.linx_commands.specs.declared.outcome.Status.TheVariants.{WriteFault, JournalFull}
+use Rattle.linx_commands.specs.declared.outcome.Status.TheVariants.{NoMemory}
 
 -- ---- of a run so far
 
@@ -81,57 +80,54 @@ of_run script log is =
     subst (λ (l : Log). Headline script l.steps) is.1.logged (of_so_far script is.0 is.1.so_far)
 
 -- a whole run under a command is a run
-run_under : (asked : Asked) (script : ScriptParts) (log : Log) → IsRunUnder asked script log
-    → IsRunOrFront script log
-run_under Run script log run = (run.0, run.1.so_far)
-run_under (InOrder order) script log run = (run.run, run.is.so_far)
-run_under (Gen n) script log run = (run.0, run.1.so_far)
+run_under : (asked : Asked) (ordered : OrderedParts) (log : Log) → IsRunUnder asked ordered log
+    → IsRunOrFront ordered.script log
+run_under Run ordered log run = (run.0, run.1.so_far)
+run_under (InOrder order) ordered log run = (run.run, run.is.so_far)
+run_under (Gen n) ordered log run = (run.0, run.1.so_far)
 
-run_of_answer : (asked : Asked) (status : Status) (script : ScriptParts) (log : Log)
-    → IsAnswerTo asked status script log → IsRunOrFront script log
-run_of_answer asked Done script log answer = run_under asked script log answer
-run_of_answer asked WriteFault script log answer = run_under asked script log answer
-run_of_answer asked JournalFull script log answer = (answer.run, answer.so_far)
-run_of_answer asked NoMemory script log answer = (answer.run, answer.so_far)
-run_of_answer asked _ script log answer = absurd answer
+run_of_answer : (asked : Asked) (status : Status) (ordered : OrderedParts) (log : Log)
+    → IsAnswerTo asked status ordered log → IsRunOrFront ordered.script log
+run_of_answer asked Done ordered log answer = run_under asked ordered log answer
+run_of_answer asked WriteFault ordered log answer = run_under asked ordered log answer
+run_of_answer asked JournalFull ordered log answer = (answer.run, answer.so_far)
+run_of_answer asked NoMemory ordered log answer = (answer.run, answer.so_far)
+run_of_answer asked _ ordered log answer = absurd answer
 
 -- what each status says of a script that is at hand
-pub headline_outcome : (asked : Asked) (status : Status) (script : ScriptParts) (log : Log)
-    → IsOutcomeOf asked status script log → IsEmptyLog log ⊎ Headline script log.steps
-headline_outcome asked status script log (inl refused) = inl refused.1
-headline_outcome asked status script log (inr answer) =
-    inr (of_run script log (run_of_answer asked status script log answer))
+pub headline_outcome : (asked : Asked) (status : Status) (ordered : OrderedParts) (log : Log)
+    → IsOutcomeOf asked status ordered log → IsEmptyLog log ⊎ Headline ordered.script log.steps
+headline_outcome asked status ordered log (inl refused) = inl refused.1
+headline_outcome asked status ordered log (inr answer) =
+    inr (of_run ordered.script log (run_of_answer asked status ordered log answer))
 
 -- of one that was read
-pub headline_read : (asked : Asked) (status : Status) (told : Option (List ℕ)) (script : ScriptParts)
-    (log : Log) → IfSome told (λ bytes. script_of bytes ≡ Ok script)
-    → IsOutcomeOf asked status script log → IsEmptyLog log ⊎ HeadlineOfSource told log
-headline_read asked status told script log spelled outcome =
-    elim (headline_outcome asked status script log outcome) [
+pub headline_read : (asked : Asked) (status : Status) (told : Option (List ℕ)) (ordered : OrderedParts)
+    (log : Log) → IfSome told (λ bytes. ordered_of bytes ≡ Ok ordered)
+    → IsOutcomeOf asked status ordered log → IsEmptyLog log ⊎ HeadlineOfSource told log
+headline_read asked status told ordered log spelled outcome =
+    elim (headline_outcome asked status ordered log outcome) [
       | inl empty ↦ inl empty
       | inr headline ↦
-          inr (record { script = script; spelled = spelled; headline = headline })
+          inr (record { ordered = ordered; spelled = spelled; headline = headline })
     ]
 
 of_source : (asked : Asked) (status : Status) (told : Option (List ℕ)) (log : Log)
     → IsOfSource asked status told log → IsEmptyLog log ⊎ HeadlineOfSource told log
 of_source asked status told log is =
-    headline_read asked status told is.script log is.spelled (inr is.answer)
+    headline_read asked status told is.ordered log is.spelled (inr is.answer)
 
 -- and of any bytes
 pub headline_caused : (asked : Asked) (status : Status) (told : Option (List ℕ)) (log : Log)
     → IsCaused asked status told log → IsEmptyLog log ⊎ HeadlineOfSource told log
 headline_caused asked Done told log cause = of_source asked Done told log cause
-headline_caused asked (Usage wrong) told log cause = absurd cause
-headline_caused asked (Unopened why) told log cause = absurd cause
 headline_caused asked (Script line fault) told log cause = inl cause.1
 headline_caused asked ReadFault told log cause = inl cause
 headline_caused asked WriteFault told log cause = of_source asked WriteFault told log cause
 headline_caused asked JournalFull told log cause = of_source asked JournalFull told log cause
 headline_caused asked NoMemory told log (inl empty) = inl empty
 headline_caused asked NoMemory told log (inr of_it) = of_source asked NoMemory told log of_it
-headline_caused asked (Torn at) told log cause = absurd cause
-headline_caused asked (BadStream at) told log cause = absurd cause
+headline_caused asked _ told log cause = absurd cause
 
 -- SO OF WHAT EACH COMMAND HANDS BACK
 pub headline_under : (asked : Asked) (status : Status) (told : Option (List ℕ)) (log : Log)
@@ -140,4 +136,4 @@ headline_under Run status told log cause = headline_caused Run status told log c
 headline_under (InOrder order) status told log cause =
     headline_caused (InOrder order) status told log cause
 headline_under (Gen n) status told log cause =
-    headline_outcome (Gen n) status (generated n) log cause
+    headline_outcome (Gen n) status (unordered (generated n)) log cause

@@ -8,7 +8,7 @@ use Rattle.report.specs.declared.reports.ReportError.{ReportError}
 use Rattle.report.specs.declared.reports.ReportError.TheVariants as reports
 use Rattle.script_lang.specs.declared.script_error.ScriptError.{ScriptError}
 use Rattle.script_lang.specs.declared.script_error.ScriptError.TheVariants as scripts
-use Rattle.script_lang.specs.Reading.{script_of}
+use Rattle.order_lines.specs.Fronts.{ordered_of}
 use Rattle.linx_commands.specs.Runs.{read_of}
 use Rattle.linx_commands.specs.declared.outcome.Status.{Status}
 use Rattle.linx_commands.specs.declared.outcome.Status.TheVariants.{Done, Usage, Script, Unopened}
@@ -19,7 +19,7 @@ use Rattle.linx_commands.specs.declared.outcome.Status.TheVariants.{BadStream}
 -- what each status says of a source's bytes that gave no script
 abbrev pub IsUnread : Status → Option (List ℕ) → Type 0
 IsUnread (Script line fault) told =
-    IfSome told (λ bytes. script_of (read_of bytes) ≡ Err (line, fault))
+    IfSome told (λ bytes. ordered_of (read_of bytes) ≡ Err (line, fault))
 IsUnread ReadFault told = Unit {0}
 IsUnread NoMemory told = Unit {0}
 IsUnread _ told = ⊥

@@ -5,7 +5,7 @@ use Rattle.journal.specs.Logs.{Log, is_full}
 use Rattle.journal_text.specs.Text.{text_of}
 use Rattle.report.specs.Summary.{summary_of}
 use Rattle.work_gen.specs.Generated.{generated}
-use Rattle.linx_commands.specs.Runs.{Completes, IsOutcomeOf, IsCaused}
+use Rattle.linx_commands.specs.Runs.{Completes, IsOutcomeOf, IsCaused, unordered}
 use Rattle.linx_commands.specs.Statuses.{IsDoneOrRefused}
 use Rattle.linx_commands.specs.Streams.{Reads}
 use Rattle.command_words.specs.declared.request.Asked.{Asked}
@@ -18,7 +18,7 @@ use Rattle.linx_commands.specs.declared.outcome.Status.TheVariants.{WriteFault}
 abbrev pub IsCausedUnder : Asked → Status → Option (List ℕ) → Log → Type 0
 IsCausedUnder Run status told log = IsCaused Run status told log
 IsCausedUnder (InOrder order) status told log = IsCaused (InOrder order) status told log
-IsCausedUnder (Gen n) status told log = IsOutcomeOf (Gen n) status (generated n) log
+IsCausedUnder (Gen n) status told log = IsOutcomeOf (Gen n) status (unordered (generated n)) log
 
 -- the run that a command asks for is done, or memory was refused, where neither a read nor a write
 -- failed, and the journal has room

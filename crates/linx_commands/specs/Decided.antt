@@ -4,6 +4,7 @@ use Rattle.journal.specs.Logs.{Log}
 use Rattle.journal_text.specs.Text.{text_of}
 use Rattle.run_orders.specs.Laws.{makers_of}
 use Rattle.script_lang.specs.Parts.{ScriptParts}
+use Rattle.order_lines.specs.Fronts.{OrderedParts}
 use Rattle.fabric.specs.Run.{Layout}
 use Rattle.linx_commands.specs.Runs.{IsRunAs, IsRunInOrder, IsStoppedFull}
 use Rattle.command_words.specs.declared.request.TurnOrder.{TurnOrder}
@@ -26,14 +27,14 @@ pub record JournalsAreDecided : Type 0 where
       → IsRunOrFront script two → text_of one ≡ text_of two → one ≡ two
   -- two journals of the whole run in one order are one: so `serial` has one text, and so has a seed
   pub in_order :
-      (order : TurnOrder) (script : ScriptParts) (one two : Log) → IsRunInOrder order script one
-      → IsRunInOrder order script two → one ≡ two
+      (order : TurnOrder) (ordered : OrderedParts) (one two : Log) → IsRunInOrder order ordered one
+      → IsRunInOrder order ordered two → one ≡ two
   -- so are two that were full before the end
   pub full :
-      (order : TurnOrder) (script : ScriptParts) (one two : Log)
-      → IsStoppedFull (InOrder order) script one → IsStoppedFull (InOrder order) script two
+      (order : TurnOrder) (ordered : OrderedParts) (one two : Log)
+      → IsStoppedFull (InOrder order) ordered one → IsStoppedFull (InOrder order) ordered two
       → one ≡ two
   -- and no script has one of each kind in one order, so `serial` and a seed have one status of both
   pub apart :
-      (order : TurnOrder) (script : ScriptParts) (one two : Log) → IsRunInOrder order script one
-      → IsStoppedFull (InOrder order) script two → ⊥
+      (order : TurnOrder) (ordered : OrderedParts) (one two : Log) → IsRunInOrder order ordered one
+      → IsStoppedFull (InOrder order) ordered two → ⊥

@@ -15,7 +15,7 @@ use Rattle.link_laws.specs.NotifiedCloses.{AllToldWhole, NeverAfterTold}
 use Rattle.link_laws.specs.Promises.{AllGotFronts}
 use Rattle.link_laws.specs.Still.{AllStill}
 use Rattle.script_lang.specs.Parts.{ScriptParts}
-use Rattle.script_lang.specs.Reading.{script_of}
+use Rattle.order_lines.specs.Fronts.{OrderedParts, ordered_of}
 use Rattle.stage.specs.Plays.{AllFollow}
 use Rattle.stage.specs.Turns.{shape_of}
 use Rattle.work_gen.specs.Generated.{generated}
@@ -63,9 +63,9 @@ pub record Headline (script : ScriptParts) (P : List Step) : Type 0 where
 
 -- it holds of the journal of a script, which the source's bytes spell, where it told them
 pub record HeadlineOfSource (told : Option (List ℕ)) (log : Log) : Type 0 where
-  pub script : ScriptParts
-  pub spelled : IfSome told (λ bytes. script_of bytes ≡ Ok script)
-  pub headline : Headline script log.steps
+  pub ordered : OrderedParts
+  pub spelled : IfSome told (λ bytes. ordered_of bytes ≡ Ok ordered)
+  pub headline : Headline ordered.script log.steps
 
 -- what a command hands back: an empty journal, or that of the script which it asks for
 abbrev pub HeadlineUnder : Asked → Option (List ℕ) → Log → Type 0

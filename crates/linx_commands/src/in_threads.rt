@@ -7,7 +7,7 @@ ghost use Rattle.command_words.specs.Requests.{file_of, request_of};
 ghost use Rattle.linx_commands.specs.Statuses.{IsUsageOrRefused};
 ghost use Rattle.linx_commands.specs.Streams.{Reads, Writes};
 ghost use Rattle.linx_commands.specs.Runs.{Completes, IsCaused, IsEmptyLog, IsLegalSomehow};
-ghost use Rattle.linx_commands.specs.Runs.{IsOutcomeOf, IsRan};
+ghost use Rattle.linx_commands.specs.Runs.{IsOutcomeOf, IsRan, unordered};
 ghost use Rattle.linx_commands.specs.Commands.{IsCausedUnder, CompletesUnder, ReadsUnder};
 ghost use Rattle.linx_commands.specs.Commands.{written_under};
 ghost use Rattle.linx_commands.specs.Headline.{HeadlineUnder};
@@ -33,7 +33,8 @@ fn play_in_threads<R: Threads + Wait + Sync, G: Gate + Sync>(
     script: Script,
     gate: &G,
 ) -> Result<Ran, NoMemory>
-    ensures { IfOk result (IsRan Asked.Run script) }
+    ensures { (front : List ℕ) → IfOk result (IsRan Asked.Run
+        (record { script = script; front = front })) }
 {
     Ok(workers::run(rt, alloc, script, gate)?.ran)
 }
@@ -57,8 +58,8 @@ fn threaded<R: Threads + Wait + Sync, G: Gate + Sync, S: Source, K: Sink>(
         result.status (text_of result.journal.log) }
 {
     match read_script(alloc, script) {
-        Ok(script) => {
-            let played = play_in_threads(rt, alloc, script, gate);
+        Ok(ordered) => {
+            let played = play_in_threads(rt, alloc, ordered.script, gate);
             conclude(alloc, Asked::Run, played, out)
         }
         Err(status) => unstarted(alloc, status),
@@ -74,7 +75,7 @@ fn generate<R: Threads + Wait + Sync, G: Gate + Sync, K: Sink>(
     out: &mut K,
     gate: &G,
 ) -> Outcome
-    ensures cause { IsOutcomeOf (Asked.Gen number) result.status (generated number)
+    ensures cause { IsOutcomeOf (Asked.Gen number) result.status (unordered (generated number))
         result.journal.log }
     ensures legal { IsLegalSomehow result.journal.log.steps }
     ensures sink { Writes K.held K.faults K.last_count K.can_take out.old out.new

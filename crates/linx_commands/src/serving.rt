@@ -5,14 +5,13 @@ ghost use Rattle.std.specs.Prelude.{◌≡◌, true, Ok, IfOk, IfErr, OnOk, IfSo
 ghost use Rattle.std.specs.Prelude.{option_map, string_bytes};
 ghost use Rattle.std.specs.Io.KnownBytes.{IsAtEnd};
 ghost use Rattle.journal_text.specs.Text.{text_of};
-ghost use Rattle.script_lang.specs.Parts.{ScriptParts};
-ghost use Rattle.script_lang.specs.Reading.{script_of};
+ghost use Rattle.order_lines.specs.Fronts.{OrderedParts, ordered_of};
 ghost use Rattle.command_words.specs.Pages.{page_of};
 ghost use Rattle.command_words.specs.Requests.{file_of, request_of};
 ghost use Rattle.linx_commands.specs.Statuses.{IsUsageOrRefused};
 ghost use Rattle.linx_commands.specs.Streams.{Reads, Writes, TakesAtMost, read_most};
 ghost use Rattle.linx_commands.specs.Runs.{Completes, IsCaused, IsEmptyLog, IsLegalSomehow};
-ghost use Rattle.linx_commands.specs.Runs.{IsOutcomeOf, IsRan};
+ghost use Rattle.linx_commands.specs.Runs.{IsOutcomeOf, IsRan, IsRanBy, parts_of, unordered};
 ghost use Rattle.linx_commands.specs.Commands.{ReadsUnder, written_under};
 ghost use Rattle.linx_commands.specs.Headline.{HeadlineUnder};
 ghost use Rattle.linx_commands.specs.Causes.{IsUnread, is_of_writing, read_status, script_status};
@@ -28,9 +27,11 @@ use fabric::StopCause;
 use journal::Journal;
 use linx_base::{NameList, Names, NoMemory};
 use linx_outside::{Files, ReadStop, Sink, Source, WriteFault, read_up_to, write_all};
+use order_rules::Rule;
 use orders::rule_of_seed;
 use report::{ReportError, write_report, write_summary};
-use script_lang::{Script, ScriptError, parse};
+use order_lines::Ordered;
+use script_lang::{Script, ScriptError};
 use stage::Stage;
 use std::alloc::Global;
 use workers::Ran;
@@ -101,22 +102,25 @@ fn write_run<K: Sink>(alloc: Global, asked: Asked, journal: &Journal, out: &mut 
     }
 }
 
-/// Plays a script in the order that a number decides.
-fn play_seeded(alloc: Global, seed: u32, script: Script) -> Result<Ran, NoMemory>
-    ensures { IfOk result (IsRan (Asked.InOrder (TurnOrder.Seed seed)) script) }
+/// Plays a script whose makers that come first take their turns, and behind them those whom a rule
+/// names.
+fn play_by(alloc: Global, ordered: Ordered, rule: Rule) -> Result<Ran, NoMemory>
+    ensures { IfOk result (IsRanBy (record { left = ordered.front.items; rule = rule })
+        ordered.script) }
 {
-    let mut rule = rule_of_seed(&script, u64::from(seed));
+    let Ordered { script, front } = ordered;
+    let mut rule = rule;
     let mut stage = Stage::new(alloc, script)?;
-    let stop = match orders::play_in_order(alloc, &mut stage, &[], &mut rule) {
+    let stop = match orders::play_in_order(alloc, &mut stage, front.as_slice(), &mut rule) {
         Ok(()) => None,
         Err(cause) => Some(cause),
     };
     Ok(Ran { stage, stop })
 }
 
-/// Plays a script in the fixed order.
-fn play_fixed(alloc: Global, script: Script) -> Result<Ran, NoMemory>
-    ensures { IfOk result (IsRan (Asked.InOrder TurnOrder.Fixed) script) }
+/// Plays a script by rounds.
+fn play_rounds(alloc: Global, script: Script) -> Result<Ran, NoMemory>
+    ensures { IfOk result (IsRan (Asked.InOrder TurnOrder.Fixed) (unordered script)) }
 {
     let mut stage = Stage::new(alloc, script)?;
     let stop = match stage.play() {
@@ -126,13 +130,28 @@ fn play_fixed(alloc: Global, script: Script) -> Result<Ran, NoMemory>
     Ok(Ran { stage, stop })
 }
 
+/// Plays a script in the fixed order, behind the makers that come first.
+fn play_fixed(alloc: Global, ordered: Ordered) -> Result<Ran, NoMemory>
+    ensures { IfOk result (IsRan (Asked.InOrder TurnOrder.Fixed) (parts_of ordered)) }
+{
+    if ordered.front.is_empty() {
+        // Nobody has to be asked whether it is ready: rounds are quicker.
+        play_rounds(alloc, ordered.script)
+    } else {
+        play_by(alloc, ordered, Rule::Rounds(0))
+    }
+}
+
 /// Plays a script in an order.
-fn play_in_order(alloc: Global, order: TurnOrder, script: Script) -> Result<Ran, NoMemory>
-    ensures { IfOk result (IsRan (Asked.InOrder order) script) }
+fn play_in_order(alloc: Global, order: TurnOrder, ordered: Ordered) -> Result<Ran, NoMemory>
+    ensures { IfOk result (IsRan (Asked.InOrder order) (parts_of ordered)) }
 {
     match order {
-        TurnOrder::Fixed => play_fixed(alloc, script),
-        TurnOrder::Seed(seed) => play_seeded(alloc, seed, script),
+        TurnOrder::Fixed => play_fixed(alloc, ordered),
+        TurnOrder::Seed(seed) => {
+            let rule = rule_of_seed(&ordered.script, u64::from(seed));
+            play_by(alloc, ordered, rule)
+        }
     }
 }
 
@@ -143,8 +162,8 @@ pub(crate) fn conclude<K: Sink>(
     played: Result<Ran, NoMemory>,
     out: &mut K,
 ) -> Outcome
-    ensures answer { (script : ScriptParts) → IfOk played (IsRan asked script)
-        → IsOutcomeOf asked result.status script result.journal.log }
+    ensures answer { (ordered : OrderedParts) → IfOk played (IsRan asked ordered)
+        → IsOutcomeOf asked result.status ordered result.journal.log }
     ensures legal { IsLegalSomehow result.journal.log.steps }
     ensures sink { Writes K.held K.faults K.last_count K.can_take out.old out.new
         result.status (written_under asked result.journal.log) }
@@ -165,12 +184,12 @@ pub(crate) fn conclude<K: Sink>(
     }
 }
 
-/// Reads a source to its end, and gives the script that its bytes spell, or the status that says
-/// why there is none.
+/// Reads a source to its end, and gives the script that its bytes spell, with the makers whose turns
+/// come first, or the status that says why there is none.
 #[tactic(auto, using(crate::proofs::Scanning::scanned))]
-pub(crate) fn read_script<S: Source>(alloc: Global, source: &mut S) -> Result<Script, Status>
-    ensures spelled { IfOk result (λ script.
-        IfSome (S.left source.old) (λ told. script_of told ≡ Ok script)) }
+pub(crate) fn read_script<S: Source>(alloc: Global, source: &mut S) -> Result<Ordered, Status>
+    ensures spelled { IfOk result (λ ordered.
+        IfSome (S.left source.old) (λ told. ordered_of told ≡ Ok (parts_of ordered))) }
     ensures whole { OnOk result (IsAtEnd (S.left source.new)) }
     ensures taken { TakesAtMost read_most (S.left source.old) (S.left source.new) }
     ensures counts_nothing { OnOk result (S.faults source.new ≡ S.faults source.old) }
@@ -186,8 +205,8 @@ pub(crate) fn read_script<S: Source>(alloc: Global, source: &mut S) -> Result<Sc
     }
     // A large buffer that is freed would let the C library copy what grows, up to that size.
     bytes.shrink_to_fit();
-    match parse(alloc, bytes.as_slice()) {
-        Ok(script) => Ok(script),
+    match order_lines::read(alloc, bytes.as_slice()) {
+        Ok(ordered) => Ok(ordered),
         Err(error) => Err(status_of_script(error)),
     }
 }
@@ -211,10 +230,10 @@ pub fn in_order<S: Source, K: Sink>(
         result.status (text_of result.journal.log) }
 {
     match read_script(alloc, script) {
-        Ok(script) => conclude(
+        Ok(ordered) => conclude(
             alloc,
             Asked::InOrder(order),
-            play_in_order(alloc, order, script),
+            play_in_order(alloc, order, ordered),
             out,
         ),
         Err(status) => unstarted(alloc, status),

@@ -50,6 +50,7 @@ pub fn read(alloc: Global, bytes: &[u8]) -> Result<Ordered, ScriptError>
     ensures read { IfOk result (λ it. ordered_of bytes.now
         ≡ Ok (record { script = it.script; front = it.front.items })) }
     ensures bad { IfErr result (λ e. IsBadOf (ordered_of bytes.now) e) }
+    ensures short { OnOk result (length bytes.now ≤ script_limit) }
 {
     let script = script_in(alloc, bytes)?;
     let front = front_of(alloc, makers_of(&script), bytes)?;

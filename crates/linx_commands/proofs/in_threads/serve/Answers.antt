@@ -4,6 +4,7 @@ use Rattle.linx_commands.specs.Commands.{CompletesUnder}
 use Rattle.command_words.specs.declared.request.Asked.TheVariants.{Gen, Run}
 use Rattle.linx_commands.specs.Headline.{HeadlineUnder}
 use Rattle.linx_commands.specs.Programs.{asked_in}
+use Rattle.linx_commands.specs.Runs.{unordered}
 use Rattle.linx_commands.specs.declared.serving.InThreads.{InThreads}
 use Rattle.linx_commands.proofs.Causes.{completes_outcome}
 use Rattle.linx_commands.proofs.Headline.{headline_under}
@@ -16,7 +17,7 @@ returns-in-Gen-clause-complete g c =
     let log = c.generate.result.journal.log in
     let left = g.S.Source.left c.args.script.now in
     subst (λ (t : InThreads). CompletesUnder (asked_in t) left status log) (sym c.in-Gen.is)
-    (completes_outcome (Gen number) status (generated number) log c.generate.ensures.cause)
+    (completes_outcome (Gen number) status (unordered (generated number)) log c.generate.ensures.cause)
 
 pub returns-in-Run-clause-headline : goal.returns-in-Run-clause-headline
 returns-in-Run-clause-headline g c =

@@ -7,12 +7,12 @@ use Rattle.linx_commands.proofs.Answering.{answers-halted, answers-played, legal
 use Rattle.linx_commands.proofs.serving.conclude.Goals as goal
 
 pub returns-in-None-clause-answer : goal.returns-in-None-clause-answer
-returns-in-None-clause-answer g c script is_ran =
+returns-in-None-clause-answer g c ordered is_ran =
     let journal = c.into_journal-journal.ensures in
     let ran : Ran = c.in-Ok.field-0 in
-    inr (answers-played c.args.asked c.write_run.result script ran
+    inr (answers-played c.args.asked c.write_run.result ordered ran
     c.into_journal-journal.result.log
-    (subst (λ (p : Result Ran NoMemory). IfOk p (IsRan c.args.asked script)) c.in-Ok.is is_ran)
+    (subst (λ (p : Result Ran NoMemory). IfOk p (IsRan c.args.asked ordered)) c.in-Ok.is is_ran)
     c.in-None.is journal.so_far journal.whole journal.over journal.rest journal.log
     c.write_run.ensures.kinds)
 
@@ -23,13 +23,13 @@ returns-in-None-clause-legal g c =
     legal-run stage.script stage.run c.into_journal-journal.result.log journal.so_far journal.log
 
 pub returns-in-Some-clause-answer : goal.returns-in-Some-clause-answer
-returns-in-Some-clause-answer g c script is_ran =
+returns-in-Some-clause-answer g c ordered is_ran =
     let journal = c.into_journal-journal.ensures in
     let ran : Ran = c.in-Ok.field-0 in
     let log = c.into_journal-journal.result.log in
-    subst (λ (s : Status). IsOutcomeOf c.args.asked s script log) (sym c.status_of_stop.ensures)
-    (inr (answers-halted c.args.asked c.in-Some.cause script ran log
-    (subst (λ (p : Result Ran NoMemory). IfOk p (IsRan c.args.asked script)) c.in-Ok.is is_ran)
+    subst (λ (s : Status). IsOutcomeOf c.args.asked s ordered log) (sym c.status_of_stop.ensures)
+    (inr (answers-halted c.args.asked c.in-Some.cause ordered ran log
+    (subst (λ (p : Result Ran NoMemory). IfOk p (IsRan c.args.asked ordered)) c.in-Ok.is is_ran)
     c.in-Some.is journal.so_far journal.log))
 
 pub returns-in-Some-clause-legal : goal.returns-in-Some-clause-legal

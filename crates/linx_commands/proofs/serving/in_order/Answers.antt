@@ -1,5 +1,6 @@
 use Rattle.std.proofs.Common.{inl}
 use Rattle.command_words.specs.declared.request.Asked.TheVariants.{InOrder}
+use Rattle.linx_commands.specs.Runs.{parts_of}
 use Rattle.linx_commands.proofs.Causes.{completes_unread}
 use Rattle.linx_commands.proofs.Headline.{headline_read}
 use Rattle.linx_commands.proofs.serving.in_order.Goals as goal
@@ -13,8 +14,8 @@ returns-in-Err-clause-complete g c =
 pub returns-in-Ok-clause-headline : goal.returns-in-Ok-clause-headline
 returns-in-Ok-clause-headline g c =
     headline_read (InOrder c.args.order) c.conclude.result.status (g.S.Source.left c.args.script.now)
-    c.in-Ok.script c.conclude.result.journal.log c.in-Ok.ensures.spelled
-    (c.conclude.ensures.answer c.in-Ok.script c.play_in_order.ensures)
+    (parts_of c.in-Ok.ordered) c.conclude.result.journal.log c.in-Ok.ensures.spelled
+    (c.conclude.ensures.answer (parts_of c.in-Ok.ordered) c.play_in_order.ensures)
 
 pub returns-in-Err-clause-headline : goal.returns-in-Err-clause-headline
 returns-in-Err-clause-headline g c = inl c.unstarted.ensures.empty
