@@ -11,6 +11,7 @@ import sys
 
 sys.path.insert(0, str(pathlib.Path(__file__).resolve().parent / "model"))
 
+import orders
 from lines import first_bad_line
 from runs import Run
 from script import parse
@@ -52,7 +53,7 @@ def serial_end(script):
     if bad is not None:
         return 2, re.compile(rb"linx_sim: script line %d: " % bad + REASON + rb"\n"), b""
     try:
-        return 0, b"", model_of(script).play().encode()
+        return 0, b"", orders.play_fixed(model_of(script)).encode()
     except Full as full:
         return 5, b"linx_sim: %s\n" % str(full).encode(), b""
 

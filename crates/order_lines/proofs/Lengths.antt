@@ -41,8 +41,11 @@ script-beside : (bytes : List ℕ) (spells : Result ScriptParts (ℕ × Fault)) 
     → script_of (without_orders bytes) ≡ spells → beside bytes spells ≡ Ok ordered
     → length bytes ≤ 1048576
 script-beside bytes (Ok script) ordered spells is =
-    omega (arith, length-without_orders bytes,
-    script_within (without_orders bytes) script spells)
+    omega (
+      arith,
+      length-without_orders bytes,
+      script_within (without_orders bytes) script spells,
+    )
 script-beside bytes (Err bad) ordered spells is = cc
 
 -- a text that spells a script with its orders is no longer than one of a script
