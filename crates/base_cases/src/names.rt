@@ -8,7 +8,7 @@ use std::test::Fail;
 /// A name of 32 bytes, the most that one has.
 const LONGEST: &str = "abcdefghijklmnopqrstuvwxyz012345";
 
-const NO_NAMES: [&str; 11] = [
+const NO_NAMES: &[&str] = &[
     "abcdefghijklmnopqrstuvwxyz0123456",
     "",
     "a b",
@@ -35,7 +35,7 @@ fn a_name_has_1_to_32_letters_digits_and_marks(rt: HostRuntime) {
     for text in [LONGEST, "a", "aZ09_-."] {
         assert!(rt; refusal_of(rt.alloc(), text).is_none(), "{text:?}");
     }
-    for text in NO_NAMES {
+    for &text in NO_NAMES {
         assert!(rt;
             refusal_of(rt.alloc(), text) == Some(NameError::BadName),
             "{text:?}"

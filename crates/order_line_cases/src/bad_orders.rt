@@ -4,7 +4,7 @@ use crate::scripts::front_behind;
 use std::test::Fail;
 
 /// Lines behind a script of nine, and what is said of the first bad one.
-const ROWS: [(&str, &str); 12] = [
+const ROWS: &[(&str, &str)] = &[
     (
         "order A\n",
         "line 10: a word is wrong, missing or one too many: A",
@@ -57,7 +57,7 @@ const ROWS: [(&str, &str); 12] = [
 
 #[test]
 fn first_bad_orders(rt: HostRuntime) -> Result<(), Fail> {
-    for (lines, wanted) in ROWS {
+    for &(lines, wanted) in ROWS {
         let front = front_behind(rt.alloc(), lines)?;
         assert!(rt;
             matches!(&front, Err(said) if said.as_str() == wanted),

@@ -4,7 +4,7 @@ use crate::scripts::front_behind;
 use std::test::Fail;
 
 /// Lines behind a script, and the makers that come first.
-const ROWS: [(&str, &[u32]); 8] = [
+const ROWS: &[(&str, &[u32])] = &[
     ("", &[]),
     ("order\n", &[]),
     ("order A1\n", &[1]),
@@ -17,7 +17,7 @@ const ROWS: [(&str, &[u32]); 8] = [
 
 #[test]
 fn makers_that_come_first(rt: HostRuntime) -> Result<(), Fail> {
-    for (lines, wanted) in ROWS {
+    for &(lines, wanted) in ROWS {
         let front = front_behind(rt.alloc(), lines)?;
         assert!(rt;
             matches!(&front, Ok(front) if front.as_slice() == wanted),

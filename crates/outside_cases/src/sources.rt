@@ -84,7 +84,7 @@ fn read_behind(
 }
 
 /// The calls that fail, the limit, where the read stops, and what stands in the buffer then.
-const READS: [(&[u64], usize, Result<Reached, ReadStop>, &[u8]); 6] = [
+const READS: &[(&[u64], usize, Result<Reached, ReadStop>, &[u8])] = &[
     (&[], 8, Ok(Reached::End), b"-abcdefg"),
     (&[], 7, Ok(Reached::Limit), b"-abcdefg"),
     (&[], 4, Ok(Reached::Limit), b"-abcd"),
@@ -95,7 +95,7 @@ const READS: [(&[u64], usize, Result<Reached, ReadStop>, &[u8]); 6] = [
 
 #[test]
 fn bytes_are_read_up_to_a_limit(rt: HostRuntime) -> Result<(), Fail> {
-    for (fails, most, wanted, bytes) in READS {
+    for &(fails, most, wanted, bytes) in READS {
         let (reached, buffer) = read_behind(rt.alloc(), fails, most)?;
         assert!(rt;
             reached == wanted && buffer.as_slice() == bytes,

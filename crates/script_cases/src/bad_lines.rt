@@ -16,7 +16,7 @@ node a\nnode b\nnode c\nnode d\nnode e\nnode f\nnode g\nnode h\n\
 node i\nnode j\nnode k\nnode l\nnode m\nnode n\nnode o\nnode p\nnode a";
 
 /// One bad line of each kind, in the order of the kinds.
-const KINDS: [Case; 9] = [
+const KINDS: &[Case] = &[
     (LINE, 16384, "n", 16385, BadKind::ScriptTooLong),
     ("#", 4097, "\nnode n", 1, BadKind::LineTooLong),
     ("", 0, "node n\nnode \x7f", 2, BadKind::BadByte),
@@ -35,7 +35,7 @@ const KINDS: [Case; 9] = [
 ];
 
 /// Lines for which a second kind holds too, which is told after each.
-const FIRST_OF_TWO: [(Case, BadKind); 13] = [
+const FIRST_OF_TWO: &[(Case, BadKind)] = &[
     (
         ("#", 1_048_577, "", 1, BadKind::ScriptTooLong),
         BadKind::LineTooLong,
@@ -100,7 +100,7 @@ const FIRST_OF_TWO: [(Case, BadKind); 13] = [
 ];
 
 /// Scripts with a bad line, its number and its kind.
-const BAD: [(&str, u32, BadKind); 54] = [
+const BAD: &[(&str, u32, BadKind)] = &[
     ("node n\x7f", 1, BadKind::BadByte),
     ("node n\r \n", 1, BadKind::BadByte),
     ("# \u{1}\nnod", 1, BadKind::BadByte),
@@ -253,7 +253,7 @@ fn bad_line(rt: &HostRuntime, text: &[u8]) -> Option<(u32, BadKind)> {
 
 #[test]
 fn each_kind_of_bad_line(rt: HostRuntime) -> Result<(), Fail> {
-    for (piece, times, end, line, kind) in KINDS {
+    for &(piece, times, end, line, kind) in KINDS {
         let text = repeated(&rt, piece, times, end)?;
         assert_eq!(rt; bad_line(&rt, &text), Some((line, kind)));
     }
@@ -262,7 +262,7 @@ fn each_kind_of_bad_line(rt: HostRuntime) -> Result<(), Fail> {
 
 #[test]
 fn the_first_of_two_kinds(rt: HostRuntime) -> Result<(), Fail> {
-    for ((piece, times, end, line, kind), second) in FIRST_OF_TWO {
+    for &((piece, times, end, line, kind), second) in FIRST_OF_TWO {
         let text = repeated(&rt, piece, times, end)?;
         assert_eq!(rt; bad_line(&rt, &text), Some((line, kind)), "and {second}");
     }
@@ -271,7 +271,7 @@ fn the_first_of_two_kinds(rt: HostRuntime) -> Result<(), Fail> {
 
 #[test]
 fn each_bad_line_with_its_number_and_kind(rt: HostRuntime) {
-    for (text, line, kind) in BAD {
+    for &(text, line, kind) in BAD {
         assert_eq!(rt;
             bad_line(&rt, text.as_bytes()),
             Some((line, kind)),
@@ -314,7 +314,7 @@ fn seventeenth_node(rt: HostRuntime) -> Result<(), Fail> {
 const ACTOR: &str = "node m\nnode n\nlink l m n\nactor p n\n";
 
 /// Texts, each as a begin, a piece that stands so often, and an end, with what is said of them.
-const SAID: [(&str, &str, u32, &str, &str); 41] = [
+const SAID: &[(&str, &str, u32, &str, &str)] = &[
     (
         "",
         LINE,
@@ -608,7 +608,7 @@ const SAID: [(&str, &str, u32, &str, &str); 41] = [
 
 #[test]
 fn what_is_said_of_bad_lines(rt: HostRuntime) -> Result<(), Fail> {
-    for (begin, piece, times, end, said) in SAID {
+    for &(begin, piece, times, end, said) in SAID {
         let mut text = Vec::new(rt.alloc());
         text.extend_from_slice(begin.as_bytes())?;
         text.extend_from_slice(&repeated(&rt, piece, times, end)?)?;

@@ -21,7 +21,7 @@ fn commands_shown(alloc: Global, commands: &str) -> Result<String, Fail> {
 }
 
 /// Commands, and what they mean.
-const MEANINGS: [(&str, &str); 27] = [
+const MEANINGS: &[(&str, &str)] = &[
     ("open c", "open c\n"),
     ("close", "close\n"),
     ("send self 1", "send self 1 []\n"),
@@ -62,7 +62,7 @@ const MEANINGS: [(&str, &str); 27] = [
 
 #[test]
 fn commands_and_their_meaning(rt: HostRuntime) -> Result<(), Fail> {
-    for (commands, meaning) in MEANINGS {
+    for &(commands, meaning) in MEANINGS {
         assert!(rt;
             commands_shown(rt.alloc(), commands)?.as_str() == meaning,
             "at {commands}"
@@ -72,7 +72,7 @@ fn commands_and_their_meaning(rt: HostRuntime) -> Result<(), Fail> {
 }
 
 /// Commands that are the same, or not.
-const PAIRS: [(&str, &str, bool); 22] = [
+const PAIRS: &[(&str, &str, bool)] = &[
     ("hunt a", "hunt a 251", true),
     ("hunt a hex:00", "hunt a 251 hex:00", true),
     ("hunt l/a 7 hex:0A", "hunt l/a 007 hex:0a", true),
@@ -103,7 +103,7 @@ const PAIRS: [(&str, &str, bool); 22] = [
 
 #[test]
 fn commands_that_mean_the_same_or_not(rt: HostRuntime) -> Result<(), Fail> {
-    for (one, other, same) in PAIRS {
+    for &(one, other, same) in PAIRS {
         let left = commands_shown(rt.alloc(), one)?;
         let right = commands_shown(rt.alloc(), other)?;
         assert_eq!(rt; left.as_str() == right.as_str(), same, "at {one}");

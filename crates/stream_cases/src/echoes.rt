@@ -45,7 +45,7 @@ const PING: &str = "01030000000000000000000000000000";
 const PONG: &str = "01040000000000000000000000000000";
 
 /// The words of what is asked, of what is said, and how the session ends.
-const CASES: [(&[&str], &[&str], Result<(), ServeStop>); 20] = [
+const CASES: &[(&[&str], &[&str], Result<(), ServeStop>)] = &[
     (&[], &[], Ok(())),
     (&[CONN], &[GREETING], Ok(())),
     (&[CONN, QUERY], &[GREETING, PUBLISH], Ok(())),
@@ -129,7 +129,7 @@ fn joined(alloc: Global, words: &[&str]) -> Result<Vec<u8>, Fail> {
 
 #[test]
 fn an_echo_says_exactly_this_in_any_pieces(rt: HostRuntime) -> Result<(), Fail> {
-    for (asked, said, ends) in CASES {
+    for &(asked, said, ends) in CASES {
         for most in [1, 3, 16, 4096] {
             let mut source = MemSource::new(joined(rt.alloc(), asked)?, most, Vec::new(rt.alloc()));
             let mut sink = MemSink::new(rt.alloc(), most, 65536, Vec::new(rt.alloc()))?;

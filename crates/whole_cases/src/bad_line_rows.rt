@@ -10,7 +10,7 @@ use std::thread::Threads;
 
 /// How a script begins, a text and how often it stands behind that, and what is said of its first
 /// bad line.
-const ROWS: [(&str, &str, u32, &str); 9] = [
+const ROWS: &[(&str, &str, u32, &str)] = &[
     (
         "#",
         "0123456789abcdef",
@@ -100,7 +100,7 @@ fn says<R: Threads + Wait + Sync + Eprint>(
 
 #[test]
 fn each_kind_of_bad_line_is_told_with_its_reason(rt: HostRuntime) -> Result<(), Fail> {
-    for (begin, piece, times, said) in ROWS {
+    for &(begin, piece, times, said) in ROWS {
         let script = repeated(rt.alloc(), begin, piece, times)?;
         assert!(rt; says(&rt, rt.alloc(), script.as_str(), said)?, "{said}");
     }

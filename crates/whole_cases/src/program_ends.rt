@@ -72,7 +72,7 @@ const DONE: Case = Case {
 };
 
 /// An end with each exit status.
-const CASES: [Case; 9] = [
+const CASES: &[Case] = &[
     DONE,
     Case {
         word: Ok("fast"),
@@ -148,7 +148,7 @@ fn ends_as<R: Threads + Wait + Sync + Eprint>(
 
 #[test]
 fn each_end_has_its_line_and_its_exit_status(rt: HostRuntime) -> Result<(), Fail> {
-    for case in CASES {
+    for &case in CASES {
         let mut errors = MemSink::new(rt.alloc(), 7, 128, Vec::new(rt.alloc()))?;
         assert!(rt;
             ends_as(&rt, rt.alloc(), case, &mut errors)?,
@@ -162,7 +162,7 @@ fn each_end_has_its_line_and_its_exit_status(rt: HostRuntime) -> Result<(), Fail
 
 #[test]
 fn a_line_that_cannot_be_written_changes_no_exit_status(rt: HostRuntime) -> Result<(), Fail> {
-    for case in CASES {
+    for &case in CASES {
         let mut full = MemSink::new(rt.alloc(), 7, 0, Vec::new(rt.alloc()))?;
         assert!(rt;
             ends_as(&rt, rt.alloc(), case, &mut full)?,

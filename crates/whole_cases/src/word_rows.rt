@@ -169,7 +169,8 @@ example:
 
 const VERSION: &str = "linx_sim 1.0\n";
 
-const ROWS: [Row; 43] = [
+/// Each word that runs a script or serves a stream, with each source.
+const SOURCES: &[Row] = &[
     INPUT,
     Row {
         words: &["run", "-"],
@@ -228,6 +229,10 @@ const ROWS: [Row; 43] = [
         line: "linx_sim: bad stream at 0\n",
         ..INPUT
     },
+];
+
+/// Files that can't be opened.
+const UNOPENED_FILES: &[Row] = &[
     Row {
         words: &["run", "t.linx"],
         file: Content::Fault(OpenFault::Other),
@@ -270,6 +275,10 @@ const ROWS: [Row; 43] = [
         line: "linx_sim: a?[2J??: no such file\n",
         ..UNOPENED
     },
+];
+
+/// Pages of the help.
+const PAGES: &[Row] = &[
     Row {
         words: &["help"],
         text: Text::Is(HELP),
@@ -331,6 +340,15 @@ const ROWS: [Row; 43] = [
         ..SHOWN
     },
     Row {
+        words: &["gateway", "--help"],
+        text: Text::Is(HELP_OF_GATEWAY),
+        ..SHOWN
+    },
+];
+
+/// Words that ask for nothing.
+const MISUSES: &[Row] = &[
+    Row {
         words: &["seriel"],
         line: "linx_sim: no word 'seriel': did you mean 'serial'?\n",
         ..MISUSED
@@ -374,11 +392,6 @@ const ROWS: [Row; 43] = [
         words: &["stream", "s.linx"],
         line: "linx_sim: usage: linx_sim stream\n",
         ..MISUSED
-    },
-    Row {
-        words: &["gateway", "--help"],
-        text: Text::Is(HELP_OF_GATEWAY),
-        ..SHOWN
     },
     Row {
         words: &["gateway", "17"],
@@ -447,7 +460,31 @@ fn ends_as<R: Threads + Wait + Sync + Eprint>(
 
 #[test]
 fn each_word_with_each_source(rt: HostRuntime) -> Result<(), Fail> {
-    for row in ROWS {
+    for &row in SOURCES {
+        assert!(rt; ends_as(&rt, rt.alloc(), row)?, "{:?}", row.words);
+    }
+    Ok(())
+}
+
+#[test]
+fn files_that_cannot_be_opened(rt: HostRuntime) -> Result<(), Fail> {
+    for &row in UNOPENED_FILES {
+        assert!(rt; ends_as(&rt, rt.alloc(), row)?, "{:?}", row.words);
+    }
+    Ok(())
+}
+
+#[test]
+fn pages_of_the_help(rt: HostRuntime) -> Result<(), Fail> {
+    for &row in PAGES {
+        assert!(rt; ends_as(&rt, rt.alloc(), row)?, "{:?}", row.words);
+    }
+    Ok(())
+}
+
+#[test]
+fn words_that_ask_for_nothing(rt: HostRuntime) -> Result<(), Fail> {
+    for &row in MISUSES {
         assert!(rt; ends_as(&rt, rt.alloc(), row)?, "{:?}", row.words);
     }
     Ok(())
