@@ -61,6 +61,12 @@ const ROWS: &[(&str, &str, u32, &str)] = &[
         1,
         "3: an `end` is missing behind this line",
     ),
+    (
+        "order A1\nnode n\n",
+        "order A1\n",
+        1,
+        "1: no node or link has this name here: A1",
+    ),
 ];
 
 /// A text behind another one, so many times.

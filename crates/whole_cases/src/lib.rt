@@ -22,6 +22,8 @@ mod link_facts;
 #[cfg(test)]
 mod link_peers;
 #[cfg(test)]
+mod listed_turns;
+#[cfg(test)]
 mod lost_links;
 #[cfg(test)]
 mod program_ends;
