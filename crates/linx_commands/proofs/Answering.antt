@@ -1,6 +1,7 @@
 -- From what a play and the writing of its text say to the answer of a status.
 use Rattle.std.proofs.Common.{◌≡◌, ℕ, true, false, List, [], ◌∷◌, inl, inr, sym, subst, Option, Some}
-use Rattle.std.proofs.Common.{None, Result, Ok, Err, IfOk, IfSome, OnSome, length, ◌==◌}
+use Rattle.std.proofs.Common.{None, Result, Ok, Err, IfOk, IfSome, OnSome, length, ◌==◌, arith}
+use Rattle.std.proofs.lemmas.Bool.Decides.{nat_tests}
 use Rattle.linx_base.specs.declared.memory.NoMemory.{NoMemory as Refused}
 use Rattle.journal.specs.declared.effect.Step.{Step}
 use Rattle.journal.specs.Logs.{Log, is_full}
@@ -190,7 +191,7 @@ pub ran-behind : (ordered : OrderedParts) (front : List ℕ) (played : Result Ra
     → ordered.front ≡ front → (length front == 0) ≡ false
     → IfOk played (IsRanBy (rounds_behind ordered.front) ordered.script)
     → IfOk played (IsRan (InOrder Fixed) ordered)
-ran-behind ordered [] played listed some is = cc
+ran-behind ordered [] played listed some is = absurd (let no : true ≡ false = some in cc)
 ran-behind ordered (maker ∷ front) (Ok ran) listed some is =
     let ran-by : IsRanBy (rounds_behind (maker ∷ front)) ordered.script ran =
     subst (λ (f : List ℕ). IsRanBy (rounds_behind f) ordered.script ran) listed is in
@@ -211,7 +212,8 @@ pub ran-rounds : (ordered : OrderedParts) (front : List ℕ) (played : Result Ra
     → ordered.front ≡ front → (length front == 0) ≡ true
     → IfOk played (IsRan (InOrder Fixed) (unordered ordered.script))
     → IfOk played (IsRan (InOrder Fixed) ordered)
-ran-rounds ordered (maker ∷ front) played listed none is = cc
+ran-rounds ordered (maker ∷ front) played listed none is =
+    absurd (let empty : length (maker ∷ front) ≡ 0 = grind (arith, nat_tests) in omega arith)
 ran-rounds ordered [] (Ok ran) listed none is = record {
   of = is.of;
   over = λ ended. subst (λ (f : List ℕ). IsWholeBehind f ordered.script ran.stage.run)

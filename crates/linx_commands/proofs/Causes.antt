@@ -25,6 +25,22 @@ caused_unread asked ReadFault told log unread empty = empty
 caused_unread asked NoMemory told log unread empty = inl empty
 caused_unread asked _ told log unread empty = absurd unread
 
+-- the cause of a status of a script that was read
+pub caused_read : (asked : Asked) (status : Status) (told : Option (List ℕ)) (ordered : OrderedParts)
+    (log : Log) → IfSome told (λ bytes. ordered_of bytes ≡ Ok ordered)
+    → IsOutcomeOf asked status ordered log → IsCaused asked status told log
+caused_read asked Done told ordered log spelled (inr answer) =
+    record { ordered = ordered; spelled = spelled; answer = answer }
+caused_read asked WriteFault told ordered log spelled (inr answer) =
+    record { ordered = ordered; spelled = spelled; answer = answer }
+caused_read asked JournalFull told ordered log spelled (inr answer) =
+    record { ordered = ordered; spelled = spelled; answer = answer }
+caused_read asked NoMemory told ordered log spelled (inr answer) =
+    inr (record { ordered = ordered; spelled = spelled; answer = answer })
+caused_read asked NoMemory told ordered log spelled (inl refused) = inl refused.1
+caused_read asked _ told ordered log spelled (inl refused) = cc
+caused_read asked _ told ordered log spelled (inr answer) = absurd answer
+
 spelled_not_bad : (spells : Result OrderedParts (ℕ × Fault)) (line : ℕ) (fault : Fault)
     → IsOk spells → spells ≡ Err (line, fault) → ⊥
 spelled_not_bad (Ok s) line fault spelled bad = cc

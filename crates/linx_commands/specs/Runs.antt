@@ -120,10 +120,10 @@ IsStoppedUnder (InOrder order) ordered run = IsStoppedIn order ordered run
 IsStoppedUnder (Gen n) ordered run = Unit {0}
 
 -- a script was run in an order: until all was over, or as far as memory and the journal let it
-pub record IsRanBy (order : Order) (script : ScriptParts) (ran : Ran) : Type 0 where
+pub record IsRanBy (turns : Order) (script : ScriptParts) (ran : Ran) : Type 0 where
   pub of : ran.stage.script ≡ script
-  pub over : ran.stop ≡ None → IsInOrder script order ran.stage.run
-  pub order : (cause : StopCause) → ran.stop ≡ Some cause → IsStoppedInOrder script order ran.stage.run
+  pub over : ran.stop ≡ None → IsInOrder script turns ran.stage.run
+  pub order : (cause : StopCause) → ran.stop ≡ Some cause → IsStoppedInOrder script turns ran.stage.run
   pub cause : IfSome ran.stop (λ cause. IsCauseOf cause ran.stage.run.log.steps)
   pub turn : OnSome ran.stop (is_over ran.stage.run ≡ false)
 

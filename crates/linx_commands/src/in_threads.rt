@@ -7,7 +7,7 @@ ghost use Rattle.command_words.specs.Requests.{file_of, request_of};
 ghost use Rattle.linx_commands.specs.Statuses.{IsUsageOrRefused};
 ghost use Rattle.linx_commands.specs.Streams.{Reads, Writes};
 ghost use Rattle.linx_commands.specs.Runs.{Completes, IsCaused, IsEmptyLog, IsLegalSomehow};
-ghost use Rattle.linx_commands.specs.Runs.{IsOutcomeOf, IsRan, unordered};
+ghost use Rattle.linx_commands.specs.Runs.{IsOutcomeOf, IsRan, parts_of, unordered};
 ghost use Rattle.linx_commands.specs.Commands.{IsCausedUnder, CompletesUnder, ReadsUnder};
 ghost use Rattle.linx_commands.specs.Commands.{written_under};
 ghost use Rattle.linx_commands.specs.Headline.{HeadlineUnder};
@@ -20,23 +20,34 @@ use crate::serving::{InThreads, alone, conclude, read_script, unstarted};
 use command_words::{Asked, file_named};
 use linx_base::NoMemory;
 use linx_outside::{Files, Gate, Sink, Source};
+use order_lines::Ordered;
 use script_lang::Script;
 use std::alloc::Global;
 use std::sync::Wait;
 use std::thread::Threads;
 use workers::Ran;
 
-/// Plays a script with a thread for each actor and each link.
+/// A script of which no maker comes first.
+fn unordered(alloc: Global, script: Script) -> Ordered
+    ensures { parts_of result ≡ unordered script }
+{
+    Ordered {
+        script,
+        front: Vec::new(alloc),
+    }
+}
+
+/// Plays a script with a thread for each actor and each link. Whose turns come first means nothing
+/// here.
 fn play_in_threads<R: Threads + Wait + Sync, G: Gate + Sync>(
     rt: &R,
     alloc: Global,
-    script: Script,
+    ordered: Ordered,
     gate: &G,
 ) -> Result<Ran, NoMemory>
-    ensures { (front : List ℕ) → IfOk result (IsRan Asked.Run
-        (record { script = script; front = front })) }
+    ensures { IfOk result (IsRan Asked.Run (parts_of ordered)) }
 {
-    Ok(workers::run(rt, alloc, script, gate)?.ran)
+    Ok(workers::run(rt, alloc, ordered.script, gate)?.ran)
 }
 
 /// Reads a script, runs it with a thread for each actor and each link, and writes the text of the
@@ -59,7 +70,7 @@ fn threaded<R: Threads + Wait + Sync, G: Gate + Sync, S: Source, K: Sink>(
 {
     match read_script(alloc, script) {
         Ok(ordered) => {
-            let played = play_in_threads(rt, alloc, ordered.script, gate);
+            let played = play_in_threads(rt, alloc, ordered, gate);
             conclude(alloc, Asked::Run, played, out)
         }
         Err(status) => unstarted(alloc, status),
@@ -83,7 +94,7 @@ fn generate<R: Threads + Wait + Sync, G: Gate + Sync, K: Sink>(
 {
     match work_gen::script(alloc, number) {
         Ok(script) => {
-            let played = play_in_threads(rt, alloc, script, gate);
+            let played = play_in_threads(rt, alloc, unordered(alloc, script), gate);
             conclude(alloc, Asked::Gen(number), played, out)
         }
         Err(NoMemory) => unstarted(alloc, Status::NoMemory),

@@ -1,5 +1,5 @@
-use Rattle.std.proofs.Common.{subst, IfOk, []}
-use Rattle.script_lang.specs.Parts.{ScriptParts}
+use Rattle.std.proofs.Common.{◌∙◌, ap, subst, IfOk}
+use Rattle.order_lines.specs.Fronts.{OrderedParts}
 use Rattle.work_gen.specs.Generated.{generated}
 use Rattle.linx_commands.specs.Runs.{IsRan, unordered}
 use Rattle.command_words.specs.declared.request.Asked.TheVariants.{Run}
@@ -12,5 +12,5 @@ returns-in-Ok-clause-cause g c =
     let played = c.play_in_threads-played.result in
     c.conclude.ensures.answer (unordered (generated number))
     (ran-generated number (unordered (generated number)) played
-    (subst (λ (s : ScriptParts). IfOk played (IsRan Run (unordered s))) c.in-Ok.ensures.is
-    (c.play_in_threads-played.ensures [])))
+    (subst (λ (o : OrderedParts). IfOk played (IsRan Run o))
+    (c.unordered.ensures ∙ ap unordered c.in-Ok.ensures.is) c.play_in_threads-played.ensures))
