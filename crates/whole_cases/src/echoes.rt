@@ -41,7 +41,7 @@ const WHOLE: Session = Session {
 };
 
 /// The answer to CONN has 40 bytes, and was said before the read that fails.
-const SESSIONS: &[Session] = &[
+const SESSIONS: [Session; 6] = [
     WHOLE,
     Session {
         comes: 0,
@@ -88,7 +88,7 @@ fn end_of_session<R: Threads + Wait + Sync>(
 
 #[test]
 fn an_echo_says_what_the_frames_that_came_are_answered(rt: HostRuntime) -> Result<(), Fail> {
-    for &session in SESSIONS {
+    for session in SESSIONS {
         let mut sink = MemSink::new(rt.alloc(), 7, session.room, Vec::new(rt.alloc()))?;
         let wanted = Ended {
             status: session.status,
