@@ -1,6 +1,6 @@
 -- A journal that is full takes no call, and no signal of a timer.
 use Rattle.std.proofs.Common.{◌≡◌, ◌≢◌, ℕ, zero, suc, Bool, true, false, List, Option, Some, None}
-use Rattle.std.proofs.Common.{is_some, sym, ap, subst, ◌∙◌, ◌||◌, nat_lt}
+use Rattle.std.proofs.Common.{is_some, sym, subst, ◌∙◌, ◌||◌, nat_lt}
 use Rattle.linx_base.specs.FirstMatch.{first_match}
 use Rattle.linx_timers.specs.Times.{is_next}
 use Rattle.linx_timers.specs.declared.timer.Timer.{Timer}

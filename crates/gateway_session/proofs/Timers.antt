@@ -1,7 +1,7 @@
 -- The timers that send over a whole session.
-use Rattle.std.proofs.Common.{◌≡◌, ◌≢◌, ℕ, zero, suc, ◌<◌, ◌≤◌, Bool, true, false, not, List, [], ◌∷◌}
-use Rattle.std.proofs.Common.{◌++◌, append_assoc, filter, refl, ap, sym, subst, ◌∙◌, inl, inr, arith, Option, Some}
-use Rattle.std.proofs.Common.{None, ◌||◌, ◌==◌, nat_lt, is_some}
+use Rattle.std.proofs.Common.{◌≡◌, ◌≢◌, ℕ, zero, suc, ◌<◌, ◌≤◌, Bool, true, false, not, List, []}
+use Rattle.std.proofs.Common.{◌∷◌, ◌++◌, append_assoc, filter, refl, ap, sym, subst, ◌∙◌, inl, inr}
+use Rattle.std.proofs.Common.{arith, Option, Some, None, ◌||◌, ◌==◌, nat_lt}
 use Rattle.std.specs.List.{AllByRecursion, list_any}
 use Rattle.std.proofs.lemmas.Bool.{cases_Bool}
 use Rattle.std.proofs.lemmas.Bool.Decides.{nat_tests}
@@ -18,12 +18,12 @@ use Rattle.gateway_msgs.specs.declared.reply.Reply.TheVariants as replies
 use Rattle.gateway_msgs.specs.declared.request.Request.{Request}
 use Rattle.gateway_msgs.specs.declared.request.Request.TheVariants as asks
 use Rattle.gateway_core.specs.Handling.{Clocks, Fires, FiresOne, GateState, Handles, IfOpen, Stops}
-use Rattle.gateway_core.specs.Handling.{StopsAmid, Strikes, done_or_none, last_moment, timer_state}
+use Rattle.gateway_core.specs.Handling.{done_or_none, last_moment, timer_state}
 use Rattle.gateway_core.specs.Timers.{HasGone}
-use Rattle.gateway_core.proofs.Timing.{handled, stopped}
-use Rattle.gateway_session.specs.Replying.{Asks, IsStopped, Leaves, Replies}
-use Rattle.gateway_session.specs.Whole.{AreDistinct, NoneHas, EachTimerOverASession, fired, sent_at_stop}
-use Rattle.gateway_session.specs.Whole.{sent_by, sent_by_clock, sent_in, sent_last}
+use Rattle.gateway_core.proofs.Timing.{handled}
+use Rattle.gateway_session.specs.Replying.{Asks, Leaves, Replies}
+use Rattle.gateway_session.specs.Whole.{AreDistinct, NoneHas, EachTimerOverASession, fired}
+use Rattle.gateway_session.specs.Whole.{sent_at_stop, sent_by, sent_by_clock, sent_in, sent_last}
 
 -- LISTS
 all_both : {X : Type 0} (P : X → Type 0) (xs ys : List X) → AllByRecursion P xs

@@ -1,11 +1,11 @@
 -- A session is whole, however it ends.
-use Rattle.std.proofs.Common.{◌≡◌, ◌⊎◌, ℕ, List, [], ◌∷◌, ◌++◌, refl, ap, sym, subst, ◌∙◌, inl, inr}
+use Rattle.std.proofs.Common.{◌≡◌, ℕ, List, [], ◌∷◌, ◌++◌, refl, ap, sym, subst, ◌∙◌, inl, inr}
 use Rattle.std.proofs.Common.{append_assoc, take, Option, Result, Ok, Err}
 use Rattle.journal.specs.declared.effect.Step.{Step}
 use Rattle.timer_laws.specs.Laws.{AreNumbered}
 use Rattle.request_stream.specs.declared.stop.ServeStop.{ServeStop}
 use Rattle.request_stream.specs.declared.stop.ServeStop.TheVariants as stops
-use Rattle.request_stream.specs.Ending.{Done, IsCut, IsLeft, Stopped, first, room_at}
+use Rattle.request_stream.specs.Ending.{IsCut, IsLeft, first}
 use Rattle.request_stream.specs.Serving.{Exchange, AreServed, Moment, Serves, server_after}
 use Rattle.gateway_core.specs.Handling.{GateState, timer_state}
 use Rattle.gateway_session.specs.Replying.{Asks, Leaves, Replies}
