@@ -15,7 +15,7 @@ ghost use Rattle.gateway_msgs.specs.Requests.{FitsFields};
 ghost use Rattle.gateway_core.specs.Handling.{Handles, IsAskerOf, IsClient, IsClosing, IsCore};
 ghost use Rattle.gateway_core.specs.Handling.{IsMadeOf, IsOwner, IsSending, Stops, StopsAmid};
 ghost use Rattle.gateway_core.specs.Handling.{Strikes, bare, done_or_none, first_state};
-ghost use Rattle.gateway_core.specs.Handling.{last_moment, leaves_open};
+ghost use Rattle.gateway_core.specs.Handling.{last_moment, leaves_open, makes_steps};
 
 use crate::replying::reply_to;
 use fabric::{Fabric, StopCause};
@@ -297,6 +297,8 @@ impl Gateway {
         ensures err { OnErr result (Stops request self.old self.new) }
         ensures full_only { IfErr result (λ cause. cause ≡ StopCause.JournalFull
             → is_full self.new.layout.log.steps ≡ true) }
+        ensures full_at { IfErr result (λ cause. cause ≡ StopCause.JournalFull
+            → makes_steps request ≡ true) }
     {
         match request {
             Request::Open(name) => self.core(client, Event::Open(name), None),

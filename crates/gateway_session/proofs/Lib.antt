@@ -3,3 +3,5 @@ pub mod Asking
 pub mod Replying
 pub mod GoingOn
 pub mod Room
+pub mod Timers
+pub mod Wholes

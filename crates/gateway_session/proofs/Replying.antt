@@ -8,7 +8,7 @@ use Rattle.gateway_msgs.specs.declared.reply.Reply.{Reply}
 use Rattle.gateway_msgs.specs.declared.request.Request.{Request}
 use Rattle.gateway_msgs.specs.Replies.{reply_spelling}
 use Rattle.gateway_msgs.specs.Requests.{Spells, type_of}
-use Rattle.gateway_core.specs.Handling.{GateState, Handles, Stops}
+use Rattle.gateway_core.specs.Handling.{GateState, Handles, Stops, makes_steps}
 use Rattle.gateway_session.specs.Replying.{FillsUp, Leaves, Replies, clients_of}
 
 pub on_ok : {T E P Q : Type 0} (r : Result T E) → OnOk r P → (P → Q) → OnOk r Q
@@ -19,10 +19,10 @@ pub on_err : {T E P Q : Type 0} (r : Result T E) → OnErr r P → (P → Q) →
 on_err (Ok x) holds go = tt
 on_err (Err e) holds go = go holds
 
-if_err : {T E P : Type 0} {F G : E → Type 0} (r : Result T E) → OnErr r P → IfErr r F
-    → ((e : E) → P → F e → G e) → IfErr r G
-if_err (Ok x) holds why go = tt
-if_err (Err e) holds why go = go e holds why
+if_err : {T E P : Type 0} {F G H : E → Type 0} (r : Result T E) → OnErr r P → IfErr r F
+    → IfErr r G → ((e : E) → P → F e → G e → H e) → IfErr r H
+if_err (Ok x) holds why also go = tt
+if_err (Err e) holds why also go = go e holds why also
 
 -- what holds whatever comes
 pub anyway : {T E P : Type 0} (r : Result T E) → P → OnOk r P
@@ -62,8 +62,9 @@ module _ (old new : GateState) (client : ℕ) (request : Request) (bytes : List 
 
   pub fills : (r : Result (Unit {0}) Refusal) → OnErr r (Stops request old new)
       → IfErr r (λ e. e ≡ Full → is_full new.layout.log.steps ≡ true)
+      → IfErr r (λ e. e ≡ Full → makes_steps request ≡ true)
       → IfErr r (λ e. e ≡ Full → FillsUp old bytes)
-  fills r stops full = if_err r stops full (λ e stop why is. record {
+  fills r stops full at = if_err r stops full at (λ e stop why makes is. record {
     left = new;
     stopped = record {
       client = client;
@@ -72,5 +73,6 @@ module _ (old new : GateState) (client : ℕ) (request : Request) (bytes : List 
       stops = stop;
       clients = clients;
     };
+    at = makes is;
     full = why is;
   })

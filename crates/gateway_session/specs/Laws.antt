@@ -1,8 +1,12 @@
 -- What follows for the journal of a session.
-use Rattle.std.specs.Prelude.{◌≡◌, ℕ, Bool, true, false, List, ◌++◌, is_some}
+use Rattle.std.specs.Prelude.{◌≡◌, ◌≢◌, ℕ, Bool, true, false, List, ◌++◌, is_some, Some}
+use Rattle.linx_base.specs.FirstMatch.{first_match}
+use Rattle.linx_timers.specs.Times.{is_next}
+use Rattle.linx_timers.specs.declared.timer.Timer.{Timer}
 use Rattle.journal.specs.Logs.{is_full}
 use Rattle.journal.specs.declared.effect.Step.{Step}
 use Rattle.gateway_msgs.specs.Filters.{filter_of}
+use Rattle.gateway_msgs.specs.declared.reply.Reply.TheVariants as replies
 use Rattle.gateway_msgs.specs.declared.request.Request.{Request}
 use Rattle.gateway_msgs.specs.declared.request.Request.TheVariants as asks
 use Rattle.gateway_core.specs.Handling.{GateState}
@@ -40,3 +44,11 @@ abbrev pub NoCallWhereFull : Type 0
 NoCallWhereFull =
     (old new : GateState) (bytes reply : List ℕ) (is : Replies old bytes new reply)
     → is_call is.request ≡ true → is_full old.layout.log.steps ≡ false
+
+-- NO TIMER'S SIGNAL IS SENT WHILE THE JOURNAL IS FULL: a clock that has one to send isn't replied to
+abbrev pub NoSignalWhereFull : Type 0
+NoSignalWhereFull =
+    (old new : GateState) (bytes reply : List ℕ) (is : Replies old bytes new reply) (moment : ℕ)
+    (timer : Timer) → is.request ≡ asks.Clock moment → is.answer ≢ replies.BadMoment
+    → first_match (is_next moment old.timers) old.timers ≡ Some timer
+    → is_full old.layout.log.steps ≡ false

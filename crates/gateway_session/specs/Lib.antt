@@ -1,3 +1,4 @@
 pub mod Replying
 pub mod Sessions
 pub mod Laws
+pub mod Whole

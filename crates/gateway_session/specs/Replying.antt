@@ -10,7 +10,7 @@ use Rattle.gateway_msgs.specs.declared.request.Request.{Request}
 use Rattle.gateway_msgs.specs.Fronts.{IsRequest}
 use Rattle.gateway_msgs.specs.Replies.{reply_spelling}
 use Rattle.gateway_msgs.specs.Requests.{Spells, type_of}
-use Rattle.gateway_core.specs.Handling.{GateState, Handles, Stops}
+use Rattle.gateway_core.specs.Handling.{GateState, Handles, Stops, makes_steps}
 
 -- how many clients a gateway has
 abbrev pub clients_of : GateState → ℕ
@@ -47,10 +47,11 @@ pub record IsStopped (old : GateState) (bytes : List ℕ) (new : GateState) : Ty
 abbrev pub Leaves : GateState → List ℕ → GateState → Type 0
 Leaves old bytes new = (new ≡ old) ⊎ IsStopped old bytes new
 
--- the journal is full, as a stop of this request leaves it
+-- the journal is full, as a stop of this request leaves it, which makes steps
 pub record FillsUp (old : GateState) (bytes : List ℕ) : Type 0 where
   pub left : GateState
   pub stopped : IsStopped old bytes left
+  pub at : makes_steps stopped.request ≡ true
   pub full : is_full left.layout.log.steps ≡ true
 
 -- why a request isn't replied to

@@ -5,7 +5,7 @@ ghost use Rattle.gateway_msgs.specs.declared.reply.Reply.{Reply};
 ghost use Rattle.gateway_msgs.specs.Replies.{reply_most, reply_spelling};
 ghost use Rattle.gateway_msgs.specs.Fronts.{IsRequest};
 ghost use Rattle.gateway_msgs.specs.Requests.{FitsFields, Spells, type_of};
-ghost use Rattle.gateway_core.specs.Handling.{Handles, IsAskerOf, Stops};
+ghost use Rattle.gateway_core.specs.Handling.{Handles, IsAskerOf, Stops, makes_steps};
 ghost use Rattle.gateway_session.specs.Replying.{refusal_of};
 
 use fabric::StopCause;
@@ -49,6 +49,7 @@ pub(crate) fn handle(gateway: &mut Gateway, asked: Asked, out: &mut Vec<u8>) -> 
     ensures stopped { OnErr result (Stops asked.request gateway.old gateway.new) }
     ensures full { IfErr result (λ e. e ≡ Refusal.Full
         → is_full gateway.new.layout.log.steps ≡ true) }
+    ensures full_at { IfErr result (λ e. e ≡ Refusal.Full → makes_steps asked.request ≡ true) }
     ensures serves_all { IfErr result (λ e. e ≢ Refusal.Refused) }
     ensures clients { gateway.new.layout.shape ≡ gateway.old.layout.shape }
 {

@@ -10,5 +10,5 @@ mod handling;
 mod laws;
 mod session;
 
-pub use laws::{each_goes_on, no_call_where_full};
+pub use laws::{each_goes_on, each_timer_over_a_session, no_call_where_full, no_signal_where_full};
 pub use session::Session;

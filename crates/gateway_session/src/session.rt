@@ -2,9 +2,11 @@ ghost use Rattle.std.specs.Prelude.{◌≡◌, ◌≢◌, ◌<◌, ◌≤◌, If
 ghost use Rattle.link_laws.specs.Laws.{IsLegal};
 ghost use Rattle.request_stream.specs.Answers.{Answered, EndsItself};
 ghost use Rattle.request_stream.specs.Ending.{CountsReads, CountsWrites};
-ghost use Rattle.gateway_core.specs.Handling.{first_state};
+ghost use Rattle.timer_laws.specs.Laws.{AreNumbered};
+ghost use Rattle.gateway_core.specs.Handling.{first_state, timer_state};
 ghost use Rattle.gateway_session.specs.Replying.{Asks, FillsUp, Leaves, Refuses, Replies};
 ghost use Rattle.gateway_session.specs.Sessions.{IsServed};
+ghost use Rattle.gateway_session.specs.Whole.{IsWhole};
 
 use crate::framing::front_in;
 use crate::handling::{handle, prepare};
@@ -87,6 +89,9 @@ impl Session {
         // How every session goes, why it ends, and what it leaves of the gateway and its journal.
         ensures served { IsServed result self.old self.new (S.left source.old) (S.left source.new)
             (K.held sink.old) (K.held sink.new) }
+        // The journal is the steps of the requests that were handled, and then those of the one that
+        // was stopped; and no timer's signal is sent twice.
+        ensures whole { AreNumbered (timer_state self.old) → IsWhole self.old self.new }
         ensures reads { CountsReads S.last_count result (S.faults source.old) (S.faults source.new) }
         ensures writes { CountsWrites K.last_count result (K.faults sink.old) (K.faults sink.new) }
         ensures faultless { S.is_faultless source.old → S.is_faultless source.new

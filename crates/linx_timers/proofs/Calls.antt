@@ -1,19 +1,21 @@
 -- What each call makes of the list of timers.
-use Rattle.std.proofs.Common.{◌≡◌, ℕ, Bool, List, [], ◌∷◌, refl, ap, sym, subst, ◌∙◌, inl, inr}
-use Rattle.std.proofs.Common.{Option, Some, None, is_some, IsSome, not, filter, ◌==◌, slice_get}
+use Rattle.std.proofs.Common.{◌≡◌, ℕ, Bool, true, List, [], ◌∷◌, refl, ap, sym, subst, ◌∙◌, inl, inr}
+use Rattle.std.proofs.Common.{Option, Some, None, is_some, IsSome, not, filter, ◌==◌}
 use Rattle.std.proofs.Common.{option_map}
 use Rattle.std.specs.List.{list_any}
 use Rattle.std.proofs.lemmas.Bool.{cases_Bool}
 use Rattle.linx_base.specs.FirstMatch.{first_match, without_match}
 use Rattle.linx_base.proofs.FirstMatches.{is_some-first_match}
-use Rattle.keyed_list.proofs.Entries.{first_passing, others_after, others_none, without_none_first}
+use Rattle.keyed_list.proofs.Entries.{others_none}
 use Rattle.deadlines.specs.declared.deadline.Deadline.{Deadline}
 use Rattle.deadlines.specs.Slots.{deadline_at, OnlySlot, at_moment}
 use Rattle.linx_timers.specs.declared.entry.Entry.{Entry}
 use Rattle.linx_timers.specs.declared.timer.Timer.{Timer}
-use Rattle.linx_timers.specs.Entries.{has_reference, ticket_of, timer_in, timers_in, IsTied}
+use Rattle.linx_timers.specs.Entries.{at_slot, has_reference, is_of, ticket_of, timer_in}
+use Rattle.linx_timers.specs.Entries.{timers_in, IsTied}
 use Rattle.linx_timers.specs.Times.{is_timer, is_next, due_of, with_due}
 use Rattle.linx_timers.proofs.Taking.{first-map, without-map, any-map, filter-map}
+use Rattle.linx_timers.proofs.Storing.{others_without}
 use Rattle.linx_timers.proofs.Tying.{first_held, moved_tied, moved_timers}
 
 held_some : (k : ℕ) (o : Option Deadline) → ticket_of o ≡ Some k → IsSome o
@@ -55,59 +57,59 @@ module _ (slots : List (Option Deadline)) (es : List Entry) (timers : List Timer
           ∙ sym (without-map (timer_in slots) (is_timer client reference) es)
           ∙ ap (without_match (is_timer client reference)) view
 
-      pub any_timer : (o : Option Entry) → o ≡ slice_get (filter p es) 0
+      pub any_timer : (o : Option Entry) → o ≡ first_match p es
           → is_some o ≡ list_any (is_timer client reference) timers
       any_timer o is =
-          ap is_some (is ∙ first_passing p es) ∙ is_some-first_match p es
+          ap is_some is ∙ is_some-first_match p es
           ∙ ap (λ q. list_any q es) key
           ∙ sym (any-map (timer_in slots) (is_timer client reference) es)
           ∙ ap (list_any (is_timer client reference)) view
 
-      pub none_moved : (due : ℕ) → None ≡ slice_get (filter p es) 0
+      pub none_moved : (due : ℕ) → first_match p es ≡ None
           → timers ≡ with_due client reference due timers
       none_moved due none =
           sym (with_due_none client reference due timers
-          (first_timer None (none ∙ first_passing p es)))
+          (first_timer None (sym none)))
 
       module _ (next : ℕ) (tied : IsTied next slots es) (e : Entry)
-          (found : Some e ≡ slice_get (filter p es) 0) where
-        under_key : first_match p es ≡ Some e
-        under_key = sym (found ∙ first_passing p es)
-
-        pub has_deadline : IsSome (deadline_at slots e.slot)
-        has_deadline = held_some e.ticket (deadline_at slots e.slot)
-            (first_held next slots es tied p e under_key)
+          (found : first_match p es ≡ Some e) (slot : ℕ) (here : slot ≡ e.slot) where
+        pub has_deadline : IsSome (deadline_at slots slot)
+        has_deadline = subst (λ s. IsSome (deadline_at slots s)) (sym here)
+            (held_some e.ticket (deadline_at slots e.slot)
+            (first_held next slots es tied p e found))
 
         module _ (due : ℕ) (new : List (Option Deadline))
-            (moves : OnlySlot slots new e.slot (at_moment due (deadline_at slots e.slot))) where
+            (moves : OnlySlot slots new slot (at_moment due (deadline_at slots slot))) where
+          moves_its : OnlySlot slots new e.slot (at_moment due (deadline_at slots e.slot))
+          moves_its =
+              subst (λ s. OnlySlot slots new s (at_moment due (deadline_at slots s))) here moves
+
           pub tied_then : IsTied next new es
-          tied_then = moved_tied next slots es tied p e under_key due new moves
+          tied_then = moved_tied next slots es tied p e found due new moves_its
 
           pub moved_then : timers_in new es ≡ with_due client reference due timers
           moved_then =
               moved_timers client reference due slots new es e tied.rising tied.held
-              (subst (λ q. first_match q es ≡ Some e) key under_key) moves
+              (subst (λ q. first_match q es ≡ Some e) key found) moves_its
               ∙ ap (with_due client reference due) view
 
-  -- BY A CLIENT
-  module _ (client : ℕ) (p : Entry → Bool) (key : p ≡ (λ f. client == f.client)) where
-    pub others_stay : others_of client (timers_in slots (without_match p es)) ≡ others_of client timers
-    others_stay =
-        ap (λ q. others_of client (timers_in slots (without_match q es))) key
-        ∙ filter-map (timer_in slots) (λ t. not (client == t.client))
-        (without_match (λ f. client == f.client) es)
-        ∙ ap (timers_in slots) (others_after (λ f. client == f.client) es)
-        ∙ sym (filter-map (timer_in slots) (λ t. not (client == t.client)) es)
-        ∙ ap (others_of client) view
+-- BY A CLIENT
+module _ (slots : List (Option Deadline)) (es : List Entry) (client : ℕ) where
+  pub others_stay : (slot : ℕ) (e : Entry) → first_match (at_slot slot) es ≡ Some e
+      → is_of client e ≡ true
+      → others_of client (timers_in slots (without_match (at_slot slot) es))
+      ≡ others_of client (timers_in slots es)
+  others_stay slot e at owner =
+      filter-map (timer_in slots) (λ t. not (client == t.client))
+      (without_match (at_slot slot) es)
+      ∙ ap (timers_in slots) (others_without (at_slot slot) (is_of client) es e at owner)
+      ∙ sym (filter-map (timer_in slots) (λ t. not (client == t.client)) es)
 
-    pub others_alone : first_match p es ≡ None → timers_in slots (without_match p es) ≡ others_of client timers
-    others_alone none =
-        let missing : first_match (λ f. client == f.client) es ≡ None =
-        subst (λ q. first_match q es ≡ None) key none in
-        ap (timers_in slots) (without_none_first p es none)
-        ∙ ap (timers_in slots) (sym (others_none (λ f. client == f.client) es missing))
-        ∙ sym (filter-map (timer_in slots) (λ t. not (client == t.client)) es)
-        ∙ ap (others_of client) view
+  pub others_alone : first_match (is_of client) es ≡ None
+      → timers_in slots es ≡ others_of client (timers_in slots es)
+  others_alone none =
+      ap (timers_in slots) (sym (others_none (is_of client) es none))
+      ∙ sym (filter-map (timer_in slots) (λ t. not (client == t.client)) es)
 
 -- WHERE NONE IS THERE
 pub none_first : (now : ℕ) (timers : List Timer) → timers ≡ []

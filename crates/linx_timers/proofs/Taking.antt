@@ -124,10 +124,6 @@ module _ {X : Type 0} where
       let rest = none_passes q xs all.1 in
       (rw here rest.0, rw here (ap (λ l. x ∷ l) rest.1))
 
--- tests that agree
-pub same_tests : {X : Type 0} (p q : X → Bool) → ((x : X) → p x ≡ q x) → p ≡ q
-same_tests p q same = λ i x. same x i
-
 -- what is seen of each
 module _ {X Y : Type 0} (g : X → Y) where
   pub first-map : (q : Y → Bool) (xs : List X) → first_match q (map g xs)

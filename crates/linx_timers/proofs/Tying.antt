@@ -25,13 +25,13 @@ abbrev Holds : List (Option Deadline) → Entry → Type 0
 Holds slots e = ticket_of (deadline_at slots e.slot) ≡ Some e.ticket
 
 -- LISTS OF ENTRIES
-rising_push : (es : List Entry) (e : Entry) → AreRising es
+pub rising_push : (es : List Entry) (e : Entry) → AreRising es
     → AllByRecursion (λ f. f.ticket < e.ticket) es → AreRising (es ++ e ∷ [])
 rising_push [] e up below = (tt, tt)
 rising_push (f ∷ es) e up below =
     (all_push (λ g. f.ticket < g.ticket) es e up.0 below.0, rising_push es e up.1 below.1)
 
-rising_without : (p : Entry → Bool) (es : List Entry) → AreRising es
+pub rising_without : (p : Entry → Bool) (es : List Entry) → AreRising es
     → AreRising (without_match p es)
 rising_without p [] up = up
 rising_without p (f ∷ es) up = elim (cases_Bool (p f)) [
@@ -41,7 +41,7 @@ rising_without p (f ∷ es) up = elim (cases_Bool (p f)) [
 ]
 
 -- the others have other tickets than the first that passes
-tickets_apart : (p : Entry → Bool) (es : List Entry) (e : Entry) → AreRising es
+pub tickets_apart : (p : Entry → Bool) (es : List Entry) (e : Entry) → AreRising es
     → first_match p es ≡ Some e → AllByRecursion (λ f. f.ticket ≢ e.ticket) (without_match p es)
 tickets_apart p [] e up is = cc
 tickets_apart p (f ∷ es) e up is = elim (cases_Bool (p f)) [
@@ -94,7 +94,7 @@ held_same old new es same held =
 module _ (next due slot : ℕ) (entry : Entry) (old new : List (Option Deadline)) (es : List Entry)
     (tied : IsTied next old es) (free : deadline_at old slot ≡ None)
     (adds : OnlySlot old new slot (Some (record { due = due; ticket = next }))) where
-  others_off : AllByRecursion (λ f. f.slot ≢ slot) es
+  pub others_off : AllByRecursion (λ f. f.slot ≢ slot) es
   others_off = all_by (Holds old) (λ f. f.slot ≢ slot) es (λ f held same.
       let none : None ≡ Some f.ticket =
       ap ticket_of (sym free) ∙ ap (λ s. ticket_of (deadline_at old s)) (sym same) ∙ held in cc)
@@ -314,7 +314,7 @@ moved_timers client reference due slots new (f ∷ es) e up held is moves =
 
 -- THE TIMER THAT IS DUE FIRST
 -- a test that fails before an entry, and passes at it, finds this entry first
-agrees : (p q : Entry → Bool) (es : List Entry) (e : Entry) → AreRising es
+pub agrees : (p q : Entry → Bool) (es : List Entry) (e : Entry) → AreRising es
     → first_match p es ≡ Some e → AllByRecursion (λ f. f.ticket < e.ticket → q f ≡ false) es
     → q e ≡ true → (first_match q es ≡ Some e) × (without_match q es ≡ without_match p es)
 agrees p q [] e up is before here = cc

@@ -48,4 +48,4 @@ returns-in-Ok-clause-full c =
     let stopped = rw c.self.view_is at c.handle.ensures.stopped in
     let clients = c.handle.ensures.clients ∙ ap (λ (g : GateState). g.layout.shape) c.self.view_is in
     fills c.args.self.now c.handle.new.gateway _ _ c.args.request.now spells clients
-    c.handle.result stopped c.handle.ensures.full
+    c.handle.result stopped c.handle.ensures.full c.handle.ensures.full_at
