@@ -5,7 +5,7 @@ use crate::runs::text_under;
 use crate::texts::compare;
 use std::test::Fail;
 
-const EXAMPLES: &[(&str, &str)] = &[
+const EXAMPLES: [(&str, &str); 15] = [
     // chain.linx
     (
         "# Look for signal 1 as it goes over two links, and who each end says it came from.\n# \
@@ -621,7 +621,7 @@ const EXAMPLES: &[(&str, &str)] = &[
 
 #[test]
 fn each_example_prints_the_text_beside_it(rt: HostRuntime) -> Result<(), Fail> {
-    for &(script, wanted) in EXAMPLES {
+    for (script, wanted) in EXAMPLES {
         let text = text_under(&rt, rt.alloc(), "serial", script)?;
         compare(text.as_str(), wanted)?;
     }

@@ -2,7 +2,7 @@
 ghost use Rattle.std.specs.Prelude.{◌≡◌, ◌+◌, ◌≤◌, [], false, length, IsOk};
 ghost use Rattle.journal.specs.Logs.{is_full};
 ghost use Rattle.journal_text.specs.Text.{text_of};
-ghost use Rattle.script_lang.specs.Reading.{script_of};
+ghost use Rattle.order_lines.specs.Fronts.{ordered_of};
 ghost use Rattle.linx_commands.specs.Statuses.{IsDoneOrRefused};
 
 use crate::runs::{Ended, end_of, end_without_text, source_of};
@@ -82,7 +82,7 @@ const MOST_COMMANDS: &str = "node n
 
 /// A run over memory ends as it should, whatever the script.
 fn run_in_memory(alloc: Global, source: &mut PlainSource, sink: &mut MemSink) -> Outcome
-    ensures { IsOk (script_of source.old) → is_full result.journal.log.steps ≡ false
+    ensures { IsOk (ordered_of source.old) → is_full result.journal.log.steps ≡ false
         → sink.old.plan.fails ≡ []
         → length sink.old.held + length (text_of result.journal.log) ≤ sink.old.room
         → IsDoneOrRefused result.status }
