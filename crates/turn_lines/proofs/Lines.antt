@@ -1,10 +1,10 @@
 -- Rows are cut into lines of sixteen.
 use Rattle.std.proofs.Common.{◌≡◌, ◌∙◌, ℕ, zero, suc, ◌+◌, ◌<◌, ◌≤◌, ◌++◌, ◌==◌, Bool, true, false}
 use Rattle.std.proofs.Common.{cond, List, [], ◌∷◌, length, take, drop, refl, sym, ap, arith}
-use Rattle.std.proofs.Common.{append_assoc, append-nil, eqb-true, flat_map}
+use Rattle.std.proofs.Common.{eqb-true}
 use Rattle.std.proofs.lemmas.Bool.{eqb-false}
 use Rattle.std.specs.List.{onto_first}
-use Rattle.turn_lines.specs.Text.{in_lines, line_text}
+use Rattle.turn_lines.specs.Text.{in_lines}
 use Rattle.turn_lines.specs.declared.rows.Row.{Row}
 
 -- the rows with one before them, by whether the line is full with it
@@ -40,16 +40,14 @@ cut_first (row ∷ rows) n (suc j) some within short whole =
     cut_by (n + 1 == 16) n j row rows refl (cut_first rows (n + 1) j) (omega arith) short
     (λ less. whole (omega arith))
 
--- a line more is written
-pub line_next : (rest line behind : List Row) (k : ℕ) (total out longer : List ℕ) → 0 < length rest
-    → k ≤ length rest → k ≤ 16 → (k < length rest → k ≡ 16) → line ≡ take k rest
-    → behind ≡ drop k rest → out ++ flat_map line_text (in_lines 0 rest) ≡ total
-    → longer ≡ out ++ line_text line → longer ++ flat_map line_text (in_lines 0 behind) ≡ total
-line_next rest line behind k total out longer some within short whole first last so_far now =
-    let cut : in_lines 0 rest ≡ cut_behind k rest =
-    cut_first rest 0 k (omega arith) within (omega arith) (λ less. omega (arith, whole less))
-    in
-    let lines : in_lines 0 rest ≡ line ∷ in_lines 0 behind = cc in
-    ap (λ (text : List ℕ). text ++ flat_map line_text (in_lines 0 behind)) now
-    ∙ append_assoc out (line_text line) (flat_map line_text (in_lines 0 behind))
-    ∙ ap (λ (ls : List (List Row)). out ++ flat_map line_text ls) (sym lines) ∙ so_far
+-- the first line, where more follow
+pub full_line : (rows : List Row) → 16 < length rows
+    → in_lines 0 rows ≡ take 16 rows ∷ in_lines 0 (drop 16 rows)
+full_line rows more =
+    cut_first rows 0 16 (omega arith) (omega arith) (omega arith) (λ less. omega arith)
+
+-- and where none do
+pub last_line : (rows : List Row) → 0 < length rows → length rows ≤ 16
+    → in_lines 0 rows ≡ take (length rows) rows ∷ in_lines 0 (drop (length rows) rows)
+last_line rows some few =
+    cut_first rows 0 (length rows) some (omega arith) (omega arith) (λ less. absurd (omega arith))

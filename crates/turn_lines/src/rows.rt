@@ -1,6 +1,7 @@
 //! The turns of a journal in rows.
 
 ghost use Rattle.std.specs.Prelude.{◌≡◌, ◌<◌, ◌-◌, ◌^◌, ◌++◌, IfOk, OnOk};
+ghost use Rattle.node_kernel.specs.Answers.{is_pumped};
 ghost use Rattle.turn_lines.specs.Rows.{behind_row, is_same, rows_of, turns_in, with_turn};
 ghost use Rattle.turn_lines.specs.Rows.{with_step};
 ghost use Rattle.turn_lines.specs.Turns.{begins_turn, turn_makers};
@@ -16,12 +17,22 @@ pub struct Row {
     pub times: u64,
 }
 
+/// Whether a step is a packet or a tick of a link.
+fn is_pumped(head: &Head) -> bool
+    ensures { result ≡ is_pumped head.now }
+{
+    match head {
+        Head::Wire(..) | Head::Tick(..) => true,
+        _ => false,
+    }
+}
+
 /// Whether a step begins a turn.
 fn begins_turn(step: &Step) -> bool
     ensures { result ≡ begins_turn step.now.by step.now.head }
 {
     match step.by {
-        By::Actor(_) => !matches!(&step.head, Head::Wire(..) | Head::Tick(..)),
+        By::Actor(_) => !is_pumped(&step.head),
         By::Pump(_) => true,
     }
 }
@@ -38,7 +49,7 @@ fn is_same(one: By, other: By) -> bool
 
 /// A row, and one turn behind it.
 fn push_behind(rows: &mut Vec<Row>, row: Row, maker: By) -> Result<(), NoMemory>
-    requires few { row.times < 2 ^ 64 - 1 }
+    requires { row.times < 2 ^ 64 - 1 }
     ensures { OnOk result (rows.new.items ≡ rows.old.items ++ behind_row row maker) }
 {
     if is_same(row.maker, maker) {
@@ -58,7 +69,7 @@ fn push_behind(rows: &mut Vec<Row>, row: Row, maker: By) -> Result<(), NoMemory>
 /// One turn more.
 #[tactic(auto, using(crate::proofs::Rows::with_last, crate::proofs::Rows::last_few))]
 fn add_turn(rows: &mut Vec<Row>, maker: By) -> Result<(), NoMemory>
-    requires few { turns_in rows.old.items < 2 ^ 64 - 1 }
+    requires { turns_in rows.old.items < 2 ^ 64 - 1 }
     ensures { OnOk result (rows.new.items ≡ with_turn rows.old.items maker) }
 {
     match rows.pop() {
@@ -72,7 +83,7 @@ fn add_turn(rows: &mut Vec<Row>, maker: By) -> Result<(), NoMemory>
 
 /// The turn that a step begins, if it begins one.
 fn add_step(rows: &mut Vec<Row>, step: &Step) -> Result<(), NoMemory>
-    requires few { turns_in rows.old.items < 2 ^ 64 - 1 }
+    requires { turns_in rows.old.items < 2 ^ 64 - 1 }
     ensures { OnOk result (rows.new.items ≡ with_step rows.old.items step.now) }
 {
     if begins_turn(step) {

@@ -1,6 +1,6 @@
 //! The lines of rows of turns.
 
-ghost use Rattle.std.specs.Prelude.{◌≡◌, ◌++◌, decimal, flat_map, IfOk, OnOk};
+ghost use Rattle.std.specs.Prelude.{◌≡◌, ◌<◌, ◌++◌, ◌∷◌, decimal, flat_map, length, IfOk, OnOk};
 ghost use Rattle.turn_lines.specs.Text.{in_lines, line_text, maker_text, order_text, row_text};
 ghost use Rattle.turn_lines.specs.Text.{word_text};
 ghost use Rattle.turn_lines.specs.Turns.{turn_makers};
@@ -46,24 +46,32 @@ fn write_maker(out: &mut Vec<u8>, maker: By) -> Result<(), NoMemory>
 
 /// The word of a row.
 #[tactic(auto, unfolding(crate::specs::Text::row_text))]
-fn write_row(out: &mut Vec<u8>, row: Row) -> Result<(), NoMemory>
-    ensures { OnOk result (out.new.items ≡ out.old.items ++ row_text row) }
+fn write_row(out: &mut Vec<u8>, row: &Row) -> Result<(), NoMemory>
+    ensures { OnOk result (out.new.items ≡ out.old.items ++ row_text row.now) }
 {
     write_maker(out, row.maker)?;
     if row.times == 1 {
-        return Ok(());
+        Ok(())
+    } else {
+        write_text(out, "*")?;
+        write_number(out, row.times)
     }
-    write_text(out, "*")?;
-    write_number(out, row.times)
 }
 
-/// The words of rows, each behind a space.
+/// The same behind a space.
+fn write_word(out: &mut Vec<u8>, row: &Row) -> Result<(), NoMemory>
+    ensures { OnOk result (out.new.items ≡ out.old.items ++ word_text row.now) }
+{
+    write_text(out, " ")?;
+    write_row(out, row)
+}
+
+/// The words of rows.
 fn write_words(out: &mut Vec<u8>, rows: &[Row]) -> Result<(), NoMemory>
     ensures { OnOk result (out.new.items ≡ out.old.items ++ flat_map word_text rows.now) }
 {
     for row in rows {
-        write_text(out, " ")?;
-        write_row(out, *row)?;
+        write_word(out, row)?;
     }
     Ok(())
 }
@@ -78,6 +86,20 @@ fn write_line(out: &mut Vec<u8>, rows: &[Row]) -> Result<(), NoMemory>
     write_text(out, "\n")
 }
 
+/// The rows of the first line, and those behind it.
+#[tactic(auto, using(crate::proofs::Lines::full_line, crate::proofs::Lines::last_line))]
+fn first_line(rows: &[Row]) -> (&[Row], &[Row])
+    requires { 0 < length rows.now }
+    ensures lines { in_lines 0 rows.now ≡ result.0.now ∷ in_lines 0 result.1.now }
+    ensures advances { length result.1.now < length rows.now }
+{
+    if rows.len() > WORDS_MOST {
+        rows.split_at(WORDS_MOST)
+    } else {
+        rows.split_at(rows.len())
+    }
+}
+
 /// The lines of rows.
 fn write_lines(out: &mut Vec<u8>, rows: &[Row]) -> Result<(), NoMemory>
     ensures { OnOk result (out.new.items
@@ -85,7 +107,7 @@ fn write_lines(out: &mut Vec<u8>, rows: &[Row]) -> Result<(), NoMemory>
 {
     let mut rest = rows;
     'lines: while !rest.is_empty() {
-        let (line, behind) = rest.split_at(WORDS_MOST.min(rest.len()));
+        let (line, behind) = first_line(rest);
         write_line(out, line)?;
         rest = behind;
     }
