@@ -103,14 +103,21 @@ by_length (b ∷ text) more false is ended = both_lines (b ∷ text) more ended
 
 -- ---- the turns of each line
 
+-- makers that were read, of a line and of a text
+abbrev good_makers : List ℕ → Result (List ℕ) Fault
+good_makers makers = Ok makers
+
+abbrev good_front : List ℕ → Result (List ℕ) (ℕ × Fault)
+good_front makers = Ok makers
+
 module _ (makers : Makers) (few : AreFew makers) where
   abbrev W : Row → List ℕ
   W row = written makers row
 
   words_read : (rows : List Row) (front : List ℕ) → AreListed makers rows
       → length front + turns_in rows ≤ 200000
-      → with_words makers front (map row_text rows) ≡ Ok (front ++ all_written makers rows)
-  words_read [] front listed low = ap (λ (l : List ℕ). Ok l) (sym (append-nil front))
+      → with_words makers front (map row_text rows) ≡ good_makers (front ++ all_written makers rows)
+  words_read [] front listed low = ap good_makers (sym (append-nil front))
   words_read (row ∷ rows) front listed low =
       let turns : Turns = record { maker = number_among makers row.maker; times = row.times } in
       let on : List ℕ → Result (List ℕ) Fault =
@@ -127,16 +134,16 @@ module _ (makers : Makers) (few : AreFew makers) where
         length-append front (W row),
         length-replicate row.times (number_among makers row.maker),
       ))
-      ∙ ap (λ (l : List ℕ). Ok l) (append_assoc front (W row) (all_written makers rows))
+      ∙ ap good_makers (append_assoc front (W row) (all_written makers rows))
 
   line_read : (line : List Row) (front : List ℕ) → IsLine makers 0 line
       → length front + turns_in line ≤ 200000
-      → with_line makers front (line_text line) ≡ Ok (front ++ all_written makers line)
+      → with_line makers front (line_text line) ≡ good_makers (front ++ all_written makers line)
   line_read [] front is low = let some = is.some in absurd (omega arith)
   line_read (row ∷ rows) front is low =
       let small : AreSmall (row ∷ rows) =
       small_rows makers few (row ∷ rows) is.listed (omega (arith, low)) in
-      cond-true (is_order_line (line_text (row ∷ rows))) _ (Ok front) (says_order row rows)
+      cond-true (is_order_line (line_text (row ∷ rows))) _ (good_makers front) (says_order row rows)
       ∙ ap (λ (r : Result (List (List ℕ)) Fault). r >>= (λ words. with_words makers front (drop 1 words)))
       (words_again (row ∷ rows) small (omega (arith, is.few)))
       ∙ words_read (row ∷ rows) front is.listed low
@@ -144,9 +151,9 @@ module _ (makers : Makers) (few : AreFew makers) where
   lines_read : (lines : List (List Row)) (front : List ℕ) (k : ℕ) → AreLines makers 0 lines
       → length front + length (lines_written makers lines) ≤ 200000
       → front_from makers front k (map line_text lines)
-      ≡ Ok (front ++ lines_written makers lines)
+      ≡ good_front (front ++ lines_written makers lines)
   unfolding front_from
-  lines_read [] front k are low = ap (λ (l : List ℕ). Ok l) (sym (append-nil front))
+  lines_read [] front k are low = ap good_front (sym (append-nil front))
   lines_read (line ∷ lines) front k are low =
       let all : List ℕ = all_written makers line in
       let long = length-append all (lines_written makers lines) in
@@ -156,7 +163,7 @@ module _ (makers : Makers) (few : AreFew makers) where
       (λ longer. front_from makers longer (k + 1) (map line_text lines)))
       (line_read line front are.0 (omega (arith, low, long, turns)))
       ∙ lines_read lines (front ++ all) (k + 1) are.1 (omega (arith, low, long, both))
-      ∙ ap (λ (l : List ℕ). Ok l) (append_assoc front all (lines_written makers lines))
+      ∙ ap good_front (append_assoc front all (lines_written makers lines))
 
   -- the lines of the text
   lines_again : (lines : List (List Row)) → AreLines makers 0 lines
@@ -177,14 +184,14 @@ module _ (makers : Makers) (few : AreFew makers) where
   -- lines that list no turns
   passed_over : (xs ys : List (List ℕ)) (front : List ℕ) (k : ℕ) (total : List ℕ)
       → AllByRecursion (λ line. is_order_line line ≡ false) xs
-      → ((n : ℕ) → front_from makers front n ys ≡ Ok total)
-      → front_from makers front k (xs ++ ys) ≡ Ok total
+      → ((n : ℕ) → front_from makers front n ys ≡ good_front total)
+      → front_from makers front k (xs ++ ys) ≡ good_front total
   unfolding front_from
   passed_over [] ys front k total none each = each k
   passed_over (x ∷ xs) ys front k total none each =
       ap (λ (r : Result (List ℕ) Fault). behind r (k + 1)
       (λ longer. front_from makers longer (k + 1) (xs ++ ys)))
-      (cond-false (is_order_line x) _ (Ok front) none.0)
+      (cond-false (is_order_line x) _ (good_makers front) none.0)
       ∙ passed_over xs ys front (k + 1) total none.1 each
 
 -- THE TURNS ARE READ BACK
@@ -205,10 +212,10 @@ turns_read_back makers text P few none among short =
       turns_of_rows ms,
     ) in
     let each : (n : ℕ) → front_from makers [] n (lines_of (order_text ms))
-    ≡ Ok (lines_written makers lines) =
+    ≡ good_front (lines_written makers lines) =
     λ n. ap (front_from makers [] n) (lines_again makers few lines are low)
     ∙ lines_read makers few lines [] n are (omega (arith, low)) in
     ap (front_from makers [] 0) (by_length text (order_text ms) (length text == 0) refl none.ended)
     ∙ passed_over makers few (lines_of text) (lines_of (order_text ms)) [] 0
     (lines_written makers lines) none.unordered each
-    ∙ ap (λ (l : List ℕ). Ok l) all
+    ∙ ap good_front all

@@ -15,6 +15,7 @@ use Rattle.order_lines.specs.Turns.{maker_named, number_spelled, numbered, times
 use Rattle.order_lines.specs.Turns.{turns_spelled}
 use Rattle.order_lines.specs.declared.turns.Makers.{Makers}
 use Rattle.order_lines.specs.declared.turns.Turns.{Turns}
+use Rattle.script_words.specs.Gives.{◌>>=◌}
 use Rattle.script_words.specs.Numbers.{is_within}
 use Rattle.script_words.specs.Words.{cut_at}
 use Rattle.script_words.specs.declared.fault.Fault.{Fault}
@@ -87,18 +88,26 @@ number_again n small =
 within_again : (low high n : ℕ) → low ≤ n → n ≤ high → is_within low high n ≡ true
 within_again low high n some few = and_from _ _ (le-leb low n some) (le-leb n high few)
 
+-- a number that was read
+abbrev good_number : ℕ → Result ℕ Fault
+good_number n = Ok n
+
 numbered_again : (word : List ℕ) (before many n : ℕ) → 1 ≤ n → n ≤ many → many ≤ 999999
-    → numbered word before many (number_spelled (decimal n)) ≡ Ok (before + n)
+    → numbered word before many (number_spelled (decimal n)) ≡ good_number (before + n)
 numbered_again word before many n some few small =
     ap (numbered word before many) (number_again n (omega arith))
     ∙ cond-true (is_within 1 many n) _ _ (within_again 1 many n some few)
 
+-- so many turns of a maker
+abbrev pub good_turns : ℕ → ℕ → Result Turns Fault
+good_turns number n = Ok (record { maker = number; times = n })
+
 module _ (makers : Makers) (few : AreFew makers) where
   maker_again : (word : List ℕ) (maker : By) → IsAmong makers maker
-      → maker_named makers word (maker_text maker) ≡ Ok (number_among makers maker)
+      → maker_named makers word (maker_text maker) ≡ good_number (number_among makers maker)
   maker_again word (Actor k) among =
       numbered_again word 0 makers.actors k among.0 among.1 few.actors
-      ∙ ap (λ (n : ℕ). Ok n) (zero-add k)
+      ∙ ap good_number (zero-add k)
   maker_again word (Pump l) among =
       numbered_again word makers.actors makers.links l.0 among.0 among.1 few.links
 
@@ -110,41 +119,45 @@ module _ (makers : Makers) (few : AreFew makers) where
       all_within is_ascii_digit (λ b. not (b == 42)) (decimal l.0) digit_no_star
       (digits_of_number l.0 (omega (arith, among.1, few.links)))
 
-  abbrev turns_of : By → ℕ → Turns
-  turns_of maker n = record { maker = number_among makers maker; times = n }
-
   -- by whether there is one turn
   module _ (maker : By) (among : IsAmong makers maker) (n : ℕ) (some : 1 ≤ n) (low : n ≤ 200000) where
-    alone_again : n ≡ 1
-        → turns_of_parts makers (maker_text maker) (cut_at 42 (maker_text maker))
-        ≡ Ok (turns_of maker n)
-    alone_again one =
-        ap (turns_of_parts makers (maker_text maker))
-        (cut_nowhere 42 (maker_text maker) (no_star maker among))
-        ∙ rw (maker_again (maker_text maker) maker among, one) refl
+    abbrev name : List ℕ
+    name = maker_text maker
 
-    starred_again : (word : List ℕ) → word ≡ maker_text maker ++ 42 ∷ decimal n
-        → turns_of_parts makers word (cut_at 42 word) ≡ Ok (turns_of maker n)
-    starred_again word is =
-        ap (λ (w : List ℕ). turns_of_parts makers word (cut_at 42 w)) is
-        ∙ ap (turns_of_parts makers word)
-        (cut_again 42 (maker_text maker) (decimal n) (no_star maker among))
-        ∙ rw (
-          maker_again word maker among,
-          number_again n (omega (arith, low)),
-          within_again 1 200000 n some low,
-        ) refl
+    abbrev number : ℕ
+    number = number_among makers maker
+
+    alone_again : n ≡ 1 → turns_spelled makers name ≡ good_turns number n
+    alone_again one =
+        ap (turns_of_parts makers name) (cut_nowhere 42 name (no_star maker among))
+        ∙ ap (λ (r : Result ℕ Fault). r >>= (λ m. good_turns m 1)) (maker_again name maker among)
+        ∙ ap (good_turns number) (sym one)
+
+    abbrev starred : List ℕ
+    starred = name ++ 42 ∷ decimal n
+
+    times_again : times_in starred (number_spelled (decimal n)) ≡ good_number n
+    times_again =
+        ap (times_in starred) (number_again n (omega (arith, low)))
+        ∙ cond-true (is_within 1 200000 n) _ _ (within_again 1 200000 n some low)
+
+    starred_again : turns_spelled makers starred ≡ good_turns number n
+    starred_again =
+        ap (turns_of_parts makers starred)
+        (cut_again 42 name (decimal n) (no_star maker among))
+        ∙ ap (λ (r : Result ℕ Fault). r >>= (λ m. times_in starred (number_spelled (decimal n)) >>= good_turns m))
+        (maker_again starred maker among)
+        ∙ ap (λ (r : Result ℕ Fault). r >>= good_turns number) times_again
 
     by_times : (one : Bool) → (n == 1) ≡ one
-        → turns_spelled makers (maker_text maker ++ cond one [] (42 ∷ decimal n))
-        ≡ Ok (turns_of maker n)
+        → turns_spelled makers (name ++ cond one [] (42 ∷ decimal n)) ≡ good_turns number n
     by_times true is =
-        ap (turns_spelled makers) (append-nil (maker_text maker))
-        ∙ alone_again (eqb-true n 1 is)
-    by_times false is = starred_again (maker_text maker ++ 42 ∷ decimal n) refl
+        ap (turns_spelled makers) (append-nil name) ∙ alone_again (eqb-true n 1 is)
+    by_times false is = starred_again
 
   -- a row's word
   pub row_again : (row : Row) → IsAmong makers row.maker → 1 ≤ row.times → row.times ≤ 200000
-      → turns_spelled makers (row_text row) ≡ Ok (turns_of row.maker row.times)
+      → turns_spelled makers (row_text row)
+      ≡ good_turns (number_among makers row.maker) row.times
   unfolding row_text
   row_again row among some low = by_times row.maker among row.times some low (row.times == 1) refl

@@ -13,7 +13,7 @@ use Rattle.std.proofs.lemmas.List.Splits.{slice_split-cons_no}
 use Rattle.std.proofs.lemmas.List.Sums.{AllPass-from_list_all, take_while-cons}
 use Rattle.std.proofs.Math.Seq.{take-append_seam}
 use Rattle.order_lines.specs.Lines.{is_order_line}
-use Rattle.script_words.specs.Lines.{is_comment, is_plain, is_space, words_in, words_of}
+use Rattle.script_words.specs.Lines.{is_comment, is_plain, is_space, words_in, words_in_text, words_of}
 use Rattle.script_words.specs.declared.fault.Fault.{Fault}
 use Rattle.turn_lines.specs.Text.{line_text, row_text, word_text}
 use Rattle.turn_lines.specs.declared.rows.Row.{Row}
@@ -120,7 +120,12 @@ no_comments (row ∷ rows) small =
 
 -- ---- a whole line
 
-abbrev body : List Row → List ℕ
+-- words that were read
+abbrev pub good_words : List (List ℕ) → Result (List (List ℕ)) Fault
+good_words words = Ok words
+
+-- a line without its line feed
+abbrev pub body : List Row → List ℕ
 body rows = codes "order" ++ flat_map word_text rows
 
 words_of_body : (rows : List Row) → AreSmall rows
@@ -159,11 +164,17 @@ module _ (rows : List Row) (small : AreSmall rows) (few : length rows ≤ 16) wh
       ap (list_all is_plain) kept_body
       ∙ all_within is_printed is_plain (body rows) printed_plain printed_body
 
+  text_again : words_in_text (body rows) ≡ good_words (codes "order" ∷ map row_text rows)
+  text_again =
+      cond-false (nat_lt 4096 (length (body rows))) _ _ short_body
+      ∙ cond-true (list_all is_plain (strip_last 13 (body rows))) _ _ plain_body
+      ∙ ap (λ (text : List ℕ). good_words (words_of text)) kept_body
+      ∙ ap good_words (words_of_body rows small)
+
   -- the words of the line
-  pub words_again : words_in (line_text rows) ≡ Ok (codes "order" ∷ map row_text rows)
+  pub words_again : words_in (line_text rows) ≡ good_words (codes "order" ∷ map row_text rows)
   unfolding words_in line_text
-  words_again =
-      rw (strip_feed (body rows), short_body, plain_body, kept_body, words_of_body rows small) refl
+  words_again = ap words_in_text (strip_feed (body rows)) ∙ text_again
 
   -- no line feed stands within it
   pub feeds_no_line : list_all (λ b. not (b == 10)) (body rows) ≡ true
