@@ -1,4 +1,4 @@
-use Rattle.std.proofs.Common.{◌≡◌, ◌+◌, List, length, ap, ◌∙◌, sym, arith}
+use Rattle.std.proofs.Common.{◌≡◌, ◌+◌, List, [], length, ap, ◌∙◌, sym, arith}
 use Rattle.journal.specs.declared.effect.Step.{Step}
 use Rattle.journal.specs.Histories.{first_steps}
 use Rattle.journal.proofs.Positions.{first_steps_none, first_steps_done}
@@ -9,8 +9,10 @@ use Rattle.turn_lines.proofs.rows.rows_told.Goals as goal
 
 pub loop-done-init : goal.loop-done-init
 loop-done-init c =
-    ap (λ (P : List Step). rows_of (turn_makers P))
-    (sym (first_steps_none c.args.journal.now.log.steps))
+    let S : List Step = c.args.journal.now.log.steps in
+    let none : rows_of (turn_makers []) ≡ rows_of (turn_makers (first_steps 0 S)) =
+    ap (λ (P : List Step). rows_of (turn_makers P)) (sym (first_steps_none S)) in
+    cc
 
 pub add_step-requires : goal.add_step-requires
 add_step-requires c =
