@@ -1,6 +1,6 @@
 -- The bytes of the words of turns: no space, no end of a line, and nothing that begins a comment.
-use Rattle.std.proofs.Common.{◌≡◌, ◌∙◌, ℕ, ◌+◌, ◌*◌, ◌-◌, ◌^◌, ◌<◌, ◌≤◌, ◌++◌, ◌==◌, ◌&&◌, ◌||◌, Bool}
-use Rattle.std.proofs.Common.{true, false, not, cond, List, [], ◌∷◌, length, refl, sym, ap, arith}
+use Rattle.std.proofs.Common.{◌≡◌, ◌∙◌, ℕ, ◌+◌, ◌*◌, ◌-◌, ◌<◌, ◌≤◌, ◌==◌, ◌&&◌, ◌||◌, Bool}
+use Rattle.std.proofs.Common.{true, false, not, cond, List, [], ◌∷◌, length, refl, arith}
 use Rattle.std.proofs.Common.{rules, decimal, fold, nat_le, le-leb, leb-true, ne_eqb, flat_map}
 use Rattle.std.proofs.Common.{length-append}
 use Rattle.std.specs.Char.{is_ascii_digit}
@@ -12,7 +12,7 @@ use Rattle.std.proofs.lemmas.List.Folds.{list_all-append}
 use Rattle.std.proofs.lemmas.Str.Parse.{IsNumeralModel, numerals_by_fold}
 use Rattle.journal.specs.declared.by.By.{By}
 use Rattle.journal.specs.declared.by.By.TheVariants.{Actor, Pump}
-use Rattle.script_words.specs.Lines.{is_comment, is_plain, is_space}
+use Rattle.script_words.specs.Lines.{is_plain, is_space}
 use Rattle.script_words.specs.Numbers.{decimal_of}
 use Rattle.turn_lines.specs.Text.{maker_text, row_text, times_text, word_text}
 use Rattle.turn_lines.specs.declared.rows.Row.{Row}
@@ -50,8 +50,8 @@ shown_printed b shown =
     and_from _ _ (le-leb 32 b (omega (arith, bounds.0))) (le-leb b 126 bounds.1)
 
 or_from : (x y : Bool) → x ≡ false → y ≡ false → (x || y) ≡ false
-or_from true y no none = no
-or_from false y no none = none
+or_from true y first last = first
+or_from false y first last = last
 
 pub shown_no_space : (b : ℕ) → is_shown b ≡ true → is_space b ≡ false
 shown_no_space b shown =
@@ -74,8 +74,8 @@ printed_no_return b printed =
     not_from_false _ (ne_eqb b 13 (λ e. omega (arith, bounds.0)))
 
 or_first : (x y : Bool) → x ≡ true → (x || y) ≡ true
-or_first true y yes = refl
-or_first false y yes = cc
+or_first true y first = refl
+or_first false y first = cc
 
 pub printed_plain : (b : ℕ) → is_printed b ≡ true → is_plain b ≡ true
 printed_plain b printed = or_first (is_printed b) (b == 9) printed

@@ -1,22 +1,21 @@
 -- The turns of a journal are read back from the lines that list them.
-use Rattle.std.proofs.Common.{◌≡◌, ◌∙◌, ℕ, suc, ◌+◌, ◌-◌, ◌<◌, ◌≤◌, ◌++◌, ◌==◌, ◌&&◌, ◌||◌, Bool, true}
+use Rattle.std.proofs.Common.{◌≡◌, ◌∙◌, ℕ, suc, ◌+◌, ◌-◌, ◌<◌, ◌≤◌, ◌++◌, ◌==◌, ◌||◌, Bool, true}
 use Rattle.std.proofs.Common.{false, not, cond, List, [], ◌∷◌, length, drop, get_or, refl, sym, ap}
-use Rattle.std.proofs.Common.{arith, append-nil, append_assoc, flat_map, map, length-append, codes}
-use Rattle.std.proofs.Common.{eqb-true, le-leb, lt-ltb, nat_le, nat_lt, ne_eqb, Ok, Result}
+use Rattle.std.proofs.Common.{arith, append-nil, append_assoc, flat_map, map, length-append}
+use Rattle.std.proofs.Common.{eqb-true, le-leb, lt-ltb, nat_le, nat_lt, Ok, Result}
 use Rattle.std.specs.Io.BufRead.{ends_with_byte}
 use Rattle.std.specs.List.{AllByRecursion, list_all, onto_first}
 use Rattle.std.proofs.lemmas.Bool.{and_from, and_parts, cond-false, cond-true, not-true}
 use Rattle.std.proofs.Math.ListN.{length-replicate}
 use Rattle.journal.specs.declared.by.By.{By}
-use Rattle.journal.specs.declared.effect.Step.{Step}
-use Rattle.order_lines.specs.Fronts.{behind, front_from, front_of, with_line, with_turns, with_words}
+use Rattle.order_lines.specs.Fronts.{behind, front_from, with_line, with_turns, with_words}
 use Rattle.order_lines.specs.Lines.{is_order_line}
 use Rattle.order_lines.specs.declared.turns.Makers.{Makers}
 use Rattle.order_lines.specs.declared.turns.Turns.{Turns}
 use Rattle.script_words.specs.Gives.{◌>>=◌}
 use Rattle.script_words.specs.Lines.{lines_of}
 use Rattle.script_words.specs.declared.fault.Fault.{Fault}
-use Rattle.turn_lines.specs.Reading.{AreFew, IsAmong, ListsNone, TurnsReadBack, number_among}
+use Rattle.turn_lines.specs.Reading.{AreFew, TurnsReadBack, number_among}
 use Rattle.turn_lines.specs.Rows.{rows_of, turns_in}
 use Rattle.turn_lines.specs.Text.{in_lines, line_text, order_text, row_text}
 use Rattle.turn_lines.specs.Turns.{turn_makers}
@@ -26,7 +25,7 @@ use Rattle.turn_lines.proofs.Listed.{AreLines, AreListed, IsLine, all_listed, al
 use Rattle.turn_lines.proofs.Listed.{cut_written, length-written, lines_written, small_rows, written}
 use Rattle.turn_lines.proofs.Listed.{written_again}
 use Rattle.turn_lines.proofs.Named.{row_again}
-use Rattle.turn_lines.proofs.Rows.{turns_of_rows}
+use Rattle.turn_lines.proofs.MoreTurns.{turns_of_rows}
 use Rattle.turn_lines.proofs.Words.{body, feeds_no_line, says_order, words_again}
 
 -- ---- the lines of a text

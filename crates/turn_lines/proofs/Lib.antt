@@ -1,4 +1,4 @@
-pub mod Rows
+pub mod MoreTurns
 mod Lines
 mod Bytes
 mod Words

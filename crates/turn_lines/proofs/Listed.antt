@@ -12,8 +12,8 @@ use Rattle.turn_lines.specs.Reading.{AreFew, IsAmong, number_among}
 use Rattle.turn_lines.specs.Rows.{before_rows, is_same, longer, one_turn, rows_of, turns_in}
 use Rattle.turn_lines.specs.Text.{in_lines}
 use Rattle.turn_lines.specs.declared.rows.Row.{Row}
-use Rattle.turn_lines.proofs.Bytes.{AreSmall, IsSmall, number_in_name}
-use Rattle.turn_lines.proofs.Rows.{same_maker, turns_of_rows}
+use Rattle.turn_lines.proofs.Bytes.{AreSmall, number_in_name}
+use Rattle.turn_lines.proofs.MoreTurns.{same_maker}
 
 module _ (makers : Makers) where
   -- a row of a maker that is there, with a turn

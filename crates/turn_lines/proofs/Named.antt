@@ -2,11 +2,11 @@
 use Rattle.std.proofs.Common.{◌≡◌, ◌∙◌, ℕ, suc, ◌+◌, ◌<◌, ◌≤◌, ◌++◌, ◌==◌, ◌&&◌, Bool, true, false, not}
 use Rattle.std.proofs.Common.{cond, List, [], ◌∷◌, length, take, drop, refl, sym, ap, arith}
 use Rattle.std.proofs.Common.{add-one, decimal, eq-eqb, eqb-true, le-leb, le-ltb, lt-ltb, nat_lt}
-use Rattle.std.proofs.Common.{length-append, nat_le, option_map, position, Ok, Option, Some, None}
+use Rattle.std.proofs.Common.{length-append, nat_le, option_map, position, Ok, Some, None}
 use Rattle.std.proofs.Common.{Result, zero-add, append-nil}
 use Rattle.std.specs.Char.{is_ascii_digit}
 use Rattle.std.specs.List.{list_all, position_or_len}
-use Rattle.std.proofs.lemmas.Bool.{and_from, and_parts, cases_Bool, cond-false, cond-true}
+use Rattle.std.proofs.lemmas.Bool.{and_from, and_parts, cond-false, cond-true}
 use Rattle.std.proofs.lemmas.Bool.{not_from_true}
 use Rattle.std.proofs.Math.Seq.{drop-append_seam, drop-cons, take-append_seam}
 use Rattle.journal.specs.declared.by.By.{By}
@@ -20,7 +20,7 @@ use Rattle.script_words.specs.Numbers.{is_within}
 use Rattle.script_words.specs.Words.{cut_at}
 use Rattle.script_words.specs.declared.fault.Fault.{Fault}
 use Rattle.turn_lines.specs.Reading.{AreFew, IsAmong, number_among}
-use Rattle.turn_lines.specs.Text.{maker_text, row_text, times_text}
+use Rattle.turn_lines.specs.Text.{maker_text, row_text}
 use Rattle.turn_lines.specs.declared.rows.Row.{Row}
 use Rattle.turn_lines.proofs.Bytes.{all_within, digit_no_star, digits_of_number, few_digits}
 use Rattle.turn_lines.proofs.Bytes.{some_digits, value_of_number}

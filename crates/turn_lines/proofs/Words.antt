@@ -1,7 +1,7 @@
 -- The words of a line that lists turns are read again.
-use Rattle.std.proofs.Common.{◌≡◌, ◌∙◌, ℕ, suc, ◌+◌, ◌-◌, ◌*◌, ◌<◌, ◌≤◌, ◌++◌, ◌==◌, ◌&&◌, Bool}
-use Rattle.std.proofs.Common.{true, false, not, cond, List, [], ◌∷◌, length, take, drop, get_or}
-use Rattle.std.proofs.Common.{refl, sym, ap, arith, append-nil, append_assoc, length-append}
+use Rattle.std.proofs.Common.{◌≡◌, ◌∙◌, ℕ, ◌-◌, ◌≤◌, ◌++◌, ◌==◌, ◌&&◌, Bool}
+use Rattle.std.proofs.Common.{true, false, not, List, [], ◌∷◌, length, take, get_or}
+use Rattle.std.proofs.Common.{refl, ap, arith, append-nil, length-append}
 use Rattle.std.proofs.Common.{le-ltb, lt-ltb, eq-eqb, ne_eqb, filter, take_while, flat_map, map, Ok}
 use Rattle.std.proofs.Common.{codes, Result, nat_lt}
 use Rattle.std.specs.Io.BufRead.{ends_with_byte, strip_last}

@@ -67,7 +67,7 @@ fn push_behind(rows: &mut Vec<Row>, row: Row, maker: By) -> Result<(), NoMemory>
 }
 
 /// One turn more.
-#[tactic(auto, using(crate::proofs::Rows::with_last, crate::proofs::Rows::last_few))]
+#[tactic(auto, using(crate::proofs::MoreTurns::with_last, crate::proofs::MoreTurns::last_few))]
 fn add_turn(rows: &mut Vec<Row>, maker: By) -> Result<(), NoMemory>
     requires { turns_in rows.old.items < 2 ^ 64 - 1 }
     ensures { OnOk result (rows.new.items ≡ with_turn rows.old.items maker) }

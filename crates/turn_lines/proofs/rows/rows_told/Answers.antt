@@ -4,7 +4,7 @@ use Rattle.journal.specs.Histories.{first_steps}
 use Rattle.journal.proofs.Positions.{first_steps_none, first_steps_done}
 use Rattle.turn_lines.specs.Rows.{rows_of}
 use Rattle.turn_lines.specs.Turns.{turn_makers}
-use Rattle.turn_lines.proofs.Rows.{few_turns, rows_next}
+use Rattle.turn_lines.proofs.MoreTurns.{few_turns, rows_next}
 use Rattle.turn_lines.proofs.rows.rows_told.Goals as goal
 
 pub loop-done-init : goal.loop-done-init
