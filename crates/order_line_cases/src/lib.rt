@@ -1,5 +1,6 @@
-//! Cases of the lines `order` of a script: each spelling of turns, lines that say none, and bad ones.
-//! They stand apart from `order_lines`, so that it is proved once.
+//! Cases of the lines `order` of a script: each spelling of turns, lines that say none, and bad ones;
+//! and of those that list the turns of a journal. They stand apart from `order_lines` and
+//! `turn_lines`, so that these are proved once.
 #![tactic(auto)]
 
 #[cfg(test)]
@@ -8,3 +9,5 @@ mod bad_orders;
 mod fronts;
 #[cfg(test)]
 mod scripts;
+#[cfg(test)]
+mod told;
