@@ -36,7 +36,7 @@ LAYERS = [
     ("All links of a run", "trunk_moves run_trunks run_settling run_numbers run_states"),
     ("The machine", "fabric"),
     ("A journal checked", "link_tables journal_check"),
-    ("The script", "script_words script_lang work_gen line_search order_lines"),
+    ("The script", "script_words script_lang work_gen line_search order_lines turn_lines"),
     ("A run of a script", "actor_run stage run_orders order_rules run_outcomes orders"),
     ("Threads", "turn_lock linx_api workers"),
     ("The text", "journal_text report"),
