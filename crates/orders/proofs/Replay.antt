@@ -5,5 +5,6 @@ pub mod NextSteps
 pub mod Between
 pub mod Within
 pub mod Settles
+pub mod Granted
 pub mod Begins
 pub mod Runs

@@ -1,5 +1,5 @@
 -- A step that begins a turn: of a link, or of an actor, which may settle a link with it.
-use Rattle.std.proofs.Common.{◌≡◌, ℕ, suc, ◌+◌, ◌-◌, ◌<◌, ◌≤◌, Bool, true, false, cond, List, ◌∷◌}
+use Rattle.std.proofs.Common.{◌≡◌, ℕ, suc, ◌+◌, ◌-◌, ◌<◌, ◌≤◌, Bool, true, false, cond, List, [], ◌∷◌}
 use Rattle.std.proofs.Common.{length, Option, Some, None, refl, sym, ◌∙◌, ap, subst, arith, ◌==◌}
 use Rattle.std.proofs.Common.{nat_le, eq-eqb, eqb-true, true≢false}
 use Rattle.std.proofs.lemmas.Bool.{lt-leb}
@@ -48,67 +48,14 @@ use Rattle.stage.proofs.Rounds.WholeRuns.{turn-of_actor}
 use Rattle.stage.proofs.Settling.SixTicks.{way-begins}
 use Rattle.order_rules.specs.declared.rule.Rule.{Rule}
 use Rattle.orders.proofs.Replay.Between.{IsBetween, more-turns}
+use Rattle.orders.proofs.Replay.Granted.{asked_of, granted_again, granted_settle, settles_nothing}
 use Rattle.orders.proofs.Replay.NextSteps.{IsNextStep, state, step_of}
 use Rattle.orders.proofs.Replay.Within.{Stands, stands-on, stands_between}
 
--- ---- what is granted
-
--- what is granted is granted again
-granted_again : (e : Option Inc) (at : ℕ) (ask : Ask)
-    → granted_by e at (granted_by e at ask) ≡ granted_by e at ask
-granted_again (Some i) at ask = go (asks_to_open ask.event) refl
-  where
-    go : (b : Bool) → asks_to_open ask.event ≡ b
-        → granted_by (Some i) at (cond b (refused (IsOpen i)) ask) ≡ cond b (refused (IsOpen i)) ask
-    go true is = refl
-    go false is = rw is refl
-granted_again None at ask = go (needs_endpoint ask.event) refl
-  where
-    go : (b : Bool) → needs_endpoint ask.event ≡ b
-        → granted_by None at (cond b (refused (NotOpen at)) ask) ≡ cond b (refused (NotOpen at)) ask
-    go true is = refl
-    go false is = rw is refl
-
--- what is granted as a settle was asked for as one
-granted_settle : (e : Option Inc) (at : ℕ) (ask : Ask) (l : LinkNo)
-    → (granted_by e at ask).event ≡ asks.Settle l → ask.event ≡ asks.Settle l
-granted_settle (Some i) at ask l = go (asks_to_open ask.event)
-  where
-    go : (b : Bool) → (cond b (refused (IsOpen i)) ask).event ≡ asks.Settle l
-        → ask.event ≡ asks.Settle l
-    go true is = cc
-    go false is = is
-granted_settle None at ask l = go (needs_endpoint ask.event)
-  where
-    go : (b : Bool) → (cond b (refused (NotOpen at)) ask).event ≡ asks.Settle l
-        → ask.event ≡ asks.Settle l
-    go true is = cc
-    go false is = is
-
--- ---- what a step leaves to its maker
-
--- an actor's step that is no settle leaves it no link to settle
-settles_nothing : (P : List Step) (k : ℕ) (head : Head) → is_pumped head ≡ false
-    → ((l : LinkNo) → head ≡ heads.Settle l → ⊥) → settler_by P k head ≡ None
-settles_nothing P k (heads.Settle l) calm never = absurd (never l refl)
-settles_nothing P k (heads.Wire l from verdict) calm never = absurd (true≢false calm)
-settles_nothing P k (heads.Tick l side) calm never = absurd (true≢false calm)
-settles_nothing P k head calm never = refl
-
--- a step that a link's pump may make, and that is planned, is the one that this pump asks for
-module _ (script : ScriptParts) (P : List Step) (trunks : RunTrunks) (l : LinkNo) where
-  its_own : (m : LinkNo) (event : Event) → (m.0 == l.0) ≡ true
-      → pump_event script P trunks m ≡ Some event → pump_event script P trunks l ≡ Some event
-  its_own m event is asks =
-      let it : m ≡ l = ap (λ (n : ℕ). record { 0 = n }) (eqb-true m.0 l.0 is) in
-      subst (λ (x : LinkNo). pump_event script P trunks x ≡ Some event) it asks
-
-  asked_of : (head : Head) → may_make (Pump l) head ≡ true → IsPlannedHead script P trunks head
-      → pump_event script P trunks l ≡ Some (event_of head)
-  asked_of (heads.Wire m from verdict) may planned =
-      its_own m (asks.Wire m from verdict) may planned
-  asked_of (heads.Tick m side) may planned = its_own m (asks.Tick m side) may planned
-  asked_of head may planned = absurd (true≢false (sym may))
+-- the head of the last step, or this one where there is none
+abbrev last_head : Head → List Step → Head
+last_head head [] = head
+last_head head (s ∷ P) = s.head
 
 module _ (script : ScriptParts) (declared : IsScript script) (rule : Rule) (P : List Step)
     (old new : List TrunkState) (was : IsBetween script declared rule (state script P old)) where
@@ -215,11 +162,7 @@ module _ (script : ScriptParts) (declared : IsScript script) (rule : Rule) (P : 
     settle-step l is = settle-made f g k ask answer l (settles_it ask.event l is) stepped
 
     settle-head : (l : LinkNo) → settled_by ask.event ≡ Some l → head ≡ heads.Settle l
-    settle-head l is =
-        let step = settle-step l is in
-        let same : step_of (Actor k) head es ∷ P
-        ≡ step_of (Actor k) (heads.Settle l) step.effects ∷ P = step.steps in
-        cc
+    settle-head l is = ap (last_head head) (settle-step l is).steps
 
     -- a turn that ends with its step
     whole : GoesOnAfter (settled_by ask.event) k g g → settler_by P k head ≡ None

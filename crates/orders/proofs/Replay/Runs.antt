@@ -61,7 +61,7 @@ module _ (script : ScriptParts) (declared : IsScript script) (rule : Rule) where
     pub there : List TrunkState
     pub same : Become (shape_of script) (trunks_of there) (trunks_of trunks)
     pub run : IsScriptRun script P (trunks_of there)
-    pub stands : Stands script declared rule (state script P there)
+    pub place : Stands script declared rule (state script P there)
 
   has-end : (P : List Step) (trunks : List TrunkState) → IsScriptRun script P (trunks_of trunks)
       → AllFollow script P → HasEnd P trunks
@@ -72,13 +72,13 @@ module _ (script : ScriptParts) (declared : IsScript script) (rule : Rule) where
         same = λ l of_shape. sym (run.0.1 l of_shape);
         run = one-run script declared [] first first (new-planned script declared)
             (new-planned script declared);
-        stands = stands_between (begins script declared rule);
+        place = stands_between (begins script declared rule);
       }
   has-end (s ∷ P) trunks run follows = record {
     there = trunks;
     same = λ l of_shape. refl;
     run = run;
-    stands = goes-on P s (laid script P run.0) trunks
+    place = goes-on P s (laid script P run.0) trunks
         (stands P run.0 run.1.0 (λ k above within. (follows k above within).0))
         (next-step script P s run.0 (trunks_of trunks) (laid script P run.0) trunks
         (laid-same script P run.0 run.1.0) (λ l of_shape. refl) run.1.0 run.1.1 follows) follows;
@@ -136,5 +136,5 @@ replayed script run so_far over rule =
         follows = so_far.follows;
       };
       log = ap (log P) (sym so_far.names);
-      in_order = in-order script so_far.declared rule P end.there over_again end.stands;
+      in_order = in-order script so_far.declared rule P end.there over_again end.place;
     }
