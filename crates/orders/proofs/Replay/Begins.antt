@@ -183,10 +183,10 @@ module _ (script : ScriptParts) (declared : IsScript script) (rule : Rule) (P : 
     none-settled none =
         whole (settles_none none refl)
         (settles_nothing P k head unpumped (λ l is.
-        no (sym (ap settled_by (asks-settle l is)) ∙ none)))
+        never (sym (ap settled_by (asks-settle l is)) ∙ none)))
       where
-        no : {l : LinkNo} → Some l ≡ None → ⊥
-        no is = cc
+        never : {l : LinkNo} → Some l ≡ None → ⊥
+        never is = cc
 
     -- it settles one that is cut
     cut-left : (l : LinkNo) → settled_by ask.event ≡ Some l → is_cut g.log.steps l.0 ≡ true

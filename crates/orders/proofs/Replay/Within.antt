@@ -57,42 +57,45 @@ module _ (script : ScriptParts) (declared : IsScript script) (rule : Rule) where
     pub under : IsUnder actor link f.log.steps
     pub longer : length old.log.steps < length f.log.steps
 
-  -- WHERE A RUN STANDS: between two turns, or within one, of an actor that isn't done with a link
-  pub data Stands (f : Layout) : Type 0 where
-    stands_between : IsBetween script declared rule f → Stands f
-    stands_within : (turn : IsSettlingTurn f)
-        → stirs f.log.steps (trunks_of f.trunks) turn.link.0 ≡ true → Stands f
+-- WHERE A RUN STANDS: between two turns, or within one, of an actor that isn't done with a link
+pub data Stands (script : ScriptParts) (declared : IsScript script) (rule : Rule) (f : Layout)
+    : Type 0 where
+  stands_between : IsBetween script declared rule f → Stands script declared rule f
+  stands_within : (turn : IsSettlingTurn script declared rule f)
+      → stirs f.log.steps (trunks_of f.trunks) turn.link.0 ≡ true
+      → Stands script declared rule f
 
+module _ (script : ScriptParts) (declared : IsScript script) (rule : Rule) where
   -- as long as the link stirs it stands within it, and else the turn is whole
   module _ (f : Layout) (shape : f.shape ≡ shape_of script)
-      (follows : AllFollow script f.log.steps) (turn : IsSettlingTurn f) where
+      (follows : AllFollow script f.log.steps) (turn : IsSettlingTurn script declared rule f) where
     abbrev P : List Step
     P = f.log.steps
 
     abbrev trunks : RunTrunks
     trunks = trunks_of f.trunks
 
-    abbrev link : LinkNo
-    link = turn.link
+    abbrev l : LinkNo
+    l = turn.link
 
     abbrev its : Settler
     its = settler turn.actor turn.link
 
-    module _ (still : stirs P trunks link.0 ≡ false) where
-      calm_now : stirs_on f.shape P trunks link ≡ false
+    module _ (still : stirs P trunks l.0 ≡ false) where
+      calm_now : stirs_on f.shape P trunks l ≡ false
       calm_now =
-          ap (λ (b : Bool). (nat_lt 0 link.0 && nat_le link.0 (length f.shape.links)) && b) still
-          ∙ and_off (nat_lt 0 link.0 && nat_le link.0 (length f.shape.links))
+          ap (λ (b : Bool). (nat_lt 0 l.0 && nat_le l.0 (length f.shape.links)) && b) still
+          ∙ and_off (nat_lt 0 l.0 && nat_le l.0 (length f.shape.links))
 
       none_settles : settler_in f ≡ None
       none_settles =
           ap (if_stirs f.shape P trunks) turn.under.settler
           ∙ ap (λ (b : Bool). cond b (Some its) None) calm_now
 
-      settled : IsSettled (Actor turn.actor) link turn.ticks turn.between f
+      settled : IsSettled (Actor turn.actor) l turn.ticks turn.between f
       settled =
-          way-ends runs_settle (Actor turn.actor) link turn.between f turn.ticks turn.way
-          (none_due (settling_event P trunks link) (settling-stirs P trunks link ∙ still))
+          way-ends runs_settle (Actor turn.actor) l turn.between f turn.ticks turn.way
+          (none_due (settling_event P trunks l) (settling-stirs P trunks l ∙ still))
 
       whole_turn : IsTurnOf script turn.actor turn.old f
       whole_turn =
@@ -103,7 +106,7 @@ module _ (script : ScriptParts) (declared : IsScript script) (rule : Rule) where
               between = turn.between;
               stepped = turn.stepped;
               fixed = turn.fixed;
-              goes_on = settles_whole link turn.asked turn.whole turn.ticks settled;
+              goes_on = settles_whole l turn.asked turn.whole turn.ticks settled;
             };
             came = refl;
           }))
@@ -114,9 +117,9 @@ module _ (script : ScriptParts) (declared : IsScript script) (rule : Rule) where
           more-turns script declared rule turn.old f turn.was turn.actor turn.above
           (omega (arith, within)) whole_turn turn.longer shape follows none_settles
 
-    pub stands-on : Stands f
-    stands-on = go (stirs P trunks link.0) refl
+    pub stands-on : Stands script declared rule f
+    stands-on = go (stirs P trunks l.0) refl
       where
-        go : (b : Bool) → stirs P trunks link.0 ≡ b → Stands f
+        go : (b : Bool) → stirs P trunks l.0 ≡ b → Stands script declared rule f
         go true is = stands_within turn is
         go false is = stands_between (ended is)
