@@ -38,7 +38,7 @@ abbrev pub step_of : By → Head → List Effect → Step
 step_of by head es = record { by = by; head = head; effects = es }
 
 -- the trunks of a run as they are laid out: before the first step new ones
-pub laid : ScriptParts → List Step → RunTrunks → List TrunkState
+abbrev pub laid : ScriptParts → List Step → RunTrunks → List TrunkState
 laid script [] there = new_trunks script.links
 laid script (s ∷ P) there = listed (shape_of script) there
 
@@ -48,8 +48,7 @@ module _ (script : ScriptParts) where
 
   pub laid-same : (P : List Step) (there : RunTrunks) → IsScriptRun script P there
       → Become shape (trunks_of (laid script P there)) there
-  unfolding laid
-  laid-same [] there run l of_shape = sym (run.0.1 l of_shape)
+  laid-same [] there run = λ l of_shape. sym (run.0.1 l of_shape)
   laid-same (s ∷ P) there run = listed-same shape there
 
   -- the machine reaches the runs of the script

@@ -47,7 +47,6 @@ module _ (script : ScriptParts) (declared : IsScript script) (rule : Rule) where
   -- A RUN STANDS between two turns or within one, step by step
   stands : (P : List Step) (there : RunTrunks) → IsScriptRun script P there → AllFollow script P
       → StandsAt P (laid script P there)
-  unfolding laid
   stands [] there run follows = stands_between (begins script declared rule)
   stands (s ∷ P) there run follows =
       goes-on P s (laid script P run.0) (laid script (s ∷ P) there)
