@@ -1,43 +1,38 @@
 -- A step that begins a turn: of a link, or of an actor, which may settle a link with it.
-use Rattle.std.proofs.Common.{◌≡◌, ℕ, suc, ◌+◌, ◌-◌, ◌<◌, ◌≤◌, Bool, true, false, cond, List, [], ◌∷◌}
+use Rattle.std.proofs.Common.{◌≡◌, ℕ, ◌+◌, ◌-◌, ◌<◌, ◌≤◌, Bool, true, false, cond, List, [], ◌∷◌}
 use Rattle.std.proofs.Common.{length, Option, Some, None, refl, sym, ◌∙◌, ap, subst, arith, ◌==◌}
-use Rattle.std.proofs.Common.{nat_le, eq-eqb, eqb-true, true≢false}
+use Rattle.std.proofs.Common.{eq-eqb}
 use Rattle.std.proofs.lemmas.Bool.{lt-leb}
 use Rattle.std.proofs.lemmas.List.{length-map}
-use Rattle.linx_base.specs.declared.identity.Inc.{Inc}
 use Rattle.linx_base.specs.declared.identity.LinkNo.{LinkNo}
-use Rattle.journal.specs.History.{closed_step, endpoint_of, has_ended}
-use Rattle.journal.specs.Laws.{IsMaker, may_make}
+use Rattle.journal.specs.History.{closed_step, endpoint_of}
+use Rattle.journal.specs.Laws.{IsMaker}
 use Rattle.journal.specs.Shapes.{Shape}
 use Rattle.journal.specs.declared.by.By.{By}
 use Rattle.journal.specs.declared.by.By.TheVariants.{Actor, Pump}
 use Rattle.journal.specs.declared.effect.Effect.{Effect}
 use Rattle.journal.specs.declared.effect.Step.{Step}
-use Rattle.journal.specs.declared.event.Event.{Event}
 use Rattle.journal.specs.declared.event.Event.TheVariants as asks
 use Rattle.journal.specs.declared.head.Head.{Head}
 use Rattle.journal.specs.declared.head.Head.TheVariants as heads
-use Rattle.journal.specs.declared.head.Refusal.TheVariants.{IsOpen, NotOpen}
 use Rattle.link_laws.specs.Ends.{IsLinkOf}
 use Rattle.link_laws.specs.Sessions.{is_cut}
-use Rattle.node_kernel.specs.Answers.{answer_of, asks_to_open, event_of, granted, granted_by}
-use Rattle.node_kernel.specs.Answers.{is_pumped, named, needs_endpoint, refused}
+use Rattle.node_kernel.specs.Answers.{answer_of, event_of, granted}
+use Rattle.node_kernel.specs.Answers.{is_pumped}
 use Rattle.node_kernel.specs.declared.answers.StepAnswer.{StepAnswer}
 use Rattle.node_kernel.specs.declared.ask.Ask.{Ask}
-use Rattle.actor_run.specs.Following.{IsAskedStep, is_own}
+use Rattle.actor_run.specs.Following.{IsAskedStep}
 use Rattle.run_settling.proofs.Settling.{runs_settle}
 use Rattle.run_trunks.specs.States.{trunks_of}
 use Rattle.script_lang.specs.Fits.{IsScript}
 use Rattle.script_lang.specs.Parts.{ScriptParts}
 use Rattle.trunk.specs.Events.{TrunkState}
-use Rattle.trunk_moves.specs.Trunks.{RunTrunks}
 use Rattle.fabric.specs.Links.{no_link_stirs}
 use Rattle.fabric.specs.Machine.{granted_head, head_for}
 use Rattle.fabric.specs.Run.{IsStepFor, IsStepOf, IsStepped, Layout}
-use Rattle.stage.specs.Plays.{AllFollow, IsInTurn, IsPlannedHead}
-use Rattle.stage.specs.Pumps.{pump_event}
+use Rattle.stage.specs.Plays.{AllFollow, IsInTurn}
 use Rattle.stage.specs.Settlings.{GoesOnAfter, Settler, if_stirs, leaves_cut, settled_by, settler}
-use Rattle.stage.specs.Settlings.{settler_by, settler_in, settles_none}
+use Rattle.stage.specs.Settlings.{settler_by, settles_none}
 use Rattle.stage.specs.Turns.{IsPump, IsTurnBy, IsTurnOf, acts_next, asked_next, came_of}
 use Rattle.stage.specs.Turns.{commands_of, makes_event, shape_of}
 use Rattle.stage.specs.declared.stage.Pump.TheVariants.{Moved}

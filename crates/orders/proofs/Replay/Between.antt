@@ -14,7 +14,7 @@ use Rattle.run_orders.proofs.States.{AreAlike, alike-same}
 use Rattle.run_orders.proofs.Turns.{turn-alike}
 use Rattle.order_rules.specs.declared.rule.Rule.{Rule}
 use Rattle.orders.specs.Makers.{IsReadyMaker}
-use Rattle.orders.specs.Runs.{AreNextTurns, IsNextTurn, Standing, standing}
+use Rattle.orders.specs.Runs.{AreNextTurns, IsNextTurn, standing}
 use Rattle.orders.specs.Turns.{turns_of}
 use Rattle.orders.proofs.Both.{ends}
 use Rattle.orders.proofs.Listed.{first-named}

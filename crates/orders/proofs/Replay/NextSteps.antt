@@ -1,12 +1,11 @@
 -- What is known of a step of a run of a script, from one state of the run to the next.
-use Rattle.std.proofs.Common.{◌≡◌, ◌<◌, ◌≤◌, ℕ, Bool, true, List, [], ◌∷◌, length, Option, Some, refl}
+use Rattle.std.proofs.Common.{◌≡◌, ◌<◌, ◌≤◌, ℕ, Bool, true, List, [], ◌∷◌, length, Some, refl}
 use Rattle.std.proofs.Common.{sym, ◌∙◌, subst, true≢false}
 use Rattle.journal.specs.Shapes.{Shape}
 use Rattle.journal.specs.declared.by.By.{By}
 use Rattle.journal.specs.declared.effect.Effect.{Effect}
 use Rattle.journal.specs.declared.effect.Step.{Step}
 use Rattle.journal.specs.declared.head.Head.{Head}
-use Rattle.link_laws.specs.Ends.{IsLinkOf}
 use Rattle.node_kernel.specs.Answers.{named}
 use Rattle.actor_run.specs.Following.{IsAskedStep, is_own}
 use Rattle.run_trunks.specs.States.{new_trunks, trunks_of}

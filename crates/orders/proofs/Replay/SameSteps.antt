@@ -22,7 +22,7 @@ use Rattle.journal.specs.declared.head.Head.TheVariants.{Close, Ended, Hunt, Ope
 use Rattle.journal.specs.declared.head.Head.TheVariants.{TakeNone, Tick, Wire}
 use Rattle.journal.specs.declared.head.SentTo.{SentTo}
 use Rattle.journal.specs.declared.head.SentTo.TheVariants.{Dead, Link, Queued}
-use Rattle.link_laws.specs.Ends.{IsLinkOf, node_at}
+use Rattle.link_laws.specs.Ends.{node_at}
 use Rattle.link_laws.specs.Sessions.{boots}
 use Rattle.trunk.specs.Events.{TrunkState, asked_at, closed_at, opened_at, restarted_at, sent_at}
 use Rattle.trunk_moves.specs.Packets.{IsBeat, Meets}

@@ -1,5 +1,5 @@
 -- The trunks of the links of a run as a list.
-use Rattle.std.proofs.Common.{◌≡◌, ℕ, zero, suc, ◌+◌, ◌-◌, ◌<◌, List, [], ◌∷◌, length, get_or, refl}
+use Rattle.std.proofs.Common.{◌≡◌, ℕ, zero, suc, ◌+◌, ◌-◌, ◌<◌, List, [], ◌∷◌, length, get_or}
 use Rattle.std.proofs.Common.{◌∙◌, ap, arith}
 use Rattle.journal.specs.Shapes.{Shape}
 use Rattle.trunk.specs.Events.{TrunkState}

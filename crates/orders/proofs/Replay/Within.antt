@@ -1,6 +1,6 @@
 -- A run that stands within a turn, in which an actor settles a link.
-use Rattle.std.proofs.Common.{◌≡◌, ℕ, ◌+◌, ◌<◌, ◌≤◌, Bool, true, false, cond, List, length, Option}
-use Rattle.std.proofs.Common.{Some, None, refl, sym, ◌∙◌, ap, arith, ◌&&◌, is_some, nat_le, nat_lt}
+use Rattle.std.proofs.Common.{◌≡◌, ℕ, ◌<◌, ◌≤◌, Bool, true, false, cond, List, length, Option}
+use Rattle.std.proofs.Common.{Some, None, refl, ◌∙◌, ap, arith, ◌&&◌, is_some, nat_le, nat_lt}
 use Rattle.std.proofs.Common.{true≢false}
 use Rattle.linx_base.specs.declared.identity.LinkNo.{LinkNo}
 use Rattle.journal.specs.History.{has_ended}
