@@ -7,6 +7,7 @@ mod Following
 mod Told
 mod Listed
 mod Ended
+mod Replay
 mod Stopped
 mod Circle
 mod Rounds

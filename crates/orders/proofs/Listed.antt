@@ -30,7 +30,7 @@ module _ (script : ScriptParts) where
       listed_on n start made.0 made.1.0 ((next_in script made.0).maker ∷ after)
 
   -- the first of a list that is ready is named
-  first-named : (m : ℕ) (after : List ℕ) (rule : Rule) (f : Layout) → IsReadyMaker script f m
+  pub first-named : (m : ℕ) (after : List ℕ) (rule : Rule) (f : Layout) → IsReadyMaker script f m
       → record { maker = m; order = record { left = after; rule = rule } }
       ≡ named (m ∷ after) rule (ready script f)
   first-named m after rule f it = rw (ready-there script f m it) refl

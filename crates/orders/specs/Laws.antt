@@ -20,6 +20,13 @@ pub record IsFilledInOrder (script : ScriptParts) (order : Order) (run : Layout)
   pub full : is_full run.log.steps ≡ true
   pub due : is_over run ≡ false
 
+-- A RUN COMES AGAIN in an order: a whole run in this order has its journal
+pub record IsPlayedAgain (script : ScriptParts) (order : Order) (run : Layout) : Type 0 where
+  pub again : Layout
+  pub so_far : IsSoFar script again
+  pub log : again.log ≡ run.log
+  pub in_order : IsInOrder script order again
+
 -- rounds, and no maker before them
 abbrev pub rounds : Order
 rounds = record { left = []; rule = Rounds 0 }
@@ -46,6 +53,11 @@ pub record OrderDecides : Type 0 where
       (script : ScriptParts) (order : Order) (run : Layout) → IsSoFar script run
       → IsInOrder script order run → (rule : Rule)
       → IsInOrder script (record { left = turns_of script run.log.steps; rule = rule }) run
+  -- and each whole run of a script, by threads or not, comes again in that order
+  pub replayed :
+      (script : ScriptParts) (run : Layout) → IsSoFar script run → is_over run ≡ true
+      → (rule : Rule)
+      → IsPlayedAgain script (record { left = turns_of script run.log.steps; rule = rule }) run
   -- a whole run in rounds is the whole run in the fixed order
   pub fixed :
       (script : ScriptParts) (run : Layout) → IsSoFar script run → IsInOrder script rounds run
