@@ -22,10 +22,9 @@ use Rattle.linx_commands.specs.Causes.{is_of_writing, stop_status}
 use Rattle.linx_commands.specs.Runs.{IsAnswerTo, IsLegalSomehow, IsOverUnder, IsRan, IsRunAs}
 use Rattle.linx_commands.specs.Runs.{IsRunSoFar, IsRunUnder, IsStoppedUnder, IsWholeAs, IsWholeIn}
 use Rattle.linx_commands.specs.declared.outcome.Status.{Status}
-use Rattle.linx_commands.specs.declared.outcome.Status.TheVariants.{Done, Usage, Script, Unopened}
-use Rattle.linx_commands.specs.declared.outcome.Status.TheVariants.{ReadFault, WriteFault}
-use Rattle.linx_commands.specs.declared.outcome.Status.TheVariants.{JournalFull, NoMemory, Torn}
-use Rattle.linx_commands.specs.declared.outcome.Status.TheVariants.{BadStream}
+use Rattle.linx_commands.specs.declared.outcome.Status.TheVariants.{Done}
+use Rattle.linx_commands.specs.declared.outcome.Status.TheVariants.{WriteFault}
+use Rattle.linx_commands.specs.declared.outcome.Status.TheVariants.{NoMemory}
 use Rattle.command_words.specs.declared.request.Asked.{Asked}
 use Rattle.command_words.specs.declared.request.TurnOrder.{TurnOrder}
 use Rattle.command_words.specs.declared.request.TurnOrder.TheVariants.{Fixed, Seed}
@@ -56,13 +55,7 @@ answers-written : (asked : Asked) (status : Status) (script : ScriptParts) (log 
 answers-written asked Done script log writes run = run
 answers-written asked WriteFault script log writes run = run
 answers-written asked NoMemory script log writes run = so-far-of asked script log run
-answers-written asked JournalFull script log writes run = cc
-answers-written asked (Usage wrong) script log writes run = cc
-answers-written asked (Unopened why) script log writes run = cc
-answers-written asked (Script line fault) script log writes run = cc
-answers-written asked ReadFault script log writes run = cc
-answers-written asked (Torn at) script log writes run = cc
-answers-written asked (BadStream at) script log writes run = cc
+answers-written asked _ script log writes run = cc
 
 -- a whole run in an order is over
 over-in : (order : TurnOrder) (script : ScriptParts) (run : Layout) → IsWholeIn order script run

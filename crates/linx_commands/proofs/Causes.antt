@@ -14,10 +14,9 @@ use Rattle.linx_commands.specs.Statuses.{IsDoneOrRefused}
 use Rattle.command_words.specs.declared.request.Asked.{Asked}
 use Rattle.command_words.specs.declared.request.Asked.TheVariants.{Run}
 use Rattle.linx_commands.specs.declared.outcome.Status.{Status}
-use Rattle.linx_commands.specs.declared.outcome.Status.TheVariants.{Done, Usage, Script, Unopened}
+use Rattle.linx_commands.specs.declared.outcome.Status.TheVariants.{Done, Script}
 use Rattle.linx_commands.specs.declared.outcome.Status.TheVariants.{ReadFault, WriteFault}
-use Rattle.linx_commands.specs.declared.outcome.Status.TheVariants.{JournalFull, NoMemory, Torn}
-use Rattle.linx_commands.specs.declared.outcome.Status.TheVariants.{BadStream}
+use Rattle.linx_commands.specs.declared.outcome.Status.TheVariants.{JournalFull, NoMemory}
 
 -- the cause of a status that no script gave
 pub caused_unread : (asked : Asked) (status : Status) (told : Option (List ℕ)) (log : Log)
@@ -25,13 +24,7 @@ pub caused_unread : (asked : Asked) (status : Status) (told : Option (List ℕ))
 caused_unread asked (Script line fault) told log unread empty = (unread, empty)
 caused_unread asked ReadFault told log unread empty = empty
 caused_unread asked NoMemory told log unread empty = inl empty
-caused_unread asked (Usage wrong) told log unread empty = absurd unread
-caused_unread asked (Unopened why) told log unread empty = absurd unread
-caused_unread asked Done told log unread empty = absurd unread
-caused_unread asked WriteFault told log unread empty = absurd unread
-caused_unread asked JournalFull told log unread empty = absurd unread
-caused_unread asked (Torn at) told log unread empty = absurd unread
-caused_unread asked (BadStream at) told log unread empty = absurd unread
+caused_unread asked _ told log unread empty = absurd unread
 
 spelled_not_bad : (spells : Result ScriptParts (ℕ × Fault)) (line : ℕ) (fault : Fault)
     → IsOk spells → spells ≡ Err (line, fault) → ⊥
@@ -50,8 +43,6 @@ pub completes : (asked : Asked) (status : Status) (bytes : List ℕ) (log : Log)
     → IsCaused asked status (Some bytes) log → Completes bytes status log
 completes asked Done bytes log cause spelled room read write = tt
 completes asked NoMemory bytes log cause spelled room read write = tt
-completes asked (Usage wrong) bytes log cause spelled room read write = absurd cause
-completes asked (Unopened why) bytes log cause spelled room read write = absurd cause
 completes asked ReadFault bytes log cause spelled room read write = absurd (read refl)
 completes asked WriteFault bytes log cause spelled room read write = absurd (write refl)
 completes asked JournalFull bytes log cause spelled room read write =
@@ -60,8 +51,7 @@ completes asked (Script line fault) bytes log cause spelled room read write =
     let whole : read_of bytes ≡ bytes = read_whole bytes (script_of bytes) refl spelled in
     absurd (spelled_not_bad (script_of bytes) line fault spelled
     (subst (λ (read : List ℕ). script_of read ≡ Err (line, fault)) whole cause.0))
-completes asked (Torn at) bytes log cause spelled room read write = absurd cause
-completes asked (BadStream at) bytes log cause spelled room read write = absurd cause
+completes asked _ bytes log cause spelled room read write = absurd cause
 
 -- the same where the bytes may be untold
 pub completes_told : (asked : Asked) (status : Status) (told : Option (List ℕ)) (log : Log)
@@ -84,18 +74,7 @@ pub completes_outcome : (asked : Asked) (status : Status) (script : ScriptParts)
 completes_outcome asked Done script log outcome room write = tt
 completes_outcome asked NoMemory script log outcome room write = tt
 completes_outcome asked WriteFault script log outcome room write = absurd (write refl)
-completes_outcome asked JournalFull script log (inl refused) room write = cc
 completes_outcome asked JournalFull script log (inr answer) room write =
     absurd (let no_room : true ≡ false = sym answer.full ∙ room in cc)
-completes_outcome asked (Usage wrong) script log (inl refused) room write = cc
-completes_outcome asked (Usage wrong) script log (inr answer) room write = answer
-completes_outcome asked (Unopened why) script log (inl refused) room write = cc
-completes_outcome asked (Unopened why) script log (inr answer) room write = answer
-completes_outcome asked (Script line fault) script log (inl refused) room write = cc
-completes_outcome asked (Script line fault) script log (inr answer) room write = answer
-completes_outcome asked ReadFault script log (inl refused) room write = cc
-completes_outcome asked ReadFault script log (inr answer) room write = answer
-completes_outcome asked (Torn at) script log (inl refused) room write = cc
-completes_outcome asked (Torn at) script log (inr answer) room write = answer
-completes_outcome asked (BadStream at) script log (inl refused) room write = cc
-completes_outcome asked (BadStream at) script log (inr answer) room write = answer
+completes_outcome asked _ script log (inr answer) room write = answer
+completes_outcome asked _ script log (inl refused) room write = cc

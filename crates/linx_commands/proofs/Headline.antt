@@ -28,10 +28,9 @@ use Rattle.linx_commands.specs.Headline.{IsReceived, Throughout}
 use Rattle.linx_commands.specs.Runs.{IsAnswerTo, IsCaused, IsEmptyLog, IsOfSource, IsOutcomeOf}
 use Rattle.linx_commands.specs.Runs.{IsRunUnder}
 use Rattle.linx_commands.specs.declared.outcome.Status.{Status}
-use Rattle.linx_commands.specs.declared.outcome.Status.TheVariants.{Done, Usage, Script, Unopened}
+use Rattle.linx_commands.specs.declared.outcome.Status.TheVariants.{Done, Script}
 use Rattle.linx_commands.specs.declared.outcome.Status.TheVariants.{ReadFault, WriteFault}
-use Rattle.linx_commands.specs.declared.outcome.Status.TheVariants.{JournalFull, NoMemory, Torn}
-use Rattle.linx_commands.specs.declared.outcome.Status.TheVariants.{BadStream}
+use Rattle.linx_commands.specs.declared.outcome.Status.TheVariants.{JournalFull, NoMemory}
 
 -- ---- of a run so far
 
@@ -122,16 +121,13 @@ of_source asked status told log is =
 pub headline_caused : (asked : Asked) (status : Status) (told : Option (List ℕ)) (log : Log)
     → IsCaused asked status told log → IsEmptyLog log ⊎ HeadlineOfSource told log
 headline_caused asked Done told log cause = of_source asked Done told log cause
-headline_caused asked (Usage wrong) told log cause = absurd cause
-headline_caused asked (Unopened why) told log cause = absurd cause
 headline_caused asked (Script line fault) told log cause = inl cause.1
 headline_caused asked ReadFault told log cause = inl cause
 headline_caused asked WriteFault told log cause = of_source asked WriteFault told log cause
 headline_caused asked JournalFull told log cause = of_source asked JournalFull told log cause
 headline_caused asked NoMemory told log (inl empty) = inl empty
 headline_caused asked NoMemory told log (inr of_it) = of_source asked NoMemory told log of_it
-headline_caused asked (Torn at) told log cause = absurd cause
-headline_caused asked (BadStream at) told log cause = absurd cause
+headline_caused asked _ told log cause = absurd cause
 
 -- SO OF WHAT EACH COMMAND HANDS BACK
 pub headline_under : (asked : Asked) (status : Status) (told : Option (List ℕ)) (log : Log)

@@ -81,45 +81,18 @@ by-named : (P : List Step) (node : ℕ) (me : Option Inc) (head : Head)
     → AllNamed (effects_by P node me head)
 by-named P node me (heads.Open name) = (tt, founds-named _ _)
 by-named P node me heads.Close = ending-named me (owed P node)
-by-named P node None (heads.Send q note answer) = tt
 by-named P node (Some j) (heads.Send q note answer) =
     arrivals-named j note (is_alive P node q) q
-by-named P node me (heads.Take f position) = tt
-by-named P node me (heads.TakeNone f) = tt
-by-named P node me (heads.Waits f) = tt
-by-named P node None (heads.Hunt path note) = tt
 by-named P node (Some j) (heads.Hunt path note) = hunted-named (find P node path) _
-by-named P node None (heads.Attach q note) = tt
 by-named P node (Some j) (heads.Attach q note) = attached-named (is_alive P node q) _
-by-named P node me (heads.Detach r answer) = tt
-by-named P node me (heads.Cut l) = tt
-by-named P node me (heads.Mend l) = tt
-by-named P node me (heads.Settle l) = tt
 by-named P node me (heads.Restart n) = closings-named (open_endpoints P n.0)
-by-named P node me (heads.Wire l side verdict) = tt
-by-named P node me (heads.Tick l side) = tt
-by-named P node me (heads.Refused reason) = tt
 by-named P node me heads.Ended = ending-named me (owed P node)
+by-named P node _ _ = tt
 
 -- the name that an incarnation was opened with
 head-name : (head : Head) → IsBounded head → IsClean (name_or_none (name_in head))
 head-name (heads.Open name) bounded = name-clean name bounded
-head-name heads.Close bounded = word [] refl
-head-name (heads.Send q note answer) bounded = word [] refl
-head-name (heads.Take f position) bounded = word [] refl
-head-name (heads.TakeNone f) bounded = word [] refl
-head-name (heads.Waits f) bounded = word [] refl
-head-name (heads.Hunt path note) bounded = word [] refl
-head-name (heads.Attach q note) bounded = word [] refl
-head-name (heads.Detach r answer) bounded = word [] refl
-head-name (heads.Cut l) bounded = word [] refl
-head-name (heads.Mend l) bounded = word [] refl
-head-name (heads.Settle l) bounded = word [] refl
-head-name (heads.Restart n) bounded = word [] refl
-head-name (heads.Wire l side verdict) bounded = word [] refl
-head-name (heads.Tick l side) bounded = word [] refl
-head-name (heads.Refused reason) bounded = word [] refl
-head-name heads.Ended bounded = word [] refl
+head-name _ bounded = word [] refl
 
 opened-name : (P : List Step) (i : Inc) → AreNamed P → IsClean (name_of P i)
 opened-name [] i named = word [] refl
@@ -184,27 +157,14 @@ step-named shape P node me heads.Close es named has packets ticks =
     subst AllNamed (sym has) (by-named P node me heads.Close)
 step-named shape P node me (heads.Send q note answer) es named has packets ticks =
     subst AllNamed (sym has) (by-named P node me (heads.Send q note answer))
-step-named shape P node me (heads.Take f position) es named has packets ticks =
-    subst AllNamed (sym has) tt
-step-named shape P node me (heads.TakeNone f) es named has packets ticks =
-    subst AllNamed (sym has) tt
-step-named shape P node me (heads.Waits f) es named has packets ticks =
-    subst AllNamed (sym has) tt
 step-named shape P node me (heads.Hunt path note) es named has packets ticks =
     subst AllNamed (sym has) (by-named P node me (heads.Hunt path note))
 step-named shape P node me (heads.Attach q note) es named has packets ticks =
     subst AllNamed (sym has) (by-named P node me (heads.Attach q note))
-step-named shape P node me (heads.Detach r answer) es named has packets ticks =
-    subst AllNamed (sym has) tt
-step-named shape P node me (heads.Cut l) es named has packets ticks = subst AllNamed (sym has) tt
-step-named shape P node me (heads.Mend l) es named has packets ticks =
-    subst AllNamed (sym has) tt
-step-named shape P node me (heads.Settle l) es named has packets ticks =
-    subst AllNamed (sym has) tt
-step-named shape P node me (heads.Refused reason) es named has packets ticks =
-    subst AllNamed (sym has) tt
 step-named shape P node me heads.Ended es named has packets ticks =
     subst AllNamed (sym has) (by-named P node me heads.Ended)
+step-named shape P node me _ es named has packets ticks =
+    subst AllNamed (sym has) tt
 
 -- ---- all steps of a legal journal
 
