@@ -26,7 +26,7 @@ LAYERS = [
     ("Values", "linx_base sigsel"),
     ("The world outside", "linx_outside"),
     ("A journal and the laws of a node", "journal"),
-    ("A node", "sorted_set keyed_list name_key name_table hunt_table attach_table front_heap"
+    ("A node", "sorted_set keyed_list name_table hunt_table attach_table front_heap"
                " endpoint_queue node_kernel"),
     ("The laws of links", "trunk_record link_laws"),
     ("One end of a link", "ethcm_headers fragmenter ethcm_window ethcm_session"
