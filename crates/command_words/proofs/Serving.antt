@@ -7,16 +7,18 @@ use Rattle.std.proofs.lemmas.Bool.Decides.{nat_tests}
 use Rattle.script_words.specs.Numbers.{number_spelled}
 use Rattle.command_words.specs.Requests.{asked_alone, asked_with, asked_with_file, asked_with_plain}
 use Rattle.command_words.specs.Requests.{clients_in, clients_spelled, is_file_name, played_from}
-use Rattle.command_words.specs.Requests.{request_by, seeded}
+use Rattle.command_words.specs.Requests.{asked_with_more, request_by, searched, seeded}
 use Rattle.command_words.specs.Words.{called, is_help_flag}
 use Rattle.command_words.specs.declared.request.Asked.{Asked}
 use Rattle.command_words.specs.declared.request.Request.{Request}
 use Rattle.command_words.specs.declared.request.Request.TheVariants.{Show, Play, Echo, Serve}
+use Rattle.command_words.specs.declared.request.Request.TheVariants as requests
+use Rattle.command_words.specs.declared.search.Search.{Search}
 use Rattle.command_words.specs.declared.word.Word.{Word}
 use Rattle.command_words.specs.declared.request.TurnOrder.TheVariants.{Fixed}
 use Rattle.command_words.specs.declared.page.Page.TheVariants as pages
 use Rattle.command_words.specs.declared.request.Asked.TheVariants as asks
-use Rattle.command_words.specs.declared.word.Word.TheVariants.{Run, Serial, Seed, Gen, Stream}
+use Rattle.command_words.specs.declared.word.Word.TheVariants.{Run, Serial, Seed, Find, Gen, Stream}
 use Rattle.command_words.specs.declared.word.Word.TheVariants.{Gateway, Help, Version}
 
 -- 1 to 16
@@ -75,6 +77,7 @@ few_plain Run argument n is = absurd (no_run asks.Run (is_file_name argument) n 
 few_plain Serial argument n is =
     absurd (no_run (asks.InOrder Fixed) (is_file_name argument) n is)
 few_plain Seed argument n is = absurd (no_order (seeded argument) n is)
+few_plain Find argument n is = absurd cc
 few_plain Gen argument n is = absurd (no_gen (number_spelled argument) n is)
 few_plain Stream argument n is = absurd cc
 few_plain Gateway argument n is =
@@ -100,6 +103,7 @@ none_alone None n is = cc
 none_alone (Some Run) n is = cc
 none_alone (Some Serial) n is = cc
 none_alone (Some Seed) n is = cc
+none_alone (Some Find) n is = cc
 none_alone (Some Gen) n is = cc
 none_alone (Some Stream) n is = cc
 none_alone (Some Gateway) n is = cc
@@ -112,11 +116,30 @@ none_with_file None argument file n is = cc
 none_with_file (Some Run) argument file n is = cc
 none_with_file (Some Serial) argument file n is = cc
 none_with_file (Some Seed) argument file n is = no_file (seeded argument) (is_file_name file) n is
+none_with_file (Some Find) argument file n is = cc
 none_with_file (Some Gen) argument file n is = cc
 none_with_file (Some Stream) argument file n is = cc
 none_with_file (Some Gateway) argument file n is = cc
 none_with_file (Some Help) argument file n is = cc
 none_with_file (Some Version) argument file n is = cc
+
+no_search : (o : Option Search) (n : ℕ)
+    → option_map (λ s. requests.Find s) o ≡ Some (Serve n) → ⊥
+no_search None n is = cc
+no_search (Some s) n is = cc
+
+none_with_more : (word : Option Word) (from to : List ℕ) (behind : List (List ℕ)) (n : ℕ)
+    → option_and_then (λ w. asked_with_more w from to behind) word ≡ Some (Serve n) → ⊥
+none_with_more None from to behind n is = cc
+none_with_more (Some Run) from to behind n is = cc
+none_with_more (Some Serial) from to behind n is = cc
+none_with_more (Some Seed) from to behind n is = cc
+none_with_more (Some Find) from to behind n is = no_search (searched from to behind) n is
+none_with_more (Some Gen) from to behind n is = cc
+none_with_more (Some Stream) from to behind n is = cc
+none_with_more (Some Gateway) from to behind n is = cc
+none_with_more (Some Help) from to behind n is = cc
+none_with_more (Some Version) from to behind n is = cc
 
 -- a gateway that words ask for has 1 to 16 clients
 pub few_clients : (texts : List (List ℕ)) (n : ℕ) → request_by texts ≡ Some (Serve n) → AreFew n
@@ -125,4 +148,5 @@ few_clients (word ∷ []) n is = absurd (none_alone (called word) n is)
 few_clients (word ∷ argument ∷ []) n is = few_called (called word) argument n is
 few_clients (word ∷ argument ∷ file ∷ []) n is =
     absurd (none_with_file (called word) argument file n is)
-few_clients (word ∷ argument ∷ file ∷ more ∷ rest) n is = absurd cc
+few_clients (word ∷ from ∷ to ∷ next ∷ rest) n is =
+    absurd (none_with_more (called word) from to (next ∷ rest) n is)

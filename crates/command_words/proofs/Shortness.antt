@@ -2,7 +2,7 @@
 use Rattle.std.proofs.Common.{◌≡◌, ◌≤◌, ℕ, List, length, sym, subst, arith}
 use Rattle.command_words.specs.Words.{said_of}
 use Rattle.command_words.specs.declared.word.Word.{Word}
-use Rattle.command_words.specs.declared.word.Word.TheVariants.{Run, Serial, Seed, Gen, Stream}
+use Rattle.command_words.specs.declared.word.Word.TheVariants.{Run, Serial, Seed, Find, Gen, Stream}
 use Rattle.command_words.specs.declared.word.Word.TheVariants.{Gateway, Help, Version}
 
 -- a name is short
@@ -11,6 +11,7 @@ unfolding said_of
 name_short Run name is = subst (λ (n : List ℕ). length n ≤ 15) (sym is) (omega arith)
 name_short Serial name is = subst (λ (n : List ℕ). length n ≤ 15) (sym is) (omega arith)
 name_short Seed name is = subst (λ (n : List ℕ). length n ≤ 15) (sym is) (omega arith)
+name_short Find name is = subst (λ (n : List ℕ). length n ≤ 15) (sym is) (omega arith)
 name_short Gen name is = subst (λ (n : List ℕ). length n ≤ 15) (sym is) (omega arith)
 name_short Stream name is = subst (λ (n : List ℕ). length n ≤ 15) (sym is) (omega arith)
 name_short Gateway name is = subst (λ (n : List ℕ). length n ≤ 15) (sym is) (omega arith)
@@ -24,6 +25,7 @@ unfolding said_of
 usage_short Run usage is = subst (λ (u : List ℕ). length u ≤ 50) (sym is) (omega arith)
 usage_short Serial usage is = subst (λ (u : List ℕ). length u ≤ 50) (sym is) (omega arith)
 usage_short Seed usage is = subst (λ (u : List ℕ). length u ≤ 50) (sym is) (omega arith)
+usage_short Find usage is = subst (λ (u : List ℕ). length u ≤ 50) (sym is) (omega arith)
 usage_short Gen usage is = subst (λ (u : List ℕ). length u ≤ 50) (sym is) (omega arith)
 usage_short Stream usage is = subst (λ (u : List ℕ). length u ≤ 50) (sym is) (omega arith)
 usage_short Gateway usage is = subst (λ (u : List ℕ). length u ≤ 50) (sym is) (omega arith)

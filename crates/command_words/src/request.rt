@@ -1,12 +1,13 @@
 //! What the words ask for.
 ghost use Rattle.std.specs.Prelude.{◌≡◌, map, option_map, string_bytes};
 ghost use Rattle.command_words.specs.Requests.{asked_alone, asked_with, asked_with_file};
-ghost use Rattle.command_words.specs.Requests.{clients_in, clients_spelled, file_at, file_of};
-ghost use Rattle.command_words.specs.Requests.{file_place, is_file_name, played_from, request_of};
-ghost use Rattle.command_words.specs.Requests.{seeded};
+ghost use Rattle.command_words.specs.Requests.{asked_with_more, clients_in, clients_spelled};
+ghost use Rattle.command_words.specs.Requests.{file_at, file_of, file_place, is_file_name};
+ghost use Rattle.command_words.specs.Requests.{played_from, request_of, seeded};
 
 use crate::number::number;
 use crate::page::Page;
+use crate::search::{Search, searched};
 use crate::word::{Word, called, is_help_flag};
 
 /// The most clients of a gateway, and the most digits that their number has.
@@ -41,6 +42,8 @@ pub enum Request {
     Show(Page),
     /// A run.
     Play(Asked),
+    /// A search for a run.
+    Find(Search),
     /// An echo over the program's streams.
     Echo,
     /// A gateway for so many clients over the program's streams.
@@ -49,7 +52,7 @@ pub enum Request {
 
 /// Whether a text names a file, or standard input by `-`. The name of a file isn't empty, and
 /// begins with no `-`.
-fn is_file_name(text: &str) -> bool
+pub(crate) fn is_file_name(text: &str) -> bool
     ensures { result ≡ is_file_name text.now }
 {
     text == "-" || !(text.is_empty() || text.starts_with('-'))
@@ -100,7 +103,7 @@ pub(crate) fn asked_alone(word: Word) -> Option<Request>
     match word {
         Word::Run => Some(Request::Play(Asked::Run)),
         Word::Serial => Some(Request::Play(Asked::InOrder(TurnOrder::Fixed))),
-        Word::Seed | Word::Gen => None,
+        Word::Seed | Word::Find | Word::Gen => None,
         Word::Stream => Some(Request::Echo),
         Word::Gateway => None,
         Word::Help => Some(Request::Show(Page::All)),
@@ -122,7 +125,7 @@ pub(crate) fn asked_with(word: Word, argument: &str) -> Option<Request>
         Word::Gen => Some(Request::Play(Asked::Gen(number(argument)?))),
         Word::Gateway => Some(Request::Serve(clients(argument)?)),
         Word::Help => Some(Request::Show(Page::Of(called(argument)?))),
-        Word::Stream | Word::Version => None,
+        Word::Find | Word::Stream | Word::Version => None,
     }
 }
 
@@ -132,6 +135,16 @@ pub(crate) fn asked_with_file(word: Word, argument: &str, file: &str) -> Option<
 {
     match word {
         Word::Seed => played_from(seeded(argument)?, file),
+        _ => None,
+    }
+}
+
+/// What a word and further ones ask for, of which the first two are arguments.
+fn asked_with_more(word: Word, from: &str, to: &str, behind: &[String]) -> Option<Request>
+    ensures { result ≡ asked_with_more word from.now to.now (map string_bytes behind.now) }
+{
+    match word {
+        Word::Find => Some(Request::Find(searched(from, to, behind)?)),
         _ => None,
     }
 }
@@ -146,17 +159,21 @@ pub(crate) fn request_by(words: &[String]) -> Option<Request>
         [word, argument, file] => {
             asked_with_file(called(word.as_str())?, argument.as_str(), file.as_str())
         }
-        _ => None,
+        [word, from, to, behind @ ..] => {
+            asked_with_more(called(word.as_str())?, from.as_str(), to.as_str(), behind)
+        }
+        [] => None,
     }
 }
 
-/// The place, from 0, of the file among the words of a run that reads a script.
+/// The place, from 0, of the file among the words of what reads a script.
 fn file_place(request: Option<Request>) -> Option<usize>
     ensures { result ≡ file_place request }
 {
     match request {
         Some(Request::Play(Asked::Run | Asked::InOrder(TurnOrder::Fixed))) => Some(1),
         Some(Request::Play(Asked::InOrder(TurnOrder::Seed(_)))) => Some(2),
+        Some(Request::Find(Search { in_file: true, .. })) => Some(4),
         _ => None,
     }
 }
@@ -171,8 +188,8 @@ fn file_at(words: &[String], place: usize) -> Option<&str>
     }
 }
 
-/// The file that the words name: that of a run that reads a script. `None` where that is read from
-/// standard input.
+/// The file that the words name: that of a run, or a search, that reads a script. `None` where that
+/// is read from standard input.
 pub fn file_named(words: &[String]) -> Option<&str>
     ensures { option_map (λ name. name.now) result ≡ file_of words.now }
 {

@@ -11,6 +11,8 @@ pub enum Word {
     Serial,
     /// The run of a script in the order that a number decides.
     Seed,
+    /// The first of some orders whose run shows what is sought.
+    Find,
     /// The run of a generated script.
     Gen,
     /// An echo over the program's streams.
@@ -24,10 +26,11 @@ pub enum Word {
 }
 
 /// All words, in the order of the help.
-pub const WORDS: [Word; 8] = [
+pub const WORDS: [Word; 9] = [
     Word::Run,
     Word::Serial,
     Word::Seed,
+    Word::Find,
     Word::Gen,
     Word::Stream,
     Word::Gateway,
@@ -81,6 +84,17 @@ impl Word {
                     one to ten decimal digits and is at most 4294967295. The text is the same each time\n\
                     for one S; other numbers have other orders.\n",
                 example: "linx_sim seed 7 examples/losses.linx",
+            },
+            Word::Find => Said {
+                name: "find",
+                usage: "find A B [in FILE] [not] WORD ..",
+                line: "find the first number from A to B whose run has a line of these words",
+                paragraph: "Plays a script as seed does, in the orders of the numbers A, A + 1, .. B, a million at\n\
+                    most, and writes the first one whose text has a line that begins with these words, and\n\
+                    the line. There are one to eight words; _ stands for any. What a line begins with is\n\
+                    what stands behind the number and the maker of a step, or the + of an effect. With not\n\
+                    it writes the first one whose text has no such line. Where there is none it exits 7.\n",
+                example: "linx_sim find 1 1000 in examples/losses.linx notified _ _ _ dead",
             },
             Word::Gen => Said {
                 name: "gen",

@@ -25,7 +25,7 @@ use Rattle.linx_commands.specs.declared.outcome.Status.{Status}
 use Rattle.linx_commands.specs.declared.outcome.Status.TheVariants.{Done, Usage, Script, Unopened}
 use Rattle.linx_commands.specs.declared.outcome.Status.TheVariants.{ReadFault, WriteFault}
 use Rattle.linx_commands.specs.declared.outcome.Status.TheVariants.{JournalFull, NoMemory, Torn}
-use Rattle.linx_commands.specs.declared.outcome.Status.TheVariants.{BadStream}
+use Rattle.linx_commands.specs.declared.outcome.Status.TheVariants.{BadStream, FoundNone}
 use Rattle.command_words.specs.declared.request.Asked.{Asked}
 use Rattle.command_words.specs.declared.request.TurnOrder.{TurnOrder}
 use Rattle.command_words.specs.declared.request.TurnOrder.TheVariants.{Fixed, Seed}
@@ -61,6 +61,7 @@ answers-written asked (Usage wrong) script log writes run = cc
 answers-written asked (Unopened why) script log writes run = cc
 answers-written asked (Script line fault) script log writes run = cc
 answers-written asked ReadFault script log writes run = cc
+answers-written asked FoundNone script log writes run = cc
 answers-written asked (Torn at) script log writes run = cc
 answers-written asked (BadStream at) script log writes run = cc
 

@@ -17,7 +17,7 @@ use Rattle.linx_commands.specs.declared.outcome.Status.{Status}
 use Rattle.linx_commands.specs.declared.outcome.Status.TheVariants.{Done, Usage, Script, Unopened}
 use Rattle.linx_commands.specs.declared.outcome.Status.TheVariants.{ReadFault, WriteFault}
 use Rattle.linx_commands.specs.declared.outcome.Status.TheVariants.{JournalFull, NoMemory, Torn}
-use Rattle.linx_commands.specs.declared.outcome.Status.TheVariants.{BadStream}
+use Rattle.linx_commands.specs.declared.outcome.Status.TheVariants.{BadStream, FoundNone}
 
 -- the cause of a status that no script gave
 pub caused_unread : (asked : Asked) (status : Status) (told : Option (List ℕ)) (log : Log)
@@ -30,6 +30,7 @@ caused_unread asked (Unopened why) told log unread empty = absurd unread
 caused_unread asked Done told log unread empty = absurd unread
 caused_unread asked WriteFault told log unread empty = absurd unread
 caused_unread asked JournalFull told log unread empty = absurd unread
+caused_unread asked FoundNone told log unread empty = absurd unread
 caused_unread asked (Torn at) told log unread empty = absurd unread
 caused_unread asked (BadStream at) told log unread empty = absurd unread
 
@@ -60,6 +61,7 @@ completes asked (Script line fault) bytes log cause spelled room read write =
     let whole : read_of bytes ≡ bytes = read_whole bytes (script_of bytes) refl spelled in
     absurd (spelled_not_bad (script_of bytes) line fault spelled
     (subst (λ (read : List ℕ). script_of read ≡ Err (line, fault)) whole cause.0))
+completes asked FoundNone bytes log cause spelled room read write = absurd cause
 completes asked (Torn at) bytes log cause spelled room read write = absurd cause
 completes asked (BadStream at) bytes log cause spelled room read write = absurd cause
 
@@ -95,6 +97,8 @@ completes_outcome asked (Script line fault) script log (inl refused) room write 
 completes_outcome asked (Script line fault) script log (inr answer) room write = answer
 completes_outcome asked ReadFault script log (inl refused) room write = cc
 completes_outcome asked ReadFault script log (inr answer) room write = answer
+completes_outcome asked FoundNone script log (inl refused) room write = cc
+completes_outcome asked FoundNone script log (inr answer) room write = answer
 completes_outcome asked (Torn at) script log (inl refused) room write = cc
 completes_outcome asked (Torn at) script log (inr answer) room write = answer
 completes_outcome asked (BadStream at) script log (inl refused) room write = cc

@@ -11,9 +11,10 @@ use Rattle.stage.specs.Turns.{shape_of}
 use Rattle.run_orders.specs.Laws.{IsEnded, IsFilled, makers_of}
 use Rattle.run_orders.proofs.Orders.{orders_decide}
 use Rattle.linx_commands.specs.Decided.{IsRunOrFront, JournalsAreDecided}
-use Rattle.linx_commands.specs.Runs.{IsRunInOrder, IsStoppedFull, seeded_order}
+use Rattle.linx_commands.specs.Runs.{IsRunInOrder, IsStoppedFull}
 use Rattle.linx_commands.proofs.Shown.{text-makers}
 use Rattle.orders.specs.Laws.{IsFilledInOrder, OrderDecides}
+use Rattle.seed_runs.specs.Runs.{IsSeedRun, seeded_order}
 use Rattle.command_words.specs.declared.request.Asked.TheVariants.{InOrder}
 use Rattle.command_words.specs.declared.request.TurnOrder.{TurnOrder}
 use Rattle.command_words.specs.declared.request.TurnOrder.TheVariants.{Fixed, Seed}
@@ -80,6 +81,15 @@ apart-in law (Seed n) script one two first second =
     law.apart script (seeded_order script n) first.run second.run
     first.is.so_far.so_far first.whole (seed-filled n script two second)
 
+-- the run of a seed that a search looks at has the journal that the seed's own has
+one-searched : OrderDecides → (script : ScriptParts) (seed : ℕ) (one two : Log)
+    → IsRunInOrder (Seed seed) script one → IsSeedRun script seed two → one ≡ two
+one-searched law script seed one two first second =
+    sym first.is.so_far.logged
+    ∙ law.one script first.is.so_far.so_far.declared (seeded_order script seed) first.run second.run
+    first.whole second.whole
+    ∙ second.logged
+
 of_run : (script : ScriptParts) (one two : Log) → IsRunOrFront script one
     → IsRunOrFront script two → makers_of one.steps ≡ makers_of two.steps → one ≡ two
 of_run script one two first second makers =
@@ -136,4 +146,5 @@ journals_are_decided law = record {
   full = λ order script one two first second. sym first.so_far.logged
       ∙ one-full law order script one two first second ∙ second.so_far.logged;
   apart = apart-in law;
+  searched = one-searched law;
 }

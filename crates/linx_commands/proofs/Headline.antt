@@ -31,7 +31,7 @@ use Rattle.linx_commands.specs.declared.outcome.Status.{Status}
 use Rattle.linx_commands.specs.declared.outcome.Status.TheVariants.{Done, Usage, Script, Unopened}
 use Rattle.linx_commands.specs.declared.outcome.Status.TheVariants.{ReadFault, WriteFault}
 use Rattle.linx_commands.specs.declared.outcome.Status.TheVariants.{JournalFull, NoMemory, Torn}
-use Rattle.linx_commands.specs.declared.outcome.Status.TheVariants.{BadStream}
+use Rattle.linx_commands.specs.declared.outcome.Status.TheVariants.{BadStream, FoundNone}
 
 -- ---- of a run so far
 
@@ -130,6 +130,7 @@ headline_caused asked WriteFault told log cause = of_source asked WriteFault tol
 headline_caused asked JournalFull told log cause = of_source asked JournalFull told log cause
 headline_caused asked NoMemory told log (inl empty) = inl empty
 headline_caused asked NoMemory told log (inr of_it) = of_source asked NoMemory told log of_it
+headline_caused asked FoundNone told log cause = absurd cause
 headline_caused asked (Torn at) told log cause = absurd cause
 headline_caused asked (BadStream at) told log cause = absurd cause
 

@@ -4,3 +4,4 @@ mod Scanning
 mod Shown
 mod Decided
 mod Headline
+mod Searching

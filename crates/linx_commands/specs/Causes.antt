@@ -14,7 +14,7 @@ use Rattle.linx_commands.specs.declared.outcome.Status.{Status}
 use Rattle.linx_commands.specs.declared.outcome.Status.TheVariants.{Done, Usage, Script, Unopened}
 use Rattle.linx_commands.specs.declared.outcome.Status.TheVariants.{ReadFault, WriteFault}
 use Rattle.linx_commands.specs.declared.outcome.Status.TheVariants.{JournalFull, NoMemory, Torn}
-use Rattle.linx_commands.specs.declared.outcome.Status.TheVariants.{BadStream}
+use Rattle.linx_commands.specs.declared.outcome.Status.TheVariants.{BadStream, FoundNone}
 
 -- what each status says of a source's bytes that gave no script
 abbrev pub IsUnread : Status → Option (List ℕ) → Type 0
@@ -34,6 +34,7 @@ is_of_writing ReadFault = false
 is_of_writing WriteFault = true
 is_of_writing JournalFull = false
 is_of_writing NoMemory = true
+is_of_writing FoundNone = false
 is_of_writing (Torn at) = false
 is_of_writing (BadStream at) = false
 

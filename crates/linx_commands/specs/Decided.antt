@@ -1,13 +1,15 @@
 -- That nothing but whose step is next is left open in what a script's run writes.
-use Rattle.std.specs.Prelude.{◌≡◌}
+use Rattle.std.specs.Prelude.{ℕ, ◌≡◌}
 use Rattle.journal.specs.Logs.{Log}
 use Rattle.journal_text.specs.Text.{text_of}
 use Rattle.run_orders.specs.Laws.{makers_of}
 use Rattle.script_lang.specs.Parts.{ScriptParts}
 use Rattle.fabric.specs.Run.{Layout}
+use Rattle.seed_runs.specs.Runs.{IsSeedRun}
 use Rattle.linx_commands.specs.Runs.{IsRunAs, IsRunInOrder, IsStoppedFull}
 use Rattle.command_words.specs.declared.request.TurnOrder.{TurnOrder}
 use Rattle.command_words.specs.declared.request.Asked.TheVariants.{InOrder}
+use Rattle.command_words.specs.declared.request.TurnOrder.TheVariants.{Seed}
 
 -- a journal is that of a run of a script, whole or stopped, in whichever order the turns came
 abbrev pub IsRunOrFront : ScriptParts → Log → Type 0
@@ -37,3 +39,7 @@ pub record JournalsAreDecided : Type 0 where
   pub apart :
       (order : TurnOrder) (script : ScriptParts) (one two : Log) → IsRunInOrder order script one
       → IsStoppedFull (InOrder order) script two → ⊥
+  -- and the run that a search looks at under a seed is the one that the seed has
+  pub searched :
+      (script : ScriptParts) (seed : ℕ) (one two : Log) → IsRunInOrder (Seed seed) script one
+      → IsSeedRun script seed two → one ≡ two

@@ -18,7 +18,7 @@ use Rattle.linx_commands.specs.declared.outcome.Status.{Status}
 use Rattle.linx_commands.specs.declared.outcome.Status.TheVariants.{Done, Usage, Script, Unopened}
 use Rattle.linx_commands.specs.declared.outcome.Status.TheVariants.{ReadFault, WriteFault}
 use Rattle.linx_commands.specs.declared.outcome.Status.TheVariants.{JournalFull, NoMemory, Torn}
-use Rattle.linx_commands.specs.declared.outcome.Status.TheVariants.{BadStream}
+use Rattle.linx_commands.specs.declared.outcome.Status.TheVariants.{BadStream, FoundNone}
 use Rattle.linx_commands.specs.declared.phrase.Phrase.{Phrase}
 use Rattle.linx_commands.specs.declared.phrase.Phrase.TheVariants as says
 
@@ -47,6 +47,7 @@ phrase_of says.StepLimit = codes "200000 steps"
 phrase_of says.ByteLimit = codes "67108864 bytes of signals"
 phrase_of says.OutOfMemory = codes "out of memory"
 phrase_of says.AfterStep = codes " after step "
+phrase_of says.FoundInNone = codes "found in none"
 phrase_of says.TornAt = codes "torn at "
 phrase_of says.BadStreamAt = codes "bad stream at "
 
@@ -108,6 +109,7 @@ text_by texts ReadFault log = source_prefix (file_by texts) ++ phrase_of says.Re
 text_by texts WriteFault log = phrase_of says.WriteFault
 text_by texts JournalFull log = full_text log.steps
 text_by texts NoMemory log = phrase_of says.OutOfMemory ++ stop_text log.steps
+text_by texts FoundNone log = phrase_of says.FoundInNone
 text_by texts (Torn at) log = phrase_of says.TornAt ++ decimal at
 text_by texts (BadStream at) log = phrase_of says.BadStreamAt ++ decimal at
 

@@ -8,7 +8,9 @@ use Rattle.command_words.specs.declared.page.Page.{Page}
 use Rattle.command_words.specs.declared.request.Asked.{Asked}
 use Rattle.command_words.specs.declared.request.Asked.TheVariants as asks
 use Rattle.command_words.specs.declared.request.Request.{Request}
-use Rattle.command_words.specs.declared.request.Request.TheVariants.{Show, Play, Echo, Serve}
+use Rattle.command_words.specs.declared.request.Request.TheVariants.{Show, Play, Find, Echo}
+use Rattle.command_words.specs.declared.request.Request.TheVariants.{Serve}
+use Rattle.command_words.specs.declared.search.Search.{Search}
 use Rattle.journal.specs.Logs.{Log}
 use Rattle.linx_outside.specs.declared.files.OpenFault.{OpenFault}
 use Rattle.linx_commands.specs.Causes.{is_of_writing}
@@ -50,6 +52,11 @@ IfShow _ holds = Unit {0}
 abbrev pub IfPlay : Option Request → (Asked → Type 0) → Type 0
 IfPlay (Some (Play asked)) holds = holds asked
 IfPlay _ holds = Unit {0}
+
+-- if a search is asked for, this holds of it
+abbrev pub IfFind : Option Request → (Search → Type 0) → Type 0
+IfFind (Some (Find search)) holds = holds search
+IfFind _ holds = Unit {0}
 
 -- if an echo is asked for, this holds
 abbrev pub IfEcho : Option Request → Type 0 → Type 0
@@ -132,10 +139,11 @@ IsPlayedFrom asked (Some name) told unread reads of_file refuses silent reads_fi
     log
 
 -- WHAT THE PROGRAM TELLS of its words, its files and its streams. The words ask for nothing, and
--- nothing is touched but standard error; or for a page of the help; or for a run; or for an echo;
--- or for a gateway
+-- nothing is touched but standard error; or for a page of the help; or for a run; or for a
+-- search of runs; or for an echo; or for a gateway
 pub record IsServed (texts : List (List ℕ)) (unread silent : Type 0) (writes : List ℕ → Type 0)
-    (plays : Asked → Log → Type 0) (echoes : Log → Type 0) (serves : ℕ → Log → Type 0)
+    (plays : Asked → Log → Type 0) (searches : Search → Log → Type 0) (echoes : Log → Type 0)
+    (serves : ℕ → Log → Type 0)
     (tells : List ℕ → Type 0) (status : Status) : Type 0 where
   -- the journal of the run
   pub log : Log
@@ -147,6 +155,8 @@ pub record IsServed (texts : List (List ℕ)) (unread silent : Type 0) (writes :
   pub shown : IfShow (request_by texts) (λ page. IsShown page unread writes status log)
   -- a run that is asked for
   pub played : IfPlay (request_by texts) (λ asked. plays asked log)
+  -- a search that is asked for
+  pub searched : IfFind (request_by texts) (λ search. searches search log)
   -- an echo that is asked for
   pub echoed : IfEcho (request_by texts) (echoes log)
   -- a gateway that is asked for

@@ -23,15 +23,13 @@ use Rattle.command_words.specs.declared.request.Asked.{Asked}
 use Rattle.command_words.specs.declared.request.TurnOrder.{TurnOrder}
 use Rattle.command_words.specs.declared.request.TurnOrder.TheVariants.{Fixed, Seed}
 use Rattle.command_words.specs.declared.request.Asked.TheVariants.{Run, InOrder, Gen}
-use Rattle.order_rules.specs.Orders.{Order}
-use Rattle.order_rules.specs.Seeds.{rule_of}
 use Rattle.orders.specs.Runs.{IsInOrder, IsStoppedInOrder}
-use Rattle.orders.specs.Seeds.{span_of}
+use Rattle.seed_runs.specs.Runs.{seeded_order}
 use Rattle.linx_commands.specs.declared.outcome.Status.{Status}
 use Rattle.linx_commands.specs.declared.outcome.Status.TheVariants.{Done, Usage, Script, Unopened}
 use Rattle.linx_commands.specs.declared.outcome.Status.TheVariants.{ReadFault, WriteFault}
 use Rattle.linx_commands.specs.declared.outcome.Status.TheVariants.{JournalFull, NoMemory, Torn}
-use Rattle.linx_commands.specs.declared.outcome.Status.TheVariants.{BadStream}
+use Rattle.linx_commands.specs.declared.outcome.Status.TheVariants.{BadStream, FoundNone}
 
 -- a run so far of a script, whose journal has this log
 pub record IsRunAs (script : ScriptParts) (run : Layout) (log : Log) : Type 0 where
@@ -52,10 +50,6 @@ pub record IsWholeAs (script : ScriptParts) (run : Layout) (log : Log) : Type 0 
 -- A JOURNAL IS THAT OF A WHOLE RUN of a script, in whichever order the turns came
 abbrev pub IsRunOf : ScriptParts → Log → Type 0
 IsRunOf script log = (run : Layout) × IsWholeAs script run log
-
--- the order that a number decides for a script: its rule, and no maker before it
-abbrev pub seeded_order : ScriptParts → ℕ → Order
-seeded_order script seed = record { left = []; rule = rule_of (span_of script) seed }
 
 -- a whole run in an order: what the rounds of the fixed one make until all is over, or the turns of
 -- whom the order of a number names
@@ -171,6 +165,7 @@ IsCaused asked ReadFault told log = IsEmptyLog log
 IsCaused asked WriteFault told log = IsOfSource asked WriteFault told log
 IsCaused asked JournalFull told log = IsOfSource asked JournalFull told log
 IsCaused asked NoMemory told log = IsEmptyLog log ⊎ IsOfSource asked NoMemory told log
+IsCaused asked FoundNone told log = ⊥
 IsCaused asked (Torn at) told log = ⊥
 IsCaused asked (BadStream at) told log = ⊥
 

@@ -5,7 +5,7 @@ use Rattle.linx_commands.specs.declared.outcome.Status.{Status}
 use Rattle.linx_commands.specs.declared.outcome.Status.TheVariants.{Done, Usage, Script, Unopened}
 use Rattle.linx_commands.specs.declared.outcome.Status.TheVariants.{ReadFault, WriteFault}
 use Rattle.linx_commands.specs.declared.outcome.Status.TheVariants.{JournalFull, NoMemory, Torn}
-use Rattle.linx_commands.specs.declared.outcome.Status.TheVariants.{BadStream}
+use Rattle.linx_commands.specs.declared.outcome.Status.TheVariants.{BadStream, FoundNone}
 
 -- the exit status of the program
 abbrev pub exit_of : Status → ℕ
@@ -17,6 +17,7 @@ exit_of ReadFault = 3
 exit_of WriteFault = 4
 exit_of JournalFull = 5
 exit_of NoMemory = 6
+exit_of FoundNone = 7
 exit_of (Torn at) = 9
 exit_of (BadStream at) = 11
 
@@ -42,6 +43,7 @@ is_of_whole ReadFault = false
 is_of_whole WriteFault = true
 is_of_whole JournalFull = true
 is_of_whole NoMemory = false
+is_of_whole FoundNone = true
 is_of_whole (Torn at) = false
 is_of_whole (BadStream at) = false
 
@@ -55,6 +57,7 @@ is_script ReadFault = false
 is_script WriteFault = false
 is_script JournalFull = false
 is_script NoMemory = false
+is_script FoundNone = false
 is_script (Torn at) = false
 is_script (BadStream at) = false
 
@@ -68,5 +71,6 @@ is_silent ReadFault = true
 is_silent WriteFault = false
 is_silent JournalFull = true
 is_silent NoMemory = true
+is_silent FoundNone = true
 is_silent (Torn at) = false
 is_silent (BadStream at) = false

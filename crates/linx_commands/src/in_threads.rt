@@ -3,7 +3,7 @@
 ghost use Rattle.std.specs.Prelude.{◌≡◌, IfOk, IfSome, IfNone, map, option_map, string_bytes};
 ghost use Rattle.journal_text.specs.Text.{text_of};
 ghost use Rattle.work_gen.specs.Generated.{generated};
-ghost use Rattle.command_words.specs.Requests.{file_of, request_of};
+ghost use Rattle.command_words.specs.Requests.{file_of, request_of, wanted_of};
 ghost use Rattle.linx_commands.specs.Statuses.{IsUsageOrRefused};
 ghost use Rattle.linx_commands.specs.Streams.{Reads, Writes};
 ghost use Rattle.linx_commands.specs.Runs.{Completes, IsCaused, IsEmptyLog, IsLegalSomehow};
@@ -11,8 +11,10 @@ ghost use Rattle.linx_commands.specs.Runs.{IsOutcomeOf, IsRan};
 ghost use Rattle.linx_commands.specs.Commands.{IsCausedUnder, CompletesUnder, ReadsUnder};
 ghost use Rattle.linx_commands.specs.Commands.{written_under};
 ghost use Rattle.linx_commands.specs.Headline.{HeadlineUnder};
-ghost use Rattle.linx_commands.specs.Programs.{IfEcho, IfPlay, IfServe, IfShow, IsPlayedFrom};
-ghost use Rattle.linx_commands.specs.Programs.{IsPlayedOfFile, IsShown, ReadsFile, asked_in};
+ghost use Rattle.linx_commands.specs.Programs.{IfEcho, IfFind, IfPlay, IfServe, IfShow};
+ghost use Rattle.linx_commands.specs.Programs.{IsPlayedFrom, IsPlayedOfFile, IsShown, ReadsFile};
+ghost use Rattle.linx_commands.specs.Programs.{asked_in};
+ghost use Rattle.linx_commands.specs.Searches.{IsSearchedFrom, ReadsSearched};
 ghost use Rattle.linx_commands.specs.Sessions.{IsGatewayOf, IsSession};
 
 use crate::outcome::{Outcome, Status};
@@ -198,6 +200,18 @@ pub fn run<R: Threads + Wait + Sync, G: Gate + Sync, F: Files, S: Source, K: Sin
         result.status)
         (F.told files.now) (F.refuses files.now) (out.new ≡ out.old)
         (λ name. ReadsFile F.File.left F.File.faults F.File.last_count F.File.is_faultless asked
+        (F.told files.now name) result.status)
+        (λ written. Writes K.held K.faults K.last_count K.can_take out.old out.new
+        result.status written)
+        result.status result.journal.log) }
+
+    // Of a search of runs, of what it reads and of what it writes.
+    ensures searched { IfFind (request_of words.now) (λ search.
+        IsSearchedFrom search (wanted_of search (map string_bytes words.now)) (file_of words.now)
+        (S.left script.old) (script.new ≡ script.old)
+        (Reads S.left S.faults S.last_count S.is_faultless script.old script.new result.status)
+        (F.told files.now) (F.refuses files.now) (out.new ≡ out.old)
+        (λ name. ReadsSearched F.File.left F.File.faults F.File.last_count F.File.is_faultless
         (F.told files.now name) result.status)
         (λ written. Writes K.held K.faults K.last_count K.can_take out.old out.new
         result.status written)

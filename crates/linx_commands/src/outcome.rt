@@ -25,6 +25,8 @@ pub enum Status {
     JournalFull,
     /// Memory was refused.
     NoMemory,
+    /// No run that was searched has what is sought.
+    FoundNone,
     /// The source of an echo or a gateway ended within the frame or the request that begins at this byte.
     Torn { at: u64 },
     /// The bytes of such a source from this one on begin no frame or request, or a frame that breaks

@@ -51,6 +51,8 @@ pub enum Phrase {
     OutOfMemory,
     /// The number of the last step follows.
     AfterStep,
+    /// No run that was searched has what is sought.
+    FoundInNone,
     /// The place of a frame follows within which a stream ended.
     TornAt,
     /// The place follows from which on the bytes of a stream are bad.
@@ -88,6 +90,7 @@ impl Phrase {
             Phrase::ByteLimit => "67108864 bytes of signals",
             Phrase::OutOfMemory => "out of memory",
             Phrase::AfterStep => " after step ",
+            Phrase::FoundInNone => "found in none",
             Phrase::TornAt => "torn at ",
             Phrase::BadStreamAt => "bad stream at ",
         }

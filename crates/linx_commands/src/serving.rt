@@ -1,5 +1,5 @@
-//! What is done without threads: a page of the help, a run in an order, and an echo or a gateway
-//! over the streams. It returns where each read and each write does.
+//! What is done without threads: a page of the help, a run in an order, a search of such runs, and
+//! an echo or a gateway over the streams. It returns where each read and each write does.
 
 ghost use Rattle.std.specs.Prelude.{◌≡◌, true, Ok, IfOk, IfErr, OnOk, IfSome, IfNone, map};
 ghost use Rattle.std.specs.Prelude.{option_map, string_bytes};
@@ -8,7 +8,7 @@ ghost use Rattle.journal_text.specs.Text.{text_of};
 ghost use Rattle.script_lang.specs.Parts.{ScriptParts};
 ghost use Rattle.script_lang.specs.Reading.{script_of};
 ghost use Rattle.command_words.specs.Pages.{page_of};
-ghost use Rattle.command_words.specs.Requests.{file_of, request_of};
+ghost use Rattle.command_words.specs.Requests.{file_of, request_of, wanted_of};
 ghost use Rattle.linx_commands.specs.Statuses.{IsUsageOrRefused};
 ghost use Rattle.linx_commands.specs.Streams.{Reads, Writes, TakesAtMost, read_most};
 ghost use Rattle.linx_commands.specs.Runs.{Completes, IsCaused, IsEmptyLog, IsLegalSomehow};
@@ -17,11 +17,13 @@ ghost use Rattle.linx_commands.specs.Commands.{ReadsUnder, written_under};
 ghost use Rattle.linx_commands.specs.Headline.{HeadlineUnder};
 ghost use Rattle.linx_commands.specs.Causes.{IsUnread, is_of_writing, read_status, script_status};
 ghost use Rattle.linx_commands.specs.Causes.{stop_status, report_status};
-ghost use Rattle.linx_commands.specs.Programs.{IfEcho, IfPlay, IfServe, IfShow, IsLeft};
+ghost use Rattle.linx_commands.specs.Programs.{IfEcho, IfFind, IfPlay, IfServe, IfShow, IsLeft};
 ghost use Rattle.linx_commands.specs.Programs.{IsPlayedFrom, IsPlayedOfFile, IsShown, ReadsFile};
+ghost use Rattle.linx_commands.specs.Searches.{IsSearchedFrom, ReadsSearched};
 ghost use Rattle.linx_commands.specs.Sessions.{IsGatewayOf, IsSession};
 
 use crate::outcome::{Outcome, Status};
+use crate::search::find_from;
 use crate::session::{echo, gateway};
 use command_words::{Asked, Misuse, Page, Request, TurnOrder, file_named};
 use fabric::StopCause;
@@ -36,7 +38,7 @@ use std::alloc::Global;
 use workers::Ran;
 
 /// One byte more than a script may have.
-const READ_MOST: usize = 1_048_577;
+pub(crate) const READ_MOST: usize = 1_048_577;
 
 /// A run that made no step, and why.
 pub(crate) fn unstarted(alloc: Global, status: Status) -> Outcome
@@ -52,7 +54,7 @@ pub(crate) fn unstarted(alloc: Global, status: Status) -> Outcome
     Outcome { status, journal }
 }
 
-fn status_of_read(stop: ReadStop) -> Status
+pub(crate) fn status_of_read(stop: ReadStop) -> Status
     ensures { result ≡ read_status stop }
 {
     match stop {
@@ -70,7 +72,7 @@ fn status_of_script(error: ScriptError) -> Status
     }
 }
 
-fn status_of_stop(cause: StopCause) -> Status
+pub(crate) fn status_of_stop(cause: StopCause) -> Status
     ensures { result ≡ stop_status cause }
 {
     match cause {
@@ -271,8 +273,8 @@ fn in_order_from<F: Files, S: Source, K: Sink>(
     }
 }
 
-/// Writes the text of a page.
-fn write_page<K: Sink>(text: &[u8], out: &mut K) -> Status
+/// Writes a text.
+pub(crate) fn write_text<K: Sink>(text: &[u8], out: &mut K) -> Status
     ensures kinds { is_of_writing result ≡ true }
     ensures sink { Writes K.held K.faults K.last_count K.can_take out.old out.new result text.now }
 {
@@ -291,7 +293,7 @@ fn show<K: Sink>(alloc: Global, page: Page, out: &mut K) -> Outcome
         result.status (page_of page) }
 {
     match page.text(alloc) {
-        Ok(text) => unstarted(alloc, write_page(text.as_slice(), out)),
+        Ok(text) => unstarted(alloc, write_text(text.as_slice(), out)),
         Err(NoMemory) => unstarted(alloc, Status::NoMemory),
     }
 }
@@ -356,6 +358,18 @@ pub fn alone<F: Files, S: Source, K: Sink>(
         outcome.status written)
         outcome.status outcome.journal.log)) }
 
+    // Of a search of runs, of what it reads and of what it writes.
+    ensures searched { IfOk result (λ outcome. IfFind (request_of words.now) (λ search.
+        IsSearchedFrom search (wanted_of search (map string_bytes words.now)) (file_of words.now)
+        (S.left script.old) (script.new ≡ script.old)
+        (Reads S.left S.faults S.last_count S.is_faultless script.old script.new outcome.status)
+        (F.told files.now) (F.refuses files.now) (out.new ≡ out.old)
+        (λ name. ReadsSearched F.File.left F.File.faults F.File.last_count F.File.is_faultless
+        (F.told files.now name) outcome.status)
+        (λ written. Writes K.held K.faults K.last_count K.can_take out.old out.new
+        outcome.status written)
+        outcome.status outcome.journal.log)) }
+
     // Of an echo over the streams.
     ensures echoed { IfOk result (λ outcome. IfEcho (request_of words.now)
         (IsSession S.left S.faults S.last_count S.is_faultless K.held K.faults K.last_count
@@ -370,6 +384,15 @@ pub fn alone<F: Files, S: Source, K: Sink>(
     match Request::of(alloc, words) {
         None => Ok(refuse(alloc, words)),
         Some(Request::Show(page)) => Ok(show(alloc, page, out)),
+        Some(Request::Find(search)) => Ok(find_from(
+            alloc,
+            search,
+            search.wanted(words),
+            file_named(words),
+            files,
+            script,
+            out,
+        )),
         Some(Request::Echo) => Ok(echo(alloc, script, out)),
         Some(Request::Serve(clients)) => Ok(gateway(alloc, clients, script, out)),
         Some(Request::Play(Asked::InOrder(order))) => Ok(in_order_from(

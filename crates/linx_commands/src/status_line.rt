@@ -168,6 +168,7 @@ fn push_text(line: &mut Line, words: &[String], status: Status, journal: &Journa
             line.push(Phrase::OutOfMemory.text());
             push_stop(line, journal);
         }
+        Status::FoundNone => line.push(Phrase::FoundInNone.text()),
         Status::Torn { at } => line.push_numbered(Phrase::TornAt.text(), at),
         Status::BadStream { at } => line.push_numbered(Phrase::BadStreamAt.text(), at),
     }

@@ -1,12 +1,13 @@
 //! The whole program, over what a process is given: its command line, files and streams.
 
 ghost use Rattle.std.specs.Prelude.{◌≡◌};
-ghost use Rattle.command_words.specs.Requests.{file_by};
+ghost use Rattle.command_words.specs.Requests.{file_by, wanted_of};
 ghost use Rattle.linx_commands.specs.Commands.{ReadsUnder};
 ghost use Rattle.linx_commands.specs.Programs.{IsPlayedFrom, IsServed, IsToldUnread, ReadsFile};
 ghost use Rattle.linx_commands.specs.Programs.{texts_of};
 ghost use Rattle.linx_commands.specs.Sessions.{IsGatewayOf, IsSession};
-ghost use Rattle.linx_commands.specs.Streams.{Writes, WritesLine};
+ghost use Rattle.linx_commands.specs.Searches.{IsSearchedFrom, ReadsSearched};
+ghost use Rattle.linx_commands.specs.Streams.{Reads, Writes, WritesLine};
 ghost use Rattle.linx_commands.specs.declared.outcome.Status.TheVariants.{Done};
 
 use crate::in_threads::run;
@@ -37,6 +38,14 @@ pub fn program<R: Threads + Wait + Sync, F: Files, S: Source, K: Sink, L: Sink>(
         (ReadsUnder asked S.left S.faults S.last_count S.is_faultless script.old script.new result)
         (F.told files.now) (F.refuses files.now) (text.new ≡ text.old)
         (λ name. ReadsFile F.File.left F.File.faults F.File.last_count F.File.is_faultless asked
+        (F.told files.now name) result)
+        (λ written. Writes K.held K.faults K.last_count K.can_take text.old text.new result written)
+        result log)
+        (λ search log. IsSearchedFrom search (wanted_of search (texts_of words))
+        (file_by (texts_of words)) (S.left script.old) (script.new ≡ script.old)
+        (Reads S.left S.faults S.last_count S.is_faultless script.old script.new result)
+        (F.told files.now) (F.refuses files.now) (text.new ≡ text.old)
+        (λ name. ReadsSearched F.File.left F.File.faults F.File.last_count F.File.is_faultless
         (F.told files.now name) result)
         (λ written. Writes K.held K.faults K.last_count K.can_take text.old text.new result written)
         result log)
