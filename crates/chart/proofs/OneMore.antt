@@ -6,6 +6,8 @@ use Rattle.journal.specs.declared.effect.Effect.{Effect}
 use Rattle.journal.specs.declared.effect.Step.{Step}
 use Rattle.chart.specs.declared.mark.Mark.{Mark}
 use Rattle.chart.specs.declared.tie.Tie.{Tie}
+use Rattle.chart.specs.Carried.{OverLinks, with_head, with_effect, with_effects, with_step, over_links}
+use Rattle.chart.specs.Marks.{line_at}
 use Rattle.chart.specs.Marks.{head_mark, effect_mark, effect_marks, step_marks, marks_of}
 use Rattle.chart.specs.Ties.{head_ties, effect_tie, effect_ties, ties_of}
 
@@ -108,3 +110,31 @@ later_or_earlier true true x y = refl
 later_or_earlier true false x y = refl
 later_or_earlier false true x y = refl
 later_or_earlier false false x y = refl
+
+-- what effects did over links so far, and the next one
+pub one_effect_more : (S : List Step) (position place : ℕ) (e : Effect) (rest left : List Effect)
+    (before after all : OverLinks) → after ≡ with_effect S (line_at position place) e before
+    → left ≡ e ∷ rest → with_effects S position place left before ≡ all
+    → with_effects S position (place + 1) rest after ≡ all
+one_effect_more S position place e rest left before after all grown split kept =
+    ap (λ (o : OverLinks). with_effects S position (place + 1) rest o) grown
+    ∙ sym (ap (λ (l : List Effect). with_effects S position place l before) split) ∙ kept
+
+-- what a step did over links: its head, and then its effects
+pub over_step : (s : Step) (P : List Step) (position : ℕ) (es : List Effect)
+    (old between after : OverLinks) → position ≡ length P + 1
+    → between ≡ with_head (line_at position 0) s.by s.head old → es ≡ s.effects
+    → after ≡ with_effects (s ∷ P) position 1 es between → after ≡ with_step s P old
+over_step s P position es old between after at head effects now =
+    let same : position ≡ suc (length P) = omega arith in
+    now ∙ ap (λ (o : OverLinks). with_effects (s ∷ P) position 1 es o) head
+    ∙ ap (λ (l : List Effect). with_effects (s ∷ P) position 1 l
+    (with_head (line_at position 0) s.by s.head old)) effects
+    ∙ ap (λ (k : ℕ). with_effects (s ∷ P) k 1 s.effects (with_head (line_at k 0) s.by s.head old))
+    same
+
+-- what one step more did over links
+pub over_step_more : (P Q : List Step) (s : Step) (before after : OverLinks) → Q ≡ s ∷ P
+    → before ≡ over_links P → after ≡ with_step s P before → after ≡ over_links Q
+over_step_more P Q s before after grown so_far now =
+    now ∙ ap (λ (o : OverLinks). with_step s P o) so_far ∙ sym (ap over_links grown)

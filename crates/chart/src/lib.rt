@@ -3,6 +3,7 @@
 //! together. How they are drawn stands above: here nothing has a size or a colour.
 #![tactic(auto)]
 
+mod carried;
 mod column;
 mod mark;
 mod marks;
