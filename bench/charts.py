@@ -1,7 +1,7 @@
 #!/usr/bin/env python3
-"""Draws the chart of a printed text by the rules of docs/change/chart_rules, to judge ours by.
+"""Draws the chart of a printed text by itself, as SVG: what `journal_charts` is judged by.
 
-    charts.py < TEXT > CHART.svg
+    bench/try charts < TEXT > CHART.svg
 """
 import re
 import sys

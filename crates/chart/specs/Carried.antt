@@ -18,8 +18,8 @@ use Rattle.journal.specs.declared.head.SentTo.TheVariants.{Queued, Link, Dead}
 use Rattle.journal.specs.declared.effect.Effect.{Effect}
 use Rattle.journal.specs.declared.effect.Effect.TheVariants.{Arrived, Up}
 use Rattle.journal.specs.declared.effect.Step.{Step}
-use Rattle.chart.specs.declared.carried.Flight.{Flight}
-use Rattle.chart.specs.declared.carried.Pairing.{Pairing}
+use Rattle.chart.specs.declared.flight.Flight.{Flight}
+use Rattle.chart.specs.declared.flight.Pairing.{Pairing}
 use Rattle.chart.specs.declared.tie.Tie.{Tie}
 use Rattle.chart.specs.declared.tie.TieKind.TheVariants.{Carried, Lost}
 use Rattle.chart.specs.Columns.{opener}

@@ -6,32 +6,13 @@ ghost use Rattle.chart.specs.Opened.{Opens};
 ghost use Rattle.chart.specs.Carried.{same_maker, is_pairing, is_flight, pairing_in, flight_in};
 ghost use Rattle.chart.specs.Carried.{place_in};
 
+use crate::flight::{Flight, Pairing};
 use crate::openers::Openers;
 use crate::tie::{Tie, TieKind};
 use journal::{By, Effect, Head, SentTo, Step};
 use linx_base::{Inc, ItemAt, LinkNo, NoMemory, NodeNo, Peer, Session};
 use std::alloc::Global;
 use std::marker::Model;
-
-/// A session of a node on a link, and the session of the other side that came up with it.
-#[derive(Clone, Copy, Debug, PartialEq, Eq)]
-pub struct Pairing {
-    pub node: NodeNo,
-    pub link: LinkNo,
-    pub own: Session,
-    pub other: Session,
-}
-
-/// A signal on its way over a link: who sent it, in which session of the sender's side, to whom,
-/// and the line of its send.
-#[derive(Clone, Copy, Debug, PartialEq, Eq)]
-pub struct Flight {
-    pub by: By,
-    pub link: LinkNo,
-    pub session: Session,
-    pub to: Inc,
-    pub line: ItemAt,
-}
 
 fn same_maker(one: By, other: By) -> bool
     ensures { result ≡ same_maker one other }

@@ -5,6 +5,7 @@
 
 mod carried;
 mod column;
+mod flight;
 mod mark;
 mod marks;
 mod openers;

@@ -5,4 +5,4 @@ use Rattle.chart.proofs.carried.Carried.add_ties.Given as goal
 -- the signals so far have their ties
 abbrev pub invariant-loop-flight : goal.invariant-loop-flight
 invariant-loop-flight l = l.ties.items
-    ≡ l.initial.ties.items ++ l.self.ties ++ lost_ties (take l.flight-index l.self.flights)
+    ≡ l.initial.ties.items ++ l.self.ties ++ lost_ties (take l.flight-index l.flight-items)
