@@ -1,8 +1,6 @@
 //! Signals over links, from their sends to their arrivals, while a journal is read in order.
-ghost use Rattle.std.specs.Prelude.{◌≡◌, ◌<◌, length, slice_get, IfSome, List};
+ghost use Rattle.std.specs.Prelude.{◌≡◌, ◌<◌, length, slice_get, IfSome};
 ghost use Rattle.std.specs.Option.{option_copied};
-ghost use Rattle.journal.specs.declared.effect.Step.{Step as StepOf};
-ghost use Rattle.chart.specs.Opened.{Opens};
 ghost use Rattle.chart.specs.Carried.{same_maker, is_pairing, is_flight, pairing_in, flight_in};
 ghost use Rattle.chart.specs.Carried.{place_in};
 
@@ -96,8 +94,8 @@ impl Model for Carried {
 }
 
 impl Carried {
-    ghost use Rattle.std.specs.Prelude.{◌≡◌, ◌<◌, ◌+◌, ◌++◌, [], ◌∷◌, length, List, OnOk, IfSome};
-    ghost use Rattle.std.specs.Prelude.{remove, slice_get, map, IfOk};
+    ghost use Rattle.std.specs.Prelude.{◌≡◌, ◌<◌, ◌+◌, ◌++◌, ◌∷◌, length, List, OnOk, IfSome};
+    ghost use Rattle.std.specs.Prelude.{slice_get};
     ghost use Rattle.journal.specs.declared.effect.Step.{Step as StepOf};
     ghost use Rattle.chart.specs.Opened.{Opens};
     ghost use Rattle.chart.specs.Carried.{nothing_sent, with_send, with_head, landed, landed_at, arrived, with_effect};
