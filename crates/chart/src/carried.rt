@@ -1,8 +1,8 @@
 //! Signals over links, from their sends to their arrivals, while a journal is read in order.
-ghost use Rattle.std.specs.Prelude.{◌≡◌, ◌<◌, length, slice_get, IfSome};
+ghost use Rattle.std.specs.Prelude.{◌≡◌, ◌<◌, length, slice_get, IfSome, OnOk, ◌++◌};
 ghost use Rattle.std.specs.Option.{option_copied};
 ghost use Rattle.chart.specs.Carried.{same_maker, is_pairing, is_flight, pairing_in, flight_in};
-ghost use Rattle.chart.specs.Carried.{place_in};
+ghost use Rattle.chart.specs.Carried.{place_in, lost_ties};
 
 use crate::flight::{Flight, Pairing};
 use crate::openers::Openers;
@@ -71,6 +71,20 @@ fn flight_at(flights: &[Flight], place: usize) -> Option<&Flight>
     ensures { option_copied result ≡ slice_get flights.now place }
 {
     flights.get(place)
+}
+
+/// Adds the ties of signals that never arrived.
+fn put_lost(ties: &mut Vec<Tie>, flights: &[Flight]) -> Result<(), NoMemory>
+    ensures { OnOk result (ties.new.items ≡ ties.old.items ++ lost_ties flights.now) }
+{
+    for flight in flights {
+        ties.push(Tie {
+            kind: TieKind::Lost,
+            from: flight.line,
+            to: flight.line,
+        })?;
+    }
+    Ok(())
 }
 
 /// The pairings so far, the signals that are on their way, and the ties of those that arrived.
@@ -254,13 +268,6 @@ impl Carried {
             ≡ ties.old.items ++ self.now.ties ++ lost_ties self.now.flights) }
     {
         ties.extend_from_slice(&self.ties)?;
-        for flight in self.flights.as_slice() {
-            ties.push(Tie {
-                kind: TieKind::Lost,
-                from: flight.line,
-                to: flight.line,
-            })?;
-        }
-        Ok(())
+        put_lost(ties, &self.flights)
     }
 }
