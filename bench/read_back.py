@@ -103,6 +103,7 @@ fn answer(alloc: Global, line: &str) -> anyhow::Result<String> {
             Ok(format!(in alloc; "{again}")?)
         }
         Err(Unread::Bad { line }) => Ok(format!(in alloc; "{line}")?),
+        Err(Unread::Full { .. }) => anyhow::bail!("full"),
         Err(Unread::NoMemory) => anyhow::bail!("memory"),
     }
 }

@@ -1,5 +1,6 @@
 pub mod StepLaws
 pub mod TextLaws
+pub mod CallLaws
 mod LogLaws
 mod PrintedLaws
 mod AgreeLaws
