@@ -6,7 +6,7 @@ use std::alloc::Global;
 use std::test::Fail;
 
 /// A line of an effect that stands third in its text, behind a step: each is bad.
-const BAD_EFFECTS: [&str; 30] = [
+const BAD_EFFECTS: &[&str] = &[
     "+",
     "+ ",
     "+opened 1.1",
@@ -40,7 +40,7 @@ const BAD_EFFECTS: [&str; 30] = [
 ];
 
 /// What stands before and behind a line that is bad for it.
-const AROUND: [(&str, &str); 8] = [
+const AROUND: &[(&str, &str)] = &[
     ("", " -"),
     ("", " "),
     ("", "\r"),
@@ -65,7 +65,7 @@ fn with_line(alloc: Global, place: usize, line: &[u8]) -> Result<Vec<u8>, Fail> 
 #[test]
 fn no_bad_effect_is_read(rt: HostRuntime) -> Result<(), Fail> {
     let alloc = rt.alloc();
-    for line in &BAD_EFFECTS {
+    for line in BAD_EFFECTS {
         let text = format!(in alloc; "journal 1\n1 A1 ended\n{line}\n")?;
         assert_eq!(rt; bad_line(alloc, text.as_bytes())?, 3, "at {line}");
     }
@@ -79,7 +79,7 @@ fn no_line_is_read_with_more_around_it(rt: HostRuntime) -> Result<(), Fail> {
         if place == 0 || line.is_empty() {
             continue;
         }
-        for (front, back) in &AROUND {
+        for (front, back) in AROUND {
             let spoiled = format!(in alloc; "{front}{line}{back}")?;
             let text = with_line(alloc, place, spoiled.as_bytes())?;
             let wanted = (place as u64).saturating_add(1);

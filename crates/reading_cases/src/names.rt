@@ -6,7 +6,7 @@ use std::test::Fail;
 use text_names::names_of;
 
 /// A text, and its nodes and links, each in the order of their numbers.
-const TEXTS: [(&str, &str, &str); 10] = [
+const TEXTS: &[(&str, &str, &str)] = &[
     ("", "", ""),
     (
         "log 1.1 a n\nlog 2.1 b o\njournal 1\n1 A1 ended\n",
@@ -56,7 +56,7 @@ fn joined(alloc: Global, names: &NameList) -> Result<Vec<u8>, Fail> {
 #[test]
 fn names_stand_at_the_numbers_that_lines_tell(rt: HostRuntime) -> Result<(), Fail> {
     let alloc = rt.alloc();
-    for (text, nodes, links) in &TEXTS {
+    for (text, nodes, links) in TEXTS {
         let names = names_of(alloc, text.as_bytes())?;
         let found = joined(alloc, &names.nodes)?;
         assert_eq!(rt; found.as_slice(), nodes.as_bytes(), "nodes of {text}");

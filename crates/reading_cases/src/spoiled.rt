@@ -6,7 +6,7 @@ use std::alloc::Global;
 use std::test::Fail;
 
 /// A line of a step that stands second in its text, behind the number of steps: each is bad.
-const BAD_LINES: [&str; 56] = [
+const BAD_LINES: &[&str] = &[
     "",
     "1",
     "1 A1",
@@ -69,7 +69,7 @@ const BAD_LINES: [&str; 56] = [
 ];
 
 /// A text, and its first bad line.
-const TEXTS: [(&str, u64); 15] = [
+const TEXTS: &[(&str, u64)] = &[
     ("\n", 2),
     ("log", 1),
     ("log\n", 2),
@@ -100,7 +100,7 @@ pub fn bad_line(alloc: Global, text: &[u8]) -> Result<u64, Fail> {
 #[test]
 fn no_bad_line_is_read(rt: HostRuntime) -> Result<(), Fail> {
     let alloc = rt.alloc();
-    for line in &BAD_LINES {
+    for line in BAD_LINES {
         let text = format!(in alloc; "journal 1\n{line}\n1 A1 ended\n")?;
         assert_eq!(rt; bad_line(alloc, text.as_bytes())?, 2, "at {line}");
     }
@@ -110,7 +110,7 @@ fn no_bad_line_is_read(rt: HostRuntime) -> Result<(), Fail> {
 #[test]
 fn texts_that_end_too_early_or_go_on(rt: HostRuntime) -> Result<(), Fail> {
     let alloc = rt.alloc();
-    for (text, line) in &TEXTS {
+    for (text, line) in TEXTS {
         assert_eq!(rt; bad_line(alloc, text.as_bytes())?, *line, "at {text}");
     }
     Ok(())
