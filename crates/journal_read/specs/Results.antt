@@ -1,5 +1,5 @@
 -- What a reading gives, unless memory ran out.
-use Rattle.std.specs.Prelude.{◌≡◌, ℕ, ⊥, List, Option, Some, None, Result, Ok, Err}
+use Rattle.std.specs.Prelude.{◌≡◌, ℕ, List, Option, Some, None, Result, Ok, Err}
 use Rattle.journal.specs.declared.effect.Step.{Step}
 use Rattle.journal_read.specs.declared.unread.Unread.{Unread}
 use Rattle.journal_read.specs.declared.unread.Unread.TheVariants.{Bad, Full, NoMemory}

@@ -35,13 +35,13 @@ impl Model for Reading {
 }
 
 impl Reading {
-    ghost use Rattle.std.specs.Prelude.{◌≡◌, IfOk, Some};
+    ghost use Rattle.std.specs.Prelude.{◌≡◌, IfOk, Some, None};
     ghost use Rattle.text_words.specs.Gives.{Gives};
     ghost use Rattle.text_words.specs.Words.{after};
     ghost use Rattle.journal_read.specs.Bounds.{is_over_full};
     ghost use Rattle.journal_read.specs.Reading.{unread, heading, take_front, take_bytes};
     ghost use Rattle.journal_read.specs.Reading.{take_line, is_whole, ended};
-    ghost use Rattle.journal_read.specs.Results.{Reads};
+    ghost use Rattle.journal_read.specs.Results.{Reads, IsWithin};
 
     fn new(alloc: Global, names: Names) -> Reading
         ensures { result ≡ unread names }
@@ -124,6 +124,7 @@ impl Reading {
     #[tactic(auto, unfolding(crate::specs::Reading::ended))]
     fn end(self, line: u64) -> Result<Journal, Unread>
         ensures steps { Reads (λ journal. journal.log.steps) result (ended self line) }
+        ensures full { IsWithin result None }
         ensures names { IfOk result (λ journal. journal.log.names ≡ self.names) }
     {
         if !self.is_whole(line) {

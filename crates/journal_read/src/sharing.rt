@@ -43,15 +43,15 @@ impl Shared {
     }
 
     /// The data, in the buffer of equal ones that were kept.
-    fn data(&mut self, data: &Blob) -> Result<Blob, NoMemory>
-        ensures { IfOk result (λ shared. shared ≡ data.now) }
+    fn bytes(&mut self, bytes: &Blob) -> Result<Blob, NoMemory>
+        ensures { IfOk result (λ shared. shared ≡ bytes.now) }
     {
-        let glance = Glance::at(data.bytes());
+        let glance = Glance::at(bytes.bytes());
         match self.kept.get(&glance) {
-            Some(kept) if kept.same(data) => kept.copy(),
+            Some(kept) if kept.same(bytes) => kept.copy(),
             _ => {
-                self.kept.insert(glance, data.copy()?)?;
-                data.copy()
+                self.kept.insert(glance, bytes.copy()?)?;
+                bytes.copy()
             }
         }
     }
@@ -63,8 +63,8 @@ impl Shared {
         if note.data().len() <= SPELLED_MOST {
             return Ok(note);
         }
-        let data = self.data(note.data())?;
-        Signal::of(note.number(), data).note()
+        let bytes = self.bytes(note.data())?;
+        Signal::of(note.number(), bytes).note()
     }
 
     fn head(&mut self, head: Head) -> Result<Head, NoMemory>

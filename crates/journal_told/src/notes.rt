@@ -25,25 +25,25 @@ fn digest_of(bytes: &[u8]) -> [u8; 32]
 }
 
 /// What stands for these data, of which there are more than 32.
-fn stand_in_for(alloc: Global, data: &[u8]) -> Result<Blob, NoMemory>
-    requires { 32 < length data.now }
-    ensures { IfOk result (λ made. made ≡ stand_in (sha256 data.now) (length data.now)) }
+fn stand_in_for(alloc: Global, whole: &[u8]) -> Result<Blob, NoMemory>
+    requires { 32 < length whole.now }
+    ensures { IfOk result (λ made. made ≡ stand_in (sha256 whole.now) (length whole.now)) }
 {
-    let digest = digest_of(data);
-    let mut filled = Vec::with_capacity(alloc, data.len())?;
+    let digest = digest_of(whole);
+    let mut filled = Vec::with_capacity(alloc, whole.len())?;
     filled.extend_from_slice(&digest)?;
-    filled.resize(data.len(), FILLER)?;
+    filled.resize(whole.len(), FILLER)?;
     Blob::shared(filled)
 }
 
 /// Whether these bytes are what is read of the data.
-fn is_shown(alloc: Global, bytes: &Blob, data: &Blob) -> Result<bool, NoMemory>
-    ensures { IfOk result (λ is. is ≡ bytes_eq bytes.now (shown_of data.now)) }
+fn is_shown(alloc: Global, bytes: &Blob, whole: &Blob) -> Result<bool, NoMemory>
+    ensures { IfOk result (λ is. is ≡ bytes_eq bytes.now (shown_of whole.now)) }
 {
-    if data.len() <= SHOWN_MOST {
-        return Ok(bytes.same(data));
+    if whole.len() <= SHOWN_MOST {
+        return Ok(bytes.same(whole));
     }
-    let shown = stand_in_for(alloc, data.bytes())?;
+    let shown = stand_in_for(alloc, whole.bytes())?;
     Ok(bytes.same(&shown))
 }
 
