@@ -1,9 +1,6 @@
 //! How a session ends where the bytes end within a request or begin none, or where a read or a write
 //! fails.
-ghost use Rattle.std.specs.Prelude.{◌<◌, ◌≤◌};
-
-use crate::talking::{joined, talk};
-use gateway_session::Session;
+use crate::talking::{joined, serve, talk};
 use linx_outside::{MemSink, MemSource};
 use request_stream::ServeStop;
 use std::alloc::Global;
@@ -17,7 +14,7 @@ const CLOSE: &str = "0000000402010000";
 
 /// The words of what is asked behind OPEN, which is replied to, and how the session of one client
 /// ends.
-const CASES: [(&str, ServeStop); 9] = [
+const CASES: &[(&str, ServeStop)] = &[
     ("000000", ServeStop::Torn { at: 9 }),
     ("000000040201", ServeStop::Torn { at: 9 }),
     ("00000003", ServeStop::BadStream { at: 9 }),
@@ -29,19 +26,29 @@ const CASES: [(&str, ServeStop); 9] = [
     ("000000060101000020", ServeStop::BadStream { at: 9 }),
 ];
 
+/// Whether OPEN alone is replied to, in pieces of each size, and the session ends so.
+fn ends_behind_open(alloc: Global, asked: &str, stop: ServeStop) -> Result<bool, Fail> {
+    let opened = joined(alloc, &[OPENED])?;
+    for most in [1, 3, 16, 4096] {
+        let talk = talk(alloc, 1, joined(alloc, &[OPEN, asked])?, most)?;
+        if talk.ended != Err(stop) || talk.said.as_slice() != opened.as_slice() {
+            return Ok(false);
+        }
+    }
+    Ok(true)
+}
+
+#[test]
+fn a_stream_ends_within_a_request_or_where_none_begins(rt: HostRuntime) -> Result<(), Fail> {
+    for case in CASES {
+        assert!(rt; ends_behind_open(rt.alloc(), case.0, case.1)?, "{}", case.0);
+    }
+    Ok(())
+}
+
 #[test]
 fn what_is_behind_a_bad_request_is_not_read(rt: HostRuntime) -> Result<(), Fail> {
     let alloc = rt.alloc();
-    for (asked, stop) in CASES {
-        for most in [1, 3, 16, 4096] {
-            let talk = talk(alloc, 1, joined(alloc, &[OPEN, asked])?, most)?;
-            assert!(rt; talk.ended == Err(stop), "{asked:?} by {most}");
-            assert!(rt;
-                talk.said.as_slice() == joined(alloc, &[OPENED])?.as_slice(),
-                "{asked:?}"
-            );
-        }
-    }
     let talk = talk(alloc, 1, joined(alloc, &[OPEN, "00000003", CLOSE])?, 4096)?;
     assert!(rt; talk.ended == Err(ServeStop::BadStream { at: 9 }));
     assert!(rt; talk.said.as_slice() == joined(alloc, &[OPENED])?.as_slice());
@@ -61,8 +68,8 @@ fn a_read_that_fails_leaves_no_request_without_its_reply(rt: HostRuntime) -> Res
     let asked = joined(alloc, &[OPEN, CLOSE])?;
     let mut source = MemSource::new(asked, 10, calls(alloc, 2)?);
     let mut sink = MemSink::new(alloc, 4096, 4096, Vec::new(alloc))?;
-    let mut session = Session::new(alloc, 1)?;
-    assert!(rt; session.serve(&mut source, &mut sink) == Err(ServeStop::ReadFault));
+    let ended = serve(alloc, 1, &mut source, &mut sink)?;
+    assert!(rt; ended == Err(ServeStop::ReadFault));
     assert!(rt; sink.held() == joined(alloc, &[OPENED])?.as_slice());
     Ok(())
 }
@@ -73,8 +80,8 @@ fn a_write_that_fails_leaves_a_front_of_the_replies(rt: HostRuntime) -> Result<(
     let asked = joined(alloc, &[OPEN, CLOSE])?;
     let mut source = MemSource::new(asked, 4096, Vec::new(alloc));
     let mut sink = MemSink::new(alloc, 4096, 20, Vec::new(alloc))?;
-    let mut session = Session::new(alloc, 1)?;
-    assert!(rt; session.serve(&mut source, &mut sink) == Err(ServeStop::WriteFault));
+    let ended = serve(alloc, 1, &mut source, &mut sink)?;
+    assert!(rt; ended == Err(ServeStop::WriteFault));
     assert!(rt; sink.held() == joined(alloc, &[OPENED, "00000004"])?.as_slice());
     Ok(())
 }

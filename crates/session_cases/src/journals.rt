@@ -1,7 +1,7 @@
 //! The text of the journal that a session leaves.
 
-use crate::talking::{joined, talk};
-use journal_text::text;
+use crate::talking::{joined, serve_for_text};
+use linx_outside::{MemSink, MemSource};
 use request_stream::ServeStop;
 use std::test::Fail;
 
@@ -30,9 +30,10 @@ const TEXT: &str = "log 1.1 a g\n\
 #[test]
 fn a_torn_session_has_the_steps_of_its_requests(rt: HostRuntime) -> Result<(), Fail> {
     let alloc = rt.alloc();
-    let talk = talk(alloc, 1, joined(alloc, &ASKED)?, 1)?;
-    assert!(rt; talk.ended == Err(ServeStop::Torn { at: 69 }));
-    let journal = talk.session.into_journal();
-    assert!(rt; text(alloc, &journal)?.as_slice() == TEXT.as_bytes());
+    let mut source = MemSource::new(joined(alloc, &ASKED)?, 1, Vec::new(alloc));
+    let mut sink = MemSink::new(alloc, 4096, 4096, Vec::new(alloc))?;
+    let (ended, text) = serve_for_text(alloc, &mut source, &mut sink)?;
+    assert!(rt; ended == Err(ServeStop::Torn { at: 69 }));
+    assert!(rt; text.as_slice() == TEXT.as_bytes());
     Ok(())
 }

@@ -73,8 +73,11 @@ const BAD_MOMENT: &str = "000000048b000008";
 
 const NOT_YET: &str = "0000000484010004";
 
+/// What is asked, and what is replied.
+type Case = (&'static [&'static str], &'static [&'static str]);
+
 /// What one client asks, and what it is replied.
-const TIMED: [(&[&str], &[&str]); 4] = [
+const TIMED: &[Case] = &[
     (&[], &[]),
     (
         &[OPEN, TIMER, CLOCK, RECEIVE],
@@ -91,7 +94,7 @@ const TIMED: [(&[&str], &[&str]); 4] = [
 ];
 
 /// Calls without an endpoint.
-const CLOSED_OUT: [(&[&str], &[&str]); 10] = [
+const CLOSED_OUT: &[Case] = &[
     (&[CLOSE], &[NEVER]),
     (
         &[OPEN, CLOSE, CLOSE],
@@ -114,7 +117,7 @@ const CLOSED_OUT: [(&[&str], &[&str]); 10] = [
 ];
 
 /// What is there already, dead or none, and filters.
-const REFUSED: [(&[&str], &[&str]); 6] = [
+const REFUSED: &[Case] = &[
     (&[OPEN, OPEN], &[OPENED, "0000000c810100020000000100000001"]),
     (
         &[OPEN, "000000100301000000000001000000020000012c"],
@@ -135,7 +138,7 @@ const REFUSED: [(&[&str], &[&str]); 6] = [
 ];
 
 /// Timers that are cancelled, moved, two at once, and dropped at a close.
-const CHANGED: [(&[&str], &[&str]); 4] = [
+const CHANGED: &[Case] = &[
     (
         &[OPEN, TIMER, CANCEL, CANCEL, CLOCK],
         &[
@@ -189,13 +192,13 @@ const CHANGED: [(&[&str], &[&str]); 4] = [
 ];
 
 /// The clock goes on to its last moment.
-const MOMENTS: [(&[&str], &[&str]); 2] = [
+const MOMENTS: &[Case] = &[
     (&[TOO_LATE, LAST], &[BAD_MOMENT, IDLE]),
     (&[LAST, CLOCK], &[IDLE, BAD_MOMENT]),
 ];
 
 /// What two clients ask, and what they are replied.
-const TOGETHER: [(&[&str], &[&str]); 5] = [
+const TOGETHER: &[Case] = &[
     (
         &[OPEN, OPEN_B, RECEIVE, RECEIVE],
         &[OPENED, OPENED_B, NOT_YET, NOT_YET],
@@ -246,59 +249,60 @@ const TOGETHER: [(&[&str], &[&str]); 5] = [
 fn is_replied(alloc: Global, clients: u8, asked: &[&str], said: &[&str]) -> Result<bool, Fail>
     requires { (0 < clients) × (clients ≤ 16) }
 {
+    let wanted = joined(alloc, said)?;
     for most in [1, 3, 16, 4096] {
         let talk = talk(alloc, clients, joined(alloc, asked)?, most)?;
-        if talk.ended != Ok(()) || talk.said.as_slice() != joined(alloc, said)?.as_slice() {
+        if talk.ended != Ok(()) || talk.said.as_slice() != wanted.as_slice() {
             return Ok(false);
         }
     }
     Ok(true)
 }
 
+/// The place of the first case that isn't replied so.
+fn first_wrong(alloc: Global, clients: u8, cases: &[Case]) -> Result<Option<usize>, Fail>
+    requires { (0 < clients) × (clients ≤ 16) }
+{
+    for (place, case) in cases.iter().enumerate() {
+        if !is_replied(alloc, clients, case.0, case.1)? {
+            return Ok(Some(place));
+        }
+    }
+    Ok(None)
+}
+
 #[test]
 fn a_timer_sends_to_its_client(rt: HostRuntime) -> Result<(), Fail> {
-    for (asked, said) in TIMED {
-        assert!(rt; is_replied(rt.alloc(), 1, asked, said)?, "{asked:?}");
-    }
+    assert_eq!(rt; first_wrong(rt.alloc(), 1, TIMED)?, None);
     Ok(())
 }
 
 #[test]
 fn a_call_without_an_endpoint_names_the_step_that_closed_it(rt: HostRuntime) -> Result<(), Fail> {
-    for (asked, said) in CLOSED_OUT {
-        assert!(rt; is_replied(rt.alloc(), 1, asked, said)?, "{asked:?}");
-    }
+    assert_eq!(rt; first_wrong(rt.alloc(), 1, CLOSED_OUT)?, None);
     Ok(())
 }
 
 #[test]
 fn what_is_there_already_dead_or_none_is_said_so(rt: HostRuntime) -> Result<(), Fail> {
-    for (asked, said) in REFUSED {
-        assert!(rt; is_replied(rt.alloc(), 1, asked, said)?, "{asked:?}");
-    }
+    assert_eq!(rt; first_wrong(rt.alloc(), 1, REFUSED)?, None);
     Ok(())
 }
 
 #[test]
 fn timers_are_cancelled_moved_and_dropped(rt: HostRuntime) -> Result<(), Fail> {
-    for (asked, said) in CHANGED {
-        assert!(rt; is_replied(rt.alloc(), 1, asked, said)?, "{asked:?}");
-    }
+    assert_eq!(rt; first_wrong(rt.alloc(), 1, CHANGED)?, None);
     Ok(())
 }
 
 #[test]
 fn the_clock_goes_on_to_its_last_moment(rt: HostRuntime) -> Result<(), Fail> {
-    for (asked, said) in MOMENTS {
-        assert!(rt; is_replied(rt.alloc(), 1, asked, said)?, "{asked:?}");
-    }
+    assert_eq!(rt; first_wrong(rt.alloc(), 1, MOMENTS)?, None);
     Ok(())
 }
 
 #[test]
 fn clients_hunt_attach_send_and_wait(rt: HostRuntime) -> Result<(), Fail> {
-    for (asked, said) in TOGETHER {
-        assert!(rt; is_replied(rt.alloc(), 2, asked, said)?, "{asked:?}");
-    }
+    assert_eq!(rt; first_wrong(rt.alloc(), 2, TOGETHER)?, None);
     Ok(())
 }

@@ -1,10 +1,13 @@
-//! Sessions over bytes in memory.
+//! Sessions over bytes in memory. A session is made, and left alone in the end, in two functions: no
+//! case has one in hand.
 ghost use Rattle.std.specs.Prelude.{◌<◌, ◌≤◌};
 
 use gateway_session::Session;
+use journal_text::text;
 use linx_outside::{MemSink, MemSource};
 use request_stream::ServeStop;
 use std::alloc::Global;
+use std::mem;
 use std::test::Fail;
 
 /// How a session ended, and all that it replied.
@@ -12,7 +15,6 @@ use std::test::Fail;
 pub struct Talked {
     pub ended: Result<(), ServeStop>,
     pub said: Vec<u8>,
-    pub session: Session,
 }
 
 /// The bytes of some words.
@@ -26,6 +28,35 @@ pub fn joined(alloc: Global, words: &[&str]) -> Result<Vec<u8>, Fail> {
     Ok(bytes)
 }
 
+/// How a session of so many clients over these streams ends.
+pub fn serve(
+    alloc: Global,
+    clients: u8,
+    source: &mut MemSource,
+    sink: &mut MemSink,
+) -> Result<Result<(), ServeStop>, Fail>
+    requires { (0 < clients) × (clients ≤ 16) }
+{
+    let mut session = Session::new(alloc, clients)?;
+    let ended = session.serve(source, sink);
+    mem::forget(session);
+    Ok(ended)
+}
+
+/// How a session of one client over these streams ends, and the text of the journal that it leaves.
+pub fn serve_for_text(
+    alloc: Global,
+    source: &mut MemSource,
+    sink: &mut MemSink,
+) -> Result<(Result<(), ServeStop>, Vec<u8>), Fail> {
+    let mut session = Session::new(alloc, 1)?;
+    let ended = session.serve(source, sink);
+    let journal = session.into_journal();
+    let text = text(alloc, &journal);
+    mem::forget(journal);
+    Ok((ended, text?))
+}
+
 /// A session of so many clients over these bytes, in pieces of so many at most.
 pub fn talk(alloc: Global, clients: u8, asked: Vec<u8>, most: usize) -> Result<Talked, Fail>
     requires clients { (0 < clients) × (clients ≤ 16) }
@@ -33,11 +64,9 @@ pub fn talk(alloc: Global, clients: u8, asked: Vec<u8>, most: usize) -> Result<T
 {
     let mut source = MemSource::new(asked, most, Vec::new(alloc));
     let mut sink = MemSink::new(alloc, most, 65536, Vec::new(alloc))?;
-    let mut session = Session::new(alloc, clients)?;
-    let ended = session.serve(&mut source, &mut sink);
+    let ended = serve(alloc, clients, &mut source, &mut sink)?;
     Ok(Talked {
         ended,
         said: Vec::from_slice(alloc, sink.held())?,
-        session,
     })
 }
