@@ -11,6 +11,7 @@ use Rattle.stream_echo.specs.Sessions.{IsEchoed}
 use Rattle.gateway_core.specs.Handling.{GateState, first_state}
 use Rattle.gateway_session.specs.Replying.{Asks, Refuses as RefusesNone, Replies}
 use Rattle.gateway_session.specs.Sessions.{IsServed as IsServedBy}
+use Rattle.gateway_session.specs.Whole.{IsWhole}
 use Rattle.linx_commands.specs.Runs.{IsEmptyLog}
 use Rattle.linx_commands.specs.declared.outcome.Status.{Status}
 use Rattle.linx_commands.specs.declared.outcome.Status.TheVariants.{Done, ReadFault, WriteFault}
@@ -81,6 +82,9 @@ pub record IsGatewaySession {S K : Type 0} (clients : ℕ) (left : S → Option 
   -- how every session goes, and why it ends
   pub served : IsServedBy ended (first_state clients) after (left source) (left rest) (held sink)
       (held grown)
+  -- the journal is the steps of the requests that were handled, and then those of the one that was
+  -- stopped; and no timer's signal was sent twice
+  pub whole : IsWhole (first_state clients) after
   -- the source counted a fault exactly where a read ended it, and the sink where a write did
   pub read_faults : CountsReads last_read ended (reads source) (reads rest)
   pub write_faults : CountsWrites last_write ended (writes sink) (writes grown)

@@ -11,6 +11,7 @@ returns-clause-session g c =
       made = c.into_journal.ensures.log;
       answers = served.answers;
       served = served.served;
+      whole = served.whole (record { rising = tt; so_far = tt });
       read_faults = served.reads;
       write_faults = served.writes;
       faultless = served.faultless;
