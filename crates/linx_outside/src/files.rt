@@ -64,7 +64,7 @@ impl<T: Read + Drop> Source for SystemFile<T> {
 /// The files of the system, by their paths.
 #[derive(Drop)]
 pub struct SystemFiles<'a, R> {
-    system: &'a R,
+    pub(crate) system: &'a R,
 }
 
 impl<'a, R> SystemFiles<'a, R> {
@@ -74,7 +74,7 @@ impl<'a, R> SystemFiles<'a, R> {
 }
 
 /// Why an error of std keeps a file from being opened.
-fn fault_of(error: io::Error) -> OpenFault {
+pub(crate) fn fault_of(error: io::Error) -> OpenFault {
     match error.kind() {
         ErrorKind::NotFound => OpenFault::Missing,
         ErrorKind::IsADirectory => OpenFault::Folder,
