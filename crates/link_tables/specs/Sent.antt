@@ -4,6 +4,8 @@ use Rattle.std.specs.Prelude.{None, if◌then◌else◌}
 use Rattle.linx_base.specs.Peers.{same_inc, same_peer}
 use Rattle.linx_base.specs.SigNotes.{SigNote}
 use Rattle.linx_base.specs.declared.identity.Inc.{Inc}
+use Rattle.linx_base.specs.declared.identity.LinkNo.{LinkNo}
+use Rattle.linx_base.specs.declared.identity.Session.{Session}
 use Rattle.linx_base.specs.declared.identity.Peer.{Peer}
 use Rattle.linx_base.specs.declared.identity.Peer.TheVariants.{Here, There}
 use Rattle.journal.specs.History.{endpoint_by}
@@ -12,11 +14,15 @@ use Rattle.journal.specs.declared.effect.Step.{Step}
 use Rattle.journal.specs.declared.head.Head.{Head}
 use Rattle.journal.specs.declared.head.Head.TheVariants.{Send}
 use Rattle.link_tables.specs.declared.sent.Flow.{Flow}
+use Rattle.link_tables.specs.declared.sent.SentKey.{SentKey}
+use Rattle.link_tables.specs.declared.sent.SentKey.TheVariants as keys
 use Rattle.link_tables.specs.declared.sent.SentOver.{SentOver}
 
--- a signal is found by its flow
-abbrev pub flow_keys : SentOver → List Flow
-flow_keys sent = sent.flow ∷ []
+-- a signal is found by its flow, by who sent it in which session, and by its link
+abbrev pub sent_keys : SentOver → List SentKey
+sent_keys sent =
+    keys.Flow sent.flow ∷ keys.From sent.flow.at sent.flow.link sent.flow.session
+    ∷ keys.Over sent.flow.link ∷ []
 
 -- the peer of a flow
 abbrev pub peer_of : Flow → Peer
@@ -25,6 +31,15 @@ peer_of flow = There flow.link flow.session flow.peer
 -- one flow
 abbrev pub same_flow : Flow → Flow → Bool
 same_flow f g = same_inc f.at g.at && same_peer (peer_of g) (peer_of f)
+
+-- a flow from this endpoint, in this session of a link
+abbrev pub is_from : Inc → LinkNo → Session → Flow → Bool
+is_from at link session f =
+    same_inc at f.at && (link.0 == f.link.0 && session.0 == f.session.0)
+
+-- a flow over this link
+abbrev pub is_over : LinkNo → Flow → Bool
+is_over link f = link.0 == f.link.0
 
 -- the signals of a flow, in order
 abbrev pub notes_of : Flow → List SentOver → List SigNote

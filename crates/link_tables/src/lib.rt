@@ -5,12 +5,14 @@
 //! that whoever reads a journal in order looks nothing up in it.
 #![tactic(auto)]
 
+mod arrivals;
 mod cut;
 mod marks;
 mod sent;
 mod side;
 
+pub use arrivals::Arrivals;
 pub use cut::cut_after;
-pub use marks::{Mark, Marks};
-pub use sent::{Flow, Sent, SentOver};
+pub use marks::{Mark, Marks, MarksUnder};
+pub use sent::{Flow, Sent, SentOver, SentUnder};
 pub use side::SideTable;

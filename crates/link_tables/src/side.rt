@@ -1,6 +1,6 @@
 //! What is kept of a side of a link.
 ghost use Rattle.std.specs.Prelude.{◌≡◌, ◌+◌, ◌<◌, if◌then◌else◌, suc, [], ◌∷◌, ◌++◌, length};
-ghost use Rattle.std.specs.Prelude.{OnOk, None};
+ghost use Rattle.std.specs.Prelude.{IsTrue, OnOk, None, ◌↔◌};
 ghost use Rattle.std.specs.List.{list_any};
 ghost use Rattle.journal.specs.Sessions.{session_past};
 ghost use Rattle.link_laws.specs.Sessions.{ends_session, restarts, same_side};
@@ -235,6 +235,13 @@ impl SideTable {
         ensures { result ≡ own_in self.now }
     {
         Session::of(1 + self.earlier.len() as u32, 1 + self.downs)
+    }
+
+    /// Whether the counts of one more step fit.
+    pub fn has_room(&self) -> bool
+        ensures { IsTrue result ↔ HasRoom self.now }
+    {
+        self.earlier.len() < u32::MAX as usize && self.downs < u32::MAX && self.silent < u32::MAX
     }
 
     /// How often the side went down in a boot, by its number from 1. None where it hasn't begun.
