@@ -1,0 +1,16 @@
+pub mod Walks
+pub mod Tests
+pub mod Reading
+pub mod Fronts
+pub mod Ones
+pub mod Sendings
+pub mod Calm
+pub mod Carried
+pub mod Deliveries
+pub mod Stillness
+pub mod Lines
+pub mod Off
+pub mod Books
+pub mod Living
+pub mod Legal
+pub mod Steps

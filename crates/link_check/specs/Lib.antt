@@ -1,0 +1,9 @@
+pub mod Links
+pub mod Cuts
+pub mod Ticks
+pub mod Deliveries
+pub mod Reading
+pub mod Stillness
+pub mod Orderly
+pub mod Lines
+pub mod Books
