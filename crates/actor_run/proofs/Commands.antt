@@ -6,10 +6,8 @@ use Rattle.linx_base.specs.declared.identity.Inc.{Inc}
 use Rattle.linx_base.specs.declared.identity.Peer.{Peer}
 use Rattle.linx_base.specs.SigNotes.{SigNote}
 use Rattle.script_words.specs.declared.command.Command.{Command}
-use Rattle.script_words.specs.declared.command.Command.TheVariants.{Open, Close, Send, Forward}
-use Rattle.script_words.specs.declared.command.Command.TheVariants.{Recv, Hunt, Attach, Detach}
-use Rattle.script_words.specs.declared.command.Command.TheVariants.{Keep, Cut, Mend, Restart}
-use Rattle.script_words.specs.declared.command.Command.TheVariants.{Settle}
+use Rattle.script_words.specs.declared.command.Command.TheVariants.{Send, Forward}
+use Rattle.script_words.specs.declared.command.Command.TheVariants.{Attach, Detach}
 use Rattle.script_words.specs.Filling.{data_of}
 use Rattle.node_kernel.specs.Answers.{is_pump_event, is_end_event}
 use Rattle.node_kernel.specs.declared.ask.Ask.{Ask}
@@ -61,20 +59,10 @@ forwards (Some signal) (Some peer) c = record { unpumped = refl; given = λ h. r
 
 pub asks_well : (k : Knows) (me : Option Inc) (c : Option Command)
     → IsCommandAsk k.held c (ask_of k me c)
-asks_well k me None = no_forward k.held None (ask_of k me None) refl refl
-asks_well k me (Some (Open name)) =
-    no_forward k.held (Some (Open name)) (ask_of k me (Some (Open name))) refl refl
-asks_well k me (Some Close) =
-    no_forward k.held (Some Close) (ask_of k me (Some Close)) refl refl
 asks_well k me (Some (Send to number bytes)) =
     no_forward k.held (Some (Send to number bytes)) (ask_of k me (Some (Send to number bytes))) refl
     (send_unpumped (peer_named k me to) (signal_of number (data_of bytes)))
 asks_well k me (Some (Forward to)) = forwards k.held (peer_named k me to) (Some (Forward to))
-asks_well k me (Some (Recv filter)) =
-    no_forward k.held (Some (Recv filter)) (ask_of k me (Some (Recv filter))) refl refl
-asks_well k me (Some (Hunt path number bytes)) =
-    no_forward k.held (Some (Hunt path number bytes)) (ask_of k me (Some (Hunt path number bytes)))
-    refl refl
 asks_well k me (Some (Attach to r number bytes)) =
     no_forward k.held (Some (Attach to r number bytes))
     (ask_of k me (Some (Attach to r number bytes))) refl
@@ -82,16 +70,7 @@ asks_well k me (Some (Attach to r number bytes)) =
 asks_well k me (Some (Detach r)) =
     no_forward k.held (Some (Detach r)) (ask_of k me (Some (Detach r))) refl
     (detach_unpumped (lookup k.refs r))
-asks_well k me (Some (Keep name)) =
-    no_forward k.held (Some (Keep name)) (ask_of k me (Some (Keep name))) refl refl
-asks_well k me (Some (Cut link)) =
-    no_forward k.held (Some (Cut link)) (ask_of k me (Some (Cut link))) refl refl
-asks_well k me (Some (Mend link)) =
-    no_forward k.held (Some (Mend link)) (ask_of k me (Some (Mend link))) refl refl
-asks_well k me (Some (Restart node)) =
-    no_forward k.held (Some (Restart node)) (ask_of k me (Some (Restart node))) refl refl
-asks_well k me (Some (Settle link)) =
-    no_forward k.held (Some (Settle link)) (ask_of k me (Some (Settle link))) refl refl
+asks_well k me c = no_forward k.held c (ask_of k me c) refl refl
 
 -- what is no end is asked for at one of the commands
 pub some_left : (commands : List Command) (place : ℕ) (k : Knows) (me : Option Inc)

@@ -32,20 +32,7 @@ never a true apart h = let no = apart refl in cc
 -- EVENTS. There is one end
 end_only : (e : Event) → is_end_event e ≡ true → e ≡ asks.End
 end_only asks.End h = refl
-end_only (asks.Open name) h = cc
-end_only asks.Close h = cc
-end_only (asks.Send peer) h = cc
-end_only (asks.Look filter) h = cc
-end_only (asks.Hunt path) h = cc
-end_only (asks.Attach peer) h = cc
-end_only (asks.Detach r) h = cc
-end_only (asks.Cut link) h = cc
-end_only (asks.Mend link) h = cc
-end_only (asks.Restart node) h = cc
-end_only (asks.Settle link) h = cc
-end_only (asks.Refuse reason) h = cc
-end_only (asks.Wire link from verdict) h = cc
-end_only (asks.Tick link side) h = cc
+end_only _ h = cc
 
 opening_no_end : (e : Event) → asks_to_open e ≡ true → is_end_event e ≡ false
 opening_no_end e = never (asks_to_open e) (is_end_event e) (λ end. ap asks_to_open (end_only e end))
@@ -60,20 +47,7 @@ pump_no_end e = never (is_pump_event e) (is_end_event e) (λ end. ap is_pump_eve
 -- a look is of a filter
 look_only : (e : Event) → is_look e ≡ true → (filter : Sigsel) × (e ≡ asks.Look filter)
 look_only (asks.Look filter) h = (filter, refl)
-look_only asks.End h = cc
-look_only (asks.Open name) h = cc
-look_only asks.Close h = cc
-look_only (asks.Send peer) h = cc
-look_only (asks.Hunt path) h = cc
-look_only (asks.Attach peer) h = cc
-look_only (asks.Detach r) h = cc
-look_only (asks.Cut link) h = cc
-look_only (asks.Mend link) h = cc
-look_only (asks.Restart node) h = cc
-look_only (asks.Settle link) h = cc
-look_only (asks.Refuse reason) h = cc
-look_only (asks.Wire link from verdict) h = cc
-look_only (asks.Tick link side) h = cc
+look_only _ h = cc
 
 look_no_send : (e : Event) → is_look e ≡ true → is_sending e ≡ false
 look_no_send e look = ap is_sending (look_only e look).1
@@ -128,66 +102,21 @@ granted_look me at ask h =
 
 -- HEADS. A head ends its actor where its event does
 pub is_end_by_event : (h : Head) → is_end h ≡ is_end_event (event_of h)
-is_end_by_event (heads.Open name) = refl
 is_end_by_event heads.Close = refl
-is_end_by_event (heads.Send peer note answer) = refl
-is_end_by_event (heads.Take filter position) = refl
-is_end_by_event (heads.TakeNone filter) = refl
-is_end_by_event (heads.Waits filter) = refl
-is_end_by_event (heads.Hunt path note) = refl
-is_end_by_event (heads.Attach peer note) = refl
-is_end_by_event (heads.Detach r answer) = refl
-is_end_by_event (heads.Cut link) = refl
-is_end_by_event (heads.Mend link) = refl
-is_end_by_event (heads.Settle link) = refl
-is_end_by_event (heads.Restart node) = refl
-is_end_by_event (heads.Wire link from verdict) = refl
-is_end_by_event (heads.Tick link side) = refl
-is_end_by_event (heads.Refused reason) = refl
-is_end_by_event heads.Ended = refl
+is_end_by_event _ = refl
 
 pub pumped_end : (h : Head) → is_pumped h ≡ true → is_end h ≡ false
 pumped_end h pumped = is_end_by_event h ∙ pump_no_end (event_of h) pumped
 
 -- a head waits where it says a filter that it waits with
 pub waits_by_filter : (h : Head) → is_some (waits_in h) ≡ is_waits h
-waits_by_filter (heads.Open name) = refl
 waits_by_filter heads.Close = refl
-waits_by_filter (heads.Send peer note answer) = refl
-waits_by_filter (heads.Take filter position) = refl
-waits_by_filter (heads.TakeNone filter) = refl
-waits_by_filter (heads.Waits filter) = refl
-waits_by_filter (heads.Hunt path note) = refl
-waits_by_filter (heads.Attach peer note) = refl
-waits_by_filter (heads.Detach r answer) = refl
-waits_by_filter (heads.Cut link) = refl
-waits_by_filter (heads.Mend link) = refl
-waits_by_filter (heads.Settle link) = refl
-waits_by_filter (heads.Restart node) = refl
-waits_by_filter (heads.Wire link from verdict) = refl
-waits_by_filter (heads.Tick link side) = refl
-waits_by_filter (heads.Refused reason) = refl
-waits_by_filter heads.Ended = refl
+waits_by_filter _ = refl
 
 -- a head that waits is a look of a filter
 waits_only : (h : Head) → is_waits h ≡ true → (filter : Sigsel) × (h ≡ heads.Waits filter)
 waits_only (heads.Waits filter) w = (filter, refl)
-waits_only (heads.Open name) w = cc
-waits_only heads.Close w = cc
-waits_only (heads.Send peer note answer) w = cc
-waits_only (heads.Take filter position) w = cc
-waits_only (heads.TakeNone filter) w = cc
-waits_only (heads.Hunt path note) w = cc
-waits_only (heads.Attach peer note) w = cc
-waits_only (heads.Detach r answer) w = cc
-waits_only (heads.Cut link) w = cc
-waits_only (heads.Mend link) w = cc
-waits_only (heads.Settle link) w = cc
-waits_only (heads.Restart node) w = cc
-waits_only (heads.Wire link from verdict) w = cc
-waits_only (heads.Tick link side) w = cc
-waits_only (heads.Refused reason) w = cc
-waits_only heads.Ended w = cc
+waits_only _ w = cc
 
 pub waits_look : (h : Head) → is_waits h ≡ true → is_look (event_of h) ≡ true
 waits_look h waits = ap (λ h. is_look (event_of h)) (waits_only h waits).1
@@ -203,19 +132,4 @@ opened_as_no_wait (Some i) = refl
 pub waits_by_answer : (P : List Step) (h : Head) (es : List Effect)
     → is_waits h ≡ is_not_yet (answer_of P h es)
 waits_by_answer P (heads.Open name) es = opened_as_no_wait (last_opened None es)
-waits_by_answer P heads.Close es = refl
-waits_by_answer P (heads.Send peer note answer) es = refl
-waits_by_answer P (heads.Take filter position) es = refl
-waits_by_answer P (heads.TakeNone filter) es = refl
-waits_by_answer P (heads.Waits filter) es = refl
-waits_by_answer P (heads.Hunt path note) es = refl
-waits_by_answer P (heads.Attach peer note) es = refl
-waits_by_answer P (heads.Detach r answer) es = refl
-waits_by_answer P (heads.Cut link) es = refl
-waits_by_answer P (heads.Mend link) es = refl
-waits_by_answer P (heads.Settle link) es = refl
-waits_by_answer P (heads.Restart node) es = refl
-waits_by_answer P (heads.Wire link from verdict) es = refl
-waits_by_answer P (heads.Tick link side) es = refl
-waits_by_answer P (heads.Refused reason) es = refl
-waits_by_answer P heads.Ended es = refl
+waits_by_answer P _ es = refl

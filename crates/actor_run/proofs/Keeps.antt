@@ -3,10 +3,7 @@ use Rattle.std.proofs.Common.{◌≡◌, ℕ, zero, suc, ◌+◌, ◌≤◌, fal
 use Rattle.std.proofs.Common.{Option, Some, None, refl, sym, ◌∙◌, ap, arith, slice_get, is_some}
 use Rattle.linx_base.specs.declared.identity.Peer.{Peer}
 use Rattle.script_words.specs.declared.command.Command.{Command}
-use Rattle.script_words.specs.declared.command.Command.TheVariants.{Open, Close, Send, Forward}
-use Rattle.script_words.specs.declared.command.Command.TheVariants.{Recv, Hunt, Attach, Detach}
-use Rattle.script_words.specs.declared.command.Command.TheVariants.{Keep, Cut, Mend, Restart}
-use Rattle.script_words.specs.declared.command.Command.TheVariants.{Settle}
+use Rattle.script_words.specs.declared.command.Command.TheVariants.{Keep}
 use Rattle.actor_run.specs.Bindings.{remember}
 use Rattle.actor_run.specs.Knowing.{Knows, past_keeps, passed}
 use Rattle.actor_run.specs.Asking.{is_keep}
@@ -14,21 +11,8 @@ use Rattle.actor_run.specs.Asking.{is_keep}
 -- nothing is passed where no item was taken, or no keep comes next
 none_passed : (left : List Command) (sender : Option Peer) (k : Knows)
     → (is_some sender && is_keep (slice_get left 0)) ≡ false → past_keeps left sender k ≡ k
-none_passed [] sender k h = refl
-none_passed (Keep name ∷ left) None k h = refl
 none_passed (Keep name ∷ left) (Some peer) k h = cc
-none_passed (Open name ∷ left) sender k h = refl
-none_passed (Close ∷ left) sender k h = refl
-none_passed (Send to number bytes ∷ left) sender k h = refl
-none_passed (Forward to ∷ left) sender k h = refl
-none_passed (Recv filter ∷ left) sender k h = refl
-none_passed (Hunt path number bytes ∷ left) sender k h = refl
-none_passed (Attach to r number bytes ∷ left) sender k h = refl
-none_passed (Detach r ∷ left) sender k h = refl
-none_passed (Cut link ∷ left) sender k h = refl
-none_passed (Mend link ∷ left) sender k h = refl
-none_passed (Restart node ∷ left) sender k h = refl
-none_passed (Settle link ∷ left) sender k h = refl
+none_passed _ _ k h = refl
 
 pub none_taken : (commands : List Command) (k : Knows) → k.last ≡ None → passed commands k ≡ k
 none_taken commands k none =
@@ -87,18 +71,4 @@ past (Keep name ∷ left) (Some peer) k =
     (record k { place = k.place + 1; kept = remember k.kept name peer }) in
     let within = rest.within in
     record { waiting = rest.waiting; lent = rest.lent; within = omega arith }
-past (Keep name ∷ left) None k = nowhere (Keep name ∷ left) k k refl
-past [] sender k = nowhere [] k k refl
-past (Open name ∷ left) sender k = nowhere (Open name ∷ left) k k refl
-past (Close ∷ left) sender k = nowhere (Close ∷ left) k k refl
-past (Send to number bytes ∷ left) sender k = nowhere (Send to number bytes ∷ left) k k refl
-past (Forward to ∷ left) sender k = nowhere (Forward to ∷ left) k k refl
-past (Recv filter ∷ left) sender k = nowhere (Recv filter ∷ left) k k refl
-past (Hunt path number bytes ∷ left) sender k = nowhere (Hunt path number bytes ∷ left) k k refl
-past (Attach to r number bytes ∷ left) sender k =
-    nowhere (Attach to r number bytes ∷ left) k k refl
-past (Detach r ∷ left) sender k = nowhere (Detach r ∷ left) k k refl
-past (Cut link ∷ left) sender k = nowhere (Cut link ∷ left) k k refl
-past (Mend link ∷ left) sender k = nowhere (Mend link ∷ left) k k refl
-past (Restart node ∷ left) sender k = nowhere (Restart node ∷ left) k k refl
-past (Settle link ∷ left) sender k = nowhere (Settle link ∷ left) k k refl
+past left sender k = nowhere left k k refl

@@ -5,10 +5,8 @@ use Rattle.std.specs.List.{list_all}
 use Rattle.std.proofs.lemmas.Bool.Decides.{nat_tests}
 use Rattle.linx_base.specs.declared.identity.NodeNo.{NodeNo}
 use Rattle.script_words.specs.declared.command.Command.{Command}
-use Rattle.script_words.specs.declared.command.Command.TheVariants.{Open, Close, Send, Forward}
-use Rattle.script_words.specs.declared.command.Command.TheVariants.{Recv, Hunt, Attach, Detach}
-use Rattle.script_words.specs.declared.command.Command.TheVariants.{Keep, Cut, Mend, Restart}
-use Rattle.script_words.specs.declared.command.Command.TheVariants.{Settle}
+use Rattle.script_words.specs.declared.command.Command.TheVariants.{Send}
+use Rattle.script_words.specs.declared.command.Command.TheVariants.{Hunt, Attach}
 use Rattle.script_words.specs.declared.filling.Filling.{Filling}
 use Rattle.script_words.specs.Filling.{fits_data}
 use Rattle.script_lang.specs.declared.actor_script.ActorScript.{ActorScript}
@@ -35,16 +33,7 @@ signal_fits s node (Send to number bytes) h = h
 signal_fits s node (Hunt path number bytes) h =
     and_right (fits_path s node path) (fits_data 65532 bytes) h
 signal_fits s node (Attach to r number bytes) h = shorter_fits bytes h
-signal_fits s node (Open name) h = refl
-signal_fits s node Close h = refl
-signal_fits s node (Forward to) h = refl
-signal_fits s node (Recv filter) h = refl
-signal_fits s node (Detach r) h = refl
-signal_fits s node (Keep name) h = refl
-signal_fits s node (Cut link) h = refl
-signal_fits s node (Mend link) h = refl
-signal_fits s node (Restart other) h = refl
-signal_fits s node (Settle link) h = refl
+signal_fits s node _ h = refl
 
 signals_fit : (s : ScriptParts) (node : NodeNo) (commands : List Command)
     → list_all (fits_command s node) commands ≡ true

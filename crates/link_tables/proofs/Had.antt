@@ -11,6 +11,7 @@ use Rattle.linx_base.specs.declared.identity.Session.{Session}
 use Rattle.linx_base.specs.declared.identity.Side.{Side}
 use Rattle.journal.specs.declared.effect.Step.{Step}
 use Rattle.journal.proofs.Steps.{slice_get-push}
+use Rattle.link_laws.proofs.Moves.Restarts.{few-downs}
 use Rattle.link_laws.specs.Sessions.{boots, downs, ends_session, had_session, own_session, restarts}
 use Rattle.link_tables.specs.Sides.{downs_at, downs_or, earlier_downs, had_in, is_within, side_left}
 use Rattle.link_tables.specs.Sides.{within_downs}
@@ -209,20 +210,6 @@ boots-earlier (s ∷ P) node link = go (restarts node s.head) (boots-earlier P n
         length-push (earlier_downs P node link) (downs P node link) ∙ ap suc before
     go false before = before
 
--- a side goes down once in a step at most
-pub downs-few : (P : List Step) (node link : ℕ) → downs P node link ≤ length P
-downs-few [] node link = omega arith
-downs-few (s ∷ P) node link =
-    go (restarts node s.head) (list_any (ends_session node link) s.effects)
-    (downs-few P node link)
-  where
-    go : (a b : Bool) → downs P node link ≤ length P
-        → (if a then 0 else (if b then suc (downs P node link) else downs P node link))
-        ≤ suc (length P)
-    go true b few = omega arith
-    go false true few = omega arith
-    go false false few = omega arith
-
 had-first : (boot count : ℕ) → ((boot == 1) && (count == 1)) ≡ had_at [] 0 boot count
 had-first zero count = refl
 had-first (suc k) count = go (k == 0) refl
@@ -258,7 +245,7 @@ module _ (P : List Step) (node link : ℕ) (y : Session) (short : length P < 429
   counted = boots-earlier P node link
 
   few : D ≤ length P
-  few = downs-few P node link
+  few = few-downs P node link
 
   -- with the present session as two numbers
   present : (b c n m : ℕ) → c < 4294967296 → b ≡ n → c ≡ m

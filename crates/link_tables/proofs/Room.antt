@@ -4,18 +4,10 @@ use Rattle.std.proofs.Common.{refl, arith, if◌then◌else◌}
 use Rattle.std.specs.List.{list_any}
 use Rattle.linx_base.specs.declared.identity.Side.{Side}
 use Rattle.journal.specs.declared.effect.Step.{Step}
-use Rattle.link_laws.specs.Sessions.{boots, downs, restarts, silent_ticks, tells_heard, ticks}
+use Rattle.link_laws.specs.Sessions.{boots, downs, silent_ticks, tells_heard, ticks}
 use Rattle.link_tables.specs.Sides.{HasRoom, earlier_downs, side_left}
-use Rattle.link_tables.proofs.Had.{boots-earlier, downs-few}
-
-boots-few : (P : List Step) (node : ℕ) → boots P node ≤ length P
-boots-few [] node = omega arith
-boots-few (s ∷ P) node = go (restarts node s.head) (boots-few P node)
-  where
-    go : (b : Bool) → boots P node ≤ length P
-        → (if b then suc (boots P node) else boots P node) ≤ suc (length P)
-    go true few = omega arith
-    go false few = omega arith
+use Rattle.link_laws.proofs.Moves.Restarts.{few-boots, few-downs}
+use Rattle.link_tables.proofs.Had.{boots-earlier}
 
 silent-few : (P : List Step) (node link : ℕ) (side : Side)
     → silent_ticks P node link side ≤ length P
@@ -37,7 +29,7 @@ pub room-left : (P : List Step) (node link : ℕ) (side : Side) → length P < 4
     → HasRoom (side_left P node link side)
 room-left P node link side short =
     let over : length (earlier_downs P node link) ≡ boots P node = boots-earlier P node link in
-    let few : boots P node ≤ length P = boots-few P node in
-    let down : downs P node link ≤ length P = downs-few P node link in
+    let few : boots P node ≤ length P = few-boots P node in
+    let down : downs P node link ≤ length P = few-downs P node link in
     let quiet : silent_ticks P node link side ≤ length P = silent-few P node link side in
     record { boots = omega arith; downs = omega arith; silent = omega arith }

@@ -67,11 +67,6 @@ pub record IsOfEffect (names : Names) (words : List (List ℕ)) (effect : Effect
 arrived_found : (names : Names) (words : List (List ℕ)) (x : Effect)
     → arrived_in names words ≡ Some x → IsOfEffect names (codes "arrived" ∷ words) x
 unfolding arrived_in effect_words
-arrived_found names [] x h = cc
-arrived_found names (w1 ∷ []) x h = cc
-arrived_found names (w1 ∷ w2 ∷ []) x h = cc
-arrived_found names (w1 ∷ w2 ∷ w3 ∷ []) x h = cc
-arrived_found names (w1 ∷ w2 ∷ w3 ∷ w4 ∷ w5 ∷ more) x h = cc
 arrived_found names (i_word ∷ q_word ∷ number ∷ shown ∷ []) x h =
     let i = bind_some (halves_in i_word) _ x h in
     let q = bind_some (peer_in names q_word) _ x i.2 in
@@ -82,16 +77,11 @@ arrived_found names (i_word ∷ q_word ∷ number ∷ shown ∷ []) x h =
     let same : Arrived (record { 0 = i.0 }) q.0 note.0 ≡ x = cc in
     subst (λ (y : Effect). IsOfEffect names (codes "arrived" ∷ i_word ∷ q_word ∷ number ∷ shown ∷ []) y) same
     (record { spelled = cc; is = (i_is.1, q_is.is, note_is.is) })
+arrived_found names _ x h = cc
 
 found_found : (names : Names) (words : List (List ℕ)) (x : Effect)
     → found_in names words ≡ Some x → IsOfEffect names (codes "found" ∷ words) x
 unfolding found_in effect_words
-found_found names [] x h = cc
-found_found names (w1 ∷ []) x h = cc
-found_found names (w1 ∷ w2 ∷ []) x h = cc
-found_found names (w1 ∷ w2 ∷ w3 ∷ []) x h = cc
-found_found names (w1 ∷ w2 ∷ w3 ∷ w4 ∷ []) x h = cc
-found_found names (w1 ∷ w2 ∷ w3 ∷ w4 ∷ w5 ∷ w6 ∷ more) x h = cc
 found_found names (i_word ∷ q_word ∷ number ∷ shown ∷ r_word ∷ []) x h =
     let i = bind_some (halves_in i_word) _ x h in
     let q = bind_some (peer_in names q_word) _ x i.2 in
@@ -104,17 +94,11 @@ found_found names (i_word ∷ q_word ∷ number ∷ shown ∷ r_word ∷ []) x h
     let same : Found (record { 0 = i.0 }) q.0 note.0 r.0 ≡ x = cc in
     subst (λ (y : Effect). IsOfEffect names (codes "found" ∷ i_word ∷ q_word ∷ number ∷ shown ∷ r_word ∷ []) y) same
     (record { spelled = cc; is = (i_is.1, q_is.is, note_is.is, r_is.1) })
+found_found names _ x h = cc
 
 notified_found : (names : Names) (words : List (List ℕ)) (x : Effect)
     → notified_in names words ≡ Some x → IsOfEffect names (codes "notified" ∷ words) x
 unfolding notified_in effect_words
-notified_found names [] x h = cc
-notified_found names (w1 ∷ []) x h = cc
-notified_found names (w1 ∷ w2 ∷ []) x h = cc
-notified_found names (w1 ∷ w2 ∷ w3 ∷ []) x h = cc
-notified_found names (w1 ∷ w2 ∷ w3 ∷ w4 ∷ []) x h = cc
-notified_found names (w1 ∷ w2 ∷ w3 ∷ w4 ∷ w5 ∷ []) x h = cc
-notified_found names (w1 ∷ w2 ∷ w3 ∷ w4 ∷ w5 ∷ w6 ∷ w7 ∷ more) x h = cc
 notified_found names (i_word ∷ q_word ∷ number ∷ shown ∷ r_word ∷ why_word ∷ []) x h =
     let i = bind_some (halves_in i_word) _ x h in
     let q = bind_some (peer_in names q_word) _ x i.2 in
@@ -129,14 +113,11 @@ notified_found names (i_word ∷ q_word ∷ number ∷ shown ∷ r_word ∷ why_
     let same : Notified (record { 0 = i.0 }) q.0 note.0 (record { 0 = r.0 }) why.0 ≡ x = cc in
     subst (λ (y : Effect). IsOfEffect names (codes "notified" ∷ i_word ∷ q_word ∷ number ∷ shown ∷ r_word ∷ why_word ∷ []) y) same
     (record { spelled = cc; is = (i_is.1, q_is.is, note_is.is, r_is.1) })
+notified_found names _ x h = cc
 
 met_found : (names : Names) (words : List (List ℕ)) (x : Effect)
     → met_in names words ≡ Some x → IsOfEffect names (codes "met" ∷ words) x
 unfolding met_in effect_words
-met_found names [] x h = cc
-met_found names (w1 ∷ []) x h = cc
-met_found names (w1 ∷ w2 ∷ []) x h = cc
-met_found names (w1 ∷ w2 ∷ w3 ∷ w4 ∷ more) x h = cc
 met_found names (n_word ∷ q_word ∷ called_word ∷ []) x h =
     let n = bind_some (named_in names.nodes n_word) _ x h in
     let q = bind_some (peer_in names q_word) _ x n.2 in
@@ -147,6 +128,7 @@ met_found names (n_word ∷ q_word ∷ called_word ∷ []) x h =
     let same : Met (record { 0 = n.0 }) q.0 called.0 ≡ x = cc in
     subst (λ (y : Effect). IsOfEffect names (codes "met" ∷ n_word ∷ q_word ∷ called_word ∷ []) y) same
     (record { spelled = cc; is = (n_is.1, q_is.is, called_is.1) })
+met_found names _ x h = cc
 
 gone_found : (names : Names) (words : List (List ℕ)) (x : Effect)
     → gone_in names words ≡ Some x → IsOfEffect names (codes "gone" ∷ words) x
@@ -218,10 +200,6 @@ up_found names (node ∷ link ∷ words) x h =
 down_found : (names : Names) (words : List (List ℕ)) (x : Effect)
     → down_in names words ≡ Some x → IsOfEffect names (codes "down" ∷ words) x
 unfolding down_in effect_words
-down_found names [] x h = cc
-down_found names (w1 ∷ []) x h = cc
-down_found names (w1 ∷ w2 ∷ []) x h = cc
-down_found names (w1 ∷ w2 ∷ w3 ∷ w4 ∷ more) x h = cc
 down_found names (n_word ∷ l_word ∷ own_word ∷ []) x h =
     let n = bind_some (named_in names.nodes n_word) _ x h in
     let l = bind_some (named_in names.links l_word) _ x n.2 in
@@ -232,6 +210,7 @@ down_found names (n_word ∷ l_word ∷ own_word ∷ []) x h =
     let same : Down (record { 0 = n.0 }) (record { 0 = l.0 }) (record { 0 = own.0 }) ≡ x = cc in
     subst (λ (y : Effect). IsOfEffect names (codes "down" ∷ n_word ∷ l_word ∷ own_word ∷ []) y) same
     (record { spelled = cc; is = (n_is.1, l_is.1, own_is.1) })
+down_found names _ x h = cc
 
 opened_found : (names : Names) (words : List (List ℕ)) (x : Effect)
     → made (λ n. Opened (record { 0 = n })) (only words >>= halves_in) ≡ Some x → IsOfEffect names (codes "opened" ∷ words) x

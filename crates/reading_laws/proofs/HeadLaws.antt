@@ -65,11 +65,6 @@ pub record IsOfHead (names : Names) (words : List (List ℕ)) (head : Head) : Ty
 send_found : (names : Names) (words : List (List ℕ)) (x : Head)
     → send_in names words ≡ Some x → IsOfHead names (codes "send" ∷ words) x
 unfolding send_in head_words
-send_found names [] x h = cc
-send_found names (w1 ∷ []) x h = cc
-send_found names (w1 ∷ w2 ∷ []) x h = cc
-send_found names (w1 ∷ w2 ∷ w3 ∷ []) x h = cc
-send_found names (w1 ∷ w2 ∷ w3 ∷ w4 ∷ w5 ∷ more) x h = cc
 send_found names (q_word ∷ number ∷ shown ∷ sent_word ∷ []) x h =
     let q = bind_some (peer_in names q_word) _ x h in
     let note = bind_some (note_in number shown) _ x q.2 in
@@ -80,14 +75,11 @@ send_found names (q_word ∷ number ∷ shown ∷ sent_word ∷ []) x h =
     let same : Send q.0 note.0 sent.0 ≡ x = cc in
     subst (λ (y : Head). IsOfHead names (codes "send" ∷ q_word ∷ number ∷ shown ∷ sent_word ∷ []) y) same
     (record { spelled = cc; is = (q_is.is, note_is.is) })
+send_found names _ x h = cc
 
 attach_found : (names : Names) (words : List (List ℕ)) (x : Head)
     → attach_in names words ≡ Some x → IsOfHead names (codes "attach" ∷ words) x
 unfolding attach_in head_words
-attach_found names [] x h = cc
-attach_found names (w1 ∷ []) x h = cc
-attach_found names (w1 ∷ w2 ∷ []) x h = cc
-attach_found names (w1 ∷ w2 ∷ w3 ∷ w4 ∷ more) x h = cc
 attach_found names (q_word ∷ number ∷ shown ∷ []) x h =
     let q = bind_some (peer_in names q_word) _ x h in
     let note = bind_some (note_in number shown) _ x q.2 in
@@ -96,14 +88,11 @@ attach_found names (q_word ∷ number ∷ shown ∷ []) x h =
     let same : Attach q.0 note.0 ≡ x = cc in
     subst (λ (y : Head). IsOfHead names (codes "attach" ∷ q_word ∷ number ∷ shown ∷ []) y) same
     (record { spelled = cc; is = (q_is.is, note_is.is) })
+attach_found names _ x h = cc
 
 hunt_found : (names : Names) (words : List (List ℕ)) (x : Head)
     → hunt_in names words ≡ Some x → IsOfHead names (codes "hunt" ∷ words) x
 unfolding hunt_in head_words
-hunt_found names [] x h = cc
-hunt_found names (w1 ∷ []) x h = cc
-hunt_found names (w1 ∷ w2 ∷ []) x h = cc
-hunt_found names (w1 ∷ w2 ∷ w3 ∷ w4 ∷ more) x h = cc
 hunt_found names (p_word ∷ number ∷ shown ∷ []) x h =
     let p = bind_some (path_in names p_word) _ x h in
     let note = bind_some (note_in number shown) _ x p.2 in
@@ -112,6 +101,7 @@ hunt_found names (p_word ∷ number ∷ shown ∷ []) x h =
     let same : Hunt p.0 note.0 ≡ x = cc in
     subst (λ (y : Head). IsOfHead names (codes "hunt" ∷ p_word ∷ number ∷ shown ∷ []) y) same
     (record { spelled = cc; is = (p_is.is, note_is.is) })
+hunt_found names _ x h = cc
 
 take_found : (names : Names) (words : List (List ℕ)) (x : Head)
     → take_in words ≡ Some x → IsOfHead names (codes "take" ∷ words) x
@@ -146,10 +136,6 @@ detach_found names (r_word ∷ d_word ∷ []) x h =
 wire_found : (names : Names) (words : List (List ℕ)) (x : Head)
     → wire_in names words ≡ Some x → IsOfHead names (codes "wire" ∷ words) x
 unfolding wire_in head_words
-wire_found names [] x h = cc
-wire_found names (w1 ∷ []) x h = cc
-wire_found names (w1 ∷ w2 ∷ []) x h = cc
-wire_found names (w1 ∷ w2 ∷ w3 ∷ w4 ∷ more) x h = cc
 wire_found names (l_word ∷ side_word ∷ v_word ∷ []) x h =
     let l = bind_some (named_in names.links l_word) _ x h in
     let side = bind_some (side_in side_word) _ x l.2 in
@@ -160,6 +146,7 @@ wire_found names (l_word ∷ side_word ∷ v_word ∷ []) x h =
     let same : Wire (record { 0 = l.0 }) side.0 v.0 ≡ x = cc in
     subst (λ (y : Head). IsOfHead names (codes "wire" ∷ l_word ∷ side_word ∷ v_word ∷ []) y) same
     (record { spelled = cc; is = (l_is.1, v_is.fits) })
+wire_found names _ x h = cc
 
 tick_found : (names : Names) (words : List (List ℕ)) (x : Head)
     → tick_in names words ≡ Some x → IsOfHead names (codes "tick" ∷ words) x

@@ -11,15 +11,13 @@ use Rattle.sha2.proofs.Facts256.{length-sha256}
 use Rattle.linx_base.specs.declared.name.Names.{Names}
 use Rattle.linx_base.specs.SigNotes.{SigNote}
 use Rattle.journal.specs.declared.head.Refusal.{Refusal}
-use Rattle.journal.specs.declared.head.Refusal.TheVariants.{NotOpen, IsOpen, NoPeer, NoSignal}
 use Rattle.journal.specs.declared.head.Refusal.TheVariants.{NoRef}
 use Rattle.journal.specs.declared.head.Head.{Head}
-use Rattle.journal.specs.declared.head.Head.TheVariants.{Open, Close, Send, Take, TakeNone, Waits}
-use Rattle.journal.specs.declared.head.Head.TheVariants.{Hunt, Attach, Detach, Cut, Mend, Settle}
-use Rattle.journal.specs.declared.head.Head.TheVariants.{Restart, Wire, Tick, Refused, Ended}
+use Rattle.journal.specs.declared.head.Head.TheVariants.{Send}
+use Rattle.journal.specs.declared.head.Head.TheVariants.{Hunt, Attach, Refused}
 use Rattle.journal.specs.declared.effect.Effect.{Effect}
-use Rattle.journal.specs.declared.effect.Effect.TheVariants.{Opened, Closed, Arrived, Found}
-use Rattle.journal.specs.declared.effect.Effect.TheVariants.{Notified, Met, Gone, Up, Down}
+use Rattle.journal.specs.declared.effect.Effect.TheVariants.{Arrived, Found}
+use Rattle.journal.specs.declared.effect.Effect.TheVariants.{Notified}
 use Rattle.journal_text.specs.Values.{halves_text, peer_text, path_text, sent_text, reference_text}
 use Rattle.journal_text.specs.Values.{reason_text, maker_text}
 use Rattle.journal_words.specs.declared.lines.Line.{Line}
@@ -110,40 +108,19 @@ shown_alike bytes =
 head_alike : (names : Names) (head : Head)
     → head_words printed names (image_of_head head) ≡ head_words sha256 names head
 unfolding head_words
-head_alike names (Open name) = refl
-head_alike names Close = refl
 head_alike names (Send peer note answer) = simp shown_alike
-head_alike names (Take filter at) = refl
-head_alike names (TakeNone filter) = refl
-head_alike names (Waits filter) = refl
 head_alike names (Hunt path note) = simp shown_alike
 head_alike names (Attach peer note) = simp shown_alike
-head_alike names (Detach reference answer) = refl
-head_alike names (Cut link) = refl
-head_alike names (Mend link) = refl
-head_alike names (Settle link) = refl
-head_alike names (Restart node) = refl
-head_alike names (Wire link side verdict) = refl
-head_alike names (Tick link side) = refl
-head_alike names (Refused (NotOpen at)) = refl
-head_alike names (Refused (IsOpen inc)) = refl
-head_alike names (Refused NoPeer) = refl
-head_alike names (Refused NoSignal) = refl
 head_alike names (Refused NoRef) = refl
-head_alike names Ended = refl
+head_alike names _ = refl
 
 effect_alike : (names : Names) (effect : Effect)
     → effect_words printed names (image_of_effect effect) ≡ effect_words sha256 names effect
 unfolding effect_words
-effect_alike names (Opened inc) = refl
-effect_alike names (Closed inc) = refl
 effect_alike names (Arrived inc peer note) = simp shown_alike
 effect_alike names (Found inc peer note hunt) = simp shown_alike
 effect_alike names (Notified inc peer note reference reason) = simp shown_alike
-effect_alike names (Met node peer name) = refl
-effect_alike names (Gone node peer) = refl
-effect_alike names (Up node link session other) = refl
-effect_alike names (Down node link session) = refl
+effect_alike names _ = refl
 
 pub line_alike : (names : Names) (line : Line)
     → line_words printed names (image_of_line line) ≡ line_words sha256 names line

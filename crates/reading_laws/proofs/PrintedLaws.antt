@@ -7,12 +7,12 @@ use Rattle.linx_base.specs.declared.name.Names.{Names}
 use Rattle.linx_base.specs.SigNotes.{SigNote}
 use Rattle.journal.specs.declared.by.By.{By}
 use Rattle.journal.specs.declared.head.Head.{Head}
-use Rattle.journal.specs.declared.head.Head.TheVariants.{Open, Close, Send, Take, TakeNone, Waits}
-use Rattle.journal.specs.declared.head.Head.TheVariants.{Hunt, Attach, Detach, Cut, Mend, Settle}
-use Rattle.journal.specs.declared.head.Head.TheVariants.{Restart, Wire, Tick, Refused, Ended}
+use Rattle.journal.specs.declared.head.Head.TheVariants.{Close, Send, Take}
+use Rattle.journal.specs.declared.head.Head.TheVariants.{Hunt, Attach, Detach}
+use Rattle.journal.specs.declared.head.Head.TheVariants.{Wire, Tick}
 use Rattle.journal.specs.declared.effect.Effect.{Effect}
 use Rattle.journal.specs.declared.effect.Effect.TheVariants.{Opened, Closed, Arrived, Found}
-use Rattle.journal.specs.declared.effect.Effect.TheVariants.{Notified, Met, Gone, Up, Down}
+use Rattle.journal.specs.declared.effect.Effect.TheVariants.{Notified}
 use Rattle.journal_text.specs.Values.{data_text, digest_text, signal_text, peer_signal_text}
 use Rattle.journal_text.specs.Values.{maker_text, halves_text, peer_text, path_text}
 use Rattle.journal_text.specs.Values.{reference_text, reason_text}
@@ -46,12 +46,8 @@ five_joined s a b c d e f = simp append_assoc
 pub head_printed : (names : Names) (head : Head)
     → line_of (head_words sha256 names head) ≡ head_text names head
 unfolding head_words head_text peer_signal_text signal_text
-head_printed names (Open name) = refl
-head_printed names Close = refl
 head_printed names (Send peer note answer) = simp (data_printed, append_assoc)
 head_printed names (Take filter at) = simp append_assoc
-head_printed names (TakeNone filter) = refl
-head_printed names (Waits filter) = refl
 head_printed names (Hunt path note) =
     let path_part = path_text names path in
     let number = decimal note.number in
@@ -61,14 +57,9 @@ head_printed names (Hunt path note) =
     (sym (two_joined (32 ∷ []) path_part number (data_text note.bytes)))
 head_printed names (Attach peer note) = simp (data_printed, append_assoc)
 head_printed names (Detach reference answer) = simp append_assoc
-head_printed names (Cut link) = refl
-head_printed names (Mend link) = refl
-head_printed names (Settle link) = refl
-head_printed names (Restart node) = refl
 head_printed names (Wire link side verdict) = simp append_assoc
 head_printed names (Tick link side) = simp append_assoc
-head_printed names (Refused reason) = refl
-head_printed names Ended = refl
+head_printed names _ = refl
 
 pub effect_printed : (names : Names) (effect : Effect)
     → line_of (effect_words sha256 names effect) ≡ effect_text names effect
@@ -103,47 +94,22 @@ effect_printed names (Notified inc peer note reference reason) =
     (data_printed note.bytes)
     ∙ ap (λ (xs : List ℕ). codes "notified " ++ xs)
     (sym (five_joined (32 ∷ []) at from number (data_text note.bytes) step why))
-effect_printed names (Met node peer name) = simp append_assoc
-effect_printed names (Gone node peer) = simp append_assoc
-effect_printed names (Up node link session other) = simp append_assoc
-effect_printed names (Down node link session) = simp append_assoc
+effect_printed names _ = simp append_assoc
 
 -- a word before the words of a head, or of an effect, of which there is one
 before_head : (names : Names) (word : List ℕ) (head : Head)
     → line_of (word ∷ head_words sha256 names head)
     ≡ word ++ 32 ∷ line_of (head_words sha256 names head)
 unfolding head_words
-before_head names word (Open name) = refl
 before_head names word Close = refl
-before_head names word (Send peer note answer) = refl
-before_head names word (Take filter at) = refl
-before_head names word (TakeNone filter) = refl
-before_head names word (Waits filter) = refl
-before_head names word (Hunt path note) = refl
-before_head names word (Attach peer note) = refl
-before_head names word (Detach reference answer) = refl
-before_head names word (Cut link) = refl
-before_head names word (Mend link) = refl
-before_head names word (Settle link) = refl
-before_head names word (Restart node) = refl
-before_head names word (Wire link side verdict) = refl
-before_head names word (Tick link side) = refl
-before_head names word (Refused reason) = refl
-before_head names word Ended = refl
+before_head names word _ = refl
 
 before_effect : (names : Names) (word : List ℕ) (effect : Effect)
     → line_of (word ∷ effect_words sha256 names effect)
     ≡ word ++ 32 ∷ line_of (effect_words sha256 names effect)
 unfolding effect_words
 before_effect names word (Opened inc) = refl
-before_effect names word (Closed inc) = refl
-before_effect names word (Arrived inc peer note) = refl
-before_effect names word (Found inc peer note hunt) = refl
-before_effect names word (Notified inc peer note reference reason) = refl
-before_effect names word (Met node peer name) = refl
-before_effect names word (Gone node peer) = refl
-before_effect names word (Up node link session other) = refl
-before_effect names word (Down node link session) = refl
+before_effect names word _ = refl
 
 pub effect_line_printed : (names : Names) (effect : Effect)
     → line_of (line_words sha256 names (Happened effect)) ++ codes "\n" ≡ effect_line names effect

@@ -32,8 +32,7 @@ use Rattle.journal.specs.declared.head.Detached.{Detached}
 use Rattle.journal.specs.declared.head.Detached.TheVariants.{Pending, Queued as QueuedNotice}
 use Rattle.journal.specs.declared.head.Detached.TheVariants.{None as Neither}
 use Rattle.journal.specs.declared.head.Refusal.{Refusal}
-use Rattle.journal.specs.declared.head.Refusal.TheVariants.{NotOpen, IsOpen, NoPeer, NoSignal}
-use Rattle.journal.specs.declared.head.Refusal.TheVariants.{NoRef}
+use Rattle.journal.specs.declared.head.Refusal.TheVariants.{NoPeer}
 use Rattle.journal_text.specs.Values.{halves_text, node_text, link_text, peer_text, path_text}
 use Rattle.journal_text.specs.Values.{filter_text, numbers_text, further_text, maker_text}
 use Rattle.journal_text.specs.Values.{position_text, reference_text, side_text, verdict_text}
@@ -212,11 +211,8 @@ detached_spaces QueuedNotice = refl
 detached_spaces Neither = refl
 
 pub refusal_spaces : (reason : Refusal) → has_no_space (refusal_text reason) ≡ true
-refusal_spaces (NotOpen at) = refl
-refusal_spaces (IsOpen inc) = refl
 refusal_spaces NoPeer = refl
-refusal_spaces NoSignal = refl
-refusal_spaces NoRef = refl
+refusal_spaces _ = refl
 
 swap_spaces : (n : ℕ) → fits_verdict (Swap n) ≡ true
     → has_no_space (verdict_text (Swap n)) ≡ true

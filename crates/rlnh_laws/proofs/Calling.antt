@@ -14,7 +14,7 @@ use Rattle.rlnh_laws.specs.Meanings.{saids}
 use Rattle.trunk_record.specs.Sayings.{was_unpublished}
 use Rattle.rlnh_laws.specs.Ties.{Talk, Alone}
 use Rattle.rlnh_laws.specs.Talks.{said_more, Grows}
-use Rattle.rlnh_laws.proofs.Speaking.{lowest_is_free, lowest_changes}
+use Rattle.link_addresses.proofs.Lists.{lowest_changes, lowest_found}
 use Rattle.rlnh_laws.proofs.Meeting.{option_cases, met_both}
 use Rattle.rlnh_laws.proofs.Uttering.{utter_grows, same_grows, grows_then}
 
@@ -26,7 +26,7 @@ publish_grows e i v k un =
         own = with_lowest e.end.own (Live i);
         noted = without_note e.end.noted v;
       }) (announce (lowest_free e.end.own) i v)
-          (lowest_is_free e.end.own, lowest_changes e.end.own (Live i), none, un, refl) k)
+          ((lowest_found e.end.own).free, lowest_changes e.end.own (Live i), none, un, refl) k)
       | inr some ↦ rw some.1 (same_grows e (record e.end { noted = without_note e.end.noted v })
           refl refl k)
     ]

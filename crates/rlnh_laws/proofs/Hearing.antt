@@ -4,7 +4,7 @@ use Rattle.std.proofs.Common.{inr, map, refl, sym, ◌∙◌, ap, subst, append_
 use Rattle.std.proofs.Common.{true≢false, eq-eqb}
 use Rattle.std.specs.List.{list_any}
 use Rattle.std.proofs.lemmas.Bool.{or_cases}
-use Rattle.std.proofs.lemmas.Option.{same_Some}
+use Rattle.std.proofs.lemmas.Option.{none-some, same_Some}
 use Rattle.linx_base.specs.Peers.{same_inc}
 use Rattle.rlnh_end.specs.declared.met_at.MetAt.{MetAt}
 use Rattle.linx_base.specs.declared.identity.Inc.{Inc}
@@ -22,7 +22,6 @@ use Rattle.rlnh_laws.specs.Meanings.{heard_of, said_by, saids, given_for, Unders
 use Rattle.rlnh_end.specs.Hearing.{Hearing, answers, heard_signal, hears, only}
 use Rattle.rlnh_end.specs.declared.up.Up.{Up}
 use Rattle.rlnh_end.specs.declared.up.Up.TheVariants.{Nothing, Arrived, Freed, Met, Gone}
-use Rattle.rlnh_end.specs.declared.up.Up.TheVariants.{Asked, Bad}
 use Rattle.trunk_record.specs.Sayings.{Given, heard_as, frees, was_unpublished}
 use Rattle.rlnh_laws.specs.Talks.{heard_with, Right}
 use Rattle.rlnh_laws.proofs.Standing.{stand_heard_publish, stand_heard_signal, stand_heard_close}
@@ -32,9 +31,6 @@ use Rattle.rlnh_laws.proofs.Tying.{ties_heard_tell_back, ties_heard_withdraw, ti
 use Rattle.trunk_record.proofs.Sayings.{same_inc-is}
 use Rattle.rlnh_laws.proofs.Speaking.{saids-append, speaks_freed}
 use Rattle.rlnh_laws.proofs.Meeting.{option_cases, met_both, met_bearer, apart_with, apart_without}
-
-none_some : {X : Type 0} (x : X) → None ≡ Some x → ⊥
-none_some x e = absurd cc
 
 -- the pair: the word is no longer under way, and what was replied is
 pair_hears : (e f : Talk) (w : Word) (r : Hearing) (rest : List Word) (p : Pair e f)
@@ -51,19 +47,8 @@ pair_hears e f w r rest p q near far = record {
 
 -- what is given for a word that is understood was heard as it was said
 given_said : (w : Word) (u : Up) → Understands w u → map heard_as (given_for w u) ≡ said_by w
-given_said hello u k = refl
-given_said hello_back u k = refl
-given_said (question v) u k = refl
-given_said (announce a i v) u k = refl
 given_said (tell a i b j note) Nothing k = refl
-given_said (tell a i b j note) (Arrived x y z) k = refl
-given_said (tell a i b j note) (Freed x y z) k = refl
-given_said (tell a i b j note) (Met x y) k = refl
-given_said (tell a i b j note) (Gone x) k = refl
-given_said (tell a i b j note) (Asked x) k = refl
-given_said (tell a i b j note) Bad k = refl
-given_said (withdraw a i) u k = refl
-given_said (confirm a) u k = refl
+given_said _ _ k = refl
 
 map-append : (xs ys : List Given) → map heard_as (xs ++ ys) ≡ map heard_as xs ++ map heard_as ys
 map-append [] ys = refl
@@ -189,7 +174,7 @@ module _ (e f : Talk) (rest : List Word) (k : Alone e) (n : Alone f) (p : Pair e
           met_bearer (meaning_of e.end.own b) i (inc_met f.end.met b)
           (about b (announce a i v ∷ rest)) (toward b p.back) is (announce_ties b) in
           let same : a ≡ b = k.speaks.apart a b i announce_at.1 whose in
-          absurd (none_some i (sym (subst (λ c. inc_met f.end.met c ≡ None) same announce_at.0)
+          absurd (none-some i (sym (subst (λ c. inc_met f.end.met c ≡ None) same announce_at.0)
           ∙ is))
     ]
 
@@ -314,7 +299,7 @@ module _ (e f : Talk) (rest : List Word) (k : Alone e) (n : Alone f) (p : Pair e
 
     by_meaning : (m : Meaning) → meaning_of f.end.own c ≡ m → bearer m ≡ Some j
         → Right e f (tell a i c j note) (heard_signal f.end note (Some i) m)
-    by_meaning Free is b = absurd (none_some j b)
+    by_meaning Free is b = absurd (none-some j b)
     by_meaning (Live x) is b =
         let same : x ≡ j = same_Some x j b in
         subst (λ y. Right e f (tell a i c j note) (only f.end (Arrived i y note))) (sym same)

@@ -1,7 +1,7 @@
 -- The peers that an end met.
 use Rattle.std.proofs.Common.{◌≡◌, ◌≢◌, ℕ, true, false, List, [], ◌∷◌, Option, Some, None, ◌⊎◌, inl}
 use Rattle.std.proofs.Common.{inr, arith, refl, sym, ◌∙◌, ap, subst, ◌==◌, eq-eqb}
-use Rattle.std.proofs.lemmas.Option.{same_Some}
+use Rattle.std.proofs.lemmas.Option.{none-some, same_Some}
 use Rattle.std.proofs.lemmas.Bool.Decides.{nat_tests, eqb_tells}
 use Rattle.linx_base.specs.declared.identity.Inc.{Inc}
 use Rattle.link_addresses.specs.declared.meaning.Meaning.{Meaning}
@@ -14,9 +14,6 @@ use Rattle.rlnh_laws.proofs.Standing.{tells_bearer}
 pub option_cases : {X : Type 0} (o : Option X) → (o ≡ None) ⊎ ((x : X) × (o ≡ Some x))
 option_cases None = inl refl
 option_cases (Some x) = inr (x, refl)
-
-none_some : {X : Type 0} (x : X) → None ≡ Some x → ⊥
-none_some x e = absurd cc
 
 inc_eq : (i j : Inc) → i.0 ≡ j.0 → i ≡ j
 inc_eq i j e = ap (λ (n : ℕ). let w : Inc = record { 0 = n } in w) e
@@ -42,21 +39,21 @@ of_later m met i miss = rw miss refl
 not_first : (m : MetAt) (met : List MetAt) (a : ℕ) → inc_met (m ∷ met) a ≡ None
     → ((a == m.addr) ≡ false) × (a ≢ m.addr) × (inc_met met a ≡ None)
 not_first m met a none = elim (eqb_tells a m.addr) [
-  | inl same ↦ absurd (none_some m.inc (sym none ∙ at_first m met a same.0))
+  | inl same ↦ absurd (none-some m.inc (sym none ∙ at_first m met a same.0))
   | inr other ↦ (other.0, other.1, sym (at_later m met a other.0) ∙ none)
 ]
 
 not_first_of : (m : MetAt) (met : List MetAt) (i : Inc) → addr_met (m ∷ met) i ≡ None
     → ((i.0 == m.inc.0) ≡ false) × (i.0 ≢ m.inc.0) × (addr_met met i ≡ None)
 not_first_of m met i none = elim (eqb_tells i.0 m.inc.0) [
-  | inl same ↦ absurd (none_some m.addr (sym none ∙ of_first m met i same.0))
+  | inl same ↦ absurd (none-some m.addr (sym none ∙ of_first m met i same.0))
   | inr other ↦ (other.0, other.1, sym (of_later m met i other.0) ∙ none)
 ]
 
 -- who is met at an address has it
 pub met_both : (met : List MetAt) (i : Inc) (b : ℕ) → AreApart met → addr_met met i ≡ Some b
     → inc_met met b ≡ Some i
-met_both [] i b apart e = absurd (none_some b e)
+met_both [] i b apart e = absurd (none-some b e)
 met_both (m ∷ met) i b apart e = elim (eqb_tells i.0 m.inc.0) [
   | inl same ↦
       let at : Some m.addr ≡ Some b = sym (of_first m met i same.0) ∙ e in
@@ -67,7 +64,7 @@ met_both (m ∷ met) i b apart e = elim (eqb_tells i.0 m.inc.0) [
       met_both met i b apart.2 (sym (of_later m met i other.0) ∙ e) in
       elim (eqb_tells b m.addr) [
         | inl here ↦
-            absurd (none_some i (sym (subst (λ k. inc_met met k ≡ None) (sym here.1) apart.0)
+            absurd (none-some i (sym (subst (λ k. inc_met met k ≡ None) (sym here.1) apart.0)
             ∙ rest))
         | inr off ↦ at_later m met b off.0 ∙ rest
       ]
@@ -76,10 +73,10 @@ met_both (m ∷ met) i b apart e = elim (eqb_tells i.0 m.inc.0) [
 -- who is met at an address, it is the other side's
 pub met_bearer : (own : Meaning) (i : Inc) (met : Option Inc) (ab : List About) (to : List Toward)
     → met ≡ Some i → Stands own met ab to → bearer own ≡ Some i
-met_bearer own i met ab to is (unused o m e t) = absurd (none_some i (sym m ∙ is))
-met_bearer own i met ab to is (announced j r m e t q) = absurd (none_some i (sym m ∙ is))
+met_bearer own i met ab to is (unused o m e t) = absurd (none-some i (sym m ∙ is))
+met_bearer own i met ab to is (announced j r m e t q) = absurd (none-some i (sym m ∙ is))
 met_bearer own i met ab to is (known j m t q) = tells_bearer j own ab t ∙ sym m ∙ is
-met_bearer own i met ab to is (answered j o m e q) = absurd (none_some i (sym m ∙ is))
+met_bearer own i met ab to is (answered j o m e q) = absurd (none-some i (sym m ∙ is))
 
 -- ---- a peer is met
 pub with_here : (met : List MetAt) (a : ℕ) (i : Inc) → inc_met met a ≡ None

@@ -1,5 +1,5 @@
 -- An end's own addresses and what it has said, through all that it says and hears.
-use Rattle.std.proofs.Common.{◌≡◌, ◌≢◌, ℕ, zero, suc, Bool, true, false, not, ◌&&◌, ◌||◌, List, []}
+use Rattle.std.proofs.Common.{◌≡◌, ◌≢◌, ℕ, Bool, true, false, not, ◌&&◌, ◌||◌, List, []}
 use Rattle.std.proofs.Common.{◌∷◌, ◌++◌, Some, None, ◌⊎◌, inl, inr, refl, sym, ◌∙◌, ap, subst}
 use Rattle.std.proofs.Common.{append_assoc, append-nil, true≢false}
 use Rattle.std.proofs.lemmas.Option.{same_Some}
@@ -10,7 +10,8 @@ use Rattle.linx_base.specs.declared.identity.Inc.{Inc}
 use Rattle.linx_base.specs.SigNotes.{SigNote}
 use Rattle.link_addresses.specs.declared.meaning.Meaning.{Meaning}
 use Rattle.link_addresses.specs.declared.meaning.Meaning.TheVariants.{Free, Live, Closing}
-use Rattle.link_addresses.specs.Meanings.{meaning_of, with_meaning, lowest_free, with_lowest}
+pub use Rattle.link_addresses.proofs.Lists.{lowest_changes}
+use Rattle.link_addresses.specs.Meanings.{meaning_of, with_meaning}
 use Rattle.link_addresses.specs.Meanings.{address_of, ChangesMeaning}
 use Rattle.rlnh_laws.proofs.Addresses.{changes_at, live_taken, closing_taken, address_missing}
 use Rattle.rlnh_end.specs.Words.{Word}
@@ -19,55 +20,6 @@ use Rattle.trunk_record.specs.Sayings.{Said, published, asked, signaled, unpubli
 use Rattle.trunk_record.specs.Sayings.{was_published, was_unpublished, is_live}
 use Rattle.trunk_record.proofs.Sayings.{same_inc-is, same_inc-itself}
 use Rattle.rlnh_laws.specs.Ties.{Speaks, bearer}
-
--- ---- the lowest free address
-lowest_place : (ms : List Meaning) → (k : ℕ) × (lowest_free ms ≡ suc k)
-unfolding lowest_free
-lowest_place [] = (zero, refl)
-lowest_place (Free ∷ ms) = (zero, refl)
-lowest_place (Live i ∷ ms) = (lowest_free ms, refl)
-lowest_place (Closing i ∷ ms) = (lowest_free ms, refl)
-
-deeper : (x : Meaning) (ms : List Meaning) (a k : ℕ) (m : Meaning) → a ≡ suc k → meaning_of ms a ≡ m
-    → meaning_of (x ∷ ms) (suc a) ≡ m
-deeper x ms a k m e is = subst (λ n. meaning_of (x ∷ ms) (suc n) ≡ m) (sym e)
-    (subst (λ n. meaning_of ms n ≡ m) e is)
-
-pub lowest_is_free : (ms : List Meaning) → meaning_of ms (lowest_free ms) ≡ Free
-unfolding lowest_free
-lowest_is_free [] = refl
-lowest_is_free (Free ∷ ms) = refl
-lowest_is_free (Live i ∷ ms) = deeper (Live i) ms (lowest_free ms) (lowest_place ms).0 Free
-    (lowest_place ms).1 (lowest_is_free ms)
-lowest_is_free (Closing i ∷ ms) = deeper (Closing i) ms (lowest_free ms) (lowest_place ms).0 Free
-    (lowest_place ms).1 (lowest_is_free ms)
-
-lowest_here : (ms : List Meaning) (m : Meaning) → meaning_of (with_lowest ms m) (lowest_free ms) ≡ m
-unfolding lowest_free with_lowest
-lowest_here [] m = refl
-lowest_here (Free ∷ ms) m = refl
-lowest_here (Live i ∷ ms) m = deeper (Live i) (with_lowest ms m) (lowest_free ms)
-    (lowest_place ms).0 m (lowest_place ms).1 (lowest_here ms m)
-lowest_here (Closing i ∷ ms) m = deeper (Closing i) (with_lowest ms m) (lowest_free ms)
-    (lowest_place ms).0 m (lowest_place ms).1 (lowest_here ms m)
-
-lowest_others : (ms : List Meaning) (m : Meaning) (b : ℕ) → b ≢ lowest_free ms
-    → meaning_of (with_lowest ms m) b ≡ meaning_of ms b
-unfolding lowest_free with_lowest
-lowest_others ms m zero off = refl
-lowest_others [] m (suc zero) off = absurd (off refl)
-lowest_others [] m (suc (suc k)) off = refl
-lowest_others (Free ∷ ms) m (suc zero) off = absurd (off refl)
-lowest_others (Free ∷ ms) m (suc (suc k)) off = refl
-lowest_others (Live i ∷ ms) m (suc zero) off = refl
-lowest_others (Live i ∷ ms) m (suc (suc k)) off = lowest_others ms m (suc k) (λ e. off (ap suc e))
-lowest_others (Closing i ∷ ms) m (suc zero) off = refl
-lowest_others (Closing i ∷ ms) m (suc (suc k)) off =
-    lowest_others ms m (suc k) (λ e. off (ap suc e))
-
-pub lowest_changes : (ms : List Meaning) (m : Meaning)
-    → ChangesMeaning ms (with_lowest ms m) (lowest_free ms) m
-lowest_changes ms m = record { here = lowest_here ms m; others = lowest_others ms m }
 
 -- ---- what was said
 pub saids-append : (xs ys : List Word) → saids (xs ++ ys) ≡ saids ys ++ saids xs

@@ -1,7 +1,7 @@
 -- How one address goes round.
 use Rattle.std.proofs.Common.{◌≡◌, List, [], ◌∷◌, ◌++◌, Option, Some}
 use Rattle.std.proofs.Common.{None, arith, refl, sym, ◌∙◌, ap, subst}
-use Rattle.std.proofs.lemmas.Option.{same_Some}
+use Rattle.std.proofs.lemmas.Option.{none-some, same_Some}
 use Rattle.linx_base.specs.declared.identity.Inc.{Inc}
 use Rattle.link_addresses.specs.declared.meaning.Meaning.{Meaning}
 use Rattle.link_addresses.specs.declared.meaning.Meaning.TheVariants.{Free, Live, Closing}
@@ -46,21 +46,18 @@ aims_ack i [] t = refl
 aims_ack i (signal_to j ∷ r) t = (t.0, aims_ack i r t.1)
 aims_ack i (confirming ∷ r) t = absurd t
 
-none_some : (i : Inc) → None ≡ Some i → ⊥
-none_some i e = absurd (grind arith)
-
 -- ---- the owner says
 pub stand_publish : (i : Inc) (met : Option Inc) (ab : List About) (to : List Toward)
     → Stands Free met ab to → Stands (Live i) met (ab ++ announcing i ∷ []) to
 stand_publish i met ab to (unused o m e t) =
     announced i [] m (ap (λ x. x ++ announcing i ∷ []) e) refl t
-stand_publish i met ab to (announced j r m e t q) = absurd (none_some j (tells_bearer j Free r t))
-stand_publish i met ab to (known j m t q) = absurd (none_some j (tells_bearer j Free ab t))
-stand_publish i met ab to (answered j o m e q) = absurd (none_some j (ap bearer o))
+stand_publish i met ab to (announced j r m e t q) = absurd (none-some j (tells_bearer j Free r t))
+stand_publish i met ab to (known j m t q) = absurd (none-some j (tells_bearer j Free ab t))
+stand_publish i met ab to (answered j o m e q) = absurd (none-some j (ap bearer o))
 
 pub stand_signal : (i : Inc) (met : Option Inc) (ab : List About) (to : List Toward)
     → Stands (Live i) met ab to → Stands (Live i) met (ab ++ signaling i ∷ []) to
-stand_signal i met ab to (unused o m e t) = absurd (none_some i (sym (ap bearer o)))
+stand_signal i met ab to (unused o m e t) = absurd (none-some i (sym (ap bearer o)))
 stand_signal i met ab to (announced j r m e t q) =
     announced j (r ++ signaling i ∷ []) m (ap (λ x. x ++ signaling i ∷ []) e)
     (tells_signal j i r t) q
@@ -69,7 +66,7 @@ stand_signal i met ab to (answered j o m e q) = absurd (grind arith)
 
 pub stand_close : (i : Inc) (met : Option Inc) (ab : List About) (to : List Toward)
     → Stands (Live i) met ab to → Stands (Closing i) met (ab ++ withdrawing i ∷ []) to
-stand_close i met ab to (unused o m e t) = absurd (none_some i (sym (ap bearer o)))
+stand_close i met ab to (unused o m e t) = absurd (none-some i (sym (ap bearer o)))
 stand_close i met ab to (announced j r m e t q) =
     announced j (r ++ withdrawing i ∷ []) m (ap (λ x. x ++ withdrawing i ∷ []) e)
     (tells_close j i r t) q
@@ -79,12 +76,12 @@ stand_close i met ab to (answered j o m e q) = absurd (grind arith)
 -- ---- the other side says
 pub stand_aimed : (own : Meaning) (i : Inc) (ab : List About) (to : List Toward)
     → Stands own (Some i) ab to → Stands own (Some i) ab (to ++ signal_to i ∷ [])
-stand_aimed own i ab to (unused o m e t) = absurd (none_some i (sym m))
-stand_aimed own i ab to (announced j r m e t q) = absurd (none_some i (sym m))
+stand_aimed own i ab to (unused o m e t) = absurd (none-some i (sym m))
+stand_aimed own i ab to (announced j r m e t q) = absurd (none-some i (sym m))
 stand_aimed own i ab to (known j m t q) = known i refl
     (subst (λ k. Tells k own ab) (sym (same_Some i j m)) t)
     (aims_signal i to (subst (λ k. Aims k to) (sym (same_Some i j m)) q))
-stand_aimed own i ab to (answered j o m e q) = absurd (none_some i (sym m))
+stand_aimed own i ab to (answered j o m e q) = absurd (none-some i (sym m))
 
 -- ---- the other side hears
 pub stand_heard_publish : (own : Meaning) (i : Inc) (met : Option Inc) (ab : List About)

@@ -1,8 +1,7 @@
 -- A RUN TAKES FEW NUMBERS: each of its steps offers two messages at most at a side, but where a side
 -- goes up, which had offered nothing: there it asks for as many names as hunts are pending.
-use Rattle.std.proofs.Common.{◌≡◌, ◌≤◌, ◌<◌, ◌+◌, ◌*◌, ℕ, suc, Bool, true, false, cond, List, []}
+use Rattle.std.proofs.Common.{◌≡◌, ◌≤◌, ◌<◌, ◌+◌, ◌*◌, ℕ, suc, Bool, true, false, List, []}
 use Rattle.std.proofs.Common.{◌∷◌, Option, Some, None, length, arith, refl, sym, ◌∙◌, ap, subst}
-use Rattle.std.specs.List.{list_any}
 use Rattle.linx_base.specs.Numbers.{boot_of, count_of}
 use Rattle.linx_base.specs.Sides.{other_of}
 use Rattle.linx_base.specs.declared.frame.Verdict.{Verdict}
@@ -10,7 +9,7 @@ use Rattle.linx_base.specs.declared.frame.Verdict.TheVariants.{Deliver, Lose, Re
 use Rattle.linx_base.specs.declared.identity.Inc.{Inc}
 use Rattle.linx_base.specs.declared.identity.LinkNo.{LinkNo}
 use Rattle.linx_base.specs.declared.identity.Peer.{Peer}
-use Rattle.linx_base.specs.declared.identity.Peer.TheVariants.{Here, There}
+use Rattle.linx_base.specs.declared.identity.Peer.TheVariants.{There}
 use Rattle.linx_base.specs.declared.identity.Session.{Session}
 use Rattle.linx_base.specs.declared.identity.Side.{Side}
 use Rattle.linx_base.specs.declared.identity.Side.TheVariants.{First, Second}
@@ -30,12 +29,13 @@ use Rattle.journal.specs.declared.head.Head.{Head}
 use Rattle.journal.specs.declared.head.Head.TheVariants.{Close, Ended, Hunt, Open, Restart, Send}
 use Rattle.journal.specs.declared.head.Head.TheVariants.{TakeNone, Tick, Wire}
 use Rattle.journal.specs.declared.head.SentTo.{SentTo}
-use Rattle.journal.specs.declared.head.SentTo.TheVariants.{Dead, Link, Queued}
+use Rattle.journal.specs.declared.head.SentTo.TheVariants.{Link}
+use Rattle.link_laws.proofs.Moves.Restarts.{few-boots, few-downs}
 use Rattle.link_laws.specs.Ends.{HasTwoEnds, IsLinkOf, node_at}
-use Rattle.link_laws.specs.Sessions.{boots, downs, ends_session, own_session, restarts}
+use Rattle.link_laws.specs.Sessions.{boots, own_session}
 use Rattle.trunk.specs.declared.up.TrunkUp.{TrunkUp}
-use Rattle.trunk.specs.declared.up.TrunkUp.TheVariants.{Nothing, WentUp, WentDown, Arrived, Met}
-use Rattle.trunk.specs.declared.up.TrunkUp.TheVariants.{Gone, Asked}
+use Rattle.trunk.specs.declared.up.TrunkUp.TheVariants.{WentUp}
+use Rattle.trunk.specs.declared.up.TrunkUp.TheVariants.{Asked}
 use Rattle.trunk.specs.Events.{HasNumbersLeft, IsReading, TrunkState, asked_at, closed_at}
 use Rattle.trunk.specs.Events.{delivered, new_trunk, opened_at, restarted_at, sent_at, told_by}
 use Rattle.trunk.specs.Keeping.{KeepsTrunk}
@@ -113,13 +113,9 @@ module _ (P : List Step) (n : ℕ) (l : LinkNo) (from : Side) (keep : Bool) (rea
 
   answered_both : (up : TrunkUp) → ((x y : Session) → up ≡ WentUp x y → offers to t ≤ 0)
       → OffersUpTo (2 * suc (length P)) (answered P n l to up v)
-  answered_both Nothing none = more_both
   answered_both (WentUp session peer) none = asked_both (none session peer refl)
-  answered_both (WentDown session) none = more_both
-  answered_both (Arrived a b note) none = more_both
-  answered_both (Met i name) none = more_both
-  answered_both (Gone i) none = more_both
   answered_both (Asked name) none = published_both name (holder_of P n name)
+  answered_both _ none = more_both
 
   pub comes_few : OffersUpTo (2 * suc (length P)) (answered P n l to (told_by from 0 reading t) v)
   comes_few = answered_both (told_by from 0 reading t) (up_offers from keep reading t kept read)
@@ -166,10 +162,6 @@ module _ (shape : Shape) (two : HasTwoEnds shape) (P : List Step) (before after 
   sending : (n : ℕ) (me : Option Inc) (q : Peer) (note : SigNote) (answer : SentTo)
       → SendMakes shape P before after n me q note answer
       → AllOffer shape (2 * suc (length P)) after
-  sending n None q note answer made = stays made
-  sending n (Some j) (Here i) note answer made = stays made
-  sending n (Some j) (There l x b) note Queued made = stays made
-  sending n (Some j) (There l x b) note Dead made = stays made
   sending n (Some j) (There l x b) note Link made =
       one l made.of_shape (sent_at made.at j (name_of P j) b note (before l.0)) made.makes
       (λ side. omega (
@@ -177,6 +169,7 @@ module _ (shape : Shape) (two : HasTwoEnds shape) (P : List Step) (before after 
         sent_offers made.at (before l.0) (2 * length P) (none_said l made.of_shape made.at)
             (was l made.of_shape) j (name_of P j) b note side,
       ))
+  sending n _ _ note _ made = stays made
 
   asking : (n : ℕ) (path : Path) (found : Option Peer) → HuntMakes shape before after n path found
       → AllOffer shape (2 * suc (length P)) after
@@ -267,29 +260,9 @@ few_offers shape (s ∷ P) after whole l of_shape =
 
 -- ---- sessions and boots
 
-few_downs : (P : List Step) (n l : ℕ) → downs P n l ≤ length P
-few_downs [] n l = omega arith
-few_downs (s ∷ P) n l =
-    by_restart (restarts n s.head) (list_any (ends_session n l) s.effects) (few_downs P n l)
-  where
-    by_restart : (r e : Bool) → downs P n l ≤ length P
-        → cond r 0 (cond e (suc (downs P n l)) (downs P n l)) ≤ suc (length P)
-    by_restart true e few = omega arith
-    by_restart false true few = omega arith
-    by_restart false false few = omega arith
-
-few_boots : (P : List Step) (n : ℕ) → boots P n ≤ length P
-few_boots [] n = omega arith
-few_boots (s ∷ P) n = by_restart (restarts n s.head) (few_boots P n)
-  where
-    by_restart : (r : Bool) → boots P n ≤ length P
-        → cond r (suc (boots P n)) (boots P n) ≤ suc (length P)
-    by_restart true few = omega arith
-    by_restart false few = omega arith
-
 module _ (P : List Step) (n l : ℕ) (fits : length P ≤ step_limit) where
   own_count : count_of (own_session P n l) ≤ 1 + length P
-  own_count = let few = few_downs P n l in omega arith
+  own_count = let few = few-downs P n l in omega arith
 
 -- ---- what a run takes
 
@@ -306,7 +279,7 @@ runs_take_few shape P trunks whole l of_shape side =
       messages = few;
       numbers = omega (arith, numbered.each, numbered.few, few);
       sessions = omega (arith, ap count_of mine, own_count P n l.0 whole.fits);
-      boots = omega (arith, ap boot_of mine, own_boot P n l.0 whole.fits, few_boots P n);
+      boots = omega (arith, ap boot_of mine, own_boot P n l.0 whole.fits, few-boots P n);
     }
 
 -- ---- what the next step finds

@@ -23,8 +23,8 @@ use Rattle.rlnh_end.specs.Calls.{begin_of, publish_of, query_of}
 use Rattle.rlnh_end.specs.Hearing.{hears}
 use Rattle.rlnh_end.specs.declared.heard.Heard.{Heard}
 use Rattle.trunk.specs.declared.up.TrunkUp.{TrunkUp}
-use Rattle.trunk.specs.declared.up.TrunkUp.TheVariants.{Nothing, WentUp, WentDown, Arrived, Met}
-use Rattle.trunk.specs.declared.up.TrunkUp.TheVariants.{Gone, Asked}
+use Rattle.trunk.specs.declared.up.TrunkUp.TheVariants.{WentUp}
+use Rattle.trunk.specs.declared.up.TrunkUp.TheVariants.{Asked}
 use Rattle.trunk.specs.Events.{IsReading, TrunkState, delivered, near_delivered, near_took, side_of}
 use Rattle.trunk.specs.Events.{told_by, turned, with_link}
 use Rattle.trunk.specs.Keeping.{KeepsTrunk, messages_of}
@@ -98,17 +98,13 @@ module _ (holds : LinkState → Type 0) (P : List Step) (n : ℕ) (l : LinkNo) w
       → ((name : List ℕ) → up ≡ Asked name → (i : Inc) → holder_of P n name ≡ Some i
       → MayPublish (side_of at t) i name)
       → StillSettles holds t.link (answered P n l at up t).link
-  answered_settles at Nothing t kt named may = λ h. h
   answered_settles at (WentUp session peer) t kt named may =
       over_asks IsAny (StillSettles holds) (settling_spreads holds) at (names_hunted P n l) named
       (λ s name. all_any (messages_of (query_of s name).says)) t kt
-  answered_settles at (WentDown session) t kt named may = λ h. h
-  answered_settles at (Arrived a b note) t kt named may = λ h. h
-  answered_settles at (Met i name) t kt named may = λ h. h
-  answered_settles at (Gone i) t kt named may = λ h. h
   answered_settles at (Asked name) t kt named may =
       over_publishes IsAny (StillSettles holds) (settling_spreads holds) at name
       (holder_of P n name) (λ s i. all_any (messages_of (publish_of s i name).says)) t kt (may name refl)
+  answered_settles at _ t kt named may = λ h. h
 
   pub comes_settles : (from : Side) (es : List Effect) (t u : TrunkState) → KeepsTrunk t
       → AreNames (names_hunted P n l) → GrantsAnswer P n from t → Comes P n l from false es t u

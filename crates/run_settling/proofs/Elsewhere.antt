@@ -26,15 +26,7 @@ module _ (shape : Shape) (P : List Step) (before after : RunTrunks) (n : ℕ) (m
     (l : LinkNo) (of_shape : IsLinkOf shape l) (es : List Effect) where
   same_trunk : (head : Head) → Makes shape P before after n me head es
       → is_elsewhere l head ≡ true → after l.0 ≡ before l.0
-  same_trunk (heads.Take filter at) makes is = makes l of_shape
   same_trunk (heads.TakeNone filter) makes is = makes.makes l of_shape
-  same_trunk (heads.Waits filter) makes is = makes l of_shape
-  same_trunk (heads.Attach q note) makes is = makes l of_shape
-  same_trunk (heads.Detach r answer) makes is = makes l of_shape
-  same_trunk (heads.Cut m) makes is = makes l of_shape
-  same_trunk (heads.Mend m) makes is = makes l of_shape
-  same_trunk (heads.Settle m) makes is = makes l of_shape
-  same_trunk (heads.Refused refusal) makes is = makes l of_shape
   same_trunk (heads.Wire m from verdict) makes is =
       makes.makes l of_shape ∙ other_trunk (l.0 == m.0) makes.trunk (before l.0) is
   same_trunk (heads.Tick m side) makes is =
@@ -45,6 +37,7 @@ module _ (shape : Shape) (P : List Step) (before after : RunTrunks) (n : ℕ) (m
   same_trunk (heads.Hunt path note) makes is = absurd (grind arith)
   same_trunk (heads.Restart k) makes is = absurd (grind arith)
   same_trunk heads.Ended makes is = absurd (grind arith)
+  same_trunk _ makes is = makes l of_shape
 
 pub elsewhere : (shape : Shape) (P : List Step) (before : RunTrunks) (s : Step) (after : RunTrunks)
     → IsTrunkStep shape P before s after → (l : LinkNo) → IsLinkOf shape l

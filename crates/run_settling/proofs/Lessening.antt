@@ -55,15 +55,10 @@ module _ (P : List Step) (n : ℕ) (l : LinkNo) (at : Side) where
       → ((name : List ℕ) → told_up up ≡ Asked name → (i : Inc) → holder_of P n name ≡ Some i
       → MayPublish (side_of at t) i name)
       → AsksNothing t.link (answered P n l at (told_up up) t).link
-  node_asks ups.Nothing t kt may = asking_spreads.same t.link
-  node_asks (ups.Arrived a b note) t kt may = asking_spreads.same t.link
-  node_asks (ups.Freed a b note) t kt may = asking_spreads.same t.link
-  node_asks (ups.Met i name) t kt may = asking_spreads.same t.link
-  node_asks (ups.Gone i) t kt may = asking_spreads.same t.link
   node_asks (ups.Asked name) t kt may =
       over_publishes IsSilent AsksNothing asking_spreads at name (holder_of P n name)
       (λ s i. publishes_silent s i name) t kt (may name refl)
-  node_asks ups.Bad t kt may = asking_spreads.same t.link
+  node_asks _ t kt may = asking_spreads.same t.link
 
   -- a packet comes to the first side of a trunk that is seen from this side
   module _ (heard : Heard) (t : TrunkState) (kt : KeepsTrunk t)

@@ -7,7 +7,7 @@ use Rattle.linx_base.specs.declared.frame.Verdict.TheVariants.{Deliver, Lose, Re
 use Rattle.linx_base.specs.declared.identity.Inc.{Inc}
 use Rattle.linx_base.specs.declared.identity.LinkNo.{LinkNo}
 use Rattle.linx_base.specs.declared.identity.Peer.{Peer}
-use Rattle.linx_base.specs.declared.identity.Peer.TheVariants.{Here, There}
+use Rattle.linx_base.specs.declared.identity.Peer.TheVariants.{There}
 use Rattle.linx_base.specs.declared.identity.Side.{Side}
 use Rattle.linx_base.specs.declared.identity.Side.TheVariants.{First, Second}
 use Rattle.linx_base.specs.declared.name.Path.{Path}
@@ -29,7 +29,7 @@ use Rattle.journal.specs.declared.head.Head.{Head}
 use Rattle.journal.specs.declared.head.Head.TheVariants.{Close, Ended, Hunt, Open, Restart, Send}
 use Rattle.journal.specs.declared.head.Head.TheVariants.{TakeNone, Tick, Wire}
 use Rattle.journal.specs.declared.head.SentTo.{SentTo}
-use Rattle.journal.specs.declared.head.SentTo.TheVariants.{Dead, Link, Queued}
+use Rattle.journal.specs.declared.head.SentTo.TheVariants.{Link}
 use Rattle.link_laws.specs.Ends.{HasTwoEnds, IsLinkOf, node_at}
 use Rattle.link_laws.specs.Sessions.{boots}
 use Rattle.trunk.specs.Events.{IsReading, TrunkState, asked_at, closed_at, delivered, near_heard}
@@ -140,15 +140,12 @@ module _ (shape : Shape) (ends : HasTwoEnds shape) (P : List Step)
   sends_same : (n : ℕ) (me : Option Inc) (q : Peer) (note : SigNote) (answer : SentTo)
       → SendMakes shape P before_one after_one n me q note answer
       → SendMakes shape P before_two after_two n me q note answer → Become shape after_one after_two
-  sends_same n None q note answer one two = stays_same one two
-  sends_same n (Some j) (Here i) note answer one two = stays_same one two
-  sends_same n (Some j) (There l x b) note Queued one two = stays_same one two
-  sends_same n (Some j) (There l x b) note Dead one two = stays_same one two
   sends_same n (Some j) (There l x b) note Link one two =
       let at = one_side shape ends l one.of_shape one.at two.at (one.node ∙ sym two.node) in
       one_same l _ _
       (ap (λ (side : Side). sent_at side j (name_of P j) b note (before_one l.0)) at
       ∙ ap (sent_at two.at j (name_of P j) b note) (same l one.of_shape)) one.makes two.makes
+  sends_same n _ _ note _ one two = stays_same one two
 
   hunts_same : (n : ℕ) (path : Path) (found : Option Peer)
       → HuntMakes shape before_one after_one n path found

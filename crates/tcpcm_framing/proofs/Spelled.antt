@@ -13,12 +13,9 @@ record Four (cells : List ℕ) : Type 0 where
   is : cells ≡ a ∷ b ∷ c ∷ d ∷ rest
 
 four : (cells : List ℕ) → 4 ≤ length cells → Four cells
-four [] h = absurd (omega (arith, h))
-four (a ∷ []) h = absurd (omega (arith, h))
-four (a ∷ b ∷ []) h = absurd (omega (arith, h))
-four (a ∷ b ∷ c ∷ []) h = absurd (omega (arith, h))
 four (a ∷ b ∷ c ∷ d ∷ rest) h =
     record { a = a; b = b; c = c; d = d; rest = rest; is = refl }
+four _ h = absurd (omega (arith, h))
 
 no_cells : (cells : List ℕ) → length cells ≡ 0 → cells ≡ []
 no_cells [] h = refl

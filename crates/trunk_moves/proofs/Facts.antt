@@ -37,13 +37,14 @@ use Rattle.journal.specs.declared.head.SentTo.TheVariants.{Link}
 use Rattle.journal.proofs.Lists.{all-append, all-filter}
 use Rattle.journal.proofs.Openings.{IsShort, next_on}
 use Rattle.carrier.specs.Events.{half_of}
+use Rattle.link_laws.proofs.Moves.Restarts.{few-downs}
 use Rattle.link_laws.specs.Brought.{was_opened}
 use Rattle.link_laws.specs.Ends.{HasTwoEnds, IsLinkOf, node_at}
 use Rattle.link_laws.specs.Laws.{IsLegal}
 use Rattle.link_laws.specs.Fits.{CanSend}
 use Rattle.link_laws.specs.Linked.{IsLinked}
 use Rattle.link_laws.specs.Runs.{IsRun, IsSoundRun}
-use Rattle.link_laws.specs.Sessions.{boots, downs, ends_session, own_session, restarts}
+use Rattle.link_laws.specs.Sessions.{boots, own_session}
 use Rattle.link_laws.proofs.Sides.Brings.{published-opened, unpublished-closed}
 use Rattle.link_laws.proofs.Endpoints.Fresh.{opens-new, step-opens}
 use Rattle.link_laws.proofs.Peers.Living.{alive-known, open-not_unpublished}
@@ -165,21 +166,10 @@ hunted_named shape P legal n l = paths_named l (hunting P n) (hunts_named shape 
 
 -- ---- boots
 
-downs_few : (P : List Step) (n l : ℕ) → downs P n l ≤ length P
-downs_few [] n l = omega arith
-downs_few (s ∷ P) n l =
-    by_restart (restarts n s.head) (list_any (ends_session n l) s.effects) (downs_few P n l)
-  where
-    by_restart : (r e : Bool) → downs P n l ≤ length P
-        → cond r 0 (cond e (suc (downs P n l)) (downs P n l)) ≤ suc (length P)
-    by_restart true e few = omega arith
-    by_restart false true few = omega arith
-    by_restart false false few = omega arith
-
 -- the boot of the side's own session is one more than the restarts so far
 pub own_boot : (P : List Step) (n l : ℕ) → length P ≤ step_limit
     → boot_of (own_session P n l) ≡ 1 + boots P n
-own_boot P n l room = let few = downs_few P n l in omega arith
+own_boot P n l room = let few = few-downs P n l in omega arith
 
 -- ---- a side of a link of the shape, on node n
 

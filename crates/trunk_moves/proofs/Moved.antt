@@ -173,16 +173,9 @@ module _ (shape : Shape) (P : List Step) (before after : RunTrunks) (known : IsK
     pub ended_moved : (n : ℕ) (me : Option Inc)
         → Become shape after (trunks_ending shape n me before)
         → (es : List Effect) → IsMoved shape P before after n me Ended es
-    ended_moved n None made es = record {
-      moves = all_left shape before after made;
-      kept = stay_kept made;
-      used = stay_used made;
-    }
-    ended_moved n (Some j) made es = record {
-      moves = closes n j made;
-      kept = closed_kept n j made;
-      used = closed_used n j made;
-    }
+    ended_moved n me made es =
+        let close = close_moved n me made es in
+        record { moves = close.moves; kept = close.kept; used = close.used }
 
     -- ---- a restart
 

@@ -30,8 +30,8 @@ use Rattle.link_laws.specs.Moves as moves
 use Rattle.link_laws.specs.Sessions.{LosesIfCut}
 use Rattle.link_laws.proofs.Endpoints.Names.{bytes_eq-is}
 use Rattle.trunk.specs.declared.up.TrunkUp.{TrunkUp}
-use Rattle.trunk.specs.declared.up.TrunkUp.TheVariants.{Nothing, WentUp, WentDown, Arrived, Met}
-use Rattle.trunk.specs.declared.up.TrunkUp.TheVariants.{Gone, Asked}
+use Rattle.trunk.specs.declared.up.TrunkUp.TheVariants.{WentUp}
+use Rattle.trunk.specs.declared.up.TrunkUp.TheVariants.{Asked}
 use Rattle.trunk.specs.Events.{IsReading, TrunkState, asked_at, delivered, kept_of, lost_from}
 use Rattle.trunk.specs.Events.{side_of, swapped_from, ticked_at, told_by}
 use Rattle.trunk.specs.Keeping.{KeepsTrunk}
@@ -78,13 +78,9 @@ publishes_left at name (Some i) t = other_left at (λ s. publish_of s i name) t
 module _ (P : List Step) (n : ℕ) (l : LinkNo) (at : Side) where
   answered_left : (up : TrunkUp) (t : TrunkState)
       → IsLeft (state_of (other_of at) t) (state_of (other_of at) (answered P n l at up t))
-  answered_left Nothing t = left_itself (other_of at) t
   answered_left (WentUp session peer) t = asks_left at (names_hunted P n l) t
-  answered_left (WentDown session) t = left_itself (other_of at) t
-  answered_left (Arrived a b note) t = left_itself (other_of at) t
-  answered_left (Met i name) t = left_itself (other_of at) t
-  answered_left (Gone i) t = left_itself (other_of at) t
   answered_left (Asked name) t = publishes_left at name (holder_of P n name) t
+  answered_left _ t = left_itself (other_of at) t
 
 -- ---- what it keeps
 
@@ -171,26 +167,18 @@ module _ (shape : Shape) (P : List Step) (before : RunTrunks) (known : IsKnown s
   answered_keeps : (up : TrunkUp)
       → TellsSide (kept_of to t) (kept_of to v) (kept_of from t) up
       → KeepsTrunk (answered P n l to up v)
-  answered_keeps Nothing tells = v_kept
   answered_keeps (WentUp session peer) tells =
       asks_keep to (names_hunted P n l) (hunted_named shape P known.sound.legal n l) v v_kept
-  answered_keeps (WentDown session) tells = v_kept
-  answered_keeps (Arrived a b note) tells = v_kept
-  answered_keeps (Met i name) tells = v_kept
-  answered_keeps (Gone i) tells = v_kept
   answered_keeps (Asked name) tells =
       publishes_keep name tells (holder_of P n name) refl
+  answered_keeps _ tells = v_kept
 
   answered_uses : (up : TrunkUp) → UsesUpTo (suc (length P)) (answered P n l to up v)
-  answered_uses Nothing = up_to_more (length P) v v_used
   answered_uses (WentUp session peer) =
       up_to_more (length P) (asks_for to (names_hunted P n l) v)
       (asks_use to (names_hunted P n l) v (length P) v_used)
-  answered_uses (WentDown session) = up_to_more (length P) v v_used
-  answered_uses (Arrived a b note) = up_to_more (length P) v v_used
-  answered_uses (Met i name) = up_to_more (length P) v v_used
-  answered_uses (Gone i) = up_to_more (length P) v v_used
   answered_uses (Asked name) = publishes_use name (holder_of P n name)
+  answered_uses _ = up_to_more (length P) v v_used
 
   abbrev u : TrunkState
   u = answered P n l (other_of from) (told_by from 0 reading (before l.0)) v

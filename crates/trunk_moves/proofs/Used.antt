@@ -10,10 +10,9 @@ use Rattle.linx_base.specs.SigNotes.{SigNote}
 use Rattle.link_addresses.specs.declared.meaning.Meaning.{Meaning}
 use Rattle.link_addresses.specs.declared.meaning.Meaning.TheVariants.{Free, Live, Closing}
 use Rattle.link_addresses.specs.Meanings.{address_of, is_used, meaning_of, used_in, with_lowest}
-use Rattle.rlnh_messages.specs.declared.rlnh.Rlnh.TheVariants.{Init, InitReply, QueryName}
 use Rattle.rlnh_messages.specs.declared.rlnh.Rlnh.TheVariants.{Publish, Unpublish, UnpublishAck}
 use Rattle.rlnh_end.specs.declared.heard.Heard.{Heard}
-use Rattle.rlnh_end.specs.declared.heard.Heard.TheVariants.{Control, Garbage, Signal}
+use Rattle.rlnh_end.specs.declared.heard.Heard.TheVariants.{Control, Signal}
 use Rattle.rlnh_end.specs.Calls.{Saying, announced, close_of, closed, publish_sender_of, opened_of}
 use Rattle.rlnh_end.specs.Calls.{end_saying, publish_of, query_of, send_of}
 use Rattle.rlnh_end.specs.declared.up.Up.TheVariants.{Bad, Met}
@@ -105,9 +104,6 @@ send_used t i name b note = by_address (address_of t.own i)
 heard_used : (t : RlnhTables) (reading : Heard)
     → used_in (hears t reading).made.tables.own ≤ used_in t.own
 unfolding hears
-heard_used t (Control Init) = omega arith
-heard_used t (Control InitReply) = omega arith
-heard_used t (Control (QueryName name)) = omega arith
 heard_used t (Control (Publish addr i name)) =
     by_met (is_some (inc_met t.met addr) || is_some (addr_met t.met i))
   where
@@ -135,7 +131,7 @@ heard_used t (Signal from to note) = by_parts (inc_met t.met from) (meaning_of t
     by_parts (Some i) Free = omega arith
     by_parts (Some i) (Live k) = omega arith
     by_parts (Some i) (Closing k) = omega arith
-heard_used t Garbage = omega arith
+heard_used t _ = omega arith
 
 -- ---- a trunk
 

@@ -94,10 +94,7 @@ half_giving A B g y later half pair back said fits = record {
         → was_unpublished j A.now.said ≡ true
     frees_it (freed a b note) there j e =
         subst (λ (k : Inc). was_unpublished k A.now.said ≡ true) (sym (same_inc-is j b e)) there
-    frees_it (met i name) there j e = absurd (true≢false (sym e))
-    frees_it (asked_for name) there j e = absurd (true≢false (sym e))
-    frees_it (arrived a b note) there j e = absurd (true≢false (sym e))
-    frees_it (gone i) there j e = absurd (true≢false (sym e))
+    frees_it _ there j e = absurd (true≢false (sym e))
 
     turn : (h : Given) → FitsReceiver A h → AreInTurn (h ∷ A.now.given)
     turn (met i name) there = half.in_turn.0

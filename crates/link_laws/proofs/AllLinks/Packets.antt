@@ -127,11 +127,8 @@ module _ (shape : Shape) (P : List Step) (trunks : Trunks) (by : By) (l : LinkNo
       (may g given)
 
   pub given_at : (h : Given) → FitsReceiver A h → IsAt n h
-  given_at (met a name) live = tt
-  given_at (asked_for name) live = tt
   given_at (arrived a b note) live = open-on P n b (near.live b live)
-  given_at (freed a b note) live = tt
-  given_at (gone a) live = tt
+  given_at _ live = tt
 
   elsewhere : (h : LinkNo) (side : Side) → IsLinkOf shape h
       → ((n == node_at shape h side) && (l.0 == h.0)) ≡ false

@@ -52,7 +52,7 @@ none-ends p c d (Down n l x ∷ es) ends = ap (λ t. t || list_any p es) (d n l 
 none-ends p c d (_ ∷ es) ends = absurd (true≢false (sym ends.0))
 
 -- a side goes down at most once a step
-few-downs : (P : List Step) (n l : ℕ) → downs P n l ≤ length P
+pub few-downs : (P : List Step) (n l : ℕ) → downs P n l ≤ length P
 few-downs [] n l = omega arith
 few-downs (s ∷ P) n l =
     by_restart (restarts n s.head) (list_any (ends_session n l) s.effects) (few-downs P n l)
@@ -62,6 +62,16 @@ few-downs (s ∷ P) n l =
     by_restart true u few = omega arith
     by_restart false true few = omega arith
     by_restart false false few = omega arith
+
+-- and a node boots at most once a step
+pub few-boots : (P : List Step) (n : ℕ) → boots P n ≤ length P
+few-boots [] n = omega arith
+few-boots (s ∷ P) n = by_restart (restarts n s.head) (few-boots P n)
+  where
+    by_restart : (t : Bool) → boots P n ≤ length P
+        → cond t (suc (boots P n)) (boots P n) ≤ suc (length P)
+    by_restart true few = omega arith
+    by_restart false few = omega arith
 
 module _ (shape : Shape) (P : List Step) (before after : Links) (known : IsKnown shape P before)
     (by : By) (node : NodeNo) (begins : Restarts shape P before after node.0) where

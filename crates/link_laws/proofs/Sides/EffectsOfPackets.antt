@@ -22,11 +22,7 @@ brought_by _ = nothing
 pub told_back : (P : List Step) (n : ℕ) (l : LinkNo) (what : Brought)
     → brought_by (brought_at P n l what) ≡ what
 told_back P n l nothing = refl
-told_back P n l (goes_up x y) = refl
-told_back P n l (goes_down x) = refl
-told_back P n l (arrives x a b note) = refl
-told_back P n l (meets x a name) = refl
-told_back P n l (parts x a) = refl
+told_back P n l _ = refl
 
 -- so the law of what it brought is that of what is told
 module _ {P : List Step} {n m : ℕ} {l : LinkNo} {es : List Effect}

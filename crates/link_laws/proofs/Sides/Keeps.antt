@@ -235,18 +235,12 @@ module _ (P : List Step) (s : Step) (n : ℕ) (l : LinkNo) (A : SideRecord) (g :
   same_up : (h : Given) (z : Option Session) → fold (session_after n l.0) z
       (shown_by (record { 0 = n }) l A.now.session h) ≡ z
   same_up (met a name) z = refl
-  same_up (asked_for name) z = refl
-  same_up (arrived a b note) z = refl
-  same_up (freed a b note) z = refl
-  same_up (gone a) z = refl
+  same_up _ z = refl
 
   same_pair : (x : Session) (h : Given) (z : Option Session)
       → fold (paired_after n l.0 x) z (shown_by (record { 0 = n }) l A.now.session h) ≡ z
   same_pair x (met a name) z = refl
-  same_pair x (asked_for name) z = refl
-  same_pair x (arrived a b note) z = refl
-  same_pair x (freed a b note) z = refl
-  same_pair x (gone a) z = refl
+  same_pair x _ z = refl
 
   pub keeps_giving : restarts n s.head ≡ false → ((x : Session)
       → signal_over n l.0 x (endpoint_by P s.by) s.head ≡ []) → IsLinked (s ∷ P) n l (giving g A)

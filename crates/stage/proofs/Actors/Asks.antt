@@ -24,9 +24,9 @@ use Rattle.journal.specs.History.{has_ended, last_endpoint}
 use Rattle.journal.specs.Shapes.{Shape, node_by, number_or_0}
 use Rattle.link_laws.specs.Ends.{IsLinkOf, end_or_0, link_at, node_at}
 use Rattle.script_words.specs.declared.command.Command.{Command}
-use Rattle.script_words.specs.declared.command.Command.TheVariants.{Open, Close, Send, Forward}
-use Rattle.script_words.specs.declared.command.Command.TheVariants.{Recv, Hunt, Attach, Detach}
-use Rattle.script_words.specs.declared.command.Command.TheVariants.{Keep, Cut, Mend, Restart}
+use Rattle.script_words.specs.declared.command.Command.TheVariants.{Send, Forward}
+use Rattle.script_words.specs.declared.command.Command.TheVariants.{Hunt, Attach, Detach}
+use Rattle.script_words.specs.declared.command.Command.TheVariants.{Cut, Mend, Restart}
 use Rattle.script_words.specs.declared.command.Command.TheVariants.{Settle}
 use Rattle.script_words.specs.Filling.{data_of, fits_data}
 use Rattle.script_words.specs.Numbers.{is_within}
@@ -179,24 +179,20 @@ module _ (s : ScriptParts) (script : IsScript s) (f : Layout) (shape : f.shape �
   fit-detach (Some r) = tt
 
   asks-fit : (c : Option Command) → FitsIf s node c → Fits (ask_of k me c)
-  asks-fit None fits = tt
-  asks-fit (Some (Open name)) fits = tt
-  asks-fit (Some Close) fits = tt
   asks-fit (Some (Send to number bytes)) fits =
       fit-send (peer_named k me to) (signal_of number (data_of bytes))
   asks-fit (Some (Forward to)) fits = fit-forward k.held (peer_named k me to)
-  asks-fit (Some (Recv filter)) fits = tt
   asks-fit (Some (Hunt path number bytes)) fits =
       path-leaves path (and_parts (fits_path s node path) (fits_data 65532 bytes) fits).0
   asks-fit (Some (Attach to r number bytes)) fits =
       fit-attach (peer_named k me to) (signal_of number (data_of bytes))
       (below_one (length (data_of bytes)) 65531 fits)
   asks-fit (Some (Detach r)) fits = fit-detach (lookup k.refs r)
-  asks-fit (Some (Keep name)) fits = tt
   asks-fit (Some (Cut l)) fits = link-declared l fits
   asks-fit (Some (Mend l)) fits = link-declared l fits
   asks-fit (Some (Restart n)) fits = node-declared n fits
   asks-fit (Some (Settle l)) fits = link-declared l fits
+  asks-fit _ fits = tt
 
 -- each of the commands fits
 fits_at : (s : ScriptParts) (node : NodeNo) (commands : List Command) (place : ℕ)

@@ -36,24 +36,11 @@ use Rattle.stage.proofs.Settling.Steps.{IsUnder, settlings-grow, still_in}
 
 -- THE EVENT that settles a link
 pub settles_it : (event : Event) (l : LinkNo) → settled_by event ≡ Some l → event ≡ asks.Settle l
-settles_it (asks.Open name) l is = cc
-settles_it asks.Close l is = cc
-settles_it (asks.Send q) l is = cc
-settles_it (asks.Look filter) l is = cc
-settles_it (asks.Hunt path) l is = cc
-settles_it (asks.Attach q) l is = cc
-settles_it (asks.Detach r) l is = cc
-settles_it (asks.Cut m) l is = cc
-settles_it (asks.Mend m) l is = cc
-settles_it (asks.Restart n) l is = cc
 settles_it (asks.Settle m) l is = ap asks.Settle (the_link is)
   where
     the_link : {a b : LinkNo} → Some a ≡ Some b → a ≡ b
     the_link same = cc
-settles_it (asks.Refuse reason) l is = cc
-settles_it asks.End l is = cc
-settles_it (asks.Wire m from verdict) l is = cc
-settles_it (asks.Tick m side) l is = cc
+settles_it _ l is = cc
 
 -- what is made of it
 settle-granted : (l : LinkNo) (hand : Option SigNote) (e : Option Inc) (at : ℕ)

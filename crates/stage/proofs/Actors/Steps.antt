@@ -116,29 +116,11 @@ module _ (shape : Shape) (P : List Step) (still : Bool) (k : ℕ) (me : Option I
       → is_some hand ≡ hands_over event
       → IsHeadOr shape P still k me event hand
       (head_of shape P still k node me event (signal_in hand))
-  head-made node (asks.Open name) hand e = bare (asks.Open name) hand (heads.Open name) e refl refl
-      refl
-  head-made node asks.Close hand e = bare asks.Close hand heads.Close e refl refl refl
   head-made node (asks.Send q) hand e = handing (asks.Send q) hand _ e refl refl
   head-made node (asks.Look f) hand e = looks f hand e (first_selected f (queue_of P me)) refl
   head-made node (asks.Hunt path) hand e = handing (asks.Hunt path) hand _ e refl refl
   head-made node (asks.Attach q) hand e = handing (asks.Attach q) hand _ e refl refl
-  head-made node (asks.Detach r) hand e = bare (asks.Detach r) hand _ e refl refl refl
-  head-made node (asks.Cut link) hand e = bare (asks.Cut link) hand (heads.Cut link) e refl refl
-      refl
-  head-made node (asks.Mend link) hand e = bare (asks.Mend link) hand (heads.Mend link) e refl refl
-      refl
-  head-made node (asks.Restart n) hand e = bare (asks.Restart n) hand (heads.Restart n) e refl refl
-      refl
-  head-made node (asks.Settle link) hand e =
-      bare (asks.Settle link) hand (heads.Settle link) e refl refl refl
-  head-made node (asks.Refuse reason) hand e =
-      bare (asks.Refuse reason) hand (heads.Refused reason) e refl refl refl
-  head-made node asks.End hand e = bare asks.End hand heads.Ended e refl refl refl
-  head-made node (asks.Wire link from verdict) hand e =
-      bare (asks.Wire link from verdict) hand (heads.Wire link from verdict) e refl refl refl
-  head-made node (asks.Tick link side) hand e =
-      bare (asks.Tick link side) hand (heads.Tick link side) e refl refl refl
+  head-made node event hand e = bare event hand _ e refl refl refl
 
 -- WHAT A STEP OPENS: the next incarnation of its maker's node where it is an opening, and else none
 meets-opens_none : (P : List Step) (n : ℕ) (l : LinkNo) (from : Side) (verdict : Verdict)

@@ -13,10 +13,8 @@ use Rattle.journal.specs.declared.head.Head.TheVariants as heads
 use Rattle.journal.specs.History.{closed_step, endpoint_of, is_by, last_endpoint}
 use Rattle.journal.specs.Rest.{waits_in, waits_with}
 use Rattle.script_words.specs.declared.command.Command.{Command}
-use Rattle.script_words.specs.declared.command.Command.TheVariants.{Open, Close, Send, Forward}
-use Rattle.script_words.specs.declared.command.Command.TheVariants.{Recv, Hunt, Attach, Detach}
-use Rattle.script_words.specs.declared.command.Command.TheVariants.{Keep, Cut, Mend, Restart}
-use Rattle.script_words.specs.declared.command.Command.TheVariants.{Settle}
+use Rattle.script_words.specs.declared.command.Command.TheVariants.{Send, Forward}
+use Rattle.script_words.specs.declared.command.Command.TheVariants.{Recv, Attach, Detach}
 use Rattle.script_words.specs.Filling.{data_of}
 use Rattle.node_kernel.specs.declared.ask.Ask.{Ask}
 use Rattle.node_kernel.specs.Answers.{answer_of, event_of, granted, is_pumped}
@@ -33,22 +31,7 @@ same_filter is = cc
 -- the head of a step that waits with a filter
 waits_only : (head : Head) (f : Sigsel) → waits_in head ≡ Some f → head ≡ heads.Waits f
 waits_only (heads.Waits g) f is = ap heads.Waits (same_filter is)
-waits_only (heads.Open name) f is = cc
-waits_only heads.Close f is = cc
-waits_only (heads.Send q note answer) f is = cc
-waits_only (heads.Take g position) f is = cc
-waits_only (heads.TakeNone g) f is = cc
-waits_only (heads.Hunt path note) f is = cc
-waits_only (heads.Attach q note) f is = cc
-waits_only (heads.Detach r answer) f is = cc
-waits_only (heads.Cut link) f is = cc
-waits_only (heads.Mend link) f is = cc
-waits_only (heads.Settle link) f is = cc
-waits_only (heads.Restart n) f is = cc
-waits_only (heads.Wire link from verdict) f is = cc
-waits_only (heads.Tick link side) f is = cc
-waits_only (heads.Refused reason) f is = cc
-waits_only heads.Ended f is = cc
+waits_only _ f is = cc
 
 -- only a receive asks for a look
 send_looks : (to : Option Peer) (signal : SigNote) (f : Sigsel)
@@ -70,27 +53,19 @@ detach_looks : (r : Option AttRef) (f : Sigsel) → (ask_detach r).event ≡ ask
 detach_looks None f is = cc
 detach_looks (Some r) f is = cc
 
-look_filter : {f g : Sigsel} → asks.Look f ≡ asks.Look g → f ≡ g
+pub look_filter : {f g : Sigsel} → asks.Look f ≡ asks.Look g → f ≡ g
 look_filter is = cc
 
 pub asks_look : (k : Knows) (me : Option Inc) (c : Option Command) (f : Sigsel)
     → (ask_of k me c).event ≡ asks.Look f → c ≡ Some (Recv f)
-asks_look k me None f is = cc
-asks_look k me (Some (Open name)) f is = cc
-asks_look k me (Some Close) f is = cc
 asks_look k me (Some (Send to number bytes)) f is =
     absurd (send_looks (peer_named k me to) (signal_of number (data_of bytes)) f is)
 asks_look k me (Some (Forward to)) f is = absurd (forward_looks k.held (peer_named k me to) f is)
 asks_look k me (Some (Recv filter)) f is = ap (λ g. Some (Recv g)) (look_filter is)
-asks_look k me (Some (Hunt path number bytes)) f is = cc
 asks_look k me (Some (Attach to r number bytes)) f is =
     absurd (attach_looks (peer_named k me to) (signal_of number (data_of bytes)) f is)
 asks_look k me (Some (Detach r)) f is = absurd (detach_looks (lookup k.refs r) f is)
-asks_look k me (Some (Keep name)) f is = cc
-asks_look k me (Some (Cut link)) f is = cc
-asks_look k me (Some (Mend link)) f is = cc
-asks_look k me (Some (Restart n)) f is = cc
-asks_look k me (Some (Settle link)) f is = cc
+asks_look k me _ f is = cc
 
 -- what is handed over changes no place
 handed_place : (commands : List Command) (mind : Knows) (me : Option Inc)

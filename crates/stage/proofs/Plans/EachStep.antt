@@ -38,23 +38,9 @@ use Rattle.stage.proofs.Settling.Steps.{pump-settles, settles-now, settlings-fix
 -- a step that is no packet's and no clock's is as planned
 pub unpumped-planned : (script : ScriptParts) (P : List Step) (trunks : RunTrunks) (head : Head)
     → is_pumped head ≡ false → IsPlannedHead script P trunks head
-unpumped-planned script P trunks (heads.Open name) calm = tt
-unpumped-planned script P trunks heads.Close calm = tt
-unpumped-planned script P trunks (heads.Send q note answer) calm = tt
-unpumped-planned script P trunks (heads.Take f position) calm = tt
-unpumped-planned script P trunks (heads.TakeNone f) calm = tt
-unpumped-planned script P trunks (heads.Waits f) calm = tt
-unpumped-planned script P trunks (heads.Hunt path note) calm = tt
-unpumped-planned script P trunks (heads.Attach q note) calm = tt
-unpumped-planned script P trunks (heads.Detach r answer) calm = tt
-unpumped-planned script P trunks (heads.Cut link) calm = tt
-unpumped-planned script P trunks (heads.Mend link) calm = tt
-unpumped-planned script P trunks (heads.Settle link) calm = tt
-unpumped-planned script P trunks (heads.Restart n) calm = tt
 unpumped-planned script P trunks (heads.Wire link from verdict) calm = absurd (true≢false calm)
 unpumped-planned script P trunks (heads.Tick link side) calm = absurd (true≢false calm)
-unpumped-planned script P trunks (heads.Refused reason) calm = tt
-unpumped-planned script P trunks heads.Ended calm = tt
+unpumped-planned script P trunks _ calm = tt
 
 -- a step as planned keeps the run so
 module _ (script : ScriptParts) (old new : Layout) (shape : old.shape ≡ shape_of script) where

@@ -31,25 +31,11 @@ module _ (script : ScriptParts) (P : List Step) (one two : RunTrunks)
   head-same : (after : RunTrunks) (n : ℕ) (me : Option Inc) (head : Head) (es : List Effect)
       → Makes (shape_of script) P one after n me head es → IsPlannedHead script P one head
       → IsPlannedHead script P two head
-  head-same after n me (heads.Open name) es makes planned = tt
-  head-same after n me heads.Close es makes planned = tt
-  head-same after n me (heads.Send q note answer) es makes planned = tt
-  head-same after n me (heads.Take f position) es makes planned = tt
-  head-same after n me (heads.TakeNone f) es makes planned = tt
-  head-same after n me (heads.Waits f) es makes planned = tt
-  head-same after n me (heads.Hunt path note) es makes planned = tt
-  head-same after n me (heads.Attach q note) es makes planned = tt
-  head-same after n me (heads.Detach r answer) es makes planned = tt
-  head-same after n me (heads.Cut link) es makes planned = tt
-  head-same after n me (heads.Mend link) es makes planned = tt
-  head-same after n me (heads.Settle link) es makes planned = tt
-  head-same after n me (heads.Restart k) es makes planned = tt
   head-same after n me (heads.Wire l from verdict) es makes planned =
       sym (pump-same l makes.of_shape) ∙ planned
   head-same after n me (heads.Tick l side) es makes planned =
       sym (pump-same l makes.of_shape) ∙ planned
-  head-same after n me (heads.Refused reason) es makes planned = tt
-  head-same after n me heads.Ended es makes planned = tt
+  head-same after n me _ es makes planned = tt
 
   -- and comes in its turn alike
   turn-same : (o : Option Settler) → settler_now (shape_of script) P one ≡ o → (by : By)

@@ -44,7 +44,7 @@ use Rattle.stage.specs.declared.stage.Turn.{Turn}
 use Rattle.stage.proofs.Actors.Going.{done-far, done-still, far-grows, step-grows}
 use Rattle.stage.proofs.Actors.Steps.{granted_endpoint, granted_look, vain-is}
 use Rattle.stage.proofs.Plans.PumpsRule.{pump-heads, pump-stirs}
-use Rattle.stage.proofs.Actors.Waiting.{waits_at}
+use Rattle.stage.proofs.Actors.Waiting.{look_filter, waits_at}
 
 -- where it adds none, there is no head
 step-none : (f : Layout) (by : By) (head : Option Head) (answer : StepAnswer)
@@ -87,9 +87,6 @@ pub record IsStuck (shape : Shape) (P : List Step) (still : Bool) (k : ℕ) : Ty
 the_filter : (w : Option Sigsel) → is_some w ≡ true → (f : Sigsel) × (w ≡ Some f)
 the_filter None is = absurd (true≢false (sym is))
 the_filter (Some f) is = (f, refl)
-
-look_filter : {f g : Sigsel} → asks.Look f ≡ asks.Look g → f ≡ g
-look_filter is = cc
 
 module _ (shape : Shape) (P : List Step) (still : Bool) (k : ℕ) (commands : List Command)
     (follows : Follows commands k P) where
@@ -178,7 +175,7 @@ rest-by_each P k (suc n) each =
         rw (before, is, each (suc n) (omega arith) (omega arith) other) refl
 
 -- STILL. None of so many links stirs
-still-by_each : (P : List Step) (trunks : RunTrunks) (n : ℕ)
+pub still-by_each : (P : List Step) (trunks : RunTrunks) (n : ℕ)
     → ((l : ℕ) → 0 < l → l ≤ n → stirs P trunks l ≡ false) → none_stirs P trunks n ≡ true
 still-by_each P trunks zero each = refl
 still-by_each P trunks (suc n) each =

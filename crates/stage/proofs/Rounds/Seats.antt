@@ -128,12 +128,13 @@ turned-seated script now k player over turned =
     ended true whole = whole.1
     ended false playing = playing.running
 
--- WHAT IS KNOWN OF EACH ACTOR
-seat_of : {X : Type 0} (xs : List X) (n : ℕ) → n < length xs → (x : X) × (slice_get xs n ≡ Some x)
+-- there is an element at each place within a list
+pub seat_of : {X : Type 0} (xs : List X) (n : ℕ) → n < length xs → (x : X) × (slice_get xs n ≡ Some x)
 seat_of [] n within = absurd (omega arith)
 seat_of (x ∷ xs) zero within = (x, refl)
 seat_of (x ∷ xs) (suc n) within = seat_of xs n (omega arith)
 
+-- WHAT IS KNOWN OF EACH ACTOR
 module _ (script : ScriptParts) (P : List Step) (players : List Player)
     (count : length players ≡ length script.actors) (seated : AreSeated script P players) where
   pub all-follow : AllFollow script P

@@ -18,23 +18,8 @@ use Rattle.stage.specs.Settlings.{settler_of}
 same_settler : (P : List Step) (by : By) (es : List Effect) (k : ℕ) (head : Head)
     → settler_by P k head
     ≡ settler_by ((let s : Step = record { by = by; head = head; effects = es } in s) ∷ P) k head
-same_settler P by es k (heads.Open name) = refl
 same_settler P by es k heads.Close = refl
-same_settler P by es k (heads.Send q note answer) = refl
-same_settler P by es k (heads.Take f position) = refl
-same_settler P by es k (heads.TakeNone f) = refl
-same_settler P by es k (heads.Waits f) = refl
-same_settler P by es k (heads.Hunt path note) = refl
-same_settler P by es k (heads.Attach q note) = refl
-same_settler P by es k (heads.Detach r answer) = refl
-same_settler P by es k (heads.Cut link) = refl
-same_settler P by es k (heads.Mend link) = refl
-same_settler P by es k (heads.Settle link) = refl
-same_settler P by es k (heads.Restart n) = refl
-same_settler P by es k (heads.Wire link from verdict) = refl
-same_settler P by es k (heads.Tick link side) = refl
-same_settler P by es k (heads.Refused reason) = refl
-same_settler P by es k heads.Ended = refl
+same_settler P by es k _ = refl
 
 after_same : (P : List Step) (by : By) (head : Head) (es : List Effect)
     → settler_after P by head
