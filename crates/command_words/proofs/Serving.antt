@@ -97,26 +97,12 @@ few_called (Some w) argument n is = few_with (is_help_flag argument) w argument 
 none_alone : (word : Option Word) (n : ℕ)
     → option_and_then (λ w. asked_alone w) word ≡ Some (Serve n) → ⊥
 none_alone None n is = cc
-none_alone (Some Run) n is = cc
-none_alone (Some Serial) n is = cc
-none_alone (Some Seed) n is = cc
-none_alone (Some Gen) n is = cc
-none_alone (Some Stream) n is = cc
-none_alone (Some Gateway) n is = cc
-none_alone (Some Help) n is = cc
-none_alone (Some Version) n is = cc
+none_alone _ n is = cc
 
 none_with_file : (word : Option Word) (argument file : List ℕ) (n : ℕ)
     → option_and_then (λ w. asked_with_file w argument file) word ≡ Some (Serve n) → ⊥
-none_with_file None argument file n is = cc
-none_with_file (Some Run) argument file n is = cc
-none_with_file (Some Serial) argument file n is = cc
 none_with_file (Some Seed) argument file n is = no_file (seeded argument) (is_file_name file) n is
-none_with_file (Some Gen) argument file n is = cc
-none_with_file (Some Stream) argument file n is = cc
-none_with_file (Some Gateway) argument file n is = cc
-none_with_file (Some Help) argument file n is = cc
-none_with_file (Some Version) argument file n is = cc
+none_with_file _ argument file n is = cc
 
 -- a gateway that words ask for has 1 to 16 clients
 pub few_clients : (texts : List (List ℕ)) (n : ℕ) → request_by texts ≡ Some (Serve n) → AreFew n

@@ -96,12 +96,7 @@ module _ (P : Reaction Input → Type 0) (s : EndState) (p : Packet) (rows : Pac
       → P (data_in (heard (up s p.src true)) p.src part)
   unfolding data_in
   ack_row (Conn kinds.Ack) e k = rows.up_ack between e
-  ack_row (Conn kinds.Connect) e k = absurd (grind arith)
-  ack_row (Conn kinds.ConnectAck) e k = absurd (grind arith)
-  ack_row (Conn kinds.Reset) e k = absurd (grind arith)
-  ack_row (Ack next) e k = absurd (grind arith)
-  ack_row (Nack next count) e k = absurd (grind arith)
-  ack_row (Piece next seq frame) e k = absurd (grind arith)
+  ack_row _ e k = absurd (grind arith)
 
 pub by_rules : (P : Reaction Input → Type 0) (s : EndState) (p : Packet) → PacketRules P s p
     → P (input_of s p)

@@ -43,12 +43,7 @@ module _ (s : EndState) (src : Session) where
   not_mine : (part : Part) → part ≢ Conn kinds.Connect
       → reacts s src part (from_peer s.talk src (kind_in part) false) ≡ gives s Nothing
   not_mine (Conn kinds.Connect) other = absurd (other refl)
-  not_mine (Conn kinds.ConnectAck) other = refl
-  not_mine (Conn kinds.Ack) other = refl
-  not_mine (Conn kinds.Reset) other = refl
-  not_mine (Ack next) other = refl
-  not_mine (Nack next count) other = refl
-  not_mine (Piece next seq frame) other = refl
+  not_mine _ other = refl
 
   other_part : (dst : ℕ) (part : Part) → part ≢ Conn kinds.Connect
       → (part ≡ Conn kinds.ConnectAck → dst ≢ s.talk.mine.0)
@@ -58,10 +53,7 @@ module _ (s : EndState) (src : Session) where
   other_part dst (Conn kinds.Connect) other a b = absurd (other refl)
   other_part dst (Conn kinds.ConnectAck) other a b = rw (ne_eqb dst s.talk.mine.0 (a refl)) refl
   other_part dst (Conn kinds.Ack) other a b = rw (ne_eqb dst s.talk.mine.0 (b refl)) refl
-  other_part dst (Conn kinds.Reset) other a b = refl
-  other_part dst (Ack next) other a b = refl
-  other_part dst (Nack next count) other a b = refl
-  other_part dst (Piece next seq frame) other a b = refl
+  other_part dst _ other a b = refl
 
 -- ---- a packet
 

@@ -16,7 +16,7 @@ use Rattle.ethcm_session.specs.Table.{standing_peer, up_with}
 use Rattle.ethcm_window.specs.Sending.{Sender, after_ack, empty_sender, sent_end}
 use Rattle.ethcm_window.specs.Receiving.{empty_receiver}
 use Rattle.fragmenter.specs.declared.joiner.Joined.{Joined}
-use Rattle.fragmenter.specs.declared.joiner.Joined.TheVariants.{More, Whole, Broken}
+use Rattle.fragmenter.specs.declared.joiner.Joined.TheVariants.{More}
 use Rattle.fragmenter.specs.Joining.{Begun, held_after, joiner_answer}
 use Rattle.ethcm_end.specs.declared.answers.Input.{Input}
 use Rattle.ethcm_end.specs.declared.answers.Input.TheVariants.{Nothing, WentUp, WentDown, Got}
@@ -39,10 +39,6 @@ taken_expected : (n : ℕ) (kept : List SentFrame) (held : Option Begun) (made :
     → n ≤ (take_kept n kept held made).rx.expected
 unfolding take_kept
 taken_expected n [] held More = omega arith
-taken_expected n [] held (Whole m) = omega arith
-taken_expected n [] held Broken = omega arith
-taken_expected n (s ∷ kept) held (Whole m) = omega arith
-taken_expected n (s ∷ kept) held Broken = omega arith
 taken_expected n (s ∷ kept) held More =
     elim (eqb_tells s.number n) [
       | inl same ↦
@@ -51,6 +47,7 @@ taken_expected n (s ∷ kept) held More =
           rw same.0 (omega arith)
       | inr other ↦ rw other.0 (same_number n)
     ]
+taken_expected n _ held _ = omega arith
 
 pub frames_expected : (s : EndState) (frame : Frame)
     → s.rx.expected ≤ (take_frames s frame).rx.expected

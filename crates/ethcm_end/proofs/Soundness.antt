@@ -245,10 +245,6 @@ taken_sound : (n : ℕ) (kept : List SentFrame) (held : Option Begun) (made : Jo
     → n ≤ number_limit → KeepsInOrder n kept → IsSoundReceiver (take_kept n kept held made).rx
 unfolding take_kept
 taken_sound n [] held More h r = record { expected = h; in_order = r }
-taken_sound n [] held (Whole m) h r = record { expected = h; in_order = r }
-taken_sound n [] held Broken h r = record { expected = h; in_order = r }
-taken_sound n (s ∷ kept) held (Whole m) h r = record { expected = h; in_order = r }
-taken_sound n (s ∷ kept) held Broken h r = record { expected = h; in_order = r }
 taken_sound n (s ∷ kept) held More h r =
     let rises = rises_from_expected n (s ∷ kept) r in
     elim (eqb_tells s.number n) [
@@ -262,6 +258,7 @@ taken_sound n (s ∷ kept) held More h r =
           (omega arith) order)
       | inr other ↦ rw other.0 (record { expected = h; in_order = r })
     ]
+taken_sound n _ held _ h r = record { expected = h; in_order = r }
 
 early_sound : (rx : Receiver) (sent : SentFrame) → IsSoundReceiver rx → rx.expected < sent.number
     → sent.number < number_limit

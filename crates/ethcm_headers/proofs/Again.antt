@@ -19,10 +19,7 @@ more_again false = refl
 
 MAIN_least : (chain : Chain) → 24 ≤ length_of chain
 MAIN_least (Conn kind) = omega arith
-MAIN_least (Ack next) = omega arith
-MAIN_least (Nack next count) = omega arith
-MAIN_least (First next seq more from to size) = omega arith
-MAIN_least (Next next seq more) = omega arith
+MAIN_least _ = omega arith
 
 -- MAIN, and what stands behind it
 record BeginsWithMain (l src dst : ℕ) (bytes : List ℕ) : Type 0 where
@@ -34,10 +31,7 @@ module _ (l src dst : ℕ) where
   pub length-chain_bytes : (chain : Chain) → length (chain_bytes l src dst chain) ≡ length_of chain
   unfolding chain_bytes main_header conn_header ack_header nack_header udata_header frag_header
   length-chain_bytes (Conn kind) = refl
-  length-chain_bytes (Ack next) = refl
-  length-chain_bytes (Nack next count) = refl
-  length-chain_bytes (First next seq more from to size) = refl
-  length-chain_bytes (Next next seq more) = refl
+  length-chain_bytes _ = refl
 
   -- what a packet of these headers has at least
   long_enough : (chain : Chain) (payload : List ℕ) (n : ℕ) → n ≤ length_of chain
@@ -55,20 +49,13 @@ module _ (l src dst : ℕ) where
   unfolding layout_at chain_bytes main_header conn_header ack_header nack_header udata_header
       frag_header
   layout_again (Conn kind) rest = refl
-  layout_again (Ack next) rest = refl
-  layout_again (Nack next count) rest = refl
-  layout_again (First next seq more from to size) rest = refl
-  layout_again (Next next seq more) rest = refl
+  layout_again _ rest = refl
 
   -- and so are their fields
   fields_again : (chain : Chain) (rest : List ℕ) → FitsChain chain
       → fields_at (layout_of chain) (chain_bytes l src dst chain ++ rest) ≡ Some chain
   unfolding fields_at number_at chain_bytes main_header conn_header ack_header nack_header
       udata_header frag_header
-  fields_again (Conn kinds.Connect) rest fits = refl
-  fields_again (Conn kinds.ConnectAck) rest fits = refl
-  fields_again (Conn kinds.Ack) rest fits = refl
-  fields_again (Conn kinds.Reset) rest fits = refl
   fields_again (Ack next) rest fits = rw (big_number-reads_back 4 next rest fits) refl
   fields_again (Nack next count) rest fits =
       rw (
@@ -91,6 +78,7 @@ module _ (l src dst : ℕ) where
         big_number-reads_back 4 seq rest fits.1,
         more_again more,
       ) refl
+  fields_again _ rest fits = refl
 
   pub chain_again : (chain : Chain) (rest : List ℕ) → FitsChain chain
       → chain_at (chain_bytes l src dst chain ++ rest) ≡ Some chain

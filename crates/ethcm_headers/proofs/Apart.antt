@@ -33,11 +33,8 @@ spelling-part_with src dst (Next next seq more) payload behind = simp append_ass
 
 -- taking apart and putting together
 pub part_with-apart : (part : Part) → part_with (chain_in part) (payload_in part) ≡ part
-part_with-apart (parts.Conn kind) = refl
-part_with-apart (parts.Ack next) = refl
-part_with-apart (parts.Nack next count) = refl
-part_with-apart (parts.Piece next seq (frames.First more from to size payload)) = refl
 part_with-apart (parts.Piece next seq (frames.Next more payload)) = refl
+part_with-apart _ = refl
 
 pub stands_behind : (part : Part) → StandsBehind (payload_in part) (chain_in part)
 stands_behind (parts.Conn kind) = refl
@@ -87,11 +84,8 @@ fits_headers packet is =
 
 short_chain : (part : Part) → IsPart part
     → length_of (chain_in part) + length (payload_in part) ≤ 8240
-short_chain (parts.Conn kind) bounds = omega arith
-short_chain (parts.Ack next) bounds = omega arith
-short_chain (parts.Nack next count) bounds = omega arith
-short_chain (parts.Piece next seq (frames.First more from to size payload)) bounds = omega arith
 short_chain (parts.Piece next seq (frames.Next more payload)) bounds = omega arith
+short_chain _ bounds = omega arith
 
 -- a packet has at most 8,240 bytes
 pub short_packet : (packet : Packet) → IsPacket packet → length (spelling_of packet) ≤ 8240

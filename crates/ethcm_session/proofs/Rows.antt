@@ -52,16 +52,10 @@ module _ (P : Outcome → Type 0) (old : TalkState) (src : Session) (dst : ℕ) 
   of_peer (Some Connect) to_me confirmed tells e rows = rows.up_connect confirmed e refl
   of_peer (Some ConnectAck) true confirmed tells e rows =
       rows.up_connect_ack confirmed e (tells.is refl) refl
-  of_peer (Some ConnectAck) false confirmed tells e rows =
-      rows.up_not_mine confirmed e (λ q. cc) (tells.isnt refl)
   of_peer (Some Ack) true confirmed tells e rows = rows.up_ack confirmed e (tells.is refl) refl
-  of_peer (Some Ack) false confirmed tells e rows =
-      rows.up_not_mine confirmed e (λ q. cc) (tells.isnt refl)
   of_peer (Some Reset) true confirmed tells e rows = rows.up_reset confirmed e (tells.is refl) refl
-  of_peer (Some Reset) false confirmed tells e rows =
-      rows.up_not_mine confirmed e (λ q. cc) (tells.isnt refl)
   of_peer None true confirmed tells e rows = rows.up_data confirmed e (tells.is refl) refl
-  of_peer None false confirmed tells e rows =
+  of_peer _ false confirmed tells e rows =
       rows.up_not_mine confirmed e (λ q. cc) (tells.isnt refl)
 
   of_up : (kind : Option ConnKind) (peer : Session) (confirmed lower greater : Bool)

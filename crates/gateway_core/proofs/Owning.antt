@@ -52,10 +52,8 @@ closes_none : (P : List Step) (node : ℕ) (me : Option Inc) (head : Head)
 closes_none P node me (heads.Open name) leaves i =
     (only-founds (Here (next_inc node (opened_on P node))) (hunts_for (Local name)
     (hunting P node))).closes_none i
-closes_none P node None (heads.Send q note answer) leaves i = refl
 closes_none P node (Some j) (heads.Send q note answer) leaves i =
     (only-arrivals j note (is_alive P node q) q).closes_none i
-closes_none P node None (heads.Hunt path note) leaves i = refl
 closes_none P node (Some j) (heads.Hunt path note) leaves i = (only-hunted (find P node path)
     (record {
       at = j;
@@ -63,7 +61,6 @@ closes_none P node (Some j) (heads.Hunt path note) leaves i = (only-hunted (find
       signal = note;
       number = suc (length P);
     })).closes_none i
-closes_none P node None (heads.Attach q note) leaves i = refl
 closes_none P node (Some j) (heads.Attach q note) leaves i = (only-attached (is_alive P node q)
     (record {
       at = j;
@@ -74,7 +71,7 @@ closes_none P node (Some j) (heads.Attach q note) leaves i = (only-attached (is_
 closes_none P node me heads.Close leaves i = cc
 closes_none P node me (heads.Restart n) leaves i = cc
 closes_none P node me heads.Ended leaves i = cc
-closes_none P node me _ leaves i = refl
+closes_none P node _ _ leaves i = refl
 
 -- AN ENDPOINT THAT IS OPEN stays so where the effects don't close it
 unless_closed-same : (es : List Effect) (e : Option Inc) → is_lost es e ≡ false

@@ -64,17 +64,10 @@ module _ (P : TimerState → Type 0) (stays : Stays P) where
 
   pub handled : (client : ℕ) (request : Request) (old new : GateState) (reply : Reply)
       → Handles client request old new reply → P (timer_state old) → P (timer_state new)
-  handled client (asks.Open name) old new reply is here = same old new (ap timer_state is.rest) here
   handled client asks.Close old new reply is here =
       subst P (sym (ap timer_state is.rest)) (stays.close client (timer_state old) here)
-  handled client (asks.Send to signal) old new reply is here =
-      same old new (ap timer_state is.rest) here
   handled client (asks.Receive count numbers) old new reply is here =
       receives client (filter_of count numbers) old new reply is here
-  handled client (asks.Hunt name) old new reply is here = same old new (ap timer_state is.rest) here
-  handled client (asks.Attach peer) old new reply is here =
-      same old new (ap timer_state is.rest) here
-  handled client (asks.Detach r) old new reply is here = same old new (ap timer_state is.rest) here
   handled client (asks.Timer delay signal) old new reply is here =
       if_open (endpoint_of old.layout.log.steps client) (closed_step old.layout.log.steps client)
       old new reply _ is
@@ -92,6 +85,7 @@ module _ (P : TimerState → Type 0) (stays : Stays P) where
       (stays.modify client reference (old.clock + delay) (timer_state old) here)) here
   handled client (asks.Clock moment) old new reply is here =
       clocks (nat_lt moment old.clock || nat_lt last_moment moment) moment old new reply is here
+  handled client _ old new reply is here = same old new (ap timer_state is.rest) here
 
   pub stopped : (request : Request) (old new : GateState) → Stops request old new
       → P (timer_state old) → P (timer_state new)

@@ -31,7 +31,6 @@ name_parts name is = and_parts (nat_le 1 (length name) && nat_le (length name) 3
 pub sized : (request : Request) → FitsFields request
     → fits_size (type_of request) (length (body_of request)) ≡ true
 sized (asks.Open name) fits = (name_parts name fits).0
-sized asks.Close fits = refl
 sized (asks.Send to signal) fits =
     let held = fits.1.1 in
     let size = length-append (big_bytes 8 to.0) (signal_bytes signal) in
@@ -43,31 +42,19 @@ sized (asks.Receive count numbers) fits =
     let words_size = length_words numbers in
     grind (arith, nat_tests)
 sized (asks.Hunt name) fits = (name_parts name fits).0
-sized (asks.Attach peer) fits = refl
-sized (asks.Detach attach) fits = refl
 sized (asks.Timer delay signal) fits =
     let held = fits.1.1 in
     let size = length-append (big_bytes 4 delay) (signal_bytes signal) in
     let signal_size = length-append (big_bytes 4 signal.number) signal.bytes in
     grind (arith, nat_tests)
-sized (asks.Cancel reference) fits = refl
-sized (asks.Modify reference delay) fits = refl
-sized (asks.Clock moment) fits = refl
+sized _ fits = refl
 
 -- and where it is a name's its bytes are
 pub named : (request : Request) → FitsFields request
     → may_be_body (type_of request) (body_of request) ≡ true
 named (asks.Open name) fits = (name_parts name fits).1
-named asks.Close fits = refl
-named (asks.Send to signal) fits = refl
-named (asks.Receive count numbers) fits = refl
 named (asks.Hunt name) fits = (name_parts name fits).1
-named (asks.Attach peer) fits = refl
-named (asks.Detach attach) fits = refl
-named (asks.Timer delay signal) fits = refl
-named (asks.Cancel reference) fits = refl
-named (asks.Modify reference delay) fits = refl
-named (asks.Clock moment) fits = refl
+named _ fits = refl
 
 -- who asks
 client_test : (clients client : ℕ) → (0 < client) × (client ≤ clients)
@@ -77,17 +64,8 @@ client_test clients client is =
 
 pub asked_by : (clients client : ℕ) (request : Request) → IsAsker clients client request
     → is_asker clients (type_of request) client ≡ true
-asked_by clients client (asks.Open name) is = client_test clients client is
-asked_by clients client asks.Close is = client_test clients client is
-asked_by clients client (asks.Send to signal) is = client_test clients client is
-asked_by clients client (asks.Receive count numbers) is = client_test clients client is
-asked_by clients client (asks.Hunt name) is = client_test clients client is
-asked_by clients client (asks.Attach peer) is = client_test clients client is
-asked_by clients client (asks.Detach attach) is = client_test clients client is
-asked_by clients client (asks.Timer delay signal) is = client_test clients client is
-asked_by clients client (asks.Cancel reference) is = client_test clients client is
-asked_by clients client (asks.Modify reference delay) is = client_test clients client is
 asked_by clients client (asks.Clock moment) is = eq-eqb client 0 is
+asked_by clients client _ is = client_test clients client is
 
 client_of : (clients client : ℕ) → is_asker clients 2 client ≡ true
     → (0 < client) × (client ≤ clients)
@@ -95,17 +73,8 @@ client_of clients client is = (grind (arith, nat_tests), grind (arith, nat_tests
 
 pub asks_for : (clients client : ℕ) (request : Request)
     → is_asker clients (type_of request) client ≡ true → IsAsker clients client request
-asks_for clients client (asks.Open name) is = client_of clients client is
-asks_for clients client asks.Close is = client_of clients client is
-asks_for clients client (asks.Send to signal) is = client_of clients client is
-asks_for clients client (asks.Receive count numbers) is = client_of clients client is
-asks_for clients client (asks.Hunt name) is = client_of clients client is
-asks_for clients client (asks.Attach peer) is = client_of clients client is
-asks_for clients client (asks.Detach attach) is = client_of clients client is
-asks_for clients client (asks.Timer delay signal) is = client_of clients client is
-asks_for clients client (asks.Cancel reference) is = client_of clients client is
-asks_for clients client (asks.Modify reference delay) is = client_of clients client is
 asks_for clients client (asks.Clock moment) is = grind (arith, nat_tests)
+asks_for clients client _ is = client_of clients client is
 
 -- ---- the request of a body
 
@@ -253,12 +222,8 @@ made_cancel body is =
 
 whole_4 : (bytes : List ℕ) → AreBytes bytes → length bytes ≡ 4
     → bytes ≡ big_bytes 4 (big_number 4 bytes)
-whole_4 [] are long = absurd (omega arith)
-whole_4 (a ∷ []) are long = absurd (omega arith)
-whole_4 (a ∷ b ∷ []) are long = absurd (omega arith)
-whole_4 (a ∷ b ∷ c ∷ []) are long = absurd (omega arith)
-whole_4 (a ∷ b ∷ c ∷ d ∷ x ∷ rest) are long = absurd (omega arith)
 whole_4 (a ∷ b ∷ c ∷ d ∷ []) are long = spelled_4 (a ∷ b ∷ c ∷ d ∷ []) are (omega arith)
+whole_4 _ are long = absurd (omega arith)
 
 made_modify : (body : List ℕ) → IsBody 10 body → HasRequest 10 body
 made_modify body is =

@@ -40,7 +40,6 @@ name_few name is =
 
 few : (request : Request) → FitsFields request → length (body_of request) ≤ 65544
 few (asks.Open name) fits = name_few name fits
-few asks.Close fits = omega arith
 few (asks.Send to signal) fits =
     omega (
       arith,
@@ -59,8 +58,6 @@ few (asks.Receive count numbers) fits =
       four_long count,
     )
 few (asks.Hunt name) fits = name_few name fits
-few (asks.Attach peer) fits = omega arith
-few (asks.Detach attach) fits = omega arith
 few (asks.Timer delay signal) fits =
     omega (
       arith,
@@ -70,9 +67,7 @@ few (asks.Timer delay signal) fits =
       four_long delay,
       four_long signal.number,
     )
-few (asks.Cancel reference) fits = omega arith
-few (asks.Modify reference delay) fits = omega arith
-few (asks.Clock moment) fits = omega arith
+few _ fits = omega arith
 
 -- a request has a body of so many bytes
 pub record Parts (clients : ℕ) (bytes : List ℕ) : Type 0 where
@@ -172,11 +167,8 @@ becomes_least (a ∷ b ∷ c ∷ []) are short most =
 becomes_least (a ∷ b ∷ c ∷ d ∷ bytes) are short most = absurd (omega arith)
 
 least_is : (bytes : List ℕ) → length bytes < 4 → 4 ≤ least_length bytes
-least_is [] short = omega arith
-least_is (a ∷ []) short = omega arith
-least_is (a ∷ b ∷ []) short = omega arith
-least_is (a ∷ b ∷ c ∷ []) short = omega arith
 least_is (a ∷ b ∷ c ∷ d ∷ bytes) short = absurd (omega arith)
+least_is _ short = omega arith
 
 -- ---- what may follow may also come in part
 
@@ -258,15 +250,12 @@ pub record Found (clients room : ℕ) (bytes : List ℕ) (whole : ℕ) : Type 0 
 -- what stands behind the length of the first so many bytes
 rest_is : (bytes rest : List ℕ) (n : ℕ) → take (n + 8) bytes ≡ big_bytes 4 (n + 4) ++ rest
     → n + 8 ≤ length bytes → take (n + 4) (drop 4 bytes) ≡ rest
-rest_is [] rest n is long = absurd (omega arith)
-rest_is (a ∷ []) rest n is long = absurd (omega arith)
-rest_is (a ∷ b ∷ []) rest n is long = absurd (omega arith)
-rest_is (a ∷ b ∷ c ∷ []) rest n is long = absurd (omega arith)
 rest_is (a ∷ b ∷ c ∷ d ∷ bytes) rest n is long =
     let more : n + 8 ≡ suc (suc (suc (suc (n + 4)))) = omega arith in
     let four : take (suc (suc (suc (suc (n + 4))))) (a ∷ b ∷ c ∷ d ∷ bytes) ≡ big_bytes 4 (n + 4) ++ rest =
     subst (λ (k : ℕ). take k (a ∷ b ∷ c ∷ d ∷ bytes) ≡ big_bytes 4 (n + 4) ++ rest) more is in
     ap (drop 4) four
+rest_is _ rest n is long = absurd (omega arith)
 
 module _ (clients room : ℕ) (bytes : List ℕ) where
   pub found : (whole : ℕ) → BeginsWith clients room bytes whole → Found clients room bytes whole

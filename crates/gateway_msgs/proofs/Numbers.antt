@@ -36,42 +36,24 @@ letters_bytes (suc n) (suc k) = letters_bytes n k
 -- the number that bytes begin with, spelled again
 pub spelled_4 : (bytes : List ℕ) → AreBytes bytes → 4 ≤ length bytes
     → bytes ≡ big_bytes 4 (big_number 4 bytes) ++ drop 4 bytes
-spelled_4 [] are long = absurd (omega arith)
-spelled_4 (a ∷ []) are long = absurd (omega arith)
-spelled_4 (a ∷ b ∷ []) are long = absurd (omega arith)
-spelled_4 (a ∷ b ∷ c ∷ []) are long = absurd (omega arith)
 spelled_4 (a ∷ b ∷ c ∷ d ∷ rest) are long =
     ap (λ l. l ++ rest) (sym (be_bytes_4 (a ∷ b ∷ c ∷ d ∷ []) (big_number 4 (a ∷ b ∷ c ∷ d ∷ rest))
     refl (take_bytes 4 (a ∷ b ∷ c ∷ d ∷ rest) are) (omega arith)))
+spelled_4 _ are long = absurd (omega arith)
 
 pub spelled_8 : (bytes : List ℕ) → AreBytes bytes → 8 ≤ length bytes
     → bytes ≡ big_bytes 8 (big_number 8 bytes) ++ drop 8 bytes
-spelled_8 [] are long = absurd (omega arith)
-spelled_8 (a ∷ []) are long = absurd (omega arith)
-spelled_8 (a ∷ b ∷ []) are long = absurd (omega arith)
-spelled_8 (a ∷ b ∷ c ∷ []) are long = absurd (omega arith)
-spelled_8 (a ∷ b ∷ c ∷ d ∷ []) are long = absurd (omega arith)
-spelled_8 (a ∷ b ∷ c ∷ d ∷ e ∷ []) are long = absurd (omega arith)
-spelled_8 (a ∷ b ∷ c ∷ d ∷ e ∷ f ∷ []) are long = absurd (omega arith)
-spelled_8 (a ∷ b ∷ c ∷ d ∷ e ∷ f ∷ g ∷ []) are long = absurd (omega arith)
 spelled_8 (a ∷ b ∷ c ∷ d ∷ e ∷ f ∷ g ∷ h ∷ rest) are long =
     ap (λ l. l ++ rest) (sym (be_bytes_8 (a ∷ b ∷ c ∷ d ∷ e ∷ f ∷ g ∷ h ∷ [])
     (big_number 8 (a ∷ b ∷ c ∷ d ∷ e ∷ f ∷ g ∷ h ∷ rest)) refl
     (take_bytes 8 (a ∷ b ∷ c ∷ d ∷ e ∷ f ∷ g ∷ h ∷ rest) are) (omega arith)))
+spelled_8 _ are long = absurd (omega arith)
 
 pub whole_8 : (bytes : List ℕ) → AreBytes bytes → length bytes ≡ 8
     → bytes ≡ big_bytes 8 (big_number 8 bytes)
-whole_8 [] are long = absurd (omega arith)
-whole_8 (a ∷ []) are long = absurd (omega arith)
-whole_8 (a ∷ b ∷ []) are long = absurd (omega arith)
-whole_8 (a ∷ b ∷ c ∷ []) are long = absurd (omega arith)
-whole_8 (a ∷ b ∷ c ∷ d ∷ []) are long = absurd (omega arith)
-whole_8 (a ∷ b ∷ c ∷ d ∷ e ∷ []) are long = absurd (omega arith)
-whole_8 (a ∷ b ∷ c ∷ d ∷ e ∷ f ∷ []) are long = absurd (omega arith)
-whole_8 (a ∷ b ∷ c ∷ d ∷ e ∷ f ∷ g ∷ []) are long = absurd (omega arith)
-whole_8 (a ∷ b ∷ c ∷ d ∷ e ∷ f ∷ g ∷ h ∷ x ∷ rest) are long = absurd (omega arith)
 whole_8 (a ∷ b ∷ c ∷ d ∷ e ∷ f ∷ g ∷ h ∷ []) are long =
     spelled_8 (a ∷ b ∷ c ∷ d ∷ e ∷ f ∷ g ∷ h ∷ []) are (omega arith)
+whole_8 _ are long = absurd (omega arith)
 
 pub fits_4 : (bytes : List ℕ) → AreBytes bytes → big_number 4 bytes < 2 ^ 32
 fits_4 bytes are = big_from-lt 0 4 bytes are
@@ -82,11 +64,8 @@ fits_8 bytes are = big_from-lt 0 8 bytes are
 -- ---- numbers of four bytes each
 
 pub words : List ℕ → List ℕ
-words [] = []
-words (a ∷ []) = []
-words (a ∷ b ∷ []) = []
-words (a ∷ b ∷ c ∷ []) = []
 words (a ∷ b ∷ c ∷ d ∷ rest) = big_number 4 (a ∷ b ∷ c ∷ d ∷ []) ∷ words rest
+words _ = []
 
 pub words_again : (numbers : List ℕ) → AllByRecursion (λ n. n < 2 ^ 32) numbers
     → words (flat_map (big_bytes 4) numbers) ≡ numbers

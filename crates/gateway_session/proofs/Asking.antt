@@ -9,14 +9,5 @@ use Rattle.gateway_core.specs.Handling.{IsAskerOf}
 -- one of the clients that a request may be of is one of the gateway's
 pub asker : (f : Layout) (client : ℕ) (request : Request)
     → IsAsker (length f.shape.actors) client request → IsAskerOf f client request
-asker f client (asks.Open name) is = record { above = is.0; within = is.1 }
-asker f client asks.Close is = record { above = is.0; within = is.1 }
-asker f client (asks.Send to signal) is = record { above = is.0; within = is.1 }
-asker f client (asks.Receive count numbers) is = record { above = is.0; within = is.1 }
-asker f client (asks.Hunt name) is = record { above = is.0; within = is.1 }
-asker f client (asks.Attach peer) is = record { above = is.0; within = is.1 }
-asker f client (asks.Detach attach) is = record { above = is.0; within = is.1 }
-asker f client (asks.Timer delay signal) is = record { above = is.0; within = is.1 }
-asker f client (asks.Cancel reference) is = record { above = is.0; within = is.1 }
-asker f client (asks.Modify reference delay) is = record { above = is.0; within = is.1 }
 asker f client (asks.Clock moment) is = is
+asker f client _ is = record { above = is.0; within = is.1 }

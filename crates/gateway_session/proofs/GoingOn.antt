@@ -116,20 +116,8 @@ clocks false moment old new reply is = strikes moment old new reply is
 
 handled : (client : ℕ) (request : Request) (old new : GateState) (reply : Reply)
     → Handles client request old new reply → GoesOnFrom old new
-handled client (asks.Open name) old new reply is =
-    of_layouts old new (made_of client _ old.layout new.layout reply is.made)
-handled client asks.Close old new reply is =
-    of_layouts old new (made_of client _ old.layout new.layout reply is.made)
-handled client (asks.Send to signal) old new reply is =
-    of_layouts old new (made_of client _ old.layout new.layout reply is.made)
 handled client (asks.Receive count numbers) old new reply is =
     receives client (filter_of count numbers) old new reply is
-handled client (asks.Hunt name) old new reply is =
-    of_layouts old new (made_of client _ old.layout new.layout reply is.made)
-handled client (asks.Attach peer) old new reply is =
-    of_layouts old new (made_of client _ old.layout new.layout reply is.made)
-handled client (asks.Detach attach) old new reply is =
-    of_layouts old new (made_of client _ old.layout new.layout reply is.made)
 handled client (asks.Timer delay signal) old new reply is =
     where_open (endpoint_of old.layout.log.steps client) (closed_step old.layout.log.steps client)
     old new
@@ -155,6 +143,8 @@ handled client (asks.Modify reference delay) old new reply is =
     reply (done_or_none (list_any (is_timer client reference) old.timers)) refl is
 handled client (asks.Clock moment) old new reply is =
     clocks (nat_lt moment old.clock || nat_lt last_moment moment) moment old new reply is
+handled client _ old new reply is =
+    of_layouts old new (made_of client _ old.layout new.layout reply is.made)
 
 amid : (moment : ℕ) (old new : GateState) → StopsAmid moment old new → GoesOnFrom old new
 amid moment old new is =
@@ -162,17 +152,8 @@ amid moment old new is =
     (kept is.sent new (ap (λ (g : GateState). g.layout) is.rest))
 
 stops : (request : Request) (old new : GateState) → Stops request old new → GoesOnFrom old new
-stops (asks.Open name) old new is = same old new is
-stops asks.Close old new is = same old new is
-stops (asks.Send to signal) old new is = same old new is
-stops (asks.Receive count numbers) old new is = same old new is
-stops (asks.Hunt name) old new is = same old new is
-stops (asks.Attach peer) old new is = same old new is
-stops (asks.Detach attach) old new is = same old new is
-stops (asks.Timer delay signal) old new is = same old new is
-stops (asks.Cancel reference) old new is = same old new is
-stops (asks.Modify reference delay) old new is = same old new is
 stops (asks.Clock moment) old new is = amid moment old new is
+stops _ old new is = same old new is
 
 pub replied : (old new : GateState) (bytes reply : List ℕ) → Replies old bytes new reply
     → GoesOnFrom old new

@@ -24,18 +24,13 @@ received client (Some selected) old new reply is call = is.made.room
 handled : (client : ℕ) (request : Request) (old new : GateState) (reply : Reply)
     → Handles client request old new reply → is_call request ≡ true
     → is_full old.layout.log.steps ≡ false
-handled client (asks.Open name) old new reply is call = is.made.room
-handled client asks.Close old new reply is call = is.made.room
-handled client (asks.Send to signal) old new reply is call = is.made.room
 handled client (asks.Receive count numbers) old new reply is call =
     received client (filter_of count numbers) old new reply is call
-handled client (asks.Hunt name) old new reply is call = is.made.room
-handled client (asks.Attach peer) old new reply is call = is.made.room
-handled client (asks.Detach attach) old new reply is call = is.made.room
 handled client (asks.Timer delay signal) old new reply is call = absurd cc
 handled client (asks.Cancel reference) old new reply is call = absurd cc
 handled client (asks.Modify reference delay) old new reply is call = absurd cc
 handled client (asks.Clock moment) old new reply is call = absurd cc
+handled client _ old new reply is call = is.made.room
 
 pub no_call : (old new : GateState) (bytes reply : List ℕ) (is : Replies old bytes new reply)
     → is_call is.request ≡ true → is_full old.layout.log.steps ≡ false

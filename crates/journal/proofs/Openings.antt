@@ -22,9 +22,9 @@ use Rattle.linx_base.specs.SigNotes.{SigNote}
 use Rattle.journal.specs.declared.by.By.{By}
 use Rattle.journal.specs.declared.by.By.TheVariants.{Actor, Pump}
 use Rattle.journal.specs.declared.head.Head.{Head}
-use Rattle.journal.specs.declared.head.Head.TheVariants.{Open, Close, Send, Take, TakeNone, Waits}
-use Rattle.journal.specs.declared.head.Head.TheVariants.{Hunt, Attach, Detach, Cut, Mend, Settle}
-use Rattle.journal.specs.declared.head.Head.TheVariants.{Restart, Wire, Tick, Refused, Ended}
+use Rattle.journal.specs.declared.head.Head.TheVariants.{Open, Close, Send}
+use Rattle.journal.specs.declared.head.Head.TheVariants.{Hunt, Attach}
+use Rattle.journal.specs.declared.head.Head.TheVariants.{Restart, Ended}
 use Rattle.journal.specs.declared.effect.Effect.{Effect}
 use Rattle.journal.specs.declared.effect.Effect.TheVariants.{Opened, Closed}
 use Rattle.journal.specs.declared.effect.Step.{Step}
@@ -119,20 +119,11 @@ module _ (P : List Step) (node : ℕ) where
       (founds-open_none (Local name) (Here (next_on P node)) (hunting P node))
   effects-open me Close = ending-open_none me (owed P node)
   effects-open me (Send q note answer) = sending-open_none me q note
-  effects-open me (Take filter position) = refl
-  effects-open me (TakeNone filter) = refl
-  effects-open me (Waits filter) = refl
   effects-open me (Hunt path note) = hunting-open_none me path note
   effects-open me (Attach q note) = attaching-open_none me q note
-  effects-open me (Detach r answer) = refl
-  effects-open me (Cut l) = refl
-  effects-open me (Mend l) = refl
-  effects-open me (Settle l) = refl
   effects-open me (Restart n) = closings-open_none (open_endpoints P n.0)
-  effects-open me (Wire l side verdict) = refl
-  effects-open me (Tick l side) = refl
-  effects-open me (Refused reason) = refl
   effects-open me Ended = ending-open_none me (owed P node)
+  effects-open me _ = refl
 
 -- the last of these incarnations, or else this one
 abbrev pub last_in : Option Inc → List Inc → Option Inc

@@ -118,16 +118,10 @@ module _ (shape : Shape) (P : List Step) (legal : IsLegal shape P) (short : IsSh
       nodes.node-open shape P legal short k node home name mine
   by-endpoint (heads.Open name) plain (Some j) mine ends answers =
       absurd (true≢false (sym (ends.opens refl)))
-  by-endpoint heads.Close plain None mine ends answers =
-      absurd (true≢false (sym (ends.needs refl)))
   by-endpoint heads.Close plain (Some j) mine ends answers =
       nodes.node-close shape P legal short k node home j mine
-  by-endpoint (heads.Send q note answer) plain None mine ends answers =
-      absurd (true≢false (sym (ends.needs refl)))
   by-endpoint (heads.Send q note answer) plain (Some j) mine ends answers =
       nodes.node-send shape P legal short k node home j q note answer mine
-  by-endpoint (heads.Take f position) plain None mine ends answers =
-      absurd (true≢false (sym (ends.needs refl)))
   by-endpoint (heads.Take f position) plain (Some j) mine ends answers =
       taken j mine f position (first_selected f (items_at old.endpoints j)) refl answers
   by-endpoint (heads.TakeNone f) plain me mine ends answers =
@@ -136,16 +130,10 @@ module _ (shape : Shape) (P : List Step) (legal : IsLegal shape P) (short : IsSh
   by-endpoint (heads.Waits f) plain me mine ends answers =
       nodes.node-quiet shape P legal short k node home (heads.Waits f) refl (λ x. refl) refl
       (λ a. refl) refl
-  by-endpoint (heads.Hunt path note) plain None mine ends answers =
-      absurd (true≢false (sym (ends.needs refl)))
   by-endpoint (heads.Hunt path note) plain (Some j) mine ends answers =
       nodes.node-hunt shape P legal short k node home j path note mine
-  by-endpoint (heads.Attach q note) plain None mine ends answers =
-      absurd (true≢false (sym (ends.needs refl)))
   by-endpoint (heads.Attach q note) plain (Some j) mine ends answers =
       nodes.node-attach shape P legal short k node home j q note mine
-  by-endpoint (heads.Detach r answer) plain None mine ends answers =
-      absurd (true≢false (sym (ends.needs refl)))
   by-endpoint (heads.Detach r answer) plain (Some j) mine ends answers =
       nodes.node-detach shape P legal short k node home j r answer mine
       ∙ ap (λ (d : Detached). after_detach_of d old j r) answers
@@ -174,6 +162,8 @@ module _ (shape : Shape) (P : List Step) (legal : IsLegal shape P) (short : IsSh
       refl
   by-endpoint heads.Ended plain (Some j) mine ends answers =
       nodes.node-end shape P legal short k node home j mine
+  by-endpoint _ plain None mine ends answers =
+      absurd (true≢false (sym (ends.needs refl)))
 
   pub called-left : (head : Head) → restarted_node head ≡ None
       → KeepsEndpoints (endpoint_of P k) head → AnswersAs old (endpoint_of P k) head

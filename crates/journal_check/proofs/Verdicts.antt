@@ -302,10 +302,7 @@ none-maker P t left alone s laws.Effects b not = absurd (not b.earlier.1.1.0)
 none-maker P t left alone s laws.Sends b not = absurd (not b.earlier.1.1.1.0)
 none-maker P t left alone s laws.Receives b not = absurd (not b.earlier.1.1.1.1.0)
 none-maker P t left alone s laws.Links b not = absurd (not b.earlier.1.1.1.1.1.0)
-none-maker P t left alone s laws.Rest b not = absurd (b.broken tt)
-none-maker P t left alone s laws.Packets b not = absurd (b.broken tt)
-none-maker P t left alone s laws.Cuts b not = absurd (b.broken tt)
-none-maker P t left alone s laws.Ticks b not = absurd (b.broken tt)
+none-maker P t left alone s _ b not = absurd (b.broken tt)
 
 -- THE VERDICT on any step, and what is known after it
 module _ (P : List Step) (t : Known) (left : AreLeft P t) (short : IsShort P)

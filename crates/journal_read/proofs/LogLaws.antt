@@ -90,22 +90,7 @@ mark = word (codes "?") refl
 named-clean : (names : Names) (head : Head) → FitsHead names head
     → IsClean (name_or_mark (name_in head))
 named-clean names (heads.Open name) fits = name-clean name fits
-named-clean names heads.Close fits = mark
-named-clean names (heads.Send q note answer) fits = mark
-named-clean names (heads.Take f at) fits = mark
-named-clean names (heads.TakeNone f) fits = mark
-named-clean names (heads.Waits f) fits = mark
-named-clean names (heads.Hunt path note) fits = mark
-named-clean names (heads.Attach q note) fits = mark
-named-clean names (heads.Detach r answer) fits = mark
-named-clean names (heads.Cut l) fits = mark
-named-clean names (heads.Mend l) fits = mark
-named-clean names (heads.Settle l) fits = mark
-named-clean names (heads.Restart n) fits = mark
-named-clean names (heads.Wire l side verdict) fits = mark
-named-clean names (heads.Tick l side) fits = mark
-named-clean names (heads.Refused reason) fits = mark
-named-clean names heads.Ended fits = mark
+named-clean names _ fits = mark
 
 opened-clean : (names : Names) (P : List Step) (i : Inc) → AllFit names P
     → IsClean (name_or_mark (opening_name P i))
@@ -131,16 +116,10 @@ module _ (names : Names) (plain : ArePlain names) where
 
   item-clean : (e : Option Effect) → IsClean (item_text names e)
   unfolding item_text
-  item-clean None = mark
   item-clean (Some (effects.Arrived i q note)) = peer_signal-clean names plain q note
   item-clean (Some (effects.Found i q note hunt)) = peer_signal-clean names plain q note
   item-clean (Some (effects.Notified i q note r reason)) = peer_signal-clean names plain q note
-  item-clean (Some (effects.Opened i)) = mark
-  item-clean (Some (effects.Closed i)) = mark
-  item-clean (Some (effects.Met node q name)) = mark
-  item-clean (Some (effects.Gone node q)) = mark
-  item-clean (Some (effects.Up node l x y)) = mark
-  item-clean (Some (effects.Down node l x)) = mark
+  item-clean _ = mark
 
   effect-logs : (e : Effect) → IsLogs (effect_log names e)
   unfolding effect_log
@@ -152,11 +131,7 @@ module _ (names : Names) (plain : ArePlain names) where
   effect-logs (effects.Notified i q note r reason) =
       logs-line (word (codes "notified ") refl +> peer_signal-clean names plain q note +> space
       +> reason-clean reason) refl
-  effect-logs (effects.Opened i) = logs-none
-  effect-logs (effects.Met node q name) = logs-none
-  effect-logs (effects.Gone node q) = logs-none
-  effect-logs (effects.Up node l x y) = logs-none
-  effect-logs (effects.Down node l x) = logs-none
+  effect-logs _ = logs-none
 
   head-logs : (steps : List Step) (head : Head) → FitsHead names head
       → IsLogs (head_log names steps head)
@@ -174,17 +149,7 @@ module _ (names : Names) (plain : ArePlain names) where
       logs-line (word (codes "attach ") refl +> peer_signal-clean names plain q note) refl
   head-logs steps (heads.Detach r answer) fits =
       logs-line (word (codes "detach ") refl +> detached-clean answer) refl
-  head-logs steps (heads.Open name) fits = logs-none
-  head-logs steps heads.Close fits = logs-none
-  head-logs steps (heads.Waits f) fits = logs-none
-  head-logs steps (heads.Cut l) fits = logs-none
-  head-logs steps (heads.Mend l) fits = logs-none
-  head-logs steps (heads.Settle l) fits = logs-none
-  head-logs steps (heads.Restart n) fits = logs-none
-  head-logs steps (heads.Wire l side verdict) fits = logs-none
-  head-logs steps (heads.Tick l side) fits = logs-none
-  head-logs steps (heads.Refused reason) fits = logs-none
-  head-logs steps heads.Ended fits = logs-none
+  head-logs steps _ fits = logs-none
 
   if_for-logs : (i : Inc) (owner : Option Inc) (bytes : List ℕ) → IsLogs bytes
       → IsLogs (if_for i owner bytes)

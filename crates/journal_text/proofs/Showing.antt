@@ -1,7 +1,7 @@
 -- THE TEXT OF A JOURNAL SHOWS ITS MAKERS: the lines that begin with a digit are those of the steps'
 -- heads, each with the maker of its step.
 use Rattle.std.proofs.Common.{◌≡◌, ℕ, suc, ◌<◌, Bool, true, false, cond, List, [], ◌∷◌, ◌++◌}
-use Rattle.std.proofs.Common.{length, map, Option, Some, None, refl, sym, ◌∙◌, ap, subst, arith}
+use Rattle.std.proofs.Common.{length, map, Option, Some, refl, sym, ◌∙◌, ap, subst, arith}
 use Rattle.std.proofs.Common.{append_assoc, ◌^◌, codes, decimal, flat_map, append-nil}
 use Rattle.std.specs.List.{list_any}
 use Rattle.std.proofs.lemmas.Fmt.{decimal_injective}
@@ -81,22 +81,7 @@ maker-clean (Pump l) = word (codes "P") refl +> number-clean l.0
 -- the name that an incarnation was opened with
 named-clean : (head : Head) → IsBounded head → IsClean (name_or_mark (name_in head))
 named-clean (heads.Open name) bounded = name-clean name bounded
-named-clean heads.Close bounded = word (codes "?") refl
-named-clean (heads.Send q note answer) bounded = word (codes "?") refl
-named-clean (heads.Take f at) bounded = word (codes "?") refl
-named-clean (heads.TakeNone f) bounded = word (codes "?") refl
-named-clean (heads.Waits f) bounded = word (codes "?") refl
-named-clean (heads.Hunt path note) bounded = word (codes "?") refl
-named-clean (heads.Attach q note) bounded = word (codes "?") refl
-named-clean (heads.Detach r answer) bounded = word (codes "?") refl
-named-clean (heads.Cut l) bounded = word (codes "?") refl
-named-clean (heads.Mend l) bounded = word (codes "?") refl
-named-clean (heads.Settle l) bounded = word (codes "?") refl
-named-clean (heads.Restart n) bounded = word (codes "?") refl
-named-clean (heads.Wire l side verdict) bounded = word (codes "?") refl
-named-clean (heads.Tick l side) bounded = word (codes "?") refl
-named-clean (heads.Refused reason) bounded = word (codes "?") refl
-named-clean heads.Ended bounded = word (codes "?") refl
+named-clean _ bounded = word (codes "?") refl
 
 opened-clean : (P : List Step) (i : Inc) → AreNamed P → IsClean (name_or_mark (opening_name P i))
 opened-clean [] i named = word (codes "?") refl
@@ -181,16 +166,10 @@ module _ (names : Names) (plain : ArePlain names) where
 
   item-clean : (e : Option Effect) → IsClean (item_text names e)
   unfolding item_text
-  item-clean None = word (codes "?") refl
   item-clean (Some (effects.Arrived i q note)) = peer_signal-clean names plain q note
   item-clean (Some (effects.Found i q note hunt)) = peer_signal-clean names plain q note
   item-clean (Some (effects.Notified i q note r reason)) = peer_signal-clean names plain q note
-  item-clean (Some (effects.Opened i)) = word (codes "?") refl
-  item-clean (Some (effects.Closed i)) = word (codes "?") refl
-  item-clean (Some (effects.Met node q name)) = word (codes "?") refl
-  item-clean (Some (effects.Gone node q)) = word (codes "?") refl
-  item-clean (Some (effects.Up node l x y)) = word (codes "?") refl
-  item-clean (Some (effects.Down node l x)) = word (codes "?") refl
+  item-clean _ = word (codes "?") refl
 
   effect_log-reads : (e : Effect) → Reads (effect_log names e) []
   unfolding effect_log
@@ -202,11 +181,7 @@ module _ (names : Names) (plain : ArePlain names) where
   effect_log-reads (effects.Notified i q note r reason) =
       reads-other (word (codes "notified ") refl +> peer_signal-clean names plain q note +> space
       +> reason-clean reason) refl
-  effect_log-reads (effects.Opened i) = reads-none
-  effect_log-reads (effects.Met node q name) = reads-none
-  effect_log-reads (effects.Gone node q) = reads-none
-  effect_log-reads (effects.Up node l x y) = reads-none
-  effect_log-reads (effects.Down node l x) = reads-none
+  effect_log-reads _ = reads-none
 
   head_log-reads : (steps : List Step) (head : Head) → IsBounded head
       → Reads (head_log names steps head) []
@@ -224,17 +199,7 @@ module _ (names : Names) (plain : ArePlain names) where
       reads-other (word (codes "attach ") refl +> peer_signal-clean names plain q note) refl
   head_log-reads steps (heads.Detach r answer) bounded =
       reads-other (word (codes "detach ") refl +> detached-clean answer) refl
-  head_log-reads steps (heads.Open name) bounded = reads-none
-  head_log-reads steps heads.Close bounded = reads-none
-  head_log-reads steps (heads.Waits f) bounded = reads-none
-  head_log-reads steps (heads.Cut l) bounded = reads-none
-  head_log-reads steps (heads.Mend l) bounded = reads-none
-  head_log-reads steps (heads.Settle l) bounded = reads-none
-  head_log-reads steps (heads.Restart n) bounded = reads-none
-  head_log-reads steps (heads.Wire l side verdict) bounded = reads-none
-  head_log-reads steps (heads.Tick l side) bounded = reads-none
-  head_log-reads steps (heads.Refused reason) bounded = reads-none
-  head_log-reads steps heads.Ended bounded = reads-none
+  head_log-reads steps _ bounded = reads-none
 
   if_for-reads : (i : Inc) (owner : Option Inc) (bytes : List ℕ) → Reads bytes []
       → Reads (if_for i owner bytes) []

@@ -66,22 +66,9 @@ module _ (shape : Shape) (P : List Step) (still : Bool) (k : ℕ) (node : ℕ) (
   head-vain : (event : Event) (note : SigNote)
       → head_of shape P still k node me event note ≡ None
       → LooksInVain shape P still k me event
-  head-vain (asks.Open name) note is = cc
-  head-vain asks.Close note is = cc
-  head-vain (asks.Send q) note is = cc
   head-vain (asks.Look filter) note is =
       look-vain filter (first_selected filter (queue_of P me)) refl is
-  head-vain (asks.Hunt path) note is = cc
-  head-vain (asks.Attach q) note is = cc
-  head-vain (asks.Detach r) note is = cc
-  head-vain (asks.Cut link) note is = cc
-  head-vain (asks.Mend link) note is = cc
-  head-vain (asks.Restart n) note is = cc
-  head-vain (asks.Settle link) note is = cc
-  head-vain (asks.Refuse reason) note is = cc
-  head-vain asks.End note is = cc
-  head-vain (asks.Wire link from verdict) note is = cc
-  head-vain (asks.Tick link side) note is = cc
+  head-vain _ note is = cc
 
   refusal-steps : (reason : Refusal) (given : Ask) → given ≡ refused reason
       → head_of shape P still k node me given.event (signal_in given.hand) ≡ None → ⊥
@@ -124,21 +111,8 @@ module _ (shape : Shape) (P : List Step) (still : Bool) (k : ℕ) (node : ℕ) (
   -- the end alone ends
   head-ends : (event : Event) (note : SigNote)
       → ends (head_of shape P still k node me event note) ≡ is_end_event event
-  head-ends (asks.Open name) note = refl
-  head-ends asks.Close note = refl
-  head-ends (asks.Send q) note = refl
   head-ends (asks.Look filter) note = look-ends filter (first_selected filter (queue_of P me))
-  head-ends (asks.Hunt path) note = refl
-  head-ends (asks.Attach q) note = refl
-  head-ends (asks.Detach r) note = refl
-  head-ends (asks.Cut link) note = refl
-  head-ends (asks.Mend link) note = refl
-  head-ends (asks.Restart n) note = refl
-  head-ends (asks.Settle link) note = refl
-  head-ends (asks.Refuse reason) note = refl
-  head-ends asks.End note = refl
-  head-ends (asks.Wire link from verdict) note = refl
-  head-ends (asks.Tick link side) note = refl
+  head-ends _ note = refl
 
 -- what is granted of an event that is no end is no end
 granted-runs : (e : Option Inc) (at : ℕ) (ask : Ask) → is_end_event ask.event ≡ false
@@ -175,21 +149,8 @@ module _ (shape : Shape) (P : List Step) (still : Bool) (k : ℕ) (ask : Ask) wh
 -- a pump's event makes a step
 pump-steps : (link : ℕ) (event : Event) → may_ask (Pump (record { 0 = link })) event ≡ true
     → pumped_head event ≡ None → ⊥
-pump-steps link (asks.Open name) may is = cc
 pump-steps link asks.Close may is = cc
-pump-steps link (asks.Send q) may is = cc
-pump-steps link (asks.Look filter) may is = cc
-pump-steps link (asks.Hunt path) may is = cc
-pump-steps link (asks.Attach q) may is = cc
-pump-steps link (asks.Detach r) may is = cc
-pump-steps link (asks.Cut l) may is = cc
-pump-steps link (asks.Mend l) may is = cc
-pump-steps link (asks.Restart n) may is = cc
-pump-steps link (asks.Settle l) may is = cc
-pump-steps link (asks.Refuse reason) may is = cc
-pump-steps link asks.End may is = cc
-pump-steps link (asks.Wire l from verdict) may is = cc
-pump-steps link (asks.Tick l side) may is = cc
+pump-steps link _ may is = cc
 
 module _ (x y : Layout) (ask : Ask) where
   abbrev still : Bool
@@ -263,14 +224,8 @@ module _ (x y : Layout) (ask : Ask) where
 pub fits-there : (f g : Layout) → f.shape ≡ g.shape → f.log.names ≡ g.log.names → (node : ℕ)
     (event : Event) (note : SigNote) → is_pump_event event ≡ false → FitsEvent f node event note
     → FitsEvent g node event note
-fits-there f g shape names node (asks.Open name) note own fits = fits
-fits-there f g shape names node asks.Close note own fits = fits
-fits-there f g shape names node (asks.Send q) note own fits = fits
-fits-there f g shape names node (asks.Look filter) note own fits = fits
 fits-there f g shape names node (asks.Hunt path) note own fits =
     subst (λ (s : Shape). LeavesBy s node path) shape fits
-fits-there f g shape names node (asks.Attach q) note own fits = fits
-fits-there f g shape names node (asks.Detach r) note own fits = fits
 fits-there f g shape names node (asks.Cut l) note own fits =
     subst (λ (s : Shape). IsLinkOf s l) shape fits
 fits-there f g shape names node (asks.Mend l) note own fits =
@@ -278,7 +233,6 @@ fits-there f g shape names node (asks.Mend l) note own fits =
 fits-there f g shape names node (asks.Restart n) note own fits = rw (← names) fits
 fits-there f g shape names node (asks.Settle l) note own fits =
     subst (λ (s : Shape). IsLinkOf s l) shape fits
-fits-there f g shape names node (asks.Refuse reason) note own fits = fits
-fits-there f g shape names node asks.End note own fits = fits
 fits-there f g shape names node (asks.Wire l from verdict) note own fits = cc
 fits-there f g shape names node (asks.Tick l side) note own fits = cc
+fits-there f g shape names node _ note own fits = fits

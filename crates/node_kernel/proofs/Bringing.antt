@@ -10,8 +10,8 @@ use Rattle.linx_base.specs.declared.identity.Inc.{Inc}
 use Rattle.linx_base.specs.declared.identity.ItemAt.{ItemAt}
 use Rattle.linx_base.specs.declared.item.Item.{Item}
 use Rattle.journal.specs.declared.effect.Effect.{Effect}
-use Rattle.journal.specs.declared.effect.Effect.TheVariants.{Opened, Closed, Arrived, Found}
-use Rattle.journal.specs.declared.effect.Effect.TheVariants.{Notified, Met, Gone, Up, Down}
+use Rattle.journal.specs.declared.effect.Effect.TheVariants.{Arrived, Found}
+use Rattle.journal.specs.declared.effect.Effect.TheVariants.{Notified}
 use Rattle.journal.specs.Queues.{is_item_of, items_from, items_in}
 use Rattle.journal.proofs.Lists.{all-impl}
 use Rattle.node_kernel.specs.declared.delivery.Delivery.{Delivery}
@@ -119,12 +119,7 @@ delivered at (Found i from note hunt) d is e = let same : record { to = i; item 
     rw (← same) refl
 delivered at (Notified i from note reference reason) d is e = let same : record { to = i; item = _ }
     ≡ d = cc in rw (← same) refl
-delivered at (Opened i) d is e = cc
-delivered at (Closed i) d is e = cc
-delivered at (Met node peer name) d is e = cc
-delivered at (Gone node peer) d is e = cc
-delivered at (Up node link own other) d is e = cc
-delivered at (Down node link session) d is e = cc
+delivered at _ d is e = cc
 
 pub brought : (at : ItemAt) (effect : Effect) (d : Delivery) → delivery_at at effect ≡ Some d
     → (es : List OpenEndpoint) → map (put_item d.to d.item) es ≡ map (bring_into at effect) es
@@ -136,12 +131,7 @@ undelivered : (at : ItemAt) (effect : Effect) → delivery_at at effect ≡ None
 undelivered at (Arrived i from note) is e = cc
 undelivered at (Found i from note hunt) is e = cc
 undelivered at (Notified i from note reference reason) is e = cc
-undelivered at (Opened i) is e = same_queue e (e.items ++ []) (append-nil e.items)
-undelivered at (Closed i) is e = same_queue e (e.items ++ []) (append-nil e.items)
-undelivered at (Met node peer name) is e = same_queue e (e.items ++ []) (append-nil e.items)
-undelivered at (Gone node peer) is e = same_queue e (e.items ++ []) (append-nil e.items)
-undelivered at (Up node link own other) is e = same_queue e (e.items ++ []) (append-nil e.items)
-undelivered at (Down node link session) is e = same_queue e (e.items ++ []) (append-nil e.items)
+undelivered at _ is e = same_queue e (e.items ++ []) (append-nil e.items)
 
 pub brings_nothing : (at : ItemAt) (effect : Effect) → delivery_at at effect ≡ None
     → (es : List OpenEndpoint) → map (bring_into at effect) es ≡ es
@@ -172,12 +162,7 @@ taken_back_of at (Found i from note hunt) to is e = let same : i ≡ to = cc in
     rw (← same) (put_back i _ e)
 taken_back_of at (Notified i from note reference reason) to is e = let same : i ≡ to = cc in
     rw (← same) (put_back i _ e)
-taken_back_of at (Opened i) to is e = cc
-taken_back_of at (Closed i) to is e = cc
-taken_back_of at (Met node peer name) to is e = cc
-taken_back_of at (Gone node peer) to is e = cc
-taken_back_of at (Up node link own other) to is e = cc
-taken_back_of at (Down node link session) to is e = cc
+taken_back_of at _ to is e = cc
 
 pub taken_back : (at : ItemAt) (effect : Effect) (to : Inc) → receiver_of effect ≡ Some to
     → (es : List OpenEndpoint) → map (change_items to without_last) (map (bring_into at effect) es)
@@ -190,12 +175,7 @@ no_receiver : (at : ItemAt) (effect : Effect) → receiver_of effect ≡ None
 no_receiver at (Arrived i from note) is = cc
 no_receiver at (Found i from note hunt) is = cc
 no_receiver at (Notified i from note reference reason) is = cc
-no_receiver at (Opened i) is = refl
-no_receiver at (Closed i) is = refl
-no_receiver at (Met node peer name) is = refl
-no_receiver at (Gone node peer) is = refl
-no_receiver at (Up node link own other) is = refl
-no_receiver at (Down node link session) is = refl
+no_receiver at _ is = refl
 
 pub none_taken_back : (at : ItemAt) (effect : Effect) → receiver_of effect ≡ None
     → (es : List OpenEndpoint) → map (bring_into at effect) es ≡ es

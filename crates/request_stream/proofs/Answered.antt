@@ -7,9 +7,7 @@ use Rattle.std.proofs.lemmas.Bool.{cases_lt}
 use Rattle.std.proofs.lemmas.List.{take-append-le}
 use Rattle.std.proofs.Math.Seq.{take-append-add}
 use Rattle.request_stream.specs.declared.stop.ServeStop.{ServeStop}
-use Rattle.request_stream.specs.declared.stop.ServeStop.TheVariants.{Torn, BadStream, Full}
-use Rattle.request_stream.specs.declared.stop.ServeStop.TheVariants.{ReadFault, WriteFault}
-use Rattle.request_stream.specs.declared.stop.ServeStop.TheVariants.{NoMemory}
+use Rattle.request_stream.specs.declared.stop.ServeStop.TheVariants.{Torn, BadStream}
 use Rattle.request_stream.specs.Answers.{Answered, EndsBy, EndsItself}
 use Rattle.request_stream.specs.Ending.{Done, IsTorn, Next, Stopped, first, room_at, stream_limit}
 use Rattle.request_stream.specs.Fronts.{BeginsWith, BeginsNone, GoesOn}
@@ -179,10 +177,7 @@ module _ {Server : Type 0} (asks : Server → List ℕ → Type 0)
         (sym stopped.stops.2)
         (answers_at s bytes rest.rest held last (Err (BadStream at)) stopped.serves rest.whole
         stopped.within (bad_ends last at rest.rest bad.is_bad bad.place))
-    answered_stopped is_full leaves s Full after bytes left held new stopped itself = absurd itself
-    answered_stopped is_full leaves s ReadFault after bytes left held new stopped itself = absurd itself
-    answered_stopped is_full leaves s WriteFault after bytes left held new stopped itself = absurd itself
-    answered_stopped is_full leaves s NoMemory after bytes left held new stopped itself = absurd itself
+    answered_stopped is_full leaves s _ after bytes left held new stopped itself = absurd itself
 
     -- the same of a source that may tell its bytes
     pub told_done : (s after : Server) (old left held new : Option (List ℕ))

@@ -11,9 +11,7 @@ use Rattle.request_stream.specs.Ending.{CountsReads, CountsWrites, HasReplied, S
 use Rattle.request_stream.specs.Ending.{room_at, stream_limit}
 use Rattle.request_stream.specs.Fronts.{GoesOn}
 use Rattle.request_stream.specs.declared.stop.ServeStop.{ServeStop}
-use Rattle.request_stream.specs.declared.stop.ServeStop.TheVariants.{Torn, BadStream, Full}
-use Rattle.request_stream.specs.declared.stop.ServeStop.TheVariants.{ReadFault, WriteFault}
-use Rattle.request_stream.specs.declared.stop.ServeStop.TheVariants.{NoMemory}
+use Rattle.request_stream.specs.declared.stop.ServeStop.TheVariants.{ReadFault}
 use Rattle.request_stream.specs.Serving.{Exchange, Moment, Serves, AreServed, asked, said}
 use Rattle.request_stream.specs.Serving.{server_after}
 
@@ -230,12 +228,8 @@ is_empty_list (x ∷ xs) h = absurd (omega (arith, h))
 -- a stop that isn't at a read
 pub reads_none : (last : Option ℕ) (stop : ServeStop) (old new : ℕ) → stop ≢ ReadFault → new ≡ old
     → CountsReads last (Err stop) old new
-reads_none last (Torn at) old new other same = same
-reads_none last (BadStream at) old new other same = same
-reads_none last Full old new other same = same
 reads_none last ReadFault old new other same = absurd (other refl)
-reads_none last WriteFault old new other same = same
-reads_none last NoMemory old new other same = same
+reads_none last _ old new other same = same
 
 -- what counted nothing, and then a stop
 pub writes_later : (last : Option ℕ) (stop : ServeStop) (old mid new : ℕ) → mid ≡ old

@@ -84,26 +84,15 @@ module _ {Server : Type 0} (asks : Server → List ℕ → Type 0)
   same_end s at rest (Ok x) (Err (Torn q)) h k = absurd (k.1 h)
   same_end s at rest (Ok x) (Err (BadStream q)) h k =
       absurd (no_bytes rest (some_bad s at rest k.1) h)
-  same_end s at rest (Ok x) (Err Full) h k = absurd k
-  same_end s at rest (Ok x) (Err ReadFault) h k = absurd k
-  same_end s at rest (Ok x) (Err WriteFault) h k = absurd k
-  same_end s at rest (Ok x) (Err NoMemory) h k = absurd k
   same_end s at rest (Err (Torn p)) (Ok y) h k = absurd (h.1 k)
   same_end s at rest (Err (Torn p)) (Err (Torn q)) h k = ap (λ (n : ℕ). Err (Torn n)) (h.0 ∙ sym k.0)
   same_end s at rest (Err (Torn p)) (Err (BadStream q)) h k = absurd (torn_bad s at rest h.2 k.1)
-  same_end s at rest (Err (Torn p)) (Err Full) h k = absurd k
-  same_end s at rest (Err (Torn p)) (Err ReadFault) h k = absurd k
-  same_end s at rest (Err (Torn p)) (Err WriteFault) h k = absurd k
-  same_end s at rest (Err (Torn p)) (Err NoMemory) h k = absurd k
   same_end s at rest (Err (BadStream p)) (Ok y) h k =
       absurd (no_bytes rest (some_bad s at rest h.1) k)
   same_end s at rest (Err (BadStream p)) (Err (Torn q)) h k = absurd (torn_bad s at rest k.2 h.1)
   same_end s at rest (Err (BadStream p)) (Err (BadStream q)) h k =
       ap (λ (n : ℕ). Err (BadStream n)) (h.0 ∙ sym k.0)
-  same_end s at rest (Err (BadStream p)) (Err Full) h k = absurd k
-  same_end s at rest (Err (BadStream p)) (Err ReadFault) h k = absurd k
-  same_end s at rest (Err (BadStream p)) (Err WriteFault) h k = absurd k
-  same_end s at rest (Err (BadStream p)) (Err NoMemory) h k = absurd k
+  same_end s at rest _ _ h k = absurd k
 
   no_bad : (s t : Server) (at : ℕ) (request rest reply : List ℕ) → asks s request
       → replies s request t reply → at + length request ≤ stream_limit
@@ -133,10 +122,7 @@ module _ {Server : Type 0} (asks : Server → List ℕ → Type 0)
       (first_begins s (room_at at) request rest is (omega arith)) h.2
   no_end s t at request rest reply (Err (BadStream p)) is does fits h =
       no_bad s t at request rest reply is does fits h.1
-  no_end s t at request rest reply (Err Full) is does fits h = h
-  no_end s t at request rest reply (Err ReadFault) is does fits h = h
-  no_end s t at request rest reply (Err WriteFault) is does fits h = h
-  no_end s t at request rest reply (Err NoMemory) is does fits h = h
+  no_end s t at request rest reply _ is does fits h = h
 
   -- the same, of what stands first in a list
   no_more : (at : ℕ) (s : Server) (x : Exchange Server) (xs : List (Exchange Server))

@@ -10,7 +10,6 @@ use Rattle.linx_base.specs.declared.identity.Inc.{Inc}
 use Rattle.linx_base.specs.SigNotes.{SigNote}
 use Rattle.link_addresses.specs.declared.meaning.Meaning.{Meaning}
 use Rattle.link_addresses.specs.declared.meaning.Meaning.TheVariants.{Free, Live, Closing}
-pub use Rattle.link_addresses.proofs.Lists.{lowest_changes}
 use Rattle.link_addresses.specs.Meanings.{meaning_of, with_meaning}
 use Rattle.link_addresses.specs.Meanings.{address_of, ChangesMeaning}
 use Rattle.rlnh_laws.proofs.Addresses.{changes_at, live_taken, closing_taken, address_missing}

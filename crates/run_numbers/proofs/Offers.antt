@@ -1,71 +1,24 @@
 -- How many messages a side has offered in its session: a call offers at most two more.
-use Rattle.std.proofs.Common.{◌≡◌, ◌≤◌, ◌+◌, ℕ, Bool, true, false, cond, List, [], ◌∷◌, ◌++◌}
-use Rattle.std.proofs.Common.{Option, Some, None, length, arith, refl, ap, is_some, length-append}
+use Rattle.std.proofs.Common.{◌≡◌, ◌≤◌, ◌+◌, ℕ, true, false, cond, List, [], ◌∷◌, ◌++◌}
+use Rattle.std.proofs.Common.{length, arith, refl, ap, is_some, length-append}
 use Rattle.linx_base.specs.Sides.{other_of}
 use Rattle.linx_base.specs.declared.frame.Message.{Message}
 use Rattle.linx_base.specs.declared.identity.Inc.{Inc}
 use Rattle.linx_base.specs.declared.identity.Side.{Side}
 use Rattle.linx_base.specs.declared.identity.Side.TheVariants.{First, Second}
 use Rattle.linx_base.specs.SigNotes.{SigNote}
-use Rattle.link_addresses.specs.Meanings.{address_of}
 use Rattle.ethcm_end.specs.States.{peer_of}
 use Rattle.carrier.specs.Records.{HalfState}
 use Rattle.carrier.specs.Events.{LinkState, half_of, near_offered}
-use Rattle.rlnh_end.specs.Calls.{Saying, announced, close_of, closed, end_saying, opened_of}
-use Rattle.rlnh_end.specs.Calls.{publish_of, publish_sender_of, query_of, send_of, told, with_words}
-use Rattle.rlnh_end.specs.States.{RlnhTables, addr_met, is_noted, without_note}
+use Rattle.rlnh_end.specs.Calls.{Saying, close_of, opened_of}
+use Rattle.rlnh_end.specs.Calls.{publish_of, query_of, send_of, with_words}
+use Rattle.rlnh_end.specs.States.{RlnhTables}
 use Rattle.rlnh_end.specs.Words.{Word, message_of}
+use Rattle.trunk.proofs.EachEvent.Calls.{close_few, opened_few, publish_few, send_few}
+use Rattle.trunk.proofs.Sessions.Silence.{offers_second}
 use Rattle.trunk.specs.Events.{TrunkState, asked_at, closed_at, near_offers, near_said, near_says}
 use Rattle.trunk.specs.Events.{opened_at, published_at, said_at, sent_at, side_of, tables_of}
 use Rattle.trunk.specs.Events.{turned}
-
--- ---- what a call says
-
-announced_few : (t : RlnhTables) (i : Inc) (name : List ℕ) (at : Option ℕ)
-    → length (announced t i name at).says ≤ 1
-announced_few t i name None = omega arith
-announced_few t i name (Some addr) = omega arith
-
-pub publish_few : (t : RlnhTables) (i : Inc) (name : List ℕ)
-    → length (publish_of t i name).says ≤ 1
-publish_few t i name =
-    announced_few (record t { noted = without_note t.noted name }) i name (address_of t.own i)
-
-opened_few : (t : RlnhTables) (i : Inc) (name : List ℕ) → length (opened_of t i name).says ≤ 1
-opened_few t i name = by_noted (is_noted t.noted name)
-  where
-    by_noted : (b : Bool) → length (cond b (publish_of t i name) (end_saying t [])).says ≤ 1
-    by_noted true = publish_few t i name
-    by_noted false = omega arith
-
-close_few : (t : RlnhTables) (i : Inc) → length (close_of t i).says ≤ 1
-close_few t i = by_address (address_of t.own i)
-  where
-    by_address : (at : Option ℕ) → length (closed t i at).says ≤ 1
-    by_address None = omega arith
-    by_address (Some addr) = omega arith
-
-sender_few : (t : RlnhTables) (i : Inc) (name : List ℕ) (at : Option ℕ)
-    → length (publish_sender_of t i name at).says ≤ 1
-sender_few t i name None = publish_few t i name
-sender_few t i name (Some addr) = omega arith
-
-told_few : (from to : Option ℕ) (i b : Inc) (note : SigNote) → length (told from i to b note) ≤ 1
-told_few (Some a) (Some c) i b note = omega arith
-told_few (Some a) None i b note = omega arith
-told_few None to i b note = omega arith
-
-send_few : (t : RlnhTables) (i : Inc) (name : List ℕ) (b : Inc) (note : SigNote)
-    → length (send_of t i name b note).says ≤ 2
-send_few t i name b note =
-    let made : Saying = publish_sender_of t i name (address_of t.own i) in
-    omega (
-      arith,
-      sender_few t i name (address_of t.own i),
-      told_few (address_of made.tables.own i) (addr_met made.tables.met b) i b note,
-      length-append made.says
-          (told (address_of made.tables.own i) i (addr_met made.tables.met b) b note),
-    )
 
 -- ---- what is said is offered
 
@@ -84,10 +37,6 @@ pub near_count : (v : LinkState) (ms : List Message)
 near_count v [] = omega arith
 near_count v (m ∷ ms) =
     omega (arith, near_count (near_offered v m) ms, length-append v.first.offered (m ∷ []))
-
-pub near_other : (v : LinkState) (ms : List Message) → (near_offers v ms).second ≡ v.second
-near_other v [] = refl
-near_other v (m ∷ ms) = near_other (near_offered v m) ms
 
 -- ---- a side
 
@@ -121,7 +70,7 @@ module _ (t : TrunkState) (made : Saying) where
   near_offers_other =
       elim (is_some (peer_of t.link.first.end))
       as (λ b. (cond b (near_says t made) t).link.second ≡ t.link.second)
-      [ true ↦ near_other t.link (with_words t.first.end.out made.says) | false ↦ refl ]
+      [ true ↦ offers_second t.link (with_words t.first.end.out made.says) | false ↦ refl ]
 
   near_out : t.first.end.out ≡ [] → (near_said t made).first.end.out ≡ []
   near_out none =

@@ -18,7 +18,6 @@ use Rattle.ethcm_end.specs.Rules.{input_of, tick_of}
 use Rattle.ethcm_end.specs.States.{EndState, peer_of}
 use Rattle.carrier.specs.declared.handed.Handed.{Handed}
 use Rattle.carrier.specs.declared.handed.Handed.TheVariants as handed
-use Rattle.carrier.specs.declared.handed.TickedSide.{TickedSide}
 use Rattle.carrier.specs.declared.handed.TickedSide.TheVariants as ticked
 use Rattle.carrier.specs.Events.{LinkState, drained, handed_by, half_of, near_handed, recorded}
 use Rattle.carrier.specs.Events.{recorded_tick, ticked_as}
@@ -34,7 +33,8 @@ use Rattle.trunk.specs.Tells.{TellsSide}
 use Rattle.trunk.proofs.Messages.Reading.{reply_few}
 use Rattle.trunk.proofs.EachEvent.Trunks.{agree, events_tell}
 use Rattle.trunk_moves.specs.Packets.{asks_for}
-use Rattle.run_numbers.proofs.Offers.{HasSaidAll, OffersUpTo, near_count, near_other, offers}
+use Rattle.trunk.proofs.Sessions.Silence.{beat_same, took_other}
+use Rattle.run_numbers.proofs.Offers.{HasSaidAll, OffersUpTo, near_count, offers}
 use Rattle.run_numbers.proofs.Offers.{said_all, said_offers, said_stays, words_few}
 
 -- ---- a packet, at the link
@@ -82,15 +82,6 @@ took_few t v reading (handed.Got m) n none was =
       ap (λ ms. length ms) none,
       was,
     )
-
-took_other : (t : TrunkState) (v : LinkState) (reading : Heard) (h : Handed)
-    → (near_took (with_link t v) reading h).link.second ≡ v.second
-took_other t v reading handed.Nothing = refl
-took_other t v reading (handed.WentUp session peer) =
-    near_other v (with_words t.first.end.out begin_of.says)
-took_other t v reading (handed.WentDown session) = refl
-took_other t v reading (handed.Got m) =
-    near_other v (with_words t.first.end.out (hears t.first.end.tables reading).made.says)
 
 module _ (t : TrunkState) (k : ℕ) (keep : Bool) (reading : Heard) where
   abbrev came : LinkState
@@ -183,17 +174,13 @@ ticked_few : (h : HalfState) (s : EndState) (answer : Ticked) (n : ℕ) → leng
 ticked_few h s ticks.Stays n was = was
 ticked_few h s ticks.WentDown n was = omega arith
 
-beat_link : (t : TrunkState) (told : TickedSide) → (near_beat t told).link ≡ t.link
-beat_link t ticked.Stays = refl
-beat_link t (ticked.WentDown session) = refl
-
 module _ (t : TrunkState) where
   abbrev beat : TrunkState
   beat = near_beat (with_link t (links.near_ticked t.link))
       (ticked_as t.link.first.end.talk.mine (tick_of t.link.first.end).answer)
 
   beaten : beat.link ≡ links.near_ticked t.link
-  beaten = beat_link (with_link t (links.near_ticked t.link))
+  beaten = beat_same (with_link t (links.near_ticked t.link))
       (ticked_as t.link.first.end.talk.mine (tick_of t.link.first.end).answer)
 
   beat_few : (n : ℕ) → length t.link.first.offered ≤ n → length beat.link.first.offered ≤ n

@@ -4,9 +4,9 @@ use Rattle.linx_base.specs.declared.identity.LinkNo.{LinkNo}
 use Rattle.linx_base.specs.declared.identity.NodeNo.{NodeNo}
 use Rattle.linx_base.specs.declared.frame.LinkDecl.{LinkDecl}
 use Rattle.script_words.specs.declared.command.Command.{Command}
-use Rattle.script_words.specs.declared.command.Command.TheVariants.{Open, Close, Send, Forward}
-use Rattle.script_words.specs.declared.command.Command.TheVariants.{Recv, Hunt, Attach, Detach}
-use Rattle.script_words.specs.declared.command.Command.TheVariants.{Keep, Cut, Mend, Restart}
+use Rattle.script_words.specs.declared.command.Command.TheVariants.{Send}
+use Rattle.script_words.specs.declared.command.Command.TheVariants.{Recv, Hunt, Attach}
+use Rattle.script_words.specs.declared.command.Command.TheVariants.{Cut, Mend, Restart}
 use Rattle.script_words.specs.declared.command.Command.TheVariants.{Settle}
 use Rattle.script_words.specs.NamedCommand.{is_sized_plain}
 use Rattle.script_lang.specs.Parts.{ScriptParts}
@@ -16,19 +16,15 @@ module _ (s : ScriptParts) (node : NodeNo) where
   -- a command that names no link and no node fits every script
   pub fits : (command : Command) → is_sized_plain command ≡ true
       → fits_command s node command ≡ true
-  fits (Open name) h = refl
-  fits Close h = refl
   fits (Send to number bytes) h = h
-  fits (Forward to) h = refl
   fits (Recv filter) h = h
   fits (Hunt path number bytes) h = cc
   fits (Attach to r number bytes) h = h
-  fits (Detach r) h = refl
-  fits (Keep name) h = refl
   fits (Cut link) h = cc
   fits (Mend link) h = cc
   fits (Restart other) h = cc
   fits (Settle link) h = cc
+  fits _ h = refl
 
   -- whether a declared link ends at a node, by its declaration
   pub has_end_at : (link : LinkNo) (decl : LinkDecl) → is_link s link ≡ true

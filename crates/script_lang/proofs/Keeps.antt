@@ -15,9 +15,9 @@ use Rattle.linx_base.specs.declared.identity.Side.{Side}
 use Rattle.linx_base.specs.declared.frame.LinkDecl.{LinkDecl}
 use Rattle.linx_base.specs.declared.frame.Verdict.{Verdict}
 use Rattle.script_words.specs.declared.command.Command.{Command}
-use Rattle.script_words.specs.declared.command.Command.TheVariants.{Open, Close, Send, Forward}
-use Rattle.script_words.specs.declared.command.Command.TheVariants.{Recv, Hunt, Attach, Detach}
-use Rattle.script_words.specs.declared.command.Command.TheVariants.{Keep, Cut, Mend, Restart}
+use Rattle.script_words.specs.declared.command.Command.TheVariants.{Send}
+use Rattle.script_words.specs.declared.command.Command.TheVariants.{Recv, Hunt, Attach}
+use Rattle.script_words.specs.declared.command.Command.TheVariants.{Cut, Mend, Restart}
 use Rattle.script_words.specs.declared.command.Command.TheVariants.{Settle}
 use Rattle.script_lang.specs.Limits.{node_limit, link_limit, actor_limit, command_limit}
 use Rattle.script_lang.specs.Limits.{all_commands_limit, verdict_limit}
@@ -74,20 +74,16 @@ module _ (s t : ScriptParts) (g : Grows s t) where
 
   command_grows : (node : NodeNo) (command : Command)
       → fits_command s node command ≡ true → fits_command t node command ≡ true
-  command_grows node (Open name) h = refl
-  command_grows node Close h = refl
   command_grows node (Send to number bytes) h = h
-  command_grows node (Forward to) h = refl
   command_grows node (Recv filter) h = h
   command_grows node (Hunt path number bytes) h =
       let parts = and_parts _ _ h in and_from _ _ (path_grows node path parts.0) parts.1
   command_grows node (Attach to r number bytes) h = h
-  command_grows node (Detach r) h = refl
-  command_grows node (Keep name) h = refl
   command_grows node (Cut link) h = numbered_grows _ _ link.0 g.links h
   command_grows node (Mend link) h = numbered_grows _ _ link.0 g.links h
   command_grows node (Restart other) h = numbered_grows _ _ other.0 g.nodes h
   command_grows node (Settle link) h = numbered_grows _ _ link.0 g.links h
+  command_grows node _ h = refl
 
   actor_grows : (actor : ActorScript) → fits_actor s actor ≡ true → fits_actor t actor ≡ true
   actor_grows actor h =

@@ -34,7 +34,9 @@ use Rattle.workers.specs.declared.worker.End.TheVariants.{Finished}
 use Rattle.workers.specs.Running.{AreFinished, AreShares, IsShare, passes_in, players_in}
 use Rattle.workers.specs.Working.{AreWorkedJobs, IsFinished, IsPlayedBy, IsWorked, IsWorking}
 use Rattle.workers.specs.Working.{OwnPlanned, plan_for, seen}
-use Rattle.workers.proofs.Finishing.{ended-by_each, finished-goes_on, still-by_each}
+use Rattle.stage.proofs.Rounds.EachMakesAStep.{still-by_each}
+use Rattle.stage.proofs.Rounds.Seats.{seat_of}
+use Rattle.workers.proofs.Finishing.{ended-by_each, finished-goes_on}
 use Rattle.workers.proofs.Resting.{GoesOnFor, own-goes_on, played-goes_on, rests-on}
 
 -- ---- the run
@@ -166,14 +168,7 @@ pub record IsBackAt (script : ScriptParts) (i : ℕ) (w : Worked) : Type 0 where
 abbrev pub AreBackIn : ScriptParts → List Worked → Type 0
 AreBackIn script all = (i : ℕ) (w : Worked) → slice_get all i ≡ Some w → IsBackAt script i w
 
--- there is an element at a place within a list
-pub there-at : {X : Type 0} (xs : List X) (i : ℕ) → i < length xs
-    → (x : X) × (slice_get xs i ≡ Some x)
-there-at [] i within = absurd (omega arith)
-there-at (x ∷ xs) zero within = (x, refl)
-there-at (x ∷ xs) (suc i) within = there-at xs i (omega arith)
-
--- and a place where an element stands is within
+-- a place where an element stands is within
 pub within-of : {X : Type 0} (xs : List X) (i : ℕ) (x : X) → slice_get xs i ≡ Some x
     → i < length xs
 within-of [] i x is = cc
@@ -232,7 +227,7 @@ module _ (script : ScriptParts) (all : List Worked) (count : length all ≡ make
   closed-own : (n : ℕ) → 0 < n → n ≤ makers script → OwnPlanned script n f.log.steps
   closed-own zero low high = absurd (omega arith)
   closed-own (suc i) low high =
-      let there = there-at all i (omega arith) in
+      let there = seat_of all i (omega arith) in
       own-goes_on script (suc i) f.log.steps (seen there.0.pass)
       (goes-on-from i there.0 there.1)
       (subst (λ (k : ℕ). OwnPlanned script k (seen there.0.pass)) (back i there.0 there.1).number
@@ -284,7 +279,7 @@ module _ (script : ScriptParts) (all : List Worked) (count : length all ≡ make
       → has_ended f.log.steps k ≡ true
   closed-ended finished zero low high = absurd (omega arith)
   closed-ended finished (suc i) low high =
-      let there = there-at all i (omega arith) in
+      let there = seat_of all i (omega arith) in
       go there.0.player (finished-at finished i there.0 there.1) (played-at i there.0 there.1)
     where
       go : (o : Option Player) → IsFinished script f.log.steps (suc i) o
@@ -299,7 +294,7 @@ module _ (script : ScriptParts) (all : List Worked) (count : length all ≡ make
       → stirs f.log.steps (trunks_of f.trunks) l ≡ false
   closed-still finished reached zero low high = absurd (omega arith)
   closed-still finished reached (suc l) low high =
-      let there = there-at all (length script.actors + l) (omega arith) in
+      let there = seat_of all (length script.actors + l) (omega arith) in
       go there.0.player (finished-at finished (length script.actors + l) there.0 there.1)
       (played-at (length script.actors + l) there.0 there.1)
     where
@@ -427,8 +422,8 @@ module _ (script : ScriptParts) (jobs : List Job) (all : List Worked)
         many = much ∙ (worked.many ∙ sym long);
         each = λ k p q less.
             let many : length all ≡ length jobs = worked.many in
-            let job = there-at jobs k (omega arith) in
-            let done = there-at all k (omega arith) in
+            let job = seat_of jobs k (omega arith) in
+            let done = seat_of all k (omega arith) in
             let before : get_or (passes_of jobs) k p ≡ job.0.pass =
             get_or-map (λ (j : Job). j.pass) jobs k job.0 p (within-of jobs k job.0 job.1)
             ∙ ap (λ (j : Job). j.pass) (get_or_from_slice_get jobs k job.0 job.0 job.1) in
@@ -449,7 +444,7 @@ module _ (script : ScriptParts) (jobs : List Job) (all : List Worked)
       let seats : length (passes_of jobs) ≡ lock.seats = dealt.0 in
       let many : length all ≡ length jobs = worked.many in
       let less : i < length all = within-of all i w is in
-      let job = there-at jobs i (omega arith) in
+      let job = seat_of jobs i (omega arith) in
       let it = worked-at i job.0 job.1 w is in
       let new : PassView Step PlanParts = new_pass lock.id fixed (i + 1) in
       let first : job.0.pass ≡ new =

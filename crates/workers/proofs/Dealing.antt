@@ -17,13 +17,13 @@ use Rattle.linx_api.specs.Telling.{PlanParts, plan_of, story_of}
 use Rattle.stage.specs.declared.player.Player.{Player}
 use Rattle.stage.specs.Seats.{IsStaged, unstarted}
 use Rattle.stage.specs.Turns.{first_layout, is_over, makers, shape_of}
-use Rattle.stage.proofs.Rounds.Seats.{staged-first, unstarted-seated}
+use Rattle.stage.proofs.Rounds.Seats.{seat_of, staged-first, unstarted-seated}
 use Rattle.workers.specs.declared.worker.Job.{Job}
 use Rattle.workers.specs.declared.worker.Worked.{Worked}
 use Rattle.workers.specs.Running.{AreFinished, AreShares, jobs_with, passes_in, players_in}
 use Rattle.workers.specs.Working.{AreWorkedJobs, IsPlayedBy, IsReadyJob, IsWorking, plan_for}
 use Rattle.workers.proofs.Closing.{back-in, closed-over, closed-shares, closed-staged, jobs-back}
-use Rattle.workers.proofs.Closing.{passes_of, there-at, within-of}
+use Rattle.workers.proofs.Closing.{passes_of, within-of}
 
 -- ---- what is dealt
 
@@ -163,7 +163,7 @@ module _ (script : ScriptParts) (shared : Layout) (bare : shared ≡ first_layou
   -- THE JOBS OF A NEW LOCK ARE READY
   pub jobs_ready : All (IsReadyJob lock script) jobs
   jobs_ready i default within =
-      let there = there-at jobs i within in
+      let there = seat_of jobs i within in
       subst (IsReadyJob lock script)
       (sym (get_or_from_slice_get jobs i there.0 default there.1)) (ready-at i there.0 there.1)
 

@@ -23,7 +23,7 @@ use Rattle.actor_run.proofs.Others.{has_ended_goes_on}
 use Rattle.trunk.specs.Events.{TrunkState}
 use Rattle.trunk_moves.specs.Steps.{IsTrunkStep, Makes}
 use Rattle.trunk_moves.specs.Trunks.{Become, RunTrunks, with_trunk}
-use Rattle.fabric.specs.Links.{none_stirs, stirs, stirs_if}
+use Rattle.fabric.specs.Links.{stirs, stirs_if}
 use Rattle.fabric.specs.Machine.{all_have_ended, have_ended}
 use Rattle.fabric.proofs.Trunks.Resting.{ended-each}
 use Rattle.linx_api.specs.Telling.{maker_number}
@@ -58,16 +58,6 @@ ended-by_each P (suc n) each =
     ) refl
 
 -- ---- the links
-
--- where none stirs, all are still
-pub still-by_each : (P : List Step) (trunks : RunTrunks) (n : ℕ)
-    → ((l : ℕ) → 0 < l → l ≤ n → stirs P trunks l ≡ false) → none_stirs P trunks n ≡ true
-still-by_each P trunks zero each = refl
-still-by_each P trunks (suc n) each =
-    rw (
-      still-by_each P trunks n (λ l above within. each l above (omega arith)),
-      each (suc n) (omega arith) (omega arith),
-    ) refl
 
 -- links of other numbers have other numbers as makers
 other-link : (script : ScriptParts) (l k : ℕ)
@@ -116,21 +106,7 @@ module _ (script : ScriptParts) (l : ℕ) (above : 0 < l) (within : l ≤ length
       moved k link may other makes.trunk makes.makes
   by-another (Pump k) (heads.Tick link side) es maker may makes other =
       moved k link may other makes.trunk makes.makes
-  by-another (Pump k) (heads.Open name) es maker may makes other = cc
-  by-another (Pump k) heads.Close es maker may makes other = cc
-  by-another (Pump k) (heads.Send q note answer) es maker may makes other = cc
-  by-another (Pump k) (heads.Take f position) es maker may makes other = cc
-  by-another (Pump k) (heads.TakeNone f) es maker may makes other = cc
-  by-another (Pump k) (heads.Waits f) es maker may makes other = cc
-  by-another (Pump k) (heads.Hunt path note) es maker may makes other = cc
-  by-another (Pump k) (heads.Attach q note) es maker may makes other = cc
-  by-another (Pump k) (heads.Detach r answer) es maker may makes other = cc
-  by-another (Pump k) (heads.Cut link) es maker may makes other = cc
-  by-another (Pump k) (heads.Mend link) es maker may makes other = cc
-  by-another (Pump k) (heads.Settle link) es maker may makes other = cc
-  by-another (Pump k) (heads.Restart node) es maker may makes other = cc
-  by-another (Pump k) (heads.Refused reason) es maker may makes other = cc
-  by-another (Pump k) heads.Ended es maker may makes other = cc
+  by-another (Pump k) _ es maker may makes other = cc
 
   pub still-step : (s : Step) → IsTrunkStep shape P before s after
       → (maker_number shape s.by == length script.actors + l) ≡ false

@@ -32,9 +32,9 @@ use Rattle.journal.specs.declared.effect.Effect.TheVariants.{Opened, Closed, Arr
 use Rattle.journal.specs.declared.effect.Effect.TheVariants.{Notified, Met, Gone, Up, Down}
 use Rattle.journal.specs.declared.effect.Step.{Step}
 use Rattle.journal.specs.declared.head.Head.{Head}
-use Rattle.journal.specs.declared.head.Head.TheVariants.{Open, Close, Send, Take, TakeNone, Waits}
-use Rattle.journal.specs.declared.head.Head.TheVariants.{Hunt, Attach, Detach, Cut, Mend, Settle}
-use Rattle.journal.specs.declared.head.Head.TheVariants.{Restart, Wire, Tick, Refused, Ended}
+use Rattle.journal.specs.declared.head.Head.TheVariants.{Open, Close, Send}
+use Rattle.journal.specs.declared.head.Head.TheVariants.{Hunt, Attach, Detach}
+use Rattle.journal.specs.declared.head.Head.TheVariants.{Restart, Wire, Tick, Ended}
 use Rattle.journal.specs.Effects.{arrivals_of, attached, closings, ending, found, founds}
 use Rattle.journal.specs.Effects.{held_elsewhere, hunted, hunts_for, notice, notices}
 use Rattle.journal.specs.History.{closes, endpoint_by, open_endpoints, opened_by, opens}
@@ -435,20 +435,11 @@ module _ (shape : Shape) (P : List Step) (legal : IsLegal shape P) (short : IsSh
     )
     effects-about Close = ending_about (endpoint_by P by) refl
     effects-about (Send q note answer) = sending_about (endpoint_by P by) q note
-    effects-about (Take filter position) = tt
-    effects-about (TakeNone filter) = tt
-    effects-about (Waits filter) = tt
     effects-about (Hunt path note) = hunting_about (endpoint_by P by) refl path note
     effects-about (Attach q note) = attaching_about (endpoint_by P by) refl q note
-    effects-about (Detach r answer) = tt
-    effects-about (Cut l) = tt
-    effects-about (Mend l) = tt
-    effects-about (Settle l) = tt
     effects-about (Restart n) = closings_about n.0
-    effects-about (Wire l side verdict) = tt
-    effects-about (Tick l side) = tt
-    effects-about (Refused reason) = tt
     effects-about Ended = ending_about (endpoint_by P by) refl
+    effects-about _ = tt
 
     head_about : (head : Head) (es : List Effect)
         → HasEffects shape P (node_by shape by) (endpoint_by P by) head es

@@ -15,9 +15,7 @@ use Rattle.linx_base.specs.SigNotes.{SigNote}
 use Rattle.journal.specs.declared.effect.Effect.{Effect}
 use Rattle.journal.specs.declared.effect.Step.{Step}
 use Rattle.journal.specs.declared.head.Head.{Head}
-use Rattle.journal.specs.declared.head.Head.TheVariants.{Open, Close, Send, Take, TakeNone, Waits}
-use Rattle.journal.specs.declared.head.Head.TheVariants.{Hunt, Attach, Detach, Cut, Mend, Settle}
-use Rattle.journal.specs.declared.head.Head.TheVariants.{Restart, Wire, Tick, Refused, Ended}
+use Rattle.journal.specs.declared.head.Head.TheVariants.{Hunt, Attach}
 use Rattle.journal.specs.Effects.{found, notice}
 use Rattle.journal.specs.History.{endpoint_by}
 use Rattle.journal.specs.Pending.{answers_hunt, attach_at, attach_in, ends_hunt, hunt_at, hunt_in}
@@ -76,22 +74,7 @@ module _ (node k : ℕ) (me : Option Inc) where
       → AllByRecursion (λ h. h.number ≡ k) (hunt_in node k me head)
       × Rises (λ h. h.number) (hunt_in node k me head)
   hunt_in-number (Hunt path note) = hunt_at-number path note
-  hunt_in-number (Open name) = (tt, tt)
-  hunt_in-number Close = (tt, tt)
-  hunt_in-number (Send q note answer) = (tt, tt)
-  hunt_in-number (Take filter position) = (tt, tt)
-  hunt_in-number (TakeNone filter) = (tt, tt)
-  hunt_in-number (Waits filter) = (tt, tt)
-  hunt_in-number (Attach q note) = (tt, tt)
-  hunt_in-number (Detach r answer) = (tt, tt)
-  hunt_in-number (Cut l) = (tt, tt)
-  hunt_in-number (Mend l) = (tt, tt)
-  hunt_in-number (Settle l) = (tt, tt)
-  hunt_in-number (Restart n) = (tt, tt)
-  hunt_in-number (Wire l side verdict) = (tt, tt)
-  hunt_in-number (Tick l side) = (tt, tt)
-  hunt_in-number (Refused reason) = (tt, tt)
-  hunt_in-number Ended = (tt, tt)
+  hunt_in-number _ = (tt, tt)
 
   attach_at-number : (q : Peer) (note : SigNote)
       → AllByRecursion (λ a. a.reference.0 ≡ k) (attach_at node k me q note)
@@ -119,22 +102,7 @@ module _ (node k : ℕ) (me : Option Inc) where
       → AllByRecursion (λ a. a.reference.0 ≡ k) (attach_in node k me head)
       × Rises (λ a. a.reference.0) (attach_in node k me head)
   attach_in-number (Attach q note) = attach_at-number q note
-  attach_in-number (Open name) = (tt, tt)
-  attach_in-number Close = (tt, tt)
-  attach_in-number (Send q note answer) = (tt, tt)
-  attach_in-number (Take filter position) = (tt, tt)
-  attach_in-number (TakeNone filter) = (tt, tt)
-  attach_in-number (Waits filter) = (tt, tt)
-  attach_in-number (Hunt path note) = (tt, tt)
-  attach_in-number (Detach r answer) = (tt, tt)
-  attach_in-number (Cut l) = (tt, tt)
-  attach_in-number (Mend l) = (tt, tt)
-  attach_in-number (Settle l) = (tt, tt)
-  attach_in-number (Restart n) = (tt, tt)
-  attach_in-number (Wire l side verdict) = (tt, tt)
-  attach_in-number (Tick l side) = (tt, tt)
-  attach_in-number (Refused reason) = (tt, tt)
-  attach_in-number Ended = (tt, tt)
+  attach_in-number _ = (tt, tt)
 
 -- a history's hunts: each has the number of a step made, and the numbers rise
 pub hunting-below : (P : List Step) (node : ℕ)

@@ -9,8 +9,8 @@ use Rattle.linx_base.specs.declared.item.Item.{Item}
 use Rattle.sigsel.specs.Selection.{first_selected, is_selected}
 use Rattle.sigsel.specs.declared.sigsel.Sigsel.{Sigsel}
 use Rattle.journal.specs.declared.effect.Effect.{Effect}
-use Rattle.journal.specs.declared.effect.Effect.TheVariants.{Opened, Closed, Arrived, Found}
-use Rattle.journal.specs.declared.effect.Effect.TheVariants.{Notified, Met, Gone, Up, Down}
+use Rattle.journal.specs.declared.effect.Effect.TheVariants.{Arrived, Found}
+use Rattle.journal.specs.declared.effect.Effect.TheVariants.{Notified}
 use Rattle.journal.specs.declared.effect.Step.{Step}
 use Rattle.journal.specs.declared.head.Head.{Head}
 use Rattle.journal.specs.History.{endpoint_by, opens}
@@ -71,12 +71,7 @@ module _ (s : Step) (P : List Step) where
       (come-one place _ refl (item_here place (Found i from note h) is), tt)
   come-from place (Notified i from note r reason) is =
       (come-one place _ refl (item_here place (Notified i from note r reason) is), tt)
-  come-from place (Opened i) is = tt
-  come-from place (Closed i) is = tt
-  come-from place (Met n q name) is = tt
-  come-from place (Gone n q) is = tt
-  come-from place (Up n l x y) is = tt
-  come-from place (Down n l x) is = tt
+  come-from place _ is = tt
 
   come-if : (b : Bool) (items : List Item) → AllByRecursion (IsCome (s ∷ P)) items
       → AllByRecursion (IsCome (s ∷ P)) (cond b items [])

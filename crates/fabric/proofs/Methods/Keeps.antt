@@ -15,9 +15,9 @@ use Rattle.journal.specs.declared.by.By.{By}
 use Rattle.journal.specs.declared.by.By.TheVariants.{Actor}
 use Rattle.journal.specs.declared.effect.Step.{Step}
 use Rattle.journal.specs.declared.head.Head.{Head}
-use Rattle.journal.specs.declared.head.Head.TheVariants.{Open, Close, Send, Take, TakeNone, Waits}
-use Rattle.journal.specs.declared.head.Head.TheVariants.{Hunt, Attach, Detach, Cut, Mend, Settle}
-use Rattle.journal.specs.declared.head.Head.TheVariants.{Restart, Wire, Tick, Refused, Ended}
+use Rattle.journal.specs.declared.head.Head.TheVariants.{Open, Close, Send}
+use Rattle.journal.specs.declared.head.Head.TheVariants.{Hunt, Attach}
+use Rattle.journal.specs.declared.head.Head.TheVariants.{Restart, Ended}
 use Rattle.journal.specs.Effects.{closing, ending, held_elsewhere, hunts_for}
 use Rattle.journal.specs.History.{closes, endpoint_by, endpoint_of, is_by, is_lost, next_inc}
 use Rattle.journal.specs.History.{opened_on}
@@ -150,13 +150,8 @@ module _ (shape : Shape) (P : List Step) (legal : IsLegal shape P) (short : IsSh
           (node_by shape s.by))) ≡ true → e ≡ Some i
       ending-own None is = absurd (true≢false (sym is))
       ending-own (Some j) is = own-closing i j (owed P (node_by shape s.by)) is
-  closes-own (Send q note answer) calm i None is = absurd (true≢false (sym is))
   closes-own (Send q note answer) calm i (Some j) is = absurd (true≢false (sym is
       ∙ (only-arrivals j note (is_alive P (node_by shape s.by) q) q).closes_none i))
-  closes-own (Take f position) calm i me is = absurd (true≢false (sym is))
-  closes-own (TakeNone f) calm i me is = absurd (true≢false (sym is))
-  closes-own (Waits f) calm i me is = absurd (true≢false (sym is))
-  closes-own (Hunt path note) calm i None is = absurd (true≢false (sym is))
   closes-own (Hunt path note) calm i (Some j) is = absurd (true≢false (sym is
       ∙ (only-hunted (find P (node_by shape s.by) path) (record {
         at = j;
@@ -165,7 +160,6 @@ module _ (shape : Shape) (P : List Step) (legal : IsLegal shape P) (short : IsSh
             note;
         number = suc (length P);
       })).closes_none i))
-  closes-own (Attach q note) calm i None is = absurd (true≢false (sym is))
   closes-own (Attach q note) calm i (Some j) is = absurd (true≢false (sym is
       ∙ (only-attached (is_alive P (node_by shape s.by) q) (record {
         at = j;
@@ -174,20 +168,14 @@ module _ (shape : Shape) (P : List Step) (legal : IsLegal shape P) (short : IsSh
             note;
         reference = record { 0 = suc (length P) };
       })).closes_none i))
-  closes-own (Detach r answer) calm i me is = absurd (true≢false (sym is))
-  closes-own (Cut l) calm i me is = absurd (true≢false (sym is))
-  closes-own (Mend l) calm i me is = absurd (true≢false (sym is))
-  closes-own (Settle l) calm i me is = absurd (true≢false (sym is))
   closes-own (Restart n) calm i me is = absurd (true≢false calm)
-  closes-own (Wire l side verdict) calm i me is = absurd (true≢false (sym is))
-  closes-own (Tick l side) calm i me is = absurd (true≢false (sym is))
-  closes-own (Refused reason) calm i me is = absurd (true≢false (sym is))
   closes-own Ended calm i me is = ending-own me is
     where
       ending-own : (e : Option Inc) → list_any (closes i) (ending e (owed P
           (node_by shape s.by))) ≡ true → e ≡ Some i
       ending-own None is = absurd (true≢false (sym is))
       ending-own (Some j) is = own-closing i j (owed P (node_by shape s.by)) is
+  closes-own _ calm i _ is = absurd (true≢false (sym is))
 
   pub other-not_lost : is_restart s.head ≡ false → (m : ℕ) → suc k ≢ m → (e : Option Inc)
       → endpoint_of P m ≡ e

@@ -28,8 +28,8 @@ use Rattle.journal.specs.Living.{is_alive}
 use Rattle.journal.specs.Logs.{Log}
 use Rattle.node_kernel.specs.declared.answers.StepAnswer.TheVariants as answers
 use Rattle.node_kernel.specs.Nodes.{NodeState}
-use Rattle.link_laws.specs.Brought.{Brought, MayBring, arrives, brought_at, goes_down}
-use Rattle.link_laws.specs.Brought.{goes_up, meets, nothing, parts as parts_from}
+use Rattle.link_laws.specs.Brought.{Brought, MayBring, arrives, brought_at}
+use Rattle.link_laws.specs.Brought.{meets, nothing}
 use Rattle.journal.specs.Shapes.{Shape}
 use Rattle.link_laws.specs.Ends.{IsLinkOf, node_at}
 use Rattle.link_laws.specs.Laws.{ArePacketEffects, IsHandedOver, IsLegalStep, delivers}
@@ -42,8 +42,8 @@ use Rattle.trunk.specs.Events.{HasNumbersLeft, IsReading, TrunkState, asked_at, 
 use Rattle.trunk.specs.Events.{side_of, told_by}
 use Rattle.trunk.specs.Laws.{MayPublish}
 use Rattle.trunk.specs.declared.up.TrunkUp.{TrunkUp}
-use Rattle.trunk.specs.declared.up.TrunkUp.TheVariants.{Nothing, WentUp, WentDown, Met}
-use Rattle.trunk.specs.declared.up.TrunkUp.TheVariants.{Arrived as UpArrived, Gone, Asked}
+use Rattle.trunk.specs.declared.up.TrunkUp.TheVariants.{WentUp}
+use Rattle.trunk.specs.declared.up.TrunkUp.TheVariants.{Arrived as UpArrived, Asked}
 use Rattle.trunk_moves.specs.Packets.{Comes, Meets, answered, names_hunted, told_brings}
 use Rattle.trunk_moves.specs.Steps.{IsTrunkStep}
 use Rattle.trunk_moves.specs.Trunks.{RunTrunks}
@@ -115,14 +115,10 @@ passes-meets P n l from (Swap k) t passes =
 arrival-may : (P : List Step) (n m : ℕ) (l : LinkNo) (x : Session) (a b : Inc) (note : SigNote)
     (what : Brought) → brought_at P n l (arrives x a b note) ≡ brought_at P n l what
     → MayBring P n m l what → is_alive P n (Here b) ≡ true
-arrival-may P n m l x a b note nothing is may = absurd cc
-arrival-may P n m l x a b note (goes_up y z) is may = absurd cc
-arrival-may P n m l x a b note (goes_down y) is may = absurd cc
 arrival-may P n m l x a b note (arrives y c d other) is may =
     let same : d ≡ b = cc in
     subst (λ (j : Inc). is_alive P n (Here j) ≡ true) same may.receiver
-arrival-may P n m l x a b note (meets y c name) is may = absurd cc
-arrival-may P n m l x a b note (parts_from y c) is may = absurd cc
+arrival-may P n m l x a b note _ is may = absurd cc
 
 -- ---- A STEP OF A PACKET
 
@@ -303,15 +299,12 @@ module _ {f : Layout} {parts : Parts} (kept : IsKept f parts) (by : By) (l : Lin
       subst (HasNumbersLeft to) (sym came)
           (numbers-first to (names_hunted P n l) (delivered from 0 keep heard t) left_to_ask),
     )
-    may-tell Nothing is = tt
     may-tell (WentUp x y) is =
         numbers-over shape l of_shape to (names_hunted P n l)
         (at_link l (delivered from 0 keep heard) f.trunks)
         (length-set f.trunks (l.0 - 1) (delivered from 0 keep heard t) ∙ kept.counted.trunks)
         (subst (HasNumbersToAsk to (names_hunted P n l)) (sym came) left_to_ask)
-    may-tell (WentDown x) is = tt
-    may-tell (Met i name) is = tt
-    may-tell (Gone i) is = tt
+    may-tell _ is = tt
 
     -- WHAT IS KEPT, and that it is the step that was asked for
     delivered-made : (kernel next : NodeState) → kernel ≡ node_left P node

@@ -15,8 +15,8 @@ use Rattle.sigsel.specs.declared.sigsel.Sigsel.{Sigsel}
 use Rattle.journal.specs.declared.by.By.{By}
 use Rattle.journal.specs.declared.by.By.TheVariants.{Actor, Pump}
 use Rattle.journal.specs.declared.effect.Effect.{Effect}
-use Rattle.journal.specs.declared.effect.Effect.TheVariants.{Arrived, Closed, Down, Found, Gone}
-use Rattle.journal.specs.declared.effect.Effect.TheVariants.{Met, Notified, Opened, Up}
+use Rattle.journal.specs.declared.effect.Effect.TheVariants.{Arrived, Closed, Found}
+use Rattle.journal.specs.declared.effect.Effect.TheVariants.{Notified}
 use Rattle.journal.specs.declared.effect.Step.{Step}
 use Rattle.journal.specs.declared.head.Head.{Head}
 use Rattle.journal.specs.declared.head.Head.TheVariants.{Waits}
@@ -70,26 +70,14 @@ module _ (j : Inc) where
   closes-not : (e : Effect) → reaches j e ≡ false → closes j e ≡ false
   closes-not (Closed i) apart =
       ne_eqb j.0 i.0 (λ same. true≢false (sym (eq-eqb i.0 j.0 (sym same)) ∙ apart))
-  closes-not (Opened i) apart = refl
-  closes-not (Arrived i q note) apart = refl
-  closes-not (Found i q note h) apart = refl
-  closes-not (Notified i q note r reason) apart = refl
-  closes-not (Met n q name) apart = refl
-  closes-not (Gone n q) apart = refl
-  closes-not (Up n l x y) apart = refl
-  closes-not (Down n l x) apart = refl
+  closes-not _ apart = refl
 
   item-not : (e : Effect) → reaches j e ≡ false → (at : ItemAt)
       → cond (is_item_of j e) (items_from at e) [] ≡ []
   item-not (Arrived i q note) apart at = rw apart refl
   item-not (Found i q note h) apart at = rw apart refl
   item-not (Notified i q note r reason) apart at = rw apart refl
-  item-not (Opened i) apart at = refl
-  item-not (Closed i) apart at = refl
-  item-not (Met n q name) apart at = refl
-  item-not (Gone n q) apart at = refl
-  item-not (Up n l x y) apart at = refl
-  item-not (Down n l x) apart at = refl
+  item-not _ apart at = refl
 
   closes-none : (es : List Effect) → list_any (reaches j) es ≡ false
       → list_any (closes j) es ≡ false

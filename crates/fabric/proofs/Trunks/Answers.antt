@@ -9,15 +9,15 @@ use Rattle.journal.specs.declared.effect.Step.{Step}
 use Rattle.journal.specs.History.{open_endpoints}
 use Rattle.journal.specs.Living.{holder_of}
 use Rattle.journal.specs.Pending.{hunting}
-use Rattle.link_laws.specs.Brought.{Brought, arrives, brought_at, goes_down, goes_up, meets}
-use Rattle.link_laws.specs.Brought.{nothing, parts}
+use Rattle.link_laws.specs.Brought.{Brought, brought_at}
+use Rattle.link_laws.specs.Brought.{nothing}
 use Rattle.node_kernel.specs.Nodes.{first_named}
 use Rattle.run_trunks.specs.Changes.{at_link}
 use Rattle.run_trunks.proofs.Rested.{changes-again}
 use Rattle.trunk.specs.Events.{TrunkState, published_at}
 use Rattle.trunk.specs.declared.up.TrunkUp.{TrunkUp}
-use Rattle.trunk.specs.declared.up.TrunkUp.TheVariants.{Nothing, WentUp, WentDown, Arrived, Met}
-use Rattle.trunk.specs.declared.up.TrunkUp.TheVariants.{Gone, Asked}
+use Rattle.trunk.specs.declared.up.TrunkUp.TheVariants.{WentUp}
+use Rattle.trunk.specs.declared.up.TrunkUp.TheVariants.{Asked}
 use Rattle.trunk_moves.specs.Packets.{answered, asks_for, publishes_if}
 use Rattle.fabric.specs.declared.bringing.At.{At}
 use Rattle.fabric.specs.Bringings.{answers_told, brought_on, publishes_over}
@@ -28,11 +28,7 @@ use Rattle.fabric.proofs.AfterStep.NodeOffTheLinks.{named-left}
 pub brought-on : (P : List Step) (node : NodeNo) (l : LinkNo) (what : Brought)
     → brought_on (node_left P node) l what ≡ brought_at P node.0 l what
 brought-on P node l nothing = refl
-brought-on P node l (goes_up x y) = refl
-brought-on P node l (goes_down x) = refl
-brought-on P node l (arrives x a b note) = refl
-brought-on P node l (meets x a name) = refl
-brought-on P node l (parts x a) = refl
+brought-on P node l _ = refl
 
 -- THE ENDPOINT of a name
 pub holder-is : (P : List Step) (node : NodeNo) (name : List ℕ)
@@ -51,14 +47,10 @@ module _ (P : List Step) (node : NodeNo) (l : LinkNo) (side : Side)
   pub answers-are : (at : At) → at.link ≡ l → at.side ≡ side → (up : TrunkUp)
       → answers_told (node_left P node) at up (at_link l first ts)
       ≡ at_link l (λ t. answered P node.0 l side up (first t)) ts
-  answers-are at there by Nothing = refl
   answers-are at there by (WentUp session peer) = rw (there, by)
       (changes-again l first (asks_for side (names_over l (hunting P node.0))) ts)
-  answers-are at there by (WentDown session) = refl
-  answers-are at there by (Arrived a b note) = refl
-  answers-are at there by (Met i name) = refl
-  answers-are at there by (Gone i) = refl
   answers-are at there by (Asked name) = rw (there, by)
       (ap (λ (o : Option Inc). publishes_over l side name o (at_link l first ts))
       (holder-is P node name)
       ∙ publishes-are name (holder_of P node.0 name))
+  answers-are at there by _ = refl

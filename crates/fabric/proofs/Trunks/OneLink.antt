@@ -8,8 +8,8 @@ use Rattle.run_trunks.specs.States.{OnlyChangedAt, TrunksState, kept_at, resting
 use Rattle.run_trunks.proofs.Rested.{changes-there, keeps-all}
 use Rattle.trunk.specs.Events.{TrunkState, published_at}
 use Rattle.trunk.specs.declared.up.TrunkUp.{TrunkUp}
-use Rattle.trunk.specs.declared.up.TrunkUp.TheVariants.{Arrived, Asked, Gone, Met, Nothing}
-use Rattle.trunk.specs.declared.up.TrunkUp.TheVariants.{WentDown, WentUp}
+use Rattle.trunk.specs.declared.up.TrunkUp.TheVariants.{Asked}
+use Rattle.trunk.specs.declared.up.TrunkUp.TheVariants.{WentUp}
 use Rattle.trunk_moves.specs.Packets.{asks_for}
 use Rattle.fabric.specs.Bringings.{answers_told, publishes_over}
 use Rattle.fabric.specs.declared.bringing.At.{At}
@@ -40,11 +40,7 @@ module _ (k : NodeState) (at : At) where
       changes-there s at.link (asks_for at.side (names_over at.link k.hunts)) only
   answers-there (Asked name) s only =
       publishes-there name (first_named k.endpoints name) s only
-  answers-there Nothing s only = only
-  answers-there (WentDown x) s only = only
-  answers-there (Arrived a b note) s only = only
-  answers-there (Met a name) s only = only
-  answers-there (Gone a) s only = only
+  answers-there _ s only = only
 
   -- and then to keep that one is to keep all
   pub told-kept : (up : TrunkUp) (s now new : TrunksState) → OnlyChangedAt at.link s

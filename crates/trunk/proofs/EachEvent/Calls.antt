@@ -26,7 +26,7 @@ use Rattle.trunk.proofs.EachEvent.FirstSide.{said_keeps, says_keeps}
 
 -- ---- how many words a call says
 
-publish_few : (t : RlnhTables) (inc : Inc) (name : List ℕ)
+pub publish_few : (t : RlnhTables) (inc : Inc) (name : List ℕ)
     → length (publish_of t inc name).says ≤ 1
 publish_few t inc name = by_address (address_of t.own inc)
   where
@@ -35,14 +35,14 @@ publish_few t inc name = by_address (address_of t.own inc)
     by_address None = omega arith
     by_address (Some a) = omega arith
 
-opened_few : (t : RlnhTables) (inc : Inc) (name : List ℕ)
+pub opened_few : (t : RlnhTables) (inc : Inc) (name : List ℕ)
     → length (opened_of t inc name).says ≤ 1
 opened_few t inc name =
     elim (is_noted t.noted name)
     as (λ b. length (if b then publish_of t inc name else end_saying t []).says ≤ 1)
     [ true ↦ publish_few t inc name | false ↦ omega arith ]
 
-close_few : (t : RlnhTables) (inc : Inc) → length (close_of t inc).says ≤ 1
+pub close_few : (t : RlnhTables) (inc : Inc) → length (close_of t inc).says ≤ 1
 close_few t inc = by_address (address_of t.own inc)
   where
     by_address : (o : Option ℕ) → length (closed t inc o).says ≤ 1
@@ -55,7 +55,7 @@ told_few None p from to signal = omega arith
 told_few (Some a) None from to signal = omega arith
 told_few (Some a) (Some b) from to signal = omega arith
 
-send_few : (t : RlnhTables) (from : Inc) (name : List ℕ) (to : Inc) (signal : SigNote)
+pub send_few : (t : RlnhTables) (from : Inc) (name : List ℕ) (to : Inc) (signal : SigNote)
     → length (send_of t from name to signal).says ≤ 2
 send_few t from name to signal =
     let made = publish_sender_of t from name (address_of t.own from) in

@@ -218,12 +218,7 @@ module _ (t : TrunkState) (kt : KeepsTrunk t) (k : ℕ) (keep : Bool) (heard : H
 -- it takes the side down only for a later session
 no_down : (A B : SideRecord) (u : Up) → DownForLater A B (told_up u)
 no_down A B ups.Nothing = tt
-no_down A B (ups.Arrived x y n) = tt
-no_down A B (ups.Freed x y n) = tt
-no_down A B (ups.Met x v) = tt
-no_down A B (ups.Gone x) = tt
-no_down A B (ups.Asked v) = tt
-no_down A B ups.Bad = tt
+no_down A B _ = tt
 
 far_session : (t : TrunkState) (k : KeepsTrunk t)
     → t.link.second.end.talk.mine ≡ t.second.kept.now.session

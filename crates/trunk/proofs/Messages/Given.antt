@@ -15,8 +15,8 @@ use Rattle.trunk_record.specs.Changes.{giving}
 use Rattle.trunk_record.specs.Trunks.{FitsReceiver, IsHalf, IsHeardFrom, heard, nothing_heard}
 use Rattle.trunk_record.proofs.Sayings.{same_inc-itself}
 use Rattle.rlnh_end.specs.declared.up.Up.{Up}
-use Rattle.rlnh_end.specs.declared.up.Up.TheVariants.{Nothing, Arrived, Freed, Met, Gone}
-use Rattle.rlnh_end.specs.declared.up.Up.TheVariants.{Asked, Bad}
+use Rattle.rlnh_end.specs.declared.up.Up.TheVariants.{Nothing, Arrived, Freed, Met}
+use Rattle.rlnh_end.specs.declared.up.Up.TheVariants.{Bad}
 use Rattle.rlnh_end.specs.States.{RlnhTables, addr_met, inc_met, with_met}
 use Rattle.rlnh_end.specs.Words.{Word, hello, hello_back, question, announce, tell, withdraw}
 use Rattle.rlnh_end.specs.Words.{confirm}
@@ -68,20 +68,16 @@ word_told A C B (question v) u k is half lives =
     (given_told A C B (asked_for v) is half tt)
 word_told A C B (announce a i v) u k is half lives =
     subst (λ x. TellsSide A C B (told_up x)) (sym k) (given_told A C B (met i v) is half tt)
-word_told A C B (tell a i b j note) Nothing k is half lives = absurd cc
 word_told A C B (tell a i b j note) (Freed x y n) k is half lives =
     quietly_frees i j note (given_told A C B (freed i j note) is half
     (freed_fits A C B i j note is half))
 word_told A C B (tell a i b j note) (Arrived x y n) k is half lives =
     subst (λ z. TellsSide A C B (told_up z)) (sym k)
     (given_told A C B (arrived i j note) is half (lives i j note k))
-word_told A C B (tell a i b j note) (Met x v) k is half lives = absurd cc
-word_told A C B (tell a i b j note) (Gone x) k is half lives = absurd cc
-word_told A C B (tell a i b j note) (Asked v) k is half lives = absurd cc
-word_told A C B (tell a i b j note) Bad k is half lives = absurd cc
 word_told A C B (withdraw a i) u k is half lives =
     subst (λ x. TellsSide A C B (told_up x)) (sym k) (given_told A C B (gone i) is half tt)
 word_told A C B (confirm a) u k is half lives = quiet_told A C B u k is
+word_told A C B (tell a i b j note) _ k is half lives = absurd cc
 
 -- ---- the names that were asked for
 

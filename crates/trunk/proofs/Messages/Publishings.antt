@@ -16,9 +16,7 @@ use Rattle.trunk.specs.Laws.{MayPublish}
 use Rattle.trunk.specs.Notes.{noted}
 use Rattle.trunk.specs.Publishing.{newest_noted, newest_unpublished}
 use Rattle.trunk.specs.declared.note.Note.{Note}
-use Rattle.trunk.specs.declared.note.Note.TheVariants.{Began, WentUp, Published, Asked, Signaled}
-use Rattle.trunk.specs.declared.note.Note.TheVariants.{Unpublished, Met, AskedFor, Arrived, Freed}
-use Rattle.trunk.specs.declared.note.Note.TheVariants.{Gone}
+use Rattle.trunk.specs.declared.note.Note.TheVariants.{Began}
 use Rattle.trunk.proofs.EachEvent.Trunks.{trunk_record}
 use Rattle.link_addresses.specs.Meanings.{HasAddressLeft}
 
@@ -27,16 +25,7 @@ pub newest_more : (A : SideRecord) (note : Note)
     → newest_unpublished (noted A note).now.said
     ≡ newest_noted (newest_unpublished A.now.said) note
 newest_more A (Began session) = refl
-newest_more A (WentUp peer) = refl
-newest_more A (Published inc name) = refl
-newest_more A (Asked name) = refl
-newest_more A (Signaled from to signal) = refl
-newest_more A (Unpublished inc) = refl
-newest_more A (Met inc name) = refl
-newest_more A (AskedFor name) = refl
-newest_more A (Arrived from to signal) = refl
-newest_more A (Freed from to signal) = refl
-newest_more A (Gone inc) = refl
+newest_more A _ = refl
 
 -- one that is newer than each that was unpublished wasn't
 pub newer_goes_on : (inc : Inc) (said : List Said) → newest_unpublished said < inc.0

@@ -23,7 +23,7 @@ use Rattle.rlnh_messages.proofs.Bodies.{is_body, one_signal}
 use Rattle.rlnh_end.specs.declared.heard.Heard.{Heard}
 use Rattle.rlnh_end.specs.declared.heard.Heard.TheVariants.{Control, Garbage, Signal}
 use Rattle.rlnh_end.specs.declared.up.Up.{Up}
-use Rattle.rlnh_end.specs.declared.up.Up.TheVariants.{Nothing, Arrived, Freed, Met, Gone}
+use Rattle.rlnh_end.specs.declared.up.Up.TheVariants.{Nothing, Arrived, Met, Gone}
 use Rattle.rlnh_end.specs.declared.up.Up.TheVariants.{Asked, Bad}
 use Rattle.rlnh_end.specs.States.{RlnhTables, addr_met, inc_met, with_met}
 use Rattle.rlnh_end.specs.Words.{Word, hello, hello_back, question, announce, tell, withdraw}
@@ -51,14 +51,11 @@ name_size v is =
 body_sized : (message : Rlnh) → FitsFields message → (1 ≤ length (spelling_of message))
     × (length (spelling_of message) ≤ 65536)
 unfolding spelling_of
-body_sized Init fits = (omega arith, omega arith)
-body_sized InitReply fits = (omega arith, omega arith)
 body_sized (QueryName name) fits = let short = name_size name fits in (omega arith, omega arith)
 body_sized (Publish addr inc name) fits =
     let short = name_size name fits.2 in
     (omega arith, omega arith)
-body_sized (Unpublish addr) fits = (omega arith, omega arith)
-body_sized (UnpublishAck addr) fits = (omega arith, omega arith)
+body_sized _ fits = (omega arith, omega arith)
 
 pub message_fits : (w : Word) → FitsWord w → IsMessage (message_of w)
 message_fits hello fits = body_sized Init fits.fits_fields
@@ -124,27 +121,17 @@ read_word w m h fits is read =
 -- ---- what is given for a word that is understood is given for what is handed up
 
 pub given_word : (w : Word) (u : Up) → Understands w u → given_for w u ≡ given_up u
-given_word hello u is = ap given_up (sym is)
-given_word hello_back u is = ap given_up (sym is)
-given_word (question v) u is = ap given_up (sym is)
-given_word (announce a i v) u is = ap given_up (sym is)
 given_word (tell a i b j note) Nothing is = absurd cc
-given_word (tell a i b j note) (Arrived x y n) is = ap given_up (sym is)
-given_word (tell a i b j note) (Freed x y n) is = ap given_up (sym is)
 given_word (tell a i b j note) (Met x v) is = absurd cc
 given_word (tell a i b j note) (Gone x) is = absurd cc
 given_word (tell a i b j note) (Asked v) is = absurd cc
 given_word (tell a i b j note) Bad is = absurd cc
-given_word (withdraw a i) u is = ap given_up (sym is)
-given_word (confirm a) u is = ap given_up (sym is)
+given_word _ _ is = ap given_up (sym is)
 
 -- ---- what is replied says nothing of the record
 
 pub reply_silent : (t : RlnhTables) (h : Heard) → saids (hears t h).made.says ≡ []
 unfolding hears
-reply_silent t (Control Init) = refl
-reply_silent t (Control InitReply) = refl
-reply_silent t (Control (QueryName v)) = refl
 reply_silent t (Control (Publish a i v)) =
     elim (is_some (inc_met t.met a) || is_some (addr_met t.met i))
     as (λ k. saids (if k then only t Bad
@@ -168,15 +155,12 @@ reply_silent t (Signal a b note) = by_both (inc_met t.met a) (meaning_of t.own b
     by_both (Some i) Free = refl
     by_both (Some i) (Live j) = refl
     by_both (Some i) (Closing j) = refl
-reply_silent t Garbage = refl
+reply_silent t _ = refl
 
 -- ---- and it is one word at most
 
 pub reply_few : (t : RlnhTables) (h : Heard) → length (hears t h).made.says ≤ 1
 unfolding hears
-reply_few t (Control Init) = omega arith
-reply_few t (Control InitReply) = omega arith
-reply_few t (Control (QueryName v)) = omega arith
 reply_few t (Control (Publish a i v)) =
     elim (is_some (inc_met t.met a) || is_some (addr_met t.met i))
     as (λ k. length (if k then only t Bad
@@ -200,7 +184,7 @@ reply_few t (Signal a b note) = by_both (inc_met t.met a) (meaning_of t.own b)
     by_both (Some i) Free = omega arith
     by_both (Some i) (Live j) = omega arith
     by_both (Some i) (Closing j) = omega arith
-reply_few t Garbage = omega arith
+reply_few t _ = omega arith
 
 -- ---- what is understood isn't Bad
 

@@ -3,7 +3,7 @@ use Rattle.std.proofs.Common.{◌≡◌, ℕ, true, false, not, List, [], ◌∷
 use Rattle.std.proofs.Common.{sym, ◌∙◌, ap, subst, ◌==◌, is_some, eq-eqb, true≢false}
 use Rattle.std.proofs.lemmas.Bool.{and_parts, false_from_ne_true, or_cases, or_left, or_right}
 use Rattle.std.proofs.lemmas.Bool.Decides.{eqb_tells}
-use Rattle.std.proofs.lemmas.Option.{same_Some}
+use Rattle.std.proofs.lemmas.Option.{none-some, same_Some}
 use Rattle.linx_base.specs.Peers.{same_inc}
 use Rattle.linx_base.specs.declared.identity.Inc.{Inc}
 use Rattle.trunk_record.specs.Sayings.{Said, is_live, published, unpublished}
@@ -15,13 +15,10 @@ use Rattle.rlnh_laws.proofs.Meeting.{met_both, option_cases, with_here, with_oth
 use Rattle.rlnh_laws.proofs.Meeting.{without_other}
 use Rattle.trunk.specs.Talks.{MeetsLive}
 
-pub none_some : {X : Type 0} (x : X) → None ≡ Some x → ⊥
-none_some x e = absurd cc
-
 -- who was met at an address was met there alone
 pub met_once : (met : List MetAt) (a : ℕ) (i : Inc) → AreApart met → inc_met met a ≡ Some i
     → addr_met met i ≡ Some a
-met_once [] a i apart e = absurd (none_some i e)
+met_once [] a i apart e = absurd (none-some i e)
 met_once (m ∷ met) a i apart e =
     elim (eqb_tells a m.addr) [
       | inl here ↦
@@ -36,7 +33,7 @@ met_once (m ∷ met) a i apart e =
             | inl same ↦
                 let is : i ≡ m.inc =
                 ap (λ (n : ℕ). let w : Inc = record { 0 = n } in w) same.1 in
-                absurd (none_some a (sym apart.1
+                absurd (none-some a (sym apart.1
                 ∙ subst (λ (k : Inc). addr_met met k ≡ Some a) is rest))
             | inr other ↦ rw other.0 rest
           ]
@@ -45,7 +42,7 @@ met_once (m ∷ met) a i apart e =
 pub meets_none : MeetsLive [] []
 meets_none =
     record {
-      lives = λ a i e. absurd (none_some i e);
+      lives = λ a i e. absurd (none-some i e);
       found = λ i e. absurd (true≢false (sym e));
     }
 
@@ -73,7 +70,7 @@ meets_more met heard a i v m free =
             let old = m.found j was in (
               old.0,
               sym (with_other met a i old.0
-                  (λ q. none_some j (sym free ∙ ap (inc_met met) q ∙ old.1))) ∙ old.1,
+                  (λ q. none-some j (sym free ∙ ap (inc_met met) q ∙ old.1))) ∙ old.1,
             )
       ];
     }
@@ -88,7 +85,7 @@ meets_less met heard a i m apart at =
         | inl here ↦
             let gone : inc_met (without_met met a) b ≡ None =
             ap (inc_met (without_met met a)) here.1 ∙ without_here met a apart in
-            absurd (none_some j (sym gone ∙ e))
+            absurd (none-some j (sym gone ∙ e))
         | inr away ↦
             let was : inc_met met b ≡ Some j =
             without_other met a b (λ q. away.1 (sym q)) ∙ e in
@@ -119,5 +116,5 @@ is_met met heard i apart m = elim (option_cases (addr_met met i)) [
   | inl none ↦
       ap is_some none ∙ sym (false_from_ne_true (is_live i heard) (λ live.
       let at = m.found i live in
-      none_some at.0 (sym none ∙ met_once met at.0 i apart at.1)))
+      none-some at.0 (sym none ∙ met_once met at.0 i apart at.1)))
 ]

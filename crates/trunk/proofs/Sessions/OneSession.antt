@@ -6,6 +6,7 @@ use Rattle.std.proofs.lemmas.Bool.{false_from_ne_true}
 use Rattle.std.proofs.lemmas.Bool.Decides.{eqb_tells}
 use Rattle.std.proofs.lemmas.List.Sums.{sum_by-cons}
 use Rattle.std.specs.List.{AllByRecursion, list_any}
+use Rattle.std.proofs.lemmas.Option.{none-some}
 use Rattle.linx_base.specs.NameText.{is_name}
 use Rattle.linx_base.specs.declared.identity.Inc.{Inc}
 use Rattle.linx_base.specs.declared.identity.Session.{Session}
@@ -24,7 +25,7 @@ use Rattle.trunk_record.specs.Sayings.{unpublished}
 use Rattle.trunk_record.proofs.Sayings.{live-not_unpublished}
 use Rattle.rlnh_end.specs.declared.up.Up.{Up}
 use Rattle.rlnh_end.specs.declared.up.Up.TheVariants.{Nothing, Arrived, Freed, Met, Gone}
-use Rattle.rlnh_end.specs.declared.up.Up.TheVariants.{Asked, Bad}
+use Rattle.rlnh_end.specs.declared.up.Up.TheVariants.{Bad}
 use Rattle.rlnh_end.specs.States.{RlnhTables, addr_met, inc_met, is_noted, no_tables, with_met}
 use Rattle.rlnh_end.specs.States.{with_note, without_met, without_note}
 use Rattle.rlnh_end.specs.Words.{Word, hello, hello_back, question, announce, tell, withdraw}
@@ -37,9 +38,10 @@ use Rattle.rlnh_laws.specs.Ties.{Alone, AreApart, Talk}
 use Rattle.rlnh_laws.specs.Talks.{Right, heard_word, said_more}
 use Rattle.rlnh_laws.proofs.Meeting.{met_both, option_cases, with_other, without_here}
 use Rattle.rlnh_laws.proofs.Meeting.{without_other}
-use Rattle.rlnh_laws.proofs.Speaking.{lowest_changes, saids-append}
+use Rattle.link_addresses.proofs.Lists.{lowest_changes}
+use Rattle.rlnh_laws.proofs.Speaking.{saids-append}
 use Rattle.trunk.specs.Talks.{FitsTables, FitsWord, IsSoundSession, MeetsLive, fresh_talk}
-use Rattle.trunk.proofs.Sessions.MetPeers.{meets_less, meets_more, meets_none, none_some}
+use Rattle.trunk.proofs.Sessions.MetPeers.{meets_less, meets_more, meets_none}
 
 -- ---- addresses that fit
 
@@ -285,7 +287,7 @@ fits_less t a fits apart =
         | inl here ↦
             let gone : inc_met (without_met t.met a) b ≡ None =
             ap (inc_met (without_met t.met a)) here.1 ∙ without_here t.met a apart in
-            absurd (none_some j (sym gone ∙ e))
+            absurd (none-some j (sym gone ∙ e))
         | inr away ↦ fits.met b j (without_other t.met a b (λ q. away.1 (sym q)) ∙ e)
       ];
     }
@@ -365,11 +367,6 @@ hears_word t heard (confirm a) fits meets apart is u =
 turns : (f : Talk) (w : Word) (u : Up) → Alone f → Understands w u
     → ((x y : Inc) (note : SigNote) → u ≡ Arrived x y note → is_live y (saids f.words) ≡ true)
     → AreInTurn f.given → AreInTurn (given_for w u ++ f.given)
-turns f hello u k is lives turn = turn
-turns f hello_back u k is lives turn = turn
-turns f (question v) u k is lives turn = turn
-turns f (announce a i v) u k is lives turn = turn
-turns f (tell a i b j note) Nothing k is lives turn = absurd cc
 turns f (tell a i b j note) (Freed x y n) k is lives turn = turn
 turns f (tell a i b j note) (Arrived x y n) k is lives turn = (
   false_from_ne_true (list_any (frees j) f.given) (λ freed.
@@ -377,12 +374,8 @@ turns f (tell a i b j note) (Arrived x y n) k is lives turn = (
       ∙ live-not_unpublished j (saids f.words) k.speaks.proper (lives i j note is))),
   turn,
 )
-turns f (tell a i b j note) (Met x v) k is lives turn = absurd cc
-turns f (tell a i b j note) (Gone x) k is lives turn = absurd cc
-turns f (tell a i b j note) (Asked v) k is lives turn = absurd cc
-turns f (tell a i b j note) Bad k is lives turn = absurd cc
-turns f (withdraw a i) u k is lives turn = turn
-turns f (confirm a) u k is lives turn = turn
+turns f (tell a i b j note) _ k is lives turn = absurd cc
+turns f _ u k is lives turn = turn
 
 -- a session that heard a word is sound
 pub heard_sound : (e f : Talk) (w : Word) → IsSoundSession f → Alone f → FitsWord w

@@ -101,11 +101,9 @@ changed_ticks : (s : EndState) (src : Session) (part : Part) (change : Change)
 changed_ticks s src part changes.Ignored = inr refl
 changed_ticks s src part changes.Heard =
     inl (data_zero (heard s) refl src part)
-changed_ticks s src part (changes.HeardReply kind) = inl refl
 changed_ticks s src part (changes.Reply kind) = inr refl
 changed_ticks s src part (changes.WentUp true) = inl refl
-changed_ticks s src part (changes.WentUp false) = inl refl
-changed_ticks s src part changes.WentDown = inl refl
+changed_ticks s src part _ = inl refl
 
 input_ticks : (s : EndState) (p : Packet) → (input_of s p).state.ticks ≤ s.ticks
 unfolding input_of
@@ -213,7 +211,7 @@ took_ticks t v reading (handed.WentDown session) = refl
 took_ticks t v reading (handed.Got m) =
     offers_ticks v (rlnh_input_of t.first.end reading).state.out
 
-took_other : (t : TrunkState) (v : LinkState) (reading : Heard) (h : Handed)
+pub took_other : (t : TrunkState) (v : LinkState) (reading : Heard) (h : Handed)
     → (near_took (with_link t v) reading h).link.second ≡ v.second
 took_other t v reading handed.Nothing = refl
 took_other t v reading (handed.WentUp session peer) =
@@ -246,12 +244,9 @@ near_sender t k keep reading =
 -- what is shown was heard now
 told_heard : (silent : ℕ) → silent ≡ 0 → (u : Up) → HeardNow silent (told_up u)
 told_heard silent zero ups.Nothing = tt
-told_heard silent zero (ups.Arrived x y n) = zero
 told_heard silent zero (ups.Freed x y n) = tt
-told_heard silent zero (ups.Met x v) = zero
-told_heard silent zero (ups.Gone x) = zero
-told_heard silent zero (ups.Asked v) = zero
 told_heard silent zero ups.Bad = tt
+told_heard silent zero _ = zero
 
 took_heard : (t : TrunkState) (v : LinkState) (reading : Heard) (h : Handed) (tables : RlnhTables)
     → TellsRightly t.link.first v.first t.link.second h
@@ -272,7 +267,7 @@ near_shown t kt k keep reading =
     (sym (took_ticks t v reading h))
     (took_heard t v reading h t.first.end.tables (near_tells t.link kt.link k keep))
 
-beat_same : (t : TrunkState) (told : TickedSide) → (near_beat t told).link ≡ t.link
+pub beat_same : (t : TrunkState) (told : TickedSide) → (near_beat t told).link ≡ t.link
 beat_same t ticked.Stays = refl
 beat_same t (ticked.WentDown session) = refl
 
