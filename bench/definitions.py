@@ -26,10 +26,10 @@ LAYERS = [
     ("Values", "linx_base sigsel"),
     ("The world outside", "linx_outside"),
     ("A journal and the laws of a node", "journal"),
-    ("A node", "sorted_set keyed_list name_key name_table hunt_table attach_table front_heap"
+    ("A node", "sorted_set keyed_list name_table hunt_table attach_table front_heap"
                " endpoint_queue node_kernel"),
     ("The laws of links", "trunk_record link_laws"),
-    ("One end of a link", "ethcm_headers fragmenter ethcm_window link_supervisor ethcm_session"
+    ("One end of a link", "ethcm_headers fragmenter ethcm_window ethcm_session"
                           " ethcm_end"),
     ("A link", "lossy_wire carrier link_settling"),
     ("What two nodes tell each other", "rlnh_messages link_addresses rlnh_end rlnh_laws trunk"),

@@ -5,8 +5,8 @@ ghost use Rattle.actor_run.specs.Knowing.{rows_for};
 ghost use Rattle.actor_run.specs.Bindings.{lookup, remember, with_row_for};
 
 use crate::names::{NameKind, name_in};
+use keyed_list::NameKey;
 use linx_base::{Name, NoMemory};
-use name_key::NameKey;
 use script_lang::Command;
 use std::alloc::Global;
 use std::collections::BTreeMap;

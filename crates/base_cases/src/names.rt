@@ -1,7 +1,7 @@
 //! Names: what is one, which are the same, their lists and their keys.
 
+use keyed_list::NameKey;
 use linx_base::{Name, NameError, NameList};
-use name_key::NameKey;
 use std::alloc::Global;
 use std::test::Fail;
 

@@ -18,7 +18,7 @@ use Rattle.ethcm_window.specs.Sending.{sent_frame, unacknowledged}
 use Rattle.ethcm_window.specs.Receiving.{missing_count}
 use Rattle.fragmenter.specs.declared.joiner.Joined.{Joined}
 use Rattle.fragmenter.specs.declared.joiner.Joined.TheVariants.{More, Whole, Broken}
-use Rattle.link_supervisor.specs.Loss.{lost_at}
+use Rattle.ethcm_session.specs.Loss.{lost_at}
 use Rattle.ethcm_end.specs.declared.answers.Input.{Input}
 use Rattle.ethcm_end.specs.declared.answers.Input.TheVariants.{Nothing}
 use Rattle.ethcm_end.specs.declared.answers.Ticked.{Ticked}

@@ -14,7 +14,7 @@ use Rattle.ethcm_session.specs.Table.{from_peer, standing_peer, while_connecting
 use Rattle.ethcm_window.specs.Sending.{sent_frame, unacknowledged}
 use Rattle.fragmenter.specs.declared.joiner.Joined.{Joined}
 use Rattle.fragmenter.specs.declared.joiner.Joined.TheVariants.{More, Whole, Broken}
-use Rattle.link_supervisor.specs.Loss.{lost_at}
+use Rattle.ethcm_session.specs.Loss.{lost_at}
 use Rattle.ethcm_end.specs.declared.answers.Input.TheVariants.{Nothing, WentDown}
 use Rattle.ethcm_end.specs.declared.answers.Ticked.TheVariants as ticks
 use Rattle.ethcm_end.specs.States.{EndState, gives, peer_of}

@@ -35,7 +35,7 @@ use Rattle.fragmenter.specs.declared.joiner.Joined.TheVariants.{More, Whole, Bro
 use Rattle.fragmenter.specs.Joining.{Begun, held_after, joiner_answer}
 use Rattle.fragmenter.specs.Pieces.{cut, followers, framed, pieces_of}
 use Rattle.fragmenter.proofs.Cuts.{few_pieces, pieces_fit}
-use Rattle.link_supervisor.specs.Loss.{lost_at}
+use Rattle.ethcm_session.specs.Loss.{lost_at}
 use Rattle.ethcm_end.specs.States.{EndState, Reaction, gives}
 use Rattle.ethcm_end.specs.Sound.{FitsMessage, IsKnown, IsSoundEnd, IsSoundReceiver, IsSoundSender}
 use Rattle.ethcm_end.specs.Sound.{IsSoundTalk}

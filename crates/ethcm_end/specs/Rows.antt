@@ -11,7 +11,7 @@ use Rattle.ethcm_window.specs.Sending.{Sender, coming_in, sent_frame, unacknowle
 use Rattle.ethcm_window.specs.Receiving.{missing_count}
 use Rattle.fragmenter.specs.declared.joiner.Joined.TheVariants.{More, Whole, Broken}
 use Rattle.fragmenter.specs.Pieces.{pieces_of}
-use Rattle.link_supervisor.specs.Loss.{lost_at}
+use Rattle.ethcm_session.specs.Loss.{lost_at}
 use Rattle.ethcm_end.specs.declared.answers.Input.{Input}
 use Rattle.ethcm_end.specs.declared.answers.Input.TheVariants.{Nothing, WentUp, WentDown, Got}
 use Rattle.ethcm_end.specs.declared.answers.Ticked.{Ticked}

@@ -25,7 +25,7 @@ use Rattle.fragmenter.specs.declared.joiner.Joined.{Joined}
 use Rattle.fragmenter.specs.declared.joiner.Joined.TheVariants.{More, Whole, Broken}
 use Rattle.fragmenter.specs.Joining.{Begun, held_after, joiner_answer}
 use Rattle.fragmenter.specs.Pieces.{pieces_of}
-use Rattle.link_supervisor.specs.Loss.{lost_at}
+use Rattle.ethcm_session.specs.Loss.{lost_at}
 use Rattle.ethcm_end.specs.declared.answers.Input.{Input}
 use Rattle.ethcm_end.specs.declared.answers.Input.TheVariants.{Nothing, WentUp, WentDown, Got}
 use Rattle.ethcm_end.specs.declared.answers.Ticked.{Ticked}

@@ -10,7 +10,7 @@ use Rattle.ethcm_session.specs.declared.standing.TalkState.{TalkState}
 use Rattle.ethcm_session.specs.Table.{standing_peer}
 use Rattle.ethcm_window.specs.Sending.{HasNumbers, Sender, number_limit}
 use Rattle.ethcm_window.specs.Receiving.{KeepsInOrder, Receiver}
-use Rattle.link_supervisor.specs.Loss.{lost_at}
+use Rattle.ethcm_session.specs.Loss.{lost_at}
 use Rattle.ethcm_end.specs.States.{EndState}
 
 -- a session of 64 bits that isn't the unknown one

@@ -13,9 +13,8 @@ use crate::answers::{Input, Ticked};
 use crate::data::take_part;
 use crate::parts::Parts;
 use ethcm_headers::{Packet, Part};
-use ethcm_session::Change;
+use ethcm_session::{Alive, Change};
 use fragmenter::pieces;
-use link_supervisor::Alive;
 use linx_base::{ConnKind, Message, NoMemory, Session};
 
 /// The kind of a part, `None` for data, ACK and NACK of frames.

@@ -9,10 +9,9 @@ ghost use Rattle.ethcm_end.specs.Rules.{after_out, anew, gone_down, heard, next_
 ghost use Rattle.ethcm_end.specs.Rules.{put, put_ack, put_pieces, replied, restart_of};
 
 use ethcm_headers::{Packet, PacketBytes, Part, write};
-use ethcm_session::Talk;
+use ethcm_session::{Talk, Watch};
 use ethcm_window::{Rx, Tx};
 use fragmenter::Joiner;
-use link_supervisor::Watch;
 use linx_base::{ConnKind, NoMemory, SentFrames, Session, UndoQueue};
 use std::alloc::Global;
 use std::marker::Model;

@@ -4,9 +4,8 @@ ghost use Rattle.linx_base.specs.Pending.{is_for, name_over};
 ghost use Rattle.linx_base.specs.declared.pending.PendingHunt.{PendingHunt as Hunt};
 ghost use Rattle.hunt_table.specs.Keys.{path_key, link_key, keys_of};
 
-use keyed_list::Keyed;
+use keyed_list::{Keyed, NameKey};
 use linx_base::{Inc, LinkNo, Path, PendingHunt};
-use name_key::NameKey;
 
 /// By what a hunt is found: its path, the link that this goes over, and the hunter.
 #[derive(PartialEq, Eq, PartialOrd, Ord, Drop)]

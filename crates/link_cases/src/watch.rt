@@ -1,7 +1,7 @@
 //! The watch of a link's end.
 
 use case_words::{follow_sections, number_text, text_of};
-use link_supervisor::{Alive, Watch};
+use ethcm_session::{Alive, Watch};
 use std::alloc::Global;
 use std::test::Fail;
 

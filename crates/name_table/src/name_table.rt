@@ -4,9 +4,8 @@ ghost use Rattle.linx_base.specs.FirstMatch.{first_match, without_match};
 ghost use Rattle.name_table.specs.Naming.{has_name, is_endpoint};
 
 use crate::named::{NamedEndpoint, NamedKey};
-use keyed_list::KeyedList;
+use keyed_list::{KeyedList, NameKey};
 use linx_base::{Inc, Name, NoMemory};
-use name_key::NameKey;
 use std::alloc::Global;
 use std::marker::Model;
 

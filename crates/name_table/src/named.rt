@@ -1,6 +1,5 @@
-use keyed_list::Keyed;
+use keyed_list::{Keyed, NameKey};
 use linx_base::{Inc, Name};
-use name_key::NameKey;
 
 /// By what a named endpoint is found.
 #[derive(PartialEq, Eq, PartialOrd, Ord, Drop)]

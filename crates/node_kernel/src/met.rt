@@ -7,9 +7,8 @@ ghost use Rattle.linx_base.specs.Pending.{is_of_session};
 ghost use Rattle.journal.specs.Living.{is_met, is_named_over, met_peer};
 ghost use Rattle.node_kernel.specs.Tables.{met_key, met_keys};
 
-use keyed_list::{Keyed, KeyedList};
+use keyed_list::{Keyed, KeyedList, NameKey};
 use linx_base::{Inc, LinkNo, MetPeer, Name, NoMemory, Peer, Session};
-use name_key::NameKey;
 use std::alloc::Global;
 use std::marker::Model;
 

@@ -7,9 +7,8 @@ ghost use Rattle.rlnh_end.specs.declared.fact.Sought.TheVariants.{Name as Sought
 ghost use Rattle.rlnh_end.specs.Facts.{key_of, first_key, second_key, keys_of, is_sought};
 
 use crate::met_at::MetAt;
-use keyed_list::Keyed;
+use keyed_list::{Keyed, NameKey};
 use linx_base::{Inc, Name};
-use name_key::NameKey;
 
 /// What an end knows of the other side.
 #[derive(Drop)]

@@ -1,6 +1,6 @@
 ghost use Rattle.std.specs.Prelude.{◌≡◌, ◌+◌, ◌<◌, ◌↔◌};
 ghost use Rattle.linx_base.specs.Both.{still};
-ghost use Rattle.link_supervisor.specs.Loss.{lost_at};
+ghost use Rattle.ethcm_session.specs.Loss.{lost_at};
 
 use std::marker::Model;
 
@@ -26,7 +26,7 @@ pub struct Watch {
 impl Model for Watch {
     ghost use Rattle.std.specs.Prelude.{ℕ, ◌<◌};
     ghost use Rattle.linx_base.specs.Both.{Both};
-    ghost use Rattle.link_supervisor.specs.Loss.{lost_at};
+    ghost use Rattle.ethcm_session.specs.Loss.{lost_at};
 
     ghost Value = { Both ℕ };
 
