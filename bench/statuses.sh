@@ -62,7 +62,7 @@ printf 'node n\nnod m\n' > "$work/bad"
 # an actor shares a filling with the one before it where they are equal: so these take turns
 printf '%s\n' 'node n' 'actor p n' 'open a' 'repeat 300' 'send self 1 fill:65532:00' \
     'send self 1 fill:65532:01' 'end' 'close' 'end' > "$work/large"
-words='the words are: run serial seed gen stream gateway help version'
+words='the words are: run serial seed find gen stream gateway help version'
 usage="linx_sim: usage: linx_sim WORD ..; $words"$'\n'
 printf x > "$work/closed" && chmod 000 "$work/closed"
 
@@ -112,6 +112,17 @@ row 'a full journal' 5 \
     $'linx_sim: journal full after step 513, by the limit of 67108864 bytes of signals\n' \
     "$work/large" "$work/text" plain run
 [ -s "$work/text" ] && complain 'a full journal: something was written'
+row 'a search' 0 '' "$script" "$work/text" plain find 1 9 took _ 5
+[ "$(cat "$work/text")" = $'seed 1\ntook 1.1 5 -' ] || complain 'a search: another text'
+row 'a search in a file' 0 '' / "$work/text" plain find 3 9 in "$script" not took _ 6
+[ "$(cat "$work/text")" = 'seed 3' ] || complain 'a search in a file: another text'
+row 'a search in vain' 7 $'linx_sim: found in none\n' "$script" "$work/text" plain find 1 9 down
+[ -s "$work/text" ] && complain 'a search in vain: something was written'
+row 'a search of full journals' 5 \
+    $'linx_sim: journal full after step 513, by the limit of 67108864 bytes of signals\n' \
+    "$work/large" "$work/text" plain find 1 9 down
+row 'a search for no words' 1 $'linx_sim: usage: linx_sim find A B [in FILE] [not] WORD ..\n' \
+    "$script" "$work/text" plain find 1 9 not
 printf '\1\1' > "$work/torn"
 row 'a torn stream' 9 $'linx_sim: torn at 0\n' "$work/torn" "$work/text" plain stream
 row 'a bad stream' 11 $'linx_sim: bad stream at 0\n' "$work/bad" "$work/text" plain stream

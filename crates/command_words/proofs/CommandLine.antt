@@ -2,7 +2,8 @@
 use Rattle.std.proofs.Common.{◌≡◌, ◌∙◌, ◌&&◌, ◌||◌, ◌⊎◌, Bool, List, ℕ, [], ◌∷◌, refl, ap, ap₂}
 use Rattle.std.proofs.Common.{subst, sym, cond, map, option_map, true, false, codes, Option, Some}
 use Rattle.std.proofs.Common.{None, true≢false, ⊎_elim, inl, inr, option_and_then, is_some}
-use Rattle.std.proofs.Common.{string_bytes, String, Bor, bytes_eq}
+use Rattle.std.proofs.Common.{string_bytes, String, Bor, bytes_eq, ◌≤◌, length, arith}
+use Rattle.std.proofs.lemmas.List.{length-map}
 use Rattle.std.specs.List.{list_any}
 use Rattle.std.specs.Option.{option_map_or}
 use Rattle.clap.specs.Lexer.{long_of, long_of_rest, short_of, short_of_rest, strip_byte}
@@ -284,34 +285,35 @@ read_as_asked (first ∷ second ∷ third ∷ fourth ∷ rest) plain none =
 -- ---- the answers
 
 -- words that ask for something are such that clap fails for want of memory alone
-fails_at : (words : List Text) (e : Error) → list_any is_dashed words ≡ false
+fails_at : (words : List Text) → length words ≤ 3 → (e : Error) → list_any is_dashed words ≡ false
     → HasKind (fault_of three_words words) e
     → (kind_of e ≡ OutOfMemory) ⊎ (request_by words ≡ None)
-fails_at [] e plain fails = inr refl
-fails_at (first ∷ []) e plain fails =
+fails_at [] few e plain fails = inr refl
+fails_at (first ∷ []) few e plain fails =
     ⊎_elim (λ memory. inl memory) (λ among. absurd among)
     (subst (λ kinds. HasKind kinds e) (none_at_one first (neither _ _ plain).0) fails)
-fails_at (first ∷ second ∷ []) e plain fails =
+fails_at (first ∷ second ∷ []) few e plain fails =
     let parts = neither _ _ plain in
     ⊎_elim (λ memory. inl memory) (λ among. absurd among)
     (subst (λ kinds. HasKind kinds e)
     (none_at_two first second parts.0 (neither _ _ parts.1).0) fails)
-fails_at (first ∷ second ∷ third ∷ []) e plain fails =
+fails_at (first ∷ second ∷ third ∷ []) few e plain fails =
     let parts = neither _ _ plain in
     let others = neither _ _ parts.1 in
     ⊎_elim (λ memory. inl memory) (λ among. absurd among)
     (subst (λ kinds. HasKind kinds e)
     (none_at_three first second third parts.0 others.0 (neither _ _ others.1).0) fails)
-fails_at (first ∷ second ∷ third ∷ fourth ∷ rest) e plain fails = inr refl
+fails_at (first ∷ second ∷ third ∷ fourth ∷ rest) few e plain fails = absurd (omega (arith, few))
 
 pub only_memory : {Z : Type 0} (line : App) (words : List (String Z)) (e : Error)
-    → line ≡ three_words → list_any (λ word. is_dashed (string_bytes word)) words ≡ false
+    → length words ≤ 3 → line ≡ three_words
+    → list_any (λ word. is_dashed (string_bytes word)) words ≡ false
     → (is_simple_and_free line ≡ true → HasKind (fault_of line (map string_bytes words)) e)
     → (kind_of e ≡ OutOfMemory) ⊎ (request_of words ≡ None)
-only_memory line words e same plain fails =
+only_memory line words e few same plain fails =
     let texts = map string_bytes words in
     let simple : is_simple_and_free line ≡ true = ap is_simple_and_free same ∙ is_simple_line in
-    fails_at texts e (sym (list_any-map is_dashed string_bytes words) ∙ plain)
+    fails_at texts (subst (λ (n : ℕ). n ≤ 3) (sym (length-map words string_bytes)) few) e (sym (list_any-map is_dashed string_bytes words) ∙ plain)
     (subst (λ (a : App). HasKind (fault_of a texts) e) same (fails simple))
 
 pub asked_is : {Z : Type 0} (line : App) (words : List (String Z)) (found : Found)

@@ -6,18 +6,20 @@ use Rattle.std.proofs.lemmas.Bool.{and_parts}
 use Rattle.std.proofs.lemmas.Bool.Decides.{nat_tests}
 use Rattle.script_words.specs.Numbers.{number_spelled}
 use Rattle.command_words.specs.Requests.{asked_alone, asked_with, asked_with_file, asked_with_plain}
-use Rattle.command_words.specs.Requests.{clients_in, clients_spelled, is_file_name, played_from}
-use Rattle.command_words.specs.Requests.{request_by, seeded}
+use Rattle.command_words.specs.Requests.{clients_in, clients_spelled, is_file_name}
+use Rattle.command_words.specs.Requests.{asked_with_more, request_by, searched, seeded}
 use Rattle.command_words.specs.Words.{called, is_help_flag}
 use Rattle.command_words.specs.declared.request.Asked.{Asked}
 use Rattle.command_words.specs.declared.request.Request.{Request}
-use Rattle.command_words.specs.declared.request.Request.TheVariants.{Show, Play, Echo, Serve}
+use Rattle.command_words.specs.declared.request.Request.TheVariants.{Show, Play, Work, Echo, Serve}
+use Rattle.command_words.specs.declared.search.Search.{Search}
 use Rattle.command_words.specs.declared.word.Word.{Word}
 use Rattle.command_words.specs.declared.request.TurnOrder.TheVariants.{Fixed}
 use Rattle.command_words.specs.declared.page.Page.TheVariants as pages
 use Rattle.command_words.specs.declared.request.Asked.TheVariants as asks
-use Rattle.command_words.specs.declared.word.Word.TheVariants.{Run, Serial, Seed, Gen, Stream}
-use Rattle.command_words.specs.declared.word.Word.TheVariants.{Gateway, Help, Version}
+use Rattle.command_words.specs.declared.work.Work.TheVariants as works
+use Rattle.command_words.specs.declared.word.Word.TheVariants.{Run, Serial, Seed, Find, Order, Gen}
+use Rattle.command_words.specs.declared.word.Word.TheVariants.{Stream, Gateway, Help, Version}
 
 -- 1 to 16
 pub record AreFew (n : ℕ) : Type 0 where
@@ -52,6 +54,11 @@ no_run : (asked : Asked) (named : Bool) (n : ℕ)
 no_run asked true n is = cc
 no_run asked false n is = cc
 
+no_work : (named : Bool) (n : ℕ)
+    → (if named then Some (Work works.Order) else None) ≡ Some (Serve n) → ⊥
+no_work true n is = cc
+no_work false n is = cc
+
 no_order : (o : Option Asked) (n : ℕ) → option_map (λ asked. Play asked) o ≡ Some (Serve n) → ⊥
 no_order None n is = cc
 no_order (Some asked) n is = cc
@@ -75,6 +82,8 @@ few_plain Run argument n is = absurd (no_run asks.Run (is_file_name argument) n 
 few_plain Serial argument n is =
     absurd (no_run (asks.InOrder Fixed) (is_file_name argument) n is)
 few_plain Seed argument n is = absurd (no_order (seeded argument) n is)
+few_plain Find argument n is = absurd cc
+few_plain Order argument n is = absurd (no_work (is_file_name argument) n is)
 few_plain Gen argument n is = absurd (no_gen (number_spelled argument) n is)
 few_plain Stream argument n is = absurd cc
 few_plain Gateway argument n is =
@@ -97,12 +106,23 @@ few_called (Some w) argument n is = few_with (is_help_flag argument) w argument 
 none_alone : (word : Option Word) (n : ℕ)
     → option_and_then (λ w. asked_alone w) word ≡ Some (Serve n) → ⊥
 none_alone None n is = cc
+none_alone (Some Run) n is = cc
 none_alone _ n is = cc
 
 none_with_file : (word : Option Word) (argument file : List ℕ) (n : ℕ)
     → option_and_then (λ w. asked_with_file w argument file) word ≡ Some (Serve n) → ⊥
 none_with_file (Some Seed) argument file n is = no_file (seeded argument) (is_file_name file) n is
 none_with_file _ argument file n is = cc
+
+no_search : (o : Option Search) (n : ℕ)
+    → option_map (λ s. Work (works.Find s)) o ≡ Some (Serve n) → ⊥
+no_search None n is = cc
+no_search (Some s) n is = cc
+
+none_with_more : (word : Option Word) (from to : List ℕ) (behind : List (List ℕ)) (n : ℕ)
+    → option_and_then (λ w. asked_with_more w from to behind) word ≡ Some (Serve n) → ⊥
+none_with_more (Some Find) from to behind n is = no_search (searched from to behind) n is
+none_with_more _ from to behind n is = cc
 
 -- a gateway that words ask for has 1 to 16 clients
 pub few_clients : (texts : List (List ℕ)) (n : ℕ) → request_by texts ≡ Some (Serve n) → AreFew n
@@ -111,4 +131,5 @@ few_clients (word ∷ []) n is = absurd (none_alone (called word) n is)
 few_clients (word ∷ argument ∷ []) n is = few_called (called word) argument n is
 few_clients (word ∷ argument ∷ file ∷ []) n is =
     absurd (none_with_file (called word) argument file n is)
-few_clients (word ∷ argument ∷ file ∷ more ∷ rest) n is = absurd cc
+few_clients (word ∷ from ∷ to ∷ next ∷ rest) n is =
+    absurd (none_with_more (called word) from to (next ∷ rest) n is)

@@ -1,8 +1,11 @@
 -- What the words of a command line ask for.
-use Rattle.std.specs.Prelude.{◌==◌, ℕ, Bool, true, ◌&&◌, ◌||◌, false, not, List, [], ◌∷◌, map}
-use Rattle.std.specs.Prelude.{codes, length, nat_le, nat_lt, String, string_bytes, slice_get}
-use Rattle.std.specs.Prelude.{Option, Some, None, option_map, option_and_then, if◌then◌else◌}
+use Rattle.std.specs.Prelude.{◌==◌, ℕ, ◌+◌, ◌-◌, Bool, true, ◌&&◌, ◌||◌, false, not, List, []}
+use Rattle.std.specs.Prelude.{◌∷◌, map, codes, drop, length, nat_le, nat_lt, String, string_bytes}
+use Rattle.std.specs.Prelude.{slice_get, Option, Some, None, option_map, option_and_then}
+use Rattle.std.specs.Prelude.{if◌then◌else◌}
 use Rattle.std.specs.Str.{bytes_eq}
+use Rattle.line_search.specs.declared.sought.Sought.{Sought}
+use Rattle.line_search.specs.declared.sought.Sought.TheVariants.{Line, NoLine}
 use Rattle.script_words.specs.Numbers.{number_spelled}
 use Rattle.command_words.specs.Words.{called, is_help_flag}
 use Rattle.command_words.specs.declared.page.Page.TheVariants as pages
@@ -10,10 +13,12 @@ use Rattle.command_words.specs.declared.request.Asked.{Asked}
 use Rattle.command_words.specs.declared.request.Asked.TheVariants as asks
 use Rattle.command_words.specs.declared.request.Request.{Request}
 use Rattle.command_words.specs.declared.request.TurnOrder.TheVariants as orders
-use Rattle.command_words.specs.declared.request.Request.TheVariants.{Show, Play, Echo, Serve}
+use Rattle.command_words.specs.declared.request.Request.TheVariants.{Show, Play, Work, Echo, Serve}
+use Rattle.command_words.specs.declared.search.Search.{Search}
+use Rattle.command_words.specs.declared.work.Work.TheVariants as works
 use Rattle.command_words.specs.declared.word.Word.{Word}
-use Rattle.command_words.specs.declared.word.Word.TheVariants.{Run, Serial, Seed, Gen, Stream}
-use Rattle.command_words.specs.declared.word.Word.TheVariants.{Gateway, Help, Version}
+use Rattle.command_words.specs.declared.word.Word.TheVariants.{Run, Serial, Seed, Find, Order, Gen}
+use Rattle.command_words.specs.declared.word.Word.TheVariants.{Stream, Gateway, Help, Version}
 
 -- the text is empty, or begins with `-` (45)
 abbrev pub is_no_name : List ℕ → Bool
@@ -24,9 +29,9 @@ is_no_name (byte ∷ bytes) = byte == 45
 abbrev pub is_file_name : List ℕ → Bool
 is_file_name text = bytes_eq text (codes "-") || not (is_no_name text)
 
--- the run of the script of a file
-abbrev pub played_from : Asked → List ℕ → Option Request
-played_from asked file = if is_file_name file then Some (Play asked) else None
+-- what is asked for of a file
+abbrev pub of_file : Request → List ℕ → Option Request
+of_file request file = if is_file_name file then Some request else None
 
 -- a gateway has 1 to 16 clients
 abbrev pub clients_in : Option ℕ → Option ℕ
@@ -46,6 +51,8 @@ abbrev pub asked_alone : Word → Option Request
 asked_alone Run = Some (Play asks.Run)
 asked_alone Serial = Some (Play (asks.InOrder orders.Fixed))
 asked_alone Seed = None
+asked_alone Find = None
+asked_alone Order = Some (Work works.Order)
 asked_alone Gen = None
 asked_alone Stream = Some Echo
 asked_alone Gateway = None
@@ -54,9 +61,11 @@ asked_alone Version = Some (Show pages.Version)
 
 -- what a word and one argument, which is no flag, ask for
 abbrev pub asked_with_plain : Word → List ℕ → Option Request
-asked_with_plain Run argument = played_from asks.Run argument
-asked_with_plain Serial argument = played_from (asks.InOrder orders.Fixed) argument
+asked_with_plain Run argument = of_file (Play asks.Run) argument
+asked_with_plain Serial argument = of_file (Play (asks.InOrder orders.Fixed)) argument
 asked_with_plain Seed argument = option_map (λ asked. Play asked) (seeded argument)
+asked_with_plain Find argument = None
+asked_with_plain Order argument = of_file (Work works.Order) argument
 asked_with_plain Gen argument = option_map (λ n. Play (asks.Gen n)) (number_spelled argument)
 asked_with_plain Stream argument = None
 asked_with_plain Gateway argument = option_map (λ n. Serve n) (clients_spelled argument)
@@ -71,8 +80,61 @@ asked_with word argument =
 -- what a word, an argument and a file ask for
 abbrev pub asked_with_file : Word → List ℕ → List ℕ → Option Request
 asked_with_file Seed argument file =
-    option_and_then (λ asked. played_from asked file) (seeded argument)
+    option_and_then (λ asked. of_file (Play asked) file) (seeded argument)
 asked_with_file _ argument file = None
+
+-- a search for so many words: one to eight
+abbrev pub fitting : Search → List (List ℕ) → Option Search
+fitting search wanted =
+    if nat_le 1 (length wanted) && nat_le (length wanted) 8 then Some search else None
+
+-- a search for the words behind its range and its file: for a line that says them, or behind `not`
+-- for none that does
+abbrev pub sought_by : Search → List (List ℕ) → Option Search
+sought_by search [] = fitting search []
+sought_by search (first ∷ rest) =
+    if bytes_eq first (codes "not")
+    then fitting (record search { sought = NoLine }) rest
+    else fitting search (first ∷ rest)
+
+-- a search in the script of the file that the first word names
+abbrev pub with_file : Search → List (List ℕ) → Option Search
+with_file search [] = None
+with_file search (file ∷ rest) =
+    if is_file_name file then sought_by (record search { in_file = true }) rest else None
+
+-- a search by the words behind its range: in the script of a file behind `in`, or in that of
+-- standard input
+abbrev pub search_behind : Search → List (List ℕ) → Option Search
+search_behind search [] = sought_by search []
+search_behind search (first ∷ rest) =
+    if bytes_eq first (codes "in")
+    then with_file search rest
+    else sought_by search (first ∷ rest)
+
+-- a search for a line, over a range of at most a million numbers, by the words behind it
+abbrev pub search_over : ℕ → ℕ → List (List ℕ) → Option Search
+search_over first last behind =
+    if nat_lt last first || nat_le 1000000 (last - first)
+    then None
+    else search_behind (record {
+      first = first;
+      more = last - first;
+      in_file = false;
+      sought = Line;
+    }) behind
+
+-- the search of the range that two texts spell, by the words behind it
+abbrev pub searched : List ℕ → List ℕ → List (List ℕ) → Option Search
+searched from to behind = option_and_then (λ first.
+    option_and_then (λ last. search_over first last behind) (number_spelled to))
+    (number_spelled from)
+
+-- what a word and further texts ask for, of which the first two are arguments
+abbrev pub asked_with_more : Word → List ℕ → List ℕ → List (List ℕ) → Option Request
+asked_with_more Find from to behind =
+    option_map (λ search. Work (works.Find search)) (searched from to behind)
+asked_with_more _ from to behind = None
 
 -- what these texts ask for: nothing where they are those of no command
 abbrev pub request_by : List (List ℕ) → Option Request
@@ -80,18 +142,22 @@ request_by (word ∷ []) = option_and_then (λ w. asked_alone w) (called word)
 request_by (word ∷ argument ∷ []) = option_and_then (λ w. asked_with w argument) (called word)
 request_by (word ∷ argument ∷ file ∷ []) =
     option_and_then (λ w. asked_with_file w argument file) (called word)
-request_by _ = None
+request_by (word ∷ from ∷ to ∷ next ∷ rest) =
+    option_and_then (λ w. asked_with_more w from to (next ∷ rest)) (called word)
+request_by [] = None
 
 -- what the words ask for
 abbrev pub request_of : {Z : Type 0} → List (String Z) → Option Request
 request_of words = request_by (map string_bytes words)
 
--- the place, from 0, of the file among the texts of a run that reads a script: behind the word, or
--- behind the number of `seed`
+-- the place, from 0, of the file among the texts of what reads one: behind the word, behind the
+-- number of `seed`, or behind the `in` of a search
 abbrev pub file_place : Option Request → Option ℕ
 file_place (Some (Play asks.Run)) = Some 1
 file_place (Some (Play (asks.InOrder orders.Fixed))) = Some 1
 file_place (Some (Play (asks.InOrder (orders.Seed n)))) = Some 2
+file_place (Some (Work (works.Find search))) = if search.in_file then Some 4 else None
+file_place (Some (Work works.Order)) = Some 1
 file_place _ = None
 
 -- the file that a text names, which may be missing: none by `-`
@@ -103,11 +169,24 @@ file_in (Some file) = if bytes_eq file (codes "-") then None else Some file
 abbrev pub file_at : List (List ℕ) → ℕ → Option (List ℕ)
 file_at texts place = file_in (slice_get texts place)
 
--- the file that these texts name: that of a run that reads a script; none where the script is read
--- from standard input
+-- the file that these texts name; none where standard input is read
 abbrev pub file_by : List (List ℕ) → Option (List ℕ)
 file_by texts = option_and_then (λ place. file_at texts place) (file_place (request_by texts))
 
 -- the file that the words name
 abbrev pub file_of : {Z : Type 0} → List (String Z) → Option (List ℕ)
 file_of words = file_by (map string_bytes words)
+
+-- the place behind `not`, where it stands at this one
+abbrev pub wanted_place_by : Sought → ℕ → ℕ
+wanted_place_by Line place = place
+wanted_place_by NoLine place = place + 1
+
+-- the place, from 0, of the first text that is wanted of a line: behind the word, the range, the file
+-- and `not`
+abbrev pub wanted_place : Search → ℕ
+wanted_place search = wanted_place_by search.sought (if search.in_file then 5 else 3)
+
+-- the texts that are wanted of a line, among those of a search
+abbrev pub wanted_of : Search → List (List ℕ) → List (List ℕ)
+wanted_of search texts = drop (wanted_place search) texts

@@ -3,8 +3,8 @@ use Rattle.std.specs.Prelude.{ℕ, Bool, ◌||◌, List, [], ◌∷◌, codes, O
 use Rattle.std.specs.Prelude.{if◌then◌else◌}
 use Rattle.std.specs.Str.{bytes_eq}
 use Rattle.command_words.specs.declared.word.Word.{Word}
-use Rattle.command_words.specs.declared.word.Word.TheVariants.{Run, Serial, Seed, Gen, Stream}
-use Rattle.command_words.specs.declared.word.Word.TheVariants.{Gateway, Help, Version}
+use Rattle.command_words.specs.declared.word.Word.TheVariants.{Run, Serial, Seed, Find, Order, Gen}
+use Rattle.command_words.specs.declared.word.Word.TheVariants.{Stream, Gateway, Help, Version}
 
 -- a row of the table: the name of a word, its use, a line, a paragraph and an example
 pub record Row : Type 0 where
@@ -39,6 +39,22 @@ said_of Seed = record {
   paragraph =
       codes "Plays a script as serial does, but in an order that the number S decides, which has\none to ten decimal digits and is at most 4294967295. The text is the same each time\nfor one S; other numbers have other orders.\n";
   example = codes "linx_sim seed 7 examples/losses.linx";
+}
+said_of Find = record {
+  name = codes "find";
+  usage = codes "find A B [in FILE] [not] WORD ..";
+  line = codes "find the first number from A to B whose run has a line of these words";
+  paragraph =
+      codes "Plays a script as seed does, in the orders of the numbers A, A + 1, .. B, a million at\nmost, and writes the first one whose text has a line that begins with these words, and\nthe line. There are one to eight words; _ stands for any. What a line begins with is\nwhat stands behind the number and the maker of a step, or the + of an effect. With not\nit writes the first one whose text has no such line. Where there is none it exits 7.\n";
+  example = codes "linx_sim find 1 1000 in examples/losses.linx notified _ _ _ dead";
+}
+said_of Order = record {
+  name = codes "order";
+  usage = codes "order [FILE]";
+  line = codes "write the order of a printed run, as lines of a script";
+  paragraph =
+      codes "Reads the text of a run from FILE, or from standard input, and writes whose turns its\nsteps were, as lines of a script. With these lines its script makes the same run again\nunder serial, byte for byte, also where run made it.\n";
+  example = codes "linx_sim run examples/losses.linx | linx_sim order";
 }
 said_of Gen = record {
   name = codes "gen";
@@ -83,7 +99,7 @@ said_of Version = record {
 
 -- all words, in the order of the help
 abbrev pub all_words : List Word
-all_words = Run ∷ Serial ∷ Seed ∷ Gen ∷ Stream ∷ Gateway ∷ Help ∷ Version ∷ []
+all_words = Run ∷ Serial ∷ Seed ∷ Find ∷ Order ∷ Gen ∷ Stream ∷ Gateway ∷ Help ∷ Version ∷ []
 
 -- the first of these words whose name is the text
 abbrev pub named : List ℕ → List Word → Option Word

@@ -1,7 +1,8 @@
 //! The command line, as `clap` reads it: a word, and perhaps an argument and a file behind it. Flags,
 //! and `-` for standard input, are read off the table, since clap would take `--` for the end of
-//! flags.
-ghost use Rattle.std.specs.Prelude.{◌≡◌, ◌⊎◌, IfErr, IfOk, None, false, option_map, string_bytes};
+//! flags; and so are the many words of a search.
+ghost use Rattle.std.specs.Prelude.{◌≡◌, ◌≤◌, ◌⊎◌, length, IfErr, IfOk, None, false, option_map};
+ghost use Rattle.std.specs.Prelude.{string_bytes};
 ghost use Rattle.std.specs.List.{list_any};
 ghost use Rattle.clap.specs.Words.{app_of, kind_of};
 ghost use Rattle.command_words.specs.CommandLine.{is_dashed, request_from, three_words};
@@ -25,6 +26,9 @@ fn request_from(word: Option<&str>, argument: Option<&str>, file: Option<&str>) 
         (Some(word), Some(argument), Some(file)) => asked_with_file(called(word)?, argument, file),
     }
 }
+
+/// The most words that clap reads.
+const CLAP_MOST: usize = 3;
 
 /// Whether a word begins with `-`.
 fn has_dashed_word(words: &[String]) -> bool
@@ -51,6 +55,7 @@ fn command_line<'a>(alloc: Global) -> Result<Command<'a>, AllocError>
 
 /// What the words ask for, as clap reads them. Its refusals are errors.
 fn reads(alloc: Global, words: &[String]) -> Result<Option<Request>, Error>
+    requires few { length words.now ≤ 3 }
     requires plain { list_any (λ word. is_dashed (string_bytes word)) words.now ≡ false }
     ensures ok { IfOk result (λ request. request ≡ request_of words.now) }
     ensures err { IfErr result (λ error. (kind_of error ≡ ErrorKind.OutOfMemory)
@@ -65,11 +70,12 @@ fn reads(alloc: Global, words: &[String]) -> Result<Option<Request>, Error>
 
 impl Request {
     /// What the words of a command line ask for; `None` where they ask for nothing. `clap` reads
-    /// them; where it can't, since a word begins with `-` or memory is refused, the table does.
+    /// them; where it can't, since there are more than three, one begins with `-` or memory is
+    /// refused, the table does.
     pub fn of(alloc: Global, words: &[String]) -> Option<Request>
         ensures { result ≡ request_of words.now }
     {
-        if has_dashed_word(words) {
+        if words.len() > CLAP_MOST || has_dashed_word(words) {
             return request_by(words);
         }
         match reads(alloc, words) {

@@ -10,10 +10,14 @@ mod nearest;
 mod number;
 mod page;
 mod request;
+mod search;
 mod word;
+mod work;
 
 pub use line::Line;
 pub use misuse::Misuse;
 pub use page::Page;
 pub use request::{Asked, Request, TurnOrder, file_named};
+pub use search::Search;
 pub use word::{Said, WORDS, Word};
+pub use work::Work;

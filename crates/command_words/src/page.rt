@@ -43,6 +43,8 @@ fn foot() -> &'static str
     4  the text can't be written\n  \
     5  the journal is full before the run is over\n  \
     6  memory was refused\n  \
+    7  no run has what is sought\n  \
+    8  the bytes are no printed text, or one of too much\n  \
     9  a stream ended within a frame or a request\n  \
     11 the bytes of a stream are no frame or request, or break the rules\n\n\
     The manual is docs/use/linx_sim.1, or `man linx_sim` once it is installed.\n"

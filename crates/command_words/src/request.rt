@@ -1,13 +1,15 @@
 //! What the words ask for.
 ghost use Rattle.std.specs.Prelude.{◌≡◌, map, option_map, string_bytes};
 ghost use Rattle.command_words.specs.Requests.{asked_alone, asked_with, asked_with_file};
-ghost use Rattle.command_words.specs.Requests.{clients_in, clients_spelled, file_at, file_of};
-ghost use Rattle.command_words.specs.Requests.{file_place, is_file_name, played_from, request_of};
-ghost use Rattle.command_words.specs.Requests.{seeded};
+ghost use Rattle.command_words.specs.Requests.{asked_with_more, clients_in, clients_spelled};
+ghost use Rattle.command_words.specs.Requests.{file_at, file_of, file_place, is_file_name};
+ghost use Rattle.command_words.specs.Requests.{of_file, request_of, seeded};
 
 use crate::number::number;
 use crate::page::Page;
+use crate::search::{Search, searched};
 use crate::word::{Word, called, is_help_flag};
+use crate::work::Work;
 
 /// The most clients of a gateway, and the most digits that their number has.
 const CLIENTS_MOST: u32 = 16;
@@ -41,6 +43,8 @@ pub enum Request {
     Show(Page),
     /// A run.
     Play(Asked),
+    /// What is done with what is read, on one thread.
+    Work(Work),
     /// An echo over the program's streams.
     Echo,
     /// A gateway for so many clients over the program's streams.
@@ -49,18 +53,18 @@ pub enum Request {
 
 /// Whether a text names a file, or standard input by `-`. The name of a file isn't empty, and
 /// begins with no `-`.
-fn is_file_name(text: &str) -> bool
+pub(crate) fn is_file_name(text: &str) -> bool
     ensures { result ≡ is_file_name text.now }
 {
     text == "-" || !(text.is_empty() || text.starts_with('-'))
 }
 
-/// The run of the script of a file.
-fn played_from(asked: Asked, file: &str) -> Option<Request>
-    ensures { result ≡ played_from asked file.now }
+/// What is asked for of a file.
+fn of_file(request: Request, file: &str) -> Option<Request>
+    ensures { result ≡ of_file request file.now }
 {
     if is_file_name(file) {
-        Some(Request::Play(asked))
+        Some(request)
     } else {
         None
     }
@@ -100,7 +104,8 @@ pub(crate) fn asked_alone(word: Word) -> Option<Request>
     match word {
         Word::Run => Some(Request::Play(Asked::Run)),
         Word::Serial => Some(Request::Play(Asked::InOrder(TurnOrder::Fixed))),
-        Word::Seed | Word::Gen => None,
+        Word::Order => Some(Request::Work(Work::Order)),
+        Word::Seed | Word::Find | Word::Gen => None,
         Word::Stream => Some(Request::Echo),
         Word::Gateway => None,
         Word::Help => Some(Request::Show(Page::All)),
@@ -116,13 +121,14 @@ pub(crate) fn asked_with(word: Word, argument: &str) -> Option<Request>
         return Some(Request::Show(Page::Of(word)));
     }
     match word {
-        Word::Run => played_from(Asked::Run, argument),
-        Word::Serial => played_from(Asked::InOrder(TurnOrder::Fixed), argument),
+        Word::Run => of_file(Request::Play(Asked::Run), argument),
+        Word::Serial => of_file(Request::Play(Asked::InOrder(TurnOrder::Fixed)), argument),
         Word::Seed => Some(Request::Play(seeded(argument)?)),
+        Word::Order => of_file(Request::Work(Work::Order), argument),
         Word::Gen => Some(Request::Play(Asked::Gen(number(argument)?))),
         Word::Gateway => Some(Request::Serve(clients(argument)?)),
         Word::Help => Some(Request::Show(Page::Of(called(argument)?))),
-        Word::Stream | Word::Version => None,
+        Word::Find | Word::Stream | Word::Version => None,
     }
 }
 
@@ -131,7 +137,17 @@ pub(crate) fn asked_with_file(word: Word, argument: &str, file: &str) -> Option<
     ensures { result ≡ asked_with_file word argument.now file.now }
 {
     match word {
-        Word::Seed => played_from(seeded(argument)?, file),
+        Word::Seed => of_file(Request::Play(seeded(argument)?), file),
+        _ => None,
+    }
+}
+
+/// What a word and further ones ask for, of which the first two are arguments.
+fn asked_with_more(word: Word, from: &str, to: &str, behind: &[String]) -> Option<Request>
+    ensures { result ≡ asked_with_more word from.now to.now (map string_bytes behind.now) }
+{
+    match word {
+        Word::Find => Some(Request::Work(Work::Find(searched(from, to, behind)?))),
         _ => None,
     }
 }
@@ -146,17 +162,22 @@ pub(crate) fn request_by(words: &[String]) -> Option<Request>
         [word, argument, file] => {
             asked_with_file(called(word.as_str())?, argument.as_str(), file.as_str())
         }
-        _ => None,
+        [word, from, to, behind @ ..] => {
+            asked_with_more(called(word.as_str())?, from.as_str(), to.as_str(), behind)
+        }
+        [] => None,
     }
 }
 
-/// The place, from 0, of the file among the words of a run that reads a script.
+/// The place, from 0, of the file among the words of what reads one.
 fn file_place(request: Option<Request>) -> Option<usize>
     ensures { result ≡ file_place request }
 {
     match request {
         Some(Request::Play(Asked::Run | Asked::InOrder(TurnOrder::Fixed))) => Some(1),
         Some(Request::Play(Asked::InOrder(TurnOrder::Seed(_)))) => Some(2),
+        Some(Request::Work(Work::Find(Search { in_file: true, .. }))) => Some(4),
+        Some(Request::Work(Work::Order)) => Some(1),
         _ => None,
     }
 }
@@ -171,8 +192,7 @@ fn file_at(words: &[String], place: usize) -> Option<&str>
     }
 }
 
-/// The file that the words name: that of a run that reads a script. `None` where that is read from
-/// standard input.
+/// The file that the words name; `None` where standard input is read.
 pub fn file_named(words: &[String]) -> Option<&str>
     ensures { option_map (λ name. name.now) result ≡ file_of words.now }
 {

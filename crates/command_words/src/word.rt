@@ -11,6 +11,10 @@ pub enum Word {
     Serial,
     /// The run of a script in the order that a number decides.
     Seed,
+    /// The first of some orders whose run shows what is sought.
+    Find,
+    /// The order of a printed run.
+    Order,
     /// The run of a generated script.
     Gen,
     /// An echo over the program's streams.
@@ -24,10 +28,12 @@ pub enum Word {
 }
 
 /// All words, in the order of the help.
-pub const WORDS: [Word; 8] = [
+pub const WORDS: [Word; 10] = [
     Word::Run,
     Word::Serial,
     Word::Seed,
+    Word::Find,
+    Word::Order,
     Word::Gen,
     Word::Stream,
     Word::Gateway,
@@ -81,6 +87,26 @@ impl Word {
                     one to ten decimal digits and is at most 4294967295. The text is the same each time\n\
                     for one S; other numbers have other orders.\n",
                 example: "linx_sim seed 7 examples/losses.linx",
+            },
+            Word::Find => Said {
+                name: "find",
+                usage: "find A B [in FILE] [not] WORD ..",
+                line: "find the first number from A to B whose run has a line of these words",
+                paragraph: "Plays a script as seed does, in the orders of the numbers A, A + 1, .. B, a million at\n\
+                    most, and writes the first one whose text has a line that begins with these words, and\n\
+                    the line. There are one to eight words; _ stands for any. What a line begins with is\n\
+                    what stands behind the number and the maker of a step, or the + of an effect. With not\n\
+                    it writes the first one whose text has no such line. Where there is none it exits 7.\n",
+                example: "linx_sim find 1 1000 in examples/losses.linx notified _ _ _ dead",
+            },
+            Word::Order => Said {
+                name: "order",
+                usage: "order [FILE]",
+                line: "write the order of a printed run, as lines of a script",
+                paragraph: "Reads the text of a run from FILE, or from standard input, and writes whose turns its\n\
+                    steps were, as lines of a script. With these lines its script makes the same run again\n\
+                    under serial, byte for byte, also where run made it.\n",
+                example: "linx_sim run examples/losses.linx | linx_sim order",
             },
             Word::Gen => Said {
                 name: "gen",

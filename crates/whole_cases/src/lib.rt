@@ -38,6 +38,8 @@ mod ring;
 #[cfg(test)]
 mod runs;
 #[cfg(test)]
+mod searches;
+#[cfg(test)]
 mod seeds;
 #[cfg(test)]
 mod settle_facts;

@@ -4,7 +4,7 @@ use crate::runs::{Worked, prints_by};
 use std::test::Fail;
 
 /// An attach finds its peer, or comes too late, by the order of the turns.
-const SCRIPT: &str = "node n
+pub const SCRIPT: &str = "node n
     actor p n
       open a
       hunt b

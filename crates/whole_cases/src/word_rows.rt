@@ -97,6 +97,8 @@ writes everything that happened.
       play a script in the fixed order of rounds
   seed S [FILE]
       play a script in the order that a number decides
+  find A B [in FILE] [not] WORD ..
+      find the first number from A to B whose run has a line of these words
   gen N
       play the generated script of a number, and write its summary
   stream
@@ -119,6 +121,7 @@ exit status:
   4  the text can't be written
   5  the journal is full before the run is over
   6  memory was refused
+  7  no run has what is sought
   9  a stream ended within a frame or a request
   11 the bytes of a stream are no frame or request, or break the rules
 
@@ -169,6 +172,11 @@ example:
 
 const VERSION: &str = "linx_sim 1.0\n";
 
+/// What a search for the self send's signal writes.
+const FOUND: &str = "seed 1\ntook 1.1 5 -\n";
+
+const USAGE_OF_FIND: &str = "linx_sim: usage: linx_sim find A B [in FILE] [not] WORD ..\n";
+
 /// Each word that runs a script or serves a stream, with each source.
 const SOURCES: &[Row] = &[
     INPUT,
@@ -200,6 +208,51 @@ const SOURCES: &[Row] = &[
     Row {
         words: &["seed", "9", "s.linx"],
         ..FILE
+    },
+    Row {
+        words: &["find", "1", "9", "took", "_", "5"],
+        text: Text::Is(FOUND),
+        ..INPUT
+    },
+    Row {
+        words: &["find", "1", "9", "in", "s.linx", "took", "_", "5"],
+        text: Text::Is(FOUND),
+        ..FILE
+    },
+    Row {
+        words: &["find", "3", "9", "in", "-", "not", "took", "_", "6"],
+        text: Text::Is("seed 3\n"),
+        ..INPUT
+    },
+    Row {
+        words: &["find", "1", "9", "not", "took"],
+        number: 7,
+        text: Text::Empty,
+        line: "linx_sim: found in none\n",
+        ..INPUT
+    },
+    Row {
+        words: &["find", "1", "9", "took"],
+        file: Content::Script,
+        number: 2,
+        text: Text::Empty,
+        line: "linx_sim: script line 1: no statement begins with this word here: no\n",
+        ..SHOWN
+    },
+    Row {
+        words: &["find", "1", "9", "in", "s.linx", "took"],
+        line: "linx_sim: s.linx: no such file\n",
+        ..UNOPENED
+    },
+    Row {
+        words: &["find", "1", "9", "in", "s.linx"],
+        line: USAGE_OF_FIND,
+        ..MISUSED
+    },
+    Row {
+        words: &["find", "9", "1", "took"],
+        line: USAGE_OF_FIND,
+        ..MISUSED
     },
     Row {
         words: &["gen", "7"],
@@ -360,7 +413,7 @@ const MISUSES: &[Row] = &[
     },
     Row {
         words: &["fast\n\u{7f}"],
-        line: "linx_sim: no word 'fast??'; the words are: run serial seed gen stream gateway help version\n",
+        line: "linx_sim: no word 'fast??'; the words are: run serial seed find gen stream gateway help version\n",
         ..MISUSED
     },
     Row {
@@ -517,7 +570,7 @@ fn a_long_word_is_cut(rt: HostRuntime) -> Result<(), Fail> {
     );
     let wanted =
         "linx_sim: no word 'xxxxxxxxxxxxxxxxxxxxxxxxxxxxxxxxxxxxxxxxxxxxxxxxxxxxxxxxxxxxxxxx\
-        '; the words are: run serial seed gen stream gateway help version\n";
+        '; the words are: run serial seed find gen stream gateway help version\n";
     assert_eq!(rt; errors.held(), wanted.as_bytes());
     Ok(())
 }

@@ -8,7 +8,7 @@ returns-in_err-matches-clause-err c =
     let error = c.in_err-matches.field-0.0 in
     passed_up c.from_residual-in_err-matches.result error _ c.from_residual-in_err-matches.ensures.1
     (only_memory (app_of c.in_ok-command_line.field-0) c.args.words.now error
-    c.in_ok-command_line.ensures c.requires.plain c.in_err-matches.ensures.kinds)
+    c.requires.few c.in_ok-command_line.ensures c.requires.plain c.in_err-matches.ensures.kinds)
 
 pub returns-clause-ok : goal.returns-clause-ok
 returns-clause-ok c =
