@@ -4,3 +4,5 @@ mod Scanning
 mod Shown
 mod Decided
 mod Headline
+mod Searching
+mod Working

@@ -11,10 +11,9 @@ use Rattle.script_lang.specs.declared.script_error.ScriptError.TheVariants as sc
 use Rattle.order_lines.specs.Fronts.{ordered_of}
 use Rattle.linx_commands.specs.Runs.{read_of}
 use Rattle.linx_commands.specs.declared.outcome.Status.{Status}
-use Rattle.linx_commands.specs.declared.outcome.Status.TheVariants.{Done, Usage, Script, Unopened}
-use Rattle.linx_commands.specs.declared.outcome.Status.TheVariants.{ReadFault, WriteFault}
-use Rattle.linx_commands.specs.declared.outcome.Status.TheVariants.{JournalFull, NoMemory, Torn}
-use Rattle.linx_commands.specs.declared.outcome.Status.TheVariants.{BadStream}
+use Rattle.linx_commands.specs.declared.outcome.Status.TheVariants.{Done, Script, ReadFault}
+use Rattle.linx_commands.specs.declared.outcome.Status.TheVariants.{WriteFault, JournalFull}
+use Rattle.linx_commands.specs.declared.outcome.Status.TheVariants.{NoMemory}
 
 -- what each status says of a source's bytes that gave no script
 abbrev pub IsUnread : Status → Option (List ℕ) → Type 0
@@ -27,15 +26,9 @@ IsUnread _ told = ⊥
 -- the status of a text's writing
 abbrev pub is_of_writing : Status → Bool
 is_of_writing Done = true
-is_of_writing (Usage wrong) = false
-is_of_writing (Script line fault) = false
-is_of_writing (Unopened why) = false
-is_of_writing ReadFault = false
 is_of_writing WriteFault = true
-is_of_writing JournalFull = false
 is_of_writing NoMemory = true
-is_of_writing (Torn at) = false
-is_of_writing (BadStream at) = false
+is_of_writing _ = false
 
 -- the status of a read that stopped short
 abbrev pub read_status : ReadStop → Status

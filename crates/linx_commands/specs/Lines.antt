@@ -18,7 +18,9 @@ use Rattle.linx_commands.specs.declared.outcome.Status.{Status}
 use Rattle.linx_commands.specs.declared.outcome.Status.TheVariants.{Done, Usage, Script, Unopened}
 use Rattle.linx_commands.specs.declared.outcome.Status.TheVariants.{ReadFault, WriteFault}
 use Rattle.linx_commands.specs.declared.outcome.Status.TheVariants.{JournalFull, NoMemory, Torn}
-use Rattle.linx_commands.specs.declared.outcome.Status.TheVariants.{BadStream}
+use Rattle.linx_commands.specs.declared.outcome.Status.TheVariants.{BadStream, FoundNone, Text}
+use Rattle.linx_commands.specs.declared.outcome.TextFault.{TextFault}
+use Rattle.linx_commands.specs.declared.outcome.TextFault.TheVariants.{Bad, Full, Long}
 use Rattle.linx_commands.specs.declared.phrase.Phrase.{Phrase}
 use Rattle.linx_commands.specs.declared.phrase.Phrase.TheVariants as says
 
@@ -49,6 +51,11 @@ phrase_of says.OutOfMemory = codes "out of memory"
 phrase_of says.AfterStep = codes " after step "
 phrase_of says.TornAt = codes "torn at "
 phrase_of says.BadStreamAt = codes "bad stream at "
+phrase_of says.FoundNone = codes "found in none"
+phrase_of says.TextLine = codes "text line "
+phrase_of says.NoTextLine = codes ": no line of a printed text"
+phrase_of says.TooMuchNoted = codes ": more signals than a journal holds"
+phrase_of says.TextTooLong = codes "text longer than 268435456 bytes"
 
 -- the text at a place, from 0; none where there are fewer
 abbrev pub text_at : List (List ℕ) → ℕ → List ℕ
@@ -93,6 +100,12 @@ unfoldable pub bad_text : ℕ → Fault → List ℕ
 bad_text line fault =
     phrase_of says.ScriptLine ++ decimal line ++ phrase_of says.Colon ++ reason_of fault
 
+-- what is wrong with a printed text
+unfoldable pub text_fault_text : TextFault → List ℕ
+text_fault_text (Bad line) = phrase_of says.TextLine ++ decimal line ++ phrase_of says.NoTextLine
+text_fault_text (Full line) = phrase_of says.TextLine ++ decimal line ++ phrase_of says.TooMuchNoted
+text_fault_text Long = phrase_of says.TextTooLong
+
 -- where a run without memory stopped; nothing where it made no step
 unfoldable pub stop_text : List Step → List ℕ
 stop_text P =
@@ -110,6 +123,8 @@ text_by texts JournalFull log = full_text log.steps
 text_by texts NoMemory log = phrase_of says.OutOfMemory ++ stop_text log.steps
 text_by texts (Torn at) log = phrase_of says.TornAt ++ decimal at
 text_by texts (BadStream at) log = phrase_of says.BadStreamAt ++ decimal at
+text_by texts FoundNone log = phrase_of says.FoundNone
+text_by texts (Text fault) log = text_fault_text fault
 
 -- THE PROGRAM'S LINE on standard error, by its words, its status and the journal; none at Done
 unfoldable pub line_by : List (List ℕ) → Status → Log → List ℕ

@@ -9,16 +9,19 @@ use Rattle.command_words.specs.declared.request.Asked.{Asked}
 use Rattle.command_words.specs.declared.request.Asked.TheVariants as asks
 use Rattle.command_words.specs.declared.request.Request.{Request}
 use Rattle.command_words.specs.declared.request.Request.TheVariants.{Show, Play, Echo, Serve}
+use Rattle.command_words.specs.declared.work.Work.{Work}
 use Rattle.journal.specs.Logs.{Log}
 use Rattle.linx_outside.specs.declared.files.OpenFault.{OpenFault}
 use Rattle.linx_commands.specs.Causes.{is_of_writing}
 use Rattle.linx_commands.specs.Commands.{CompletesUnder, IsCausedUnder, ReadsUnder, written_under}
 use Rattle.linx_commands.specs.Headline.{HeadlineUnder}
 use Rattle.linx_commands.specs.Lines.{line_by}
+use Rattle.linx_commands.specs.Opened.{IsReadOfFile, IsUnopened}
 use Rattle.linx_commands.specs.Runs.{IsEmptyLog, IsLegalSomehow}
 use Rattle.linx_commands.specs.Statuses.{IsUsageOrRefused}
+use Rattle.linx_commands.specs.Works.{IfWork}
 use Rattle.linx_commands.specs.declared.outcome.Status.{Status}
-use Rattle.linx_commands.specs.declared.outcome.Status.TheVariants.{Usage, Unopened, NoMemory}
+use Rattle.linx_commands.specs.declared.outcome.Status.TheVariants.{Usage, NoMemory}
 use Rattle.linx_commands.specs.declared.serving.InThreads.{InThreads}
 use Rattle.linx_commands.specs.declared.serving.InThreads.TheVariants as threads
 use Rattle.linx_commands.specs.declared.words.Unread.{Unread}
@@ -96,23 +99,12 @@ pub record IsPlayed (asked : Asked) (told : Option (List ℕ)) (reads : Type 0)
   -- what was written of the run
   pub written : writes (written_under asked log)
 
--- a file was opened, which tells the bytes that the files tell of its name, and read
-pub record ReadsFile {T : Type 0} (left : T → Option (List ℕ)) (faults : T → ℕ) (last : Option ℕ)
-    (is_faultless : T → Type 0) (asked : Asked) (content : Option (List ℕ)) (status : Status)
-    : Type 0 where
-  pub opened : T
-  pub rest : T
-  pub told : left opened ≡ content
-  pub read : ReadsUnder asked left faults last is_faultless opened rest status
-
--- a file wasn't opened, for a reason for which these files may refuse it; nothing was run or written
-pub record IsUnopened (refuses : OpenFault → Type 0) (quiet : Type 0) (ended : Status) (log : Log)
-    : Type 0 where
-  pub why : OpenFault
-  pub refused : refuses why
-  pub status : ended ≡ Unopened why
-  pub empty : IsEmptyLog log
-  pub silent : quiet
+-- a file was opened and read as a command reads its script
+abbrev pub ReadsFile : {T : Type 0} → (T → Option (List ℕ)) → (T → ℕ) → Option ℕ → (T → Type 0)
+    → Asked → Option (List ℕ) → Status → Type 0
+ReadsFile left faults last is_faultless asked content status =
+    IsReadOfFile left content
+    (λ opened rest. ReadsUnder asked left faults last is_faultless opened rest status)
 
 -- a run of a file's script, or none where the file couldn't be opened
 abbrev pub IsPlayedOfFile : Asked → Option (List ℕ) → (OpenFault → Type 0) → Type 0 → Type 0
@@ -132,10 +124,11 @@ IsPlayedFrom asked (Some name) told unread reads of_file refuses silent reads_fi
     log
 
 -- WHAT THE PROGRAM TELLS of its words, its files and its streams. The words ask for nothing, and
--- nothing is touched but standard error; or for a page of the help; or for a run; or for an echo;
--- or for a gateway
+-- nothing is touched but standard error; or for a page of the help; or for a run; or for a work with
+-- what is read; or for an echo; or for a gateway
 pub record IsServed (texts : List (List ℕ)) (unread silent : Type 0) (writes : List ℕ → Type 0)
-    (plays : Asked → Log → Type 0) (echoes : Log → Type 0) (serves : ℕ → Log → Type 0)
+    (plays : Asked → Log → Type 0) (works : Work → Log → Type 0) (echoes : Log → Type 0)
+    (serves : ℕ → Log → Type 0)
     (tells : List ℕ → Type 0) (status : Status) : Type 0 where
   -- the journal of the run
   pub log : Log
@@ -147,6 +140,8 @@ pub record IsServed (texts : List (List ℕ)) (unread silent : Type 0) (writes :
   pub shown : IfShow (request_by texts) (λ page. IsShown page unread writes status log)
   -- a run that is asked for
   pub played : IfPlay (request_by texts) (λ asked. plays asked log)
+  -- a work that is asked for
+  pub worked : IfWork (request_by texts) (λ work. works work log)
   -- an echo that is asked for
   pub echoed : IfEcho (request_by texts) (echoes log)
   -- a gateway that is asked for

@@ -30,10 +30,9 @@ use Rattle.order_rules.specs.declared.rule.Rule.TheVariants.{Rounds}
 use Rattle.orders.specs.Runs.{IsInOrder, IsStoppedInOrder}
 use Rattle.orders.specs.Seeds.{span_of}
 use Rattle.linx_commands.specs.declared.outcome.Status.{Status}
-use Rattle.linx_commands.specs.declared.outcome.Status.TheVariants.{Done, Usage, Script, Unopened}
-use Rattle.linx_commands.specs.declared.outcome.Status.TheVariants.{ReadFault, WriteFault}
-use Rattle.linx_commands.specs.declared.outcome.Status.TheVariants.{JournalFull, NoMemory, Torn}
-use Rattle.linx_commands.specs.declared.outcome.Status.TheVariants.{BadStream}
+use Rattle.linx_commands.specs.declared.outcome.Status.TheVariants.{Done, Script, ReadFault}
+use Rattle.linx_commands.specs.declared.outcome.Status.TheVariants.{WriteFault, JournalFull}
+use Rattle.linx_commands.specs.declared.outcome.Status.TheVariants.{NoMemory}
 
 -- a run so far of a script, whose journal has this log
 pub record IsRunAs (script : ScriptParts) (run : Layout) (log : Log) : Type 0 where
@@ -197,16 +196,13 @@ read_of bytes = take read_most bytes
 -- source had, where it told them, and of the journal
 abbrev pub IsCaused : Asked → Status → Option (List ℕ) → Log → Type 0
 IsCaused asked Done told log = IsOfSource asked Done told log
-IsCaused asked (Usage wrong) told log = ⊥
 IsCaused asked (Script line fault) told log =
     IfSome told (λ bytes. ordered_of (read_of bytes) ≡ Err (line, fault)) × IsEmptyLog log
-IsCaused asked (Unopened why) told log = ⊥
 IsCaused asked ReadFault told log = IsEmptyLog log
 IsCaused asked WriteFault told log = IsOfSource asked WriteFault told log
 IsCaused asked JournalFull told log = IsOfSource asked JournalFull told log
 IsCaused asked NoMemory told log = IsEmptyLog log ⊎ IsOfSource asked NoMemory told log
-IsCaused asked (Torn at) told log = ⊥
-IsCaused asked (BadStream at) told log = ⊥
+IsCaused asked _ told log = ⊥
 
 -- where bytes spell a script, neither a read nor a write failed and the journal has room, the run
 -- is done, or memory was refused

@@ -5,7 +5,7 @@ use Rattle.linx_commands.specs.declared.outcome.Status.{Status}
 use Rattle.linx_commands.specs.declared.outcome.Status.TheVariants.{Done, Usage, Script, Unopened}
 use Rattle.linx_commands.specs.declared.outcome.Status.TheVariants.{ReadFault, WriteFault}
 use Rattle.linx_commands.specs.declared.outcome.Status.TheVariants.{JournalFull, NoMemory, Torn}
-use Rattle.linx_commands.specs.declared.outcome.Status.TheVariants.{BadStream}
+use Rattle.linx_commands.specs.declared.outcome.Status.TheVariants.{BadStream, FoundNone, Text}
 
 -- the exit status of the program
 abbrev pub exit_of : Status → ℕ
@@ -17,6 +17,8 @@ exit_of ReadFault = 3
 exit_of WriteFault = 4
 exit_of JournalFull = 5
 exit_of NoMemory = 6
+exit_of FoundNone = 7
+exit_of (Text fault) = 8
 exit_of (Torn at) = 9
 exit_of (BadStream at) = 11
 
@@ -35,38 +37,21 @@ IsUsageOrRefused texts _ = ⊥
 -- the status comes only where the source was read to its end
 abbrev pub is_of_whole : Status → Bool
 is_of_whole Done = true
-is_of_whole (Usage wrong) = false
-is_of_whole (Script line fault) = false
-is_of_whole (Unopened why) = false
-is_of_whole ReadFault = false
 is_of_whole WriteFault = true
 is_of_whole JournalFull = true
-is_of_whole NoMemory = false
-is_of_whole (Torn at) = false
-is_of_whole (BadStream at) = false
+is_of_whole FoundNone = true
+is_of_whole _ = false
 
--- the bytes that were read are no script
-abbrev pub is_script : Status → Bool
-is_script Done = false
-is_script (Usage wrong) = false
-is_script (Script line fault) = true
-is_script (Unopened why) = false
-is_script ReadFault = false
-is_script WriteFault = false
-is_script JournalFull = false
-is_script NoMemory = false
-is_script (Torn at) = false
-is_script (BadStream at) = false
+-- the bytes that were read are no script, or no printed text
+abbrev pub is_no_input : Status → Bool
+is_no_input (Script line fault) = true
+is_no_input (Text fault) = true
+is_no_input _ = false
 
 -- nothing is written at this status
 abbrev pub is_silent : Status → Bool
 is_silent Done = false
-is_silent (Usage wrong) = true
-is_silent (Script line fault) = true
-is_silent (Unopened why) = true
-is_silent ReadFault = true
 is_silent WriteFault = false
-is_silent JournalFull = true
-is_silent NoMemory = true
 is_silent (Torn at) = false
 is_silent (BadStream at) = false
+is_silent _ = true

@@ -3,7 +3,7 @@ use Rattle.std.specs.Prelude.{ℕ, ◌≡◌, ◌≢◌, ◌≤◌, ◌⊎◌, t
 use Rattle.std.specs.Io.KnownBytes.{Appends, Consumes, IsAtEnd}
 use Rattle.linx_outside.specs.Counts.{HasFaulted, NeverFalls}
 use Rattle.linx_outside.specs.Told.{AppendsFront}
-use Rattle.linx_commands.specs.Statuses.{is_of_whole, is_script, is_silent}
+use Rattle.linx_commands.specs.Statuses.{is_no_input, is_of_whole, is_silent}
 use Rattle.linx_commands.specs.declared.outcome.Status.{Status}
 use Rattle.linx_commands.specs.declared.outcome.Status.TheVariants.{Done, ReadFault, WriteFault}
 
@@ -23,23 +23,29 @@ pub record TakesJust (count : ℕ) (left rest : Option (List ℕ)) : Type 0 wher
   pub counted : length bytes ≡ count
   pub lost : Consumes left rest bytes
 
--- a source was read to its end, or more of it than a script may have
-abbrev pub IsScanned : Option (List ℕ) → Option (List ℕ) → Type 0
-IsScanned left rest = IsAtEnd rest ⊎ TakesJust read_most left rest
+-- a source was read to its end, or just so many bytes of it
+abbrev pub IsScanned : ℕ → Option (List ℕ) → Option (List ℕ) → Type 0
+IsScanned most left rest = IsAtEnd rest ⊎ TakesJust most left rest
 
--- What was read. A run that needs the whole script reads it to its end. What is called no script
--- was read to its end, or as far as it shows that it is too long. ReadFault comes only where
--- the source's count of faults rose, or stands at its last value, and never from a source without
--- faults
-pub record Reads {S : Type 0} (left : S → Option (List ℕ)) (faults : S → ℕ) (last : Option ℕ)
-    (is_faultless : S → Type 0) (old new : S) (status : Status) : Type 0 where
+-- What was read, of so many bytes at most. What needs the whole input reads it to its end. What is
+-- called no input was read to its end, or as far as it shows that it is too long. ReadFault comes
+-- only where the source's count of faults rose, or stands at its last value, and never from a source
+-- without faults
+pub record ReadsUpTo {S : Type 0} (most : ℕ) (left : S → Option (List ℕ)) (faults : S → ℕ)
+    (last : Option ℕ) (is_faultless : S → Type 0) (old new : S) (status : Status) : Type 0 where
   pub whole : is_of_whole status ≡ true → IsAtEnd (left new)
-  pub scanned : is_script status ≡ true → IsScanned (left old) (left new)
-  pub taken : TakesAtMost read_most (left old) (left new)
+  pub scanned : is_no_input status ≡ true → IsScanned most (left old) (left new)
+  pub taken : TakesAtMost most (left old) (left new)
   pub faulted : status ≡ ReadFault → HasFaulted last (faults old) (faults new)
   pub unfaulted : status ≢ ReadFault → faults new ≡ faults old
   pub never_falls : NeverFalls last (faults old) (faults new)
   pub faultless : is_faultless old → is_faultless new × (status ≢ ReadFault)
+
+-- what was read of a script
+abbrev pub Reads : {S : Type 0} → (S → Option (List ℕ)) → (S → ℕ) → Option ℕ → (S → Type 0) → S → S
+    → Status → Type 0
+Reads left faults last is_faultless old new status =
+    ReadsUpTo read_most left faults last is_faultless old new status
 
 -- What was written of a text: all of it at Done, a front of it at WriteFault, else nothing.
 -- WriteFault comes only where the sink's count of faults rose, or stands at its last value, and

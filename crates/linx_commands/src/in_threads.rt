@@ -5,7 +5,8 @@ ghost use Rattle.journal_text.specs.Text.{text_of};
 ghost use Rattle.work_gen.specs.Generated.{generated};
 ghost use Rattle.command_words.specs.Requests.{file_of, request_of};
 ghost use Rattle.linx_commands.specs.Statuses.{IsUsageOrRefused};
-ghost use Rattle.linx_commands.specs.Streams.{Reads, Writes};
+ghost use Rattle.linx_commands.specs.Opened.{IsReadOfFile};
+ghost use Rattle.linx_commands.specs.Streams.{Reads, ReadsUpTo, Writes};
 ghost use Rattle.linx_commands.specs.Runs.{Completes, IsCaused, IsEmptyLog, IsLegalSomehow};
 ghost use Rattle.linx_commands.specs.Runs.{IsOutcomeOf, IsRan, parts_of, unordered};
 ghost use Rattle.linx_commands.specs.Commands.{IsCausedUnder, CompletesUnder, ReadsUnder};
@@ -14,6 +15,7 @@ ghost use Rattle.linx_commands.specs.Headline.{HeadlineUnder};
 ghost use Rattle.linx_commands.specs.Programs.{IfEcho, IfPlay, IfServe, IfShow, IsPlayedFrom};
 ghost use Rattle.linx_commands.specs.Programs.{IsPlayedOfFile, IsShown, ReadsFile, asked_in};
 ghost use Rattle.linx_commands.specs.Sessions.{IsGatewayOf, IsSession};
+ghost use Rattle.linx_commands.specs.Works.{IfWork, IsWorkedFrom, most_of};
 
 use crate::outcome::{Outcome, Status};
 use crate::serving::{InThreads, alone, conclude, read_script, unstarted};
@@ -211,6 +213,20 @@ pub fn run<R: Threads + Wait + Sync, G: Gate + Sync, F: Files, S: Source, K: Sin
         (F.told files.now) (F.refuses files.now) (out.new ≡ out.old)
         (λ name. ReadsFile F.File.left F.File.faults F.File.last_count F.File.is_faultless asked
         (F.told files.now name) result.status)
+        (λ written. Writes K.held K.faults K.last_count K.can_take out.old out.new
+        result.status written)
+        result.status result.journal.log) }
+
+    // Of a work with what is read.
+    ensures worked { IfWork (request_of words.now) (λ work.
+        IsWorkedFrom work (map string_bytes words.now) (file_of words.now) (S.left script.old)
+        (script.new ≡ script.old)
+        (ReadsUpTo (most_of work) S.left S.faults S.last_count S.is_faultless script.old script.new
+        result.status)
+        (F.told files.now) (F.refuses files.now) (out.new ≡ out.old)
+        (λ name. IsReadOfFile F.File.left (F.told files.now name) (λ opened rest.
+        ReadsUpTo (most_of work) F.File.left F.File.faults F.File.last_count F.File.is_faultless
+        opened rest result.status))
         (λ written. Writes K.held K.faults K.last_count K.can_take out.old out.new
         result.status written)
         result.status result.journal.log) }

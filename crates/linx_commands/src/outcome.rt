@@ -5,6 +5,18 @@ use journal::Journal;
 use linx_outside::OpenFault;
 use script_lang::Fault;
 
+/// What is wrong with a printed text that is read.
+#[derive(Clone, Copy, Debug, PartialEq, Eq, Hash)]
+pub enum TextFault {
+    /// The first line, from 1, that no printed text has there.
+    Bad { line: u64 },
+    /// The first line, from 1, with which the steps note more bytes of signals than those of four
+    /// full journals.
+    Full { line: u64 },
+    /// The text has more than 268,435,456 bytes.
+    Long,
+}
+
 /// How a run ended.
 #[derive(Clone, Copy, Debug, PartialEq, Eq, Hash)]
 pub enum Status {
@@ -30,6 +42,10 @@ pub enum Status {
     /// The bytes of such a source from this one on begin no frame or request, or a frame that breaks
     /// the rules.
     BadStream { at: u64 },
+    /// No run has what is sought.
+    FoundNone,
+    /// The bytes are no printed text, or one of too much.
+    Text(TextFault),
 }
 
 /// How a run ended, and its journal so far.

@@ -55,6 +55,16 @@ pub enum Phrase {
     TornAt,
     /// The place follows from which on the bytes of a stream are bad.
     BadStreamAt,
+    /// No run has what is sought.
+    FoundNone,
+    /// The number of a line of a printed text follows.
+    TextLine,
+    /// That line is none that stands there.
+    NoTextLine,
+    /// With that line there are too many bytes of signals.
+    TooMuchNoted,
+    /// A printed text has too many bytes.
+    TextTooLong,
 }
 
 impl Phrase {
@@ -90,6 +100,11 @@ impl Phrase {
             Phrase::AfterStep => " after step ",
             Phrase::TornAt => "torn at ",
             Phrase::BadStreamAt => "bad stream at ",
+            Phrase::FoundNone => "found in none",
+            Phrase::TextLine => "text line ",
+            Phrase::NoTextLine => ": no line of a printed text",
+            Phrase::TooMuchNoted => ": more signals than a journal holds",
+            Phrase::TextTooLong => "text longer than 268435456 bytes",
         }
     }
 }

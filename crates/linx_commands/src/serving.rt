@@ -1,5 +1,5 @@
-//! What is done without threads: a page of the help, a run in an order, and an echo or a gateway
-//! over the streams. It returns where each read and each write does.
+//! What is done without threads: a page of the help, a run in an order, a work with what is read, and
+//! an echo or a gateway over the streams. It returns where each read and each write does.
 
 ghost use Rattle.std.specs.Prelude.{◌≡◌, true, Ok, IfOk, IfErr, OnOk, IfSome, IfNone, map};
 ghost use Rattle.std.specs.Prelude.{option_map, string_bytes};
@@ -9,7 +9,9 @@ ghost use Rattle.order_lines.specs.Fronts.{OrderedParts, ordered_of};
 ghost use Rattle.command_words.specs.Pages.{page_of};
 ghost use Rattle.command_words.specs.Requests.{file_of, request_of};
 ghost use Rattle.linx_commands.specs.Statuses.{IsUsageOrRefused};
-ghost use Rattle.linx_commands.specs.Streams.{Reads, Writes, TakesAtMost, read_most};
+ghost use Rattle.linx_commands.specs.Opened.{IsReadOfFile};
+ghost use Rattle.linx_commands.specs.Streams.{Reads, ReadsUpTo, Writes, TakesAtMost, read_most};
+ghost use Rattle.linx_commands.specs.Works.{IfWork, IsWorkedFrom, most_of};
 ghost use Rattle.linx_commands.specs.Runs.{Completes, IsCaused, IsEmptyLog, IsLegalSomehow};
 ghost use Rattle.linx_commands.specs.Runs.{IsOutcomeOf, IsRan, IsRanBy, parts_of, unordered};
 ghost use Rattle.linx_commands.specs.Commands.{ReadsUnder, written_under};
@@ -22,6 +24,7 @@ ghost use Rattle.linx_commands.specs.Sessions.{IsGatewayOf, IsSession};
 
 use crate::outcome::{Outcome, Status};
 use crate::session::{echo, gateway};
+use crate::works::work_from;
 use command_words::{Asked, Misuse, Page, Request, TurnOrder, file_named};
 use fabric::StopCause;
 use journal::Journal;
@@ -37,7 +40,7 @@ use std::alloc::Global;
 use workers::Ran;
 
 /// One byte more than a script may have.
-const READ_MOST: usize = 1_048_577;
+pub(crate) const READ_MOST: usize = 1_048_577;
 
 /// A run that made no step, and why.
 pub(crate) fn unstarted(alloc: Global, status: Status) -> Outcome
@@ -53,7 +56,7 @@ pub(crate) fn unstarted(alloc: Global, status: Status) -> Outcome
     Outcome { status, journal }
 }
 
-fn status_of_read(stop: ReadStop) -> Status
+pub(crate) fn status_of_read(stop: ReadStop) -> Status
     ensures { result ≡ read_status stop }
 {
     match stop {
@@ -71,7 +74,7 @@ fn status_of_script(error: ScriptError) -> Status
     }
 }
 
-fn status_of_stop(cause: StopCause) -> Status
+pub(crate) fn status_of_stop(cause: StopCause) -> Status
     ensures { result ≡ stop_status cause }
 {
     match cause {
@@ -290,8 +293,8 @@ fn in_order_from<F: Files, S: Source, K: Sink>(
     }
 }
 
-/// Writes the text of a page.
-fn write_page<K: Sink>(text: &[u8], out: &mut K) -> Status
+/// Writes a text.
+pub(crate) fn write_text<K: Sink>(text: &[u8], out: &mut K) -> Status
     ensures kinds { is_of_writing result ≡ true }
     ensures sink { Writes K.held K.faults K.last_count K.can_take out.old out.new result text.now }
 {
@@ -310,7 +313,7 @@ fn show<K: Sink>(alloc: Global, page: Page, out: &mut K) -> Outcome
         result.status (page_of page) }
 {
     match page.text(alloc) {
-        Ok(text) => unstarted(alloc, write_page(text.as_slice(), out)),
+        Ok(text) => unstarted(alloc, write_text(text.as_slice(), out)),
         Err(NoMemory) => unstarted(alloc, Status::NoMemory),
     }
 }
@@ -375,6 +378,20 @@ pub fn alone<F: Files, S: Source, K: Sink>(
         outcome.status written)
         outcome.status outcome.journal.log)) }
 
+    // Of a work with what is read.
+    ensures worked { IfOk result (λ outcome. IfWork (request_of words.now) (λ work.
+        IsWorkedFrom work (map string_bytes words.now) (file_of words.now) (S.left script.old)
+        (script.new ≡ script.old)
+        (ReadsUpTo (most_of work) S.left S.faults S.last_count S.is_faultless script.old script.new
+        outcome.status)
+        (F.told files.now) (F.refuses files.now) (out.new ≡ out.old)
+        (λ name. IsReadOfFile F.File.left (F.told files.now name) (λ opened rest.
+        ReadsUpTo (most_of work) F.File.left F.File.faults F.File.last_count F.File.is_faultless
+        opened rest outcome.status))
+        (λ written. Writes K.held K.faults K.last_count K.can_take out.old out.new
+        outcome.status written)
+        outcome.status outcome.journal.log)) }
+
     // Of an echo over the streams.
     ensures echoed { IfOk result (λ outcome. IfEcho (request_of words.now)
         (IsSession S.left S.faults S.last_count S.is_faultless K.held K.faults K.last_count
@@ -391,6 +408,15 @@ pub fn alone<F: Files, S: Source, K: Sink>(
         Some(Request::Show(page)) => Ok(show(alloc, page, out)),
         Some(Request::Echo) => Ok(echo(alloc, script, out)),
         Some(Request::Serve(clients)) => Ok(gateway(alloc, clients, script, out)),
+        Some(Request::Work(work)) => Ok(work_from(
+            alloc,
+            work,
+            words,
+            file_named(words),
+            files,
+            script,
+            out,
+        )),
         Some(Request::Play(Asked::InOrder(order))) => Ok(in_order_from(
             alloc,
             order,

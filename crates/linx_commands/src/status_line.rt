@@ -1,11 +1,12 @@
 //! The program's line on standard error.
-ghost use Rattle.std.specs.Prelude.{◌≡◌, ◌+◌, ◌≤◌, ◌++◌, length, map, string_bytes};
+ghost use Rattle.std.specs.Prelude.{◌≡◌, ◌+◌, ◌≤◌, ◌++◌, decimal, length, map, string_bytes};
 ghost use Rattle.command_words.specs.Requests.{file_by};
 ghost use Rattle.linx_commands.specs.Lines.{bad_text, full_text, hint_of, limit_of, line_of};
-ghost use Rattle.linx_commands.specs.Lines.{misuse_text, phrase_of_fault, source_prefix, stop_text};
-ghost use Rattle.linx_commands.specs.Lines.{text_at, text_by};
+ghost use Rattle.linx_commands.specs.Lines.{misuse_text, phrase_of, phrase_of_fault};
+ghost use Rattle.linx_commands.specs.Lines.{source_prefix, stop_text};
+ghost use Rattle.linx_commands.specs.Lines.{text_at, text_by, text_fault_text};
 
-use crate::outcome::Status;
+use crate::outcome::{Status, TextFault};
 use crate::phrase::Phrase;
 use command_words::{Line, Misuse, WORDS, Word, file_named};
 use journal::Journal;
@@ -127,6 +128,31 @@ fn push_bad(line: &mut Line, number: u32, fault: Fault)
     line.push_pair(Phrase::Colon.text(), reason.as_str());
 }
 
+/// Which line of a printed text shows that it is none, or one of too much.
+fn push_text_line(line: &mut Line, number: u64, wrong: Phrase)
+    requires room { length line.old ≤ 40 }
+    ensures text { line.new
+        ≡ line.old ++ phrase_of Phrase.TextLine ++ decimal number ++ phrase_of wrong }
+    ensures room { length line.new ≤ length line.old + 430 }
+{
+    line.push_numbered(Phrase::TextLine.text(), number);
+    line.push(wrong.text());
+}
+
+/// What is wrong with a printed text.
+#[tactic(auto, unfolding(crate::specs::Lines::text_fault_text))]
+fn push_text_fault(line: &mut Line, fault: TextFault)
+    requires room { length line.old ≤ 40 }
+    ensures text { line.new ≡ line.old ++ text_fault_text fault }
+    ensures room { length line.new ≤ length line.old + 430 }
+{
+    match fault {
+        TextFault::Bad { line: number } => push_text_line(line, number, Phrase::NoTextLine),
+        TextFault::Full { line: number } => push_text_line(line, number, Phrase::TooMuchNoted),
+        TextFault::Long => line.push(Phrase::TextTooLong.text()),
+    }
+}
+
 /// Where a run stopped for want of memory.
 #[tactic(auto, unfolding(crate::specs::Lines::stop_text))]
 fn push_stop(line: &mut Line, journal: &Journal)
@@ -170,6 +196,8 @@ fn push_text(line: &mut Line, words: &[String], status: Status, journal: &Journa
         }
         Status::Torn { at } => line.push_numbered(Phrase::TornAt.text(), at),
         Status::BadStream { at } => line.push_numbered(Phrase::BadStreamAt.text(), at),
+        Status::FoundNone => line.push(Phrase::FoundNone.text()),
+        Status::Text(fault) => push_text_fault(line, fault),
     }
 }
 

@@ -48,6 +48,8 @@ fn exit_code(status: Status) -> u8
         Status::WriteFault => 4,
         Status::JournalFull => 5,
         Status::NoMemory => 6,
+        Status::FoundNone => 7,
+        Status::Text(_) => 8,
         Status::Torn { .. } => 9,
         Status::BadStream { .. } => 11,
     }

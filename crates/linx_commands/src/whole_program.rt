@@ -6,7 +6,9 @@ ghost use Rattle.linx_commands.specs.Commands.{ReadsUnder};
 ghost use Rattle.linx_commands.specs.Programs.{IsPlayedFrom, IsServed, IsToldUnread, ReadsFile};
 ghost use Rattle.linx_commands.specs.Programs.{texts_of};
 ghost use Rattle.linx_commands.specs.Sessions.{IsGatewayOf, IsSession};
-ghost use Rattle.linx_commands.specs.Streams.{Writes, WritesLine};
+ghost use Rattle.linx_commands.specs.Opened.{IsReadOfFile};
+ghost use Rattle.linx_commands.specs.Streams.{ReadsUpTo, Writes, WritesLine};
+ghost use Rattle.linx_commands.specs.Works.{IsWorkedFrom, most_of};
 ghost use Rattle.linx_commands.specs.declared.outcome.Status.TheVariants.{Done};
 
 use crate::in_threads::run;
@@ -38,6 +40,16 @@ pub fn program<R: Threads + Wait + Sync, F: Files, S: Source, K: Sink, L: Sink>(
         (F.told files.now) (F.refuses files.now) (text.new ≡ text.old)
         (λ name. ReadsFile F.File.left F.File.faults F.File.last_count F.File.is_faultless asked
         (F.told files.now name) result)
+        (λ written. Writes K.held K.faults K.last_count K.can_take text.old text.new result written)
+        result log)
+        (λ work log. IsWorkedFrom work (texts_of words) (file_by (texts_of words))
+        (S.left script.old) (script.new ≡ script.old)
+        (ReadsUpTo (most_of work) S.left S.faults S.last_count S.is_faultless script.old script.new
+        result)
+        (F.told files.now) (F.refuses files.now) (text.new ≡ text.old)
+        (λ name. IsReadOfFile F.File.left (F.told files.now name) (λ opened rest.
+        ReadsUpTo (most_of work) F.File.left F.File.faults F.File.last_count F.File.is_faultless
+        opened rest result))
         (λ written. Writes K.held K.faults K.last_count K.can_take text.old text.new result written)
         result log)
         (λ log. IsSession S.left S.faults S.last_count S.is_faultless K.held K.faults K.last_count

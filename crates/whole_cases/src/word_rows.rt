@@ -18,7 +18,9 @@ use std::thread::Threads;
 enum Content {
     /// The script of a self send.
     Script,
-    /// Bytes that are no script.
+    /// The text of its run.
+    Printed,
+    /// Bytes that are no script, and no printed text.
     NoScript,
     /// Nothing, since it can't be opened.
     Fault(OpenFault),
@@ -99,6 +101,8 @@ writes everything that happened.
       play a script in the order that a number decides
   find A B [in FILE] [not] WORD ..
       find the first number from A to B whose run has a line of these words
+  order [FILE]
+      write the order of a printed run, as lines of a script
   gen N
       play the generated script of a number, and write its summary
   stream
@@ -110,7 +114,8 @@ writes everything that happened.
   version
       write the version
 
-FILE is a script; without it, or where it is -, standard input is read.
+FILE is a script, and under order a printed text; without it, or where it is -,
+standard input is read.
 `linx_sim help WORD` says more of a word.
 
 exit status:
@@ -122,6 +127,7 @@ exit status:
   5  the journal is full before the run is over
   6  memory was refused
   7  no run has what is sought
+  8  the bytes are no printed text, or one of too much
   9  a stream ended within a frame or a request
   11 the bytes of a stream are no frame or request, or break the rules
 
@@ -245,6 +251,11 @@ const SOURCES: &[Row] = &[
         ..UNOPENED
     },
     Row {
+        words: &["order", "s.linx"],
+        line: "linx_sim: s.linx: no such file\n",
+        ..UNOPENED
+    },
+    Row {
         words: &["find", "1", "9", "in", "s.linx"],
         line: USAGE_OF_FIND,
         ..MISUSED
@@ -253,6 +264,26 @@ const SOURCES: &[Row] = &[
         words: &["find", "9", "1", "took"],
         line: USAGE_OF_FIND,
         ..MISUSED
+    },
+    Row {
+        words: &["order"],
+        input: Content::Printed,
+        text: Text::Is("order A1*5\n"),
+        ..INPUT
+    },
+    Row {
+        words: &["order", "s.linx"],
+        file: Content::Printed,
+        text: Text::Is("order A1*5\n"),
+        ..FILE
+    },
+    Row {
+        words: &["order", "-"],
+        input: Content::NoScript,
+        number: 8,
+        text: Text::Empty,
+        line: "linx_sim: text line 1: no line of a printed text\n",
+        ..INPUT
     },
     Row {
         words: &["gen", "7"],
@@ -413,7 +444,7 @@ const MISUSES: &[Row] = &[
     },
     Row {
         words: &["fast\n\u{7f}"],
-        line: "linx_sim: no word 'fast??'; the words are: run serial seed find gen stream gateway help version\n",
+        line: "linx_sim: no word 'fast??'; the words are: run serial seed find order gen stream gateway help version\n",
         ..MISUSED
     },
     Row {
@@ -454,18 +485,24 @@ const MISUSES: &[Row] = &[
 ];
 
 /// The bytes of a source.
-fn bytes_of(content: Content, script: &str) -> Result<&[u8], OpenFault> {
+fn bytes_of<'a>(
+    content: Content,
+    script: &'a str,
+    of_run: &'a str,
+) -> Result<&'a [u8], OpenFault> {
     match content {
         Content::Script => Ok(script.as_bytes()),
+        Content::Printed => Ok(of_run.as_bytes()),
         Content::NoScript => Ok(b"no script"),
         Content::Fault(why) => Err(why),
     }
 }
 
 /// The text of standard input.
-fn input_of(content: Content, script: &str) -> &str {
+fn input_of<'a>(content: Content, script: &'a str, of_run: &'a str) -> &'a str {
     match content {
         Content::Script => script,
+        Content::Printed => of_run,
         _ => "no script",
     }
 }
@@ -489,10 +526,10 @@ fn ends_as<R: Threads + Wait + Sync + Eprint>(
     let of_run = unindented(alloc, SELF_SEND.text)?;
     let files = MemFile {
         name: "s.linx",
-        content: bytes_of(row.file, script.as_str()),
+        content: bytes_of(row.file, script.as_str(), of_run.as_str()),
     };
     let words = Words::Read(owned(alloc, row.words)?);
-    let mut source = source_of(alloc, input_of(row.input, script.as_str()))?;
+    let mut source = source_of(alloc, input_of(row.input, script.as_str(), of_run.as_str()))?;
     let mut text = roomy_sink(alloc)?;
     let mut errors = roomy_sink(alloc)?;
     let told = program(
@@ -570,7 +607,7 @@ fn a_long_word_is_cut(rt: HostRuntime) -> Result<(), Fail> {
     );
     let wanted =
         "linx_sim: no word 'xxxxxxxxxxxxxxxxxxxxxxxxxxxxxxxxxxxxxxxxxxxxxxxxxxxxxxxxxxxxxxxx\
-        '; the words are: run serial seed find gen stream gateway help version\n";
+        '; the words are: run serial seed find order gen stream gateway help version\n";
     assert_eq!(rt; errors.held(), wanted.as_bytes());
     Ok(())
 }

@@ -1,0 +1,135 @@
+-- From how a work ends to what was read and written.
+use Rattle.std.proofs.Common.{◌≡◌, ◌≢◌, ℕ, ◌≤◌, ◌<◌, true, List, length, refl, subst, arith, Option}
+use Rattle.std.specs.Io.KnownBytes.{IsAtEnd}
+use Rattle.command_words.specs.Requests.{wanted_of}
+use Rattle.command_words.specs.declared.work.Work.{Work}
+use Rattle.command_words.specs.declared.work.Work.TheVariants.{Find, Order}
+use Rattle.journal.specs.Logs.{Log}
+use Rattle.linx_commands.specs.Causes.{is_of_writing}
+use Rattle.linx_commands.specs.Printed.{IsOrderDone, IsOrderEnd, IsOrdered, IsUnreadText}
+use Rattle.linx_commands.specs.Runs.{IsEmptyLog}
+use Rattle.linx_commands.specs.Statuses.{is_of_whole, is_silent}
+use Rattle.linx_commands.specs.Streams.{IsScanned, ReadsUpTo, TakesAtMost, Writes}
+use Rattle.linx_commands.specs.Works.{IsEndOf, IsReadStop, most_of}
+use Rattle.linx_commands.specs.declared.outcome.Status.{Status}
+use Rattle.linx_commands.specs.declared.outcome.Status.TheVariants.{Done, ReadFault, WriteFault}
+use Rattle.linx_commands.specs.declared.outcome.Status.TheVariants.{JournalFull, NoMemory, FoundNone}
+use Rattle.linx_commands.specs.declared.outcome.Status.TheVariants.{Text}
+use Rattle.linx_commands.proofs.Searching.{short_search}
+
+-- ---- what it read
+
+-- where the order of a text is whole, so is the text
+short_order : (bytes : List ℕ) (status : Status) (text : List ℕ) → IsOrderEnd bytes status text
+    → is_of_whole status ≡ true → length bytes < 268435457
+short_order bytes Done text ended whole =
+    let within : length bytes ≤ 268435456 = ended.spelled.short in omega (arith, within)
+short_order bytes WriteFault text ended whole =
+    let within : length bytes ≤ 268435456 = ended.spelled.short in omega (arith, within)
+short_order bytes (Text fault) text ended whole = cc
+short_order bytes NoMemory text ended whole = cc
+short_order bytes _ text ended whole = absurd ended
+
+-- a work whose status needs the whole input read fewer bytes than it may
+short : (work : Work) (texts : List (List ℕ)) (bytes : List ℕ) (status : Status) (text : List ℕ)
+    (log : Log) → IsEndOf work texts bytes status text log → is_of_whole status ≡ true
+    → length bytes < most_of work
+short (Find search) texts bytes status text log ended whole =
+    short_search search (wanted_of search texts) bytes status text log ended whole
+short Order texts bytes status text log ended whole =
+    short_order bytes status text ended.ended whole
+
+fault_of_none : (work : Work) (texts : List (List ℕ)) (bytes text : List ℕ) (log : Log)
+    → IsEndOf work texts bytes ReadFault text log → ⊥
+fault_of_none (Find search) texts bytes text log ended = ended
+fault_of_none Order texts bytes text log ended = ended.ended
+
+-- a work with bytes that were read ends by no fault of their source
+no_fault : (work : Work) (texts : List (List ℕ)) (bytes : List ℕ) (status : Status)
+    (text : List ℕ) (log : Log) → IsEndOf work texts bytes status text log → status ≢ ReadFault
+no_fault work texts bytes status text log ended is =
+    fault_of_none work texts bytes text log
+    (subst (λ (s : Status). IsEndOf work texts bytes s text log) is ended)
+
+-- what was read for a work
+pub reads_ended : {S : Type 0} (left : S → Option (List ℕ)) (faults : S → ℕ) (last : Option ℕ)
+    (is_faultless : S → Type 0) (old new : S) (work : Work) (texts : List (List ℕ))
+    (bytes : List ℕ) (status : Status) (text : List ℕ) (log : Log)
+    → IsEndOf work texts bytes status text log
+    → (length bytes < most_of work → IsAtEnd (left new))
+    → IsScanned (most_of work) (left old) (left new)
+    → TakesAtMost (most_of work) (left old) (left new) → faults new ≡ faults old
+    → (is_faultless old → is_faultless new)
+    → ReadsUpTo (most_of work) left faults last is_faultless old new status
+reads_ended left faults last is_faultless old new work texts bytes status text log ended whole
+    scanned taken counts kept =
+    let never : status ≢ ReadFault = no_fault work texts bytes status text log ended in
+    record {
+      whole = λ is. whole (short work texts bytes status text log ended is);
+      scanned = λ is. scanned;
+      taken = taken;
+      faulted = λ is. absurd (never is);
+      unfaulted = λ is. counts;
+      never_falls = record { no_lower = omega (arith, counts); stands = λ stands. counts };
+      faultless = λ is. (kept is, never);
+    }
+
+-- ---- what it wrote
+
+-- nothing, where it is neither done nor met a fault of the sink
+pub writes_none : {K : Type 0} (held : K → Option (List ℕ)) (faults : K → ℕ) (last : Option ℕ)
+    (can_take : K → ℕ → Type 0) (out : K) (status : Status) (text : List ℕ) → status ≢ Done
+    → status ≢ WriteFault → Writes held faults last can_take out out status text
+writes_none held faults last can_take out status text undone unfailed = record {
+  written = λ is. absurd (undone is);
+  front = λ is. absurd (unfailed is);
+  silent = λ is. refl;
+  faulted = λ is. absurd (unfailed is);
+  unfaulted = λ is. refl;
+  never_falls = record { no_lower = omega arith; stands = λ is. refl };
+  takes = λ room. unfailed;
+}
+
+-- a silent work isn't done
+pub silent_undone : (status : Status) → is_silent status ≡ true → status ≢ Done
+silent_undone status silent is =
+    let same : is_silent Done ≡ true = subst (λ (s : Status). is_silent s ≡ true) is silent in cc
+
+-- and met no fault of the sink
+pub silent_unfailed : (status : Status) → is_silent status ≡ true → status ≢ WriteFault
+silent_unfailed status silent is =
+    let same : is_silent WriteFault ≡ true = subst (λ (s : Status). is_silent s ≡ true) is silent in
+    cc
+
+-- a work that had no input isn't done
+pub stop_undone : (status : Status) → IsReadStop status → status ≢ Done
+stop_undone status stop is = subst IsReadStop is stop
+
+-- and met no fault of the sink
+pub stop_unfailed : (status : Status) → IsReadStop status → status ≢ WriteFault
+stop_unfailed status stop is = subst IsReadStop is stop
+
+-- ---- the order of a printed text
+
+-- the lines went out, or were to
+pub order_written : (bytes : List ℕ) (status : Status) (text : List ℕ)
+    → is_of_writing status ≡ true → IsOrdered bytes text → IsOrderEnd bytes status text
+order_written bytes Done text writes ordered = ordered
+order_written bytes WriteFault text writes ordered = ordered
+order_written bytes NoMemory text writes ordered = tt
+order_written bytes _ text writes ordered = cc
+
+-- there was no text
+pub order_unread : (bytes : List ℕ) (status : Status) (text : List ℕ) → IsUnreadText bytes status
+    → IsOrderEnd bytes status text
+order_unread bytes (Text fault) text unread = unread
+order_unread bytes NoMemory text unread = tt
+order_unread bytes _ text unread = absurd unread
+
+-- and nothing was written of it
+pub unread_undone : (bytes : List ℕ) (status : Status) → IsUnreadText bytes status → status ≢ Done
+unread_undone bytes status unread is = subst (λ (s : Status). IsUnreadText bytes s) is unread
+
+pub unread_unfailed : (bytes : List ℕ) (status : Status) → IsUnreadText bytes status
+    → status ≢ WriteFault
+unread_unfailed bytes status unread is = subst (λ (s : Status). IsUnreadText bytes s) is unread
