@@ -5,6 +5,8 @@ use Rattle.std.specs.Char.{is_ascii_digit}
 use Rattle.std.specs.List.{list_all, slice_split}
 use Rattle.std.specs.Str.{bytes_eq}
 use Rattle.script_words.specs.Lines.{lines_of}
+use Rattle.line_search.specs.declared.sought.Sought.{Sought}
+use Rattle.line_search.specs.declared.sought.Sought.TheVariants.{Line, NoLine}
 
 -- what stands between the words of a line: a space (32), or its line feed (10)
 abbrev pub is_gap : ℕ → Bool
@@ -46,3 +48,14 @@ first_with wanted (line ∷ lines) =
 -- THE FIRST LINE OF A TEXT THAT SAYS THESE WORDS, with its line feed
 abbrev pub find_in : List (List ℕ) → List ℕ → Option (List ℕ)
 find_in wanted text = first_with wanted (lines_of text)
+
+-- what a text shows of what is sought, by the first line of it that says the words: that line; or,
+-- where no such line is sought and there is none, an empty one
+abbrev pub shown_by : Sought → Option (List ℕ) → Option (List ℕ)
+shown_by Line found = found
+shown_by NoLine None = Some []
+shown_by NoLine (Some line) = None
+
+-- WHAT A TEXT SHOWS OF WHAT IS SOUGHT; nothing where it doesn't show it
+abbrev pub shown_in : Sought → List (List ℕ) → List ℕ → Option (List ℕ)
+shown_in sought wanted text = shown_by sought (find_in wanted text)
