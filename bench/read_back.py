@@ -7,7 +7,8 @@ past its bound, a name that isn't there, a line twice, lost or out of turn, a by
 no end. `read` of journal_read must name just the line that the reader below finds, which follows
 docs/use/text.md; and where a text has no bad line, its steps must be printed again as they were,
 but for the digests of long data, which are others then. The runs are those of random scripts in
-threads, and their texts must be read and printed again so, with the names of the script and alone.
+threads and that of the generated load, and their texts must be read and printed again so, with the
+names of the script and alone.
 The program that reads them is built in a copy of the crates, so that the gate knows nothing of it;
 `try` builds it unproved. Prints how many answers were right, and the first that wasn't.
 
@@ -25,6 +26,7 @@ sys.dont_write_bytecode = True
 import arguments
 import judge
 import random_script
+import speeds
 from copied import add_program, copied_crates
 
 CRATES = ["linx_base", "sigsel", "journal", "journal_text", "text_words", "text_names",
@@ -103,6 +105,7 @@ fn answer(alloc: Global, line: &str) -> anyhow::Result<String> {
             Ok(format!(in alloc; "{again}")?)
         }
         Err(Unread::Bad { line }) => Ok(format!(in alloc; "{line}")?),
+        Err(Unread::Full { .. }) => anyhow::bail!("full"),
         Err(Unread::NoMemory) => anyhow::bail!("memory"),
     }
 }
@@ -320,6 +323,13 @@ def runs(program, count):
     return found
 
 
+def load(program):
+    """The text of the generated load, with the names that its script declares."""
+    script = "\n".join(speeds.load(100)) + "\n"
+    status, _, text = judge.ended([program, "serial"], script.encode(), 60)
+    return [(*names_of(script), text.decode())] if status == 0 else []
+
+
 def build(folder):
     """The program's crate, beside copies of those that it stands on."""
     copied_crates(folder, CRATES, [f"read_bench: {' '.join(CRATES)} anyhow hex"])
@@ -363,7 +373,8 @@ def main():
     arguments.add_program(parser)
     given = parser.parse_args()
     known = texts()
-    whole = runs(arguments.found_program(parser, given), given.runs)
+    program = arguments.found_program(parser, given)
+    whole = [*load(program), *runs(program, given.runs)]
     maker = Maker(1, known)
     cases = [*known, *whole, *(maker.case() for _ in range(given.count))]
     alone = [*known, *whole]

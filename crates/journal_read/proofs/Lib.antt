@@ -1,5 +1,7 @@
 pub mod StepLaws
 pub mod TextLaws
+pub mod CallLaws
+pub mod Noted
 mod LogLaws
 mod PrintedLaws
 mod AgreeLaws

@@ -327,6 +327,23 @@ text_again names (s ∷ P) text are is =
     (read_taken (unread names) (begun names count (s ∷ P)) 1 (1 + length all) all [] took refl
     ∙ ended_again names (s ∷ P) (1 + length all))
 
+-- the parts of a text that spells steps: its lines, and nothing behind the last
+pub spelled_parts : (names : Names) (s : Step) (P : List Step) (text : List ℕ) → AreNames names
+    → (is : SpellsLines names (s ∷ P) text)
+    → parts_at 10 text
+    ≡ (is.logs ++ heading_line (length (s ∷ P)) ∷ map (bytes_of names) (lines_of_steps (s ∷ P)))
+    ++ [] ∷ []
+spelled_parts names s P text are is =
+    let count = length (s ∷ P) in
+    let steps = map (bytes_of names) (lines_of_steps (s ∷ P)) in
+    let all = is.logs ++ heading_line count ∷ steps in
+    let most = newest_fits names s P is.whole in
+    let one_lines : OneLines all =
+    one_lines-append is.logs (heading_line count ∷ steps) (logs_one_lines is.logs is.are_logs)
+    (heading_one_line count most, lines_one_lines names (lines_of_steps (s ∷ P)) are is.whole)
+    in
+    ap (parts_at 10) is.spelled ∙ parts_again all one_lines
+
 -- ---- what is read is spelled so
 
 -- the lines are those of logs, then one that announces steps, and then these

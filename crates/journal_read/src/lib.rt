@@ -7,6 +7,7 @@
 mod laws;
 mod pending;
 mod reading;
+mod sharing;
 mod unread;
 
 pub use laws::{printed_is_read, readings_agree, steps_are_read, texts_are_read};

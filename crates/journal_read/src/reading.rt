@@ -1,7 +1,11 @@
 //! A printed text, read line by line.
-ghost use Rattle.std.specs.Prelude.{◌≡◌, map, IfOk};
+ghost use Rattle.std.specs.Prelude.{◌≡◌, List, map, IfOk};
+ghost use Rattle.journal.specs.declared.effect.Step.{Step};
+ghost use Rattle.reading_laws.specs.Forms.{AreNames};
+ghost use Rattle.journal_read.specs.Bounds.{full_lines, full_in};
 ghost use Rattle.journal_read.specs.Reading.{unread, read_lines, read_in};
-ghost use Rattle.journal_read.specs.Results.{Reads};
+ghost use Rattle.journal_read.specs.Results.{Reads, IsWithin, IsNotBad};
+ghost use Rattle.journal_read.specs.Spelled.{SpellsText};
 
 use crate::pending::Pending;
 use crate::unread::Unread;
@@ -31,12 +35,13 @@ impl Model for Reading {
 }
 
 impl Reading {
-    ghost use Rattle.std.specs.Prelude.{◌≡◌, IfOk, Some};
+    ghost use Rattle.std.specs.Prelude.{◌≡◌, IfOk, Some, None};
     ghost use Rattle.text_words.specs.Gives.{Gives};
     ghost use Rattle.text_words.specs.Words.{after};
+    ghost use Rattle.journal_read.specs.Bounds.{is_over_full};
     ghost use Rattle.journal_read.specs.Reading.{unread, heading, take_front, take_bytes};
     ghost use Rattle.journal_read.specs.Reading.{take_line, is_whole, ended};
-    ghost use Rattle.journal_read.specs.Results.{Reads};
+    ghost use Rattle.journal_read.specs.Results.{Reads, IsWithin};
 
     fn new(alloc: Global, names: Names) -> Reading
         ensures { result ≡ unread names }
@@ -108,10 +113,18 @@ impl Reading {
         }
     }
 
+    /// Whether the steps so far note more than they may.
+    fn is_over_full(&self) -> bool
+        ensures { result ≡ is_over_full self.now.steps }
+    {
+        self.pending.is_over_full()
+    }
+
     /// The journal of the steps, where the text ends before the line of this number.
     #[tactic(auto, unfolding(crate::specs::Reading::ended))]
     fn end(self, line: u64) -> Result<Journal, Unread>
         ensures steps { Reads (λ journal. journal.log.steps) result (ended self line) }
+        ensures full { IsWithin result None }
         ensures names { IfOk result (λ journal. journal.log.names ≡ self.names) }
     {
         if !self.is_whole(line) {
@@ -128,12 +141,14 @@ impl Reading {
 fn read_lines(alloc: Global, names: Names, lines: &[&[u8]], rest: &[u8]) -> Result<Journal, Unread>
     ensures steps { Reads (λ journal. journal.log.steps) result
         (read_lines (unread names) 1 (map (λ l. l.now) lines.now) rest.now) }
+    ensures full { IsWithin result (full_lines (unread names) 1 (map (λ l. l.now) lines.now)) }
     ensures names { IfOk result (λ journal. journal.log.names ≡ names) }
 {
     let mut reading = Reading::new(alloc, names);
     let mut number: u64 = 1;
     for bytes in lines {
         match reading.take_line(bytes) {
+            Ok(()) if reading.is_over_full() => return Err(Unread::Full { line: number }),
             Ok(()) => number += 1,
             Err(ReadError::Bad) => return Err(Unread::Bad { line: number }),
             Err(ReadError::NoMemory) => return Err(Unread::NoMemory),
@@ -147,13 +162,19 @@ fn read_lines(alloc: Global, names: Names, lines: &[&[u8]], rest: &[u8]) -> Resu
 
 /// The journal that a printed text spells: with these names, and with the steps that the text has
 /// behind its line `journal N`. Its logs aren't looked at. Long data are read as what stands for
-/// them. Where the text spells none, `Bad` has its first bad line, from 1.
+/// them, and equal ones are kept once. Where the text spells none, `Bad` has its first bad line,
+/// from 1; and where its signals are more than those of four full journals, `Full` has the line that
+/// is one too many.
 pub fn read(alloc: Global, names: Names, text: &[u8]) -> Result<Journal, Unread>
     ensures steps { Reads (λ journal. journal.log.steps) result (read_in names text.now) }
+    ensures full { IsWithin result (full_in names text.now) }
+    ensures spelled { AreNames names
+        → IfOk result (λ journal. SpellsText names journal.log.steps text.now) }
+    ensures none_bad { AreNames names
+        → (P : List Step) → SpellsText names P text.now → IsNotBad result }
     ensures names { IfOk result (λ journal. journal.log.names ≡ names) }
 {
     let mut lines = split_at_byte(alloc, text, b'\n')?;
     let rest = take_last(&mut lines);
-    let journal = read_lines(alloc, names, lines.as_slice(), rest)?;
-    Ok(journal)
+    read_lines(alloc, names, lines.as_slice(), rest)
 }

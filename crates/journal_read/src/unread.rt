@@ -11,6 +11,9 @@ pub enum Unread {
     /// The first line, from 1, that no printed text has there: a line that spells nothing or stands
     /// out of turn, or the line that a text lacks which ends too early.
     Bad { line: u64 },
+    /// The first line, from 1, with which the steps note more bytes of signals than those of four
+    /// full journals.
+    Full { line: u64 },
     NoMemory,
 }
 
@@ -23,6 +26,7 @@ impl fmt::Display for Unread {
     fn fmt<W: fmt::Write>(&self, f: &mut fmt::Formatter<W>) -> fmt::Result {
         match self {
             Unread::Bad { line } => write!(f, "line {line}: not the line of a journal's text"),
+            Unread::Full { line } => write!(f, "line {line}: more than a journal holds"),
             Unread::NoMemory => f.write_str("out of memory"),
         }
     }

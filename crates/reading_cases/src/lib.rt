@@ -5,6 +5,8 @@
 #[cfg(test)]
 mod again;
 #[cfg(test)]
+mod effects;
+#[cfg(test)]
 mod names;
 #[cfg(test)]
 mod spoiled;

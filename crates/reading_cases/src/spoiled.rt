@@ -88,10 +88,11 @@ const TEXTS: &[(&str, u64)] = &[
 ];
 
 /// The first bad line of the text, and 0 where it has none.
-fn bad_line(alloc: Global, text: &[u8]) -> Result<u64, Fail> {
+pub fn bad_line(alloc: Global, text: &[u8]) -> Result<u64, Fail> {
     match read(alloc, names(alloc)?, text) {
         Ok(_) => Ok(0),
         Err(Unread::Bad { line }) => Ok(line),
+        Err(Unread::Full { .. }) => Err(Fail::from("full")),
         Err(Unread::NoMemory) => Err(Fail::from("no memory")),
     }
 }
@@ -111,6 +112,27 @@ fn texts_that_end_too_early_or_go_on(rt: HostRuntime) -> Result<(), Fail> {
     let alloc = rt.alloc();
     for (text, line) in TEXTS {
         assert_eq!(rt; bad_line(alloc, text.as_bytes())?, *line, "at {text}");
+    }
+    Ok(())
+}
+
+#[test]
+fn signals_of_more_than_four_full_journals_are_not_read(rt: HostRuntime) -> Result<(), Fail> {
+    let alloc = rt.alloc();
+    let mut text = Vec::from_slice(alloc, b"journal 1\n1 A1 ended\n")?;
+    for _ in 0..4_097 {
+        text.extend_from_slice(
+            b"+ arrived 1.1 1.1 5 \
+            65532:000102030405060708090a0b0c0d0e0f101112131415161718191a1b1c1d1e1f\n",
+        )?;
+    }
+    match read(alloc, names(alloc)?, text.as_slice()) {
+        Err(Unread::Full { line }) => {
+            assert_eq!(rt; line, 4_099);
+        }
+        _ => {
+            assert!(rt; false);
+        }
     }
     Ok(())
 }

@@ -8,7 +8,7 @@ mod AnswerLaws
 mod FilterLaws
 mod HeadLaws
 mod EffectLaws
-mod Spaces
+pub mod Spaces
 pub mod LineLaws
 pub mod PrintedLaws
 pub mod ImageLaws

@@ -196,14 +196,14 @@ effect_spaces names (Down node link session) are is = (
 -- ---- lines
 
 -- a number isn't `+`
-no_plus : (n : ℕ) → n ≤ whole_limit → bytes_eq (decimal n) (codes "+") ≡ false
+pub no_plus : (n : ℕ) → n ≤ whole_limit → bytes_eq (decimal n) (codes "+") ≡ false
 no_plus n limit =
     false_from_ne_true _ (λ holds.
     let is = same_text (decimal n) (codes "+") holds in
     both_ways (list_all is_ascii_digit (decimal n)) (ap (list_all is_ascii_digit) is)
     (digits_all n limit))
 
-words_spaces : (names : Names) (line : Line) → AreNames names → IsLine names line
+pub words_spaces : (names : Names) (line : Line) → AreNames names → IsLine names line
     → HaveNoSpace (line_words printed names line)
 words_spaces names (Made position by head) are is =
     (decimal_spaces position is.0, (maker_spaces by is.1, head_spaces names head are is.2))

@@ -3,5 +3,7 @@
 #![tactic(auto)]
 
 mod alone;
+mod laws;
 
 pub use alone::read_alone;
+pub use laws::runs_are_read_alone;

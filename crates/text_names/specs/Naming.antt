@@ -17,6 +17,19 @@ abbrev pub is_node_effect : List ℕ → Bool
 is_node_effect word =
     is_link_effect word || bytes_eq word (codes "met") || bytes_eq word (codes "gone")
 
+-- the effect of this first word names a peer behind an endpoint or a node
+abbrev pub is_peer_effect : List ℕ → Bool
+is_peer_effect word =
+    bytes_eq word (codes "arrived") || bytes_eq word (codes "found")
+    || bytes_eq word (codes "notified") || bytes_eq word (codes "met")
+    || bytes_eq word (codes "gone")
+
+-- the head of this first word names a peer or a path
+abbrev pub is_peer_head : List ℕ → Bool
+is_peer_head word =
+    bytes_eq word (codes "send") || bytes_eq word (codes "attach")
+    || bytes_eq word (codes "hunt")
+
 -- the head of this first word is met on a link by its pump
 abbrev pub is_pump_head : List ℕ → Bool
 is_pump_head word = bytes_eq word (codes "wire") || bytes_eq word (codes "tick")
@@ -44,17 +57,17 @@ link_by word (Some parts) = peer_link parts
 abbrev pub link_before : List ℕ → Option (List ℕ)
 link_before word = link_by word (cut_at 58 word)
 
--- the link of a word that names it alone, or before a peer or a name
-abbrev pub link_at : List ℕ → Bool → Option (List ℕ)
-link_at word is_alone = if is_alone then Some word else link_before word
+-- the link of a word that names it alone, or before a peer or a name, or not at all
+abbrev pub link_at : List ℕ → Bool → Bool → Option (List ℕ)
+link_at word is_alone is_before =
+    if is_alone then Some word else if is_before then link_before word else None
 
--- the link that a line names; the title of a log names none
+-- the link that a line of a step names
 unfoldable pub link_named : Words → Option (List ℕ)
 link_named words =
-    if bytes_eq words.first (codes "log") then None
-    else if bytes_eq words.first (codes "+")
-    then link_at words.fourth (is_link_effect words.second)
-    else link_at words.fourth (is_link_head words.third)
+    if bytes_eq words.first (codes "+")
+    then link_at words.fourth (is_link_effect words.second) (is_peer_effect words.second)
+    else link_at words.fourth (is_link_head words.third) (is_peer_head words.third)
 
 -- the node that a line of a step names
 unfoldable pub node_named : Words → Option (List ℕ)

@@ -1,9 +1,9 @@
 -- The names of a text, each at its number.
-use Rattle.std.specs.Prelude.{ℕ, zero, suc, ◌==◌, ◌++◌, max, List, [], ◌∷◌, fold, Option, Some, None, codes}
-use Rattle.std.specs.Prelude.{option_map}
+use Rattle.std.specs.Prelude.{ℕ, zero, suc, Bool, ◌==◌, ◌++◌, max, List, [], ◌∷◌, fold, Option}
+use Rattle.std.specs.Prelude.{Some, None, codes, option_map, is_some, if◌then◌else◌}
 use Rattle.std.specs.List.{find}
 use Rattle.linx_base.specs.declared.name.Names.{Names}
-use Rattle.text_words.specs.Words.{parts_at}
+use Rattle.text_words.specs.Words.{after, parts_at}
 use Rattle.text_names.specs.declared.told_names.Numbered.{Numbered}
 use Rattle.text_names.specs.declared.told_names.Told.{Told}
 use Rattle.text_names.specs.ToldNames.{nothing_told, told_lines}
@@ -51,13 +51,24 @@ abbrev pub numbered_names : List Numbered → List (List ℕ) → List (List ℕ
 numbered_names told others =
     (names_up_to (highest told) told others).0 ++ (names_up_to (highest told) told others).1
 
--- the names in lines: with what their lines tell of numbers
+-- the line announces the steps of a text
+abbrev pub is_heading : List ℕ → Bool
+is_heading line = is_some (after (codes "journal ") line)
+
+-- the lines behind the first one that announces steps
+abbrev pub step_lines : List (List ℕ) → List (List ℕ)
+step_lines [] = []
+step_lines (line ∷ lines) = if is_heading line then lines else step_lines lines
+
+-- the names in lines of steps: with what was told of numbers
 abbrev pub names_with : Told → List (List ℕ) → Names
 names_with told lines = record {
   nodes = numbered_names told.nodes (other_lines told no_names lines).nodes;
   links = numbered_names told.links (other_lines told no_names lines).links;
 }
 
--- the names of nodes and links that a text spells
+-- the names of nodes and links that a text spells: what all its lines tell of numbers, and the others
+-- of its steps
 unfoldable pub names_in : List ℕ → Names
-names_in text = names_with (told_lines nothing_told (parts_at 10 text)) (parts_at 10 text)
+names_in text =
+    names_with (told_lines nothing_told (parts_at 10 text)) (step_lines (parts_at 10 text))

@@ -2,8 +2,9 @@
 ghost use Rattle.std.specs.Prelude.{◌≡◌, option_map};
 ghost use Rattle.text_words.specs.Gives.{Gives};
 ghost use Rattle.text_names.specs.Naming.{is_link_effect, is_node_effect, is_pump_head};
-ghost use Rattle.text_names.specs.Naming.{is_link_head, link_before, link_at, link_named, node_named};
-ghost use Rattle.text_names.specs.Naming.{node_told, pump_in, link_told};
+ghost use Rattle.text_names.specs.Naming.{is_peer_effect, is_peer_head, is_link_head, link_before};
+ghost use Rattle.text_names.specs.Naming.{link_at, link_named, node_named, node_told, pump_in};
+ghost use Rattle.text_names.specs.Naming.{link_told};
 
 use crate::first_words::FirstWords;
 use linx_base::Inc;
@@ -21,6 +22,24 @@ fn is_node_effect(word: &[u8]) -> bool
     ensures { result ≡ is_node_effect word.now }
 {
     is_link_effect(word) || is_text(word, b"met") || is_text(word, b"gone")
+}
+
+/// Whether the effect of this first word names a peer behind an endpoint or a node.
+fn is_peer_effect(word: &[u8]) -> bool
+    ensures { result ≡ is_peer_effect word.now }
+{
+    is_text(word, b"arrived")
+        || is_text(word, b"found")
+        || is_text(word, b"notified")
+        || is_text(word, b"met")
+        || is_text(word, b"gone")
+}
+
+/// Whether the head of this first word names a peer or a path.
+fn is_peer_head(word: &[u8]) -> bool
+    ensures { result ≡ is_peer_head word.now }
+{
+    is_text(word, b"send") || is_text(word, b"attach") || is_text(word, b"hunt")
 }
 
 /// Whether the head of this first word is met on a link by its pump.
@@ -56,29 +75,28 @@ fn link_before(word: &[u8]) -> Option<&[u8]>
     }
 }
 
-/// The link of a word that names it alone, or before a peer or a name.
-fn link_at(word: &[u8], is_alone: bool) -> Option<&[u8]>
-    ensures { option_map (λ l. l.now) result ≡ link_at word.now is_alone }
+/// The link of a word that names it alone, or before a peer or a name, or not at all.
+fn link_at(word: &[u8], is_alone: bool, is_before: bool) -> Option<&[u8]>
+    ensures { option_map (λ l. l.now) result ≡ link_at word.now is_alone is_before }
 {
     if is_alone {
-        Some(word)
-    } else {
-        link_before(word)
+        return Some(word);
     }
+    if is_before { link_before(word) } else { None }
 }
 
-/// The link that a line names.
+/// The link that a line of a step names.
 #[tactic(auto, unfolding(crate::specs::Naming::link_named))]
 pub(crate) fn link_named<'a>(words: &FirstWords<'a>) -> Option<&'a [u8]>
     ensures { option_map (λ l. l.now) result ≡ link_named words.now }
 {
-    if is_text(words.first, b"log") {
-        return None;
-    }
+    let word = words.fourth;
     if is_text(words.first, b"+") {
-        link_at(words.fourth, is_link_effect(words.second))
+        let effect = words.second;
+        link_at(word, is_link_effect(effect), is_peer_effect(effect))
     } else {
-        link_at(words.fourth, is_link_head(words.third))
+        let head = words.third;
+        link_at(word, is_link_head(head), is_peer_head(head))
     }
 }
 

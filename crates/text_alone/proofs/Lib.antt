@@ -1,0 +1,7 @@
+mod Differing
+mod ToldLaws
+mod OtherLaws
+mod NumberingLaws
+mod FirstWordLaws
+mod Renaming
+mod AloneLaws
