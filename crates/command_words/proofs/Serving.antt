@@ -10,8 +10,7 @@ use Rattle.command_words.specs.Requests.{clients_in, clients_spelled, is_file_na
 use Rattle.command_words.specs.Requests.{asked_with_more, request_by, searched, seeded}
 use Rattle.command_words.specs.Words.{called, is_help_flag}
 use Rattle.command_words.specs.declared.request.Asked.{Asked}
-use Rattle.command_words.specs.declared.request.Request.{Request}
-use Rattle.command_words.specs.declared.request.Request.TheVariants.{Show, Play, Work, Echo, Serve}
+use Rattle.command_words.specs.declared.request.Request.TheVariants.{Show, Play, Work, Serve}
 use Rattle.command_words.specs.declared.search.Search.{Search}
 use Rattle.command_words.specs.declared.word.Word.{Word}
 use Rattle.command_words.specs.declared.request.TurnOrder.TheVariants.{Fixed}
