@@ -16,7 +16,7 @@ returns-in-Ok g c =
         ended = rw c.unstarted.ensures.status (order_written c.args.bytes.now c.write_order.result text
             c.write_order.ensures.kinds (record {
               steps = steps;
-              spelled = c.in-Ok.ensures;
+              spelled = c.in-Ok.ensures.spelled;
               is = refl;
             }));
         empty = c.unstarted.ensures.empty;
@@ -30,7 +30,7 @@ returns-in-Err g c =
     let bytes = c.args.bytes.now in
     let status = c.unstarted-in-Err.result.status in
     let unread : IsUnreadText bytes status =
-    subst (IsUnreadText bytes) (sym c.unstarted-in-Err.ensures.status) c.in-Err.ensures in
+    subst (IsUnreadText bytes) (sym c.unstarted-in-Err.ensures.status) c.in-Err.ensures.unread in
     record {
       text = [];
       is = record {

@@ -1,13 +1,24 @@
-use Rattle.std.proofs.Common.{sym, map, string_bytes, subst}
-use Rattle.command_words.specs.declared.work.Work.{Work}
+use Rattle.std.proofs.Common.{map, string_bytes, subst}
 use Rattle.linx_commands.specs.Searches.{IsSearchEnd}
-use Rattle.linx_commands.specs.Streams.{Writes}
-use Rattle.linx_commands.specs.Works.{Ends, IsEndOf}
 use Rattle.linx_commands.proofs.works.look.Goals as goal
 
 pub returns-in-Find : goal.returns-in-Find
 returns-in-Find g c =
-    rw c.in-Find.is (rw (← c.wanted.ensures) c.find.ensures)
+    let found = c.find.ensures in
+    rw c.in-Find.is (record {
+      text = found.text;
+      is = subst (λ wanted. IsSearchEnd c.in-Find.search wanted c.args.bytes.now
+          c.find.result.status found.text c.find.result.journal.log) c.wanted.ensures found.is;
+      written = found.written;
+      legal = found.legal;
+    })
 
 pub returns-in-Order : goal.returns-in-Order
-returns-in-Order g c = rw c.in-Order.is c.order.ensures
+returns-in-Order g c =
+    let ordered = c.order.ensures in
+    rw c.in-Order.is (record {
+      text = ordered.text;
+      is = ordered.is;
+      written = ordered.written;
+      legal = ordered.legal;
+    })
