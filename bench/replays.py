@@ -2,13 +2,12 @@
 """Runs scripts in threads and in the orders of numbers, and again with their turns in `order` lines.
 
 Each script of examples/, and the random scripts of the seeds 1 to COUNT, are run once by `linx_sim
-run` and three times by `linx_sim seed S`. The makers of a text's turns, as docs/use/orders.md has
-them, are written behind the script as lines `order`: `linx_sim serial` must write that text again,
-byte by byte. It says how many did, and the first that didn't.
+run` and three times by `linx_sim seed S`. What `linx_sim order` writes of a text must list the
+makers of its turns, as docs/use/orders.md has them; behind the script, these lines make `linx_sim
+serial` write that text again, byte by byte. It says how many did, and the first that didn't.
 
     bench/try replays [COUNT [PROGRAM]]         COUNT is 100 if unsaid
 """
-import itertools
 import re
 import sys
 
@@ -19,7 +18,6 @@ import judge
 from seeds import scripts
 
 SECONDS = 60
-IN_A_LINE = 100
 STEP = re.compile(rb"[0-9]+ ([AP][0-9]+) ([a-z-]+)")
 
 
@@ -33,11 +31,12 @@ def makers_of_turns(text):
             yield maker
 
 
-def lines_of(makers):
-    """The lines `order` that list these makers."""
-    words = [b"%s*%d" % (maker, len(list(turns))) for maker, turns in itertools.groupby(makers)]
-    for place in range(0, len(words), IN_A_LINE):
-        yield b"order " + b" ".join(words[place:place + IN_A_LINE]) + b"\n"
+def listed_makers(lines):
+    """The maker of each turn that lines `order` list."""
+    for line in lines.splitlines():
+        for word in line.split()[1:]:
+            maker, _, times = word.partition(b"*")
+            yield from [maker] * int(times or 1)
 
 
 def wrong(program, words, script):
@@ -48,7 +47,12 @@ def wrong(program, words, script):
         return None
     if status != 0:
         return f"ended with {status}: {said!r}"
-    listed = script.rstrip(b"\n") + b"\n" + b"".join(lines_of(makers_of_turns(text)))
+    status, said, lines = judge.ended([program, "order"], text, SECONDS)
+    if status != 0:
+        return f"its order ended with {status}: {said!r}"
+    if list(listed_makers(lines)) != (list(makers_of_turns(text)) if text else []):
+        return f"its order is another: {lines!r}"
+    listed = script.rstrip(b"\n") + b"\n" + lines
     return judge.difference(judge.ended([program, "serial"], listed, SECONDS), (0, b"", text))
 
 

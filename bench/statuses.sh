@@ -124,6 +124,12 @@ row 'a search of full journals' 5 \
 row 'a search for no words' 1 $'linx_sim: usage: linx_sim find A B [in FILE] [not] WORD ..\n' \
     "$script" "$work/text" plain find 1 9 not
 printf '\1\1' > "$work/torn"
+plain run < "$script" > "$work/printed"
+row 'an order' 0 '' "$work/printed" "$work/text" plain order
+[ -s "$work/text" ] || complain 'an order: no lines'
+head -1 "$work/printed" > "$work/front"
+row 'no printed text' 8 $'linx_sim: text line 2: no line of a printed text\n' "$work/front" \
+    "$work/text" plain order
 row 'a torn stream' 9 $'linx_sim: torn at 0\n' "$work/torn" "$work/text" plain stream
 row 'a bad stream' 11 $'linx_sim: bad stream at 0\n' "$work/bad" "$work/text" plain stream
 printf '\0\0\0\5\1\1\0\0a' > "$work/open"
