@@ -16,9 +16,10 @@ use Rattle.command_words.specs.declared.word.Word.{Word}
 use Rattle.command_words.specs.declared.request.TurnOrder.TheVariants.{Fixed}
 use Rattle.command_words.specs.declared.page.Page.TheVariants as pages
 use Rattle.command_words.specs.declared.request.Asked.TheVariants as asks
+use Rattle.command_words.specs.declared.work.Work.{Work as Works}
 use Rattle.command_words.specs.declared.work.Work.TheVariants as works
-use Rattle.command_words.specs.declared.word.Word.TheVariants.{Run, Serial, Seed, Find, Order, Gen}
-use Rattle.command_words.specs.declared.word.Word.TheVariants.{Stream, Gateway, Help, Version}
+use Rattle.command_words.specs.declared.word.Word.TheVariants.{Run, Serial, Seed, Find, Order, Chart}
+use Rattle.command_words.specs.declared.word.Word.TheVariants.{Gen, Stream, Gateway, Help, Version}
 
 -- 1 to 16
 pub record AreFew (n : ℕ) : Type 0 where
@@ -53,10 +54,10 @@ no_run : (asked : Asked) (named : Bool) (n : ℕ)
 no_run asked true n is = cc
 no_run asked false n is = cc
 
-no_work : (named : Bool) (n : ℕ)
-    → (if named then Some (Work works.Order) else None) ≡ Some (Serve n) → ⊥
-no_work true n is = cc
-no_work false n is = cc
+no_work : (work : Works) (named : Bool) (n : ℕ)
+    → (if named then Some (Work work) else None) ≡ Some (Serve n) → ⊥
+no_work work true n is = cc
+no_work work false n is = cc
 
 no_order : (o : Option Asked) (n : ℕ) → option_map (λ asked. Play asked) o ≡ Some (Serve n) → ⊥
 no_order None n is = cc
@@ -82,7 +83,8 @@ few_plain Serial argument n is =
     absurd (no_run (asks.InOrder Fixed) (is_file_name argument) n is)
 few_plain Seed argument n is = absurd (no_order (seeded argument) n is)
 few_plain Find argument n is = absurd cc
-few_plain Order argument n is = absurd (no_work (is_file_name argument) n is)
+few_plain Order argument n is = absurd (no_work works.Order (is_file_name argument) n is)
+few_plain Chart argument n is = absurd (no_work works.Chart (is_file_name argument) n is)
 few_plain Gen argument n is = absurd (no_gen (number_spelled argument) n is)
 few_plain Stream argument n is = absurd cc
 few_plain Gateway argument n is =

@@ -17,8 +17,8 @@ use Rattle.command_words.specs.declared.request.Request.TheVariants.{Show, Play,
 use Rattle.command_words.specs.declared.search.Search.{Search}
 use Rattle.command_words.specs.declared.work.Work.TheVariants as works
 use Rattle.command_words.specs.declared.word.Word.{Word}
-use Rattle.command_words.specs.declared.word.Word.TheVariants.{Run, Serial, Seed, Find, Order, Gen}
-use Rattle.command_words.specs.declared.word.Word.TheVariants.{Stream, Gateway, Help, Version}
+use Rattle.command_words.specs.declared.word.Word.TheVariants.{Run, Serial, Seed, Find, Order, Chart}
+use Rattle.command_words.specs.declared.word.Word.TheVariants.{Gen, Stream, Gateway, Help, Version}
 
 -- the text is empty, or begins with `-` (45)
 abbrev pub is_no_name : List ℕ → Bool
@@ -53,6 +53,7 @@ asked_alone Serial = Some (Play (asks.InOrder orders.Fixed))
 asked_alone Seed = None
 asked_alone Find = None
 asked_alone Order = Some (Work works.Order)
+asked_alone Chart = Some (Work works.Chart)
 asked_alone Gen = None
 asked_alone Stream = Some Echo
 asked_alone Gateway = None
@@ -66,6 +67,7 @@ asked_with_plain Serial argument = of_file (Play (asks.InOrder orders.Fixed)) ar
 asked_with_plain Seed argument = option_map (λ asked. Play asked) (seeded argument)
 asked_with_plain Find argument = None
 asked_with_plain Order argument = of_file (Work works.Order) argument
+asked_with_plain Chart argument = of_file (Work works.Chart) argument
 asked_with_plain Gen argument = option_map (λ n. Play (asks.Gen n)) (number_spelled argument)
 asked_with_plain Stream argument = None
 asked_with_plain Gateway argument = option_map (λ n. Serve n) (clients_spelled argument)
@@ -158,6 +160,7 @@ file_place (Some (Play (asks.InOrder orders.Fixed))) = Some 1
 file_place (Some (Play (asks.InOrder (orders.Seed n)))) = Some 2
 file_place (Some (Work (works.Find search))) = if search.in_file then Some 4 else None
 file_place (Some (Work works.Order)) = Some 1
+file_place (Some (Work works.Chart)) = Some 1
 file_place _ = None
 
 -- the file that a text names, which may be missing: none by `-`

@@ -3,8 +3,8 @@ use Rattle.std.specs.Prelude.{ℕ, Bool, ◌||◌, List, [], ◌∷◌, codes, O
 use Rattle.std.specs.Prelude.{if◌then◌else◌}
 use Rattle.std.specs.Str.{bytes_eq}
 use Rattle.command_words.specs.declared.word.Word.{Word}
-use Rattle.command_words.specs.declared.word.Word.TheVariants.{Run, Serial, Seed, Find, Order, Gen}
-use Rattle.command_words.specs.declared.word.Word.TheVariants.{Stream, Gateway, Help, Version}
+use Rattle.command_words.specs.declared.word.Word.TheVariants.{Run, Serial, Seed, Find, Order, Chart}
+use Rattle.command_words.specs.declared.word.Word.TheVariants.{Gen, Stream, Gateway, Help, Version}
 
 -- a row of the table: the name of a word, its use, a line, a paragraph and an example
 pub record Row : Type 0 where
@@ -56,6 +56,14 @@ said_of Order = record {
       codes "Reads the text of a run from FILE, or from standard input, and writes whose turns its\nsteps were, as lines of a script. With these lines its script makes the same run again\nunder serial, byte for byte, also where run made it.\n";
   example = codes "linx_sim run examples/losses.linx | linx_sim order";
 }
+said_of Chart = record {
+  name = codes "chart";
+  usage = codes "chart [FILE]";
+  line = codes "draw a printed run as a picture";
+  paragraph =
+      codes "Reads the text of a run from FILE, or from standard input, and writes a picture of it\nas SVG: a lane for each endpoint and link, a row for each step and what it did, and an\narrow from each send to its arrival. It draws 6,000 rows at most.\n";
+  example = codes "linx_sim serial examples/losses.linx | linx_sim chart > losses.svg";
+}
 said_of Gen = record {
   name = codes "gen";
   usage = codes "gen N";
@@ -99,7 +107,7 @@ said_of Version = record {
 
 -- all words, in the order of the help
 abbrev pub all_words : List Word
-all_words = Run ∷ Serial ∷ Seed ∷ Find ∷ Order ∷ Gen ∷ Stream ∷ Gateway ∷ Help ∷ Version ∷ []
+all_words = Run ∷ Serial ∷ Seed ∷ Find ∷ Order ∷ Chart ∷ Gen ∷ Stream ∷ Gateway ∷ Help ∷ Version ∷ []
 
 -- the first of these words whose name is the text
 abbrev pub named : List ℕ → List Word → Option Word

@@ -33,8 +33,8 @@ fn foot() -> &'static str
     ensures { result.now ≡ page_foot }
 {
     "\n\
-    FILE is a script, and under order a printed text; without it, or where it is -,\n\
-    standard input is read.\n\
+    FILE is a script, and under order and chart a printed text; without it,\n\
+    or where it is -, standard input is read.\n\
     `linx_sim help WORD` says more of a word.\n\n\
     exit status:\n  \
     0  done\n  \

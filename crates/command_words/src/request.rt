@@ -105,6 +105,7 @@ pub(crate) fn asked_alone(word: Word) -> Option<Request>
         Word::Run => Some(Request::Play(Asked::Run)),
         Word::Serial => Some(Request::Play(Asked::InOrder(TurnOrder::Fixed))),
         Word::Order => Some(Request::Work(Work::Order)),
+        Word::Chart => Some(Request::Work(Work::Chart)),
         Word::Seed | Word::Find | Word::Gen => None,
         Word::Stream => Some(Request::Echo),
         Word::Gateway => None,
@@ -125,6 +126,7 @@ pub(crate) fn asked_with(word: Word, argument: &str) -> Option<Request>
         Word::Serial => of_file(Request::Play(Asked::InOrder(TurnOrder::Fixed)), argument),
         Word::Seed => Some(Request::Play(seeded(argument)?)),
         Word::Order => of_file(Request::Work(Work::Order), argument),
+        Word::Chart => of_file(Request::Work(Work::Chart), argument),
         Word::Gen => Some(Request::Play(Asked::Gen(number(argument)?))),
         Word::Gateway => Some(Request::Serve(clients(argument)?)),
         Word::Help => Some(Request::Show(Page::Of(called(argument)?))),
@@ -177,7 +179,7 @@ fn file_place(request: Option<Request>) -> Option<usize>
         Some(Request::Play(Asked::Run | Asked::InOrder(TurnOrder::Fixed))) => Some(1),
         Some(Request::Play(Asked::InOrder(TurnOrder::Seed(_)))) => Some(2),
         Some(Request::Work(Work::Find(Search { in_file: true, .. }))) => Some(4),
-        Some(Request::Work(Work::Order)) => Some(1),
+        Some(Request::Work(Work::Order | Work::Chart)) => Some(1),
         _ => None,
     }
 }

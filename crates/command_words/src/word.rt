@@ -15,6 +15,8 @@ pub enum Word {
     Find,
     /// The order of a printed run.
     Order,
+    /// The picture of a printed run.
+    Chart,
     /// The run of a generated script.
     Gen,
     /// An echo over the program's streams.
@@ -28,12 +30,13 @@ pub enum Word {
 }
 
 /// All words, in the order of the help.
-pub const WORDS: [Word; 10] = [
+pub const WORDS: [Word; 11] = [
     Word::Run,
     Word::Serial,
     Word::Seed,
     Word::Find,
     Word::Order,
+    Word::Chart,
     Word::Gen,
     Word::Stream,
     Word::Gateway,
@@ -107,6 +110,15 @@ impl Word {
                     steps were, as lines of a script. With these lines its script makes the same run again\n\
                     under serial, byte for byte, also where run made it.\n",
                 example: "linx_sim run examples/losses.linx | linx_sim order",
+            },
+            Word::Chart => Said {
+                name: "chart",
+                usage: "chart [FILE]",
+                line: "draw a printed run as a picture",
+                paragraph: "Reads the text of a run from FILE, or from standard input, and writes a picture of it\n\
+                    as SVG: a lane for each endpoint and link, a row for each step and what it did, and an\n\
+                    arrow from each send to its arrival. It draws 6,000 rows at most.\n",
+                example: "linx_sim serial examples/losses.linx | linx_sim chart > losses.svg",
             },
             Word::Gen => Said {
                 name: "gen",

@@ -9,4 +9,6 @@ pub enum Work {
     Find(Search),
     /// `order`: the order of a printed run, as lines of a script.
     Order,
+    /// `chart`: a picture of a printed run.
+    Chart,
 }

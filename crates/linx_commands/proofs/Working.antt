@@ -1,12 +1,15 @@
 -- From how a work ends to what was read and written.
-use Rattle.std.proofs.Common.{◌≡◌, ◌≢◌, ℕ, ◌≤◌, ◌<◌, true, List, length, refl, subst, arith, Option}
+use Rattle.std.proofs.Common.{◌≡◌, ◌≢◌, ℕ, ◌≤◌, ◌<◌, inl, inr, true, List, length, refl, subst, arith}
+use Rattle.std.proofs.Common.{Option, Result, Ok}
 use Rattle.std.specs.Io.KnownBytes.{IsAtEnd}
+use Rattle.chart_drawing.specs.declared.drawing.DrawError.{DrawError}
 use Rattle.command_words.specs.Requests.{wanted_of}
 use Rattle.command_words.specs.declared.work.Work.{Work}
-use Rattle.command_words.specs.declared.work.Work.TheVariants.{Find, Order}
+use Rattle.command_words.specs.declared.work.Work.TheVariants.{Find, Order, Chart}
 use Rattle.journal.specs.Logs.{Log}
 use Rattle.linx_commands.specs.Causes.{is_of_writing}
-use Rattle.linx_commands.specs.Printed.{IsOrderDone, IsOrderEnd, IsOrdered, IsUnreadText}
+use Rattle.linx_commands.specs.Printed.{IsChartEnd, IsOrderEnd, IsOrdered, IsUnreadText}
+use Rattle.linx_commands.specs.Printed.{SaysOf}
 use Rattle.linx_commands.specs.Runs.{IsEmptyLog}
 use Rattle.linx_commands.specs.Statuses.{is_of_whole, is_silent}
 use Rattle.linx_commands.specs.Streams.{IsScanned, ReadsUpTo, TakesAtMost, Writes}
@@ -30,6 +33,23 @@ short_order bytes (Text fault) text ended whole = cc
 short_order bytes NoMemory text ended whole = cc
 short_order bytes _ text ended whole = absurd ended
 
+unread_part : (bytes : List ℕ) (status : Status) → IsUnreadText bytes status
+    → is_of_whole status ≡ true → ⊥
+unread_part bytes (Text fault) unread whole = cc
+unread_part bytes NoMemory unread whole = cc
+unread_part bytes _ unread whole = unread
+
+-- where the chart of a text is whole, so is the text
+short_chart : (bytes : List ℕ) (status : Status) (text : List ℕ) → IsChartEnd bytes status text
+    → is_of_whole status ≡ true → length bytes < 268435457
+short_chart bytes status text (inl unread) whole = absurd (unread_part bytes status unread whole)
+short_chart bytes status text (inr drawn) whole =
+    let within : length bytes ≤ 268435456 = drawn.spelled.short in omega (arith, within)
+
+fault_of_chart : (bytes text : List ℕ) → IsChartEnd bytes ReadFault text → ⊥
+fault_of_chart bytes text (inl unread) = unread
+fault_of_chart bytes text (inr drawn) = drawn.says
+
 -- a work whose status needs the whole input read fewer bytes than it may
 short : (work : Work) (texts : List (List ℕ)) (bytes : List ℕ) (status : Status) (text : List ℕ)
     (log : Log) → IsEndOf work texts bytes status text log → is_of_whole status ≡ true
@@ -38,11 +58,14 @@ short (Find search) texts bytes status text log ended whole =
     short_search search (wanted_of search texts) bytes status text log ended whole
 short Order texts bytes status text log ended whole =
     short_order bytes status text ended.ended whole
+short Chart texts bytes status text log ended whole =
+    short_chart bytes status text ended.ended whole
 
 fault_of_none : (work : Work) (texts : List (List ℕ)) (bytes text : List ℕ) (log : Log)
     → IsEndOf work texts bytes ReadFault text log → ⊥
 fault_of_none (Find search) texts bytes text log ended = ended
 fault_of_none Order texts bytes text log ended = ended.ended
+fault_of_none Chart texts bytes text log ended = fault_of_chart bytes text ended.ended
 
 -- a work with bytes that were read ends by no fault of their source
 no_fault : (work : Work) (texts : List (List ℕ)) (bytes : List ℕ) (status : Status)
@@ -133,3 +156,13 @@ unread_undone bytes status unread is = subst (λ (s : Status). IsUnreadText byte
 pub unread_unfailed : (bytes : List ℕ) (status : Status) → IsUnreadText bytes status
     → status ≢ WriteFault
 unread_unfailed bytes status unread is = subst (λ (s : Status). IsUnreadText bytes s) is unread
+
+-- ---- the chart of a printed text
+
+-- the picture went out, or was to
+pub says_written : (chart : Result (List ℕ) DrawError) (status : Status) (text : List ℕ)
+    → is_of_writing status ≡ true → chart ≡ Ok text → SaysOf chart status text
+says_written chart Done text writes is = is
+says_written chart WriteFault text writes is = is
+says_written chart NoMemory text writes is = tt
+says_written chart _ text writes is = cc

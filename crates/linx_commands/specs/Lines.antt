@@ -20,7 +20,7 @@ use Rattle.linx_commands.specs.declared.outcome.Status.TheVariants.{ReadFault, W
 use Rattle.linx_commands.specs.declared.outcome.Status.TheVariants.{JournalFull, NoMemory, Torn}
 use Rattle.linx_commands.specs.declared.outcome.Status.TheVariants.{BadStream, FoundNone, Text}
 use Rattle.linx_commands.specs.declared.outcome.TextFault.{TextFault}
-use Rattle.linx_commands.specs.declared.outcome.TextFault.TheVariants.{Bad, Full, Long}
+use Rattle.linx_commands.specs.declared.outcome.TextFault.TheVariants.{Bad, Full, Long, Rows, Lanes}
 use Rattle.linx_commands.specs.declared.phrase.Phrase.{Phrase}
 use Rattle.linx_commands.specs.declared.phrase.Phrase.TheVariants as says
 
@@ -56,6 +56,8 @@ phrase_of says.TextLine = codes "text line "
 phrase_of says.NoTextLine = codes ": no line of a printed text"
 phrase_of says.TooMuchNoted = codes ": more signals than a journal holds"
 phrase_of says.TextTooLong = codes "text longer than 268435456 bytes"
+phrase_of says.TooManyRows = codes "chart of more than 6000 rows"
+phrase_of says.TooManyLanes = codes "more than 64 nodes, links or actors"
 
 -- the text at a place, from 0; none where there are fewer
 abbrev pub text_at : List (List ℕ) → ℕ → List ℕ
@@ -105,6 +107,8 @@ unfoldable pub text_fault_text : TextFault → List ℕ
 text_fault_text (Bad line) = phrase_of says.TextLine ++ decimal line ++ phrase_of says.NoTextLine
 text_fault_text (Full line) = phrase_of says.TextLine ++ decimal line ++ phrase_of says.TooMuchNoted
 text_fault_text Long = phrase_of says.TextTooLong
+text_fault_text Rows = phrase_of says.TooManyRows
+text_fault_text Lanes = phrase_of says.TooManyLanes
 
 -- where a run without memory stopped; nothing where it made no step
 unfoldable pub stop_text : List Step → List ℕ

@@ -1,7 +1,9 @@
 -- How what is done with a printed text ends.
-use Rattle.std.specs.Prelude.{ℕ, ◌≡◌, ◌≤◌, ◌<◌, List, length, Some, None, Ok, Err}
-use Rattle.journal.specs.declared.effect.Step.{Step}
+use Rattle.std.specs.Prelude.{ℕ, ◌≡◌, ◌≤◌, ◌<◌, ◌⊎◌, List, length, Some, None, Result, Ok, Err}
+use Rattle.chart_drawing.specs.declared.drawing.DrawError.{DrawError}
+use Rattle.chart_drawing.specs.declared.drawing.DrawError.TheVariants as draws
 use Rattle.journal.specs.Logs.{Log}
+use Rattle.journal_charts.specs.Charts.{svg_of}
 use Rattle.journal_read.specs.Bounds.{full_in}
 use Rattle.journal_read.specs.Reading.{read_in}
 use Rattle.text_names.specs.Numbering.{names_in}
@@ -11,16 +13,17 @@ use Rattle.linx_commands.specs.Runs.{IsEmptyLog}
 use Rattle.linx_commands.specs.declared.outcome.Status.{Status}
 use Rattle.linx_commands.specs.declared.outcome.Status.TheVariants.{Done, WriteFault, NoMemory, Text}
 use Rattle.linx_commands.specs.declared.outcome.TextFault.{TextFault}
-use Rattle.linx_commands.specs.declared.outcome.TextFault.TheVariants.{Bad, Full, Long}
+use Rattle.linx_commands.specs.declared.outcome.TextFault.TheVariants.{Bad, Full, Long, Rows, Lanes}
 
 -- the most bytes that a printed text may have
 abbrev pub text_most : ℕ
 text_most = 268435456
 
--- bytes are the printed text of these steps, read with the names that it spells
-pub record IsTextOf (bytes : List ℕ) (steps : List Step) : Type 0 where
+-- bytes are the printed text of this journal, read with the names that it spells
+pub record IsTextOf (bytes : List ℕ) (log : Log) : Type 0 where
   pub short : length bytes ≤ text_most
-  pub read : read_in (names_in bytes) bytes ≡ Ok steps
+  pub names : log.names ≡ names_in bytes
+  pub read : read_in (names_in bytes) bytes ≡ Ok log.steps
   pub room : full_in (names_in bytes) bytes ≡ None
 
 -- what is wrong with bytes that are no printed text, or one of too much
@@ -28,8 +31,9 @@ abbrev pub IsFaultOf : List ℕ → TextFault → Type 0
 IsFaultOf bytes (Bad line) = read_in (names_in bytes) bytes ≡ Err line
 IsFaultOf bytes (Full line) = full_in (names_in bytes) bytes ≡ Some line
 IsFaultOf bytes Long = text_most < length bytes
+IsFaultOf bytes _ = ⊥
 
--- what a status says of bytes that gave no steps
+-- what a status says of bytes that gave no journal
 abbrev pub IsUnreadText : List ℕ → Status → Type 0
 IsUnreadText bytes (Text fault) = IsFaultOf bytes fault
 IsUnreadText bytes NoMemory = Unit {0}
@@ -37,9 +41,9 @@ IsUnreadText bytes _ = ⊥
 
 -- a text is the lines `order` that list the turns of a printed text's steps
 pub record IsOrdered (bytes text : List ℕ) : Type 0 where
-  pub steps : List Step
-  pub spelled : IsTextOf bytes steps
-  pub is : text ≡ order_text (turn_makers steps)
+  pub log : Log
+  pub spelled : IsTextOf bytes log
+  pub is : text ≡ order_text (turn_makers log.steps)
 
 -- WHAT EACH STATUS SAYS of the order of the printed text that these bytes are, and of the text that
 -- is written of it
@@ -50,7 +54,35 @@ IsOrderEnd bytes (Text fault) text = IsFaultOf bytes fault
 IsOrderEnd bytes NoMemory text = Unit {0}
 IsOrderEnd bytes _ text = ⊥
 
--- the same with an empty journal
-pub record IsOrderDone (bytes : List ℕ) (status : Status) (text : List ℕ) (log : Log) : Type 0 where
-  pub ended : IsOrderEnd bytes status text
+-- what a status says of a chart, or of why there is none, and of the text that is written
+abbrev pub SaysOf : Result (List ℕ) DrawError → Status → List ℕ → Type 0
+SaysOf chart Done text = chart ≡ Ok text
+SaysOf chart WriteFault text = chart ≡ Ok text
+SaysOf chart (Text Rows) text = chart ≡ Err draws.TooLong
+SaysOf chart (Text Lanes) text = chart ≡ Err draws.TooWide
+SaysOf chart NoMemory text = Unit {0}
+SaysOf chart _ text = ⊥
+
+-- the same of the chart of a printed text's journal
+pub record IsDrawn (bytes : List ℕ) (status : Status) (text : List ℕ) : Type 0 where
+  pub log : Log
+  pub spelled : IsTextOf bytes log
+  pub says : SaysOf (svg_of log.names bytes log.steps) status text
+
+-- WHAT A STATUS SAYS of the chart of the printed text that these bytes are: that they are none, or
+-- what became of the chart
+abbrev pub IsChartEnd : List ℕ → Status → List ℕ → Type 0
+IsChartEnd bytes status text = IsUnreadText bytes status ⊎ IsDrawn bytes status text
+
+-- what became of a chart, and what was written of it
+pub record IsWrittenOf (chart : Result (List ℕ) DrawError) (writes : List ℕ → Type 0)
+    (status : Status) : Type 0 where
+  pub text : List ℕ
+  pub says : SaysOf chart status text
+  pub written : writes text
+
+-- one of these with an empty journal
+pub record IsTextDone (ends : Status → List ℕ → Type 0) (status : Status) (text : List ℕ) (log : Log)
+    : Type 0 where
+  pub ended : ends status text
   pub empty : IsEmptyLog log

@@ -4,10 +4,10 @@ use Rattle.command_words.specs.Requests.{wanted_of}
 use Rattle.command_words.specs.declared.request.Request.{Request}
 use Rattle.command_words.specs.declared.request.Request.TheVariants as requests
 use Rattle.command_words.specs.declared.work.Work.{Work}
-use Rattle.command_words.specs.declared.work.Work.TheVariants.{Find, Order}
+use Rattle.command_words.specs.declared.work.Work.TheVariants.{Find, Order, Chart}
 use Rattle.journal.specs.Logs.{Log}
 use Rattle.linx_outside.specs.declared.files.OpenFault.{OpenFault}
-use Rattle.linx_commands.specs.Printed.{IsOrderDone}
+use Rattle.linx_commands.specs.Printed.{IsChartEnd, IsOrderEnd, IsTextDone}
 use Rattle.linx_commands.specs.Opened.{IsUnopened}
 use Rattle.linx_commands.specs.Runs.{IsEmptyLog, IsLegalSomehow}
 use Rattle.linx_commands.specs.Searches.{IsSearchEnd}
@@ -18,14 +18,15 @@ use Rattle.linx_commands.specs.declared.outcome.Status.TheVariants.{ReadFault, N
 -- the most bytes that are read: one more than a script may have, or a printed text
 abbrev pub most_of : Work → ℕ
 most_of (Find search) = read_most
-most_of Order = 268435457
+most_of _ = 268435457
 
 -- HOW A WORK ENDS: what each status says of the bytes that were read, of the text that is written and
 -- of the journal that is handed back
 abbrev pub IsEndOf : Work → List (List ℕ) → List ℕ → Status → List ℕ → Log → Type 0
 IsEndOf (Find search) texts bytes status text log =
     IsSearchEnd search (wanted_of search texts) bytes status text log
-IsEndOf Order texts bytes status text log = IsOrderDone bytes status text log
+IsEndOf Order texts bytes status text log = IsTextDone (IsOrderEnd bytes) status text log
+IsEndOf Chart texts bytes status text log = IsTextDone (IsChartEnd bytes) status text log
 
 -- a work ended so, and this was written
 pub record Ends (ended : Status → List ℕ → Log → Type 0) (writes : List ℕ → Type 0)

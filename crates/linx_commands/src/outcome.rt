@@ -15,6 +15,10 @@ pub enum TextFault {
     Full { line: u64 },
     /// The text has more than 268,435,456 bytes.
     Long,
+    /// A chart of it would have more than 6,000 rows.
+    Rows,
+    /// A chart of it would have more than 64 nodes, links or actors.
+    Lanes,
 }
 
 /// How a run ended.

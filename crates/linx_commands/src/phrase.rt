@@ -65,6 +65,10 @@ pub enum Phrase {
     TooMuchNoted,
     /// A printed text has too many bytes.
     TextTooLong,
+    /// A chart would have too many rows.
+    TooManyRows,
+    /// A chart would have too many lanes.
+    TooManyLanes,
 }
 
 impl Phrase {
@@ -105,6 +109,8 @@ impl Phrase {
             Phrase::NoTextLine => ": no line of a printed text",
             Phrase::TooMuchNoted => ": more signals than a journal holds",
             Phrase::TextTooLong => "text longer than 268435456 bytes",
+            Phrase::TooManyRows => "chart of more than 6000 rows",
+            Phrase::TooManyLanes => "more than 64 nodes, links or actors",
         }
     }
 }

@@ -1,16 +1,20 @@
-//! What is done with a printed text: its order is written.
+//! What is done with a printed text: its order is written, or a chart of it.
 
 ghost use Rattle.std.specs.Prelude.{◌≡◌, true, IfErr, IfOk};
+ghost use Rattle.journal_charts.specs.Charts.{svg_of};
 ghost use Rattle.turn_lines.specs.Text.{order_text};
 ghost use Rattle.turn_lines.specs.Turns.{turn_makers};
 ghost use Rattle.linx_commands.specs.Causes.{is_of_writing};
-ghost use Rattle.linx_commands.specs.Printed.{IsOrderDone, IsTextOf, IsUnreadText};
+ghost use Rattle.linx_commands.specs.Printed.{IsChartEnd, IsOrderEnd, IsTextDone, IsWrittenOf};
+ghost use Rattle.linx_commands.specs.Printed.{IsTextOf, IsUnreadText};
 ghost use Rattle.linx_commands.specs.Streams.{Writes};
 ghost use Rattle.linx_commands.specs.Works.{Ends};
 
 use crate::outcome::{Outcome, Status, TextFault};
 use crate::serving::{unstarted, write_text};
+use chart_drawing::DrawError;
 use journal::Journal;
+use journal_charts::chart_of;
 use journal_read::Unread;
 use linx_base::NoMemory;
 use linx_outside::Sink;
@@ -23,7 +27,7 @@ const TEXT_MOST: usize = 268_435_456;
 
 /// The journal that a printed text spells, with the names that it spells.
 fn read_text(alloc: Global, bytes: &[u8]) -> Result<Journal, Status>
-    ensures spelled { IfOk result (λ journal. IsTextOf bytes.now journal.log.steps) }
+    ensures spelled { IfOk result (λ journal. IsTextOf bytes.now journal.log) }
     ensures unread { IfErr result (λ status. IsUnreadText bytes.now status) }
 {
     if bytes.len() > TEXT_MOST {
@@ -51,13 +55,40 @@ fn write_order<K: Sink>(alloc: Global, journal: &Journal, out: &mut K) -> Status
 
 /// The order of a printed text goes to the sink.
 pub(crate) fn order<K: Sink>(alloc: Global, bytes: &[u8], out: &mut K) -> Outcome
-    ensures { Ends (IsOrderDone bytes.now)
+    ensures { Ends (IsTextDone (IsOrderEnd bytes.now))
         (λ written. Writes K.held K.faults K.last_count K.can_take out.old out.new
         result.status written)
         result.status result.journal.log }
 {
     match read_text(alloc, bytes) {
         Ok(journal) => unstarted(alloc, write_order(alloc, &journal, out)),
+        Err(status) => unstarted(alloc, status),
+    }
+}
+
+/// The chart of a journal goes to the sink, beside whose text it is drawn.
+fn write_chart<K: Sink>(alloc: Global, bytes: &[u8], journal: &Journal, out: &mut K) -> Status
+    ensures { IsWrittenOf (svg_of journal.now.log.names bytes.now journal.now.log.steps)
+        (λ written. Writes K.held K.faults K.last_count K.can_take out.old out.new result written)
+        result }
+{
+    match chart_of(alloc, bytes, journal) {
+        Ok(svg) => write_text(svg.as_slice(), out),
+        Err(DrawError::TooLong) => Status::Text(TextFault::Rows),
+        Err(DrawError::TooWide) => Status::Text(TextFault::Lanes),
+        Err(DrawError::NoMemory) => Status::NoMemory,
+    }
+}
+
+/// The chart of a printed text goes to the sink.
+pub(crate) fn chart<K: Sink>(alloc: Global, bytes: &[u8], out: &mut K) -> Outcome
+    ensures { Ends (IsTextDone (IsChartEnd bytes.now))
+        (λ written. Writes K.held K.faults K.last_count K.can_take out.old out.new
+        result.status written)
+        result.status result.journal.log }
+{
+    match read_text(alloc, bytes) {
+        Ok(journal) => unstarted(alloc, write_chart(alloc, bytes, &journal, out)),
         Err(status) => unstarted(alloc, status),
     }
 }

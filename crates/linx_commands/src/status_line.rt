@@ -150,6 +150,8 @@ fn push_text_fault(line: &mut Line, fault: TextFault)
         TextFault::Bad { line: number } => push_text_line(line, number, Phrase::NoTextLine),
         TextFault::Full { line: number } => push_text_line(line, number, Phrase::TooMuchNoted),
         TextFault::Long => line.push(Phrase::TextTooLong.text()),
+        TextFault::Rows => line.push(Phrase::TooManyRows.text()),
+        TextFault::Lanes => line.push(Phrase::TooManyLanes.text()),
     }
 }
 

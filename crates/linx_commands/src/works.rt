@@ -11,7 +11,7 @@ ghost use Rattle.linx_commands.specs.Works.{Ends, IsEndOf, IsReadStop, IsWorked,
 ghost use Rattle.linx_commands.specs.Works.{IsWorkedOfFile, most_of};
 
 use crate::outcome::{Outcome, Status};
-use crate::printed::order;
+use crate::printed::{chart, order};
 use crate::search::find;
 use crate::serving::{READ_MOST, status_of_read, unstarted};
 use command_words::Work;
@@ -27,7 +27,7 @@ fn most_of(work: Work) -> usize
 {
     match work {
         Work::Find(_) => READ_MOST,
-        Work::Order => TEXT_MOST,
+        Work::Order | Work::Chart => TEXT_MOST,
     }
 }
 
@@ -64,6 +64,7 @@ fn look<K: Sink>(alloc: Global, work: Work, words: &[String], bytes: &[u8], out:
     match work {
         Work::Find(search) => find(alloc, search, search.wanted(words), bytes, out),
         Work::Order => order(alloc, bytes, out),
+        Work::Chart => chart(alloc, bytes, out),
     }
 }
 

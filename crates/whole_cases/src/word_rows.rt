@@ -103,6 +103,8 @@ writes everything that happened.
       find the first number from A to B whose run has a line of these words
   order [FILE]
       write the order of a printed run, as lines of a script
+  chart [FILE]
+      draw a printed run as a picture
   gen N
       play the generated script of a number, and write its summary
   stream
@@ -114,8 +116,8 @@ writes everything that happened.
   version
       write the version
 
-FILE is a script, and under order a printed text; without it, or where it is -,
-standard input is read.
+FILE is a script, and under order and chart a printed text; without it,
+or where it is -, standard input is read.
 `linx_sim help WORD` says more of a word.
 
 exit status:
@@ -278,7 +280,7 @@ const SOURCES: &[Row] = &[
         ..FILE
     },
     Row {
-        words: &["order", "-"],
+        words: &["chart", "-"],
         input: Content::NoScript,
         number: 8,
         text: Text::Empty,
@@ -444,7 +446,7 @@ const MISUSES: &[Row] = &[
     },
     Row {
         words: &["fast\n\u{7f}"],
-        line: "linx_sim: no word 'fast??'; the words are: run serial seed find order gen stream gateway help version\n",
+        line: "linx_sim: no word 'fast??'; the words are: run serial seed find order chart gen stream gateway help version\n",
         ..MISUSED
     },
     Row {
@@ -607,7 +609,7 @@ fn a_long_word_is_cut(rt: HostRuntime) -> Result<(), Fail> {
     );
     let wanted =
         "linx_sim: no word 'xxxxxxxxxxxxxxxxxxxxxxxxxxxxxxxxxxxxxxxxxxxxxxxxxxxxxxxxxxxxxxxx\
-        '; the words are: run serial seed find order gen stream gateway help version\n";
+        '; the words are: run serial seed find order chart gen stream gateway help version\n";
     assert_eq!(rt; errors.held(), wanted.as_bytes());
     Ok(())
 }

@@ -8,14 +8,14 @@ use Rattle.linx_commands.proofs.printed.order.Goals as goal
 
 pub returns-in-Ok : goal.returns-in-Ok
 returns-in-Ok g c =
-    let steps = c.in-Ok.journal.log.steps in
-    let text = order_text (turn_makers steps) in
+    let log = c.in-Ok.journal.log in
+    let text = order_text (turn_makers log.steps) in
     record {
       text = text;
       is = record {
         ended = rw c.unstarted.ensures.status (order_written c.args.bytes.now c.write_order.result text
             c.write_order.ensures.kinds (record {
-              steps = steps;
+              log = log;
               spelled = c.in-Ok.ensures.spelled;
               is = refl;
             }));

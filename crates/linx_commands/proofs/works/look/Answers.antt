@@ -22,3 +22,13 @@ returns-in-Order g c =
       written = ordered.written;
       legal = ordered.legal;
     })
+
+pub returns-in-Chart : goal.returns-in-Chart
+returns-in-Chart g c =
+    let charted = c.chart.ensures in
+    rw c.in-Chart.is (record {
+      text = charted.text;
+      is = charted.is;
+      written = charted.written;
+      legal = charted.legal;
+    })
