@@ -9,6 +9,7 @@ use Rattle.command_words.specs.declared.request.Asked.{Asked}
 use Rattle.command_words.specs.declared.request.Asked.TheVariants as asks
 use Rattle.command_words.specs.declared.request.Request.{Request}
 use Rattle.command_words.specs.declared.request.Request.TheVariants.{Show, Play, Echo, Serve}
+use Rattle.command_words.specs.declared.request.Request.TheVariants as requests
 use Rattle.command_words.specs.declared.work.Work.{Work}
 use Rattle.journal.specs.Logs.{Log}
 use Rattle.linx_outside.specs.declared.files.OpenFault.{OpenFault}
@@ -24,6 +25,8 @@ use Rattle.linx_commands.specs.declared.outcome.Status.{Status}
 use Rattle.linx_commands.specs.declared.outcome.Status.TheVariants.{Usage, NoMemory}
 use Rattle.linx_commands.specs.declared.serving.InThreads.{InThreads}
 use Rattle.linx_commands.specs.declared.serving.InThreads.TheVariants as threads
+use Rattle.linx_commands.specs.declared.serving.Left.{Left}
+use Rattle.linx_commands.specs.declared.serving.Left.TheVariants as lefts
 use Rattle.linx_commands.specs.declared.words.Unread.{Unread}
 use Rattle.linx_commands.specs.declared.words.Unread.TheVariants as why
 use Rattle.linx_commands.specs.declared.words.Words.{Words}
@@ -69,10 +72,14 @@ abbrev pub asked_in : InThreads → Asked
 asked_in threads.Run = asks.Run
 asked_in (threads.Gen n) = asks.Gen n
 
--- a run in threads is asked for, and is left as it is: nothing was read or written
-pub record IsLeft (request : Option Request) (threads : InThreads) (unread silent : Type 0)
-    : Type 0 where
-  pub is : request ≡ Some (Play (asked_in threads))
+-- what is asked for by what is left
+abbrev pub request_in : Left → Request
+request_in (lefts.Play threads) = Play (asked_in threads)
+request_in (lefts.Work work) = requests.Work work
+
+-- a run in threads or a work is asked for, and is left as it is: nothing was read or written
+pub record IsLeft (request : Option Request) (left : Left) (unread silent : Type 0) : Type 0 where
+  pub is : request ≡ Some (request_in left)
   pub untouched : unread
   pub quiet : silent
 

@@ -1,4 +1,5 @@
-//! What takes threads: a run with a thread for each actor and each link. What doesn't is `alone`'s.
+//! What takes threads: a run with a thread for each actor and each link, and a work with what is
+//! read. What doesn't is `alone`'s.
 
 ghost use Rattle.std.specs.Prelude.{◌≡◌, IfOk, IfSome, IfNone, map, option_map, string_bytes};
 ghost use Rattle.journal_text.specs.Text.{text_of};
@@ -18,7 +19,8 @@ ghost use Rattle.linx_commands.specs.Sessions.{IsGatewayOf, IsSession};
 ghost use Rattle.linx_commands.specs.Works.{IfWork, IsWorkedFrom, most_of};
 
 use crate::outcome::{Outcome, Status};
-use crate::serving::{InThreads, alone, conclude, read_script, unstarted};
+use crate::serving::{InThreads, Left, alone, conclude, read_script, unstarted};
+use crate::works::work_from;
 use command_words::{Asked, file_named};
 use linx_base::NoMemory;
 use linx_outside::{Files, Gate, Sink, Source};
@@ -244,7 +246,17 @@ pub fn run<R: Threads + Wait + Sync, G: Gate + Sync, F: Files, S: Source, K: Sin
 {
     match alone(alloc, words, files, script, out) {
         Ok(outcome) => outcome,
-        Err(threads) => play(
+        Err(Left::Work(work)) => work_from(
+            rt,
+            alloc,
+            work,
+            words,
+            file_named(words),
+            files,
+            script,
+            out,
+        ),
+        Err(Left::Play(threads)) => play(
             rt,
             alloc,
             threads,

@@ -5,7 +5,7 @@
 //! writes a page of the help; or it does a work with what it reads: it finds the first of many such
 //! orders whose run shows what is sought, or writes the order of a printed run; or it serves one peer
 //! over the program's streams by an echo, or clients by a gateway.
-//! `alone` does what takes no thread, and `run` all of it. `program` is the whole program, over a
+//! `alone` does what takes no thread and is no work, and `run` all of it. `program` is the whole program, over a
 //! command line, files and streams of any kind. It alone gives a `Told`, so a `main` with this
 //! result can't end in any other way.
 #![tactic(auto)]
@@ -27,7 +27,7 @@ mod works;
 pub use in_threads::run;
 pub use laws::journals_are_decided;
 pub use outcome::{Outcome, Status, TextFault};
-pub use serving::{InThreads, alone, in_order};
+pub use serving::{InThreads, Left, alone, in_order};
 pub use told::Told;
 pub use whole_program::program;
 pub use words::{Unread, Words};

@@ -18,6 +18,7 @@ use linx_outside::Sink;
 use seed_runs::RunStop;
 use seed_search::Found;
 use std::alloc::Global;
+use std::thread::Threads;
 
 /// What is written of a seed that was found goes to the sink.
 fn write_found<K: Sink>(alloc: Global, found: &Found, out: &mut K) -> Status
@@ -64,8 +65,9 @@ fn halt(alloc: Global, stop: RunStop) -> Outcome
     }
 }
 
-/// Searches the runs of the script that bytes spell.
-pub(crate) fn find<K: Sink>(
+/// Searches the runs of the script that bytes spell, as many at a time as there are processors.
+pub(crate) fn find<R: Threads + Sync, K: Sink>(
+    rt: &R,
     alloc: Global,
     search: Search,
     wanted: &[String],
@@ -83,7 +85,7 @@ pub(crate) fn find<K: Sink>(
         sought,
         ..
     } = search;
-    match seed_search::find(alloc, bytes, first, more, sought, wanted) {
+    match seed_threads::find(rt, alloc, bytes, first, more, sought, wanted) {
         Ok(found) => conclude(alloc, found, out),
         Err(stop) => halt(alloc, stop),
     }

@@ -1,5 +1,5 @@
-//! What is done without threads: a page of the help, a run in an order, a work with what is read, and
-//! an echo or a gateway over the streams. It returns where each read and each write does.
+//! What is done without threads: a page of the help, a run in an order, and an echo or a gateway
+//! over the streams. It returns where each read and each write does.
 
 ghost use Rattle.std.specs.Prelude.{◌≡◌, true, Ok, IfOk, IfErr, OnOk, IfSome, IfNone, map};
 ghost use Rattle.std.specs.Prelude.{option_map, string_bytes};
@@ -9,9 +9,7 @@ ghost use Rattle.order_lines.specs.Fronts.{OrderedParts, ordered_of};
 ghost use Rattle.command_words.specs.Pages.{page_of};
 ghost use Rattle.command_words.specs.Requests.{file_of, request_of};
 ghost use Rattle.linx_commands.specs.Statuses.{IsUsageOrRefused};
-ghost use Rattle.linx_commands.specs.Opened.{IsReadOfFile};
-ghost use Rattle.linx_commands.specs.Streams.{Reads, ReadsUpTo, Writes, TakesAtMost, read_most};
-ghost use Rattle.linx_commands.specs.Works.{IfWork, IsWorkedFrom, most_of};
+ghost use Rattle.linx_commands.specs.Streams.{Reads, Writes, TakesAtMost, read_most};
 ghost use Rattle.linx_commands.specs.Runs.{Completes, IsCaused, IsEmptyLog, IsLegalSomehow};
 ghost use Rattle.linx_commands.specs.Runs.{IsOutcomeOf, IsRan, IsRanBy, parts_of, unordered};
 ghost use Rattle.linx_commands.specs.Commands.{ReadsUnder, written_under};
@@ -24,8 +22,7 @@ ghost use Rattle.linx_commands.specs.Sessions.{IsGatewayOf, IsSession};
 
 use crate::outcome::{Outcome, Status};
 use crate::session::{echo, gateway};
-use crate::works::work_from;
-use command_words::{Asked, Misuse, Page, Request, TurnOrder, file_named};
+use command_words::{Asked, Misuse, Page, Request, TurnOrder, Work, file_named};
 use fabric::StopCause;
 use journal::Journal;
 use linx_base::{NameList, Names, NoMemory};
@@ -339,17 +336,27 @@ pub enum InThreads {
     Gen(u32),
 }
 
-/// Does what the words of the command line ask for, but a run in threads, which is told and left. It
-/// takes neither `Threads` nor `Wait`, and so returns where each read and each write does.
+/// What is left to be done with threads.
+#[derive(Clone, Copy, Debug, PartialEq, Eq, Hash)]
+pub enum Left {
+    /// A run.
+    Play(InThreads),
+    /// A work with what is read, which may take many threads.
+    Work(Work),
+}
+
+/// Does what the words of the command line ask for, but a run in threads or a work, which is told
+/// and left. It takes neither `Threads` nor `Wait`, and so returns where each read and each write
+/// does.
 pub fn alone<F: Files, S: Source, K: Sink>(
     alloc: Global,
     words: &[String],
     files: &F,
     script: &mut S,
     out: &mut K,
-) -> Result<Outcome, InThreads>
-    // Of a run in threads.
-    ensures left { IfErr result (λ threads. IsLeft (request_of words.now) threads
+) -> Result<Outcome, Left>
+    // Of a run in threads, or a work.
+    ensures left { IfErr result (λ left. IsLeft (request_of words.now) left
         (script.new ≡ script.old) (out.new ≡ out.old)) }
 
     // Of words that ask for nothing.
@@ -378,20 +385,6 @@ pub fn alone<F: Files, S: Source, K: Sink>(
         outcome.status written)
         outcome.status outcome.journal.log)) }
 
-    // Of a work with what is read.
-    ensures worked { IfOk result (λ outcome. IfWork (request_of words.now) (λ work.
-        IsWorkedFrom work (map string_bytes words.now) (file_of words.now) (S.left script.old)
-        (script.new ≡ script.old)
-        (ReadsUpTo (most_of work) S.left S.faults S.last_count S.is_faultless script.old script.new
-        outcome.status)
-        (F.told files.now) (F.refuses files.now) (out.new ≡ out.old)
-        (λ name. IsReadOfFile F.File.left (F.told files.now name) (λ opened rest.
-        ReadsUpTo (most_of work) F.File.left F.File.faults F.File.last_count F.File.is_faultless
-        opened rest outcome.status))
-        (λ written. Writes K.held K.faults K.last_count K.can_take out.old out.new
-        outcome.status written)
-        outcome.status outcome.journal.log)) }
-
     // Of an echo over the streams.
     ensures echoed { IfOk result (λ outcome. IfEcho (request_of words.now)
         (IsSession S.left S.faults S.last_count S.is_faultless K.held K.faults K.last_count
@@ -408,15 +401,7 @@ pub fn alone<F: Files, S: Source, K: Sink>(
         Some(Request::Show(page)) => Ok(show(alloc, page, out)),
         Some(Request::Echo) => Ok(echo(alloc, script, out)),
         Some(Request::Serve(clients)) => Ok(gateway(alloc, clients, script, out)),
-        Some(Request::Work(work)) => Ok(work_from(
-            alloc,
-            work,
-            words,
-            file_named(words),
-            files,
-            script,
-            out,
-        )),
+        Some(Request::Work(work)) => Err(Left::Work(work)),
         Some(Request::Play(Asked::InOrder(order))) => Ok(in_order_from(
             alloc,
             order,
@@ -425,7 +410,7 @@ pub fn alone<F: Files, S: Source, K: Sink>(
             script,
             out,
         )),
-        Some(Request::Play(Asked::Run)) => Err(InThreads::Run),
-        Some(Request::Play(Asked::Gen(number))) => Err(InThreads::Gen(number)),
+        Some(Request::Play(Asked::Run)) => Err(Left::Play(InThreads::Run)),
+        Some(Request::Play(Asked::Gen(number))) => Err(Left::Play(InThreads::Gen(number))),
     }
 }

@@ -1,4 +1,4 @@
-//! What is done with what is read: a source is read to its end, on one thread, and a text is written.
+//! What is done with what is read: a source is read to its end, and a text is written.
 
 ghost use Rattle.std.specs.Prelude.{◌≡◌, ◌≤◌, ◌<◌, true, IfErr, IfOk, IfSome, OnOk, length, map};
 ghost use Rattle.std.specs.Prelude.{option_map, string_bytes, take};
@@ -17,6 +17,7 @@ use crate::serving::{READ_MOST, status_of_read, unstarted};
 use command_words::Work;
 use linx_outside::{Files, Sink, Source, read_up_to};
 use std::alloc::Global;
+use std::thread::Threads;
 
 /// One byte more than a printed text may have.
 const TEXT_MOST: usize = 268_435_457;
@@ -62,14 +63,15 @@ fn look<K: Sink>(alloc: Global, work: Work, words: &[String], bytes: &[u8], out:
         result.status result.journal.log }
 {
     match work {
-        Work::Find(search) => find(alloc, search, search.wanted(words), bytes, out),
+        Work::Find(search) => find(rt, alloc, search, search.wanted(words), bytes, out),
         Work::Order => order(alloc, bytes, out),
         Work::Chart => chart(alloc, bytes, out),
     }
 }
 
 /// Does what is asked for with what a source holds.
-fn work_on<S: Source, K: Sink>(
+fn work_on<R: Threads + Sync, S: Source, K: Sink>(
+    rt: &R,
     alloc: Global,
     work: Work,
     words: &[String],
@@ -85,13 +87,14 @@ fn work_on<S: Source, K: Sink>(
     ensures legal { IsLegalSomehow result.journal.log.steps }
 {
     match read_bytes(alloc, source, most_of(work)) {
-        Ok(bytes) => look(alloc, work, words, bytes.as_slice(), out),
+        Ok(bytes) => look(rt, alloc, work, words, bytes.as_slice(), out),
         Err(status) => unstarted(alloc, status),
     }
 }
 
 /// Does what is asked for with what a file holds.
-fn work_of_file<F: Files, K: Sink>(
+fn work_of_file<R: Threads + Sync, F: Files, K: Sink>(
+    rt: &R,
     alloc: Global,
     work: Work,
     words: &[String],
@@ -110,13 +113,14 @@ fn work_of_file<F: Files, K: Sink>(
     ensures legal { IsLegalSomehow result.journal.log.steps }
 {
     match files.open(name) {
-        Ok(mut file) => work_on(alloc, work, words, &mut file, out),
+        Ok(mut file) => work_on(rt, alloc, work, words, &mut file, out),
         Err(why) => unstarted(alloc, Status::Unopened(why)),
     }
 }
 
 /// Does what is asked for with what a file holds, or standard input where none is named.
-pub(crate) fn work_from<F: Files, S: Source, K: Sink>(
+pub(crate) fn work_from<R: Threads + Sync, F: Files, S: Source, K: Sink>(
+    rt: &R,
     alloc: Global,
     work: Work,
     words: &[String],
@@ -139,7 +143,7 @@ pub(crate) fn work_from<F: Files, S: Source, K: Sink>(
     ensures legal { IsLegalSomehow result.journal.log.steps }
 {
     match file {
-        Some(name) => work_of_file(alloc, work, words, files, name, out),
-        None => work_on(alloc, work, words, source, out),
+        Some(name) => work_of_file(rt, alloc, work, words, files, name, out),
+        None => work_on(rt, alloc, work, words, source, out),
     }
 }
