@@ -10,6 +10,7 @@ use Rattle.chart_drawing.specs.declared.drawing.Chart.{Chart}
 use Rattle.chart_drawing.specs.declared.setting.Setting.{Setting}
 use Rattle.chart_drawing.specs.declared.spot.Spot.{Spot}
 use Rattle.chart_drawing.specs.Arrows.{signal_arrows, comings}
+use Rattle.chart_drawing.specs.Bands.{bands_of}
 use Rattle.chart_drawing.specs.Bars.{bars_of}
 use Rattle.chart_drawing.specs.Beside.{loops_with, loop_shape}
 use Rattle.chart_drawing.specs.Ground.{node_shapes, link_shapes, stripe_shapes, actor_shapes}
@@ -28,7 +29,8 @@ ground_of setting spots =
 -- WHAT LIES BEHIND THE ROWS: the ground, what lasts, and the ties
 abbrev pub back_of : Setting → Chart → List Spot → List Shape
 back_of setting chart spots =
-    ground_of setting spots ++ bars_of (length spots) spots
+    ground_of setting spots ++ bands_of setting (length spots) spots
+    ++ bars_of (length spots) spots
     ++ map loop_shape (loops_with spots [] chart.ties)
     ++ signal_arrows spots chart.ties ++ comings spots spots
 

@@ -7,6 +7,7 @@ ghost use Rattle.chart_drawing.specs.Drawing.{RowEachMark};
 ghost use Rattle.chart_drawing.specs.Layout.{IsNarrow, is_narrow};
 
 use crate::arrows::{put_comings, put_signals};
+use crate::bands::put_bands;
 use crate::bars::put_bars;
 use crate::beside::put_loops;
 use crate::captions::{put_labels, put_lines};
@@ -101,6 +102,7 @@ fn back_of(
 {
     let mut back = Vec::new(alloc);
     put_ground(&mut back, setting, rows, spots)?;
+    put_bands(&mut back, setting, rows, spots)?;
     put_bars(&mut back, rows, spots)?;
     put_loops(&mut back, spots, chart.ties.as_slice())?;
     put_signals(&mut back, spots, chart.ties.as_slice())?;
