@@ -1,5 +1,5 @@
 -- The chart of a printed text.
-use Rattle.std.specs.Prelude.{◌≡◌, ◌<◌, ℕ, false, List, length, Result, Ok, Err}
+use Rattle.std.specs.Prelude.{◌≡◌, ℕ, nat_le, List, length, Result, Ok, Err, if◌then◌else◌}
 use Rattle.linx_base.specs.declared.name.Names.{Names}
 use Rattle.journal.specs.declared.effect.Step.{Step}
 use Rattle.journal_read.specs.Reading.{read_in}
@@ -11,40 +11,24 @@ use Rattle.journal_charts.specs.Setting.{setting_of}
 use Rattle.text_charts.specs.declared.fault.ChartFault.{ChartFault}
 use Rattle.text_charts.specs.declared.fault.ChartFault.TheVariants.{Bad, TooLong, TooWide, NoMemory}
 
--- the chart of what was read: of the steps that a text spells, or its first bad line
-abbrev pub chart_read : List ℕ → Result (List Step) ℕ → Result (List ℕ) ℕ
-chart_read text (Ok S) = Ok (svg_of (names_in text) text S)
-chart_read text (Err line) = Err line
+-- the chart of these steps as SVG, beside the rows of this text; they have none where they have more
+-- than 6,000 lines, or where there are more than 64 nodes, links or actors
+abbrev pub chart_of : Names → List ℕ → List Step → Result (List ℕ) ChartFault
+chart_of names text S =
+    if nat_le (length (marks_of S)) 6000
+    then (if is_narrow (setting_of names S) then Ok (svg_of names text S) else Err TooWide)
+    else Err TooLong
 
--- THE CHART OF A PRINTED TEXT, by the names that it spells, or its first bad line
-abbrev pub chart_in : List ℕ → Result (List ℕ) ℕ
-chart_in text = chart_read text (read_in (names_in text) text)
+-- the chart of what was read: of the steps that a text spells, or else its first bad line
+abbrev pub chart_read : Names → List ℕ → Result (List Step) ℕ → Result (List ℕ) ChartFault
+chart_read names text (Ok S) = chart_of names text S
+chart_read names text (Err line) = Err (Bad line)
 
--- why these steps have no chart: they have more than 6,000 lines, or there are more than 64 nodes,
--- links or actors, or memory ran out
-abbrev pub IsRefused : ChartFault → Names → List Step → Type 0
-IsRefused (Bad line) names S = Empty {0}
-IsRefused TooLong names S = 6000 < length (marks_of S)
-IsRefused TooWide names S = is_narrow (setting_of names S) ≡ false
-IsRefused NoMemory names S = Unit {0}
+-- THE CHART OF A PRINTED TEXT, by the names that it spells, or why it has none
+abbrev pub chart_in : List ℕ → Result (List ℕ) ChartFault
+chart_in text = chart_read (names_in text) text (read_in (names_in text) text)
 
--- a fault of reading is the first bad line, unless memory ran out
-abbrev pub IsUnread : ChartFault → Result (List Step) ℕ → Type 0
-IsUnread (Bad line) reading = reading ≡ Err line
-IsUnread TooLong reading = Empty {0}
-IsUnread TooWide reading = Empty {0}
-IsUnread NoMemory reading = Unit {0}
-
--- what was read has this fault: the steps have no chart, or it is the first bad line
-abbrev pub HasFault : ChartFault → Names → Result (List Step) ℕ → Type 0
-HasFault fault names (Ok S) = IsRefused fault names S
-HasFault fault names (Err line) = IsUnread fault (Err line)
-
--- A FAULT IS THAT OF THE TEXT, unless memory ran out
-abbrev pub IsFault : ChartFault → List ℕ → Type 0
-IsFault fault text = HasFault fault (names_in text) (read_in (names_in text) text)
-
--- what was read has more than 6,000 lines
-abbrev pub IsLong : Result (List Step) ℕ → Type 0
-IsLong (Ok S) = 6000 < length (marks_of S)
-IsLong (Err line) = Empty {0}
+-- this is why there is no chart, unless memory ran out
+abbrev pub IsFault : ChartFault → Result (List ℕ) ChartFault → Type 0
+IsFault NoMemory chart = Unit {0}
+IsFault fault chart = chart ≡ Err fault

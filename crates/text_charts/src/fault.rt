@@ -1,7 +1,7 @@
 ghost use Rattle.std.specs.Prelude.{◌≡◌};
-ghost use Rattle.text_charts.specs.declared.fault.ChartFault.TheVariants as faults;
+ghost use Rattle.text_charts.specs.Failures.{fault_of};
 
-use linx_base::NoMemory;
+use journal_read::Unread;
 use std::error::Error;
 use std::fmt;
 
@@ -10,7 +10,7 @@ use std::fmt;
 pub enum ChartFault {
     /// The first line, from 1, that no printed text has there.
     Bad { line: u64 },
-    /// The journal has more than 6,000 lines.
+    /// The journal has more than 6,000 lines of steps and effects.
     TooLong,
     /// There are more than 64 nodes, links or actors.
     TooWide,
@@ -26,7 +26,9 @@ impl fmt::Display for ChartFault {
     fn fmt<W: fmt::Write>(&self, f: &mut fmt::Formatter<W>) -> fmt::Result {
         match self {
             ChartFault::Bad { line } => write!(f, "line {line}: not the line of a journal's text"),
-            ChartFault::TooLong => f.write_str("more than 6000 rows"),
+            ChartFault::TooLong => {
+                f.write_str("more than 6000 rows: map, fold and steps draw fewer")
+            }
             ChartFault::TooWide => f.write_str("more than 64 nodes, links or actors"),
             ChartFault::NoMemory => f.write_str("out of memory"),
         }
@@ -35,10 +37,13 @@ impl fmt::Display for ChartFault {
 
 impl Error for ChartFault {}
 
-impl From<NoMemory> for ChartFault {
-    ghost from_gives = { λ _ e. e ≡ faults.NoMemory };
+impl From<Unread> for ChartFault {
+    ghost from_gives = { λ unread fault. fault ≡ fault_of unread };
 
-    fn from(_refusal: NoMemory) -> ChartFault {
-        ChartFault::NoMemory
+    fn from(unread: Unread) -> ChartFault {
+        match unread {
+            Unread::Bad { line } => ChartFault::Bad { line },
+            Unread::NoMemory => ChartFault::NoMemory,
+        }
     }
 }
