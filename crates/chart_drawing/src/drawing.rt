@@ -1,10 +1,10 @@
 //! The drawing of a chart.
-ghost use Rattle.std.specs.Prelude.{◌≡◌, ◌≤◌, ◌<◌, ◌++◌, [], false, length, decimal, codes, OnOk};
+ghost use Rattle.std.specs.Prelude.{◌≡◌, ◌≢◌, ◌≤◌, ◌++◌, [], length, decimal, codes, OnOk};
 ghost use Rattle.std.specs.Prelude.{IfOk, IfErr};
 ghost use Rattle.chart_drawing.specs.declared.drawing.DrawError.TheVariants.{NoMemory as OutOfMemory};
-ghost use Rattle.chart_drawing.specs.Drawing.{ground_of, back_of, front_of, picture_of, drawing_of};
+ghost use Rattle.chart_drawing.specs.Drawing.{ground_of, back_of, front_of, picture_of, drawn};
 ghost use Rattle.chart_drawing.specs.Drawing.{RowEachMark};
-ghost use Rattle.chart_drawing.specs.Layout.{IsNarrow, is_narrow};
+ghost use Rattle.chart_drawing.specs.Layout.{IsNarrow};
 
 use crate::arrows::{put_comings, put_signals};
 use crate::bands::put_bands;
@@ -160,15 +160,10 @@ fn picture_of(
 /// The drawing of a chart in a setting: a row for each mark, in order, and nothing else in the rows.
 #[tactic(auto, unfolding(crate::specs::Drawing::drawing_of))]
 pub fn draw(alloc: Global, setting: &Setting, chart: &Chart) -> Result<Picture, DrawError>
-    ensures drawn { IfOk result (λ picture. picture ≡ drawing_of setting.now chart.now) }
+    ensures drawn { IfOk result (λ picture. drawn setting.now chart.now ≡ Ok picture) }
+    ensures refused { IfErr result (λ e. e ≢ OutOfMemory
+        → drawn setting.now chart.now ≡ Err e) }
     ensures one_row_each { IfOk result (λ picture. RowEachMark picture.rows chart.now.marks) }
-    ensures too_long { 6000 < length chart.now.marks → result ≡ Err DrawError.TooLong }
-    ensures too_long_only { IfErr result (λ e. e ≡ DrawError.TooLong
-        → 6000 < length chart.now.marks) }
-    ensures too_wide { length chart.now.marks ≤ 6000 → is_narrow setting.now ≡ false
-        → result ≡ Err DrawError.TooWide }
-    ensures too_wide_only { IfErr result (λ e. e ≡ DrawError.TooWide
-        → is_narrow setting.now ≡ false) }
 {
     if chart.marks.len() > ROWS_MOST {
         return Err(DrawError::TooLong);

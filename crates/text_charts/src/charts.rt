@@ -1,9 +1,7 @@
 //! The chart of a text.
-ghost use Rattle.std.specs.Prelude.{◌≡◌, IfOk, IfErr, Ok as Right};
-ghost use Rattle.journal_read.specs.Reading.{read_in};
-ghost use Rattle.journal_read.specs.Results.{Reads};
-ghost use Rattle.text_names.specs.Numbering.{names_in};
-ghost use Rattle.text_charts.specs.Charts.{chart_of, chart_in, IsFault};
+ghost use Rattle.std.specs.Prelude.{◌≡◌, IfOk, IfErr};
+ghost use Rattle.journal_charts.specs.Charts.{svg_of};
+ghost use Rattle.text_charts.specs.Charts.{chart_if, chart_in, IsFault};
 
 use crate::fault::ChartFault;
 use chart_drawing::DrawError;
@@ -19,9 +17,9 @@ fn chart_of_read(
     journal: &Journal,
 ) -> Result<Vec<u8>, ChartFault>
     ensures drawn { IfOk result (λ svg.
-        chart_of journal.now.log.names text.now journal.now.log.steps ≡ Right svg.items) }
+        chart_if (svg_of journal.now.log.names text.now journal.now.log.steps) ≡ Ok svg.items) }
     ensures fault { IfErr result (λ fault. IsFault fault
-        (chart_of journal.now.log.names text.now journal.now.log.steps)) }
+        (chart_if (svg_of journal.now.log.names text.now journal.now.log.steps))) }
 {
     match chart_of_journal(alloc, text, journal) {
         Ok(svg) => Ok(svg),
@@ -33,7 +31,7 @@ fn chart_of_read(
 
 /// The chart of a printed text, as the bytes of an SVG picture; or why it has none.
 pub fn chart_of(alloc: Global, text: &[u8]) -> Result<Vec<u8>, ChartFault>
-    ensures drawn { IfOk result (λ svg. chart_in text.now ≡ Right svg.items) }
+    ensures drawn { IfOk result (λ svg. chart_in text.now ≡ Ok svg.items) }
     ensures fault { IfErr result (λ fault. IsFault fault (chart_in text.now)) }
 {
     match read_alone(alloc, text) {
