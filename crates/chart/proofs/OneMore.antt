@@ -152,15 +152,14 @@ over_step_more P Q s before after grown so_far now =
     now ∙ ap (λ (o : OverLinks). with_step s P o) so_far ∙ sym (ap over_links grown)
 
 -- the signal that arrived is the one that an arrival over a link is of
-pub arrives : {S : List Step} {line : ItemAt} {to i : Inc} {link : LinkNo} {session : Session}
-    {node : NodeNo} {by : Option By} {pairing : Option Pairing} {place : Option ℕ} {o after : OverLinks}
-    → place ≡ place_in o.flights by pairing to → by ≡ opener S i
+pub arrives : (S : List Step) (line : ItemAt) (to i : Inc) (link : LinkNo) (session : Session)
+    (node : NodeNo) (by : Option By) (pairing : Option Pairing) (place : Option ℕ)
+    (o after : OverLinks) → place ≡ place_in o.flights by pairing to → by ≡ opener S i
     → pairing ≡ pairing_in o.pairings node link session → node.0 ≡ node_of to
     → after ≡ landed line place o → after ≡ arrived S line to (There link session i) o
-arrives {S} {line} {to} {i} {link} {session} {node} {by} {pairing} {place} {o} {after}
-    at opened paired on now =
+arrives S line to i link session node by pairing place o after spot opened paired on now =
     now
     ∙ ap (λ (p : Option ℕ). landed line p o)
-    (at ∙ ap (λ (b : Option By). place_in o.flights b pairing to) opened
+    (spot ∙ ap (λ (b : Option By). place_in o.flights b pairing to) opened
     ∙ ap (λ (q : Option Pairing). place_in o.flights (opener S i) q to)
     (paired ∙ ap (λ (n : ℕ). pairing_in o.pairings (record { 0 = n }) link session) on))

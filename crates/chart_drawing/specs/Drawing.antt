@@ -58,7 +58,7 @@ drawing_of setting chart = picture_of setting chart (spots_of setting chart.mark
 
 -- the drawing of a chart, or why there is none: it has more than 6,000 marks, or the setting has
 -- more than 64 nodes, links or actors
-abbrev pub drawn : Setting → Chart → Result Picture DrawError
+unfoldable pub drawn : Setting → Chart → Result Picture DrawError
 drawn setting chart =
     if nat_le (length chart.marks) 6000
     then (if is_narrow setting then Ok (drawing_of setting chart) else Err TooWide)

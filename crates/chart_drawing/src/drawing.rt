@@ -2,8 +2,8 @@
 ghost use Rattle.std.specs.Prelude.{◌≡◌, ◌≢◌, ◌≤◌, ◌++◌, [], length, decimal, codes, OnOk};
 ghost use Rattle.std.specs.Prelude.{IfOk, IfErr};
 ghost use Rattle.chart_drawing.specs.declared.drawing.DrawError.TheVariants.{NoMemory as OutOfMemory};
-ghost use Rattle.chart_drawing.specs.Drawing.{ground_of, back_of, front_of, picture_of, drawn};
-ghost use Rattle.chart_drawing.specs.Drawing.{RowEachMark};
+ghost use Rattle.chart_drawing.specs.Drawing.{ground_of, back_of, front_of, picture_of};
+ghost use Rattle.chart_drawing.specs.Drawing.{drawing_of, drawn, RowEachMark};
 ghost use Rattle.chart_drawing.specs.Layout.{IsNarrow};
 
 use crate::arrows::{put_comings, put_signals};
@@ -157,8 +157,21 @@ fn picture_of(
     })
 }
 
-/// The drawing of a chart in a setting: a row for each mark, in order, and nothing else in the rows.
+/// The drawing of a chart that is short enough in a setting that is narrow enough.
 #[tactic(auto, unfolding(crate::specs::Drawing::drawing_of))]
+fn drawing_of(alloc: Global, setting: &Setting, chart: &Chart) -> Result<Picture, NoMemory>
+    requires narrow { IsNarrow setting.now }
+    requires few { length chart.now.marks ≤ 6000 }
+    ensures drawn { IfOk result (λ picture. picture ≡ drawing_of setting.now chart.now) }
+    ensures one_row_each { IfOk result (λ picture. RowEachMark picture.rows chart.now.marks) }
+{
+    let spots = spots_of(alloc, setting, chart.marks.as_slice())?;
+    let picture = picture_of(alloc, setting, chart, &spots)?;
+    Ok(picture)
+}
+
+/// The drawing of a chart in a setting: a row for each mark, in order, and nothing else in the rows.
+#[tactic(auto, unfolding(crate::specs::Drawing::drawn))]
 pub fn draw(alloc: Global, setting: &Setting, chart: &Chart) -> Result<Picture, DrawError>
     ensures drawn { IfOk result (λ picture. drawn setting.now chart.now ≡ Ok picture) }
     ensures refused { IfErr result (λ e. e ≢ OutOfMemory
@@ -171,6 +184,5 @@ pub fn draw(alloc: Global, setting: &Setting, chart: &Chart) -> Result<Picture, 
     if !is_narrow(setting) {
         return Err(DrawError::TooWide);
     }
-    let spots = spots_of(alloc, setting, chart.marks.as_slice())?;
-    Ok(picture_of(alloc, setting, chart, &spots)?)
+    Ok(drawing_of(alloc, setting, chart)?)
 }

@@ -16,10 +16,6 @@ use Rattle.journal_charts.specs.Setting.{setting_of}
 abbrev pub rows_chart : List ℕ → List Step → Chart
 rows_chart text S = record { marks = marks_of S; ties = all_ties S; lines = rows_in text }
 
--- the drawing of these steps, on what these names and the steps tell, or why there is none
-abbrev pub drawn_of : Names → List ℕ → List Step → Result Picture DrawError
-drawn_of names text S = drawn (setting_of names S) (rows_chart text S)
-
 -- the text of a picture, where there is one
 abbrev pub text_if : Result Picture DrawError → Result (List ℕ) DrawError
 text_if (Ok picture) = Ok (picture_text picture)
@@ -28,4 +24,4 @@ text_if (Err e) = Err e
 -- THE CHART OF A JOURNAL of these names and steps, beside the rows of this text, as SVG, or why
 -- there is none
 abbrev pub svg_of : Names → List ℕ → List Step → Result (List ℕ) DrawError
-svg_of names text S = text_if (drawn_of names text S)
+svg_of names text S = text_if (drawn (setting_of names S) (rows_chart text S))

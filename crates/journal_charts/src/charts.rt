@@ -1,7 +1,7 @@
 //! The chart of a journal.
 ghost use Rattle.std.specs.Prelude.{◌≡◌, ◌≢◌, IfOk, IfErr};
 ghost use Rattle.chart_drawing.specs.declared.drawing.DrawError.TheVariants.{NoMemory as OutOfMemory};
-ghost use Rattle.journal_charts.specs.Charts.{rows_chart, drawn_of, svg_of};
+ghost use Rattle.journal_charts.specs.Charts.{rows_chart, svg_of};
 
 use crate::rows::rows_in;
 use crate::setting::setting_of;
@@ -10,7 +10,6 @@ use chart_drawing::{Chart, DrawError, draw};
 use journal::Journal;
 use linx_base::{NoMemory, Sequence};
 use std::alloc::Global;
-use svg_text::Picture;
 
 /// The marks and ties of a journal, with the words of a text's rows.
 fn rows_chart(alloc: Global, text: &[u8], journal: &Journal) -> Result<Chart, NoMemory>
@@ -24,18 +23,6 @@ fn rows_chart(alloc: Global, text: &[u8], journal: &Journal) -> Result<Chart, No
     })
 }
 
-/// The picture of a journal.
-fn picture_of(alloc: Global, text: &[u8], journal: &Journal) -> Result<Picture, DrawError>
-    ensures drawn { IfOk result (λ picture.
-        drawn_of journal.now.log.names text.now journal.now.log.steps ≡ Ok picture) }
-    ensures refused { IfErr result (λ e. e ≢ OutOfMemory
-        → drawn_of journal.now.log.names text.now journal.now.log.steps ≡ Err e) }
-{
-    let setting = setting_of(alloc, journal)?;
-    let chart = rows_chart(alloc, text, journal)?;
-    draw(alloc, &setting, &chart)
-}
-
 /// The chart of a journal with this printed text, as the bytes of an SVG picture.
 pub fn chart_of(alloc: Global, text: &[u8], journal: &Journal) -> Result<Vec<u8>, DrawError>
     ensures drawn { IfOk result (λ svg.
@@ -43,6 +30,8 @@ pub fn chart_of(alloc: Global, text: &[u8], journal: &Journal) -> Result<Vec<u8>
     ensures refused { IfErr result (λ e. e ≢ OutOfMemory
         → svg_of journal.now.log.names text.now journal.now.log.steps ≡ Err e) }
 {
-    let picture = picture_of(alloc, text, journal)?;
+    let setting = setting_of(alloc, journal)?;
+    let chart = rows_chart(alloc, text, journal)?;
+    let picture = draw(alloc, &setting, &chart)?;
     Ok(picture.text(alloc)?)
 }
