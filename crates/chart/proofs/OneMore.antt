@@ -1,11 +1,25 @@
 -- One more effect at the end, or one more step.
 use Rattle.std.proofs.Common.{◌≡◌, ℕ, suc, ◌+◌, List, [], ◌∷◌, ◌++◌, length, refl, sym, ap, ◌∙◌}
+use Rattle.std.proofs.Common.{Option}
 use Rattle.std.proofs.Common.{Bool, true, false, cond, append_assoc, append-nil, arith, ◌||◌}
 use Rattle.journal.specs.declared.head.Head.{Head}
 use Rattle.journal.specs.declared.effect.Effect.{Effect}
 use Rattle.journal.specs.declared.effect.Step.{Step}
 use Rattle.chart.specs.declared.mark.Mark.{Mark}
 use Rattle.chart.specs.declared.tie.Tie.{Tie}
+use Rattle.chart.specs.Carried.{OverLinks, with_head, with_effect, with_effects, with_step, over_links}
+use Rattle.chart.specs.Carried.{landed, place_in, pairing_in, arrived}
+use Rattle.linx_base.specs.Numbers.{node_of}
+use Rattle.linx_base.specs.declared.identity.Inc.{Inc}
+use Rattle.linx_base.specs.declared.identity.ItemAt.{ItemAt}
+use Rattle.linx_base.specs.declared.identity.LinkNo.{LinkNo}
+use Rattle.linx_base.specs.declared.identity.NodeNo.{NodeNo}
+use Rattle.linx_base.specs.declared.identity.Peer.TheVariants.{There}
+use Rattle.linx_base.specs.declared.identity.Session.{Session}
+use Rattle.journal.specs.declared.by.By.{By}
+use Rattle.chart.specs.declared.flight.Pairing.{Pairing}
+use Rattle.chart.specs.Columns.{opener}
+use Rattle.chart.specs.Marks.{line_at}
 use Rattle.chart.specs.Marks.{head_mark, effect_mark, effect_marks, step_marks, marks_of}
 use Rattle.chart.specs.Ties.{head_ties, effect_tie, effect_ties, ties_of}
 
@@ -108,3 +122,44 @@ later_or_earlier true true x y = refl
 later_or_earlier true false x y = refl
 later_or_earlier false true x y = refl
 later_or_earlier false false x y = refl
+
+-- what effects did over links so far, and the next one
+pub one_effect_more : (S : List Step) (position place : ℕ) (e : Effect) (rest left : List Effect)
+    (before after all : OverLinks) → after ≡ with_effect S (line_at position place) e before
+    → left ≡ e ∷ rest → with_effects S position place left before ≡ all
+    → with_effects S position (place + 1) rest after ≡ all
+one_effect_more S position place e rest left before after all grown split kept =
+    ap (λ (o : OverLinks). with_effects S position (place + 1) rest o) grown
+    ∙ sym (ap (λ (l : List Effect). with_effects S position place l before) split) ∙ kept
+
+-- what a step did over links: its head, and then its effects
+pub over_step : (s : Step) (P : List Step) (position : ℕ) (es : List Effect)
+    (old between after : OverLinks) → position ≡ length P + 1
+    → between ≡ with_head (line_at position 0) s.by s.head old → es ≡ s.effects
+    → after ≡ with_effects (s ∷ P) position 1 es between → after ≡ with_step s P old
+over_step s P position es old between after at head effects now =
+    let same : position ≡ suc (length P) = omega arith in
+    now ∙ ap (λ (o : OverLinks). with_effects (s ∷ P) position 1 es o) head
+    ∙ ap (λ (l : List Effect). with_effects (s ∷ P) position 1 l
+    (with_head (line_at position 0) s.by s.head old)) effects
+    ∙ ap (λ (k : ℕ). with_effects (s ∷ P) k 1 s.effects (with_head (line_at k 0) s.by s.head old))
+    same
+
+-- what one step more did over links
+pub over_step_more : (P Q : List Step) (s : Step) (before after : OverLinks) → Q ≡ s ∷ P
+    → before ≡ over_links P → after ≡ with_step s P before → after ≡ over_links Q
+over_step_more P Q s before after grown so_far now =
+    now ∙ ap (λ (o : OverLinks). with_step s P o) so_far ∙ sym (ap over_links grown)
+
+-- the signal that arrived is the one that an arrival over a link is of
+pub arrives : (S : List Step) (line : ItemAt) (to i : Inc) (link : LinkNo) (session : Session)
+    (node : NodeNo) (by : Option By) (pairing : Option Pairing) (place : Option ℕ)
+    (o after : OverLinks) → place ≡ place_in o.flights by pairing to → by ≡ opener S i
+    → pairing ≡ pairing_in o.pairings node link session → node.0 ≡ node_of to
+    → after ≡ landed line place o → after ≡ arrived S line to (There link session i) o
+arrives S line to i link session node by pairing place o after spot opened paired on now =
+    now
+    ∙ ap (λ (p : Option ℕ). landed line p o)
+    (spot ∙ ap (λ (b : Option By). place_in o.flights b pairing to) opened
+    ∙ ap (λ (q : Option Pairing). place_in o.flights (opener S i) q to)
+    (paired ∙ ap (λ (n : ℕ). pairing_in o.pairings (record { 0 = n }) link session) on))

@@ -52,7 +52,7 @@ effect_ties position place head [] = []
 effect_ties position place head (e ∷ es) =
     effect_tie position place head e ++ effect_ties position (place + 1) head es
 
--- THE TIES OF A JOURNAL, in the order of the lines where they end
+-- THE TIES ON NODES, in the order of the lines where they end
 abbrev pub ties_of : List Step → List Tie
 ties_of [] = []
 ties_of (s ∷ P) =

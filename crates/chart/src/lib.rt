@@ -3,7 +3,9 @@
 //! together. How they are drawn stands above: here nothing has a size or a colour.
 #![tactic(auto)]
 
+mod carried;
 mod column;
+mod flight;
 mod mark;
 mod marks;
 mod openers;

@@ -2,7 +2,7 @@
 
 use crate::column::Column;
 use journal::{Detached, SentTo};
-use linx_base::{ItemAt, Verdict};
+use linx_base::{ItemAt, LinkNo, NodeNo, Verdict};
 
 /// What a mark is of: the head of a step, or an effect.
 #[derive(Clone, Copy, Debug, PartialEq, Eq)]
@@ -16,10 +16,10 @@ pub enum MarkKind {
     Hunt,
     Attach,
     Detach(Detached),
-    Cut,
-    Mend,
+    Cut(LinkNo),
+    Mend(LinkNo),
     Settle,
-    Restart,
+    Restart(NodeNo),
     /// A packet that met this verdict.
     Packet(Verdict),
     Tick,

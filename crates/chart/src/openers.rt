@@ -90,6 +90,13 @@ impl Openers {
         note_openings(&mut self.by, step.by, step.effects.as_slice())
     }
 
+    /// Who opened an incarnation.
+    pub(crate) fn opener(&self, inc: Inc) -> Option<By>
+        ensures { (P : List StepOf) → Opens P self.now → result ≡ opener P inc }
+    {
+        self.by.get(&inc.0).copied()
+    }
+
     /// The column of an endpoint.
     fn column(&self, inc: Inc) -> Column
         ensures { (P : List StepOf) → Opens P self.now → result ≡ column_if (opener P inc) }

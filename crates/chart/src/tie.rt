@@ -7,6 +7,10 @@ use linx_base::ItemAt;
 pub enum TieKind {
     /// A signal that was sent on a node, and its arrival.
     Signal,
+    /// A signal that was sent over a link, and its arrival.
+    Carried,
+    /// A signal that was sent over a link and never arrived: both are the line of its send.
+    Lost,
     /// An item that came to a queue, and the step that took it.
     Taken,
     /// A hunt, and what it found.

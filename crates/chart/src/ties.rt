@@ -2,7 +2,12 @@
 ghost use Rattle.std.specs.Prelude.{◌≡◌, ◌++◌, [], ◌∷◌, OnOk, IfOk};
 ghost use Rattle.chart.specs.Ties.{tie, detach_ties, head_ties, signal_ties, effect_tie};
 ghost use Rattle.chart.specs.Ties.{effect_ties, ties_of};
+ghost use Rattle.chart.specs.Carried.{over_links};
+ghost use Rattle.chart.specs.AllTies.{all_ties};
+ghost use Rattle.chart.specs.Opened.{Opens};
 
+use crate::carried::Carried;
+use crate::openers::Openers;
 use crate::tie::{Tie, TieKind};
 use journal::{Detached, Effect, Head, Journal, Step};
 use linx_base::{ItemAt, NoMemory, Sequence};
@@ -125,10 +130,27 @@ fn put_steps(alloc: Global, journal: &Journal) -> Result<Vec<Tie>, NoMemory>
     Ok(ties)
 }
 
-/// The ties of a journal, in the order of the lines where they end.
-pub fn all_ties(alloc: Global, journal: &Journal) -> Result<Sequence<Tie>, NoMemory>
-    ensures { IfOk result (λ ties. ties ≡ ties_of journal.now.log.steps) }
+/// What the steps did over links.
+fn over_links(alloc: Global, journal: &Journal) -> Result<Carried, NoMemory>
+    ensures { IfOk result (λ carried. carried ≡ over_links journal.now.log.steps) }
 {
-    let ties = put_steps(alloc, journal)?;
+    let mut carried = Carried::new(alloc);
+    let mut openers = Openers::new(alloc);
+    for done in 0..journal.len() {
+        let step = journal.step_after(done);
+        openers.note(step)?;
+        carried.step(&openers, done + 1, step)?;
+    }
+    Ok(carried)
+}
+
+/// The ties of a journal: those on nodes in the order of the lines where they end, and behind them
+/// those over links.
+pub fn all_ties(alloc: Global, journal: &Journal) -> Result<Sequence<Tie>, NoMemory>
+    ensures { IfOk result (λ ties. ties ≡ all_ties journal.now.log.steps) }
+{
+    let mut ties = put_steps(alloc, journal)?;
+    let carried = over_links(alloc, journal)?;
+    carried.add_ties(&mut ties)?;
     Ok(Sequence::of(ties))
 }

@@ -15,7 +15,9 @@ use Rattle.chart.specs.declared.tie.Tie.{Tie}
 use Rattle.chart.specs.declared.tie.TieKind.{TieKind}
 use Rattle.chart.specs.declared.tie.TieKind.TheVariants as ties
 use Rattle.chart_drawing.specs.declared.spot.Spot.{Spot}
+use Rattle.chart_drawing.specs.LifeMarks.{leaving, cross}
 use Rattle.chart_drawing.specs.Spots.{in_cell, in_lane, beside, move, line, spot_at, same_column}
+use Rattle.chart_drawing.specs.Spots.{lane_line, point}
 
 -- the head of an arrow at a spot, with its tip and its base so far to the right
 abbrev pub head_at : Class → Spot → ℕ → ℕ → Shape
@@ -47,15 +49,43 @@ arrow_from class head from to =
     if same_column from.mark.column to.mark.column then hook class head from to
     else arrow class head (in_cell from 32 9) to
 
--- a signal from its send to its arrival
-abbrev pub signal_if : TieKind → Option Spot → Option Spot → List Shape
-signal_if ties.Signal (Some from) (Some to) = arrow_from Signal SignalHead from to
-signal_if kind from to = []
+-- the spot of a mark's step
+abbrev pub step_spot : List Spot → Spot → Option Spot
+step_spot spots spot = spot_at spots (record { step = spot.mark.line.step; place = 0 })
+
+-- a mark is of a packet
+abbrev pub is_packet : MarkKind → Bool
+is_packet (kinds.Packet verdict) = true
+is_packet _ = false
+
+-- a signal that a packet carries: level to the near rail, and on to the far one, where the packet
+-- came
+abbrev pub carried : Spot → Spot → Shape
+carried from packet =
+    Path Signal (move from 32 9
+    ∷ strokes.Line (point (in_lane packet 24 9).x (in_cell from 32 9).y)
+    ∷ lane_line packet 132 9 ∷ [])
+
+abbrev pub carried_by : Spot → Option Spot → List Shape
+carried_by from None = []
+carried_by from (Some step) =
+    if is_packet step.mark.kind then carried from step ∷ [] else []
+
+-- a signal that never arrived: a line with a cross
+abbrev pub lost : Spot → List Shape
+lost from = leaving from ∷ cross from 48 ∷ []
+
+-- a signal from its send to its arrival, on a node or over a link, or only from its send
+abbrev pub signal_if : List Spot → TieKind → Option Spot → Option Spot → List Shape
+signal_if spots ties.Signal (Some from) (Some to) = arrow_from Signal SignalHead from to
+signal_if spots ties.Carried (Some from) (Some to) = carried_by from (step_spot spots to)
+signal_if spots ties.Lost (Some from) (Some to) = lost from
+signal_if spots kind from to = []
 
 -- THE ARROWS OF SIGNALS
 abbrev pub signal_arrows : List Spot → List Tie → List Shape
 signal_arrows spots ties =
-    flat_map (λ (t : Tie). signal_if t.kind (spot_at spots t.from) (spot_at spots t.to)) ties
+    flat_map (λ (t : Tie). signal_if spots t.kind (spot_at spots t.from) (spot_at spots t.to)) ties
 
 -- an arrow to a mark from its step: from the rail where a packet came or a clock ticked, or from the
 -- line of its maker, but for a send, whose arrow is that of a tie
@@ -68,10 +98,6 @@ coming_from class head kind step to = arrow_from class head step to
 abbrev pub coming_if : Class → Class → Option Spot → Spot → List Shape
 coming_if class head None to = []
 coming_if class head (Some step) to = coming_from class head step.mark.kind step to
-
--- the spot of a mark's step
-abbrev pub step_spot : List Spot → Spot → Option Spot
-step_spot spots spot = spot_at spots (record { step = spot.mark.line.step; place = 0 })
 
 -- the arrow to what came to a queue
 abbrev pub coming : List Spot → MarkKind → Spot → List Shape

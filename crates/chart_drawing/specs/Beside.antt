@@ -13,7 +13,8 @@ use Rattle.chart.specs.declared.mark.MarkKind.{MarkKind}
 use Rattle.chart.specs.declared.mark.MarkKind.TheVariants as kinds
 use Rattle.chart.specs.declared.tie.Tie.{Tie}
 use Rattle.chart.specs.declared.tie.TieKind.{TieKind}
-use Rattle.chart.specs.declared.tie.TieKind.TheVariants.{Signal, Taken, Hunt, Attach, Detach}
+use Rattle.chart.specs.declared.tie.TieKind.TheVariants.{Signal, Carried, Lost, Taken}
+use Rattle.chart.specs.declared.tie.TieKind.TheVariants.{Hunt, Attach, Detach}
 use Rattle.chart_drawing.specs.declared.beside.Loop.{Loop}
 use Rattle.chart_drawing.specs.declared.spot.Spot.{Spot}
 use Rattle.chart_drawing.specs.Spots.{spot_at, same_column, move, line, beside}
@@ -59,6 +60,8 @@ loop_of kind from to loops = record {
 -- the loop of a tie whose lines have these spots; a signal has none
 abbrev pub loop_if : TieKind → Option Spot → Option Spot → List Loop → List Loop
 loop_if Signal from to loops = []
+loop_if Carried from to loops = []
+loop_if Lost from to loops = []
 loop_if kind (Some from) (Some to) loops = loop_of kind from to loops ∷ []
 loop_if kind from to loops = []
 

@@ -1,19 +1,22 @@
 -- The drawing of a chart.
-use Rattle.std.specs.Prelude.{◌≡◌, ℕ, ◌+◌, ◌*◌, List, [], ◌++◌, length, map, flat_map, codes}
-use Rattle.std.specs.Prelude.{decimal}
+use Rattle.std.specs.Prelude.{◌≡◌, ℕ, ◌+◌, ◌*◌, nat_le, List, [], ◌++◌, length, map, flat_map, codes}
+use Rattle.std.specs.Prelude.{decimal, Result, Ok, Err, if◌then◌else◌}
 use Rattle.linx_base.specs.declared.identity.ItemAt.{ItemAt}
 use Rattle.svg_text.specs.declared.picture.Picture.{Picture}
 use Rattle.svg_text.specs.declared.picture.Row.{Row}
 use Rattle.svg_text.specs.declared.shape.Shape.{Shape}
 use Rattle.chart.specs.declared.mark.Mark.{Mark}
 use Rattle.chart_drawing.specs.declared.drawing.Chart.{Chart}
+use Rattle.chart_drawing.specs.declared.drawing.DrawError.{DrawError}
+use Rattle.chart_drawing.specs.declared.drawing.DrawError.TheVariants.{TooLong, TooWide}
 use Rattle.chart_drawing.specs.declared.setting.Setting.{Setting}
 use Rattle.chart_drawing.specs.declared.spot.Spot.{Spot}
 use Rattle.chart_drawing.specs.Arrows.{signal_arrows, comings}
+use Rattle.chart_drawing.specs.Bands.{bands_of}
 use Rattle.chart_drawing.specs.Bars.{bars_of}
 use Rattle.chart_drawing.specs.Beside.{loops_with, loop_shape}
 use Rattle.chart_drawing.specs.Ground.{node_shapes, link_shapes, stripe_shapes, actor_shapes}
-use Rattle.chart_drawing.specs.Layout.{width_of}
+use Rattle.chart_drawing.specs.Layout.{is_narrow, width_of}
 use Rattle.chart_drawing.specs.Rows.{rows_of, label_shapes, line_shapes}
 use Rattle.chart_drawing.specs.Spots.{row_top, spots_of}
 
@@ -28,7 +31,8 @@ ground_of setting spots =
 -- WHAT LIES BEHIND THE ROWS: the ground, what lasts, and the ties
 abbrev pub back_of : Setting → Chart → List Spot → List Shape
 back_of setting chart spots =
-    ground_of setting spots ++ bars_of (length spots) spots
+    ground_of setting spots ++ bands_of setting (length spots) spots
+    ++ bars_of (length spots) spots
     ++ map loop_shape (loops_with spots [] chart.ties)
     ++ signal_arrows spots chart.ties ++ comings spots spots
 
@@ -51,6 +55,14 @@ picture_of setting chart spots = record {
 -- THE DRAWING OF A CHART
 unfoldable pub drawing_of : Setting → Chart → Picture
 drawing_of setting chart = picture_of setting chart (spots_of setting chart.marks)
+
+-- the drawing of a chart, or why there is none: it has more than 6,000 marks, or the setting has
+-- more than 64 nodes, links or actors
+unfoldable pub drawn : Setting → Chart → Result Picture DrawError
+drawn setting chart =
+    if nat_le (length chart.marks) 6000
+    then (if is_narrow setting then Ok (drawing_of setting chart) else Err TooWide)
+    else Err TooLong
 
 -- the line that a row is of
 abbrev pub row_line : Row → ItemAt

@@ -1,5 +1,5 @@
 -- What is said beside a mark: some words of its line, by what the mark is of.
-use Rattle.std.specs.Prelude.{ℕ, zero, suc, ◌+◌, ◌==◌, if◌then◌else◌, List, [], ◌∷◌, ◌++◌}
+use Rattle.std.specs.Prelude.{ℕ, zero, suc, ◌+◌, ◌-◌, ◌==◌, if◌then◌else◌, List, [], ◌∷◌, ◌++◌}
 use Rattle.std.specs.Prelude.{length, take, drop, position, Option, Some, None, codes}
 use Rattle.std.specs.Str.{bytes_eq}
 use Rattle.journal.specs.declared.head.SentTo.{SentTo}
@@ -38,11 +38,24 @@ behind_words (suc k) line = behind_word (behind_words k line)
 abbrev pub word_at : ℕ → List ℕ → List ℕ
 word_at k line = first_word (behind_words k line)
 
+-- where the first colon is
+abbrev pub colon_in : List ℕ → Option ℕ
+colon_in word = position (λ (b : ℕ). b == 58) word
+
+abbrev pub brief_if : Option ℕ → List ℕ → List ℕ
+brief_if None word = word
+brief_if (Some k) word =
+    if length word - k == 65 then codes "[" ++ take k word ++ codes "B]" else word
+
+-- a word; of data that a digest of 64 digits stands for, behind a colon, only how many bytes there are
+abbrev pub brief : List ℕ → List ℕ
+brief word = brief_if (colon_in word) word
+
 -- a word behind others; a dash, which says that there are no data, is left out
 abbrev pub with_word : List ℕ → List ℕ → List ℕ
 with_word so_far word =
     if bytes_eq word (codes "-") then so_far
-    else (if length so_far == 0 then word else so_far ++ codes " " ++ word)
+    else (if length so_far == 0 then brief word else so_far ++ codes " " ++ brief word)
 
 -- these words of a line behind others, with spaces between
 abbrev pub with_words : List ℕ → List ℕ → List ℕ → List ℕ

@@ -37,7 +37,7 @@ leaving spot = Path Signal (move spot 32 9 ∷ line spot 48 9 ∷ [])
 -- a send: a dot; what goes over a link leaves, and what is sent to the dead ends at once
 abbrev pub send_shapes : Spot → SentTo → List Shape
 send_shapes spot Queued = dot spot ∷ []
-send_shapes spot Link = leaving spot ∷ dot spot ∷ []
+send_shapes spot Link = dot spot ∷ []
 send_shapes spot Dead = leaving spot ∷ dot spot ∷ cross spot 48 ∷ []
 
 -- a take: a triangle from the queue to the line

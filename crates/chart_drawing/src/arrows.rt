@@ -3,9 +3,10 @@ ghost use Rattle.std.specs.Prelude.{◌≡◌, ◌++◌, [], ◌∷◌, flat_map
 ghost use Rattle.std.specs.Option.{option_copied};
 ghost use Rattle.chart_drawing.specs.Arrows.{head_at, way_to, arrow, hook, arrow_from, signal_if};
 ghost use Rattle.chart_drawing.specs.Arrows.{signal_arrows, coming_from, coming_if, step_spot};
-ghost use Rattle.chart_drawing.specs.Arrows.{coming, comings};
+ghost use Rattle.chart_drawing.specs.Arrows.{coming, comings, is_packet, carried, carried_by, lost};
 
-use crate::cells::{beside, in_cell, in_lane, line_to, move_to, put_path};
+use crate::cells::{beside, in_cell, in_lane, lane_line, line_to, move_to, put_path};
+use crate::life_marks::{put_cross, put_leaving};
 use crate::spot::{Spot, same_column, spot_at};
 use chart::{MarkKind, Tie, TieKind};
 use linx_base::{ItemAt, NoMemory};
@@ -112,18 +113,66 @@ const NOTICE: Look = Look {
     head: Class::NoticeHead,
 };
 
+fn is_packet(kind: MarkKind) -> bool
+    ensures { result ≡ is_packet kind }
+{
+    match kind {
+        MarkKind::Packet(_) => true,
+        _ => false,
+    }
+}
+
+/// A signal that a packet carries: level to the near rail, and on to the far one, where the packet
+/// came.
+fn put_carried(out: &mut Vec<Shape>, from: &Spot, packet: &Spot) -> Result<(), NoMemory>
+    ensures { OnOk result (out.new.items ≡ out.old.items ++ carried from.now packet.now ∷ []) }
+{
+    let rail = Point {
+        x: in_lane(packet, 24, 9).x,
+        y: in_cell(from, 32, 9).y,
+    };
+    let strokes = [
+        move_to(from, 32, 9),
+        Stroke::Line(rail),
+        lane_line(packet, 132, 9),
+    ];
+    put_path(out, Class::Signal, &strokes)
+}
+
+/// A signal over a link that came with a step.
+fn put_carried_by(out: &mut Vec<Shape>, from: &Spot, step: Option<&Spot>) -> Result<(), NoMemory>
+    ensures { OnOk result (out.new.items
+        ≡ out.old.items ++ carried_by from.now (option_copied step.entry)) }
+{
+    match step {
+        Some(step) if is_packet(step.mark.kind) => put_carried(out, from, step),
+        _ => Ok(()),
+    }
+}
+
+/// A signal that never arrived.
+fn put_lost(out: &mut Vec<Shape>, from: &Spot) -> Result<(), NoMemory>
+    ensures { OnOk result (out.new.items ≡ out.old.items ++ lost from.now) }
+{
+    put_leaving(out, from)?;
+    put_cross(out, from, 48)
+}
+
 /// A signal from its send to its arrival.
 fn put_signal(
     out: &mut Vec<Shape>,
+    spots: &[Spot],
     kind: TieKind,
     from: Option<&Spot>,
     to: Option<&Spot>,
 ) -> Result<(), NoMemory>
     ensures { OnOk result (out.new.items ≡ out.old.items
-        ++ signal_if kind (option_copied from.entry) (option_copied to.entry)) }
+        ++ signal_if spots.now kind (option_copied from.entry) (option_copied to.entry)) }
 {
     match (kind, from, to) {
         (TieKind::Signal, Some(from), Some(to)) => put_arrow_from(out, SIGNAL, from, to),
+        (TieKind::Carried, Some(from), Some(to)) => put_carried_by(out, from, step_spot(spots, to)),
+        (TieKind::Lost, Some(from), Some(_)) => put_lost(out, from),
         _ => Ok(()),
     }
 }
@@ -139,6 +188,7 @@ pub(crate) fn put_signals(
     for tie in ties {
         put_signal(
             out,
+            spots,
             tie.kind,
             spot_at(spots, tie.from),
             spot_at(spots, tie.to),

@@ -55,7 +55,7 @@ fn down_in(column: Column, spots: &[Spot]) -> Option<&Spot>
 }
 
 /// How far it is down to a spot, or to the foot below so many rows.
-fn reach(rows: u16, from: &Spot, to: Option<&Spot>) -> u32
+pub(crate) fn reach(rows: u16, from: &Spot, to: Option<&Spot>) -> u32
     ensures { result ≡ reach rows from.now (option_copied to.entry) }
 {
     let end = match to {

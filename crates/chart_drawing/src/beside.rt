@@ -101,7 +101,7 @@ fn put_loop(
         ++ loop_if kind (option_copied from.entry) (option_copied to.entry) loops.old.items) }
 {
     match (kind, from, to) {
-        (TieKind::Signal, _, _) => Ok(()),
+        (TieKind::Signal | TieKind::Carried | TieKind::Lost, _, _) => Ok(()),
         (_, Some(from), Some(to)) => {
             let next = loop_of(kind, from, to, loops.as_slice());
             loops.push(next)?;

@@ -92,8 +92,8 @@ fn label_class(kind: MarkKind) -> Class
     match kind {
         MarkKind::Send(answer) => send_class(answer),
         MarkKind::TakeNone
-        | MarkKind::Cut
-        | MarkKind::Restart
+        | MarkKind::Cut(_)
+        | MarkKind::Restart(_)
         | MarkKind::Refused
         | MarkKind::Down => Class::WrongLabel,
         MarkKind::Opened | MarkKind::Up => Class::Strong,

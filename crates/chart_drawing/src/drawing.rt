@@ -1,12 +1,13 @@
 //! The drawing of a chart.
-ghost use Rattle.std.specs.Prelude.{◌≡◌, ◌≤◌, ◌<◌, ◌++◌, [], false, length, decimal, codes, OnOk};
+ghost use Rattle.std.specs.Prelude.{◌≡◌, ◌≢◌, ◌≤◌, ◌++◌, [], length, decimal, codes, OnOk};
 ghost use Rattle.std.specs.Prelude.{IfOk, IfErr};
 ghost use Rattle.chart_drawing.specs.declared.drawing.DrawError.TheVariants.{NoMemory as OutOfMemory};
-ghost use Rattle.chart_drawing.specs.Drawing.{ground_of, back_of, front_of, picture_of, drawing_of};
-ghost use Rattle.chart_drawing.specs.Drawing.{RowEachMark};
-ghost use Rattle.chart_drawing.specs.Layout.{IsNarrow, is_narrow};
+ghost use Rattle.chart_drawing.specs.Drawing.{ground_of, back_of, front_of, picture_of};
+ghost use Rattle.chart_drawing.specs.Drawing.{drawing_of, drawn, RowEachMark};
+ghost use Rattle.chart_drawing.specs.Layout.{IsNarrow};
 
 use crate::arrows::{put_comings, put_signals};
+use crate::bands::put_bands;
 use crate::bars::put_bars;
 use crate::beside::put_loops;
 use crate::captions::{put_labels, put_lines};
@@ -101,6 +102,7 @@ fn back_of(
 {
     let mut back = Vec::new(alloc);
     put_ground(&mut back, setting, rows, spots)?;
+    put_bands(&mut back, setting, rows, spots)?;
     put_bars(&mut back, rows, spots)?;
     put_loops(&mut back, spots, chart.ties.as_slice())?;
     put_signals(&mut back, spots, chart.ties.as_slice())?;
@@ -155,18 +157,26 @@ fn picture_of(
     })
 }
 
-/// The drawing of a chart in a setting: a row for each mark, in order, and nothing else in the rows.
+/// The drawing of a chart that is short enough in a setting that is narrow enough.
 #[tactic(auto, unfolding(crate::specs::Drawing::drawing_of))]
-pub fn draw(alloc: Global, setting: &Setting, chart: &Chart) -> Result<Picture, DrawError>
+fn drawing_of(alloc: Global, setting: &Setting, chart: &Chart) -> Result<Picture, NoMemory>
+    requires narrow { IsNarrow setting.now }
+    requires few { length chart.now.marks ≤ 6000 }
     ensures drawn { IfOk result (λ picture. picture ≡ drawing_of setting.now chart.now) }
     ensures one_row_each { IfOk result (λ picture. RowEachMark picture.rows chart.now.marks) }
-    ensures too_long { 6000 < length chart.now.marks → result ≡ Err DrawError.TooLong }
-    ensures too_long_only { IfErr result (λ e. e ≡ DrawError.TooLong
-        → 6000 < length chart.now.marks) }
-    ensures too_wide { length chart.now.marks ≤ 6000 → is_narrow setting.now ≡ false
-        → result ≡ Err DrawError.TooWide }
-    ensures too_wide_only { IfErr result (λ e. e ≡ DrawError.TooWide
-        → is_narrow setting.now ≡ false) }
+{
+    let spots = spots_of(alloc, setting, chart.marks.as_slice())?;
+    let picture = picture_of(alloc, setting, chart, &spots)?;
+    Ok(picture)
+}
+
+/// The drawing of a chart in a setting: a row for each mark, in order, and nothing else in the rows.
+#[tactic(auto, unfolding(crate::specs::Drawing::drawn))]
+pub fn draw(alloc: Global, setting: &Setting, chart: &Chart) -> Result<Picture, DrawError>
+    ensures drawn { IfOk result (λ picture. drawn setting.now chart.now ≡ Ok picture) }
+    ensures refused { IfErr result (λ e. e ≢ OutOfMemory
+        → drawn setting.now chart.now ≡ Err e) }
+    ensures one_row_each { IfOk result (λ picture. RowEachMark picture.rows chart.now.marks) }
 {
     if chart.marks.len() > ROWS_MOST {
         return Err(DrawError::TooLong);
@@ -174,6 +184,5 @@ pub fn draw(alloc: Global, setting: &Setting, chart: &Chart) -> Result<Picture, 
     if !is_narrow(setting) {
         return Err(DrawError::TooWide);
     }
-    let spots = spots_of(alloc, setting, chart.marks.as_slice())?;
-    Ok(picture_of(alloc, setting, chart, &spots)?)
+    Ok(drawing_of(alloc, setting, chart)?)
 }

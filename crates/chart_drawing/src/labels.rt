@@ -1,6 +1,7 @@
 //! What is said beside a mark: some words of its line.
 ghost use Rattle.std.specs.Prelude.{◌≡◌, ◌++◌, [], OnOk, IfOk};
 ghost use Rattle.chart_drawing.specs.Labels.{space_in, first_word, behind_word, behind_words};
+ghost use Rattle.chart_drawing.specs.Labels.{colon_in, brief};
 ghost use Rattle.chart_drawing.specs.Labels.{word_at, with_word, with_words, send_words};
 ghost use Rattle.chart_drawing.specs.Labels.{packet_words, shown_words, label_of};
 
@@ -9,6 +10,9 @@ use chart::MarkKind;
 use journal::SentTo;
 use linx_base::{NoMemory, Verdict};
 use std::alloc::Global;
+
+/// How long a digest is, with the colon before it.
+const DIGEST: usize = 65;
 
 /// Where the first space is.
 fn space_in(bytes: &[u8]) -> Option<usize>
@@ -49,6 +53,27 @@ fn behind_words(count: usize, line: &[u8]) -> &[u8]
     rest
 }
 
+/// Where the first colon is.
+fn colon_in(word: &[u8]) -> Option<usize>
+    ensures { result ≡ colon_in word.now }
+{
+    word.iter().position(|byte| *byte == b':')
+}
+
+/// Adds a word; of data that a digest stands for only how many bytes there are.
+fn put_brief(out: &mut Vec<u8>, word: &[u8]) -> Result<(), NoMemory>
+    ensures { OnOk result (out.new.items ≡ out.old.items ++ brief word.now) }
+{
+    match colon_in(word) {
+        Some(k) if word.len() - k == DIGEST => {
+            put_bytes(out, b"[")?;
+            put_bytes(out, &word[..k])?;
+            put_bytes(out, b"B]")
+        }
+        _ => put_bytes(out, word),
+    }
+}
+
 /// Adds a word behind others; a dash is left out.
 fn put_word(out: &mut Vec<u8>, word: &[u8]) -> Result<(), NoMemory>
     ensures { OnOk result (out.new.items ≡ with_word out.old.items word.now) }
@@ -59,7 +84,7 @@ fn put_word(out: &mut Vec<u8>, word: &[u8]) -> Result<(), NoMemory>
     if !out.is_empty() {
         put_bytes(out, b" ")?;
     }
-    put_bytes(out, word)
+    put_brief(out, word)
 }
 
 /// Adds these words of a line behind others.

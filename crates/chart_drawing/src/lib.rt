@@ -6,6 +6,7 @@
 #![tactic(auto)]
 
 mod arrows;
+mod bands;
 mod bars;
 mod beside;
 mod captions;

@@ -64,7 +64,7 @@ fn put_dot(out: &mut Vec<Shape>, spot: &Spot) -> Result<(), NoMemory>
 }
 
 /// A signal that leaves.
-fn put_leaving(out: &mut Vec<Shape>, spot: &Spot) -> Result<(), NoMemory>
+pub(crate) fn put_leaving(out: &mut Vec<Shape>, spot: &Spot) -> Result<(), NoMemory>
     ensures { OnOk result (out.new.items ≡ out.old.items ++ leaving spot.now ∷ []) }
 {
     let strokes = [move_to(spot, 32, 9), line_to(spot, 48, 9)];
@@ -76,11 +76,7 @@ pub(crate) fn put_send(out: &mut Vec<Shape>, spot: &Spot, answer: SentTo) -> Res
     ensures { OnOk result (out.new.items ≡ out.old.items ++ send_shapes spot.now answer) }
 {
     match answer {
-        SentTo::Queued => put_dot(out, spot),
-        SentTo::Link => {
-            put_leaving(out, spot)?;
-            put_dot(out, spot)
-        }
+        SentTo::Queued | SentTo::Link => put_dot(out, spot),
         SentTo::Dead => {
             put_leaving(out, spot)?;
             put_dot(out, spot)?;

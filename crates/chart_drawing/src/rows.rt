@@ -35,7 +35,7 @@ fn put_mark(out: &mut Vec<Shape>, spot: &Spot, kind: MarkKind) -> Result<(), NoM
         MarkKind::Hunt => put_diamond(out, spot),
         MarkKind::Attach => put_square(out, spot),
         MarkKind::Detach(_) => put_struck(out, spot),
-        MarkKind::Cut | MarkKind::Mend | MarkKind::Settle | MarkKind::Restart => {
+        MarkKind::Cut(_) | MarkKind::Mend(_) | MarkKind::Settle | MarkKind::Restart(_) => {
             put_flat(out, spot)
         }
         MarkKind::Packet(verdict) => put_packet(out, spot, verdict),
