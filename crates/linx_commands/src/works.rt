@@ -56,7 +56,14 @@ fn read_bytes<S: Source>(alloc: Global, source: &mut S, most: usize) -> Result<V
 }
 
 /// Does what is asked for with these bytes.
-fn look<K: Sink>(alloc: Global, work: Work, words: &[String], bytes: &[u8], out: &mut K) -> Outcome
+fn look<R: Threads + Sync, K: Sink>(
+    rt: &R,
+    alloc: Global,
+    work: Work,
+    words: &[String],
+    bytes: &[u8],
+    out: &mut K,
+) -> Outcome
     ensures { Ends (IsEndOf work (map string_bytes words.now) bytes.now)
         (λ written. Writes K.held K.faults K.last_count K.can_take out.old out.new
         result.status written)
