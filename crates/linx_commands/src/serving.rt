@@ -62,7 +62,7 @@ pub(crate) fn status_of_read(stop: ReadStop) -> Status
     }
 }
 
-fn status_of_script(error: ScriptError) -> Status
+pub(crate) fn status_of_script(error: ScriptError) -> Status
     ensures { result ≡ script_status error }
 {
     match error {
