@@ -97,6 +97,7 @@ few_called (Some w) argument n is = few_with (is_help_flag argument) w argument 
 none_alone : (word : Option Word) (n : ℕ)
     → option_and_then (λ w. asked_alone w) word ≡ Some (Serve n) → ⊥
 none_alone None n is = cc
+none_alone (Some Run) n is = cc
 none_alone _ n is = cc
 
 none_with_file : (word : Option Word) (argument file : List ℕ) (n : ℕ)

@@ -56,6 +56,10 @@ module _ (l src dst : ℕ) where
       → fields_at (layout_of chain) (chain_bytes l src dst chain ++ rest) ≡ Some chain
   unfolding fields_at number_at chain_bytes main_header conn_header ack_header nack_header
       udata_header frag_header
+  fields_again (Conn kinds.Connect) rest fits = refl
+  fields_again (Conn kinds.ConnectAck) rest fits = refl
+  fields_again (Conn kinds.Ack) rest fits = refl
+  fields_again (Conn kinds.Reset) rest fits = refl
   fields_again (Ack next) rest fits = rw (big_number-reads_back 4 next rest fits) refl
   fields_again (Nack next count) rest fits =
       rw (
@@ -78,7 +82,6 @@ module _ (l src dst : ℕ) where
         big_number-reads_back 4 seq rest fits.1,
         more_again more,
       ) refl
-  fields_again _ rest fits = refl
 
   pub chain_again : (chain : Chain) (rest : List ℕ) → FitsChain chain
       → chain_at (chain_bytes l src dst chain ++ rest) ≡ Some chain
