@@ -6,6 +6,7 @@ use Rattle.journal.specs.declared.effect.Effect.{Effect}
 use Rattle.journal.specs.declared.effect.Effect.TheVariants.{Opened}
 use Rattle.journal.specs.Logs.{Log}
 use Rattle.journal.specs.History.{last_opened, opened_in, effects_of}
+use Rattle.journal_text.specs.Values.{Digest}
 use Rattle.journal_text.specs.Blocks.{log_text, logs_text}
 use Rattle.journal_text.specs.Collected.{opened_log}
 
@@ -17,15 +18,15 @@ last_opened_append before (Opened i ∷ es) ys = last_opened_append (Some i) es 
 last_opened_append before (_ ∷ es) ys = last_opened_append before es ys
 
 -- the logs of opened incarnations, effect by effect
-logs_by_effects : (log : Log) (es : List Effect)
-    → flat_map (opened_log log) es ≡ flat_map (log_text log) (filter_map opened_in es)
-logs_by_effects log [] = refl
-logs_by_effects log (Opened i ∷ es) =
-    ap (λ (rest : List ℕ). log_text log i ++ rest) (logs_by_effects log es)
-logs_by_effects log (_ ∷ es) = logs_by_effects log es
+logs_by_effects : (digest : Digest) (log : Log) (es : List Effect)
+    → flat_map (opened_log digest log) es ≡ flat_map (log_text digest log) (filter_map opened_in es)
+logs_by_effects digest log [] = refl
+logs_by_effects digest log (Opened i ∷ es) =
+    ap (λ (rest : List ℕ). log_text digest log i ++ rest) (logs_by_effects digest log es)
+logs_by_effects digest log (_ ∷ es) = logs_by_effects digest log es
 
 -- the logs of all incarnations
-pub logs_text-effects : (log : Log)
-    → flat_map (opened_log log) (effects_of log.steps) ≡ logs_text log
+pub logs_text-effects : (digest : Digest) (log : Log)
+    → flat_map (opened_log digest log) (effects_of log.steps) ≡ logs_text digest log
 unfolding logs_text
-logs_text-effects log = logs_by_effects log (effects_of log.steps)
+logs_text-effects digest log = logs_by_effects digest log (effects_of log.steps)

@@ -6,6 +6,7 @@ use Rattle.std.proofs.Common.{append_assoc, ◌^◌, codes, decimal, flat_map, a
 use Rattle.std.specs.List.{list_any}
 use Rattle.std.proofs.lemmas.Fmt.{decimal_injective}
 use Rattle.std.proofs.lemmas.List.{append_cancel_left, length-map}
+use Rattle.sha2.specs.Sha256.{sha256}
 use Rattle.linx_base.specs.declared.identity.Inc.{Inc}
 use Rattle.linx_base.specs.declared.name.Names.{Names}
 use Rattle.linx_base.specs.Numbers.{node_of}
@@ -54,7 +55,7 @@ AreNamed (s ∷ P) = AreNamed P × (IsBounded s.head × AllNamed s.effects)
 -- the first line of a step
 abbrev headline : Names → ℕ → Step → List ℕ
 headline names position s =
-    decimal position ++ codes " " ++ maker_text s.by ++ codes " " ++ head_text names s.head
+    decimal position ++ codes " " ++ maker_text s.by ++ codes " " ++ head_text sha256 names s.head
 
 -- those of all steps, in order
 abbrev headlines : Names → List Step → List (List ℕ)
@@ -66,7 +67,7 @@ headline-begins : (names : Names) (position : ℕ) (s : Step)
 headline-begins names position s =
     let number : List ℕ = decimal position ++ codes " " in
     let made : List ℕ = number ++ maker_text s.by in
-    begins-more (made ++ codes " ") (head_text names s.head)
+    begins-more (made ++ codes " ") (head_text sha256 names s.head)
     (begins-more made (codes " ") (begins-more number (maker_text s.by)
     (begins-more (decimal position) (codes " ") (begins-number position))))
 
@@ -97,12 +98,12 @@ opened-clean (s ∷ P) i named =
 module _ (names : Names) (plain : ArePlain names) where
   -- ---- heads and effects
 
-  head-clean : (head : Head) → IsBounded head → IsClean (head_text names head)
+  head-clean : (head : Head) → IsBounded head → IsClean (head_text sha256 names head)
   unfolding head_text
   head-clean (heads.Open name) bounded = word (codes "open ") refl +> name-clean name bounded
   head-clean heads.Close bounded = word (codes "close") refl
   head-clean (heads.Send q note answer) bounded =
-      word (codes "send ") refl +> peer_signal-clean names plain q note +> space
+      word (codes "send ") refl +> peer_signal-clean names plain sha256 q note +> space
       +> sent-clean answer
   head-clean (heads.Take f at) bounded =
       word (codes "take ") refl +> filter-clean f +> space +> position-clean at
@@ -110,9 +111,9 @@ module _ (names : Names) (plain : ArePlain names) where
   head-clean (heads.Waits f) bounded = word (codes "waits ") refl +> filter-clean f
   head-clean (heads.Hunt path note) bounded =
       word (codes "hunt ") refl +> path-clean names plain path bounded.0 +> space
-      +> signal-clean note
+      +> signal-clean sha256 note
   head-clean (heads.Attach q note) bounded =
-      word (codes "attach ") refl +> peer_signal-clean names plain q note
+      word (codes "attach ") refl +> peer_signal-clean names plain sha256 q note
   head-clean (heads.Detach r answer) bounded =
       word (codes "detach ") refl +> reference-clean r.0 +> space +> detached-clean answer
   head-clean (heads.Cut l) bounded = word (codes "cut ") refl +> link-clean names plain l.0
@@ -127,19 +128,19 @@ module _ (names : Names) (plain : ArePlain names) where
   head-clean (heads.Refused reason) bounded = word (codes "refused ") refl +> refusal-clean reason
   head-clean heads.Ended bounded = word (codes "ended") refl
 
-  effect-clean : (e : Effect) → IsNamed e → IsClean (effect_text names e)
+  effect-clean : (e : Effect) → IsNamed e → IsClean (effect_text sha256 names e)
   unfolding effect_text
   effect-clean (effects.Opened inc) named = word (codes "opened ") refl +> halves-clean inc.0
   effect-clean (effects.Closed inc) named = word (codes "closed ") refl +> halves-clean inc.0
   effect-clean (effects.Arrived inc q note) named =
       word (codes "arrived ") refl +> halves-clean inc.0 +> space
-      +> peer_signal-clean names plain q note
+      +> peer_signal-clean names plain sha256 q note
   effect-clean (effects.Found inc q note hunt) named =
       word (codes "found ") refl +> halves-clean inc.0 +> space
-      +> peer_signal-clean names plain q note +> space +> reference-clean hunt
+      +> peer_signal-clean names plain sha256 q note +> space +> reference-clean hunt
   effect-clean (effects.Notified inc q note r reason) named =
       word (codes "notified ") refl +> halves-clean inc.0 +> space
-      +> peer_signal-clean names plain q note +> space +> reference-clean r.0 +> space
+      +> peer_signal-clean names plain sha256 q note +> space +> reference-clean r.0 +> space
       +> reason-clean reason
   effect-clean (effects.Met node q name) named =
       word (codes "met ") refl +> node-clean names plain node.0 +> space
@@ -154,49 +155,49 @@ module _ (names : Names) (plain : ArePlain names) where
       word (codes "down ") refl +> node-clean names plain node.0 +> space
       +> link-clean names plain l.0 +> space +> halves-clean x.0
 
-  effect-reads : (e : Effect) → IsNamed e → Reads (effect_line names e) []
+  effect-reads : (e : Effect) → IsNamed e → Reads (effect_line sha256 names e) []
   unfolding effect_line
   effect-reads e named = reads-other (word (codes "+ ") refl +> effect-clean e named) refl
 
-  effects-read : (es : List Effect) → AllNamed es → Reads (flat_map (effect_line names) es) []
+  effects-read : (es : List Effect) → AllNamed es → Reads (flat_map (effect_line sha256 names) es) []
   effects-read [] named = reads-none
   effects-read (e ∷ es) named = reads-both (effect-reads e named.0) (effects-read es named.1)
 
   -- ---- logs
 
-  item-clean : (e : Option Effect) → IsClean (item_text names e)
+  item-clean : (e : Option Effect) → IsClean (item_text sha256 names e)
   unfolding item_text
-  item-clean (Some (effects.Arrived i q note)) = peer_signal-clean names plain q note
-  item-clean (Some (effects.Found i q note hunt)) = peer_signal-clean names plain q note
-  item-clean (Some (effects.Notified i q note r reason)) = peer_signal-clean names plain q note
+  item-clean (Some (effects.Arrived i q note)) = peer_signal-clean names plain sha256 q note
+  item-clean (Some (effects.Found i q note hunt)) = peer_signal-clean names plain sha256 q note
+  item-clean (Some (effects.Notified i q note r reason)) = peer_signal-clean names plain sha256 q note
   item-clean _ = word (codes "?") refl
 
-  effect_log-reads : (e : Effect) → Reads (effect_log names e) []
+  effect_log-reads : (e : Effect) → Reads (effect_log sha256 names e) []
   unfolding effect_log
   effect_log-reads (effects.Closed i) = reads-other (word (codes "closed") refl) refl
   effect_log-reads (effects.Arrived i q note) =
-      reads-other (word (codes "arrived ") refl +> peer_signal-clean names plain q note) refl
+      reads-other (word (codes "arrived ") refl +> peer_signal-clean names plain sha256 q note) refl
   effect_log-reads (effects.Found i q note hunt) =
-      reads-other (word (codes "found ") refl +> peer_signal-clean names plain q note) refl
+      reads-other (word (codes "found ") refl +> peer_signal-clean names plain sha256 q note) refl
   effect_log-reads (effects.Notified i q note r reason) =
-      reads-other (word (codes "notified ") refl +> peer_signal-clean names plain q note +> space
+      reads-other (word (codes "notified ") refl +> peer_signal-clean names plain sha256 q note +> space
       +> reason-clean reason) refl
   effect_log-reads _ = reads-none
 
   head_log-reads : (steps : List Step) (head : Head) → IsBounded head
-      → Reads (head_log names steps head) []
+      → Reads (head_log sha256 names steps head) []
   unfolding head_log
   head_log-reads steps (heads.Send q note answer) bounded =
-      reads-other (word (codes "sent ") refl +> peer_signal-clean names plain q note +> space
+      reads-other (word (codes "sent ") refl +> peer_signal-clean names plain sha256 q note +> space
       +> sent-clean answer) refl
   head_log-reads steps (heads.Take f at) bounded =
       reads-other (word (codes "took ") refl +> item-clean (effect_at steps at)) refl
   head_log-reads steps (heads.TakeNone f) bounded = reads-other (word (codes "none") refl) refl
   head_log-reads steps (heads.Hunt path note) bounded =
       reads-other (word (codes "hunt ") refl +> path-clean names plain path bounded.0 +> space
-      +> signal-clean note) refl
+      +> signal-clean sha256 note) refl
   head_log-reads steps (heads.Attach q note) bounded =
-      reads-other (word (codes "attach ") refl +> peer_signal-clean names plain q note) refl
+      reads-other (word (codes "attach ") refl +> peer_signal-clean names plain sha256 q note) refl
   head_log-reads steps (heads.Detach r answer) bounded =
       reads-other (word (codes "detach ") refl +> detached-clean answer) refl
   head_log-reads steps _ bounded = reads-none
@@ -210,16 +211,16 @@ module _ (names : Names) (plain : ArePlain names) where
       go false = reads-none
 
   log_lines-read : (steps P : List Step) (i : Inc) → AreNamed P
-      → Reads (log_lines names steps P i) []
+      → Reads (log_lines sha256 names steps P i) []
   unfolding log_lines
   log_lines-read steps [] i named = reads-none
   log_lines-read steps (s ∷ P) i named =
       reads-both
       (reads-both (log_lines-read steps P i named.0)
-      (if_for-reads i (owner_by P s.by) (head_log names steps s.head)
+      (if_for-reads i (owner_by P s.by) (head_log sha256 names steps s.head)
       (head_log-reads steps s.head named.1.0)))
-      (reads-flat (λ (e : Effect). if_for i (reached_by e) (effect_log names e))
-      (λ e. if_for-reads i (reached_by e) (effect_log names e) (effect_log-reads e)) s.effects)
+      (reads-flat (λ (e : Effect). if_for i (reached_by e) (effect_log sha256 names e))
+      (λ e. if_for-reads i (reached_by e) (effect_log sha256 names e) (effect_log-reads e)) s.effects)
 
   title-reads : (i : Inc) (name : Option (List ℕ)) → IsClean (name_or_mark name)
       → Reads (title_text names i name) []
@@ -231,7 +232,7 @@ module _ (names : Names) (plain : ArePlain names) where
   -- ---- the steps
 
   step-reads : (position : ℕ) (s : Step) → IsBounded s.head → AllNamed s.effects
-      → Reads (step_text names position s) (headline names position s ∷ [])
+      → Reads (step_text sha256 names position s) (headline names position s ∷ [])
   unfolding step_text
   step-reads position s bounded named =
       reads-both
@@ -240,7 +241,7 @@ module _ (names : Names) (plain : ArePlain names) where
       (headline-begins names position s))
       (effects-read s.effects named)
 
-  steps-read : (P : List Step) → AreNamed P → Reads (steps_text names P) (headlines names P)
+  steps-read : (P : List Step) → AreNamed P → Reads (steps_text sha256 names P) (headlines names P)
   unfolding steps_text
   steps-read [] named = reads-none
   steps-read (s ∷ P) named =
@@ -251,36 +252,36 @@ module _ (names : Names) (plain : ArePlain names) where
   count-reads n = reads-other (word (codes "journal ") refl +> number-clean n) refl
 
 log-reads : (log : Log) → ArePlain log.names → AreNamed log.steps → (i : Inc)
-    → Reads (log_text log i) []
+    → Reads (log_text sha256 log i) []
 unfolding log_text
 log-reads log plain named i =
     reads-both
     (title-reads log.names plain i (opening_name log.steps i) (opened-clean log.steps i named))
     (log_lines-read log.names plain log.steps log.steps i named)
 
-logs-read : (log : Log) → ArePlain log.names → AreNamed log.steps → Reads (logs_text log) []
+logs-read : (log : Log) → ArePlain log.names → AreNamed log.steps → Reads (logs_text sha256 log) []
 unfolding logs_text
 logs-read log plain named =
-    reads-flat (log_text log) (log-reads log plain named) (openings log.steps)
+    reads-flat (log_text sha256 log) (log-reads log plain named) (openings log.steps)
 
 -- THE LINES OF A TEXT that begin with a digit are its steps' first lines
 text-reads : (log : Log) → ArePlain log.names → AreNamed log.steps
     → digit_lines (text_of log) ≡ headlines log.names log.steps
 text-reads log plain named = go log.steps refl
   where
-    whole : Reads (logs_text log ++ count_text (length log.steps)
-        ++ steps_text log.names log.steps) (headlines log.names log.steps)
+    whole : Reads (logs_text sha256 log ++ count_text (length log.steps)
+        ++ steps_text sha256 log.names log.steps) (headlines log.names log.steps)
     whole =
         reads-both
         (reads-both (logs-read log plain named) (count-reads log.names plain (length log.steps)))
         (steps-read log.names plain log.steps named)
 
     go : (P : List Step) → log.steps ≡ P
-        → digit_lines (text_if_steps log P) ≡ headlines log.names log.steps
+        → digit_lines (text_if_steps sha256 log P) ≡ headlines log.names log.steps
     go [] is = ap (headlines log.names) (sym is)
     go (s ∷ P) is =
-        ap digit_lines (sym (append-nil (logs_text log ++ count_text (length log.steps)
-        ++ steps_text log.names log.steps)))
+        ap digit_lines (sym (append-nil (logs_text sha256 log ++ count_text (length log.steps)
+        ++ steps_text sha256 log.names log.steps)))
         ∙ whole.is [] ∙ append-nil (headlines log.names log.steps)
 
 -- ---- so it shows the makers
@@ -350,11 +351,11 @@ line-maker : (names : Names) (position : ℕ) (s t : Step) → IsNumbered s.by �
 line-maker names position s t first second is =
     let front : List ℕ = decimal position ++ codes " " in
     let same = append_cancel_left front _ _
-    (sym (parted front (maker_text s.by) (head_text names s.head)) ∙ is
-    ∙ parted front (maker_text t.by) (head_text names t.head)) in
+    (sym (parted front (maker_text s.by) (head_text sha256 names s.head)) ∙ is
+    ∙ parted front (maker_text t.by) (head_text sha256 names t.head)) in
     maker-same s.by t.by first second
-    (word-same (maker_text s.by) (maker_text t.by) (head_text names s.head)
-    (head_text names t.head) (maker-word s.by) (maker-word t.by) same)
+    (word-same (maker_text s.by) (maker_text t.by) (head_text sha256 names s.head)
+    (head_text sha256 names t.head) (maker-word s.by) (maker-word t.by) same)
 
 makers-shown : (names : Names) (P Q : List Step) → AllNumbered P
     → AllNumbered Q → headlines names P ≡ headlines names Q

@@ -7,7 +7,6 @@ use Rattle.std.specs.Fmt.{digits, digits_onto, digit_glyph}
 use Rattle.std.specs.List.{list_all}
 use Rattle.std.proofs.lemmas.Bool.{and_from, and_parts}
 use Rattle.hex.specs.Hex.{encode_with, encode_lower, lower_digits}
-use Rattle.sha2.specs.Sha256.{sha256}
 use Rattle.linx_base.specs.NameText.{is_name, is_name_byte}
 use Rattle.linx_base.specs.Numbers.{high_half, low_half}
 use Rattle.linx_base.specs.declared.identity.ItemAt.{ItemAt}
@@ -32,7 +31,7 @@ use Rattle.journal.specs.declared.head.Refusal.{Refusal}
 use Rattle.journal.specs.declared.head.Refusal.TheVariants as refusals
 use Rattle.journal.specs.declared.head.SentTo.{SentTo}
 use Rattle.journal.specs.declared.head.SentTo.TheVariants as sends
-use Rattle.journal_text.specs.Values.{data_text, detached_text, digest_text, filter_text}
+use Rattle.journal_text.specs.Values.{Digest, data_text, detached_text, digest_text, filter_text}
 use Rattle.journal_text.specs.Values.{further_text, halves_text, link_text, name_or_mark, node_text}
 use Rattle.journal_text.specs.Values.{nth_name, numbers_text, path_text, peer_signal_text}
 use Rattle.journal_text.specs.Values.{peer_text, position_text, reason_text, reference_text}
@@ -183,24 +182,25 @@ hex-line (b ∷ bytes) =
 hex-clean : (bytes : List ℕ) → IsClean (encode_lower bytes)
 hex-clean bytes = word (encode_lower bytes) (hex-line bytes)
 
-digest-clean : (bytes : List ℕ) → IsClean (digest_text bytes)
+digest-clean : (digest : Digest) (bytes : List ℕ) → IsClean (digest_text digest bytes)
 unfolding digest_text
-digest-clean bytes =
-    number-clean (length bytes) +> word (codes ":") refl +> hex-clean (sha256 bytes)
+digest-clean digest bytes =
+    number-clean (length bytes) +> word (codes ":") refl +> hex-clean (digest bytes)
 
-data-clean : (bytes : List ℕ) → IsClean (data_text bytes)
+data-clean : (digest : Digest) (bytes : List ℕ) → IsClean (data_text digest bytes)
 unfolding data_text
-data-clean bytes = go (length bytes == 0) (nat_le (length bytes) 32)
+data-clean digest bytes = go (length bytes == 0) (nat_le (length bytes) 32)
   where
     go : (none few : Bool)
-        → IsClean (cond none (codes "-") (cond few (encode_lower bytes) (digest_text bytes)))
+        → IsClean (cond none (codes "-") (cond few (encode_lower bytes) (digest_text digest bytes)))
     go true few = word (codes "-") refl
     go false true = hex-clean bytes
-    go false false = digest-clean bytes
+    go false false = digest-clean digest bytes
 
-pub signal-clean : (note : SigNote) → IsClean (signal_text note)
+pub signal-clean : (digest : Digest) (note : SigNote) → IsClean (signal_text digest note)
 unfolding signal_text
-signal-clean note = number-clean note.number +> word (codes " ") refl +> data-clean note.bytes
+signal-clean digest note =
+    number-clean note.number +> word (codes " ") refl +> data-clean digest note.bytes
 
 -- ---- filters, positions and other words
 
@@ -284,10 +284,11 @@ module _ (names : Names) (plain : ArePlain names) where
       link-clean link.0 +> word (codes ":") refl +> halves-clean session.0
       +> word (codes ":") refl +> halves-clean inc.0
 
-  pub peer_signal-clean : (peer : Peer) (note : SigNote)
-      → IsClean (peer_signal_text names peer note)
+  pub peer_signal-clean : (digest : Digest) (peer : Peer) (note : SigNote)
+      → IsClean (peer_signal_text digest names peer note)
   unfolding peer_signal_text
-  peer_signal-clean peer note = peer-clean peer +> word (codes " ") refl +> signal-clean note
+  peer_signal-clean digest peer note =
+      peer-clean peer +> word (codes " ") refl +> signal-clean digest note
 
   pub path-clean : (path : Path) → is_name (name_of_path path) ≡ true
       → IsClean (path_text names path)

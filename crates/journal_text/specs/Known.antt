@@ -7,6 +7,12 @@ use Rattle.journal.specs.declared.effect.Effect.{Effect}
 use Rattle.journal.specs.declared.effect.Effect.TheVariants.{Arrived, Found, Notified}
 use Rattle.journal.specs.declared.effect.Step.{Step}
 use Rattle.journal.specs.Logs.{step_at}
+use Rattle.sha2.specs.Sha256.{sha256}
+use Rattle.journal_text.specs.Values.{Digest, first_bytes}
+use Rattle.journal_text.specs.declared.digests.DigestBy.{DigestBy}
+use Rattle.journal_text.specs.declared.digests.DigestBy.TheVariants.{Sha256, FirstBytes}
+use Rattle.journal_text.specs.declared.digests.Known.{Known}
+use Rattle.journal_text.specs.declared.digests.Known.TheVariants.{Made, By}
 use Rattle.journal_text.specs.declared.digests.Placed.{Placed}
 use Rattle.journal_text.specs.declared.digests.Digests.{Digests}
 
@@ -34,6 +40,26 @@ abbrev pub signal_at : Option Step → ℕ → Option SigNote
 signal_at None place = None
 signal_at (Some s) zero = signal_in s.head
 signal_at (Some s) (suc k) = signal_of (slice_get s.effects k)
+
+-- what is printed of long data
+abbrev pub digest_by : DigestBy → Digest
+digest_by Sha256 = sha256
+digest_by FirstBytes = first_bytes
+
+-- and where it may be known
+abbrev pub digest_in : Known → Digest
+digest_in (Made digested) = sha256
+digest_in (By by) = digest_by by
+
+-- a digest that is known is that of these bytes
+abbrev pub IsOf : Known → List ℕ → Type 0
+IsOf (Made digested) bytes = digested.now ≡ bytes
+IsOf (By by) bytes = ⊤
+
+-- a digest that is known is that of the data of a signal, if there is one
+abbrev pub IsKnown : Known → Option SigNote → Type 0
+IsKnown known None = ⊤
+IsKnown known (Some note) = IsOf known note.bytes
 
 -- the bytes are those of a signal, if there is one
 abbrev pub AreOf : Option SigNote → List ℕ → Type 0

@@ -1,9 +1,8 @@
 -- How each value is spelled.
 use Rattle.std.specs.Prelude.{ℕ, zero, suc, ◌==◌, ◌++◌, nat_le, ◌&&◌, List, [], ◌∷◌, length}
 use Rattle.std.specs.Prelude.{flat_map, codes, decimal, slice_get, Option, Some, None}
-use Rattle.std.specs.Prelude.{if◌then◌else◌}
+use Rattle.std.specs.Prelude.{if◌then◌else◌, take}
 use Rattle.hex.specs.Hex.{encode_lower}
-use Rattle.sha2.specs.Sha256.{sha256}
 use Rattle.linx_base.specs.Numbers.{high_half, low_half}
 use Rattle.linx_base.specs.declared.identity.ItemAt.{ItemAt}
 use Rattle.linx_base.specs.declared.identity.Side.{Side}
@@ -59,23 +58,33 @@ peer_text names (Here inc) = halves_text inc.0
 peer_text names (There link session inc) =
     link_text names link.0 ++ codes ":" ++ halves_text session.0 ++ codes ":" ++ halves_text inc.0
 
--- the digest of more than 32 data bytes: their number, `:` and their SHA-256
-unfoldable pub digest_text : List ℕ → List ℕ
-digest_text bytes = decimal (length bytes) ++ codes ":" ++ encode_lower (sha256 bytes)
+-- what is printed in the place of more than 32 data bytes, as a function of them: SHA-256 where a
+-- run is printed
+abbrev pub Digest : Type 0
+Digest = List ℕ → List ℕ
+
+-- the first 32 bytes, which are printed where data stand in for others that have them as their
+-- SHA-256
+abbrev pub first_bytes : Digest
+first_bytes bytes = take 32 bytes
+
+-- the digest of more than 32 data bytes: their number, `:` and the digest
+unfoldable pub digest_text : Digest → List ℕ → List ℕ
+digest_text digest bytes = decimal (length bytes) ++ codes ":" ++ encode_lower (digest bytes)
 
 -- data: `-` for none, hexadecimal for 1 to 32 bytes, a digest for more
-unfoldable pub data_text : List ℕ → List ℕ
-data_text bytes =
+unfoldable pub data_text : Digest → List ℕ → List ℕ
+data_text digest bytes =
     if length bytes == 0 then codes "-"
-    else if nat_le (length bytes) 32 then encode_lower bytes else digest_text bytes
+    else if nat_le (length bytes) 32 then encode_lower bytes else digest_text digest bytes
 
 -- a signal: its number and its data
-unfoldable pub signal_text : SigNote → List ℕ
-signal_text note = decimal note.number ++ codes " " ++ data_text note.bytes
+unfoldable pub signal_text : Digest → SigNote → List ℕ
+signal_text digest note = decimal note.number ++ codes " " ++ data_text digest note.bytes
 
 -- a peer and a signal
-unfoldable pub peer_signal_text : Names → Peer → SigNote → List ℕ
-peer_signal_text names peer note = peer_text names peer ++ codes " " ++ signal_text note
+unfoldable pub peer_signal_text : Digest → Names → Peer → SigNote → List ℕ
+peer_signal_text digest names peer note = peer_text names peer ++ codes " " ++ signal_text digest note
 
 -- a further number of a list
 abbrev pub further_text : ℕ → List ℕ

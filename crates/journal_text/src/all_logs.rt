@@ -1,12 +1,15 @@
 //! The logs of all incarnations, in order of opening. The journal is read once for its digests,
 //! once to collect, once to write, however many incarnations there are.
 ghost use Rattle.std.specs.Prelude.{◌≡◌, ◌++◌, flat_map, OnOk, OnErr, IfOk};
-ghost use Rattle.journal_text.specs.Blocks.{log_text, logs_text};
-ghost use Rattle.journal_text.specs.Collected.{Collects, opened_log};
-ghost use Rattle.journal_text.specs.Known.{Fits};
+ghost use Rattle.journal_text.specs.Blocks.{log_text, logs_text, title_text};
+ghost use Rattle.journal.specs.History.{opening_name};
+ghost use Rattle.journal_text.specs.Collected.{AreLogs, Collects, opened_log};
+ghost use Rattle.journal_text.specs.Known.{Fits, digest_by};
+ghost use Rattle.journal_text.specs.Values.{first_bytes};
+ghost use Rattle.sha2.specs.Sha256.{sha256};
 
 use crate::collecting::Logs;
-use crate::digests::Digests;
+use crate::digests::{DigestBy, Digests};
 use crate::digits::write_bytes;
 use crate::entries::write_title;
 use crate::owners::Owners;
@@ -16,11 +19,12 @@ use std::alloc::Global;
 
 pub(crate) fn collect(alloc: Global, journal: &Journal, digests: &Digests) -> Result<Logs, NoMemory>
     requires { Fits digests.now journal.now.log.steps }
-    ensures { IfOk result (λ logs.
+    ensures by { IfOk result (λ logs. logs.by ≡ digests.now.by) }
+    ensures collects { IfOk result (λ logs.
         Collects journal.now.log.names journal.now.log.steps journal.now.log.steps logs) }
 {
     let mut owners = Owners::new(alloc);
-    let mut logs = Logs::new(alloc);
+    let mut logs = Logs::new(alloc, digests.by);
     let mut next = 0;
     for done in 0..journal.len() {
         let step = journal.step_after(done);
@@ -31,6 +35,28 @@ pub(crate) fn collect(alloc: Global, journal: &Journal, digests: &Digests) -> Re
     Ok(logs)
 }
 
+/// The logs of a journal that was read of a text: by the first bytes of long data.
+pub fn logs_again(alloc: Global, journal: &Journal) -> Result<Logs, NoMemory>
+    ensures { IfOk result (AreLogs first_bytes journal.now.log) }
+{
+    collect(alloc, journal, &Digests::none(alloc, DigestBy::FirstBytes))
+}
+
+/// Appends the first line of the log of an incarnation. After a refusal the buffer holds some front
+/// of it.
+pub fn write_log_title(
+    out: &mut Vec<u8>,
+    journal: &Journal,
+    logs: &Logs,
+    inc: Inc,
+) -> Result<(), NoMemory>
+    requires { Collects journal.now.log.names journal.now.log.steps journal.now.log.steps logs.now }
+    ensures { OnOk result (out.new.items ≡ out.old.items
+        ++ title_text journal.now.log.names inc (opening_name journal.now.log.steps inc)) }
+{
+    write_title(out, journal.names(), inc, logs.name(inc))
+}
+
 #[tactic(auto, unfolding(crate::specs::Blocks::log_text))]
 pub(crate) fn write_block(
     out: &mut Vec<u8>,
@@ -39,9 +65,9 @@ pub(crate) fn write_block(
     inc: Inc,
 ) -> Result<(), NoMemory>
     requires { Collects journal.now.log.names journal.now.log.steps journal.now.log.steps logs.now }
-    ensures { OnOk result (out.new.items ≡ out.old.items ++ log_text journal.now.log inc) }
+    ensures { OnOk result (out.new.items ≡ out.old.items ++ log_text (digest_by logs.now.by) journal.now.log inc) }
 {
-    write_title(out, journal.names(), inc, logs.name(inc))?;
+    write_log_title(out, journal, logs, inc)?;
     write_bytes(out, logs.lines(inc))
 }
 
@@ -52,7 +78,7 @@ fn write_if_opened(
     effect: &Effect,
 ) -> Result<(), NoMemory>
     requires { Collects journal.now.log.names journal.now.log.steps journal.now.log.steps logs.now }
-    ensures { OnOk result (out.new.items ≡ out.old.items ++ opened_log journal.now.log effect.now) }
+    ensures { OnOk result (out.new.items ≡ out.old.items ++ opened_log (digest_by logs.now.by) journal.now.log effect.now) }
 {
     match effect {
         Effect::Opened(inc) => write_block(out, journal, logs, *inc),
@@ -68,7 +94,7 @@ fn write_opened(
 ) -> Result<(), NoMemory>
     requires { Collects journal.now.log.names journal.now.log.steps journal.now.log.steps logs.now }
     ensures { OnOk result (out.new.items ≡ out.old.items
-        ++ flat_map (opened_log journal.now.log) effects.now) }
+        ++ flat_map (opened_log (digest_by logs.now.by) journal.now.log) effects.now) }
 {
     for effect in effects {
         write_if_opened(out, journal, logs, effect)?;
@@ -79,7 +105,8 @@ fn write_opened(
 /// The blocks of all opened incarnations, in order of opening.
 fn write_blocks(out: &mut Vec<u8>, journal: &Journal, logs: &Logs) -> Result<(), NoMemory>
     requires { Collects journal.now.log.names journal.now.log.steps journal.now.log.steps logs.now }
-    ensures { OnOk result (out.new.items ≡ out.old.items ++ logs_text journal.now.log) }
+    ensures { OnOk result (out.new.items ≡ out.old.items
+        ++ logs_text (digest_by logs.now.by) journal.now.log) }
 {
     for done in 0..journal.len() {
         write_opened(
@@ -99,7 +126,7 @@ pub(crate) fn write_logs_with(
     digests: &Digests,
 ) -> Result<(), NoMemory>
     requires { Fits digests.now journal.now.log.steps }
-    ensures { OnOk result (out.new.items ≡ out.old.items ++ logs_text journal.now.log) }
+    ensures { OnOk result (out.new.items ≡ out.old.items ++ logs_text (digest_by digests.now.by) journal.now.log) }
 {
     let logs = collect(*out.allocator(), journal, digests)?;
     write_blocks(out, journal, &logs)
@@ -108,7 +135,8 @@ pub(crate) fn write_logs_with(
 /// Appends the logs of all opened incarnations in order of opening. A refusal leaves the buffer as
 /// it was.
 pub fn write_logs(out: &mut Vec<u8>, journal: &Journal) -> Result<(), NoMemory>
-    ensures ok { OnOk result (out.new.items ≡ out.old.items ++ logs_text journal.now.log) }
+    ensures ok { OnOk result (out.new.items
+        ≡ out.old.items ++ logs_text sha256 journal.now.log) }
     ensures err { OnErr result (out.new.items ≡ out.old.items) }
 {
     let alloc = *out.allocator();

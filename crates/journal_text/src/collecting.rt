@@ -1,5 +1,5 @@
 //! The logs of all incarnations, collected in one pass over a journal.
-ghost use Rattle.std.specs.Prelude.{◌≡◌, ◌==◌, ◌++◌, ℕ, List, [], ◌∷◌, Some, OnOk, IfSome, nat_eq};
+ghost use Rattle.std.specs.Prelude.{◌≡◌, ◌==◌, ◌++◌, ℕ, List, [], ◌∷◌, Some, OnOk, nat_eq};
 ghost use Rattle.std.specs.Prelude.{if◌then◌else◌};
 ghost use Rattle.std.specs.List.{list_any};
 ghost use Rattle.std.specs.Option.{option_copied};
@@ -8,13 +8,14 @@ ghost use Rattle.linx_base.specs.declared.name.Names.{Names as NamesOf};
 ghost use Rattle.journal.specs.declared.effect.Step.{Step as StepOf};
 ghost use Rattle.journal_text.specs.Makers.{owner_by};
 ghost use Rattle.journal_text.specs.Texts.{kept};
-ghost use Rattle.journal_text.specs.Known.{signal_in, signal_brought, AreOf, FitsStep, Fits};
+ghost use Rattle.journal_text.specs.Known.{signal_in, signal_brought, FitsStep, Fits, IsKnown};
+ghost use Rattle.journal_text.specs.Known.{digest_by, digest_in};
 ghost use Rattle.journal.specs.History.{opens, name_in};
 ghost use Rattle.journal.specs.Queues.{reached_by};
 ghost use Rattle.journal_text.specs.Blocks.{if_for, head_log, effect_log, effect_logs};
 ghost use Rattle.journal_text.specs.Collected.{Collects};
 
-use crate::digests::{Digested, Digests};
+use crate::digests::{DigestBy, Digests, Known};
 use crate::entries::{write_effect_log, write_head_log};
 use crate::texts::{Text, Texts, kept_at};
 use journal::{Effect, Head, Journal, Step};
@@ -22,9 +23,10 @@ use linx_base::{Inc, Name, Names, NoMemory, TryCopy};
 use std::alloc::Global;
 use std::collections::HashMap;
 
-/// The lines of each log so far, and the names that incarnations were opened with.
+/// The lines of each log so far, by which digest, and the names that incarnations were opened with.
 #[derive(Drop)]
-pub(crate) struct Logs {
+pub struct Logs {
+    by: DigestBy,
     lines: Texts,
     opened: HashMap<u64, Name>,
 }
@@ -92,12 +94,13 @@ fn add_head_line(
     journal: &Journal,
     digests: &Digests,
     head: &Head,
-    known: Option<&Digested>,
+    known: Known<'_>,
 ) -> Result<(), NoMemory>
-    requires known { IfSome known (λ digested. AreOf (signal_in head.now) digested.now) }
+    requires known { IsKnown known (signal_in head.now) }
+    requires by { digest_in known ≡ digest_by digests.now.by }
     requires fits { Fits digests.now journal.now.log.steps }
     ensures { OnOk result (text.new
-        ≡ text.old ++ head_log journal.now.log.names journal.now.log.steps head.now) }
+        ≡ text.old ++ head_log (digest_by digests.now.by) journal.now.log.names journal.now.log.steps head.now) }
 {
     write_head_log(&mut text.bytes, journal, digests, head, known)
 }
@@ -107,10 +110,10 @@ fn add_effect_line(
     text: &mut Text,
     names: &Names,
     effect: &Effect,
-    known: Option<&Digested>,
+    known: Known<'_>,
 ) -> Result<(), NoMemory>
-    requires { IfSome known (λ digested. AreOf (signal_brought effect.now) digested.now) }
-    ensures { OnOk result (text.new ≡ text.old ++ effect_log names.now effect.now) }
+    requires { IsKnown known (signal_brought effect.now) }
+    ensures { OnOk result (text.new ≡ text.old ++ effect_log (digest_in known.entry) names.now effect.now) }
 {
     write_effect_log(&mut text.bytes, names, effect, known)
 }
@@ -123,12 +126,13 @@ fn add_head_at(
     digests: &Digests,
     inc: Inc,
     head: &Head,
-    known: Option<&Digested>,
+    known: Known<'_>,
 ) -> Result<(), NoMemory>
-    requires known { IfSome known (λ digested. AreOf (signal_in head.now) digested.now) }
+    requires known { IsKnown known (signal_in head.now) }
+    requires by { digest_in known ≡ digest_by digests.now.by }
     requires fits { Fits digests.now journal.now.log.steps }
     ensures { OnOk result ((q : ℕ) → kept lines.new q ≡ kept lines.old q ++ (if q == inc.0
-        then head_log journal.now.log.names journal.now.log.steps head.now else [])) }
+        then head_log (digest_by digests.now.by) journal.now.log.names journal.now.log.steps head.now else [])) }
 {
     match lines.get_mut(&inc.0) {
         Some(text) => add_head_line(text, journal, digests, head, known),
@@ -149,13 +153,14 @@ fn add_head(
     digests: &Digests,
     owner: Option<Inc>,
     head: &Head,
-    known: Option<&Digested>,
+    known: Known<'_>,
 ) -> Result<(), NoMemory>
-    requires known { IfSome known (λ digested. AreOf (signal_in head.now) digested.now) }
+    requires known { IsKnown known (signal_in head.now) }
+    requires by { digest_in known ≡ digest_by digests.now.by }
     requires fits { Fits digests.now journal.now.log.steps }
     ensures { OnOk result ((q : ℕ) → kept lines.new q ≡ kept lines.old q
         ++ if_for (record { 0 = q }) owner
-        (head_log journal.now.log.names journal.now.log.steps head.now)) }
+        (head_log (digest_by digests.now.by) journal.now.log.names journal.now.log.steps head.now)) }
 {
     match owner {
         Some(inc) => add_head_at(alloc, lines, journal, digests, inc, head, known),
@@ -170,11 +175,11 @@ fn add_effect_at(
     names: &Names,
     inc: Inc,
     effect: &Effect,
-    known: Option<&Digested>,
+    known: Known<'_>,
 ) -> Result<(), NoMemory>
-    requires { IfSome known (λ digested. AreOf (signal_brought effect.now) digested.now) }
+    requires { IsKnown known (signal_brought effect.now) }
     ensures { OnOk result ((q : ℕ) → kept lines.new q ≡ kept lines.old q
-        ++ (if q == inc.0 then effect_log names.now effect.now else [])) }
+        ++ (if q == inc.0 then effect_log (digest_in known.entry) names.now effect.now else [])) }
 {
     match lines.get_mut(&inc.0) {
         Some(text) => add_effect_line(text, names, effect, known),
@@ -193,11 +198,11 @@ fn add_effect(
     lines: &mut Texts,
     names: &Names,
     effect: &Effect,
-    known: Option<&Digested>,
+    known: Known<'_>,
 ) -> Result<(), NoMemory>
-    requires { IfSome known (λ digested. AreOf (signal_brought effect.now) digested.now) }
+    requires { IsKnown known (signal_brought effect.now) }
     ensures { OnOk result ((q : ℕ) → kept lines.new q ≡ kept lines.old q
-        ++ if_for (record { 0 = q }) (reached_by effect.now) (effect_log names.now effect.now)) }
+        ++ if_for (record { 0 = q }) (reached_by effect.now) (effect_log (digest_in known.entry) names.now effect.now)) }
 {
     match effect.reached_by() {
         Some(inc) => add_effect_at(alloc, lines, names, inc, effect, known),
@@ -217,7 +222,7 @@ fn add_effects(
 ) -> Result<(), NoMemory>
     requires { FitsStep digests.now position (Some step.now) }
     ensures { OnOk result ((q : ℕ) → kept lines.new q ≡ kept lines.old q
-        ++ effect_logs names.now (record { 0 = q }) step.now.effects) }
+        ++ effect_logs (digest_by digests.now.by) names.now (record { 0 = q }) step.now.effects) }
 {
     for (index, effect) in step.effects.as_slice().iter().enumerate() {
         let known = digests.of_effect(next, position, index as u64 + 1, effect);
@@ -229,10 +234,13 @@ fn add_effects(
 impl Logs {
     /// Those before any step.
     #[tactic(auto, unfolding(crate::specs::Blocks::log_lines))]
-    pub(crate) fn new(alloc: Global) -> Logs
-        ensures { (names : NamesOf) (steps : List StepOf) → Collects names steps [] result }
+    pub(crate) fn new(alloc: Global, by: DigestBy) -> Logs
+        ensures by { result.by ≡ by }
+        ensures collects { (names : NamesOf) (steps : List StepOf)
+            → Collects names steps [] result }
     {
         Logs {
+            by,
             lines: Texts::new(alloc),
             opened: HashMap::new(alloc),
         }
@@ -252,7 +260,9 @@ impl Logs {
     ) -> Result<(), NoMemory>
         requires fits_step { FitsStep digests.now position (Some step.now) }
         requires fits { Fits digests.now journal.now.log.steps }
-        ensures { (P : List StepOf) → owner ≡ owner_by P step.now.by
+        requires by { self.old.by ≡ digests.now.by }
+        ensures by { OnOk result (self.new.by ≡ self.old.by) }
+        ensures collects { (P : List StepOf) → owner ≡ owner_by P step.now.by
             → Collects journal.now.log.names journal.now.log.steps P self.old
             → OnOk result (Collects journal.now.log.names journal.now.log.steps (step.now ∷ P)
             self.new) }
@@ -271,8 +281,8 @@ impl Logs {
         self.opened.get(&inc.0)
     }
 
-    /// The lines of its log.
-    pub(crate) fn lines(&self, inc: Inc) -> &[u8]
+    /// The lines of its log, behind the first one.
+    pub fn lines(&self, inc: Inc) -> &[u8]
         ensures { result.now ≡ kept self.now.lines inc.0 }
     {
         kept_at(&self.lines, inc.0)

@@ -10,6 +10,9 @@ ghost use Rattle.journal.specs.Logs.{effect_at, step_at};
 ghost use Rattle.journal_text.specs.Values.{digest_text};
 ghost use Rattle.journal_text.specs.Known.{signal_in, signal_brought, signal_of, signal_at, AreOf};
 ghost use Rattle.journal_text.specs.Known.{Keeps, FitsPlace, FitsStep, Fits};
+ghost use Rattle.journal_text.specs.Known.{IsKnown, digest_by, digest_in};
+ghost use Rattle.journal_text.specs.declared.digests.DigestBy.TheVariants.{Sha256};
+ghost use Rattle.sha2.specs.Sha256.{sha256};
 
 use crate::digits::{SPELLED_MOST, write_digest};
 use journal::{Effect, Head, Journal, Step};
@@ -24,6 +27,13 @@ const SPELLED_ROOM: usize = 70;
 /// The place of a step's head; its effects stand at the places from 1 on.
 const HEAD: u64 = 0;
 
+/// What is printed of long data: their SHA-256, or their first bytes.
+#[derive(Clone, Copy)]
+pub(crate) enum DigestBy {
+    Sha256,
+    FirstBytes,
+}
+
 /// Bytes with their digest as it is spelled. Contracts see the bytes.
 #[derive(Drop)]
 pub(crate) struct Digested {
@@ -33,18 +43,19 @@ pub(crate) struct Digested {
 
 impl Model for Digested {
     ghost use Rattle.std.specs.Prelude.{◌≡◌, List, ℕ};
+    ghost use Rattle.sha2.specs.Sha256.{sha256};
     ghost use Rattle.journal_text.specs.Values.{digest_text};
 
     ghost Value = { List ℕ };
 
     ghost view = { λ d. d.bytes };
 
-    ghost invariant = { λ d. d.text ≡ digest_text d.bytes };
+    ghost invariant = { λ d. d.text ≡ digest_text sha256 d.bytes };
 }
 
 /// The digest of these bytes, as it is spelled.
 fn spelled(alloc: Global, bytes: &Blob) -> Result<Blob, NoMemory>
-    ensures { IfOk result (λ text. text ≡ digest_text bytes.now) }
+    ensures { IfOk result (λ text. text ≡ digest_text sha256 bytes.now) }
 {
     let mut text = Vec::with_capacity(alloc, SPELLED_ROOM)?;
     write_digest(&mut text, bytes)?;
@@ -68,10 +79,17 @@ impl Digested {
     }
 
     pub(crate) fn text(&self) -> &[u8]
-        ensures { result.now ≡ digest_text self.now }
+        ensures { result.now ≡ digest_text sha256 self.now }
     {
         self.text.bytes()
     }
+}
+
+/// What is printed of long data: their SHA-256, which was made before, or what is made of them.
+#[derive(Clone, Copy)]
+pub(crate) enum Known<'a> {
+    Made(&'a Digested),
+    By(DigestBy),
 }
 
 /// Whether a signal is printed with a digest.
@@ -175,26 +193,30 @@ pub(crate) struct Placed {
 /// The digests that were made, and for which signals, in the order of the journal.
 #[derive(Drop)]
 pub(crate) struct Digests {
+    pub(crate) by: DigestBy,
     made: Vec<Digested>,
     placed: Vec<Placed>,
 }
 
 impl Digests {
     #[tactic(auto, using(crate::proofs::Fitting::nothing_placed))]
-    pub(crate) fn none(alloc: Global) -> Digests
-        ensures { (position : ℕ) (s : Option Step) → FitsStep result position s }
+    pub(crate) fn none(alloc: Global, by: DigestBy) -> Digests
+        ensures by { result.by ≡ by }
+        ensures fits { (position : ℕ) (s : Option Step) → FitsStep result position s }
     {
         Digests {
+            by,
             made: Vec::new(alloc),
             placed: Vec::new(alloc),
         }
     }
 
-    /// Those of all signals in a journal.
+    /// Those of all signals in a journal, by SHA-256.
     pub(crate) fn of(alloc: Global, journal: &Journal) -> Result<Digests, NoMemory>
-        ensures { IfOk result (λ digests. Fits digests journal.now.log.steps) }
+        ensures by { IfOk result (λ digests. digests.by ≡ Sha256) }
+        ensures fits { IfOk result (λ digests. Fits digests journal.now.log.steps) }
     {
-        let mut digests = Digests::none(alloc);
+        let mut digests = Digests::none(alloc, DigestBy::Sha256);
         let mut latest = Latest::new(alloc);
         for done in 0..journal.len() {
             digests.add_step(alloc, &mut latest, journal, done + 1)?;
@@ -232,14 +254,32 @@ impl Digests {
         }
     }
 
+    /// What is printed at this place of this step: what is next in the list, if it is for that, and
+    /// if any were made.
+    fn known(&self, next: &mut usize, position: u64, place: u64) -> Known<'_>
+        ensures by { digest_in result ≡ digest_by self.now.by }
+        ensures known { (note : Option SigNoteOf)
+            → FitsPlace self.now.made.items self.now.placed.items position place note
+            → IsKnown result note }
+    {
+        match self.by {
+            DigestBy::Sha256 => match self.look(next, position, place) {
+                Some(digested) => Known::Made(digested),
+                None => Known::By(self.by),
+            },
+            DigestBy::FirstBytes => Known::By(self.by),
+        }
+    }
+
     /// That of the signal in the head of a step, if it is printed with one, and if it is next.
-    pub(crate) fn of_head(&self, next: &mut usize, position: u64, step: &Step) -> Option<&Digested>
+    pub(crate) fn of_head(&self, next: &mut usize, position: u64, step: &Step) -> Known<'_>
         requires { FitsStep self.now position (Some step.now) }
-        ensures { IfSome result (λ known. AreOf (signal_in step.now.head) known.now) }
+        ensures by { digest_in result ≡ digest_by self.now.by }
+        ensures known { IsKnown result (signal_in step.now.head) }
     {
         match signal_in(&step.head) {
-            Some(note) if is_digested(note) => self.look(next, position, HEAD),
-            _ => None,
+            Some(note) if is_digested(note) => self.known(next, position, HEAD),
+            _ => Known::By(self.by),
         }
     }
 
@@ -250,26 +290,28 @@ impl Digests {
         position: u64,
         place: u64,
         effect: &Effect,
-    ) -> Option<&Digested>
+    ) -> Known<'_>
         requires { FitsPlace self.now.made.items self.now.placed.items position place
             (signal_brought effect.now) }
-        ensures { IfSome result (λ known. AreOf (signal_brought effect.now) known.now) }
+        ensures by { digest_in result ≡ digest_by self.now.by }
+        ensures known { IsKnown result (signal_brought effect.now) }
     {
         match signal_brought(effect) {
-            Some(note) if is_digested(note) => self.look(next, position, place),
-            _ => None,
+            Some(note) if is_digested(note) => self.known(next, position, place),
+            _ => Known::By(self.by),
         }
     }
 
     /// That of the signal in the effect at an item's position, which is sought.
-    pub(crate) fn of_item(&self, at: ItemAt) -> Option<&Digested>
-        ensures { (steps : List Step) → Fits self.now steps
-            → IfSome result (λ known. AreOf (signal_of (effect_at steps at)) known.now) }
+    pub(crate) fn of_item(&self, at: ItemAt) -> Known<'_>
+        ensures by { digest_in result ≡ digest_by self.now.by }
+        ensures known { (steps : List Step) → Fits self.now steps
+            → IsKnown result (signal_of (effect_at steps at)) }
     {
         let mut next = self.placed.partition_point(|placed| {
             placed.step < at.step || (placed.step == at.step && placed.place < at.place)
         });
-        self.look(&mut next, at.step, at.place)
+        self.known(&mut next, at.step, at.place)
     }
 
     /// Adds those of the signals in a step.
@@ -281,7 +323,8 @@ impl Digests {
         position: u64,
     ) -> Result<(), NoMemory>
         requires { Fits self.old journal.now.log.steps }
-        ensures { OnOk result (Fits self.new journal.now.log.steps) }
+        ensures by { OnOk result (self.new.by ≡ self.old.by) }
+        ensures fits { OnOk result (Fits self.new journal.now.log.steps) }
     {
         let Some(step) = journal.step(position) else {
             return Ok(());
@@ -307,7 +350,9 @@ impl Digests {
         place: u64,
         note: &SigNote,
     ) -> Result<(), NoMemory>
-        ensures { (steps : List Step) → signal_at (step_at steps position) place ≡ Some note.now
+        ensures by { OnOk result (self.new.by ≡ self.old.by) }
+        ensures fits { (steps : List Step)
+            → signal_at (step_at steps position) place ≡ Some note.now
             → Fits self.old steps → OnOk result (Fits self.new steps) }
     {
         if !is_digested(note) {

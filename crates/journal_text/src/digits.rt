@@ -4,7 +4,7 @@
 ghost use Rattle.std.specs.Prelude.{◌≡◌, ◌<◌, ◌≤◌, [], ◌∷◌, ◌++◌, length, decimal, OnOk};
 ghost use Rattle.hex.specs.Hex.{encode_lower};
 ghost use Rattle.sha2.specs.Sha256.{sha256};
-ghost use Rattle.journal_text.specs.Values.{digest_text};
+ghost use Rattle.journal_text.specs.Values.{first_bytes, digest_text};
 
 use linx_base::{Blob, NoMemory};
 use sha2::{Digest, Sha256};
@@ -94,10 +94,31 @@ fn digest_of(bytes: &[u8]) -> [u8; 32]
     Sha256::digest(bytes)
 }
 
+/// The first 32 of more bytes.
+fn first_bytes_of(bytes: &[u8]) -> &[u8]
+    requires { 32 < length bytes.now }
+    ensures bytes { result.now ≡ first_bytes bytes.now }
+    ensures length { length result.now ≤ 32 }
+{
+    let first = &bytes[..SPELLED_MOST];
+    first
+}
+
+/// The number of bytes, and their first ones in the place of a digest.
+#[tactic(auto, unfolding(crate::specs::Values::digest_text))]
+pub(crate) fn write_first_bytes(out: &mut Vec<u8>, bytes: &[u8]) -> Result<(), NoMemory>
+    requires { 32 < length bytes.now }
+    ensures { OnOk result (out.new.items ≡ out.old.items ++ digest_text first_bytes bytes.now) }
+{
+    write_number(out, bytes.len() as u64)?;
+    write_byte(out, b':')?;
+    write_hexadecimal(out, first_bytes_of(bytes))
+}
+
 /// The number of bytes, and their digest.
 #[tactic(auto, unfolding(crate::specs::Values::digest_text))]
 pub(crate) fn write_digest(out: &mut Vec<u8>, bytes: &Blob) -> Result<(), NoMemory>
-    ensures { OnOk result (out.new.items ≡ out.old.items ++ digest_text bytes.now) }
+    ensures { OnOk result (out.new.items ≡ out.old.items ++ digest_text sha256 bytes.now) }
 {
     write_number(out, bytes.len() as u64)?;
     write_byte(out, b':')?;

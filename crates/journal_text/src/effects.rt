@@ -1,11 +1,11 @@
 //! The lines of effects: what happened in a step.
-ghost use Rattle.std.specs.Prelude.{◌≡◌, ◌++◌, codes, flat_map, Some, OnOk, IfSome};
+ghost use Rattle.std.specs.Prelude.{◌≡◌, ◌++◌, codes, flat_map, Some, OnOk};
 ghost use Rattle.journal_text.specs.Values.{halves_text, node_text, link_text, peer_text};
 ghost use Rattle.journal_text.specs.Values.{peer_signal_text, reference_text, reason_text};
 ghost use Rattle.journal_text.specs.Steps.{effect_text, effect_line};
-ghost use Rattle.journal_text.specs.Known.{signal_brought, AreOf, FitsStep};
+ghost use Rattle.journal_text.specs.Known.{signal_brought, FitsStep, IsKnown, IsOf, digest_by, digest_in};
 
-use crate::digests::{Digested, Digests};
+use crate::digests::{Digests, Known};
 use crate::digits::{write_byte, write_bytes, write_word};
 use crate::peers::{write_halves, write_link, write_node, write_peer, write_peer_signal};
 use crate::words::{write_reason, write_reference};
@@ -32,12 +32,12 @@ fn write_arrival<const N: usize>(
     inc: Inc,
     peer: &Peer,
     note: &SigNote,
-    known: Option<&Digested>,
+    known: Known<'_>,
 ) -> Result<(), NoMemory>
-    requires { IfSome known (λ digested. digested.now ≡ note.now.bytes) }
+    requires { IsOf known note.now.bytes }
     ensures { OnOk result (out.new.items ≡ out.old.items
         ++ (word.now ++ halves_text inc.0 ++ codes " "
-        ++ peer_signal_text names.now peer.now note.now)) }
+        ++ peer_signal_text (digest_in known.entry) names.now peer.now note.now)) }
 {
     write_word_and_inc(out, word, inc)?;
     write_byte(out, b' ')?;
@@ -98,10 +98,10 @@ fn write_effect(
     out: &mut Vec<u8>,
     names: &Names,
     effect: &Effect,
-    known: Option<&Digested>,
+    known: Known<'_>,
 ) -> Result<(), NoMemory>
-    requires { IfSome known (λ digested. AreOf (signal_brought effect.now) digested.now) }
-    ensures { OnOk result (out.new.items ≡ out.old.items ++ effect_text names.now effect.now) }
+    requires { IsKnown known (signal_brought effect.now) }
+    ensures { OnOk result (out.new.items ≡ out.old.items ++ effect_text (digest_in known.entry) names.now effect.now) }
 {
     match effect {
         Effect::Opened(inc) => write_word_and_inc(out, b"opened ", *inc),
@@ -140,10 +140,10 @@ fn write_effect_line(
     out: &mut Vec<u8>,
     names: &Names,
     effect: &Effect,
-    known: Option<&Digested>,
+    known: Known<'_>,
 ) -> Result<(), NoMemory>
-    requires { IfSome known (λ digested. AreOf (signal_brought effect.now) digested.now) }
-    ensures { OnOk result (out.new.items ≡ out.old.items ++ effect_line names.now effect.now) }
+    requires { IsKnown known (signal_brought effect.now) }
+    ensures { OnOk result (out.new.items ≡ out.old.items ++ effect_line (digest_in known.entry) names.now effect.now) }
 {
     write_word(out, b"+ ")?;
     write_effect(out, names, effect, known)?;
@@ -161,7 +161,7 @@ pub(crate) fn write_effects(
 ) -> Result<(), NoMemory>
     requires { FitsStep digests.now position (Some step.now) }
     ensures { OnOk result (out.new.items
-        ≡ out.old.items ++ flat_map (effect_line names.now) step.now.effects) }
+        ≡ out.old.items ++ flat_map (effect_line (digest_by digests.now.by) names.now) step.now.effects) }
 {
     for (index, effect) in step.effects.as_slice().iter().enumerate() {
         let known = digests.of_effect(next, position, index as u64 + 1, effect);

@@ -1,11 +1,12 @@
 //! The lines of a log.
-ghost use Rattle.std.specs.Prelude.{◌≡◌, ◌++◌, codes, OnOk, IfSome};
+ghost use Rattle.std.specs.Prelude.{◌≡◌, ◌++◌, codes, OnOk};
 ghost use Rattle.std.specs.Option.{option_copied};
 ghost use Rattle.journal_text.specs.Values.{peer_signal_text, reason_text};
 ghost use Rattle.journal_text.specs.Blocks.{title_text, effect_log, item_text, head_log};
-ghost use Rattle.journal_text.specs.Known.{signal_in, signal_brought, signal_of, AreOf, Fits};
+ghost use Rattle.journal_text.specs.Known.{signal_in, signal_brought, signal_of, Fits, IsKnown, IsOf};
+ghost use Rattle.journal_text.specs.Known.{digest_by, digest_in};
 
-use crate::digests::{Digested, Digests};
+use crate::digests::{Digests, Known};
 use crate::digits::{write_byte, write_word};
 use crate::heads::{write_hunt, write_sending, write_word_and_signal};
 use crate::peers::{write_halves, write_name_or_mark, write_node, write_peer_signal};
@@ -40,11 +41,11 @@ fn write_item_line<const N: usize>(
     word: &[u8; N],
     peer: &Peer,
     note: &SigNote,
-    known: Option<&Digested>,
+    known: Known<'_>,
 ) -> Result<(), NoMemory>
-    requires { IfSome known (λ digested. digested.now ≡ note.now.bytes) }
+    requires { IsOf known note.now.bytes }
     ensures { OnOk result (out.new.items ≡ out.old.items
-        ++ (word.now ++ peer_signal_text names.now peer.now note.now ++ codes "\n")) }
+        ++ (word.now ++ peer_signal_text (digest_in known.entry) names.now peer.now note.now ++ codes "\n")) }
 {
     write_word_and_signal(out, names, word, peer, note, known)?;
     write_byte(out, b'\n')
@@ -55,12 +56,12 @@ fn write_notified(
     names: &Names,
     peer: &Peer,
     note: &SigNote,
-    known: Option<&Digested>,
+    known: Known<'_>,
     reason: Reason,
 ) -> Result<(), NoMemory>
-    requires { IfSome known (λ digested. digested.now ≡ note.now.bytes) }
+    requires { IsOf known note.now.bytes }
     ensures { OnOk result (out.new.items ≡ out.old.items
-        ++ (codes "notified " ++ peer_signal_text names.now peer.now note.now ++ codes " "
+        ++ (codes "notified " ++ peer_signal_text (digest_in known.entry) names.now peer.now note.now ++ codes " "
         ++ reason_text reason ++ codes "\n")) }
 {
     write_word_and_signal(out, names, b"notified ", peer, note, known)?;
@@ -75,10 +76,10 @@ pub(crate) fn write_effect_log(
     out: &mut Vec<u8>,
     names: &Names,
     effect: &Effect,
-    known: Option<&Digested>,
+    known: Known<'_>,
 ) -> Result<(), NoMemory>
-    requires { IfSome known (λ digested. AreOf (signal_brought effect.now) digested.now) }
-    ensures { OnOk result (out.new.items ≡ out.old.items ++ effect_log names.now effect.now) }
+    requires { IsKnown known (signal_brought effect.now) }
+    ensures { OnOk result (out.new.items ≡ out.old.items ++ effect_log (digest_in known.entry) names.now effect.now) }
 {
     match effect {
         Effect::Closed(_) => write_word(out, b"closed\n"),
@@ -101,12 +102,11 @@ fn write_sender_and_signal(
     out: &mut Vec<u8>,
     names: &Names,
     item: Option<&Effect>,
-    known: Option<&Digested>,
+    known: Known<'_>,
 ) -> Result<(), NoMemory>
-    requires { IfSome known (λ digested.
-        AreOf (signal_of (option_copied item)) digested.now) }
+    requires { IsKnown known (signal_of (option_copied item)) }
     ensures { OnOk result (out.new.items
-        ≡ out.old.items ++ item_text names.now (option_copied item.entry)) }
+        ≡ out.old.items ++ item_text (digest_in known.entry) names.now (option_copied item.entry)) }
 {
     match item {
         Some(Effect::Arrived(_, peer, note))
@@ -122,12 +122,11 @@ fn write_took(
     out: &mut Vec<u8>,
     names: &Names,
     item: Option<&Effect>,
-    known: Option<&Digested>,
+    known: Known<'_>,
 ) -> Result<(), NoMemory>
-    requires { IfSome known (λ digested.
-        AreOf (signal_of (option_copied item)) digested.now) }
+    requires { IsKnown known (signal_of (option_copied item)) }
     ensures { OnOk result (out.new.items ≡ out.old.items
-        ++ (codes "took " ++ item_text names.now (option_copied item.entry) ++ codes "\n")) }
+        ++ (codes "took " ++ item_text (digest_in known.entry) names.now (option_copied item.entry) ++ codes "\n")) }
 {
     write_word(out, b"took ")?;
     write_sender_and_signal(out, names, item, known)?;
@@ -141,12 +140,13 @@ pub(crate) fn write_head_log(
     journal: &Journal,
     digests: &Digests,
     head: &Head,
-    known: Option<&Digested>,
+    known: Known<'_>,
 ) -> Result<(), NoMemory>
-    requires known { IfSome known (λ digested. AreOf (signal_in head.now) digested.now) }
+    requires known { IsKnown known (signal_in head.now) }
+    requires by { digest_in known ≡ digest_by digests.now.by }
     requires fits { Fits digests.now journal.now.log.steps }
     ensures { OnOk result (out.new.items ≡ out.old.items
-        ++ head_log journal.now.log.names journal.now.log.steps head.now) }
+        ++ head_log (digest_by digests.now.by) journal.now.log.names journal.now.log.steps head.now) }
 {
     let names = journal.names();
     match head {

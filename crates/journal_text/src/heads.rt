@@ -1,12 +1,12 @@
 //! The line of a head: what a step did.
-ghost use Rattle.std.specs.Prelude.{◌≡◌, ◌++◌, codes, OnOk, IfSome};
+ghost use Rattle.std.specs.Prelude.{◌≡◌, ◌++◌, codes, OnOk};
 ghost use Rattle.journal_text.specs.Values.{link_text, peer_signal_text, filter_text};
 ghost use Rattle.journal_text.specs.Values.{position_text, path_text, signal_text, reference_text};
 ghost use Rattle.journal_text.specs.Values.{side_text, verdict_text, sent_text, detached_text};
 ghost use Rattle.journal_text.specs.Steps.{head_text};
-ghost use Rattle.journal_text.specs.Known.{signal_in, AreOf};
+ghost use Rattle.journal_text.specs.Known.{signal_in, IsKnown, IsOf, digest_in};
 
-use crate::digests::Digested;
+use crate::digests::Known;
 use crate::digits::{write_byte, write_bytes, write_word};
 use crate::peers::{write_link, write_node, write_peer_signal, write_signal};
 use crate::words::{
@@ -24,12 +24,12 @@ pub(crate) fn write_sending<const N: usize>(
     word: &[u8; N],
     peer: &Peer,
     note: &SigNote,
-    known: Option<&Digested>,
+    known: Known<'_>,
     answer: SentTo,
 ) -> Result<(), NoMemory>
-    requires { IfSome known (λ digested. digested.now ≡ note.now.bytes) }
+    requires { IsOf known note.now.bytes }
     ensures { OnOk result (out.new.items ≡ out.old.items
-        ++ (word.now ++ peer_signal_text names.now peer.now note.now ++ codes " "
+        ++ (word.now ++ peer_signal_text (digest_in known.entry) names.now peer.now note.now ++ codes " "
         ++ sent_text answer)) }
 {
     write_word(out, word)?;
@@ -66,11 +66,11 @@ pub(crate) fn write_hunt(
     names: &Names,
     path: &Path,
     note: &SigNote,
-    known: Option<&Digested>,
+    known: Known<'_>,
 ) -> Result<(), NoMemory>
-    requires { IfSome known (λ digested. digested.now ≡ note.now.bytes) }
+    requires { IsOf known note.now.bytes }
     ensures { OnOk result (out.new.items ≡ out.old.items
-        ++ (codes "hunt " ++ path_text names.now path.now ++ codes " " ++ signal_text note.now)) }
+        ++ (codes "hunt " ++ path_text names.now path.now ++ codes " " ++ signal_text (digest_in known.entry) note.now)) }
 {
     write_word(out, b"hunt ")?;
     write_path(out, names, path)?;
@@ -85,11 +85,11 @@ pub(crate) fn write_word_and_signal<const N: usize>(
     word: &[u8; N],
     peer: &Peer,
     note: &SigNote,
-    known: Option<&Digested>,
+    known: Known<'_>,
 ) -> Result<(), NoMemory>
-    requires { IfSome known (λ digested. digested.now ≡ note.now.bytes) }
+    requires { IsOf known note.now.bytes }
     ensures { OnOk result (out.new.items ≡ out.old.items
-        ++ (word.now ++ peer_signal_text names.now peer.now note.now)) }
+        ++ (word.now ++ peer_signal_text (digest_in known.entry) names.now peer.now note.now)) }
 {
     write_word(out, word)?;
     write_peer_signal(out, names, peer, note, known)
@@ -156,10 +156,10 @@ pub(crate) fn write_head(
     out: &mut Vec<u8>,
     names: &Names,
     head: &Head,
-    known: Option<&Digested>,
+    known: Known<'_>,
 ) -> Result<(), NoMemory>
-    requires { IfSome known (λ digested. AreOf (signal_in head.now) digested.now) }
-    ensures { OnOk result (out.new.items ≡ out.old.items ++ head_text names.now head.now) }
+    requires { IsKnown known (signal_in head.now) }
+    ensures { OnOk result (out.new.items ≡ out.old.items ++ head_text (digest_in known.entry) names.now head.now) }
 {
     match head {
         Head::Open(name) => {

@@ -1,11 +1,12 @@
 //! How nodes, links, peers and signals are spelled. A node or link that the names lack is `?`.
-ghost use Rattle.std.specs.Prelude.{◌≡◌, ◌++◌, OnOk, IfSome};
+ghost use Rattle.std.specs.Prelude.{◌≡◌, ◌++◌, OnOk};
 ghost use Rattle.std.specs.Option.{option_copied};
 ghost use Rattle.journal_text.specs.Values.{halves_text, nth_name, name_or_mark, node_text};
 ghost use Rattle.journal_text.specs.Values.{link_text, peer_text, signal_text, peer_signal_text};
+ghost use Rattle.journal_text.specs.Known.{IsOf, digest_in};
 
 use crate::data::write_data;
-use crate::digests::Digested;
+use crate::digests::Known;
 use crate::digits::{write_byte, write_bytes, write_number};
 use linx_base::{LinkNo, Name, NameList, Names, NoMemory, NodeNo, Peer, SigNote};
 
@@ -74,10 +75,10 @@ pub(crate) fn write_peer(out: &mut Vec<u8>, names: &Names, peer: &Peer) -> Resul
 pub(crate) fn write_signal(
     out: &mut Vec<u8>,
     note: &SigNote,
-    known: Option<&Digested>,
+    known: Known<'_>,
 ) -> Result<(), NoMemory>
-    requires { IfSome known (λ digested. digested.now ≡ note.now.bytes) }
-    ensures { OnOk result (out.new.items ≡ out.old.items ++ signal_text note.now) }
+    requires { IsOf known note.now.bytes }
+    ensures { OnOk result (out.new.items ≡ out.old.items ++ signal_text (digest_in known.entry) note.now) }
 {
     write_number(out, note.number() as u64)?;
     write_byte(out, b' ')?;
@@ -90,11 +91,11 @@ pub(crate) fn write_peer_signal(
     names: &Names,
     peer: &Peer,
     note: &SigNote,
-    known: Option<&Digested>,
+    known: Known<'_>,
 ) -> Result<(), NoMemory>
-    requires { IfSome known (λ digested. digested.now ≡ note.now.bytes) }
+    requires { IsOf known note.now.bytes }
     ensures { OnOk result (out.new.items
-        ≡ out.old.items ++ peer_signal_text names.now peer.now note.now) }
+        ≡ out.old.items ++ peer_signal_text (digest_in known.entry) names.now peer.now note.now) }
 {
     write_peer(out, names, peer)?;
     write_byte(out, b' ')?;

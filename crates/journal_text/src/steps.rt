@@ -1,11 +1,12 @@
 //! The lines of a step.
-ghost use Rattle.std.specs.Prelude.{◌≡◌, ◌++◌, codes, decimal, length, Some, OnOk, OnErr, IfSome};
+ghost use Rattle.std.specs.Prelude.{◌≡◌, ◌++◌, codes, decimal, length, Some, OnOk, OnErr};
 ghost use Rattle.journal_text.specs.Values.{maker_text};
+ghost use Rattle.sha2.specs.Sha256.{sha256};
 ghost use Rattle.journal_text.specs.Steps.{head_text, step_text, step_text_at};
 ghost use Rattle.journal_text.specs.Text.{count_text};
-ghost use Rattle.journal_text.specs.Known.{signal_in, AreOf, FitsStep};
+ghost use Rattle.journal_text.specs.Known.{signal_in, FitsStep, IsKnown, digest_by, digest_in};
 
-use crate::digests::{Digested, Digests};
+use crate::digests::{DigestBy, Digests, Known};
 use crate::digits::{write_byte, write_number, write_word};
 use crate::effects::write_effects;
 use crate::heads::write_head;
@@ -23,12 +24,12 @@ fn write_first_line(
     position: u64,
     by: By,
     head: &Head,
-    known: Option<&Digested>,
+    known: Known<'_>,
 ) -> Result<(), NoMemory>
-    requires { IfSome known (λ digested. AreOf (signal_in head.now) digested.now) }
+    requires { IsKnown known (signal_in head.now) }
     ensures { OnOk result (out.new.items ≡ out.old.items
         ++ (decimal position ++ codes " " ++ maker_text by ++ codes " "
-        ++ head_text names.now head.now
+        ++ head_text (digest_in known.entry) names.now head.now
         ++ codes "\n")) }
 {
     write_number(out, position)?;
@@ -50,7 +51,7 @@ pub(crate) fn write_lines(
     step: &Step,
 ) -> Result<(), NoMemory>
     requires { FitsStep digests.now position (Some step.now) }
-    ensures { OnOk result (out.new.items ≡ out.old.items ++ step_text names.now position step.now) }
+    ensures { OnOk result (out.new.items ≡ out.old.items ++ step_text (digest_by digests.now.by) names.now position step.now) }
 {
     let known = digests.of_head(next, position, step);
     write_first_line(out, names, position, step.by, &step.head, known)?;
@@ -60,7 +61,7 @@ pub(crate) fn write_lines(
 /// Appends the lines of the step at position k, from 1; nothing where k is no position. A refusal
 /// leaves the buffer as it was.
 pub fn write_step(out: &mut Vec<u8>, journal: &Journal, k: u64) -> Result<(), NoMemory>
-    ensures ok { OnOk result (out.new.items ≡ out.old.items ++ step_text_at journal.now.log k) }
+    ensures ok { OnOk result (out.new.items ≡ out.old.items ++ step_text_at sha256 journal.now.log k) }
     ensures err { OnErr result (out.new.items ≡ out.old.items) }
 {
     let Some(step) = journal.step(k) else {
@@ -68,7 +69,7 @@ pub fn write_step(out: &mut Vec<u8>, journal: &Journal, k: u64) -> Result<(), No
     };
     let alloc = *out.allocator();
     let mut lines = Vec::with_capacity(alloc, LINES_ROOM)?;
-    let digests = Digests::none(alloc);
+    let digests = Digests::none(alloc, DigestBy::Sha256);
     write_lines(&mut lines, journal.names(), &digests, &mut 0, k, step)?;
     out.extend_from_slice(&lines)?;
     Ok(())

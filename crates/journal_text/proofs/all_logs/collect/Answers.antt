@@ -14,11 +14,12 @@ loop-done-init c =
       subst (λ (P : List Step). Tracks P c.new-owners.result) (sym (first_steps_none S))
           c.new-owners.ensures,
       subst (λ (P : List Step). Collects names S P c.new-logs.result) (sym (first_steps_none S))
-          (c.new-logs.ensures names S),
+          (c.new-logs.ensures.collects names S),
+      c.new-logs.ensures.by,
     )
 
-pub returns : goal.returns
-returns c =
+pub returns-clause-collects : goal.returns-clause-collects
+returns-clause-collects c =
     let names : Names = c.args.journal.now.log.names in
     let S : List Step = c.args.journal.now.log.steps in
     let all : c.loop-done.done ≡ length S = omega arith in

@@ -4,9 +4,9 @@ use Rattle.journal_text.specs.declared.digests.Placed.{Placed}
 use Rattle.journal_text.proofs.Fitting.{fits_more}
 use Rattle.journal_text.proofs.digests.Digests.add.Goals as goal
 
-pub returns : goal.returns
-returns c = λ steps here fits.
-    let new : Digests = record { made = c.place_of.new.made; placed = c.push.new.self } in
+pub returns-clause-fits : goal.returns-clause-fits
+returns-clause-fits c = λ steps here fits.
+    let new : Digests = record { by = c.args.self.now.by; made = c.place_of.new.made; placed = c.push.new.self } in
     let placed : Placed = record {
       step = c.args.position;
       place = c.args.place;
