@@ -87,10 +87,8 @@ fn write_listed(
     ensures { OnOk result (out.new.items ≡ out.old.items
         ++ listed_text actors 1 first.now (map (λ o. o.now) listed.now)) }
 {
-    let mut rank = 1;
-    'listed: for outcome in listed {
-        write_outcome(alloc, out, actors, rank, first, outcome)?;
-        rank += 1;
+    for (place, outcome) in listed.iter().enumerate() {
+        write_outcome(alloc, out, actors, place + 1, first, outcome)?;
     }
     Ok(())
 }
@@ -130,7 +128,7 @@ pub(crate) fn write_outcomes(
     let listed = most_of(alloc, came)?;
     let first = first_of(listed.as_slice());
     write_listed(alloc, out, actors, first, listed.as_slice())?;
-    write_others(out, came.len() - listed.len())
+    write_others(out, came.len().saturating_sub(listed.len()))
 }
 
 /// In how many runs each of the rare things came.

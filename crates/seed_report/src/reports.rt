@@ -21,6 +21,7 @@ fn actors_in(alloc: Global, bytes: &[u8]) -> Result<u32, ScriptError>
 }
 
 /// The tally of the runs of this seed and so many behind it.
+#[tactic(auto, using(crate::proofs::Tallies::none_tallied, crate::proofs::Tallies::few_tallied, crate::proofs::Tallies::more_tallied))]
 fn tally(
     alloc: Global,
     bytes: &[u8],
