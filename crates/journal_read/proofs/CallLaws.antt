@@ -13,12 +13,11 @@ use Rattle.journal_read.proofs.TextLaws.{text_again, text_found}
 
 -- what was read is spelled by the text
 pub reads_spell : {X : Type 0} (view : X → List Step) (names : Names) (text : List ℕ)
-    (r : Result X Unread) → Reads view r (read_in names text) → AreNames names
+    (r : Result X Unread) → Reads view r (read_in names text)
     → IfOk r (λ x. SpellsText names (view x) text)
-reads_spell view names text (Ok x) reads are =
-    text_found names (view x) text are
-    (ap (λ (o : Result (List Step) ℕ). result_ok o) reads)
-reads_spell view names text (Err e) reads are = tt
+reads_spell view names text (Ok x) reads =
+    text_found names (view x) text (ap (λ (o : Result (List Step) ℕ). result_ok o) reads)
+reads_spell view names text (Err e) reads = tt
 
 -- a text that spells steps has no bad line
 pub spelled_reads : {X : Type 0} (view : X → List Step) (names : Names) (text : List ℕ)
