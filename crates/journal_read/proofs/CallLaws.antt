@@ -1,5 +1,5 @@
 -- What the law of texts says of what a call returned.
-use Rattle.std.proofs.Common.{◌≡◌, ℕ, List, Option, Some, None, Result, Ok, Err, IfOk, sym, ◌∙◌, ap}
+use Rattle.std.proofs.Common.{◌≡◌, ℕ, List, Some, None, Result, Ok, Err, IfOk, sym, ◌∙◌, ap}
 use Rattle.std.specs.Result.{result_ok}
 use Rattle.linx_base.specs.declared.name.Names.{Names}
 use Rattle.journal.specs.declared.effect.Step.{Step}
