@@ -12,5 +12,3 @@ mod names;
 mod spoiled;
 #[cfg(test)]
 mod texts;
-#[cfg(test)]
-mod told;
