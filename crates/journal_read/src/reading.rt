@@ -160,6 +160,17 @@ fn read_lines(alloc: Global, names: Names, lines: &[&[u8]], rest: &[u8]) -> Resu
     }
 }
 
+/// The journal of a text.
+fn read_text(alloc: Global, names: Names, text: &[u8]) -> Result<Journal, Unread>
+    ensures steps { Reads (λ journal. journal.log.steps) result (read_in names text.now) }
+    ensures full { IsWithin result (full_in names text.now) }
+    ensures names { IfOk result (λ journal. journal.log.names ≡ names) }
+{
+    let mut lines = split_at_byte(alloc, text, b'\n')?;
+    let rest = take_last(&mut lines);
+    read_lines(alloc, names, lines.as_slice(), rest)
+}
+
 /// The journal that a printed text spells: with these names, and with the steps that the text has
 /// behind its line `journal N`. Its logs aren't looked at. Long data are read as what stands for
 /// them, and equal ones are kept once. Where the text spells none, `Bad` has its first bad line,
@@ -168,13 +179,10 @@ fn read_lines(alloc: Global, names: Names, lines: &[&[u8]], rest: &[u8]) -> Resu
 pub fn read(alloc: Global, names: Names, text: &[u8]) -> Result<Journal, Unread>
     ensures steps { Reads (λ journal. journal.log.steps) result (read_in names text.now) }
     ensures full { IsWithin result (full_in names text.now) }
-    ensures spelled { AreNames names
-        → IfOk result (λ journal. SpellsText names journal.log.steps text.now) }
+    ensures spelled { IfOk result (λ journal. SpellsText names journal.log.steps text.now) }
     ensures none_bad { AreNames names
         → (P : List Step) → SpellsText names P text.now → IsNotBad result }
     ensures names { IfOk result (λ journal. journal.log.names ≡ names) }
 {
-    let mut lines = split_at_byte(alloc, text, b'\n')?;
-    let rest = take_last(&mut lines);
-    read_lines(alloc, names, lines.as_slice(), rest)
+    read_text(alloc, names, text)
 }

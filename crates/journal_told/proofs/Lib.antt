@@ -1,2 +1,2 @@
 pub mod Attached
-pub mod Telling
+pub mod Lengths

@@ -70,7 +70,7 @@ fn can_tell(alloc: Global, reason: Reason, attach: &SigNote, bytes: &Blob) -> Re
 }
 
 /// The notification's signal: with the attach's data and the byte, where it can have them.
-#[tactic(auto, using(crate::proofs::Telling::one_more))]
+#[tactic(auto, using(crate::proofs::Lengths::one_more))]
 fn told_by(
     alloc: Global,
     reason: Reason,

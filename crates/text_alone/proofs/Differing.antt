@@ -51,17 +51,17 @@ stays x z [] other h = cc
 stays x z (y ∷ ys) other h =
     elim (cases_Bool (bytes_eq y x)) [
       | inl holds ↦
-          let no : bytes_eq y z ≡ false =
+          let unlike : bytes_eq y z ≡ false =
           ap (λ (w : List ℕ). bytes_eq w z) (same_text y x holds) ∙ other
           in
-          let rest : has_name z ys ≡ true = rw no at h in
+          let rest : has_name z ys ≡ true = rw unlike at h in
           rw holds rest
       | inr fails ↦
           elim (cases_Bool (bytes_eq y z)) [
             | inl it ↦ rw (fails, it) refl
-            | inr no ↦
-                let rest : has_name z ys ≡ true = rw no at h in
-                rw (fails, no) (stays x z ys other rest)
+            | inr unlike ↦
+                let rest : has_name z ys ≡ true = rw unlike at h in
+                rw (fails, unlike) (stays x z ys other rest)
           ]
     ]
 
@@ -87,9 +87,9 @@ pub differ_more : (xs : List (List ℕ)) (w : List ℕ) → Differ xs → has_na
 differ_more [] w differ none = (refl, tt)
 differ_more (x ∷ xs) w differ none =
     let parts = or_false (bytes_eq x w) (has_name w xs) none in
-    let no = other_way x w parts.0 in
+    let unlike = other_way x w parts.0 in
     let apart : has_name x (xs ++ w ∷ []) ≡ false =
-    list_any-append (λ name. bytes_eq name x) xs (w ∷ []) ∙ rw (differ.0, no) refl
+    list_any-append (λ name. bytes_eq name x) xs (w ∷ []) ∙ rw (differ.0, unlike) refl
     in
     (apart, differ_more xs w differ.1 parts.1)
 

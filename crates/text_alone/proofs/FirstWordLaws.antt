@@ -152,11 +152,11 @@ IsLinkOf names None = Unit {0}
 IsLinkOf names (Some l) = IsLink names l
 
 -- the bytes name this node and this link by their names
-pub record Tells (names : Names) (bytes : List ℕ) (node link : Option ℕ) : Type 0 where
-  pub node : node_in_line bytes ≡ option_map (node_text names) node
-  pub link : link_in_line bytes ≡ option_map (link_text names) link
-  pub is_node : IsNodeOf names node
-  pub is_link : IsLinkOf names link
+pub record Tells (names : Names) (bytes : List ℕ) (n l : Option ℕ) : Type 0 where
+  pub node : node_in_line bytes ≡ option_map (node_text names) n
+  pub link : link_in_line bytes ≡ option_map (link_text names) l
+  pub is_node : IsNodeOf names n
+  pub is_link : IsLinkOf names l
 
 module _ (names : Names) (are : AreNames names) where
   link_lacks : (byte link : ℕ) → is_name_byte byte ≡ false → IsLink names link
@@ -221,13 +221,13 @@ module _ (names : Names) (are : AreNames names) where
   made_link p maker head arg limit = cond-false _ _ _ (no_plus p limit)
 
   -- a line of a head with a word behind it
-  with_word : (p : ℕ) (maker head arg : List ℕ) (words : List (List ℕ)) (node link : Option ℕ)
+  with_word : (p : ℕ) (maker head arg : List ℕ) (words : List (List ℕ)) (n l : Option ℕ)
       → p ≤ whole_limit → HaveNoSpace (decimal p ∷ maker ∷ head ∷ arg ∷ words)
-      → cond (bytes_eq head (codes "restart")) (Some arg) None ≡ option_map (node_text names) node
-      → link_at arg (is_link_head head) (is_peer_head head) ≡ option_map (link_text names) link
-      → IsNodeOf names node → IsLinkOf names link
-      → Tells names (line_of (decimal p ∷ maker ∷ head ∷ arg ∷ words)) node link
-  with_word p maker head arg words node link limit none node_told link_told is_node is_link =
+      → cond (bytes_eq head (codes "restart")) (Some arg) None ≡ option_map (node_text names) n
+      → link_at arg (is_link_head head) (is_peer_head head) ≡ option_map (link_text names) l
+      → IsNodeOf names n → IsLinkOf names l
+      → Tells names (line_of (decimal p ∷ maker ∷ head ∷ arg ∷ words)) n l
+  with_word p maker head arg words n l limit none node_told link_told is_node is_link =
       let first = four_words (decimal p) maker head arg words none in
       record {
         node =
@@ -346,14 +346,14 @@ module _ (names : Names) (are : AreNames names) where
   -- ---- lines of effects
 
   -- a line of an effect with two words behind it
-  with_words : (word c d : List ℕ) (words : List (List ℕ)) (node link : Option ℕ)
+  with_words : (word c d : List ℕ) (words : List (List ℕ)) (n l : Option ℕ)
       → HaveNoSpace (codes "+" ∷ word ∷ c ∷ d ∷ words)
-      → cond (is_node_effect word) (Some c) None ≡ option_map (node_text names) node
-      → link_at d (is_link_effect word) (is_peer_effect word) ≡ option_map (link_text names) link
-      → IsNodeOf names node → IsLinkOf names link
-      → Tells names (line_of (codes "+" ∷ word ∷ c ∷ d ∷ words)) node link
+      → cond (is_node_effect word) (Some c) None ≡ option_map (node_text names) n
+      → link_at d (is_link_effect word) (is_peer_effect word) ≡ option_map (link_text names) l
+      → IsNodeOf names n → IsLinkOf names l
+      → Tells names (line_of (codes "+" ∷ word ∷ c ∷ d ∷ words)) n l
   unfolding node_named link_named
-  with_words word c d words node link none node_told link_told is_node is_link =
+  with_words word c d words n l none node_told link_told is_node is_link =
       let first = four_words (codes "+") word c d words none in
       record {
         node = ap (λ (o : Option Words). o >>= node_named) first ∙ node_told;

@@ -153,24 +153,25 @@ number_of names w = unwrap_or (named_in names w) 0
 abbrev pub IsNamed : List (List ℕ) → List ℕ → Type 0
 IsNamed names w = named_in names w ≡ Some (number_of names w)
 
+found_here : (p : List ℕ → Bool) (x : List ℕ) (xs : List (List ℕ)) (b : Bool) → p x ≡ b
+    → (b || list_any p xs) ≡ true → (list_any p xs ≡ true → position_or_len p xs < length xs)
+    → position_or_len p (x ∷ xs) < length (x ∷ xs)
+found_here p x xs true e h before =
+    let at : position_or_len p (x ∷ xs) ≡ 0 =
+    cond-false (not (p x)) (suc (position_or_len p xs)) 0 (ap not e)
+    in
+    omega (arith, at)
+found_here p x xs false e h before =
+    let rest = before h in
+    let at : position_or_len p (x ∷ xs) ≡ suc (position_or_len p xs) =
+    cond-true (not (p x)) (suc (position_or_len p xs)) 0 (ap not e)
+    in
+    omega (arith, at, rest)
+
 found_before : (p : List ℕ → Bool) (xs : List (List ℕ)) → list_any p xs ≡ true
     → position_or_len p xs < length xs
 found_before p [] h = cc
-found_before p (x ∷ xs) h = go (p x) refl h
-  where
-    go : (b : Bool) → p x ≡ b → (b || list_any p xs) ≡ true
-        → position_or_len p (x ∷ xs) < length (x ∷ xs)
-    go true e h =
-        let at : position_or_len p (x ∷ xs) ≡ 0 =
-        cond-false (not (p x)) (suc (position_or_len p xs)) 0 (ap not e)
-        in
-        omega (arith, at)
-    go false e h =
-        let rest = found_before p xs h in
-        let at : position_or_len p (x ∷ xs) ≡ suc (position_or_len p xs) =
-        cond-true (not (p x)) (suc (position_or_len p xs)) 0 (ap not e)
-        in
-        omega (arith, at, rest)
+found_before p (x ∷ xs) h = found_here p x xs (p x) refl h (λ k. found_before p xs k)
 
 pub is_named : (names : List (List ℕ)) (w : List ℕ) → has_name w names ≡ true
     → length names ≤ 128 → IsNamed names w
@@ -188,18 +189,20 @@ is_named names w h few =
     e ∙ sym (ap (λ (o : Option ℕ). Some (unwrap_or o 0)) e)
 
 -- what is named is among the names
+named_here : (p : List ℕ → Bool) (x : List ℕ) (xs : List (List ℕ)) (b : Bool) → p x ≡ b
+    → position_or_len p (x ∷ xs) < length (x ∷ xs)
+    → (position_or_len p xs < length xs → list_any p xs ≡ true) → (b || list_any p xs) ≡ true
+named_here p x xs true e h before = refl
+named_here p x xs false e h before =
+    let at : position_or_len p (x ∷ xs) ≡ suc (position_or_len p xs) =
+    cond-true (not (p x)) (suc (position_or_len p xs)) 0 (ap not e)
+    in
+    before (omega (arith, at, h))
+
 named_before : (p : List ℕ → Bool) (xs : List (List ℕ)) → position_or_len p xs < length xs
     → list_any p xs ≡ true
 named_before p [] h = absurd (omega (arith, h))
-named_before p (x ∷ xs) h = go (p x) refl
-  where
-    go : (b : Bool) → p x ≡ b → (b || list_any p xs) ≡ true
-    go true e = refl
-    go false e =
-        let at : position_or_len p (x ∷ xs) ≡ suc (position_or_len p xs) =
-        cond-true (not (p x)) (suc (position_or_len p xs)) 0 (ap not e)
-        in
-        named_before p xs (omega (arith, at, h))
+named_before p (x ∷ xs) h = named_here p x xs (p x) refl h (λ k. named_before p xs k)
 
 pub has_named : (names : List (List ℕ)) (w : List ℕ) (n : ℕ) → named_in names w ≡ Some n
     → has_name w names ≡ true

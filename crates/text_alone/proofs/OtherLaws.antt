@@ -145,7 +145,7 @@ module _ (told : List Numbered) (names : List (List ℕ)) where
 pub covered_ways : {P : Type 0} (told : List Numbered) (others : List (List ℕ)) (w : List ℕ)
     → is_covered told others w ≡ true → (has_told w told ≡ true → P)
     → (has_name w others ≡ true → P) → P
-covered_ways told others w h first other = go (has_told w told) refl h
+covered_ways {P = P} told others w h first other = go (has_told w told) refl h
   where
     go : (t : Bool) → has_told w told ≡ t → (t || has_name w others) ≡ true → P
     go true e h = first e

@@ -1,8 +1,9 @@
 -- The names whose numbers are told stand at them.
 use Rattle.std.proofs.Common.{◌≡◌, ℕ, ◌≤◌, Bool, true, false, not, cond, List, [], ◌∷◌, ◌++◌, refl}
 use Rattle.std.proofs.Common.{sym, ap, ◌∙◌, subst, Option, Some, None, arith, ◌||◌, ◌==◌, nat_le, max}
-use Rattle.std.proofs.Common.{bytes_eq, eq-eqb, leb-true, option_map, option_or, fold}
+use Rattle.std.proofs.Common.{bytes_eq, eq-eqb, leb-true, option_map, fold}
 use Rattle.std.specs.List.{find, list_any}
+use Rattle.std.specs.Option.{option_or}
 use Rattle.std.proofs.lemmas.Bool.{and_parts}
 use Rattle.std.proofs.lemmas.List.Folds.{find-append, list_any-append}
 use Rattle.std.proofs.lemmas.List.Sums.{fold-append}
@@ -36,15 +37,18 @@ none_told = record {
   stand = λ w h. cc;
 }
 
+found_here : (n : ℕ) (t : Numbered) (told : List Numbered) (b : Bool) → (t.number == n) ≡ b
+    → (b || has_number n told) ≡ false
+    → (has_number n told ≡ false → find (λ (u : Numbered). u.number == n) told ≡ None)
+    → find (λ (u : Numbered). u.number == n) (t ∷ told) ≡ None
+found_here n t told true e h rest = cc
+found_here n t told false e h rest = rw e (rest h)
+
 found_none : (n : ℕ) (told : List Numbered) → has_number n told ≡ false
     → find (λ (t : Numbered). t.number == n) told ≡ None
 found_none n [] h = refl
-found_none n (t ∷ told) h = go (t.number == n) refl h
-  where
-    go : (b : Bool) → (t.number == n) ≡ b → (b || has_number n told) ≡ false
-        → find (λ (u : Numbered). u.number == n) (t ∷ told) ≡ None
-    go true e h = cc
-    go false e h = rw e (found_none n told h)
+found_none n (t ∷ told) h =
+    found_here n t told (t.number == n) refl h (λ k. found_none n told k)
 
 -- a name that was told is still told, and so is a further one
 module _ (told : List Numbered) (n : ℕ) (word : List ℕ) where

@@ -12,3 +12,4 @@ mod other_names;
 mod told_names;
 
 pub use names::names_of;
+pub use told_names::{Numbered, Told};

@@ -16,16 +16,16 @@ const NUMBER_MOST: u32 = 64;
 
 /// A name, and the number that a line tells of it.
 #[derive(Drop)]
-pub(crate) struct Numbered {
-    pub(crate) number: u32,
-    pub(crate) name: Name,
+pub struct Numbered {
+    pub number: u32,
+    pub name: Name,
 }
 
 /// The nodes and the links whose numbers are told, each by the first line that tells it.
 #[derive(Drop)]
-pub(crate) struct Told {
-    pub(crate) nodes: Sequence<Numbered>,
-    pub(crate) links: Sequence<Numbered>,
+pub struct Told {
+    pub nodes: Sequence<Numbered>,
+    pub links: Sequence<Numbered>,
 }
 
 fn has_number(told: &[Numbered], number: u32) -> bool
