@@ -7,7 +7,7 @@ use Rattle.journal.specs.declared.effect.Effect.{Effect}
 use Rattle.journal.specs.declared.effect.Step.{Step}
 use Rattle.chart.specs.declared.mark.Mark.{Mark}
 use Rattle.chart.specs.declared.tie.Tie.{Tie}
-use Rattle.chart.specs.Carried.{OverLinks, with_head, with_effect, with_effects, with_step, over_links}
+use Rattle.chart.specs.Carried.{OverLinks, with_head, with_effect, with_effects, with_step}
 use Rattle.chart.specs.Carried.{landed, place_in, pairing_in, arrived}
 use Rattle.linx_base.specs.Numbers.{node_of}
 use Rattle.linx_base.specs.declared.identity.Inc.{Inc}
@@ -20,8 +20,8 @@ use Rattle.journal.specs.declared.by.By.{By}
 use Rattle.chart.specs.declared.flight.Pairing.{Pairing}
 use Rattle.chart.specs.Columns.{opener}
 use Rattle.chart.specs.Marks.{line_at}
-use Rattle.chart.specs.Marks.{head_mark, effect_mark, effect_marks, step_marks, marks_of}
-use Rattle.chart.specs.Ties.{head_ties, effect_tie, effect_ties, ties_of}
+use Rattle.chart.specs.Marks.{head_mark, effect_mark, effect_marks, step_marks}
+use Rattle.chart.specs.Ties.{effect_tie, effect_ties}
 
 -- the marks of effects and one more
 pub one_mark_more : (S : List Step) (position place : ℕ) (es : List Effect) (e : Effect)
@@ -96,25 +96,6 @@ marks_put s P position m es old before after at put mark effects now =
     ∷ effect_marks (s ∷ P) position 1 l) effects
     ∙ ap (λ (k : ℕ). old ++ head_mark k s.by s.head ∷ effect_marks (s ∷ P) k 1 s.effects) same
 
--- the marks of one step more
-pub step_marks_more : (P Q : List Step) (s : Step) (before after : List Mark) → Q ≡ s ∷ P
-    → before ≡ marks_of P → after ≡ before ++ step_marks s P → after ≡ marks_of Q
-step_marks_more P Q s before after grown so_far now =
-    now ∙ ap (λ (l : List Mark). l ++ step_marks s P) so_far ∙ ap marks_of (sym grown)
-
--- the ties of one step more
-pub step_ties_more : (P Q : List Step) (s : Step) (k : ℕ) (before after : List Tie) → Q ≡ s ∷ P
-    → length P ≡ k → before ≡ ties_of P
-    → after ≡ before ++ (head_ties (k + 1) s.head ++ effect_ties (k + 1) 1 s.head s.effects)
-    → after ≡ ties_of Q
-step_ties_more P Q s k before after grown count so_far now =
-    let position : k + 1 ≡ suc (length P) = omega arith in
-    now
-    ∙ ap (λ (l : List Tie). l
-    ++ (head_ties (k + 1) s.head ++ effect_ties (k + 1) 1 s.head s.effects)) so_far
-    ∙ ap (λ (n : ℕ). ties_of P ++ (head_ties n s.head ++ effect_ties n 1 s.head s.effects)) position
-    ∙ ap ties_of (sym grown)
-
 -- a choice by the later of two tests, and then by the earlier one
 pub later_or_earlier : {X : Type 0} (a b : Bool) (x y : X)
     → cond b x (cond a x y) ≡ cond (a || b) x y
@@ -144,12 +125,6 @@ over_step s P position es old between after at head effects now =
     (with_head (line_at position 0) s.by s.head old)) effects
     ∙ ap (λ (k : ℕ). with_effects (s ∷ P) k 1 s.effects (with_head (line_at k 0) s.by s.head old))
     same
-
--- what one step more did over links
-pub over_step_more : (P Q : List Step) (s : Step) (before after : OverLinks) → Q ≡ s ∷ P
-    → before ≡ over_links P → after ≡ with_step s P before → after ≡ over_links Q
-over_step_more P Q s before after grown so_far now =
-    now ∙ ap (λ (o : OverLinks). with_step s P o) so_far ∙ sym (ap over_links grown)
 
 -- the signal that arrived is the one that an arrival over a link is of
 pub arrives : (S : List Step) (line : ItemAt) (to i : Inc) (link : LinkNo) (session : Session)

@@ -14,7 +14,7 @@ use Rattle.journal.specs.declared.by.By.TheVariants.{Actor, Pump}
 use Rattle.journal.specs.declared.head.Head.{Head}
 use Rattle.journal.specs.declared.head.Head.TheVariants.{Send}
 use Rattle.journal.specs.declared.head.SentTo.{SentTo}
-use Rattle.journal.specs.declared.head.SentTo.TheVariants.{Queued, Link, Dead}
+use Rattle.journal.specs.declared.head.SentTo.TheVariants.{Link}
 use Rattle.journal.specs.declared.effect.Effect.{Effect}
 use Rattle.journal.specs.declared.effect.Effect.TheVariants.{Arrived, Up}
 use Rattle.journal.specs.declared.effect.Step.{Step}

@@ -1,5 +1,5 @@
 -- EACH MARK HAS ONE ROW.
-use Rattle.std.proofs.Common.{◌≡◌, ℕ, suc, ◌+◌, List, [], ◌∷◌, length, refl, ap, map}
+use Rattle.std.proofs.Common.{◌≡◌, ℕ, suc, ◌+◌, List, [], ◌∷◌, length, refl, ap}
 use Rattle.linx_base.specs.declared.identity.ItemAt.{ItemAt}
 use Rattle.chart.specs.declared.mark.Mark.{Mark}
 use Rattle.chart_drawing.specs.declared.setting.Setting.{Setting}

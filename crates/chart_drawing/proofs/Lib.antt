@@ -1,4 +1,3 @@
 pub mod EachRow
-pub mod OneMore
 pub mod Counts
 pub mod Behind

@@ -1,7 +1,6 @@
 -- Arrows: from a send to its arrival, and to what else came to a queue from where it came.
-use Rattle.std.specs.Prelude.{ℕ, ◌+◌, ◌==◌, nat_lt, Bool, true, false, if◌then◌else◌}
-use Rattle.std.specs.Prelude.{List, [], ◌∷◌, ◌++◌, flat_map, Option, Some, None}
-use Rattle.linx_base.specs.declared.identity.ItemAt.{ItemAt}
+use Rattle.std.specs.Prelude.{ℕ, ◌+◌, nat_lt, Bool, true, false, if◌then◌else◌}
+use Rattle.std.specs.Prelude.{List, [], ◌∷◌, flat_map, Option, Some, None}
 use Rattle.svg_text.specs.declared.class.Class.{Class}
 use Rattle.svg_text.specs.declared.class.Class.TheVariants.{Signal, SignalHead, Found, FoundHead}
 use Rattle.svg_text.specs.declared.class.Class.TheVariants.{Notice, NoticeHead}

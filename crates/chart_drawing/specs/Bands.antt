@@ -1,6 +1,6 @@
 -- What is done to a link or a node: a band over a lane from a cut to the next mend, or to the foot
 -- of the drawing, and a line across the box of a node that restarts.
-use Rattle.std.specs.Prelude.{ℕ, ◌+◌, ◌==◌, nat_lt, Bool, false, ◌&&◌, List, [], ◌∷◌, ◌++◌}
+use Rattle.std.specs.Prelude.{ℕ, ◌+◌, ◌==◌, nat_lt, Bool, false, ◌&&◌, List, [], ◌∷◌}
 use Rattle.std.specs.Prelude.{flat_map, find, Option}
 use Rattle.linx_base.specs.declared.identity.LinkNo.{LinkNo}
 use Rattle.linx_base.specs.declared.identity.NodeNo.{NodeNo}

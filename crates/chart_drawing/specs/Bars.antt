@@ -1,6 +1,6 @@
 -- What lasts in a column: an open endpoint from its opening to its closing, a wait to what its actor
 -- does next, a session from up to down. What nothing ends lasts to the foot of the drawing.
-use Rattle.std.specs.Prelude.{ℕ, ◌-◌, ◌*◌, ◌==◌, Bool, true, false, ◌&&◌, ◌||◌, if◌then◌else◌}
+use Rattle.std.specs.Prelude.{ℕ, ◌-◌, ◌*◌, ◌==◌, Bool, true, false, ◌&&◌, ◌||◌}
 use Rattle.std.specs.Prelude.{List, [], ◌∷◌, ◌++◌, Option, Some, None, find}
 use Rattle.svg_text.specs.declared.class.Class.{Class}
 use Rattle.svg_text.specs.declared.class.Class.TheVariants.{Bar, Wait, Session}

@@ -1,7 +1,7 @@
 -- What lies beside a line: to the right what is in a queue, from its arrival to its take; to the left
 -- what was asked for, from a hunt or an attach to its answer, or to the detach.
 use Rattle.std.specs.Prelude.{ℕ, ◌+◌, ◌-◌, ◌==◌, nat_lt, Bool, true, false, not, ◌&&◌}
-use Rattle.std.specs.Prelude.{if◌then◌else◌, List, [], ◌∷◌, ◌++◌, Option, Some, None}
+use Rattle.std.specs.Prelude.{if◌then◌else◌, List, [], ◌∷◌, ◌++◌, Option, Some}
 use Rattle.std.specs.List.{list_any}
 use Rattle.svg_text.specs.declared.class.Class.{Class}
 use Rattle.svg_text.specs.declared.class.Class.TheVariants.{Queue, QueueFound, QueueNotice, Found}
@@ -14,7 +14,7 @@ use Rattle.chart.specs.declared.mark.MarkKind.TheVariants as kinds
 use Rattle.chart.specs.declared.tie.Tie.{Tie}
 use Rattle.chart.specs.declared.tie.TieKind.{TieKind}
 use Rattle.chart.specs.declared.tie.TieKind.TheVariants.{Signal, Carried, Lost, Taken}
-use Rattle.chart.specs.declared.tie.TieKind.TheVariants.{Hunt, Attach, Detach}
+use Rattle.chart.specs.declared.tie.TieKind.TheVariants.{Hunt}
 use Rattle.chart_drawing.specs.declared.beside.Loop.{Loop}
 use Rattle.chart_drawing.specs.declared.spot.Spot.{Spot}
 use Rattle.chart_drawing.specs.Spots.{spot_at, same_column, move, line, beside}

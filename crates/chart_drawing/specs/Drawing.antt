@@ -1,5 +1,5 @@
 -- The drawing of a chart.
-use Rattle.std.specs.Prelude.{◌≡◌, ℕ, ◌+◌, ◌*◌, nat_le, List, [], ◌++◌, length, map, flat_map, codes}
+use Rattle.std.specs.Prelude.{◌≡◌, ◌+◌, nat_le, List, [], ◌++◌, length, map, flat_map, codes}
 use Rattle.std.specs.Prelude.{decimal, Result, Ok, Err, if◌then◌else◌}
 use Rattle.linx_base.specs.declared.identity.ItemAt.{ItemAt}
 use Rattle.svg_text.specs.declared.picture.Picture.{Picture}

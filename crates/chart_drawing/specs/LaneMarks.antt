@@ -1,6 +1,6 @@
 -- How packets and ticks look in a lane, which is 156 wide, with rails at 24 and at 132. A packet
 -- goes from the first rail to the second, or the other way where the lane is turned.
-use Rattle.std.specs.Prelude.{ℕ, ◌+◌, Bool, if◌then◌else◌, List, [], ◌∷◌}
+use Rattle.std.specs.Prelude.{ℕ, if◌then◌else◌, List, [], ◌∷◌}
 use Rattle.linx_base.specs.declared.frame.Verdict.{Verdict}
 use Rattle.linx_base.specs.declared.frame.Verdict.TheVariants.{Deliver, Lose, Repeat, Swap}
 use Rattle.svg_text.specs.declared.class.Class.{Class}

@@ -1,12 +1,11 @@
 -- The rows of a drawing, one for each mark, and the words before and beside them.
-use Rattle.std.specs.Prelude.{ℕ, ◌+◌, ◌-◌, ◌/◌, ◌==◌, nat_le, Bool, ◌&&◌, not, if◌then◌else◌}
-use Rattle.std.specs.Prelude.{List, [], ◌∷◌, ◌++◌, length, take, flat_map, Option, Some, None}
-use Rattle.std.specs.Prelude.{slice_get, codes, decimal, ◌≡◌, map}
+use Rattle.std.specs.Prelude.{ℕ, ◌+◌, ◌-◌, ◌/◌, ◌==◌, nat_le, Bool, if◌then◌else◌}
+use Rattle.std.specs.Prelude.{List, [], ◌∷◌, ◌++◌, length, take, Option, Some, None}
+use Rattle.std.specs.Prelude.{slice_get, codes, decimal, map}
 use Rattle.journal.specs.declared.head.SentTo.{SentTo}
 use Rattle.journal.specs.declared.head.SentTo.TheVariants.{Dead}
 use Rattle.linx_base.specs.declared.frame.Verdict.{Verdict}
 use Rattle.linx_base.specs.declared.frame.Verdict.TheVariants.{Deliver, Lose, Repeat, Swap}
-use Rattle.linx_base.specs.declared.identity.ItemAt.{ItemAt}
 use Rattle.svg_text.specs.declared.class.Class.{Class}
 use Rattle.svg_text.specs.declared.class.Class.TheVariants.{Hit, Label, Faint, Strong, WrongLabel}
 use Rattle.svg_text.specs.declared.class.Class.TheVariants.{Line, Effect}

@@ -8,7 +8,7 @@ use Rattle.svg_text.specs.declared.shape.Point.{Point}
 use Rattle.svg_text.specs.declared.shape.Stroke.{Stroke}
 use Rattle.svg_text.specs.declared.shape.Stroke.TheVariants as strokes
 use Rattle.chart.specs.declared.column.Column.{Column}
-use Rattle.chart.specs.declared.column.Column.TheVariants.{Life, Lane, Rail, Nowhere}
+use Rattle.chart.specs.declared.column.Column.TheVariants.{Life, Rail}
 use Rattle.chart.specs.declared.mark.Mark.{Mark}
 use Rattle.chart_drawing.specs.declared.setting.Setting.{Setting}
 use Rattle.chart_drawing.specs.declared.spot.Spot.{Spot}

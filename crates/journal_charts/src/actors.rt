@@ -1,10 +1,11 @@
 //! The actors of a journal: those that made steps, with the node and the name of the first endpoint
 //! that each of them opened.
-ghost use Rattle.std.specs.Prelude.{◌≡◌, List, ℕ, map, OnOk, IfOk, slice_get};
+ghost use Rattle.std.specs.Prelude.{◌≡◌, OnOk, IfOk, slice_get};
 ghost use Rattle.std.specs.Option.{option_copied};
 ghost use Rattle.journal.specs.History.{is_by};
 ghost use Rattle.journal_charts.specs.Actors.{has_actor, with_actor, with_maker, makers_of, is_open};
-ghost use Rattle.journal_charts.specs.Actors.{is_opening, first_open, node_opened, node_of_opening};
+ghost use Rattle.journal_charts.specs.Actors.{is_opening, or_step, first_open, node_opened};
+ghost use Rattle.journal_charts.specs.Actors.{node_of_opening};
 ghost use Rattle.journal_charts.specs.Actors.{name_of_open, name_in, drawn_actor, actors_of};
 
 use crate::ends::RIGHTMOST;
@@ -77,6 +78,17 @@ fn is_opening(actor: u32, step: &Step) -> bool
     is_by(step.by, actor) && is_open(&step.head)
 }
 
+/// What was found before, or else this step where it is one.
+fn or_step<'a>(before: Option<&'a Step>, is_one: bool, step: &'a Step) -> Option<&'a Step>
+    ensures { option_copied result ≡ or_step (option_copied before.entry) is_one step.now }
+{
+    match before {
+        Some(first) => Some(first),
+        None if is_one => Some(step),
+        None => None,
+    }
+}
+
 /// The step in which an actor opened its first endpoint.
 fn first_open(journal: &Journal, actor: u32) -> Option<&Step>
     ensures { option_copied result ≡ first_open journal.now.log.steps actor }
@@ -84,9 +96,7 @@ fn first_open(journal: &Journal, actor: u32) -> Option<&Step>
     let mut first = None;
     for done in 0..journal.len() {
         let step = journal.step_after(done);
-        if first.is_none() && is_opening(actor, step) {
-            first = Some(step);
-        }
+        first = or_step(first, is_opening(actor, step), step);
     }
     first
 }

@@ -8,14 +8,14 @@ use crate::setting::setting_of;
 use chart::{all_marks, all_ties};
 use chart_drawing::{Chart, DrawError, draw};
 use journal::Journal;
-use linx_base::{NoMemory, Sequence};
+use linx_base::NoMemory;
 use std::alloc::Global;
 
 /// The marks and ties of a journal, with the words of a text's rows.
 fn rows_chart(alloc: Global, text: &[u8], journal: &Journal) -> Result<Chart, NoMemory>
     ensures { IfOk result (λ chart. chart ≡ rows_chart text.now journal.now.log.steps) }
 {
-    let lines = Sequence::of(rows_in(alloc, text)?);
+    let lines = rows_in(alloc, text)?;
     Ok(Chart {
         marks: all_marks(alloc, journal)?,
         ties: all_ties(alloc, journal)?,

@@ -1,6 +1,5 @@
 //! The nodes that a link joins, as far as the steps tell them.
 ghost use Rattle.std.specs.Prelude.{◌≡◌, slice_get};
-ghost use Rattle.std.specs.Option.{option_copied};
 ghost use Rattle.journal_charts.specs.Ends.{same_side, is_met_at, node_of_effect, node_of_first};
 ghost use Rattle.journal_charts.specs.Ends.{end_told, or_told, end_in, first_end, second_end};
 
@@ -67,6 +66,16 @@ fn end_told(link: LinkNo, side: Side, step: &Step) -> Option<NodeNo>
     }
 }
 
+/// What was told before, or else what is told now.
+fn or_told(before: Option<NodeNo>, now: Option<NodeNo>) -> Option<NodeNo>
+    ensures { result ≡ or_told before now }
+{
+    match before {
+        Some(node) => Some(node),
+        None => now,
+    }
+}
+
 /// The node at a side of a link that the first step tells which tells one.
 fn end_in(journal: &Journal, link: LinkNo, side: Side) -> Option<NodeNo>
     ensures { result ≡ end_in journal.now.log.steps link side }
@@ -74,9 +83,7 @@ fn end_in(journal: &Journal, link: LinkNo, side: Side) -> Option<NodeNo>
     let mut end = None;
     for done in 0..journal.len() {
         let step = journal.step_after(done);
-        if end.is_none() {
-            end = end_told(link, side, step);
-        }
+        end = or_told(end, end_told(link, side, step));
     }
     end
 }

@@ -1,10 +1,17 @@
 //! The lines of a text that the rows of its chart are of.
-ghost use Rattle.std.specs.Prelude.{◌≡◌, ◌<◌, ◌≤◌, length, position, map, IfOk, IfSome};
-ghost use Rattle.journal_charts.specs.Rows.{is_heading, first_row, row_words, rows_in};
+ghost use Rattle.std.specs.Prelude.{◌≡◌, map, IfOk};
+ghost use Rattle.journal_charts.specs.Rows.{is_heading, row_words, no_rows, rows_with, rows_in};
 
-use linx_base::{Blob, NoMemory};
+use linx_base::{Blob, NoMemory, Sequence};
 use std::alloc::Global;
 use text_words::{behind, cut, split_at_byte, take_last};
+
+/// The words of the rows so far, once a line has announced the steps.
+#[derive(Drop)]
+pub(crate) struct Rows {
+    pub(crate) begun: bool,
+    pub(crate) words: Sequence<Blob>,
+}
 
 /// Whether a line announces the steps.
 fn is_heading(line: &[u8]) -> bool
@@ -13,25 +20,6 @@ fn is_heading(line: &[u8]) -> bool
     match behind(line, b"journal ") {
         Some(_) => true,
         None => false,
-    }
-}
-
-/// The place of the first line that announces the steps.
-fn heading_in(lines: &[&[u8]]) -> Option<usize>
-    ensures place { result ≡ position is_heading (map (λ l. l.now) lines.now) }
-    ensures within { IfSome result (λ place. place < length lines.now) }
-{
-    lines.iter().position(|line| is_heading(line))
-}
-
-/// The place of the first line behind it, or behind all where there is none.
-fn first_row(lines: &[&[u8]]) -> usize
-    ensures place { result ≡ first_row (map (λ l. l.now) lines.now) }
-    ensures within { result ≤ length lines.now }
-{
-    match heading_in(lines) {
-        Some(place) => place + 1,
-        None => lines.len(),
     }
 }
 
@@ -48,24 +36,49 @@ fn row_words(line: &[u8]) -> &[u8]
     }
 }
 
-/// The words of lines beside their rows.
-fn words_of_all(alloc: Global, lines: &[&[u8]]) -> Result<Vec<Blob>, NoMemory>
-    ensures { IfOk result (λ rows.
-        rows.items ≡ map row_words (map (λ l. l.now) lines.now)) }
+impl Rows {
+    ghost use Rattle.std.specs.Prelude.{◌≡◌, OnOk};
+    ghost use Rattle.journal_charts.specs.Rows.{no_rows, rows_and};
+
+    fn new(alloc: Global) -> Rows
+        ensures { result ≡ no_rows }
+    {
+        Rows {
+            begun: false,
+            words: Sequence::new(alloc),
+        }
+    }
+
+    /// Takes in the next line.
+    fn add_line(&mut self, alloc: Global, line: &[u8]) -> Result<(), NoMemory>
+        ensures { OnOk result (self.new ≡ rows_and self.old line.now) }
+    {
+        if !self.begun {
+            self.begun = is_heading(line);
+            return Ok(());
+        }
+        self.words.push(Blob::of(alloc, row_words(line))?)?;
+        Ok(())
+    }
+}
+
+/// The rows of lines.
+fn rows_with(alloc: Global, lines: &[&[u8]]) -> Result<Rows, NoMemory>
+    ensures { IfOk result (λ rows. rows ≡ rows_with no_rows (map (λ l. l.now) lines.now)) }
 {
-    let mut rows = Vec::with_capacity(alloc, lines.len())?;
+    let mut rows = Rows::new(alloc);
     for line in lines {
-        rows.push(Blob::of(alloc, row_words(line))?)?;
+        rows.add_line(alloc, line)?;
     }
     Ok(rows)
 }
 
 /// The words of the rows of a text.
-pub(crate) fn rows_in(alloc: Global, text: &[u8]) -> Result<Vec<Blob>, NoMemory>
-    ensures { IfOk result (λ rows. rows.items ≡ rows_in text.now) }
+pub(crate) fn rows_in(alloc: Global, text: &[u8]) -> Result<Sequence<Blob>, NoMemory>
+    ensures { IfOk result (λ rows. rows ≡ rows_in text.now) }
 {
     let mut lines = split_at_byte(alloc, text, b'\n')?;
     let _rest = take_last(&mut lines);
-    let first = first_row(&lines);
-    words_of_all(alloc, &lines[first..])
+    let rows = rows_with(alloc, &lines)?;
+    Ok(rows.words)
 }

@@ -75,12 +75,13 @@ fn nodes_with(
     ensures { IfOk result (λ nodes. nodes.items ≡ nodes_with names.now actors.now) }
 {
     let mut nodes = nodes_named(alloc, names)?;
-    if has_stray(actors) {
-        nodes.push(DrawnNode {
-            node: RIGHTMOST,
-            name: Blob::of(alloc, b"?")?,
-        })?;
+    if !has_stray(actors) {
+        return Ok(nodes);
     }
+    nodes.push(DrawnNode {
+        node: RIGHTMOST,
+        name: Blob::of(alloc, b"?")?,
+    })?;
     Ok(nodes)
 }
 

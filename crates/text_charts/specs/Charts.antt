@@ -5,18 +5,16 @@ use Rattle.journal.specs.declared.effect.Step.{Step}
 use Rattle.journal_read.specs.Reading.{read_in}
 use Rattle.text_names.specs.Numbering.{names_in}
 use Rattle.chart_drawing.specs.declared.drawing.DrawError.{DrawError}
-use Rattle.chart_drawing.specs.declared.drawing.DrawError.TheVariants as draws
 use Rattle.journal_charts.specs.Charts.{svg_of}
+use Rattle.text_charts.specs.Failures.{fault_of_drawing}
 use Rattle.text_charts.specs.declared.fault.ChartFault.{ChartFault}
-use Rattle.text_charts.specs.declared.fault.ChartFault.TheVariants.{Bad, TooLong, TooWide, NoMemory}
+use Rattle.text_charts.specs.declared.fault.ChartFault.TheVariants.{Bad, NoMemory}
 
 -- a chart, or why a text has none: the steps have more than 6,000 lines, or there are more than 64
 -- nodes, links or actors
 abbrev pub chart_if : Result (List ℕ) DrawError → Result (List ℕ) ChartFault
 chart_if (Ok svg) = Ok svg
-chart_if (Err draws.TooLong) = Err TooLong
-chart_if (Err draws.TooWide) = Err TooWide
-chart_if (Err draws.NoMemory) = Err NoMemory
+chart_if (Err e) = Err (fault_of_drawing e)
 
 -- the chart of what was read: of the steps that a text spells, or else its first bad line
 abbrev pub chart_read : Names → List ℕ → Result (List Step) ℕ → Result (List ℕ) ChartFault

@@ -4,18 +4,13 @@ ghost use Rattle.journal_charts.specs.Charts.{svg_of};
 ghost use Rattle.text_charts.specs.Charts.{chart_if, chart_in, IsFault};
 
 use crate::fault::ChartFault;
-use chart_drawing::DrawError;
 use journal::Journal;
 use journal_charts::chart_of as chart_of_journal;
 use std::alloc::Global;
 use text_alone::read_alone;
 
 /// The chart of a journal, beside the rows of its text.
-fn chart_of_read(
-    alloc: Global,
-    text: &[u8],
-    journal: &Journal,
-) -> Result<Vec<u8>, ChartFault>
+fn chart_of_read(alloc: Global, text: &[u8], journal: &Journal) -> Result<Vec<u8>, ChartFault>
     ensures drawn { IfOk result (λ svg.
         chart_if (svg_of journal.now.log.names text.now journal.now.log.steps) ≡ Ok svg.items) }
     ensures fault { IfErr result (λ fault. IsFault fault
@@ -23,9 +18,7 @@ fn chart_of_read(
 {
     match chart_of_journal(alloc, text, journal) {
         Ok(svg) => Ok(svg),
-        Err(DrawError::TooLong) => Err(ChartFault::TooLong),
-        Err(DrawError::TooWide) => Err(ChartFault::TooWide),
-        Err(DrawError::NoMemory) => Err(ChartFault::NoMemory),
+        Err(error) => Err(ChartFault::from(error)),
     }
 }
 

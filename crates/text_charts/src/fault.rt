@@ -1,6 +1,7 @@
 ghost use Rattle.std.specs.Prelude.{◌≡◌};
-ghost use Rattle.text_charts.specs.Failures.{fault_of};
+ghost use Rattle.text_charts.specs.Failures.{fault_of_reading, fault_of_drawing};
 
+use chart_drawing::DrawError;
 use journal_read::Unread;
 use std::error::Error;
 use std::fmt;
@@ -38,12 +39,24 @@ impl fmt::Display for ChartFault {
 impl Error for ChartFault {}
 
 impl From<Unread> for ChartFault {
-    ghost from_gives = { λ unread fault. fault ≡ fault_of unread };
+    ghost from_gives = { λ unread fault. fault ≡ fault_of_reading unread };
 
     fn from(unread: Unread) -> ChartFault {
         match unread {
             Unread::Bad { line } => ChartFault::Bad { line },
             Unread::NoMemory => ChartFault::NoMemory,
+        }
+    }
+}
+
+impl From<DrawError> for ChartFault {
+    ghost from_gives = { λ error fault. fault ≡ fault_of_drawing error };
+
+    fn from(error: DrawError) -> ChartFault {
+        match error {
+            DrawError::TooLong => ChartFault::TooLong,
+            DrawError::TooWide => ChartFault::TooWide,
+            DrawError::NoMemory => ChartFault::NoMemory,
         }
     }
 }
