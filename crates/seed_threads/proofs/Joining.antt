@@ -71,6 +71,19 @@ module _ (bytes : List ℕ) (sought : Sought) (wanted : List (List ℕ)) where
       stopped = finds.stopped;
     }
 
+  -- what is found in a wave behind a front in which nothing is
+  module _ (first more from left wave : ℕ) (low : first ≤ from) (same : from + left ≡ first + more)
+      (within : wave ≤ left) (front : ShowNothing bytes sought wanted first from) where
+    pub found_at : (found : Found) → Finds bytes from wave sought wanted (Ok (Some found))
+        → Finds bytes first more sought wanted (Ok (Some found))
+    found_at found finds = found_behind first more from left low same front (Ok (Some found))
+        (found_in_front from wave left within found finds)
+
+    pub stopped_at : (stop : RunStop) → Finds bytes from wave sought wanted (Err stop)
+        → Finds bytes first more sought wanted (Err stop)
+    stopped_at stop finds = found_behind first more from left low same front (Err stop)
+        (stopped_in_front from wave left within stop finds)
+
   -- the two together
   pub in_both : (first half more : ℕ) → half < more → (front behind : Result (Option Found) RunStop)
       → Finds bytes first half sought wanted front

@@ -50,7 +50,8 @@ fn find_in_waves<R: Threads + Sync>(
         let wave = left.min(pieces * size - 1);
         match find_in_pieces(rt, alloc, bytes, from, wave, pieces, sought, wanted) {
             Ok(None) => {}
-            found => return found,
+            Ok(Some(found)) => return Ok(Some(found)),
+            Err(stop) => return Err(stop),
         }
         if wave == left {
             return Ok(None);
