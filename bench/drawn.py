@@ -1,0 +1,79 @@
+#!/usr/bin/env python3
+"""Judges the charts that `linx_sim chart` draws by those of bench/charts.py.
+
+The texts are those of examples/ and its races in the fixed order, and of the random scripts of the
+seeds 1 to COUNT, each in the order of its seed. Both must draw the same, byte for byte; a chart of
+more than 6,000 rows must be refused. The pictures of docs/use/pictures must be those that the program
+draws. It says how many charts were the same, and the first that wasn't.
+
+    bench/try drawn [COUNT [PROGRAM]]           COUNT is 100 if unsaid
+"""
+import pathlib
+import subprocess
+import sys
+
+sys.dont_write_bytecode = True
+
+import arguments
+import judge
+from seeds import scripts
+
+BENCH = pathlib.Path(__file__).resolve().parent
+TOP = BENCH.parent
+PICTURES = TOP / "docs/use/pictures"
+ROWS_MOST = 6000
+SECONDS = 60
+TOO_LARGE = b"linx_sim: chart of more than 6000 rows\n"
+
+
+def rows_of(text):
+    """How many lines the journal of a text has."""
+    return text[text.index(b"journal "):].count(b"\n") - 1 if text else 0
+
+
+def wrong(program, text):
+    """What is wrong with the chart of a text, or None."""
+    ended = judge.ended([program, "chart"], text, SECONDS)
+    if rows_of(text) > ROWS_MOST:
+        return judge.difference(ended, (8, TOO_LARGE, b""))
+    drawn = subprocess.run([sys.executable, str(BENCH / "charts.py")], input=text,
+                           capture_output=True, check=True).stdout
+    return judge.difference(ended, (0, b"", drawn))
+
+
+def texts(program, count):
+    """The texts, each with a name."""
+    races = [(path.name, path.read_bytes()) for path in (TOP / "examples/races").glob("*.linx")]
+    for place, (name, script) in enumerate([*sorted(races), *scripts(count)]):
+        words = ["serial"] if name.endswith(".linx") else ["seed", str(place)]
+        status, _, text = judge.ended([program, *words], script, SECONDS)
+        if status == 0 and text:
+            yield name, text
+
+
+def main():
+    """Draws all of them."""
+    parser = arguments.parser(__doc__)
+    parser.add_argument("count", type=arguments.count, nargs="?", default=100)
+    arguments.add_program(parser)
+    given = parser.parse_args()
+    program = arguments.found_program(parser, given)
+    same, faults = 0, []
+    for name, text in texts(program, given.count):
+        fault = wrong(program, text)
+        same += fault is None
+        if fault is not None:
+            faults.append(f"{name}: {fault}")
+    for path in sorted(PICTURES.glob("*.svg")):
+        script = (TOP / "examples" / f"{path.stem}.linx").read_bytes()
+        text = judge.ended([program, "serial"], script, SECONDS)[2]
+        if judge.ended([program, "chart"], text, SECONDS)[2] != path.read_bytes():
+            faults.append(f"{path.name}: another picture")
+    print(f"{same} charts are the same")
+    if faults:
+        print(f"first that isn't: {faults[0]}")
+    return min(len(faults), 1)
+
+
+if __name__ == "__main__":
+    sys.exit(main())
