@@ -172,6 +172,11 @@ found_in names text lines are few same nodes links =
 
 -- ---- the lines of steps
 
+-- a line without a byte has no word
+no_words : first_words [] ≡ None
+unfolding first_words
+no_words = refl
+
 module _ (names : Names) (are : AreNames names) where
   node_among : (n : Option ℕ) → IsNodeOf names n
       → IsAmong names.nodes (option_map (node_text names) n)
@@ -191,7 +196,10 @@ module _ (names : Names) (are : AreNames names) where
 
   nodes_among : (lines : List Line) → AreLines names lines
       → AllAmong names.nodes (map node_in_line (behind lines))
-  nodes_among [] is = (tt, tt)
+  nodes_among [] is = (
+    subst (IsAmong names.nodes) (sym (ap (λ (o : Option Words). o >>= node_named) no_words)) tt,
+    tt,
+  )
   nodes_among (line ∷ lines) is =
       let tells = line_tells names are line is.0 in (
         subst (IsAmong names.nodes) (sym tells.node) (node_among (node_of line) tells.is_node),
@@ -200,7 +208,10 @@ module _ (names : Names) (are : AreNames names) where
 
   links_among : (lines : List Line) → AreLines names lines
       → AllAmong names.links (map link_in_line (behind lines))
-  links_among [] is = (tt, tt)
+  links_among [] is = (
+    subst (IsAmong names.links) (sym (ap (λ (o : Option Words). o >>= link_named) no_words)) tt,
+    tt,
+  )
   links_among (line ∷ lines) is =
       let tells = line_tells names are line is.0 in (
         subst (IsAmong names.links) (sym tells.link) (link_among (link_of line) tells.is_link),

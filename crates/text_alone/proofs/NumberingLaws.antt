@@ -158,13 +158,13 @@ found_here : (p : List ℕ → Bool) (x : List ℕ) (xs : List (List ℕ)) (b : 
     → position_or_len p (x ∷ xs) < length (x ∷ xs)
 found_here p x xs true e h before =
     let at : position_or_len p (x ∷ xs) ≡ 0 =
-    cond-false (not (p x)) (suc (position_or_len p xs)) 0 (ap not e)
+    cond-false (not (p x)) (1 + position_or_len p xs) 0 (ap not e)
     in
     omega (arith, at)
 found_here p x xs false e h before =
     let rest = before h in
-    let at : position_or_len p (x ∷ xs) ≡ suc (position_or_len p xs) =
-    cond-true (not (p x)) (suc (position_or_len p xs)) 0 (ap not e)
+    let at : position_or_len p (x ∷ xs) ≡ 1 + position_or_len p xs =
+    cond-true (not (p x)) (1 + position_or_len p xs) 0 (ap not e)
     in
     omega (arith, at, rest)
 
@@ -194,8 +194,8 @@ named_here : (p : List ℕ → Bool) (x : List ℕ) (xs : List (List ℕ)) (b : 
     → (position_or_len p xs < length xs → list_any p xs ≡ true) → (b || list_any p xs) ≡ true
 named_here p x xs true e h before = refl
 named_here p x xs false e h before =
-    let at : position_or_len p (x ∷ xs) ≡ suc (position_or_len p xs) =
-    cond-true (not (p x)) (suc (position_or_len p xs)) 0 (ap not e)
+    let at : position_or_len p (x ∷ xs) ≡ 1 + position_or_len p xs =
+    cond-true (not (p x)) (1 + position_or_len p xs) 0 (ap not e)
     in
     before (omega (arith, at, h))
 
