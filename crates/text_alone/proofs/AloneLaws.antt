@@ -1,31 +1,30 @@
 -- A text of a run is read with the names that it spells.
-use Rattle.std.proofs.Common.{◌≡◌, ℕ, suc, ◌≤◌, Bool, true, false, cond, List, [], ◌∷◌, ◌++◌, length}
-use Rattle.std.proofs.Common.{map, refl, sym, ap, ◌∙◌, subst, Option, Some, None, Result, Ok, arith}
-use Rattle.std.proofs.Common.{IsSomeAnd, append_assoc, is_some, option_map, codes, decimal}
+use Rattle.std.proofs.Common.{◌≡◌, ℕ, ◌≤◌, true, cond, List, [], ◌∷◌, ◌++◌, length}
+use Rattle.std.proofs.Common.{map, refl, sym, ap, ◌∙◌, subst, Option, Some, None, Result, arith}
+use Rattle.std.proofs.Common.{IsSomeAnd, append_assoc, is_some, option_map, decimal}
 use Rattle.std.specs.List.{list_all}
 use Rattle.std.specs.Result.{result_ok}
 use Rattle.std.proofs.lemmas.List.{length-map}
 use Rattle.linx_base.specs.NameText.{is_name}
 use Rattle.linx_base.specs.declared.name.Names.{Names}
 use Rattle.journal.specs.declared.effect.Step.{Step}
-use Rattle.journal.specs.Logs.{Log}
 use Rattle.journal_text.specs.Text.{text_of}
 use Rattle.journal_text.specs.Values.{link_text, node_text}
 use Rattle.journal_words.specs.declared.lines.Line.{Line}
-use Rattle.text_words.specs.Words.{after, parts_at}
+use Rattle.text_words.specs.Words.{parts_at}
 use Rattle.text_words.specs.Gives.{◌>>=◌}
 use Rattle.text_names.specs.declared.told_names.Numbered.{Numbered}
 use Rattle.text_names.specs.declared.told_names.Told.{Told}
 use Rattle.text_names.specs.FirstWords.{Words, first_words}
 use Rattle.text_names.specs.Naming.{link_named, node_named}
-use Rattle.text_names.specs.Numbering.{names_in, names_with, numbered_names, step_lines}
-use Rattle.text_names.specs.OtherNames.{has_name, no_names, other_front, other_line, other_lines}
+use Rattle.text_names.specs.Numbering.{names_in, numbered_names, step_lines}
+use Rattle.text_names.specs.OtherNames.{no_names, other_front, other_line, other_lines}
 use Rattle.text_names.specs.OtherNames.{with_if_named}
 use Rattle.text_names.specs.ToldNames.{nothing_told, told_lines}
-use Rattle.reading_laws.specs.Forms.{AreNames, IsLink, IsNode}
+use Rattle.reading_laws.specs.Forms.{AreNames}
 use Rattle.reading_laws.proofs.NameLaws.{link_is_name, node_is_name}
-use Rattle.journal_read.specs.Printed.{AllFit, PrintedIsRead, read_step}
-use Rattle.journal_read.specs.Reading.{heading, read_in}
+use Rattle.journal_read.specs.Printed.{PrintedIsRead, read_step}
+use Rattle.journal_read.specs.Reading.{read_in}
 use Rattle.journal_read.specs.Spelled.{AreLines, AreLogLines, SpellsLines, SpellsText, TextsAreRead}
 use Rattle.journal_read.specs.Spelled.{bytes_of, heading_line, lines_of_steps, text_of_lines}
 use Rattle.journal_read.proofs.TextLaws.{after_again, spelled_parts}

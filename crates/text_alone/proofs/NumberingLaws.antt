@@ -1,6 +1,6 @@
 -- The names of a text have all that are told and all others.
-use Rattle.std.proofs.Common.{inl, inr, ◌≡◌, ℕ, zero, suc, ◌+◌, ◌≤◌, ◌<◌, Bool, true, false, not, cond}
-use Rattle.std.proofs.Common.{List, [], ◌∷◌, ◌++◌, length, refl, sym, ap, ◌∙◌, subst, Option, Some}
+use Rattle.std.proofs.Common.{◌≡◌, ℕ, zero, suc, ◌+◌, ◌≤◌, ◌<◌, Bool, true, false, not}
+use Rattle.std.proofs.Common.{List, [], ◌∷◌, ◌++◌, length, refl, sym, ap, ◌∙◌, Option, Some}
 use Rattle.std.proofs.Common.{None, arith, ◌||◌, nat_lt, bytes_eq, position, unwrap_or, lt-ltb, ltb-true}
 use Rattle.std.proofs.Common.{length-append, ⊎_elim}
 use Rattle.std.specs.List.{list_all, list_any, position_or_len}
@@ -12,7 +12,6 @@ use Rattle.text_names.specs.declared.told_names.Numbered.{Numbered}
 use Rattle.text_names.specs.Numbering.{behind_name, highest, name_at, names_up_to, nobody}
 use Rattle.text_names.specs.Numbering.{numbered_names, told_name}
 use Rattle.text_names.specs.OtherNames.{has_name}
-use Rattle.text_names.specs.ToldNames.{has_told}
 use Rattle.text_words.specs.Gives.{◌>>=◌}
 use Rattle.reading_laws.proofs.Tools.{bind_some, if_some_yes}
 use Rattle.text_alone.proofs.Differing.{has_front, has_last}
