@@ -1,31 +1,30 @@
 -- A text of a run is read with the names that it spells.
-use Rattle.std.proofs.Common.{◌≡◌, ℕ, suc, ◌≤◌, Bool, true, false, cond, List, [], ◌∷◌, ◌++◌, length}
-use Rattle.std.proofs.Common.{map, refl, sym, ap, ◌∙◌, subst, Option, Some, None, Result, Ok, arith}
-use Rattle.std.proofs.Common.{IsSomeAnd, append_assoc, is_some, option_map, codes, decimal}
+use Rattle.std.proofs.Common.{◌≡◌, ℕ, ◌≤◌, true, cond, List, [], ◌∷◌, ◌++◌, length}
+use Rattle.std.proofs.Common.{map, refl, sym, ap, ◌∙◌, subst, Option, Some, None, Result, arith}
+use Rattle.std.proofs.Common.{IsSomeAnd, append_assoc, is_some, option_map, decimal}
 use Rattle.std.specs.List.{list_all}
 use Rattle.std.specs.Result.{result_ok}
 use Rattle.std.proofs.lemmas.List.{length-map}
 use Rattle.linx_base.specs.NameText.{is_name}
 use Rattle.linx_base.specs.declared.name.Names.{Names}
 use Rattle.journal.specs.declared.effect.Step.{Step}
-use Rattle.journal.specs.Logs.{Log}
 use Rattle.journal_text.specs.Text.{text_of}
 use Rattle.journal_text.specs.Values.{link_text, node_text}
 use Rattle.journal_words.specs.declared.lines.Line.{Line}
-use Rattle.text_words.specs.Words.{after, parts_at}
+use Rattle.text_words.specs.Words.{parts_at}
 use Rattle.text_words.specs.Gives.{◌>>=◌}
 use Rattle.text_names.specs.declared.told_names.Numbered.{Numbered}
 use Rattle.text_names.specs.declared.told_names.Told.{Told}
 use Rattle.text_names.specs.FirstWords.{Words, first_words}
 use Rattle.text_names.specs.Naming.{link_named, node_named}
-use Rattle.text_names.specs.Numbering.{names_in, names_with, numbered_names, step_lines}
-use Rattle.text_names.specs.OtherNames.{has_name, no_names, other_front, other_line, other_lines}
+use Rattle.text_names.specs.Numbering.{names_in, numbered_names, step_lines}
+use Rattle.text_names.specs.OtherNames.{no_names, other_front, other_line, other_lines}
 use Rattle.text_names.specs.OtherNames.{with_if_named}
 use Rattle.text_names.specs.ToldNames.{nothing_told, told_lines}
-use Rattle.reading_laws.specs.Forms.{AreNames, IsLink, IsNode}
+use Rattle.reading_laws.specs.Forms.{AreNames}
 use Rattle.reading_laws.proofs.NameLaws.{link_is_name, node_is_name}
-use Rattle.journal_read.specs.Printed.{AllFit, PrintedIsRead, read_step}
-use Rattle.journal_read.specs.Reading.{heading, read_in}
+use Rattle.journal_read.specs.Printed.{PrintedIsRead, read_step}
+use Rattle.journal_read.specs.Reading.{read_in}
 use Rattle.journal_read.specs.Spelled.{AreLines, AreLogLines, SpellsLines, SpellsText, TextsAreRead}
 use Rattle.journal_read.specs.Spelled.{bytes_of, heading_line, lines_of_steps, text_of_lines}
 use Rattle.journal_read.proofs.TextLaws.{after_again, spelled_parts}
@@ -172,6 +171,11 @@ found_in names text lines are few same nodes links =
 
 -- ---- the lines of steps
 
+-- a line without a byte has no word
+no_words : first_words [] ≡ None
+unfolding first_words
+no_words = refl
+
 module _ (names : Names) (are : AreNames names) where
   node_among : (n : Option ℕ) → IsNodeOf names n
       → IsAmong names.nodes (option_map (node_text names) n)
@@ -191,7 +195,10 @@ module _ (names : Names) (are : AreNames names) where
 
   nodes_among : (lines : List Line) → AreLines names lines
       → AllAmong names.nodes (map node_in_line (behind lines))
-  nodes_among [] is = (tt, tt)
+  nodes_among [] is = (
+    subst (IsAmong names.nodes) (sym (ap (λ (o : Option Words). o >>= node_named) no_words)) tt,
+    tt,
+  )
   nodes_among (line ∷ lines) is =
       let tells = line_tells names are line is.0 in (
         subst (IsAmong names.nodes) (sym tells.node) (node_among (node_of line) tells.is_node),
@@ -200,7 +207,10 @@ module _ (names : Names) (are : AreNames names) where
 
   links_among : (lines : List Line) → AreLines names lines
       → AllAmong names.links (map link_in_line (behind lines))
-  links_among [] is = (tt, tt)
+  links_among [] is = (
+    subst (IsAmong names.links) (sym (ap (λ (o : Option Words). o >>= link_named) no_words)) tt,
+    tt,
+  )
   links_among (line ∷ lines) is =
       let tells = line_tells names are line is.0 in (
         subst (IsAmong names.links) (sym tells.link) (link_among (link_of line) tells.is_link),

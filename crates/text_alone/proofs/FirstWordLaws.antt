@@ -1,5 +1,5 @@
 -- The node and the link that the line of a step names.
-use Rattle.std.proofs.Common.{◌≡◌, ℕ, ◌≤◌, Bool, true, false, cond, List, [], ◌∷◌, ◌++◌, refl, ap}
+use Rattle.std.proofs.Common.{◌≡◌, ℕ, ◌≤◌, true, false, cond, List, [], ◌∷◌, ◌++◌, refl, ap}
 use Rattle.std.proofs.Common.{◌∙◌, Option, Some, None, codes, decimal, option_map, bytes_eq}
 use Rattle.std.proofs.lemmas.Bool.{cond-false}
 use Rattle.linx_base.specs.NameText.{is_name_byte}

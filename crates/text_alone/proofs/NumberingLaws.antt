@@ -1,6 +1,6 @@
 -- The names of a text have all that are told and all others.
-use Rattle.std.proofs.Common.{inl, inr, ◌≡◌, ℕ, zero, suc, ◌+◌, ◌≤◌, ◌<◌, Bool, true, false, not, cond}
-use Rattle.std.proofs.Common.{List, [], ◌∷◌, ◌++◌, length, refl, sym, ap, ◌∙◌, subst, Option, Some}
+use Rattle.std.proofs.Common.{◌≡◌, ℕ, zero, suc, ◌+◌, ◌≤◌, ◌<◌, Bool, true, false, not}
+use Rattle.std.proofs.Common.{List, [], ◌∷◌, ◌++◌, length, refl, sym, ap, ◌∙◌, Option, Some}
 use Rattle.std.proofs.Common.{None, arith, ◌||◌, nat_lt, bytes_eq, position, unwrap_or, lt-ltb, ltb-true}
 use Rattle.std.proofs.Common.{length-append, ⊎_elim}
 use Rattle.std.specs.List.{list_all, list_any, position_or_len}
@@ -12,7 +12,6 @@ use Rattle.text_names.specs.declared.told_names.Numbered.{Numbered}
 use Rattle.text_names.specs.Numbering.{behind_name, highest, name_at, names_up_to, nobody}
 use Rattle.text_names.specs.Numbering.{numbered_names, told_name}
 use Rattle.text_names.specs.OtherNames.{has_name}
-use Rattle.text_names.specs.ToldNames.{has_told}
 use Rattle.text_words.specs.Gives.{◌>>=◌}
 use Rattle.reading_laws.proofs.Tools.{bind_some, if_some_yes}
 use Rattle.text_alone.proofs.Differing.{has_front, has_last}
@@ -158,13 +157,13 @@ found_here : (p : List ℕ → Bool) (x : List ℕ) (xs : List (List ℕ)) (b : 
     → position_or_len p (x ∷ xs) < length (x ∷ xs)
 found_here p x xs true e h before =
     let at : position_or_len p (x ∷ xs) ≡ 0 =
-    cond-false (not (p x)) (suc (position_or_len p xs)) 0 (ap not e)
+    cond-false (not (p x)) (1 + position_or_len p xs) 0 (ap not e)
     in
     omega (arith, at)
 found_here p x xs false e h before =
     let rest = before h in
-    let at : position_or_len p (x ∷ xs) ≡ suc (position_or_len p xs) =
-    cond-true (not (p x)) (suc (position_or_len p xs)) 0 (ap not e)
+    let at : position_or_len p (x ∷ xs) ≡ 1 + position_or_len p xs =
+    cond-true (not (p x)) (1 + position_or_len p xs) 0 (ap not e)
     in
     omega (arith, at, rest)
 
@@ -194,8 +193,8 @@ named_here : (p : List ℕ → Bool) (x : List ℕ) (xs : List (List ℕ)) (b : 
     → (position_or_len p xs < length xs → list_any p xs ≡ true) → (b || list_any p xs) ≡ true
 named_here p x xs true e h before = refl
 named_here p x xs false e h before =
-    let at : position_or_len p (x ∷ xs) ≡ suc (position_or_len p xs) =
-    cond-true (not (p x)) (suc (position_or_len p xs)) 0 (ap not e)
+    let at : position_or_len p (x ∷ xs) ≡ 1 + position_or_len p xs =
+    cond-true (not (p x)) (1 + position_or_len p xs) 0 (ap not e)
     in
     before (omega (arith, at, h))
 

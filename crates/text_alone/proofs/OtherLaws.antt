@@ -1,5 +1,5 @@
 -- Each name that lines have is told, or stands among the others.
-use Rattle.std.proofs.Common.{◌≡◌, ℕ, suc, ◌≤◌, Bool, true, false, cond, List, [], ◌∷◌, ◌++◌, length}
+use Rattle.std.proofs.Common.{◌≡◌, ℕ, ◌≤◌, Bool, true, false, cond, List, [], ◌∷◌, ◌++◌, length}
 use Rattle.std.proofs.Common.{refl, ap, ◌∙◌, Option, Some, None, arith, ◌||◌, nat_le, bytes_eq}
 use Rattle.std.proofs.Common.{leb-true}
 use Rattle.std.proofs.lemmas.List.Folds.{list_any-append}
@@ -7,9 +7,8 @@ use Rattle.linx_base.specs.NameText.{is_name}
 use Rattle.text_names.specs.declared.told_names.Numbered.{Numbered}
 use Rattle.text_names.specs.OtherNames.{has_name, with_if_named, with_other}
 use Rattle.text_names.specs.ToldNames.{has_told}
-use Rattle.reading_laws.proofs.Tools.{text_itself}
 use Rattle.text_alone.proofs.Differing.{AreAmong, Differ, among_more, are_fewer, differ_more}
-use Rattle.text_alone.proofs.Differing.{has_front, has_last}
+use Rattle.text_alone.proofs.Differing.{has_last}
 
 -- different words, each among these names
 pub record AreOthers (names others : List (List ℕ)) : Type 0 where

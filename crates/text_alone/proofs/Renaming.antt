@@ -18,7 +18,7 @@ use Rattle.journal_text.specs.Values.{verdict_text}
 use Rattle.journal_words.specs.declared.lines.Line.{Line}
 use Rattle.journal_words.specs.declared.lines.Line.TheVariants.{Made, Happened}
 use Rattle.reading_laws.specs.Forms.{IsEffect, IsHead, IsLine, IsLink, IsNode, IsPath, IsPeer, printed}
-use Rattle.reading_laws.specs.Spelled.{data_text_by, effect_words, head_words, line_of, line_words}
+use Rattle.reading_laws.specs.Spelled.{data_text_by, effect_words, head_words, line_of}
 use Rattle.reading_laws.specs.Spelled.{signal_words}
 use Rattle.reading_laws.proofs.NameLaws.{link_found, node_found}
 use Rattle.journal_read.specs.Spelled.{AreLines, bytes_of, lines_of_steps, step_lines}

@@ -1,8 +1,8 @@
 -- The names whose numbers are told stand at them.
 use Rattle.std.proofs.Common.{◌≡◌, ℕ, ◌≤◌, Bool, true, false, not, cond, List, [], ◌∷◌, ◌++◌, refl}
-use Rattle.std.proofs.Common.{sym, ap, ◌∙◌, subst, Option, Some, None, arith, ◌||◌, ◌==◌, nat_le, max}
-use Rattle.std.proofs.Common.{bytes_eq, eq-eqb, leb-true, option_map, fold}
-use Rattle.std.specs.List.{find, list_any}
+use Rattle.std.proofs.Common.{sym, ap, ◌∙◌, Option, Some, None, arith, ◌||◌, ◌==◌, nat_le, max}
+use Rattle.std.proofs.Common.{bytes_eq, eq-eqb, leb-true, option_map}
+use Rattle.std.specs.List.{find}
 use Rattle.std.specs.Option.{option_or}
 use Rattle.std.proofs.lemmas.Bool.{and_parts}
 use Rattle.std.proofs.lemmas.List.Folds.{find-append, list_any-append}
