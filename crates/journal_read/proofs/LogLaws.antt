@@ -19,7 +19,7 @@ use Rattle.journal.specs.Traffic.{is_endpoint}
 use Rattle.journal_text.specs.Blocks.{effect_log, head_log, if_for, item_text, log_lines}
 use Rattle.journal_text.specs.Blocks.{log_text, logs_text, title_text}
 use Rattle.journal_text.specs.Makers.{owner_by}
-use Rattle.journal_text.specs.Values.{name_or_mark, path_text}
+use Rattle.journal_text.specs.Values.{Digest, name_or_mark, path_text}
 use Rattle.journal_text.proofs.Lines.{IsClean, ◌+>◌, word}
 use Rattle.journal_text.proofs.Spelling.{ArePlain, detached-clean, halves-clean, link-clean}
 use Rattle.journal_text.proofs.Spelling.{name-clean, node-clean, peer_signal-clean, reason-clean}
@@ -114,42 +114,42 @@ module _ (names : Names) (plain : ArePlain names) where
 
   -- ---- lines
 
-  item-clean : (e : Option Effect) → IsClean (item_text names e)
+  item-clean : (digest : Digest) (e : Option Effect) → IsClean (item_text digest names e)
   unfolding item_text
-  item-clean (Some (effects.Arrived i q note)) = peer_signal-clean names plain q note
-  item-clean (Some (effects.Found i q note hunt)) = peer_signal-clean names plain q note
-  item-clean (Some (effects.Notified i q note r reason)) = peer_signal-clean names plain q note
-  item-clean _ = mark
+  item-clean digest (Some (effects.Arrived i q note)) = peer_signal-clean names plain digest q note
+  item-clean digest (Some (effects.Found i q note hunt)) = peer_signal-clean names plain digest q note
+  item-clean digest (Some (effects.Notified i q note r reason)) = peer_signal-clean names plain digest q note
+  item-clean digest _ = mark
 
-  effect-logs : (e : Effect) → IsLogs (effect_log names e)
+  effect-logs : (digest : Digest) (e : Effect) → IsLogs (effect_log digest names e)
   unfolding effect_log
-  effect-logs (effects.Closed i) = logs-line (word (codes "closed") refl) refl
-  effect-logs (effects.Arrived i q note) =
-      logs-line (word (codes "arrived ") refl +> peer_signal-clean names plain q note) refl
-  effect-logs (effects.Found i q note hunt) =
-      logs-line (word (codes "found ") refl +> peer_signal-clean names plain q note) refl
-  effect-logs (effects.Notified i q note r reason) =
-      logs-line (word (codes "notified ") refl +> peer_signal-clean names plain q note +> space
+  effect-logs digest (effects.Closed i) = logs-line (word (codes "closed") refl) refl
+  effect-logs digest (effects.Arrived i q note) =
+      logs-line (word (codes "arrived ") refl +> peer_signal-clean names plain digest q note) refl
+  effect-logs digest (effects.Found i q note hunt) =
+      logs-line (word (codes "found ") refl +> peer_signal-clean names plain digest q note) refl
+  effect-logs digest (effects.Notified i q note r reason) =
+      logs-line (word (codes "notified ") refl +> peer_signal-clean names plain digest q note +> space
       +> reason-clean reason) refl
-  effect-logs _ = logs-none
+  effect-logs digest _ = logs-none
 
-  head-logs : (steps : List Step) (head : Head) → FitsHead names head
-      → IsLogs (head_log names steps head)
+  head-logs : (digest : Digest) (steps : List Step) (head : Head) → FitsHead names head
+      → IsLogs (head_log digest names steps head)
   unfolding head_log
-  head-logs steps (heads.Send q note answer) fits =
-      logs-line (word (codes "sent ") refl +> peer_signal-clean names plain q note +> space
+  head-logs digest steps (heads.Send q note answer) fits =
+      logs-line (word (codes "sent ") refl +> peer_signal-clean names plain digest q note +> space
       +> sent-clean answer) refl
-  head-logs steps (heads.Take f at) fits =
-      logs-line (word (codes "took ") refl +> item-clean (effect_at steps at)) refl
-  head-logs steps (heads.TakeNone f) fits = logs-line (word (codes "none") refl) refl
-  head-logs steps (heads.Hunt path note) fits =
+  head-logs digest steps (heads.Take f at) fits =
+      logs-line (word (codes "took ") refl +> item-clean digest (effect_at steps at)) refl
+  head-logs digest steps (heads.TakeNone f) fits = logs-line (word (codes "none") refl) refl
+  head-logs digest steps (heads.Hunt path note) fits =
       logs-line (word (codes "hunt ") refl +> path-is_clean path fits.0 +> space
-      +> signal-clean note) refl
-  head-logs steps (heads.Attach q note) fits =
-      logs-line (word (codes "attach ") refl +> peer_signal-clean names plain q note) refl
-  head-logs steps (heads.Detach r answer) fits =
+      +> signal-clean digest note) refl
+  head-logs digest steps (heads.Attach q note) fits =
+      logs-line (word (codes "attach ") refl +> peer_signal-clean names plain digest q note) refl
+  head-logs digest steps (heads.Detach r answer) fits =
       logs-line (word (codes "detach ") refl +> detached-clean answer) refl
-  head-logs steps _ fits = logs-none
+  head-logs digest steps _ fits = logs-none
 
   if_for-logs : (i : Inc) (owner : Option Inc) (bytes : List ℕ) → IsLogs bytes
       → IsLogs (if_for i owner bytes)
@@ -159,17 +159,17 @@ module _ (names : Names) (plain : ArePlain names) where
       go true = logs
       go false = logs-none
 
-  lines-logs : (steps P : List Step) (i : Inc) → AllFit names P
-      → IsLogs (log_lines names steps P i)
+  lines-logs : (digest : Digest) (steps P : List Step) (i : Inc) → AllFit names P
+      → IsLogs (log_lines digest names steps P i)
   unfolding log_lines
-  lines-logs steps [] i fit = logs-none
-  lines-logs steps (s ∷ P) i fit =
+  lines-logs digest steps [] i fit = logs-none
+  lines-logs digest steps (s ∷ P) i fit =
       logs-both
-      (logs-both (lines-logs steps P i fit.0)
-      (if_for-logs i (owner_by P s.by) (head_log names steps s.head)
-      (head-logs steps s.head fit.1.head)))
-      (logs-flat (λ (e : Effect). if_for i (reached_by e) (effect_log names e))
-      (λ e. if_for-logs i (reached_by e) (effect_log names e) (effect-logs e)) s.effects)
+      (logs-both (lines-logs digest steps P i fit.0)
+      (if_for-logs i (owner_by P s.by) (head_log digest names steps s.head)
+      (head-logs digest steps s.head fit.1.head)))
+      (logs-flat (λ (e : Effect). if_for i (reached_by e) (effect_log digest names e))
+      (λ e. if_for-logs i (reached_by e) (effect_log digest names e) (effect-logs digest e)) s.effects)
 
   title-logs : (i : Inc) (name : Option (List ℕ)) → IsClean (name_or_mark name)
       → IsLogs (title_text names i name)
@@ -178,18 +178,18 @@ module _ (names : Names) (plain : ArePlain names) where
       logs-line (word (codes "log ") refl +> halves-clean i.0 +> space +> clean +> space
       +> node-clean names plain (node_of i)) refl
 
-log-logs : (log : Log) → ArePlain log.names → AllFit log.names log.steps → (i : Inc)
-    → IsLogs (log_text log i)
+log-logs : (digest : Digest) (log : Log) → ArePlain log.names → AllFit log.names log.steps → (i : Inc)
+    → IsLogs (log_text digest log i)
 unfolding log_text
-log-logs log plain fit i =
+log-logs digest log plain fit i =
     logs-both
     (title-logs log.names plain i (opening_name log.steps i)
     (opened-clean log.names log.steps i fit))
-    (lines-logs log.names plain log.steps log.steps i fit)
+    (lines-logs log.names plain digest log.steps log.steps i fit)
 
-pub logs_are_logs : (log : Log) → AreNames log.names → AllFit log.names log.steps
-    → IsLogs (logs_text log)
+pub logs_are_logs : (digest : Digest) (log : Log) → AreNames log.names → AllFit log.names log.steps
+    → IsLogs (logs_text digest log)
 unfolding logs_text
-logs_are_logs log are fit =
-    logs-flat (log_text log) (log-logs log (record { nodes = are.0; links = are.1 }) fit)
+logs_are_logs digest log are fit =
+    logs-flat (log_text digest log) (log-logs digest log (record { nodes = are.0; links = are.1 }) fit)
     (openings log.steps)

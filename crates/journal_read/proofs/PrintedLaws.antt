@@ -3,18 +3,21 @@ use Rattle.std.proofs.Common.{◌≡◌, ℕ, suc, List, [], ◌∷◌, ◌++◌
 use Rattle.std.proofs.Common.{Ok, subst, arith, append_assoc, codes, flat_map}
 use Rattle.std.specs.List.{AllByRecursion}
 use Rattle.std.proofs.lemmas.List.{length-map, map-append}
+use Rattle.sha2.specs.Sha256.{sha256}
 use Rattle.linx_base.specs.declared.name.Names.{Names}
 use Rattle.journal.specs.declared.effect.Effect.{Effect}
 use Rattle.journal.specs.declared.effect.Step.{Step}
 use Rattle.journal.specs.Logs.{Log}
 use Rattle.journal_text.specs.Blocks.{logs_text}
 use Rattle.journal_text.specs.Steps.{effect_line, step_text}
+use Rattle.journal_text.specs.Values.{Digest}
 use Rattle.journal_text.specs.Text.{count_text, steps_text, text_if_steps, text_of}
+use Rattle.journal_words.specs.declared.lines.Line.{Line}
 use Rattle.journal_words.specs.declared.lines.Line.TheVariants.{Made, Happened}
 use Rattle.reading_laws.specs.Fits.{FitsEffect}
 use Rattle.reading_laws.specs.Forms.{AreNames}
 use Rattle.reading_laws.specs.Images.{image_of_effect}
-use Rattle.reading_laws.specs.Spelled.{line_of}
+use Rattle.reading_laws.specs.Spelled.{line_of, line_words}
 use Rattle.reading_laws.proofs.FitLaws.{line-is}
 use Rattle.reading_laws.proofs.ImageLaws.{line_alike}
 use Rattle.reading_laws.proofs.PrintedLaws.{effect_line_printed, step_printed}
@@ -86,47 +89,51 @@ lines_alike names (s ∷ P) =
 
 -- ---- the text of steps is that of their lines
 
-effects_text : (names : Names) (es : List Effect)
-    → flat_map (effect_line names) es
-    ≡ text_of_lines (map (printed_line names) (map Happened es))
-effects_text names [] = refl
-effects_text names (e ∷ es) =
-    let line = printed_line names (Happened e) in
-    let rest = flat_map (effect_line names) es in
-    ap (λ (t : List ℕ). t ++ rest) (sym (effect_line_printed names e))
-    ∙ append_assoc line (codes "\n") rest
-    ∙ ap (λ (t : List ℕ). line ++ 10 ∷ t) (effects_text names es)
+-- the bytes of a line that is printed with this digest
+abbrev pub line_by : Digest → Names → Line → List ℕ
+line_by digest names line = line_of (line_words digest names line)
 
-one_step_text : (names : Names) (position : ℕ) (s : Step)
-    → step_text names position s
-    ≡ text_of_lines (map (printed_line names) (step_lines position s))
+effects_text : (digest : Digest) (names : Names) (es : List Effect)
+    → flat_map (effect_line digest names) es
+    ≡ text_of_lines (map (line_by digest names) (map Happened es))
+effects_text digest names [] = refl
+effects_text digest names (e ∷ es) =
+    let line = line_by digest names (Happened e) in
+    let rest = flat_map (effect_line digest names) es in
+    ap (λ (t : List ℕ). t ++ rest) (sym (effect_line_printed digest names e))
+    ∙ append_assoc line (codes "\n") rest
+    ∙ ap (λ (t : List ℕ). line ++ 10 ∷ t) (effects_text digest names es)
+
+one_step_text : (digest : Digest) (names : Names) (position : ℕ) (s : Step)
+    → step_text digest names position s
+    ≡ text_of_lines (map (line_by digest names) (step_lines position s))
 unfolding step_text
-one_step_text names position s =
-    let line = printed_line names (Made position s.by s.head) in
-    let rest = flat_map (effect_line names) s.effects in
+one_step_text digest names position s =
+    let line = line_by digest names (Made position s.by s.head) in
+    let rest = flat_map (effect_line digest names) s.effects in
     ap (λ (t : List ℕ). (t ++ codes "\n") ++ rest)
-    (sym (step_printed names position s.by s.head))
+    (sym (step_printed digest names position s.by s.head))
     ∙ append_assoc line (codes "\n") rest
-    ∙ ap (λ (t : List ℕ). line ++ 10 ∷ t) (effects_text names s.effects)
+    ∙ ap (λ (t : List ℕ). line ++ 10 ∷ t) (effects_text digest names s.effects)
 
-text_of_steps : (names : Names) (P : List Step)
-    → steps_text names P ≡ text_of_lines (printed_lines names P)
+pub text_of_steps : (digest : Digest) (names : Names) (P : List Step)
+    → steps_text digest names P ≡ text_of_lines (map (line_by digest names) (lines_of_steps P))
 unfolding steps_text
-text_of_steps names [] = refl
-text_of_steps names (s ∷ P) =
+text_of_steps digest names [] = refl
+text_of_steps digest names (s ∷ P) =
     let position = suc (length P) in
-    let last = map (printed_line names) (step_lines position s) in
-    ap (λ (t : List ℕ). t ++ step_text names position s) (text_of_steps names P)
-    ∙ ap (λ (t : List ℕ). text_of_lines (printed_lines names P) ++ t)
-    (one_step_text names position s)
-    ∙ sym (text_of_lines-append (printed_lines names P) last)
+    let front = map (line_by digest names) (lines_of_steps P) in
+    let last = map (line_by digest names) (step_lines position s) in
+    ap (λ (t : List ℕ). t ++ step_text digest names position s) (text_of_steps digest names P)
+    ∙ ap (λ (t : List ℕ). text_of_lines front ++ t) (one_step_text digest names position s)
+    ∙ sym (text_of_lines-append front last)
     ∙ ap text_of_lines
-    (sym (map-append (printed_line names) (lines_of_steps P) (step_lines position s)))
+    (sym (map-append (line_by digest names) (lines_of_steps P) (step_lines position s)))
 
 -- ---- the whole text
 
 -- logs, the line that announces steps, and their lines
-whole_text : (logs steps : List (List ℕ)) (first last : List ℕ) (count : ℕ)
+pub whole_text : (logs steps : List (List ℕ)) (first last : List ℕ) (count : ℕ)
     → first ≡ text_of_lines logs → last ≡ text_of_lines steps
     → first ++ count_text count ++ last ≡ text_of_lines (logs ++ heading_line count ∷ steps)
 unfolding count_text
@@ -140,9 +147,9 @@ whole_text logs steps first last count before behind =
 
 spelled : (log : Log) (s : Step) (P : List Step) → AreNames log.names
     → AllFit log.names log.steps → log.steps ≡ s ∷ P
-    → SpellsLines log.names (map read_step log.steps) (text_if_steps log (s ∷ P))
+    → SpellsLines log.names (map read_step log.steps) (text_if_steps sha256 log (s ∷ P))
 spelled log s P are fit same =
-    let logs = logs_are_logs log are fit in
+    let logs = logs_are_logs sha256 log are fit in
     let size : length log.steps ≡ length (map read_step log.steps) =
     sym (length-map log.steps read_step)
     in
@@ -151,9 +158,9 @@ spelled log s P are fit same =
       are_logs = logs.are;
       whole = read_whole log.names log.steps fit;
       spelled =
-          whole_text logs.lines (printed_lines log.names log.steps) (logs_text log)
-          (steps_text log.names log.steps) (length log.steps) logs.is
-          (text_of_steps log.names log.steps)
+          whole_text logs.lines (printed_lines log.names log.steps) (logs_text sha256 log)
+          (steps_text sha256 log.names log.steps) (length log.steps) logs.is
+          (text_of_steps sha256 log.names log.steps)
           ∙ ap (λ (n : ℕ). text_of_lines
           (logs.lines ++ heading_line n ∷ printed_lines log.names log.steps)) size
           ∙ ap (λ (lines : List (List ℕ)). text_of_lines
@@ -162,12 +169,12 @@ spelled log s P are fit same =
     }
 
 text_read : (log : Log) (P : List Step) → AreNames log.names → AllFit log.names log.steps
-    → log.steps ≡ P → read_in log.names (text_if_steps log P) ≡ Ok (map read_step P)
+    → log.steps ≡ P → read_in log.names (text_if_steps sha256 log P) ≡ Ok (map read_step P)
 text_read log [] are fit same =
     some_ok (read_in log.names []) [] (nothing_again log.names)
 text_read log (s ∷ P) are fit same =
     let is = spelled log s P are fit same in
-    let text = text_if_steps log (s ∷ P) in
+    let text = text_if_steps sha256 log (s ∷ P) in
     some_ok (read_in log.names text) (map read_step (s ∷ P))
     (text_again log.names (map read_step (s ∷ P)) text are
     (subst (λ (R : List Step). SpellsLines log.names (map read_step R) text) same is))

@@ -21,7 +21,7 @@ use Rattle.journal_words.specs.Data.{stand_in, if_spelled, hexadecimal_in, if_so
 use Rattle.journal_words.specs.Data.{data_by, data_in, note_in}
 use Rattle.text_words.specs.Words.{cut_at}
 use Rattle.text_words.specs.Gives.{◌>>=◌}
-use Rattle.reading_laws.specs.Spelled.{data_text_by}
+use Rattle.journal_text.specs.Values.{data_text, digest_text}
 use Rattle.reading_laws.specs.Forms.{printed, IsShown, IsNote}
 use Rattle.reading_laws.proofs.Tools.{bind_some, if_some_yes, same_text, text_itself}
 use Rattle.reading_laws.proofs.Cuts.{seam, lacks, cut_again, cut_found, cut_nowhere, class_lacks}
@@ -128,8 +128,8 @@ bytes_of_front bytes are size i =
       | inr behind ↦ rw (get_or_past (take 32 bytes) i 0 (omega (arith, size))) (omega arith)
     ]
 
-pub data_again : (bytes : List ℕ) → IsShown bytes → data_in (data_text_by printed bytes) ≡ Some bytes
-unfolding data_text_by
+pub data_again : (bytes : List ℕ) → IsShown bytes → data_in (data_text printed bytes) ≡ Some bytes
+unfolding data_text digest_text
 data_again bytes shown =
     elim (cases_lt 0 (length bytes)) [
       | inr none ↦
@@ -154,7 +154,7 @@ data_again bytes shown =
 
 -- data that a word spells
 pub record IsData (word bytes : List ℕ) : Type 0 where
-  pub spelled : word ≡ data_text_by printed bytes
+  pub spelled : word ≡ data_text printed bytes
   pub shown : IsShown bytes
 
 -- data that are spelled one by one are printed whole
@@ -168,21 +168,21 @@ short_shown bytes are few =
     }
 
 pub short_text : (bytes : List ℕ) → 0 < length bytes → length bytes ≤ 32
-    → data_text_by printed bytes ≡ encode_lower bytes
-unfolding data_text_by
+    → data_text printed bytes ≡ encode_lower bytes
+unfolding data_text digest_text
 short_text bytes some few =
     let no_zero : (length bytes == 0) ≡ false = ne_eqb _ 0 (λ e. absurd (omega arith)) in
     cond-false _ _ _ no_zero ∙ cond-true _ _ _ (le-leb _ _ few)
 
 pub no_data_text : (bytes : List ℕ) → length bytes ≡ 0
-    → data_text_by printed bytes ≡ codes "-"
-unfolding data_text_by
+    → data_text printed bytes ≡ codes "-"
+unfolding data_text digest_text
 no_data_text bytes none = cond-true _ _ _ (eq-eqb _ 0 none)
 
 pub long_text : (bytes : List ℕ) → 32 < length bytes
-    → data_text_by printed bytes
+    → data_text printed bytes
     ≡ decimal (length bytes) ++ codes ":" ++ encode_lower (take 32 bytes)
-unfolding data_text_by
+unfolding data_text digest_text
 long_text bytes long =
     let no_zero : (length bytes == 0) ≡ false = ne_eqb _ 0 (λ e. absurd (omega arith)) in
     cond-false _ _ _ no_zero ∙ cond-false _ _ _ (lt-leb _ _ long)
@@ -240,9 +240,9 @@ stands digest size are whole long short =
 
 spelled_digest : (word digest : List ℕ) (size : ℕ) (parts : List ℕ × List ℕ) (bytes : List ℕ)
     → word ≡ parts.0 ++ 58 ∷ parts.1 → parts.0 ≡ decimal size → parts.1 ≡ encode_lower digest
-    → data_text_by printed bytes
+    → data_text printed bytes
     ≡ decimal (length bytes) ++ codes ":" ++ encode_lower (take 32 bytes)
-    → length bytes ≡ size → take 32 bytes ≡ digest → word ≡ data_text_by printed bytes
+    → length bytes ≡ size → take 32 bytes ≡ digest → word ≡ data_text printed bytes
 spelled_digest word digest size parts bytes cut number hex text long front =
     cut ∙ rw (number, hex, text, long, front) (sym (seam (decimal size) (encode_lower digest) 58))
 
@@ -273,7 +273,7 @@ data_cut word bytes None at h = spelled_found word bytes h
 data_cut word bytes (Some parts) at h = digested_found word bytes parts at h
 
 mark_found : IsData (codes "-") []
-unfolding data_text_by
+unfolding data_text digest_text
 mark_found = record { spelled = refl; shown = short_shown [] (λ i. omega arith) (omega arith) }
 
 pub data_found : (word bytes : List ℕ) → data_in word ≡ Some bytes → IsData word bytes
@@ -294,7 +294,7 @@ data_found word bytes h =
 -- ---- signals
 
 pub note_again : (note : SigNote) → IsNote note
-    → note_in (decimal note.number) (data_text_by printed note.bytes) ≡ Some note
+    → note_in (decimal note.number) (data_text printed note.bytes) ≡ Some note
 unfolding note_in
 note_again note is =
     let number = number_again half_limit note.number is.number (omega arith) in
@@ -303,7 +303,7 @@ note_again note is =
 -- the words of a signal
 pub record AreOfNote (digits spelled : List ℕ) (note : SigNote) : Type 0 where
   pub number : digits ≡ decimal note.number
-  pub word : spelled ≡ data_text_by printed note.bytes
+  pub word : spelled ≡ data_text printed note.bytes
   pub is : IsNote note
 
 pub note_found : (number word : List ℕ) (note : SigNote) → note_in number word ≡ Some note

@@ -19,29 +19,29 @@ use Rattle.journal.specs.declared.effect.Effect.{Effect}
 use Rattle.journal.specs.declared.effect.Effect.TheVariants.{Arrived, Found}
 use Rattle.journal.specs.declared.effect.Effect.TheVariants.{Notified}
 use Rattle.journal_text.specs.Values.{halves_text, peer_text, path_text, sent_text, reference_text}
-use Rattle.journal_text.specs.Values.{reason_text, maker_text}
+use Rattle.journal_text.specs.Values.{Digest, data_text, digest_text, reason_text, maker_text}
 use Rattle.journal_words.specs.declared.lines.Line.{Line}
 use Rattle.journal_words.specs.declared.lines.Line.TheVariants.{Made, Happened}
 use Rattle.journal_words.specs.Data.{stand_in}
 use Rattle.reading_laws.specs.Forms.{printed}
 use Rattle.reading_laws.specs.Images.{image_of_head, image_of_effect, image_of_line}
 use Rattle.reading_laws.specs.Printed.{shown_of}
-use Rattle.reading_laws.specs.Spelled.{data_text_by, head_words, effect_words, line_words}
+use Rattle.reading_laws.specs.Spelled.{head_words, effect_words, line_words}
 
 -- data that are printed whole are printed so whatever the digest is
 short_alike : (bytes : List ℕ) → length bytes ≤ 32
-    → data_text_by printed bytes ≡ data_text_by sha256 bytes
-unfolding data_text_by
+    → data_text printed bytes ≡ data_text sha256 bytes
+unfolding data_text digest_text
 short_alike bytes few =
     let e = le-leb (length bytes) 32 few in
     let whole = cond-true (nat_le (length bytes) 32) (encode_lower bytes) in
     ap (cond (length bytes == 0) (codes "-")) (whole _ e ∙ sym (whole _ e))
 
 -- long data are printed by their digest
-long_by : (digest : List ℕ → List ℕ) (bytes : List ℕ) → 32 < length bytes
-    → data_text_by digest bytes
+long_by : (digest : Digest) (bytes : List ℕ) → 32 < length bytes
+    → data_text digest bytes
     ≡ decimal (length bytes) ++ codes ":" ++ encode_lower (digest bytes)
-unfolding data_text_by
+unfolding data_text digest_text
 long_by digest bytes long =
     let some : (length bytes == 0) ≡ false = ne_eqb _ 0 (λ e. absurd (omega arith)) in
     cond-false _ _ _ some ∙ cond-false _ _ _ (lt-leb (length bytes) 32 long)
@@ -64,7 +64,7 @@ front_of_stand_in digest size whole =
     ap (λ (n : ℕ). take n (digest ++ filler)) (sym whole) ∙ take-append_seam digest filler
 
 long_alike : (bytes : List ℕ) → 32 < length bytes
-    → data_text_by printed (stand_in (sha256 bytes) (length bytes)) ≡ data_text_by sha256 bytes
+    → data_text printed (stand_in (sha256 bytes) (length bytes)) ≡ data_text sha256 bytes
 long_alike bytes long =
     let whole = length-sha256 bytes in
     let standing = stand_in (sha256 bytes) (length bytes) in
@@ -98,11 +98,11 @@ shown_size bytes =
       | inr few ↦ ap length (shown_short bytes few)
     ]
 
-pub shown_alike : (bytes : List ℕ) → data_text_by printed (shown_of bytes) ≡ data_text_by sha256 bytes
+pub shown_alike : (bytes : List ℕ) → data_text printed (shown_of bytes) ≡ data_text sha256 bytes
 shown_alike bytes =
     elim (cases_lt 32 (length bytes)) [
-      | inl long ↦ ap (data_text_by printed) (shown_long bytes long) ∙ long_alike bytes long
-      | inr few ↦ ap (data_text_by printed) (shown_short bytes few) ∙ short_alike bytes few
+      | inl long ↦ ap (data_text printed) (shown_long bytes long) ∙ long_alike bytes long
+      | inr few ↦ ap (data_text printed) (shown_short bytes few) ∙ short_alike bytes few
     ]
 
 head_alike : (names : Names) (head : Head)

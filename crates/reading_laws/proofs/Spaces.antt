@@ -39,7 +39,8 @@ use Rattle.journal_text.specs.Values.{position_text, reference_text, side_text, 
 use Rattle.journal_text.specs.Values.{reason_text, sent_text, detached_text, refusal_text}
 use Rattle.text_words.specs.Numbers.{half_limit, whole_limit}
 use Rattle.text_words.specs.Words.{words_of}
-use Rattle.reading_laws.specs.Spelled.{data_text_by, line_of}
+use Rattle.journal_text.specs.Values.{data_text}
+use Rattle.reading_laws.specs.Spelled.{line_of}
 use Rattle.reading_laws.specs.Forms.{AreNames, IsNode, IsLink, IsPeer, IsPath, IsMaker, IsFilter}
 use Rattle.reading_laws.specs.Forms.{AreNumbers, IsPosition, IsShown, printed}
 use Rattle.reading_laws.proofs.Cuts.{lacks, lacks-seam, class_lacks, class_within, seam}
@@ -167,7 +168,7 @@ filter_spaces (Only listed) is =
 filter_spaces (Not listed) is = spaces-append (codes "not:") (numbers_text listed) refl (numbers_spaces listed is)
 
 pub data_spaces : (bytes : List ℕ) → IsShown bytes
-    → has_no_space (data_text_by printed bytes) ≡ true
+    → has_no_space (data_text printed bytes) ≡ true
 data_spaces bytes shown =
     elim (cases_lt 0 (length bytes)) [
       | inr none ↦ ap has_no_space (no_data_text bytes (omega arith))

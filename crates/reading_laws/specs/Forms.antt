@@ -1,5 +1,5 @@
 -- Which values are read: those that their spelling shows whole.
-use Rattle.std.specs.Prelude.{◌≡◌, ℕ, ◌-◌, ◌<◌, ◌≤◌, true, List, length, drop, take, replicate}
+use Rattle.std.specs.Prelude.{◌≡◌, ℕ, ◌-◌, ◌<◌, ◌≤◌, true, List, length, drop, replicate}
 use Rattle.std.specs.Prelude.{Some, get_or}
 use Rattle.std.specs.List.{list_all}
 use Rattle.linx_base.specs.Content.{data_limit}
@@ -29,14 +29,14 @@ use Rattle.journal.specs.declared.effect.Effect.TheVariants.{Opened, Closed, Arr
 use Rattle.journal.specs.declared.effect.Effect.TheVariants.{Notified, Met, Gone, Up, Down}
 use Rattle.journal_words.specs.declared.lines.Line.{Line}
 use Rattle.journal_words.specs.declared.lines.Line.TheVariants.{Made, Happened}
-use Rattle.journal_text.specs.Values.{node_text, link_text}
+use Rattle.journal_text.specs.Values.{Digest, first_bytes, node_text, link_text}
 use Rattle.journal_words.specs.Names.{named_in}
 use Rattle.text_words.specs.Numbers.{half_limit, whole_limit}
 
 -- what is printed of data as their digest: the first bytes, which are those of the digest where
 -- they stand in for data
-abbrev pub printed : List ℕ → List ℕ
-printed bytes = take 32 bytes
+abbrev pub printed : Digest
+printed = first_bytes
 
 -- the names of nodes and links are names
 abbrev pub AreNames : Names → Type 0

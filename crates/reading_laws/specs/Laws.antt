@@ -16,7 +16,7 @@ use Rattle.journal.specs.declared.head.Head.{Head}
 use Rattle.journal.specs.declared.head.Refusal.{Refusal}
 use Rattle.journal.specs.declared.head.SentTo.{SentTo}
 use Rattle.journal_text.specs.Values.{halves_text, peer_text, path_text, maker_text, position_text}
-use Rattle.journal_text.specs.Values.{reference_text, filter_text, side_text, verdict_text}
+use Rattle.journal_text.specs.Values.{data_text, reference_text, filter_text, side_text, verdict_text}
 use Rattle.journal_text.specs.Values.{reason_text, sent_text, detached_text, refusal_text}
 use Rattle.journal_words.specs.Answers.{side_in, verdict_in, reason_in, sent_in, detached_in}
 use Rattle.journal_words.specs.Answers.{refusal_in}
@@ -28,7 +28,7 @@ use Rattle.journal_words.specs.Data.{data_in}
 use Rattle.journal_words.specs.Peers.{peer_in, path_in, maker_in, position_in, reference_in}
 use Rattle.reading_laws.specs.Forms.{AreNames, IsPeer, IsPath, IsMaker, IsPosition, IsShown}
 use Rattle.reading_laws.specs.Forms.{IsFilter, IsRefusal, IsHead, IsEffect, IsLine, printed}
-use Rattle.reading_laws.specs.Spelled.{data_text_by, head_words, effect_words, line_of, line_words}
+use Rattle.reading_laws.specs.Spelled.{head_words, effect_words, line_of, line_words}
 
 -- a value is read from each text that spells it, and from no other
 pub record ReadsExactly {A W : Type 0} (read : W → Option A) (Spells : A → W → Type 0) : Type 0
@@ -46,7 +46,7 @@ SpellsHalves n word = (n ≤ whole_limit) × (word ≡ halves_text n)
 
 -- the word spells the data, and shows them whole
 abbrev pub SpellsData : List ℕ → List ℕ → Type 0
-SpellsData bytes word = IsShown bytes × (word ≡ data_text_by printed bytes)
+SpellsData bytes word = IsShown bytes × (word ≡ data_text printed bytes)
 
 -- the word spells the peer, and shows it whole
 abbrev pub SpellsPeer : Names → Peer → List ℕ → Type 0

@@ -1,9 +1,6 @@
--- Heads and effects, spelled word by word, with the digest that is printed for long data a function
--- of the data. What journal_text prints is this with SHA-256.
-use Rattle.std.specs.Prelude.{ℕ, ◌==◌, ◌++◌, nat_le, List, [], ◌∷◌, length, codes, decimal}
-use Rattle.std.specs.Prelude.{if◌then◌else◌}
+-- Heads and effects, spelled word by word: journal_text prints the same.
+use Rattle.std.specs.Prelude.{ℕ, List, [], ◌∷◌, codes, decimal}
 use Rattle.std.specs.List.{join_with_byte}
-use Rattle.hex.specs.Hex.{encode_lower}
 use Rattle.linx_base.specs.declared.name.Names.{Names}
 use Rattle.linx_base.specs.SigNotes.{SigNote}
 use Rattle.journal.specs.declared.head.Head.{Head}
@@ -13,30 +10,23 @@ use Rattle.journal.specs.declared.head.Head.TheVariants.{Restart, Wire, Tick, Re
 use Rattle.journal.specs.declared.effect.Effect.{Effect}
 use Rattle.journal.specs.declared.effect.Effect.TheVariants.{Opened, Closed, Arrived, Found}
 use Rattle.journal.specs.declared.effect.Effect.TheVariants.{Notified, Met, Gone, Up, Down}
-use Rattle.journal_text.specs.Values.{halves_text, node_text, link_text, peer_text, filter_text}
+use Rattle.journal_text.specs.Values.{Digest, data_text, halves_text, node_text, link_text, peer_text, filter_text}
 use Rattle.journal_text.specs.Values.{maker_text, path_text, position_text, reference_text}
 use Rattle.journal_text.specs.Values.{side_text, verdict_text, reason_text, sent_text}
 use Rattle.journal_text.specs.Values.{detached_text, refusal_text}
 use Rattle.journal_words.specs.declared.lines.Line.{Line}
 use Rattle.journal_words.specs.declared.lines.Line.TheVariants.{Made, Happened}
 
--- data: `-` for none, hexadecimal for 1 to 32 bytes, and for more their number and a digest
-unfoldable pub data_text_by : (List ℕ → List ℕ) → List ℕ → List ℕ
-data_text_by digest bytes =
-    if length bytes == 0 then codes "-"
-    else if nat_le (length bytes) 32 then encode_lower bytes
-    else decimal (length bytes) ++ codes ":" ++ encode_lower (digest bytes)
-
 -- a signal: its number and its data
-abbrev pub signal_words : (List ℕ → List ℕ) → SigNote → List (List ℕ)
-signal_words digest note = decimal note.number ∷ data_text_by digest note.bytes ∷ []
+abbrev pub signal_words : Digest → SigNote → List (List ℕ)
+signal_words digest note = decimal note.number ∷ data_text digest note.bytes ∷ []
 
 -- the words of a head
-unfoldable pub head_words : (List ℕ → List ℕ) → Names → Head → List (List ℕ)
+unfoldable pub head_words : Digest → Names → Head → List (List ℕ)
 head_words digest names (Open name) = codes "open" ∷ name ∷ []
 head_words digest names Close = codes "close" ∷ []
 head_words digest names (Send peer note answer) =
-    codes "send" ∷ peer_text names peer ∷ decimal note.number ∷ data_text_by digest note.bytes
+    codes "send" ∷ peer_text names peer ∷ decimal note.number ∷ data_text digest note.bytes
     ∷ sent_text answer ∷ []
 head_words digest names (Take filter at) =
     codes "take" ∷ filter_text filter ∷ position_text at ∷ []
@@ -60,17 +50,17 @@ head_words digest names (Refused reason) = codes "refused" ∷ refusal_text reas
 head_words digest names Ended = codes "ended" ∷ []
 
 -- the words of an effect
-unfoldable pub effect_words : (List ℕ → List ℕ) → Names → Effect → List (List ℕ)
+unfoldable pub effect_words : Digest → Names → Effect → List (List ℕ)
 effect_words digest names (Opened inc) = codes "opened" ∷ halves_text inc.0 ∷ []
 effect_words digest names (Closed inc) = codes "closed" ∷ halves_text inc.0 ∷ []
 effect_words digest names (Arrived inc peer note) =
     codes "arrived" ∷ halves_text inc.0 ∷ peer_text names peer ∷ signal_words digest note
 effect_words digest names (Found inc peer note hunt) =
     codes "found" ∷ halves_text inc.0 ∷ peer_text names peer ∷ decimal note.number
-    ∷ data_text_by digest note.bytes ∷ reference_text hunt ∷ []
+    ∷ data_text digest note.bytes ∷ reference_text hunt ∷ []
 effect_words digest names (Notified inc peer note reference reason) =
     codes "notified" ∷ halves_text inc.0 ∷ peer_text names peer ∷ decimal note.number
-    ∷ data_text_by digest note.bytes ∷ reference_text reference.0 ∷ reason_text reason ∷ []
+    ∷ data_text digest note.bytes ∷ reference_text reference.0 ∷ reason_text reason ∷ []
 effect_words digest names (Met node peer name) =
     codes "met" ∷ node_text names node.0 ∷ peer_text names peer ∷ name ∷ []
 effect_words digest names (Gone node peer) =
@@ -86,7 +76,7 @@ abbrev pub line_of : List (List ℕ) → List ℕ
 line_of words = join_with_byte 32 words
 
 -- the words of a line: a position, a maker and a head, or `+` and an effect
-abbrev pub line_words : (List ℕ → List ℕ) → Names → Line → List (List ℕ)
+abbrev pub line_words : Digest → Names → Line → List (List ℕ)
 line_words digest names (Made position by head) =
     decimal position ∷ maker_text by ∷ head_words digest names head
 line_words digest names (Happened effect) = codes "+" ∷ effect_words digest names effect

@@ -2,6 +2,7 @@
 -- what the actor's commands say are left out.
 use Rattle.std.specs.Prelude.{ℕ, ◌==◌, ◌++◌, Bool, true, false, List, [], codes, decimal, find}
 use Rattle.std.specs.Prelude.{Option, Some, None}
+use Rattle.sha2.specs.Sha256.{sha256}
 use Rattle.linx_base.specs.declared.identity.Inc.{Inc}
 use Rattle.linx_base.specs.declared.identity.Peer.{Peer}
 use Rattle.linx_base.specs.declared.identity.Peer.TheVariants.{Here, There}
@@ -41,11 +42,11 @@ peer_text table (There link session i) =
 -- an item that was taken: how it came, from whom, and the signal; `?` where no item is there
 abbrev pub item_text : List Opener → Option Effect → List ℕ
 item_text table (Some (Arrived i peer note)) =
-    codes "arrived " ++ peer_text table peer ++ codes " " ++ signal_text note
+    codes "arrived " ++ peer_text table peer ++ codes " " ++ signal_text sha256 note
 item_text table (Some (Found i peer note hunt)) =
-    codes "found " ++ peer_text table peer ++ codes " " ++ signal_text note
+    codes "found " ++ peer_text table peer ++ codes " " ++ signal_text sha256 note
 item_text table (Some (Notified i peer note reference reason)) =
-    (codes "notified " ++ peer_text table peer ++ codes " " ++ signal_text note) ++ codes " "
+    (codes "notified " ++ peer_text table peer ++ codes " " ++ signal_text sha256 note) ++ codes " "
     ++ reason_text reason
 item_text table _ = codes "?"
 

@@ -2,6 +2,7 @@
 
 ghost use Rattle.std.specs.Prelude.{◌≡◌, ◌++◌, codes, OnOk};
 ghost use Rattle.std.specs.Option.{option_copied};
+ghost use Rattle.sha2.specs.Sha256.{sha256};
 ghost use Rattle.journal_text.specs.Values.{signal_text};
 ghost use Rattle.run_outcomes.specs.Answers.{answer_text, endpoint_text, is_answer, item_text};
 ghost use Rattle.run_outcomes.specs.Answers.{opener_text, peer_text};
@@ -67,7 +68,7 @@ fn write_item(
     note: &SigNote,
 ) -> Result<(), NoMemory>
     ensures { OnOk result (out.new.items ≡ out.old.items
-        ++ (word.now ++ peer_text table.now peer.now ++ codes " " ++ signal_text note.now)) }
+        ++ (word.now ++ peer_text table.now peer.now ++ codes " " ++ signal_text sha256 note.now)) }
 {
     write_text(out, word)?;
     write_peer(out, table, peer)?;

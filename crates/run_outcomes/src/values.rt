@@ -62,7 +62,7 @@ fn digest_of(bytes: &[u8]) -> [u8; 32]
 /// The number of bytes, and their digest.
 #[tactic(auto, unfolding(journal_text::specs::Values::digest_text))]
 fn write_digest(out: &mut Vec<u8>, bytes: &[u8]) -> Result<(), NoMemory>
-    ensures { OnOk result (out.new.items ≡ out.old.items ++ digest_text bytes.now) }
+    ensures { OnOk result (out.new.items ≡ out.old.items ++ digest_text sha256 bytes.now) }
 {
     write_number(out, bytes.len() as u64)?;
     write_text(out, ":")?;
@@ -72,7 +72,7 @@ fn write_digest(out: &mut Vec<u8>, bytes: &[u8]) -> Result<(), NoMemory>
 
 #[tactic(auto, unfolding(journal_text::specs::Values::data_text))]
 fn write_data(out: &mut Vec<u8>, bytes: &[u8]) -> Result<(), NoMemory>
-    ensures { OnOk result (out.new.items ≡ out.old.items ++ data_text bytes.now) }
+    ensures { OnOk result (out.new.items ≡ out.old.items ++ data_text sha256 bytes.now) }
 {
     if bytes.is_empty() {
         write_text(out, "-")
@@ -86,7 +86,7 @@ fn write_data(out: &mut Vec<u8>, bytes: &[u8]) -> Result<(), NoMemory>
 /// The number of a signal, and its data.
 #[tactic(auto, unfolding(journal_text::specs::Values::signal_text))]
 pub(crate) fn write_signal(out: &mut Vec<u8>, note: &SigNote) -> Result<(), NoMemory>
-    ensures { OnOk result (out.new.items ≡ out.old.items ++ signal_text note.now) }
+    ensures { OnOk result (out.new.items ≡ out.old.items ++ signal_text sha256 note.now) }
 {
     write_number(out, u64::from(note.number()))?;
     write_text(out, " ")?;
