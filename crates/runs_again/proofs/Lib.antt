@@ -1,0 +1,7 @@
+mod Numbers
+mod Makers
+mod Comments
+mod Scripts
+mod Spelled
+mod Again
+mod Texts
