@@ -9,7 +9,7 @@ use Rattle.std.proofs.lemmas.List.Sums.{take_while-cons}
 use Rattle.journal.specs.declared.by.By.{By}
 use Rattle.order_lines.specs.Lines.{is_order_line, plain_line, without_orders}
 use Rattle.order_lines.specs.declared.turns.Makers.{Makers}
-use Rattle.script_words.specs.Lines.{is_comment, is_space, lines_of, words_in, words_of}
+use Rattle.script_words.specs.Lines.{is_space, lines_of, words_in, words_of}
 use Rattle.script_words.specs.declared.fault.Fault.{Fault}
 use Rattle.turn_lines.specs.Reading.{AreFew, IsAmong, number_among}
 use Rattle.turn_lines.specs.Rows.{rows_of, turns_in}
@@ -20,20 +20,14 @@ use Rattle.turn_lines.proofs.Fronts.{line_ended, lines_again}
 use Rattle.turn_lines.proofs.Listed.{AreLines, IsLine, all_listed, all_written, are_lines}
 use Rattle.turn_lines.proofs.Listed.{cut_written, length-written, lines_written, small_rows}
 use Rattle.turn_lines.proofs.MoreTurns.{turns_of_rows}
-use Rattle.turn_lines.proofs.Words.{good_words, printed_behind, says_order, short_behind}
-use Rattle.turn_lines.proofs.Words.{words_of_printed}
+use Rattle.turn_lines.proofs.Words.{good_words, has_bytes, is_no_comment, printed_behind}
+use Rattle.turn_lines.proofs.Words.{says_order, short_behind, words_of_printed}
 
 -- a line that has no words
 abbrev pub HasNoWords : List ℕ → Type 0
 HasNoWords line = words_in line ≡ good_words []
 
 -- ---- a comment
-
-abbrev has_bytes : List ℕ → Bool
-has_bytes word = not (length word == 0)
-
-abbrev is_no_comment : List ℕ → Bool
-is_no_comment word = not (is_comment word)
 
 -- the words of the parts of a text that begins with its mark (35)
 marked_parts : (part : List ℕ) (parts : List (List ℕ))

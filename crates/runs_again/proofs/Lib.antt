@@ -4,4 +4,3 @@ mod Comments
 mod Scripts
 mod Spelled
 mod Again
-mod Texts

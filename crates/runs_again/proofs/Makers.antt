@@ -1,8 +1,8 @@
 -- The makers of the turns of a run are few, and are those of its script.
-use Rattle.std.proofs.Common.{◌≡◌, ◌∙◌, ℕ, suc, ◌<◌, ◌≤◌, ◌||◌, Bool, true, false, cond, List, []}
-use Rattle.std.proofs.Common.{◌∷◌, ◌++◌, length, refl, arith, map, nat_le, leb-false}
+use Rattle.std.proofs.Common.{◌≡◌, ◌<◌, ◌≤◌, Bool, true, false, cond, List, []}
+use Rattle.std.proofs.Common.{◌∷◌, ◌++◌, length, refl, arith, nat_le}
 use Rattle.std.specs.List.{AllByRecursion}
-use Rattle.std.proofs.lemmas.Bool.{or_parts}
+use Rattle.std.proofs.lemmas.Bool.{leb-false, or_parts}
 use Rattle.std.proofs.lemmas.List.{length-map}
 use Rattle.journal.specs.Laws.{IsMaker}
 use Rattle.journal.specs.Logs.{is_full, signal_bytes_of}
@@ -33,7 +33,7 @@ module _ (script : ScriptParts) where
       → IsAmong (makers_of script) by
   is_among P (Actor k) maker = (
     omega (arith, maker.0),
-    omega (arith, maker.1.0, length-map script.actors (λ actor. actor.node)),
+    omega (arith, maker.1, length-map script.actors (λ actor. actor.node)),
   )
   is_among P (Pump l) maker = (omega (arith, maker.0), maker.1)
 

@@ -19,7 +19,7 @@ begins_alike (Pump l) head = refl
 
 module _ (script : ScriptParts) where
   abbrev number : By → ℕ
-  number by = number_among (makers_of script) by
+  number = number_among (makers_of script)
 
   one_number : (by : By) → number_of script by ≡ number by
   one_number (Actor k) = refl

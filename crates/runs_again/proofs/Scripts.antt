@@ -11,9 +11,6 @@ use Rattle.order_lines.proofs.Lengths.{length-without_orders}
 use Rattle.script_lang.specs.Parts.{ScriptParts}
 use Rattle.script_lang.specs.Reading.{behind, finished, lined, nothing_read, read_from, script_of}
 use Rattle.script_lang.specs.Reading.{worded}
-use Rattle.script_lang.specs.declared.reading.Place.{Place}
-use Rattle.script_lang.specs.declared.reading.Place.TheVariants.{InActor, InRepeat, Outside}
-use Rattle.script_lang.specs.declared.reading.Reading.{Reading}
 use Rattle.script_words.specs.Gives.{◌>>=◌}
 use Rattle.script_words.specs.Lines.{lines_of}
 use Rattle.script_words.specs.declared.fault.Fault.{Fault}
@@ -24,14 +21,17 @@ use Rattle.runs_again.proofs.Comments.{HasNoWords}
 
 module _ (script : ScriptParts) where
   -- the end may stand on any line
-  ends_later : (s : ScriptParts) (place : Place) (k n : ℕ) → finished s place k ≡ Ok script
+  end_at : (s : ScriptParts) (place : _) (k n : ℕ) → finished s place k ≡ Ok script
       → finished s place n ≡ Ok script
-  ends_later s Outside k n is = is
-  ends_later s (InActor actor) k n is = absurd cc
-  ends_later s (InRepeat actor times commands) k n is = absurd cc
+  end_at s place k n is = grind arith
+
+  ends_later : (r : _) (before after k n : ℕ) → read_from r before k [] ≡ Ok script
+      → read_from r after n [] ≡ Ok script
+  unfolding read_from
+  ends_later r before after k n is = end_at r.script r.place k n is
 
   -- a line without words
-  passed : (r : Reading) (before : ℕ) (line : List ℕ) → HasNoWords line
+  passed : (r : _) (before : ℕ) (line : List ℕ) → HasNoWords line
       → before + length line ≤ 1048576 → lined r before line ≡ Ok r
   unfolding lined worded
   passed r before line none low =
@@ -39,61 +39,61 @@ module _ (script : ScriptParts) where
       ∙ ap (λ (words : Result (List (List ℕ)) Fault). words >>= worded r) none
 
   -- lines without words
-  all_passed : (lines : List (List ℕ)) (r : Reading) (before k : ℕ)
+  all_passed : (lines : List (List ℕ)) (r : _) (before k : ℕ) → read_from r before k [] ≡ Ok script
       → AllByRecursion HasNoWords lines → before + sum_by length lines ≤ 1048576
-      → finished r.script r.place k ≡ Ok script → read_from r before k lines ≡ Ok script
+      → read_from r before k lines ≡ Ok script
   unfolding read_from
-  all_passed [] r before k none low ends = ends
-  all_passed (line ∷ lines) r before k none low ends =
+  all_passed [] r before k ends none low = ends
+  all_passed (line ∷ lines) r before k ends none low =
       let sum = sum_by-cons length line lines in
-      ap (λ (one : Result Reading Fault). behind one (k + 1)
-      (λ s. read_from s (before + length line) (k + 1) lines))
+      ap (λ one. behind one (k + 1) (λ s. read_from s (before + length line) (k + 1) lines))
       (passed r before line none.0 (omega (arith, low, sum)))
-      ∙ all_passed lines r (before + length line) (k + 1) none.1 (omega (arith, low, sum))
-      (ends_later r.script r.place k (k + 1) ends)
+      ∙ all_passed lines r (before + length line) (k + 1)
+      (ends_later r before (before + length line) k (k + 1) ends) none.1
+      (omega (arith, low, sum))
 
   -- the lines of a script, and behind them lines without words
-  on : (one : Result Reading Fault) (k : ℕ) (next longer : Reading → Result ScriptParts (ℕ × Fault))
-      → ((s : Reading) → next s ≡ Ok script → longer s ≡ Ok script)
-      → behind one k next ≡ Ok script → behind one k longer ≡ Ok script
-  on (Ok s) k next longer each is = each s is
-  on (Err fault) k next longer each is = absurd cc
+  on : (one : _) (before k : ℕ) (lines more : List (List ℕ))
+      → behind one k (λ s. read_from s before k lines) ≡ Ok script
+      → ((s : _) → read_from s before k lines ≡ Ok script
+      → read_from s before k (lines ++ more) ≡ Ok script)
+      → behind one k (λ s. read_from s before k (lines ++ more)) ≡ Ok script
+  on (Ok s) before k lines more is each = each s is
+  on (Err fault) before k lines more is each = absurd cc
 
-  read_longer : (lines more : List (List ℕ)) (r : Reading) (before k : ℕ)
-      → AllByRecursion HasNoWords more
+  read_longer : (lines more : List (List ℕ)) (r : _) (before k : ℕ)
+      → read_from r before k lines ≡ Ok script → AllByRecursion HasNoWords more
       → before + sum_by length lines + sum_by length more ≤ 1048576
-      → read_from r before k lines ≡ Ok script → read_from r before k (lines ++ more) ≡ Ok script
+      → read_from r before k (lines ++ more) ≡ Ok script
   unfolding read_from
-  read_longer [] more r before k none low is =
-      all_passed more r before k none (omega (arith, low)) is
-  read_longer (line ∷ lines) more r before k none low is =
-      on (lined r before line) (k + 1)
-      (λ s. read_from s (before + length line) (k + 1) lines)
-      (λ s. read_from s (before + length line) (k + 1) (lines ++ more))
-      (λ s so_far. read_longer lines more s (before + length line) (k + 1) none
-      (omega (arith, low, sum_by-cons length line lines)) so_far) is
+  read_longer [] more r before k is none low =
+      all_passed more r before k is none (omega (arith, low))
+  read_longer (line ∷ lines) more r before k is none low =
+      on (lined r before line) (before + length line) (k + 1) lines more is
+      (λ s so_far. read_longer lines more s (before + length line) (k + 1) so_far none
+      (omega (arith, low, sum_by-cons length line lines)))
 
 -- ---- a text that lists no turns stays as it is
 
 onto_whole : (b : ℕ) (lines : List (List ℕ))
-    → flat_map (λ line. line) (onto_first b lines) ≡ b ∷ flat_map (λ line. line) lines
+    → flat_map (λ (line : List ℕ). line) (onto_first b lines) ≡ b ∷ flat_map (λ (line : List ℕ). line) lines
 onto_whole b [] = refl
 onto_whole b (line ∷ lines) = refl
 
-whole_by : (feed : Bool) (b : ℕ) (bs : List ℕ) → flat_map (λ line. line) (lines_of bs) ≡ bs
-    → flat_map (λ line. line) (cond feed ((b ∷ []) ∷ lines_of bs) (onto_first b (lines_of bs)))
+whole_by : (feed : Bool) (b : ℕ) (bs : List ℕ) → flat_map (λ (line : List ℕ). line) (lines_of bs) ≡ bs
+    → flat_map (λ (line : List ℕ). line) (cond feed ((b ∷ []) ∷ lines_of bs) (onto_first b (lines_of bs)))
     ≡ b ∷ bs
 whole_by true b bs rest = ap (λ (text : List ℕ). b ∷ text) rest
 whole_by false b bs rest =
     onto_whole b (lines_of bs) ∙ ap (λ (text : List ℕ). b ∷ text) rest
 
 -- its lines are the text
-whole : (text : List ℕ) → flat_map (λ line. line) (lines_of text) ≡ text
+whole : (text : List ℕ) → flat_map (λ (line : List ℕ). line) (lines_of text) ≡ text
 whole [] = refl
 whole (b ∷ bs) = whole_by (b == 10) b bs (whole bs)
 
 plain : (lines : List (List ℕ)) → AllByRecursion (λ line. is_order_line line ≡ false) lines
-    → flat_map plain_line lines ≡ flat_map (λ line. line) lines
+    → flat_map plain_line lines ≡ flat_map (λ (line : List ℕ). line) lines
 plain [] none = refl
 plain (line ∷ lines) none =
     ap (λ (text : List ℕ). text ++ flat_map plain_line lines)
@@ -121,7 +121,9 @@ module _ (text more : List ℕ) (none : ListsNone text) where
       let rest : List ℕ = without_orders more in
       ap (λ (bytes : List ℕ). read_from nothing_read 0 0 (lines_of bytes)) stays_before
       ∙ ap (read_from nothing_read 0 0) (lines_behind text rest none)
-      ∙ read_longer script (lines_of text) (lines_of rest) nothing_read 0 0 nothing
+      ∙ read_longer script (lines_of text) (lines_of rest) nothing_read 0 0
+      (ap (λ (bytes : List ℕ). read_from nothing_read 0 0 (lines_of bytes)) (sym stays) ∙ is)
+      nothing
       (omega (
         arith,
         low,
@@ -130,4 +132,3 @@ module _ (text more : List ℕ) (none : ListsNone text) where
         sum_by-lines_of rest,
         length-without_orders more,
       ))
-      (ap (λ (bytes : List ℕ). read_from nothing_read 0 0 (lines_of bytes)) (sym stays) ∙ is)

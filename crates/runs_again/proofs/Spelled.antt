@@ -35,7 +35,7 @@ turns_are_spelled bytes script run alone so_far short =
     are_among script P so_far.legal in
     let turns = turns_are_few script P (trunks_of run.trunks) so_far.run in
     ap (beside (bytes ++ lines))
-    (script_stays bytes lines alone.none script alone.script
+    (script_stays bytes lines alone.none script alone.spelled
     (turns_say_nothing makers few (turn_makers P) among turns) short)
     ∙ ap (with_front script) (turns_read_back makers bytes P few alone.none among turns)
     ∙ ap (λ (front : List ℕ). with_front script (good_front front)) (sym (turns_are_one script P))

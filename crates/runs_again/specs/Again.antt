@@ -17,7 +17,7 @@ use Rattle.turn_lines.specs.Turns.{turn_makers}
 
 -- the bytes spell a script, and list no turns
 pub record SpellsAlone (bytes : List ℕ) (script : ScriptParts) : Type 0 where
-  pub script : script_of (without_orders bytes) ≡ Ok script
+  pub spelled : script_of (without_orders bytes) ≡ Ok script
   pub none : ListsNone bytes
 
 -- a text with the lines of the turns of these steps behind it

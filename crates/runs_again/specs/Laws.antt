@@ -1,14 +1,9 @@
 -- That a whole run comes again by the text of its script and the lines of its turns.
 use Rattle.std.specs.Prelude.{ℕ, ◌≡◌, true, List, Ok, map}
 use Rattle.fabric.specs.Run.{Layout}
-use Rattle.journal.specs.Logs.{Log}
 use Rattle.journal.specs.declared.effect.Step.{Step}
-use Rattle.journal_read.specs.Printed.{AllFit}
-use Rattle.journal_read.specs.Reading.{read_in}
-use Rattle.journal_text.specs.Text.{text_of}
 use Rattle.order_lines.specs.Fronts.{makers_of, ordered_of}
 use Rattle.orders.specs.Turns.{turns_of}
-use Rattle.reading_laws.specs.Forms.{AreNames}
 use Rattle.script_lang.specs.Parts.{ScriptParts}
 use Rattle.stage.specs.Plays.{IsSoFar}
 use Rattle.stage.specs.Turns.{is_over}
@@ -18,33 +13,21 @@ use Rattle.runs_again.specs.Again.{ComesAgainBy, IsShort, SpellsAlone, with_turn
 
 -- the turns that an order lists of a journal are those that lines are written of, by number
 abbrev pub TurnsAreOne : Type 0
-TurnsAreOne = (script : ScriptParts) (P : List Step)
+TurnsAreOne =
+    (script : ScriptParts) (P : List Step)
     → turns_of script P ≡ map (number_among (makers_of script)) (turn_makers P)
 
 -- A SCRIPT WITH THE LINES OF A RUN of it behind is this script, with the turns of the run first
 abbrev pub TurnsAreSpelled : Type 0
-TurnsAreSpelled = (bytes : List ℕ) (script : ScriptParts) (run : Layout)
-    → SpellsAlone bytes script → IsSoFar script run → IsShort (with_turns_of bytes run.log.steps)
+TurnsAreSpelled =
+    (bytes : List ℕ) (script : ScriptParts) (run : Layout) → SpellsAlone bytes script
+    → IsSoFar script run → IsShort (with_turns_of bytes run.log.steps)
     → ordered_of (with_turns_of bytes run.log.steps)
     ≡ Ok (record { script = script; front = turns_of script run.log.steps })
 
 -- A WHOLE RUN COMES AGAIN, made by threads or not, by its script with the lines of its journal
 abbrev pub RunsComeAgain : Type 0
-RunsComeAgain = (bytes : List ℕ) (script : ScriptParts) (run : Layout)
-    → SpellsAlone bytes script → IsSoFar script run → is_over run ≡ true
-    → IsShort (with_turns_of bytes run.log.steps)
+RunsComeAgain =
+    (bytes : List ℕ) (script : ScriptParts) (run : Layout) → SpellsAlone bytes script
+    → IsSoFar script run → is_over run ≡ true → IsShort (with_turns_of bytes run.log.steps)
     → ComesAgainBy (with_turns_of bytes run.log.steps) run
-
--- what is read of the text of a run tells the turns of the run
-abbrev pub TextsTellTurns : Type 0
-TextsTellTurns = (log : Log) → AreNames log.names → AllFit log.names log.steps
-    → (R : List Step) → read_in log.names (text_of log) ≡ Ok R
-    → turn_makers R ≡ turn_makers log.steps
-
--- SO A WHOLE RUN COMES AGAIN BY ITS PRINTED TEXT: by its script with the lines of what is read of it
-abbrev pub TextsMakeRunsAgain : Type 0
-TextsMakeRunsAgain = (bytes : List ℕ) (script : ScriptParts) (run : Layout)
-    → SpellsAlone bytes script → IsSoFar script run → is_over run ≡ true
-    → AllFit script.names run.log.steps
-    → (R : List Step) → read_in script.names (text_of run.log) ≡ Ok R
-    → IsShort (with_turns_of bytes R) → ComesAgainBy (with_turns_of bytes R) run

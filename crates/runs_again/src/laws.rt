@@ -1,10 +1,8 @@
 //! What follows from the definitions of runs in an order and of the lines `order` alone. These
 //! functions do nothing; their contracts are the laws.
 
-ghost use Rattle.runs_again.specs.Laws.{RunsComeAgain, TextsMakeRunsAgain, TextsTellTurns};
-ghost use Rattle.runs_again.specs.Laws.{TurnsAreOne, TurnsAreSpelled};
+ghost use Rattle.runs_again.specs.Laws.{RunsComeAgain, TurnsAreOne, TurnsAreSpelled};
 
-use journal_read::printed_is_read;
 use orders::order_decides;
 
 /// The turns that an order lists of a journal, and those that lines are written of, are one list.
@@ -24,19 +22,4 @@ pub fn runs_come_again()
     ensures { RunsComeAgain }
 {
     order_decides();
-}
-
-/// What is read of the text of a run tells the turns of the run.
-pub fn texts_tell_turns()
-    ensures { TextsTellTurns }
-{
-    printed_is_read();
-}
-
-/// So the lines of what is read of the text of a whole run make it again too.
-pub fn texts_make_runs_again()
-    ensures { TextsMakeRunsAgain }
-{
-    runs_come_again();
-    texts_tell_turns();
 }

@@ -79,10 +79,10 @@ split_words front (row ∷ rows) shown small =
 
 -- ---- no word is left out
 
-abbrev has_bytes : List ℕ → Bool
+abbrev pub has_bytes : List ℕ → Bool
 has_bytes word = not (length word == 0)
 
-abbrev is_no_comment : List ℕ → Bool
+abbrev pub is_no_comment : List ℕ → Bool
 is_no_comment word = not (is_comment word)
 
 module _ {X : Type 0} (p : X → Bool) where

@@ -1,5 +1,0 @@
-use Rattle.runs_again.proofs.Again.{texts_make_runs_again}
-use Rattle.runs_again.proofs.laws.texts_make_runs_again.Goals as goal
-
-pub returns : goal.returns
-returns c = texts_make_runs_again c.runs_come_again.ensures c.texts_tell_turns.ensures
