@@ -37,11 +37,11 @@ LAYERS = [
     ("The machine", "fabric"),
     ("A journal checked", "link_tables journal_check"),
     ("The script", "script_words script_lang work_gen line_search order_lines turn_lines"),
-    ("A run of a script", "actor_run stage run_orders order_rules run_outcomes orders"),
+    ("A run of a script", "actor_run stage run_orders order_rules run_outcomes orders runs_again"),
     ("Threads", "turn_lock linx_api workers"),
     ("The text", "journal_text report"),
     ("A text read back", "text_words text_names journal_words reading_laws journal_read text_alone"
-                         " image_laws printed_laws runs_again"),
+                         " image_laws printed_laws"),
     ("A byte stream", "request_stream tcpcm_frames tcpcm_framing tcpcm_end stream_echo"),
     ("Timers, and a gateway",
      "deadlines linx_timers timer_laws gateway_msgs gateway_core gateway_session"),

@@ -1,7 +1,7 @@
 -- The lines that list turns say nothing where orders are comments.
-use Rattle.std.proofs.Common.{◌≡◌, ◌∙◌, ℕ, suc, ◌≤◌, ◌<◌, ◌++◌, ◌==◌, Bool, true, not, List, [], ◌∷◌}
+use Rattle.std.proofs.Common.{◌≡◌, ◌∙◌, ℕ, suc, ◌≤◌, ◌<◌, ◌++◌, ◌==◌, true, not, List, [], ◌∷◌}
 use Rattle.std.proofs.Common.{length, refl, sym, ap, arith, codes, filter, flat_map, map, subst}
-use Rattle.std.proofs.Common.{length-append, ne_eqb, take_while, Result}
+use Rattle.std.proofs.Common.{length-append, ne_eqb, take_while}
 use Rattle.std.specs.List.{AllByRecursion, list_all, onto_first, slice_split}
 use Rattle.std.proofs.lemmas.Bool.{cond-true, not_from_false}
 use Rattle.std.proofs.lemmas.List.Splits.{slice_split-cons_no}
@@ -10,15 +10,14 @@ use Rattle.journal.specs.declared.by.By.{By}
 use Rattle.order_lines.specs.Lines.{is_order_line, plain_line, without_orders}
 use Rattle.order_lines.specs.declared.turns.Makers.{Makers}
 use Rattle.script_words.specs.Lines.{is_space, lines_of, words_in, words_of}
-use Rattle.script_words.specs.declared.fault.Fault.{Fault}
-use Rattle.turn_lines.specs.Reading.{AreFew, IsAmong, number_among}
-use Rattle.turn_lines.specs.Rows.{rows_of, turns_in}
+use Rattle.turn_lines.specs.Reading.{AreFew, IsAmong}
+use Rattle.turn_lines.specs.Rows.{rows_of}
 use Rattle.turn_lines.specs.Text.{in_lines, line_text, order_text, word_text}
 use Rattle.turn_lines.specs.declared.rows.Row.{Row}
 use Rattle.turn_lines.proofs.Bytes.{AreSmall, all_within, is_printed, printed_no_feed}
 use Rattle.turn_lines.proofs.Fronts.{line_ended, lines_again}
-use Rattle.turn_lines.proofs.Listed.{AreLines, IsLine, all_listed, all_written, are_lines}
-use Rattle.turn_lines.proofs.Listed.{cut_written, length-written, lines_written, small_rows}
+use Rattle.turn_lines.proofs.Listed.{AreLines, all_listed, all_written, are_lines, cut_written}
+use Rattle.turn_lines.proofs.Listed.{length-written, lines_written, small_rows}
 use Rattle.turn_lines.proofs.MoreTurns.{turns_of_rows}
 use Rattle.turn_lines.proofs.Words.{good_words, has_bytes, is_no_comment, printed_behind}
 use Rattle.turn_lines.proofs.Words.{says_order, short_behind, words_of_printed}

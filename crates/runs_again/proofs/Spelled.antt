@@ -1,14 +1,10 @@
 -- A script with the lines of a run of it behind spells the script, and the turns of the run.
-use Rattle.std.proofs.Common.{◌≡◌, ◌∙◌, ℕ, ◌++◌, List, Result, Ok, length, sym, ap}
+use Rattle.std.proofs.Common.{◌∙◌, ℕ, ◌++◌, List, Result, Ok, sym, ap}
 use Rattle.std.specs.List.{AllByRecursion}
-use Rattle.journal.specs.declared.by.By.{By}
 use Rattle.journal.specs.declared.effect.Step.{Step}
-use Rattle.order_lines.specs.Fronts.{OrderedParts, beside, front_of, makers_of, ordered_of}
-use Rattle.order_lines.specs.Fronts.{with_front}
+use Rattle.order_lines.specs.Fronts.{beside, makers_of, with_front}
 use Rattle.order_lines.specs.declared.turns.Makers.{Makers}
-use Rattle.orders.specs.Turns.{turns_of}
 use Rattle.run_trunks.specs.States.{trunks_of}
-use Rattle.script_lang.specs.Parts.{ScriptParts}
 use Rattle.script_words.specs.declared.fault.Fault.{Fault}
 use Rattle.turn_lines.specs.Reading.{AreFew, IsAmong}
 use Rattle.turn_lines.specs.Text.{order_text}
