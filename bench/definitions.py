@@ -37,7 +37,7 @@ LAYERS = [
     ("The machine", "fabric"),
     ("A journal checked", "link_tables journal_check"),
     ("The script", "script_words script_lang work_gen line_search order_lines turn_lines"),
-    ("A run of a script", "actor_run stage run_orders order_rules run_outcomes orders seed_runs"),
+    ("A run of a script", "actor_run stage run_orders order_rules run_outcomes orders runs_again seed_runs"),
     ("Threads", "turn_lock linx_api workers"),
     ("The text", "journal_text report seed_search"),
     ("A text read back", "text_words text_names journal_words reading_laws journal_read text_alone"

@@ -15,7 +15,7 @@ use Rattle.order_lines.specs.declared.turns.Turns.{Turns}
 use Rattle.script_words.specs.Gives.{◌>>=◌}
 use Rattle.script_words.specs.Lines.{lines_of}
 use Rattle.script_words.specs.declared.fault.Fault.{Fault}
-use Rattle.turn_lines.specs.Reading.{AreFew, TurnsReadBack, number_among}
+use Rattle.turn_lines.specs.Reading.{AreFew, ListsNone, TurnsReadBack, number_among}
 use Rattle.turn_lines.specs.Rows.{rows_of, turns_in}
 use Rattle.turn_lines.specs.Text.{in_lines, line_text, order_text, row_text}
 use Rattle.turn_lines.specs.Turns.{turn_makers}
@@ -31,7 +31,7 @@ use Rattle.turn_lines.proofs.Words.{body, feeds_no_line, says_order, words_again
 -- ---- the lines of a text
 
 -- a line, and what follows it
-line_ended : (line more : List ℕ) → list_all (λ b. not (b == 10)) line ≡ true
+pub line_ended : (line more : List ℕ) → list_all (λ b. not (b == 10)) line ≡ true
     → lines_of ((line ++ 10 ∷ []) ++ more) ≡ (line ++ 10 ∷ []) ∷ lines_of more
 line_ended [] more lacks = refl
 line_ended (b ∷ line) more lacks =
@@ -100,6 +100,11 @@ by_length (b ∷ text) more true is ended =
     let no : suc (length text) ≡ 0 = eqb-true (suc (length text)) 0 is in absurd (omega arith)
 by_length (b ∷ text) more false is ended = both_lines (b ∷ text) more ended
 
+-- what follows a text that lists no turns
+pub lines_behind : (text more : List ℕ) → ListsNone text
+    → lines_of (text ++ more) ≡ lines_of text ++ lines_of more
+lines_behind text more none = by_length text more (length text == 0) refl none.ended
+
 -- ---- the turns of each line
 
 -- makers that were read, of a line and of a text
@@ -165,7 +170,7 @@ module _ (makers : Makers) (few : AreFew makers) where
       ∙ ap good_front (append_assoc front all (lines_written makers lines))
 
   -- the lines of the text
-  lines_again : (lines : List (List Row)) → AreLines makers 0 lines
+  pub lines_again : (lines : List (List Row)) → AreLines makers 0 lines
       → length (lines_written makers lines) ≤ 200000
       → lines_of (flat_map line_text lines) ≡ map line_text lines
   unfolding line_text
@@ -214,7 +219,7 @@ turns_read_back makers text P few none among short =
     ≡ good_front (lines_written makers lines) =
     λ n. ap (front_from makers [] n) (lines_again makers few lines are low)
     ∙ lines_read makers few lines [] n are (omega (arith, low)) in
-    ap (front_from makers [] 0) (by_length text (order_text ms) (length text == 0) refl none.ended)
+    ap (front_from makers [] 0) (lines_behind text (order_text ms) none)
     ∙ passed_over makers few (lines_of text) (lines_of (order_text ms)) [] 0
     (lines_written makers lines) none.unordered each
     ∙ ap good_front all

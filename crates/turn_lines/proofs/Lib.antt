@@ -1,7 +1,7 @@
 pub mod MoreTurns
 mod Lines
-mod Bytes
-mod Words
+pub mod Bytes
+pub mod Words
 mod Named
-mod Listed
-mod Fronts
+pub mod Listed
+pub mod Fronts

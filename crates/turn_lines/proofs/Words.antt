@@ -79,10 +79,10 @@ split_words front (row ∷ rows) shown small =
 
 -- ---- no word is left out
 
-abbrev has_bytes : List ℕ → Bool
+abbrev pub has_bytes : List ℕ → Bool
 has_bytes word = not (length word == 0)
 
-abbrev is_no_comment : List ℕ → Bool
+abbrev pub is_no_comment : List ℕ → Bool
 is_no_comment word = not (is_comment word)
 
 module _ {X : Type 0} (p : X → Bool) where
@@ -138,43 +138,56 @@ words_of_body rows small =
     ∙ ap (take_while is_no_comment) (all_filtered has_bytes words (some_bytes rows small))
     ∙ all_taken is_no_comment words (no_comments rows small)
 
-module _ (rows : List Row) (small : AreSmall rows) (few : length rows ≤ 16) where
-  printed_body : list_all is_printed (body rows) ≡ true
-  printed_body =
-      list_all-append is_printed (codes "order") (flat_map word_text rows)
-      ∙ and_from _ _ refl (printed_words rows small)
+-- the words of a line of printed bytes
+module _ (b : ℕ) (bs : List ℕ) (printed : list_all is_printed (b ∷ bs) ≡ true)
+    (short : length (b ∷ bs) ≤ 4096) where
+  kept : strip_last 13 (b ∷ bs) ≡ b ∷ bs
+  kept =
+      strip_none 13 b bs
+      (all_within is_printed (λ x. not (x == 13)) (b ∷ bs) printed_no_return printed)
 
-  short_body : nat_lt 4096 (length (body rows)) ≡ false
-  short_body =
-      le-ltb _ _
-      (omega (
+  plain : list_all is_plain (strip_last 13 (b ∷ bs)) ≡ true
+  plain =
+      ap (list_all is_plain) kept
+      ∙ all_within is_printed is_plain (b ∷ bs) printed_plain printed
+
+  pub words_of_printed : words_in ((b ∷ bs) ++ 10 ∷ []) ≡ good_words (words_of (b ∷ bs))
+  unfolding words_in
+  words_of_printed =
+      ap words_in_text (strip_feed (b ∷ bs))
+      ∙ cond-false (nat_lt 4096 (length (b ∷ bs))) _ _ (le-ltb _ _ short)
+      ∙ cond-true (list_all is_plain (strip_last 13 (b ∷ bs))) _ _ plain
+      ∙ ap (λ (text : List ℕ). good_words (words_of text)) kept
+
+module _ (rows : List Row) (small : AreSmall rows) (few : length rows ≤ 16) where
+  -- the words behind the first are printed, and so are they all behind one of five printed bytes
+  pub printed_behind : (first : List ℕ) → list_all is_printed first ≡ true
+      → list_all is_printed (first ++ flat_map word_text rows) ≡ true
+  printed_behind first shown =
+      list_all-append is_printed first (flat_map word_text rows)
+      ∙ and_from _ _ shown (printed_words rows small)
+
+  pub short_behind : (first : List ℕ) → length first ≡ 5
+      → length (first ++ flat_map word_text rows) ≤ 4096
+  short_behind first five =
+      omega (
         arith,
-        length-append (codes "order") (flat_map word_text rows),
+        length-append first (flat_map word_text rows),
         length-words rows small,
         few,
-      ))
+        five,
+      )
 
-  kept_body : strip_last 13 (body rows) ≡ body rows
-  kept_body =
-      strip_none 13 111 (codes "rder" ++ flat_map word_text rows)
-      (all_within is_printed (λ b. not (b == 13)) (body rows) printed_no_return printed_body)
-
-  plain_body : list_all is_plain (strip_last 13 (body rows)) ≡ true
-  plain_body =
-      ap (list_all is_plain) kept_body
-      ∙ all_within is_printed is_plain (body rows) printed_plain printed_body
-
-  text_again : words_in_text (body rows) ≡ good_words (codes "order" ∷ map row_text rows)
-  text_again =
-      cond-false (nat_lt 4096 (length (body rows))) _ _ short_body
-      ∙ cond-true (list_all is_plain (strip_last 13 (body rows))) _ _ plain_body
-      ∙ ap (λ (text : List ℕ). good_words (words_of text)) kept_body
-      ∙ ap good_words (words_of_body rows small)
+  printed_body : list_all is_printed (body rows) ≡ true
+  printed_body = printed_behind (codes "order") refl
 
   -- the words of the line
   pub words_again : words_in (line_text rows) ≡ good_words (codes "order" ∷ map row_text rows)
-  unfolding words_in line_text
-  words_again = ap words_in_text (strip_feed (body rows)) ∙ text_again
+  unfolding line_text
+  words_again =
+      words_of_printed 111 (codes "rder" ++ flat_map word_text rows) printed_body
+      (short_behind (codes "order") refl)
+      ∙ ap good_words (words_of_body rows small)
 
   -- no line feed stands within it
   pub feeds_no_line : list_all (λ b. not (b == 10)) (body rows) ≡ true

@@ -1,0 +1,6 @@
+mod Numbers
+mod Makers
+mod Comments
+mod Scripts
+mod Spelled
+mod Again
