@@ -1,15 +1,16 @@
 -- That nothing came in more runs than there are, so that there is room for each count.
-use Rattle.std.proofs.Common.{◌≡◌, ◌<◌, ◌≤◌, ◌+◌, ◌^◌, ◌++◌, ℕ, zero, suc, Bool, true, false, List, []}
-use Rattle.std.proofs.Common.{◌∷◌, All, Option, Some, None, arith, length, refl, ap}
-use Rattle.std.proofs.lemmas.List.Elements.{All-append}
+use Rattle.std.proofs.Common.{◌≡◌, ◌<◌, ◌≤◌, ◌+◌, ◌^◌, ℕ, zero, suc, Bool, true, false, List, []}
+use Rattle.std.proofs.Common.{◌∷◌, All, Option, Some, None, arith, length, refl}
+use Rattle.std.proofs.lemmas.List.Elements.{All-cons, All-head, All-nil, All-push, All-tail}
+use Rattle.std.proofs.lemmas.List.Elements.{All-weaker}
 use Rattle.run_outcomes.specs.SeenParts.{SeenParts}
 use Rattle.outcome_tally.specs.Few.{AllFew, IsFew, RaresFew}
 use Rattle.outcome_tally.specs.OutcomeParts.{OutcomeParts}
-use Rattle.outcome_tally.specs.Outcomes.{again_at, place_in, with_outcome, with_placed}
+use Rattle.outcome_tally.specs.Outcomes.{again, again_at, place_in, with_outcome, with_placed}
 use Rattle.outcome_tally.specs.RareTimes.{with_rares}
 use Rattle.outcome_tally.specs.Tallies.{Ran, tally_of, with_came}
 use Rattle.outcome_tally.specs.TallyParts.{TallyParts}
-use Rattle.outcome_tally.specs.Times.{noted}
+use Rattle.outcome_tally.specs.Times.{never, noted, once_more}
 use Rattle.outcome_tally.specs.declared.rare_times.RareTimes.{RareTimes}
 use Rattle.outcome_tally.specs.declared.times.Times.{Times}
 use Rattle.run_outcomes.specs.declared.rare.Rares.{Rares}
@@ -64,28 +65,38 @@ rares-few t most few is = record {
 
 -- ---- the outcomes
 
--- each of these came in at most so many runs
+-- an outcome came in at most so many runs
+abbrev HasWithin : ℕ → OutcomeParts → Type 0
+HasWithin most o = o.times.runs ≤ most
+
+-- each of these did
 abbrev AllWithin : ℕ → List OutcomeParts → Type 0
-AllWithin most came = All (λ o. o.times.runs ≤ most) came
+AllWithin most came = All (HasWithin most) came
 
 all-more : (came : List OutcomeParts) (most : ℕ) → AllWithin most came
     → AllWithin (most + 1) came
-all-more [] most is = tt
-all-more (o ∷ rest) most is = (omega (arith, is.0), all-more rest most is.1)
+all-more came most is =
+    All-weaker (HasWithin most) (HasWithin (most + 1))
+    (λ (o : OutcomeParts) (within : o.times.runs ≤ most). omega arith) came is
 
 all-again : (came : List OutcomeParts) (place seed most : ℕ) → AllWithin most came
     → AllWithin (most + 1) (again_at came place seed)
-all-again [] place seed most is = tt
-all-again (o ∷ rest) zero seed most is = (omega (arith, is.0), all-more rest most is.1)
+all-again [] place seed most is = All-nil (HasWithin (most + 1))
+all-again (o ∷ rest) zero seed most is =
+    let within : o.times.runs ≤ most = All-head (HasWithin most) o rest is in
+    All-cons (HasWithin (most + 1)) (again o seed) rest (omega arith)
+    (all-more rest most (All-tail (HasWithin most) o rest is))
 all-again (o ∷ rest) (suc place) seed most is =
-    (omega (arith, is.0), all-again rest place seed most is.1)
+    let within : o.times.runs ≤ most = All-head (HasWithin most) o rest is in
+    All-cons (HasWithin (most + 1)) o (again_at rest place seed) (omega arith)
+    (all-again rest place seed most (All-tail (HasWithin most) o rest is))
 
 all-placed : (came : List OutcomeParts) (text : List ℕ) (seed most : ℕ) (place : Option ℕ)
     → AllWithin most came → AllWithin (most + 1) (with_placed came text seed place)
 all-placed came text seed most (Some place) is = all-again came place seed most is
 all-placed came text seed most None is =
-    All-append (λ (o : OutcomeParts). o.times.runs ≤ most + 1) came _ (all-more came most is)
-    (omega arith, tt)
+    All-push (HasWithin (most + 1)) came (record { text = text; times = once_more never seed })
+    (all-more came most is) (omega arith)
 
 all-within : (came : List OutcomeParts) (text : List ℕ) (seed most : ℕ) → AllWithin most came
     → AllWithin (most + 1) (with_outcome came text seed)
@@ -94,8 +105,9 @@ all-within came text seed most is = all-placed came text seed most (place_in cam
 
 all-few : (came : List OutcomeParts) (most : ℕ) → most < 2 ^ 63 → AllWithin most came
     → AllFew came
-all-few [] most few is = tt
-all-few (o ∷ rest) most few is = (omega (arith, is.0), all-few rest most few is.1)
+all-few came most few is =
+    All-weaker (HasWithin most) (λ (o : OutcomeParts). o.times.runs < 2 ^ 63)
+    (λ (o : OutcomeParts) (within : o.times.runs ≤ most). omega arith) came is
 
 -- ---- the whole
 
@@ -121,7 +133,7 @@ came-within t seed (Some seen) is = record {
 tally-within : (rans : List Ran) → IsWithin (tally_of rans)
 tally-within [] = record {
   full = omega arith;
-  came = tt;
+  came = All-nil (HasWithin 0);
   rares = record {
     refused = omega arith;
     found_none = omega arith;

@@ -75,7 +75,6 @@ fn shown_by(
 
 /// THE FIRST SEED, of this one and so many behind it, whose run shows what is sought, and the line;
 /// `None` where no run does. It stops at the first run that isn't whole.
-#[tactic(auto, using(crate::proofs::Nothing::nothing_more))]
 pub fn find(
     alloc: Global,
     bytes: &[u8],
