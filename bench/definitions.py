@@ -37,16 +37,19 @@ LAYERS = [
     ("The machine", "fabric"),
     ("A journal checked", "link_tables journal_check"),
     ("The script", "script_words script_lang work_gen line_search order_lines turn_lines"),
-    ("A run of a script", "actor_run stage run_orders order_rules run_outcomes orders runs_again seed_runs"),
+    ("A run of a script", "actor_run stage run_orders orders runs_again"),
+    ("Runs in many orders", "order_rules run_outcomes outcome_tally seed_runs seed_search seed_threads"
+                            " seed_report"),
     ("Threads", "turn_lock linx_api workers"),
-    ("The text", "journal_text report seed_search"),
+    ("The text", "journal_text report"),
     ("A text read back", "text_words text_names journal_words reading_laws journal_read text_alone"
-                         " image_laws printed_laws"),
+                         " text_logs image_laws printed_laws"),
+    ("A chart", "svg_text chart chart_drawing journal_charts"),
     ("A byte stream", "request_stream tcpcm_frames tcpcm_framing tcpcm_end stream_echo"),
     ("Timers, and a gateway",
      "deadlines linx_timers timer_laws gateway_msgs gateway_core gateway_session"),
     ("The program", "command_words linx_commands"),
-    ("What stands by itself so far", "deadlines order_rules svg_text"),
+    ("What stands by itself so far", "deadlines"),
 ]
 BEGINS = re.compile(r" *(?:abbrev pub|unfoldable pub|pub record|pub data|abbrev) ([\w']+)")
 SECTION = re.compile(r"-- -+ (.*)")
