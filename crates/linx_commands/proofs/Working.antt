@@ -1,9 +1,11 @@
 -- From how a work ends to what was read and written.
 use Rattle.std.proofs.Common.{◌≡◌, ◌≢◌, ℕ, ◌≤◌, ◌<◌, inl, inr, true, List, length, refl, subst, arith}
-use Rattle.std.proofs.Common.{Option, Result, Ok}
+use Rattle.std.proofs.Common.{Option, Some, Result, Ok}
 use Rattle.std.specs.Io.KnownBytes.{IsAtEnd}
 use Rattle.chart_drawing.specs.declared.drawing.DrawError.{DrawError}
 use Rattle.command_words.specs.Requests.{wanted_of}
+use Rattle.command_words.specs.declared.request.Request.{Request}
+use Rattle.command_words.specs.declared.request.Request.TheVariants as requests
 use Rattle.command_words.specs.declared.work.Work.{Work}
 use Rattle.command_words.specs.declared.work.Work.TheVariants.{Find, Seeds, Order, Chart}
 use Rattle.journal.specs.Logs.{Log}
@@ -13,7 +15,7 @@ use Rattle.linx_commands.specs.Printed.{SaysOf}
 use Rattle.linx_commands.specs.Runs.{IsEmptyLog}
 use Rattle.linx_commands.specs.Statuses.{is_of_whole, is_silent}
 use Rattle.linx_commands.specs.Streams.{IsScanned, ReadsUpTo, TakesAtMost, Writes}
-use Rattle.linx_commands.specs.Works.{IsEndOf, IsReadStop, most_of}
+use Rattle.linx_commands.specs.Works.{IfWork, IsEndOf, IsReadStop, most_of}
 use Rattle.linx_commands.specs.declared.outcome.Status.{Status}
 use Rattle.linx_commands.specs.declared.outcome.Status.TheVariants.{Done, ReadFault, WriteFault}
 use Rattle.linx_commands.specs.declared.outcome.Status.TheVariants.{JournalFull, NoMemory, FoundNone}
@@ -169,3 +171,11 @@ says_written chart Done text writes is = is
 says_written chart WriteFault text writes is = is
 says_written chart NoMemory text writes is = tt
 says_written chart _ text writes is = cc
+
+-- ---- where none is asked for
+
+-- nothing is to be shown of it
+pub never_worked : (request : Option Request) (holds : Work → Type 0) → IfWork request (λ work. ⊥)
+    → IfWork request holds
+never_worked (Some (requests.Work work)) holds never = absurd never
+never_worked _ holds never = tt

@@ -19,6 +19,7 @@ ghost use Rattle.linx_commands.specs.Causes.{stop_status, report_status};
 ghost use Rattle.linx_commands.specs.Programs.{IfEcho, IfPlay, IfServe, IfShow, IsLeft};
 ghost use Rattle.linx_commands.specs.Programs.{IsPlayedFrom, IsPlayedOfFile, IsShown, ReadsFile};
 ghost use Rattle.linx_commands.specs.Sessions.{IsGatewayOf, IsSession};
+ghost use Rattle.linx_commands.specs.Works.{IfWork};
 
 use crate::outcome::{Outcome, Status};
 use crate::session::{echo, gateway};
@@ -358,6 +359,8 @@ pub fn alone<F: Files, S: Source, K: Sink>(
     // Of a run in threads, or a work.
     ensures left { IfErr result (λ left. IsLeft (request_of words.now) left
         (script.new ≡ script.old) (out.new ≡ out.old)) }
+
+    ensures no_work { OnOk result (IfWork (request_of words.now) (λ work. ⊥)) }
 
     // Of words that ask for nothing.
     ensures other_words { IfOk result (λ outcome. IfNone (request_of words.now)

@@ -21,7 +21,7 @@ const STEPS_MOST: u64 = 200_000;
 fn push_hint(line: &mut Line, near: Option<Word>)
     requires room { length line.old ≤ 200 }
     ensures text { line.new ≡ line.old ++ hint_of near }
-    ensures room { length line.new ≤ length line.old + 200 }
+    ensures room { length line.new ≤ length line.old + 240 }
 {
     match near {
         Some(near) => {
