@@ -40,8 +40,8 @@ LAYERS = [
     ("A run of a script", "actor_run stage run_orders order_rules run_outcomes orders"),
     ("Threads", "turn_lock linx_api workers"),
     ("The text", "journal_text report"),
-    ("A text read back", "text_words text_names journal_words reading_laws journal_read text_alone"
-                         " image_laws printed_laws"),
+    ("A text read back", "text_words text_names journal_words reading_laws journal_read text_logs"
+                         " log_laws text_alone image_laws printed_laws"),
     ("A byte stream", "request_stream tcpcm_frames tcpcm_framing tcpcm_end stream_echo"),
     ("Timers, and a gateway",
      "deadlines linx_timers timer_laws gateway_msgs gateway_core gateway_session"),

@@ -1,0 +1,3 @@
+mod ImageLogs
+mod Fitted
+mod FoundLogs
