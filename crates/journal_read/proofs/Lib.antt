@@ -1,5 +1,5 @@
 pub mod StepLaws
 pub mod TextLaws
-mod LogLaws
-mod PrintedLaws
+pub mod LogLaws
+pub mod PrintedLaws
 mod AgreeLaws

@@ -1,3 +1,4 @@
 mod ImageLogs
+mod RunLogs
 mod Fitted
 mod FoundLogs

@@ -1,4 +1,4 @@
-use Rattle.log_laws.proofs.FoundLogs.{logs_found}
+use Rattle.log_laws.proofs.RunLogs.{logs_found}
 use Rattle.log_laws.proofs.laws.logs_are_found.Goals as goal
 
 pub returns : goal.returns
