@@ -1,6 +1,6 @@
 pub mod StepLaws
 pub mod TextLaws
 pub mod CallLaws
-mod LogLaws
-mod PrintedLaws
+pub mod LogLaws
+pub mod PrintedLaws
 mod AgreeLaws

@@ -1,5 +1,6 @@
 //! Cases of texts that are read back to their journals: texts that are printed again as they were,
-//! long data, and the first bad line of texts that were spoiled.
+//! long data, the first bad line of texts that were spoiled, and the first
+//! line of logs that were.
 #![tactic(auto)]
 
 #[cfg(test)]
