@@ -1,3 +1,0 @@
-mod Placed
-mod Ranked
-pub mod Within
