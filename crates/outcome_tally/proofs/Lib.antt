@@ -1,0 +1,3 @@
+mod Placed
+mod Ranked
+pub mod Within

@@ -1,0 +1,10 @@
+pub mod Times
+pub mod Spans
+pub mod OutcomeParts
+pub mod Outcomes
+pub mod RareTimes
+pub mod TallyParts
+pub mod Few
+pub mod Tallies
+pub mod Ranking
+pub mod Report

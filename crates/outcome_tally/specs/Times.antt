@@ -1,0 +1,15 @@
+-- HOW OFTEN SOMETHING CAME.
+use Rattle.std.specs.Prelude.{ℕ, ◌+◌, Bool, None, Some, unwrap_or, if◌then◌else◌}
+use Rattle.outcome_tally.specs.declared.times.Times.{Times}
+
+-- in no run
+abbrev pub never : Times
+never = record { runs = 0; first = None }
+
+-- once more, in the run of this seed
+abbrev pub once_more : Times → ℕ → Times
+once_more t seed = record { runs = t.runs + 1; first = Some (unwrap_or t.first seed) }
+
+-- once more, if it came in the run of this seed
+abbrev pub noted : Times → Bool → ℕ → Times
+noted t came seed = if came then once_more t seed else t
