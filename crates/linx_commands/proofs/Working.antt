@@ -7,7 +7,7 @@ use Rattle.command_words.specs.Requests.{wanted_of}
 use Rattle.command_words.specs.declared.request.Request.{Request}
 use Rattle.command_words.specs.declared.request.Request.TheVariants as requests
 use Rattle.command_words.specs.declared.work.Work.{Work}
-use Rattle.command_words.specs.declared.work.Work.TheVariants.{Find, Seeds, Order, Chart}
+use Rattle.command_words.specs.declared.work.Work.TheVariants.{Find, Order, Chart}
 use Rattle.journal.specs.Logs.{Log}
 use Rattle.linx_commands.specs.Causes.{is_of_writing}
 use Rattle.linx_commands.specs.Printed.{IsChartEnd, IsOrderEnd, IsOrdered, IsUnreadText}
@@ -20,7 +20,7 @@ use Rattle.linx_commands.specs.declared.outcome.Status.{Status}
 use Rattle.linx_commands.specs.declared.outcome.Status.TheVariants.{Done, ReadFault, WriteFault}
 use Rattle.linx_commands.specs.declared.outcome.Status.TheVariants.{JournalFull, NoMemory, FoundNone}
 use Rattle.linx_commands.specs.declared.outcome.Status.TheVariants.{Text}
-use Rattle.linx_commands.proofs.Searching.{short_report, short_search}
+use Rattle.linx_commands.proofs.Searching.{short_search}
 
 -- ---- what it read
 
@@ -58,8 +58,6 @@ short : (work : Work) (texts : List (List ℕ)) (bytes : List ℕ) (status : Sta
     → length bytes < most_of work
 short (Find search) texts bytes status text log ended whole =
     short_search search (wanted_of search texts) bytes status text log ended whole
-short (Seeds range) texts bytes status text log ended whole =
-    short_report range bytes status text ended.ended whole
 short Order texts bytes status text log ended whole =
     short_order bytes status text ended.ended whole
 short Chart texts bytes status text log ended whole =
@@ -68,7 +66,6 @@ short Chart texts bytes status text log ended whole =
 fault_of_none : (work : Work) (texts : List (List ℕ)) (bytes text : List ℕ) (log : Log)
     → IsEndOf work texts bytes ReadFault text log → ⊥
 fault_of_none (Find search) texts bytes text log ended = ended
-fault_of_none (Seeds range) texts bytes text log ended = ended.ended
 fault_of_none Order texts bytes text log ended = ended.ended
 fault_of_none Chart texts bytes text log ended = fault_of_chart bytes text ended.ended
 

@@ -3,8 +3,7 @@
 //! one that a number decides, and writes each endpoint's log and the journal of all steps; or it runs
 //! the generated script of a number with such threads, and writes the summary of the journal; or it
 //! writes a page of the help; or it does a work with what it reads: it finds the first of many such
-//! orders whose run shows what is sought, or reports what comes in them, or writes the order of a
-//! printed run, or its picture; or it serves one peer
+//! orders whose run shows what is sought, or writes the order of a printed run; or it serves one peer
 //! over the program's streams by an echo, or clients by a gateway.
 //! `alone` does what takes no thread and is no work, and `run` all of it. `program` is the whole program, over a
 //! command line, files and streams of any kind. It alone gives a `Told`, so a `main` with this
@@ -17,7 +16,6 @@ mod outcome;
 mod phrase;
 mod printed;
 mod search;
-mod seeds;
 mod serving;
 mod session;
 mod status_line;

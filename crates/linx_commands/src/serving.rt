@@ -63,7 +63,7 @@ pub(crate) fn status_of_read(stop: ReadStop) -> Status
     }
 }
 
-pub(crate) fn status_of_script(error: ScriptError) -> Status
+fn status_of_script(error: ScriptError) -> Status
     ensures { result ≡ script_status error }
 {
     match error {

@@ -13,7 +13,6 @@ ghost use Rattle.linx_commands.specs.Works.{IsWorkedOfFile, most_of};
 use crate::outcome::{Outcome, Status};
 use crate::printed::{chart, order};
 use crate::search::find;
-use crate::seeds::report;
 use crate::serving::{READ_MOST, status_of_read, unstarted};
 use command_words::Work;
 use linx_outside::{Files, Sink, Source, read_up_to};
@@ -28,7 +27,7 @@ fn most_of(work: Work) -> usize
     ensures { result ≡ most_of work }
 {
     match work {
-        Work::Find(_) | Work::Seeds(_) => READ_MOST,
+        Work::Find(_) => READ_MOST,
         Work::Order | Work::Chart => TEXT_MOST,
     }
 }
@@ -72,7 +71,6 @@ fn look<R: Threads + Sync, K: Sink>(
 {
     match work {
         Work::Find(search) => find(rt, alloc, search, search.wanted(words), bytes, out),
-        Work::Seeds(range) => report(alloc, range, bytes, out),
         Work::Order => order(alloc, bytes, out),
         Work::Chart => chart(alloc, bytes, out),
     }

@@ -32,13 +32,3 @@ returns-in-Chart g c =
       written = charted.written;
       legal = charted.legal;
     })
-
-pub returns-in-Seeds : goal.returns-in-Seeds
-returns-in-Seeds g c =
-    let reported = c.report.ensures in
-    rw c.in-Seeds.is (record {
-      text = reported.text;
-      is = reported.is;
-      written = reported.written;
-      legal = reported.legal;
-    })
