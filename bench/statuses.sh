@@ -62,7 +62,7 @@ printf 'node n\nnod m\n' > "$work/bad"
 # an actor shares a filling with the one before it where they are equal: so these take turns
 printf '%s\n' 'node n' 'actor p n' 'open a' 'repeat 300' 'send self 1 fill:65532:00' \
     'send self 1 fill:65532:01' 'end' 'close' 'end' > "$work/large"
-words='the words are: run serial seed find seeds order chart gen stream gateway help version'
+words='the words are: run serial seed find order chart gen stream gateway help version'
 usage="linx_sim: usage: linx_sim WORD ..; $words"$'\n'
 printf x > "$work/closed" && chmod 000 "$work/closed"
 

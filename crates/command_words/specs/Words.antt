@@ -3,9 +3,8 @@ use Rattle.std.specs.Prelude.{ℕ, Bool, ◌||◌, List, [], ◌∷◌, codes, O
 use Rattle.std.specs.Prelude.{if◌then◌else◌}
 use Rattle.std.specs.Str.{bytes_eq}
 use Rattle.command_words.specs.declared.word.Word.{Word}
-use Rattle.command_words.specs.declared.word.Word.TheVariants.{Run, Serial, Seed, Find, Seeds, Order}
-use Rattle.command_words.specs.declared.word.Word.TheVariants.{Chart, Gen, Stream, Gateway, Help}
-use Rattle.command_words.specs.declared.word.Word.TheVariants.{Version}
+use Rattle.command_words.specs.declared.word.Word.TheVariants.{Run, Serial, Seed, Find, Order, Chart}
+use Rattle.command_words.specs.declared.word.Word.TheVariants.{Gen, Stream, Gateway, Help, Version}
 
 -- a row of the table: the name of a word, its use, a line, a paragraph and an example
 pub record Row : Type 0 where
@@ -48,14 +47,6 @@ said_of Find = record {
   paragraph =
       codes "Plays a script as seed does, in the orders of the numbers A, A + 1, .. B, a million at\nmost, and writes the first one whose text has a line that begins with these words, and\nthe line. There are one to eight words; _ stands for any. What a line begins with is\nwhat stands behind the number and the maker of a step, or the + of an effect. With not\nit writes the first one whose text has no such line. Where there is none it exits 7.\n";
   example = codes "linx_sim find 1 1000 in examples/losses.linx notified _ _ _ dead";
-}
-said_of Seeds = record {
-  name = codes "seeds";
-  usage = codes "seeds A B [FILE]";
-  line = codes "report what comes of a script in the orders of the numbers A to B";
-  paragraph =
-      codes "Plays a script as seed does, in the orders of the numbers A, A + 1, .. B, a million at\nmost, and writes which outcomes came, how often and for which number first; and in how\nmany runs a refusal, a none, a dead, closed or lost, or a down came.\n";
-  example = codes "linx_sim seeds 1 1000 examples/losses.linx";
 }
 said_of Order = record {
   name = codes "order";
@@ -116,7 +107,7 @@ said_of Version = record {
 
 -- all words, in the order of the help
 abbrev pub all_words : List Word
-all_words = Run ∷ Serial ∷ Seed ∷ Find ∷ Seeds ∷ Order ∷ Chart ∷ Gen ∷ Stream ∷ Gateway ∷ Help ∷ Version ∷ []
+all_words = Run ∷ Serial ∷ Seed ∷ Find ∷ Order ∷ Chart ∷ Gen ∷ Stream ∷ Gateway ∷ Help ∷ Version ∷ []
 
 -- the first of these words whose name is the text
 abbrev pub named : List ℕ → List Word → Option Word

@@ -13,8 +13,6 @@ pub enum Word {
     Seed,
     /// The first of some orders whose run shows what is sought.
     Find,
-    /// What comes of a script in some orders.
-    Seeds,
     /// The order of a printed run.
     Order,
     /// The picture of a printed run.
@@ -32,12 +30,11 @@ pub enum Word {
 }
 
 /// All words, in the order of the help.
-pub const WORDS: [Word; 12] = [
+pub const WORDS: [Word; 11] = [
     Word::Run,
     Word::Serial,
     Word::Seed,
     Word::Find,
-    Word::Seeds,
     Word::Order,
     Word::Chart,
     Word::Gen,
@@ -104,15 +101,6 @@ impl Word {
                     what stands behind the number and the maker of a step, or the + of an effect. With not\n\
                     it writes the first one whose text has no such line. Where there is none it exits 7.\n",
                 example: "linx_sim find 1 1000 in examples/losses.linx notified _ _ _ dead",
-            },
-            Word::Seeds => Said {
-                name: "seeds",
-                usage: "seeds A B [FILE]",
-                line: "report what comes of a script in the orders of the numbers A to B",
-                paragraph: "Plays a script as seed does, in the orders of the numbers A, A + 1, .. B, a million at\n\
-                    most, and writes which outcomes came, how often and for which number first; and in how\n\
-                    many runs a refusal, a none, a dead, closed or lost, or a down came.\n",
-                example: "linx_sim seeds 1 1000 examples/losses.linx",
             },
             Word::Order => Said {
                 name: "order",

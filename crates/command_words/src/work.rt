@@ -1,6 +1,5 @@
 //! What is done with what is read.
 
-use crate::range::Range;
 use crate::search::Search;
 
 /// What is done, on one thread, with what a source holds: all of it is read, and a text is written.
@@ -8,8 +7,6 @@ use crate::search::Search;
 pub enum Work {
     /// `find`: a search of the runs of a script.
     Find(Search),
-    /// `seeds`: the report of what comes of a script in the orders of some numbers.
-    Seeds(Range),
     /// `order`: the order of a printed run, as lines of a script.
     Order,
     /// `chart`: a picture of a printed run.

@@ -36,10 +36,10 @@ fn a_bad_line_is_told_with_its_number_and_its_fault(rt: HostRuntime) -> Result<(
 }
 
 const USAGE: &str =
-    "linx_sim: usage: linx_sim WORD ..; the words are: run serial seed find seeds order chart gen stream gateway help version\n";
+    "linx_sim: usage: linx_sim WORD ..; the words are: run serial seed find order chart gen stream gateway help version\n";
 
 const NO_WORD: &str =
-    "linx_sim: no word 'fast'; the words are: run serial seed find seeds order chart gen stream gateway help version\n";
+    "linx_sim: no word 'fast'; the words are: run serial seed find order chart gen stream gateway help version\n";
 
 /// What the program is given, and how it ends.
 #[derive(Clone, Copy)]

@@ -101,8 +101,6 @@ writes everything that happened.
       play a script in the order that a number decides
   find A B [in FILE] [not] WORD ..
       find the first number from A to B whose run has a line of these words
-  seeds A B [FILE]
-      report what comes of a script in the orders of the numbers A to B
   order [FILE]
       write the order of a printed run, as lines of a script
   chart [FILE]
@@ -448,7 +446,7 @@ const MISUSES: &[Row] = &[
     },
     Row {
         words: &["fast\n\u{7f}"],
-        line: "linx_sim: no word 'fast??'; the words are: run serial seed find seeds order chart gen stream gateway help version\n",
+        line: "linx_sim: no word 'fast??'; the words are: run serial seed find order chart gen stream gateway help version\n",
         ..MISUSED
     },
     Row {
@@ -611,7 +609,7 @@ fn a_long_word_is_cut(rt: HostRuntime) -> Result<(), Fail> {
     );
     let wanted =
         "linx_sim: no word 'xxxxxxxxxxxxxxxxxxxxxxxxxxxxxxxxxxxxxxxxxxxxxxxxxxxxxxxxxxxxxxxx\
-        '; the words are: run serial seed find seeds order chart gen stream gateway help version\n";
+        '; the words are: run serial seed find order chart gen stream gateway help version\n";
     assert_eq!(rt; errors.held(), wanted.as_bytes());
     Ok(())
 }
