@@ -38,8 +38,8 @@ LAYERS = [
     ("A journal checked", "link_tables journal_check"),
     ("The script", "script_words script_lang work_gen line_search order_lines turn_lines"),
     ("A run of a script", "actor_run stage run_orders orders runs_again"),
-    ("Runs in many orders", "order_rules run_outcomes outcome_tally seed_runs seed_search seed_threads"
-                            " seed_report"),
+    ("Runs in many orders", "order_rules run_outcomes outcome_tally seed_runs seed_search"
+                            " seed_threads"),
     ("Threads", "turn_lock linx_api workers"),
     ("The text", "journal_text report"),
     ("A text read back", "text_words text_names journal_words reading_laws journal_read text_alone"
