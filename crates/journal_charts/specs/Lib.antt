@@ -1,5 +1,0 @@
-pub mod Actors
-pub mod Charts
-pub mod Ends
-pub mod Rows
-pub mod Setting
