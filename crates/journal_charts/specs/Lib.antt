@@ -1,0 +1,5 @@
+pub mod Actors
+pub mod Charts
+pub mod Ends
+pub mod Rows
+pub mod Setting
