@@ -487,11 +487,7 @@ const MISUSES: &[Row] = &[
 ];
 
 /// The bytes of a source.
-fn bytes_of<'a>(
-    content: Content,
-    script: &'a str,
-    of_run: &'a str,
-) -> Result<&'a [u8], OpenFault> {
+fn bytes_of<'a>(content: Content, script: &'a str, of_run: &'a str) -> Result<&'a [u8], OpenFault> {
     match content {
         Content::Script => Ok(script.as_bytes()),
         Content::Printed => Ok(of_run.as_bytes()),
