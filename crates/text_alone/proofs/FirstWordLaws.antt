@@ -13,6 +13,7 @@ use Rattle.journal.specs.declared.effect.Effect.{Effect}
 use Rattle.journal.specs.declared.effect.Effect.TheVariants as effects
 use Rattle.journal.specs.declared.head.Head.{Head}
 use Rattle.journal.specs.declared.head.Head.TheVariants as heads
+use Rattle.journal_text.specs.Values.{data_text}
 use Rattle.journal_text.specs.Values.{detached_text, filter_text, halves_text, link_text, maker_text}
 use Rattle.journal_text.specs.Values.{node_text, path_text, peer_text, position_text, reason_text}
 use Rattle.journal_text.specs.Values.{reference_text, refusal_text, sent_text, side_text}
@@ -27,7 +28,7 @@ use Rattle.text_names.specs.Naming.{is_link_effect, is_link_head, is_node_effect
 use Rattle.text_names.specs.Naming.{is_peer_head, link_at, link_before, link_by, link_named}
 use Rattle.text_names.specs.Naming.{node_named}
 use Rattle.reading_laws.specs.Forms.{AreNames, IsLine, IsLink, IsNode, IsPath, IsPeer, printed}
-use Rattle.reading_laws.specs.Spelled.{data_text_by, effect_words, head_words, line_of, line_words}
+use Rattle.reading_laws.specs.Spelled.{effect_words, head_words, line_of, line_words}
 use Rattle.reading_laws.proofs.Cuts.{cut_again, cut_nowhere, lacks, lacks-seam}
 use Rattle.reading_laws.proofs.LineLaws.{no_plus, words_spaces}
 use Rattle.reading_laws.proofs.NameLaws.{bytes_lack, bytes_of_name, halves_lack, link_is_name}
@@ -266,7 +267,7 @@ module _ (names : Names) (are : AreNames names) where
       (words_spaces names (Made p by heads.Close) are is)
   head_tells p by (heads.Send peer note answer) is =
       with_word p (maker_text by) (codes "send") (peer_text names peer)
-      (decimal note.number ∷ data_text_by printed note.bytes ∷ sent_text answer ∷ [])
+      (decimal note.number ∷ data_text printed note.bytes ∷ sent_text answer ∷ [])
       None (link_of_peer peer) is.0
       (words_spaces names (Made p by (heads.Send peer note answer)) are is)
       refl (before_peer peer is.2.0) tt (peer_is peer is.2.0)
@@ -287,13 +288,13 @@ module _ (names : Names) (are : AreNames names) where
       refl refl tt tt
   head_tells p by (heads.Hunt path note) is =
       with_word p (maker_text by) (codes "hunt") (path_text names path)
-      (decimal note.number ∷ data_text_by printed note.bytes ∷ [])
+      (decimal note.number ∷ data_text printed note.bytes ∷ [])
       None (link_of_path path) is.0
       (words_spaces names (Made p by (heads.Hunt path note)) are is)
       refl (before_path path is.2.0) tt (path_is path is.2.0)
   head_tells p by (heads.Attach peer note) is =
       with_word p (maker_text by) (codes "attach") (peer_text names peer)
-      (decimal note.number ∷ data_text_by printed note.bytes ∷ [])
+      (decimal note.number ∷ data_text printed note.bytes ∷ [])
       None (link_of_peer peer) is.0
       (words_spaces names (Made p by (heads.Attach peer note)) are is)
       refl (before_peer peer is.2.0) tt (peer_is peer is.2.0)
@@ -374,18 +375,18 @@ module _ (names : Names) (are : AreNames names) where
       (words_spaces names (Happened (effects.Closed inc)) are is)
   effect_tells (effects.Arrived inc peer note) is =
       with_words (codes "arrived") (halves_text inc.0) (peer_text names peer)
-      (decimal note.number ∷ data_text_by printed note.bytes ∷ [])
+      (decimal note.number ∷ data_text printed note.bytes ∷ [])
       None (link_of_peer peer) (words_spaces names (Happened (effects.Arrived inc peer note)) are is)
       refl (before_peer peer is.1) tt (peer_is peer is.1)
   effect_tells (effects.Found inc peer note hunt) is =
       with_words (codes "found") (halves_text inc.0) (peer_text names peer)
-      (decimal note.number ∷ data_text_by printed note.bytes ∷ reference_text hunt ∷ [])
+      (decimal note.number ∷ data_text printed note.bytes ∷ reference_text hunt ∷ [])
       None (link_of_peer peer) (words_spaces names (Happened (effects.Found inc peer note hunt)) are is)
       refl (before_peer peer is.1) tt (peer_is peer is.1)
   effect_tells (effects.Notified inc peer note reference reason) is =
       with_words (codes "notified") (halves_text inc.0) (peer_text names peer)
       (
-      decimal note.number ∷ data_text_by printed note.bytes ∷ reference_text reference.0
+      decimal note.number ∷ data_text printed note.bytes ∷ reference_text reference.0
       ∷ reason_text reason ∷ []
       )
       None (link_of_peer peer) (words_spaces names (Happened (effects.Notified inc peer note reference reason)) are is)

@@ -12,13 +12,14 @@ use Rattle.journal.specs.declared.effect.Effect.TheVariants as effects
 use Rattle.journal.specs.declared.effect.Step.{Step}
 use Rattle.journal.specs.declared.head.Head.{Head}
 use Rattle.journal.specs.declared.head.Head.TheVariants as heads
+use Rattle.journal_text.specs.Values.{data_text}
 use Rattle.journal_text.specs.Values.{halves_text, link_text, maker_text, node_text, path_text}
 use Rattle.journal_text.specs.Values.{peer_text, reason_text, reference_text, sent_text, side_text}
 use Rattle.journal_text.specs.Values.{verdict_text}
 use Rattle.journal_words.specs.declared.lines.Line.{Line}
 use Rattle.journal_words.specs.declared.lines.Line.TheVariants.{Made, Happened}
 use Rattle.reading_laws.specs.Forms.{IsEffect, IsHead, IsLine, IsLink, IsNode, IsPath, IsPeer, printed}
-use Rattle.reading_laws.specs.Spelled.{data_text_by, effect_words, head_words, line_of}
+use Rattle.reading_laws.specs.Spelled.{effect_words, head_words, line_of}
 use Rattle.reading_laws.specs.Spelled.{signal_words}
 use Rattle.reading_laws.proofs.NameLaws.{link_found, node_found}
 use Rattle.journal_read.specs.Spelled.{AreLines, bytes_of, lines_of_steps, step_lines}
@@ -113,7 +114,7 @@ module _ (names others : Names) where
   head_same heads.Close node link = refl
   head_same (heads.Send peer note answer) node link =
       ap (λ (w : List ℕ). codes "send" ∷ w ∷ decimal note.number
-      ∷ data_text_by printed note.bytes ∷ sent_text answer ∷ []) (peer_same peer link)
+      ∷ data_text printed note.bytes ∷ sent_text answer ∷ []) (peer_same peer link)
   head_same (heads.Take filter at) node link = refl
   head_same (heads.TakeNone filter) node link = refl
   head_same (heads.Waits filter) node link = refl
@@ -185,10 +186,10 @@ module _ (names others : Names) where
       (peer_same peer link)
   effect_same (effects.Found inc peer note hunt) node link =
       ap (λ (w : List ℕ). codes "found" ∷ halves_text inc.0 ∷ w ∷ decimal note.number
-      ∷ data_text_by printed note.bytes ∷ reference_text hunt ∷ []) (peer_same peer link)
+      ∷ data_text printed note.bytes ∷ reference_text hunt ∷ []) (peer_same peer link)
   effect_same (effects.Notified inc peer note reference reason) node link =
       ap (λ (w : List ℕ). codes "notified" ∷ halves_text inc.0 ∷ w ∷ decimal note.number
-      ∷ data_text_by printed note.bytes ∷ reference_text reference.0 ∷ reason_text reason ∷ [])
+      ∷ data_text printed note.bytes ∷ reference_text reference.0 ∷ reason_text reason ∷ [])
       (peer_same peer link)
   effect_same (effects.Met n peer name) node link =
       ap (λ (v : List ℕ). codes "met" ∷ v ∷ peer_text others (peer_as peer) ∷ name ∷ [])
