@@ -180,6 +180,24 @@ example:
 
 const VERSION: &str = "linx_sim 1.0\n";
 
+/// The text of a self send's run.
+const PRINTED: &str = "\
+log 1.1 a n
+sent 1.1 5 - queued
+arrived 1.1 5 -
+took 1.1 5 -
+closed
+journal 5
+1 A1 open a
++ opened 1.1
+2 A1 send 1.1 5 - queued
++ arrived 1.1 1.1 5 -
+3 A1 take any 2.1
+4 A1 close
++ closed 1.1
+5 A1 ended
+";
+
 /// What a search for the self send's signal writes.
 const FOUND: &str = "seed 1\ntook 1.1 5 -\n";
 
@@ -487,20 +505,20 @@ const MISUSES: &[Row] = &[
 ];
 
 /// The bytes of a source.
-fn bytes_of<'a>(content: Content, script: &'a str, of_run: &'a str) -> Result<&'a [u8], OpenFault> {
+fn bytes_of(content: Content, script: &str) -> Result<&[u8], OpenFault> {
     match content {
         Content::Script => Ok(script.as_bytes()),
-        Content::Printed => Ok(of_run.as_bytes()),
+        Content::Printed => Ok(PRINTED.as_bytes()),
         Content::NoScript => Ok(b"no script"),
         Content::Fault(why) => Err(why),
     }
 }
 
 /// The text of standard input.
-fn input_of<'a>(content: Content, script: &'a str, of_run: &'a str) -> &'a str {
+fn input_of(content: Content, script: &str) -> &str {
     match content {
         Content::Script => script,
-        Content::Printed => of_run,
+        Content::Printed => PRINTED,
         _ => "no script",
     }
 }
@@ -524,10 +542,10 @@ fn ends_as<R: Threads + Wait + Sync + Eprint>(
     let of_run = unindented(alloc, SELF_SEND.text)?;
     let files = MemFile {
         name: "s.linx",
-        content: bytes_of(row.file, script.as_str(), of_run.as_str()),
+        content: bytes_of(row.file, script.as_str()),
     };
     let words = Words::Read(owned(alloc, row.words)?);
-    let mut source = source_of(alloc, input_of(row.input, script.as_str(), of_run.as_str()))?;
+    let mut source = source_of(alloc, input_of(row.input, script.as_str()))?;
     let mut text = roomy_sink(alloc)?;
     let mut errors = roomy_sink(alloc)?;
     let told = program(
