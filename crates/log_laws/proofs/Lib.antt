@@ -1,0 +1,4 @@
+mod ImageLogs
+mod RunLogs
+mod Fitted
+mod FoundLogs
