@@ -39,7 +39,12 @@ pub(crate) fn seen_of_seed(
         },
         Err(RunStop::Bad { line, fault }) => Err(ScriptError::Bad { line, fault }),
         Err(RunStop::NoMemory) => Err(ScriptError::NoMemory),
-        Err(RunStop::Stopped { cause, .. }) => match cause {
+        Err(
+            RunStop::Stopped {
+                cause,
+                journal: _journal,
+            },
+        ) => match cause {
             StopCause::JournalFull => Ok(None),
             StopCause::NoMemory => Err(ScriptError::NoMemory),
         },
