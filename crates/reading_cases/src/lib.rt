@@ -12,3 +12,5 @@ mod names;
 mod spoiled;
 #[cfg(test)]
 mod texts;
+#[cfg(test)]
+mod told;
