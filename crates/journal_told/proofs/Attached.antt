@@ -47,6 +47,16 @@ pub attached_above : (S : List Step) (first position : ℕ) → first ≤ length
 attached_above S first position within above =
     ap attach_in_step (first_above S first position within above)
 
+none_dropped : (S : List Step) → drop 0 S ≡ S
+none_dropped [] = refl
+none_dropped (s ∷ P) = refl
+
+-- all of them
+pub all_first : (S : List Step) (n : ℕ) → n ≡ length S → first_steps n S ≡ S
+all_first S n is =
+    let none : length S - n ≡ 0 = omega (arith, is) in
+    ap (λ (k : ℕ). drop k S) none ∙ none_dropped S
+
 -- the steps that are told, with one more
 pub told_more : (f : List ℕ → List ℕ) (S : List Step) (done : ℕ) (s t : Step)
     → first_steps (done + 1) S ≡ s ∷ first_steps done S

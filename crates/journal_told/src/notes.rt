@@ -95,7 +95,7 @@ pub(crate) fn told_note(
     note: &SigNote,
 ) -> Result<SigNote, NoMemory>
     ensures { IfOk result (λ told. told
-        ≡ told_note shown_of reason (option_copied attach) note.now) }
+        ≡ told_note shown_of reason (option_copied attach.entry) note.now) }
 {
     match attach {
         Some(attach) => told_by(alloc, reason, attach, note),
