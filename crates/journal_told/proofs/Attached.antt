@@ -1,10 +1,10 @@
 -- A step of a journal at a position, and among its first steps.
-use Rattle.std.proofs.Common.{◌≡◌, ℕ, zero, suc, ◌+◌, ◌-◌, ◌<◌, ◌≤◌, List, [], ◌∷◌, length, drop}
-use Rattle.std.proofs.Common.{map, Option, Some, None, refl, sym, ◌∙◌, ap, arith, length-drop, ne_eqb}
+use Rattle.std.proofs.Common.{◌≡◌, ℕ, zero, suc, ◌-◌, ◌<◌, ◌≤◌, List, [], ◌∷◌, length, drop}
+use Rattle.std.proofs.Common.{Option, None, refl, sym, ◌∙◌, ap, arith, length-drop, ne_eqb}
 use Rattle.journal.specs.declared.effect.Step.{Step}
 use Rattle.journal.specs.Logs.{step_at}
 use Rattle.journal.specs.Histories.{first_steps}
-use Rattle.image_laws.specs.Told.{attach_in_step, attached_at, told_effect, told_of}
+use Rattle.image_laws.specs.Told.{attach_in_step, attached_at}
 
 -- no step stands above the last
 pub none_above : (P : List Step) (k : ℕ) → length P < k → step_at P k ≡ None
@@ -56,18 +56,3 @@ pub all_first : (S : List Step) (n : ℕ) → n ≡ length S → first_steps n S
 all_first S n is =
     let none : length S - n ≡ 0 = omega (arith, is) in
     ap (λ (k : ℕ). drop k S) none ∙ none_dropped S
-
--- the steps that are told, with one more
-pub told_more : (f : List ℕ → List ℕ) (S : List Step) (done : ℕ) (s t : Step)
-    → first_steps (done + 1) S ≡ s ∷ first_steps done S
-    → t ≡ record {
-      by = s.by;
-      head = s.head;
-      effects = map (told_effect f (first_steps (done + 1) S)) s.effects;
-    }
-    → t ∷ told_of f (first_steps done S) ≡ told_of f (first_steps (done + 1) S)
-told_more f S done s t next is =
-    let told : List Step → Step = λ (R : List Step).
-    record { by = s.by; head = s.head; effects = map (told_effect f R) s.effects } in
-    ap (λ (u : Step). u ∷ told_of f (first_steps done S)) (is ∙ ap told next)
-    ∙ sym (ap (told_of f) next)
