@@ -47,6 +47,7 @@ pub attached_above : (S : List Step) (first position : ℕ) → first ≤ length
 attached_above S first position within above =
     ap attach_in_step (first_above S first position within above)
 
+-- a history of which no step is dropped
 none_dropped : (S : List Step) → drop 0 S ≡ S
 none_dropped [] = refl
 none_dropped (s ∷ P) = refl
