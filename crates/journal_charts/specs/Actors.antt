@@ -52,10 +52,15 @@ abbrev pub first_open : List Step → ℕ → Option Step
 first_open [] actor = None
 first_open (s ∷ P) actor = or_step (first_open P actor) (is_opening actor s) s
 
--- the node that a first effect opens an endpoint on; right of all nodes where it opens none
+-- the node that an effect opens an endpoint on; right of all nodes where it opens none
+abbrev pub node_opened_by : Effect → NodeNo
+node_opened_by (Opened i) = record { 0 = node_of i }
+node_opened_by _ = record { 0 = rightmost }
+
+-- the node that a first effect opens an endpoint on
 abbrev pub node_opened : Option Effect → NodeNo
-node_opened (Some (Opened i)) = record { 0 = node_of i }
-node_opened _ = record { 0 = rightmost }
+node_opened None = record { 0 = rightmost }
+node_opened (Some e) = node_opened_by e
 
 abbrev pub node_of_opening : Option Step → NodeNo
 node_of_opening None = record { 0 = rightmost }

@@ -5,7 +5,7 @@ ghost use Rattle.std.specs.Option.{option_copied};
 ghost use Rattle.journal.specs.History.{is_by};
 ghost use Rattle.journal_charts.specs.Actors.{has_actor, with_actor, with_maker, makers_of, is_open};
 ghost use Rattle.journal_charts.specs.Actors.{is_opening, or_step, first_open, node_opened};
-ghost use Rattle.journal_charts.specs.Actors.{node_of_opening};
+ghost use Rattle.journal_charts.specs.Actors.{node_opened_by, node_of_opening};
 ghost use Rattle.journal_charts.specs.Actors.{name_of_open, name_in, drawn_actor, actors_of};
 
 use crate::ends::RIGHTMOST;
@@ -101,13 +101,23 @@ fn first_open(journal: &Journal, actor: u32) -> Option<&Step>
     first
 }
 
+/// The node that an effect opens an endpoint on.
+fn node_opened_by(effect: &Effect) -> NodeNo
+    ensures { result ≡ node_opened_by effect.now }
+{
+    match effect {
+        Effect::Opened(inc) => inc.node(),
+        _ => RIGHTMOST,
+    }
+}
+
 /// The node that a first effect opens an endpoint on.
 fn node_opened(effects: &[Effect]) -> NodeNo
     ensures { result ≡ node_opened (slice_get effects.now 0) }
 {
     match effects.first() {
-        Some(Effect::Opened(inc)) => inc.node(),
-        _ => RIGHTMOST,
+        Some(effect) => node_opened_by(effect),
+        None => RIGHTMOST,
     }
 }
 
