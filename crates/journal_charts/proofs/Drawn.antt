@@ -1,6 +1,7 @@
 -- What is written of a drawing, or why there is none.
-use Rattle.std.proofs.Common.{◌≡◌, ℕ, List, sym, ap, ◌∙◌}
+use Rattle.std.proofs.Common.{◌≡◌, ℕ, List, sym, ap, subst, ◌∙◌}
 use Rattle.std.specs.Prelude.{Result, Ok, Err}
+use Rattle.std.specs.Result.{IfErr, IsErrAnd}
 use Rattle.chart_drawing.specs.declared.drawing.Chart.{Chart}
 use Rattle.chart_drawing.specs.declared.drawing.DrawError.{DrawError}
 use Rattle.chart_drawing.specs.declared.setting.Setting.{Setting}
@@ -27,3 +28,9 @@ pub not_written : (setting given : Setting) (chart shown : Chart) (e : DrawError
     → text_if (drawn given shown) ≡ Err e
 not_written setting given chart shown e stands is now =
     ap text_if (drawn_again setting given chart shown (Err e) stands is now)
+
+-- what holds of an error holds where it is passed on
+pub passed_on : {T E : Type 0} (r : Result T E) (e : E) (P : E → Type 0)
+    → IsErrAnd r (λ y. y ≡ e) → P e → IfErr r P
+passed_on (Ok x) e P same p = tt
+passed_on (Err y) e P same p = subst P (sym same) p
