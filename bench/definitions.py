@@ -43,7 +43,7 @@ LAYERS = [
     ("Threads", "turn_lock linx_api workers"),
     ("The text", "journal_text report"),
     ("A text read back", "text_words text_names journal_words reading_laws journal_read text_alone"
-                         " text_logs log_laws image_laws printed_laws texts_again"),
+                         " text_logs log_laws image_laws journal_told printed_laws texts_again"),
     ("A chart", "svg_text chart chart_drawing journal_charts"),
     ("A byte stream", "request_stream tcpcm_frames tcpcm_framing tcpcm_end stream_echo"),
     ("Timers, and a gateway",

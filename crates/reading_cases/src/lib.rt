@@ -1,6 +1,6 @@
 //! Cases of texts that are read back to their journals: texts that are printed again as they were,
-//! long data, the first bad line of texts that were spoiled, and the first
-//! line of logs that were.
+//! long data, the first bad line of texts that were spoiled, and what notifications are told by their
+//! attaches.
 #![tactic(auto)]
 
 #[cfg(test)]
@@ -13,3 +13,5 @@ mod names;
 mod spoiled;
 #[cfg(test)]
 mod texts;
+#[cfg(test)]
+mod told;
