@@ -29,33 +29,35 @@ peer_named k me Me = here me
 peer_named k me Last = k.last
 peer_named k me (Kept name) = lookup k.kept name
 
--- a signal
+-- the signal of a number with these data
 abbrev pub signal_of : ℕ → List ℕ → SigNote
 signal_of number bytes = record { number = number; bytes = bytes }
 
--- an event with nothing in hand, and one with this signal
+-- an event with nothing in hand
 abbrev pub bare : Event → Ask
 bare event = record { event = event; hand = None }
 
+-- an event with this signal in hand
 abbrev pub with_hand : Event → SigNote → Ask
 with_hand event signal = record { event = event; hand = Some signal }
 
--- a send needs a peer
+-- what a command asks for that sends this signal: a send where its peer is there, else a refusal
 abbrev pub ask_send : Option Peer → SigNote → Ask
 ask_send None signal = refused NoPeer
 ask_send (Some peer) signal = with_hand (asks.Send peer) signal
 
--- a forward needs a buffer, and then a peer
+-- what a forward asks for: a send of the buffer where there is one and its peer is there, else a
+-- refusal
 abbrev pub ask_forward : Option SigNote → Option Peer → Ask
 ask_forward None peer = refused NoSignal
 ask_forward (Some signal) peer = ask_send peer signal
 
--- an attach needs a peer
+-- what an attach asks for: the attach where its peer is there, else a refusal
 abbrev pub ask_attach : Option Peer → SigNote → Ask
 ask_attach None signal = refused NoPeer
 ask_attach (Some peer) signal = with_hand (asks.Attach peer) signal
 
--- a detach needs a reference
+-- what a detach asks for: the detach where its reference is there, else a refusal
 abbrev pub ask_detach : Option AttRef → Ask
 ask_detach None = refused NoRef
 ask_detach (Some r) = bare (asks.Detach r)
@@ -85,11 +87,12 @@ ask_of k me (Some (Settle link)) = bare (asks.Settle link)
 abbrev pub asked_by : List Command → Knows → Option Inc → Ask
 asked_by commands k me = ask_of k me (slice_get commands k.place)
 
--- the command is a forward, or a keep
+-- the command is a forward
 abbrev pub is_forward : Option Command → Bool
 is_forward (Some (Forward to)) = true
 is_forward _ = false
 
+-- the command is a keep
 abbrev pub is_keep : Option Command → Bool
 is_keep (Some (Keep name)) = true
 is_keep _ = false

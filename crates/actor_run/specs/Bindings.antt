@@ -27,7 +27,7 @@ lookup rows name = given_in (found (is_at (name_order name)) rows)
 abbrev pub remember : {T : Type 0} → Table T → List ℕ → T → Table T
 remember rows name value = set_value (is_at (name_order name)) rows (Some value)
 
--- a row has the name
+-- a row of the table has this name
 abbrev pub has_row : {T : Type 0} → Table T → List ℕ → Bool
 has_row rows name = is_some (found (is_at (name_order name)) rows)
 
@@ -35,7 +35,7 @@ has_row rows name = is_some (found (is_at (name_order name)) rows)
 abbrev pub with_row : {T : Type 0} → Table T → List ℕ → Table T
 with_row rows name = if has_row rows name then rows else insert_entry name_order rows name None
 
--- the same for the name that a command speaks of, if it speaks of one
+-- the table with one more name, to which nothing was given, where a command speaks of a name
 abbrev pub with_row_for : {T : Type 0} → Table T → Option (List ℕ) → Table T
 with_row_for rows None = rows
 with_row_for rows (Some name) = with_row rows name

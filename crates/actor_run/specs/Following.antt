@@ -44,7 +44,7 @@ Follows commands k [] = Unit {0}
 Follows commands k (s ∷ P) =
     Follows commands k P × (is_own s k ≡ true → IsAskedStep commands k P s)
 
--- and it has ended, which it does after its last command
+-- actor k followed its commands and has ended, which it does after its last command
 abbrev pub FollowsWhole : List Command → ℕ → List Step → Type 0
 FollowsWhole commands k P = Follows commands k P × (has_ended P k ≡ true)
 
@@ -68,7 +68,8 @@ abbrev pub endpoint_after : Option Inc → StepAnswer → Option Inc
 endpoint_after me (Opened i) = Some i
 endpoint_after me _ = me
 
--- after a turn of actor k, by whether it asked for its end
+-- what holds after a turn of actor k: it has followed its commands to its end where it asked for
+-- that, and else goes on
 abbrev pub IsTurned : List Command → ℕ → List Step → Knows → Option Inc → Bool → Type 0
 IsTurned commands k new mind me true = FollowsWhole commands k new
 IsTurned commands k new mind me false = Playing commands k new mind me

@@ -90,7 +90,7 @@ abbrev pub last_after : StepAnswer → Option Peer → Option Peer
 last_after (answers.Took item) last = Some item.from
 last_after _ last = last
 
--- its buffer
+-- the buffer that an actor holds after an answer: the signal of the item that was taken last
 abbrev pub buffer_after : StepAnswer → Option SigNote → Option SigNote
 buffer_after (answers.Took item) held = Some item.signal
 buffer_after _ held = held
@@ -113,7 +113,7 @@ learned command answer k = record k {
   refs = refs_after command answer k.refs;
 }
 
--- the command is done
+-- what an actor knows once a command is done: the next one is in turn, and nothing waits or is lent
 abbrev pub moved_on : Knows → Knows
 moved_on k = record k { place = k.place + 1; waiting = false; lent = false }
 

@@ -27,19 +27,19 @@ use Rattle.ethcm_session.specs.Table.{HasNext}
 abbrev pub drained : EndState → EndState
 drained s = record s { out = [] }
 
--- the session goes on
+-- a side whose session goes on with its end in this state
 abbrev pub with_end : HalfState → EndState → HalfState
 with_end h s = record h { end = s }
 
--- the session has ended and is recorded, and the next one begins
+-- a side whose session has ended and is recorded, and whose next one begins
 abbrev pub with_next : HalfState → EndState → HalfState
 with_next h s = record { end = s; offered = []; handed = []; past = current h ∷ h.past }
 
--- a message was handed up
+-- a side at which a message was handed up, with its end in this state
 abbrev pub with_handed : HalfState → EndState → Message → HalfState
 with_handed h s m = record h { end = s; handed = h.handed ++ m ∷ [] }
 
--- a message was offered
+-- a side to which a message was offered, with its end in this state
 abbrev pub with_offered : HalfState → EndState → Message → HalfState
 with_offered h s m = record h { end = s; offered = h.offered ++ m ∷ [] }
 
@@ -50,7 +50,7 @@ recorded h s WentUp = with_end h s
 recorded h s WentDown = with_next h s
 recorded h s (Got m) = with_handed h s m
 
--- the same for a tick
+-- the end came to this state, and answered this to a tick
 abbrev pub recorded_tick : HalfState → EndState → Ticked → HalfState
 recorded_tick h s ticks.Stays = with_end h s
 recorded_tick h s ticks.WentDown = with_next h s
@@ -110,16 +110,16 @@ near_took v k keep (Some p) =
 abbrev pub near_delivered : LinkState → ℕ → Bool → LinkState
 near_delivered v k keep = near_took v k keep (slice_get v.back k)
 
--- what is handed up then
+-- what is handed up of a packet that comes to the first side
 abbrev pub near_handed : LinkState → Option Packet → Handed
 near_handed v None = handed.Nothing
 near_handed v (Some p) = handed_as v.first.end.talk.mine p.src (input_of v.first.end p).answer
 
--- the first side is ticked
+-- the link once the end of its first side reacted so to a tick
 abbrev pub near_beat : LinkState → Reaction Ticked → LinkState
 near_beat v r = near_changed v (recorded_tick v.first (drained r.state) r.answer) r.state.out
 
--- what the link is then: the end is ticked, and its packets fly
+-- the link once its first side was ticked: what the end sends then is in flight
 abbrev pub near_ticked : LinkState → LinkState
 near_ticked v = near_beat v (tick_of v.first.end)
 
@@ -127,7 +127,7 @@ near_ticked v = near_beat v (tick_of v.first.end)
 abbrev pub near_sent : LinkState → EndState → Message → LinkState
 near_sent v s m = near_changed v (with_offered v.first (drained s) m) s.out
 
--- what the link is then: the end takes the message, and its packets fly
+-- the link once a message was offered to its first side: what the end sends then is in flight
 abbrev pub near_offered : LinkState → Message → LinkState
 near_offered v m = near_sent v (offer_of v.first.end m) m
 
@@ -135,10 +135,11 @@ near_offered v m = near_sent v (offer_of v.first.end m) m
 abbrev pub near_restarted : LinkState → ℕ → LinkState
 near_restarted v boot = record v { first = with_next v.first (restart_of v.first.end boot) }
 
--- the packet at place k from the first side is lost, or two of them are exchanged
+-- the packet at place k from the first side is lost
 abbrev pub near_lost : LinkState → ℕ → LinkState
 near_lost v k = record v { there = remove v.there k }
 
+-- the packets at places k and n from the first side are exchanged
 abbrev pub near_swapped : LinkState → ℕ → ℕ → LinkState
 near_swapped v k n = record v { there = swap v.there k n }
 
@@ -170,7 +171,7 @@ abbrev pub delivered : Side → ℕ → Bool → LinkState → LinkState
 delivered from k keep v =
     seen_from (other_of from) (near_delivered (seen_from (other_of from) v) k keep)
 
--- what is handed up of it
+-- what the packet at place k from a side hands up at the other one
 abbrev pub handed_by : Side → ℕ → LinkState → Handed
 handed_by from k v = near_handed (seen_from (other_of from) v) (slice_get (flight_from from v) k)
 
@@ -178,7 +179,7 @@ handed_by from k v = near_handed (seen_from (other_of from) v) (slice_get (fligh
 abbrev pub ticked_at : Side → LinkState → LinkState
 ticked_at side v = seen_from side (near_ticked (seen_from side v))
 
--- what is handed up of it
+-- what a tick of a side hands up there
 abbrev pub link_told_by : Side → LinkState → TickedSide
 link_told_by side v =
     let end : EndState = (half_of side v).end in
@@ -196,7 +197,7 @@ restarted_at side boot v = seen_from side (near_restarted (seen_from side v) boo
 abbrev pub lost_from : Side → ℕ → LinkState → LinkState
 lost_from from k v = seen_from from (near_lost (seen_from from v) k)
 
--- two packets from a side are exchanged
+-- the packets at places k and n from a side are exchanged
 abbrev pub swapped_from : Side → ℕ → ℕ → LinkState → LinkState
 swapped_from from k n v = seen_from from (near_swapped (seen_from from v) k n)
 

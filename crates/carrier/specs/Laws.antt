@@ -55,7 +55,7 @@ pub record CarrierPromises (v : LinkState) : Type 0 where
   pub first : HalfPromises v.first v.second v.there
   pub second : HalfPromises v.second v.first v.back
 
--- both sides are up with each other, and all that was offered was handed up
+-- both sides are up with each other, and all that either was offered was handed up at the other one
 pub record IsComplete (v : LinkState) : Type 0 where
   pub first_up : peer_of v.first.end ≡ Some v.second.end.talk.mine
   pub second_up : peer_of v.second.end ≡ Some v.first.end.talk.mine
@@ -64,7 +64,8 @@ pub record IsComplete (v : LinkState) : Type 0 where
 
 -- ---- what each event does to a side, with no packet
 
--- nothing is recorded
+-- an event records nothing of a side: neither an offer, nor what was handed up, nor a session that
+-- is over
 pub record RecordsNothing (old new : HalfState) : Type 0 where
   pub offered : new.offered ≡ old.offered
   pub handed : new.handed ≡ old.handed

@@ -12,10 +12,11 @@ pub record Sessions : Type 0 where
   pub handed : List Message
   pub past : List Entry
 
+-- nothing was offered or handed up yet, and no session has ended
 abbrev pub no_sessions : Sessions
 no_sessions = record { offered = []; handed = []; past = [] }
 
--- one more note
+-- what is recorded of sessions after one more note
 abbrev pub noted : Sessions → Note → Sessions
 noted s (Offered m) = record s { offered = s.offered ++ m ∷ [] }
 noted s (Handed m) = record s { handed = s.handed ++ m ∷ [] }

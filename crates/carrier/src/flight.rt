@@ -62,6 +62,7 @@ impl Flight {
         self.wire.len()
     }
 
+    /// Whether no packet is in flight.
     pub(crate) fn is_empty(&self) -> bool
         ensures { result ≡ (length self.now.is == 0) }
     {

@@ -4,14 +4,17 @@ use linx_base::{Inc, Name, Session, Side};
 use std::alloc::Global;
 use std::test::Fail;
 
+/// A text of its own of this word.
 pub fn text_of(alloc: Global, word: &str) -> Result<String, Fail> {
     Ok(String::from_str(alloc, word)?)
 }
 
+/// `yes` or `no`.
 pub fn yes_text(alloc: Global, is_so: bool) -> Result<String, Fail> {
     text_of(alloc, if is_so { "yes" } else { "no" })
 }
 
+/// A number in decimal digits.
 pub fn number_text(alloc: Global, number: u64) -> Result<String, Fail> {
     Ok(format!(in alloc; "{number}")?)
 }
@@ -26,6 +29,7 @@ pub fn session_text(alloc: Global, session: Session) -> Result<String, Fail> {
     Ok(format!(in alloc; "{}.{}", session.boot(), session.count())?)
 }
 
+/// A session as its boot and its count, as `1.5`, or `none`.
 pub fn session_or_none(alloc: Global, session: Option<Session>) -> Result<String, Fail> {
     match session {
         None => text_of(alloc, "none"),
@@ -41,6 +45,7 @@ pub fn side_text(side: Side) -> &'static str {
     }
 }
 
+/// The text of a name.
 pub fn name_text(name: &Name) -> &str {
     str::from_utf8(name.bytes()).unwrap_or("?")
 }

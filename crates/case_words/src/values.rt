@@ -23,6 +23,7 @@ pub fn session_of(word: &str) -> Result<Session, Fail> {
     Ok(Session::of(boot, count))
 }
 
+/// A link by its number, as `2`.
 pub fn link_of(word: &str) -> Result<LinkNo, Fail> {
     Ok(LinkNo(word.parse()?))
 }
@@ -49,6 +50,7 @@ pub fn peer_of(word: &str) -> Result<Peer, Fail> {
     })
 }
 
+/// The name that a word is.
 pub fn name_of(alloc: Global, word: &str) -> Result<Name, Fail> {
     Ok(Name::of(alloc, word.as_bytes())?)
 }
@@ -111,7 +113,8 @@ fn add_word(bytes: &mut Vec<u8>, word: &str) -> Result<(), Fail> {
     }
 }
 
-/// The bytes that words spell.
+/// The bytes that words spell: of a session, as `5.1`, of hexadecimal digits, or of digits so many
+/// times, as `5a*64`.
 pub fn bytes_of(alloc: Global, words: &str) -> Result<Vec<u8>, Fail> {
     let mut bytes = Vec::new(alloc);
     for word in words.split_whitespace() {

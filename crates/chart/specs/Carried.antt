@@ -26,7 +26,7 @@ use Rattle.chart.specs.Columns.{opener}
 use Rattle.chart.specs.Marks.{line_at}
 use Rattle.chart.specs.Ties.{tie}
 
--- one maker
+-- two makers are one
 abbrev pub same_maker : By → By → Bool
 same_maker (Actor a) (Actor b) = a == b
 same_maker (Pump l) (Pump m) = l.0 == m.0
@@ -39,6 +39,7 @@ pub record OverLinks : Type 0 where
   pub flights : List Flight
   pub ties : List Tie
 
+-- before the first step: no session came up, and no signal was sent
 abbrev pub nothing_sent : OverLinks
 nothing_sent = record { pairings = []; flights = []; ties = [] }
 
@@ -51,10 +52,12 @@ abbrev pub is_flight : By → LinkNo → Session → Inc → Flight → Bool
 is_flight by link session to f =
     same_maker f.by by && f.link.0 == link.0 && f.session.0 == session.0 && f.to.0 == to.0
 
+-- the first pairing that is of this session of a node on a link
 abbrev pub pairing_in : List Pairing → NodeNo → LinkNo → Session → Option Pairing
 pairing_in pairings node link own = find (is_pairing node link own) pairings
 
--- the place of the first signal on its way that is such a one
+-- the place of the first signal on its way that is this maker's, in this session of its side, to
+-- this endpoint
 abbrev pub flight_in : List Flight → By → LinkNo → Session → Inc → Option ℕ
 flight_in flights by link session to = position (is_flight by link session to) flights
 
@@ -66,6 +69,7 @@ with_send line by (There link session i) Link o = record o {
 }
 with_send line by peer answer o = o
 
+-- what a step's head does over links: a send may put a signal on its way, and nothing else does
 abbrev pub with_head : ItemAt → By → Head → OverLinks → OverLinks
 with_head line by (Send peer note answer) o = with_send line by peer answer o
 with_head line by _ o = o
@@ -78,6 +82,8 @@ landed_at line k (Some f) o = record o {
   ties = o.ties ++ tie Carried f.line line ∷ [];
 }
 
+-- the signal at this place, if there is one, is on its way no more, and tied to the line of its
+-- arrival
 abbrev pub landed : ItemAt → Option ℕ → OverLinks → OverLinks
 landed line None o = o
 landed line (Some k) o = landed_at line k (slice_get o.flights k) o
@@ -96,6 +102,8 @@ arrived S line to (There link session i) o =
     (place_in o.flights (opener S i)
     (pairing_in o.pairings (record { 0 = node_of to }) link session) to) o
 
+-- what an effect does over links: a session that comes up is paired with that of the other side,
+-- and a signal that arrives is on its way no more
 abbrev pub with_effect : List Step → ItemAt → Effect → OverLinks → OverLinks
 with_effect S line (Up node link own other) o = record o {
   pairings = o.pairings
@@ -110,7 +118,7 @@ with_effects S position place [] o = o
 with_effects S position place (e ∷ es) o =
     with_effects S position (place + 1) es (with_effect S (line_at position place) e o)
 
--- the last of these steps
+-- what steps did over links, with a further one
 abbrev pub with_step : Step → List Step → OverLinks → OverLinks
 with_step s P o =
     with_effects (s ∷ P) (suc (length P)) 1 s.effects

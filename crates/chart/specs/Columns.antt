@@ -27,6 +27,7 @@ abbrev pub column_by : By → Column
 column_by (Actor k) = Life k
 column_by (Pump link) = Nowhere
 
+-- the column of an opener; nowhere where nobody opened
 abbrev pub column_if : Option By → Column
 column_if None = Nowhere
 column_if (Some by) = column_by by

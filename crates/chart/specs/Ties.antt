@@ -13,6 +13,7 @@ use Rattle.chart.specs.declared.tie.TieKind.{TieKind}
 use Rattle.chart.specs.declared.tie.TieKind.TheVariants.{Signal, Taken, Hunt, Attach, Detach}
 use Rattle.chart.specs.Marks.{line_at}
 
+-- a tie of this kind from one line to another
 abbrev pub tie : TieKind → ItemAt → ItemAt → Tie
 tie kind from to = record { kind = kind; from = from; to = to }
 

@@ -115,6 +115,7 @@ impl Carried {
     ghost use Rattle.chart.specs.Carried.{nothing_sent, with_send, with_head, landed, landed_at, arrived, with_effect};
     ghost use Rattle.chart.specs.Carried.{with_effects, with_step, lost_ties};
 
+    /// Before the first step.
     pub(crate) fn new(alloc: Global) -> Carried
         ensures { result ≡ nothing_sent }
     {

@@ -65,6 +65,7 @@ carried from packet =
     ∷ strokes.Line (point (in_lane packet 24 9).x (in_cell from 32 9).y)
     ∷ lane_line packet 132 9 ∷ [])
 
+-- a signal from its send, carried by the packet whose step its arrival is in, where it is one
 abbrev pub carried_by : Spot → Option Spot → List Shape
 carried_by from None = []
 carried_by from (Some step) =
@@ -81,7 +82,7 @@ signal_if spots ties.Carried (Some from) (Some to) = carried_by from (step_spot 
 signal_if spots ties.Lost (Some from) (Some to) = lost from
 signal_if spots kind from to = []
 
--- THE ARROWS OF SIGNALS
+-- THE ARROWS OF SIGNALS, one for each tie of a send
 abbrev pub signal_arrows : List Spot → List Tie → List Shape
 signal_arrows spots ties =
     flat_map (λ (t : Tie). signal_if spots t.kind (spot_at spots t.from) (spot_at spots t.to)) ties
@@ -94,6 +95,7 @@ coming_from class head kinds.Tick step to = arrow class head (in_lane step 24 9)
 coming_from class head (kinds.Send answer) step to = []
 coming_from class head kind step to = arrow_from class head step to
 
+-- an arrow to a mark from its step, where that has a spot
 abbrev pub coming_if : Class → Class → Option Spot → Spot → List Shape
 coming_if class head None to = []
 coming_if class head (Some step) to = coming_from class head step.mark.kind step to

@@ -43,6 +43,8 @@ abbrev pub reach : ℕ → Spot → Option Spot → ℕ
 reach rows from None = 18 * (rows - from.row)
 reach rows from (Some to) = 18 * (to.row - from.row)
 
+-- a bar in the look of this class, from the line of a spot down, so far to the right of its cell's
+-- edge
 abbrev pub bar : Class → Spot → ℕ → ℕ → ℕ → Shape
 bar class from left width height =
     Box class (record { corner = in_cell from left 9; width = width; height = height })

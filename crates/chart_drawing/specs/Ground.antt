@@ -52,6 +52,7 @@ node_shapes setting rows n =
 abbrev pub straight : Class → ℕ → ℕ → ℕ → Shape
 straight class x from to = Path class (Move (point x from) ∷ Line (point x to) ∷ [])
 
+-- the name of a node; `?` where no node is found
 abbrev pub name_if : Option DrawnNode → List ℕ
 name_if None = codes "?"
 name_if (Some n) = n.name
@@ -86,13 +87,15 @@ abbrev pub is_ended : MarkKind → Bool
 is_ended kinds.Ended = true
 is_ended _ = false
 
+-- the column of a drawn actor
 abbrev pub actor_column : DrawnActor → Column
 actor_column a = columns.Life a.actor
 
--- the first mark on an actor's line, and its last one
+-- the first mark on an actor's line
 abbrev pub first_of : List Spot → DrawnActor → Option Spot
 first_of spots a = find (λ (s : Spot). same_column s.mark.column (actor_column a)) spots
 
+-- the mark of an actor's last step
 abbrev pub last_of : List Spot → DrawnActor → Option Spot
 last_of spots a =
     find (λ (s : Spot). same_column s.mark.column (actor_column a) && is_ended s.mark.kind) spots

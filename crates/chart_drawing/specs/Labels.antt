@@ -13,6 +13,7 @@ use Rattle.chart.specs.declared.mark.MarkKind.TheVariants as kinds
 abbrev pub space_in : List ℕ → Option ℕ
 space_in bytes = position (λ (b : ℕ). b == 32) bytes
 
+-- the bytes before the space at this place; all of them where there is no space
 abbrev pub word_if : Option ℕ → List ℕ → List ℕ
 word_if None bytes = bytes
 word_if (Some k) bytes = take k bytes
@@ -21,6 +22,7 @@ word_if (Some k) bytes = take k bytes
 abbrev pub first_word : List ℕ → List ℕ
 first_word bytes = word_if (space_in bytes) bytes
 
+-- the bytes behind the space at this place; none where there is no space
 abbrev pub behind_if : Option ℕ → List ℕ → List ℕ
 behind_if None bytes = []
 behind_if (Some k) bytes = drop (k + 1) bytes
@@ -42,6 +44,8 @@ word_at k line = first_word (behind_words k line)
 abbrev pub colon_in : List ℕ → Option ℕ
 colon_in word = position (λ (b : ℕ). b == 58) word
 
+-- a word with a colon at this place: where a digest of 64 digits stands behind it, only how many
+-- bytes of data there are
 abbrev pub brief_if : Option ℕ → List ℕ → List ℕ
 brief_if None word = word
 brief_if (Some k) word =

@@ -12,10 +12,11 @@ use Rattle.svg_text.specs.declared.shape.Stroke.TheVariants.{Curve, Close}
 use Rattle.chart_drawing.specs.declared.spot.Spot.{Spot}
 use Rattle.chart_drawing.specs.Spots.{in_lane, lane_move, lane_line}
 
--- dark where the packet brought something
+-- how the way of a packet looks: dark where the packet brought something
 abbrev pub packet_class : Spot → Class
 packet_class spot = if spot.told then Told else Packet
 
+-- how the head of a packet's arrow looks: dark where the packet brought something
 abbrev pub packet_head_class : Spot → Class
 packet_head_class spot = if spot.told then ToldHead else PacketHead
 

@@ -16,7 +16,7 @@ abbrev pub IsNarrow : Setting → Type 0
 IsNarrow setting =
     (length setting.nodes ≤ 64) × (length setting.links ≤ 64) × (length setting.actors ≤ 64)
 
--- the same, as a test
+-- the test whether there are at most 64 nodes, 64 links and 64 actors
 abbrev pub is_narrow : Setting → Bool
 is_narrow setting =
     nat_le (length setting.nodes) 64 && nat_le (length setting.links) 64
@@ -111,13 +111,15 @@ width_of setting =
     374 + 34 * length setting.nodes + gap setting * length setting.actors
     + 162 * length setting.links
 
--- the actor, the link or the node of a number
+-- the actor of a number, if there is one
 abbrev pub actor_of : Setting → ℕ → Option DrawnActor
 actor_of setting number = find (λ (a : DrawnActor). a.actor == number) setting.actors
 
+-- the link of a number, if there is one
 abbrev pub link_of : Setting → ℕ → Option DrawnLink
 link_of setting number = find (λ (l : DrawnLink). l.link.0 == number) setting.links
 
+-- the node of a number, if there is one
 abbrev pub node_of : Setting → ℕ → Option DrawnNode
 node_of setting number = find (λ (n : DrawnNode). n.node.0 == number) setting.nodes
 
@@ -125,10 +127,12 @@ node_of setting number = find (λ (n : DrawnNode). n.node.0 == number) setting.n
 abbrev pub nowhere_left : ℕ
 nowhere_left = 312
 
+-- where the cells of an actor begin, if there is that actor
 abbrev pub life_left_if : Setting → Option DrawnActor → ℕ
 life_left_if setting None = nowhere_left
 life_left_if setting (Some a) = life_left setting a
 
+-- where the cells of a link's lane begin, if there is that link
 abbrev pub lane_left_if : Setting → Option DrawnLink → ℕ
 lane_left_if setting None = nowhere_left
 lane_left_if setting (Some link) = lane_left setting link
@@ -138,6 +142,7 @@ abbrev pub rail_left : Setting → ℕ → DrawnLink → ℕ
 rail_left setting node link =
     lane_left setting link + (if is_right node link then 116 else 8)
 
+-- where the cells of a link's rail at a node begin, if there is that link
 abbrev pub rail_left_if : Setting → ℕ → Option DrawnLink → ℕ
 rail_left_if setting node None = nowhere_left
 rail_left_if setting node (Some link) = rail_left setting node link
@@ -149,10 +154,12 @@ column_left setting (Lane link side) = lane_left_if setting (link_of setting lin
 column_left setting (Rail link node) = rail_left_if setting node.0 (link_of setting link.0)
 column_left setting Nowhere = nowhere_left
 
+-- there is a link, and its rail at the node is the right one
 abbrev pub is_right_if : ℕ → Option DrawnLink → Bool
 is_right_if node None = false
 is_right_if node (Some link) = is_right node link
 
+-- there is a link, and its side's rail is the right one, from which packets go to the left
 abbrev pub goes_left_if : Side → Option DrawnLink → Bool
 goes_left_if side None = false
 goes_left_if side (Some link) = is_right (end_at side link) link

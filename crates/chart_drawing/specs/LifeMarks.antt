@@ -24,9 +24,11 @@ level spot left right = Path Mark (move spot left 9 ∷ line spot right 9 ∷ []
 abbrev pub upright : Spot → Shape
 upright spot = Path Mark (move spot 37 6 ∷ line spot 37 12 ∷ [])
 
+-- a circle of this radius in the middle of a row, with its middle so far to the right
 abbrev pub ring : Spot → ℕ → ℕ → Shape
 ring spot middle radius = Circle Mark (in_cell spot middle 9) radius
 
+-- a dot on the line of an actor
 abbrev pub dot : Spot → Shape
 dot spot = Circle Dot (in_cell spot 32 9) 4
 
@@ -48,10 +50,12 @@ take_shape spot = Path Dot (move spot 37 4 ∷ line spot 28 9 ∷ line spot 37 1
 abbrev pub none_shapes : Spot → List Shape
 none_shapes spot = ring spot 32 5 ∷ Path Wrong (move spot 26 15 ∷ line spot 38 3 ∷ []) ∷ []
 
+-- a hunt: a diamond on the line of an actor
 abbrev pub diamond : Spot → Shape
 diamond spot =
     Path Mark (move spot 32 3 ∷ line spot 38 9 ∷ line spot 32 15 ∷ line spot 26 9 ∷ Close ∷ [])
 
+-- an attach: a square on the line of an actor
 abbrev pub square : Spot → Shape
 square spot =
     Path Mark (move spot 27 4 ∷ line spot 37 4 ∷ line spot 37 14 ∷ line spot 27 14 ∷ Close ∷ [])
@@ -76,11 +80,12 @@ ended spot =
 abbrev pub down_shape : Spot → Shape
 down_shape spot = Path Wrong (move spot 10 9 ∷ line spot 22 9 ∷ [])
 
--- a peer that is met: a circle with a plus; one that is gone: with a minus
+-- a peer that is met: a circle with a plus
 abbrev pub met_shapes : Spot → List Shape
 met_shapes spot =
     ring spot 16 6
     ∷ Path Mark (move spot 12 9 ∷ line spot 20 9 ∷ move spot 16 5 ∷ line spot 16 13 ∷ []) ∷ []
 
+-- a peer that is gone: a circle with a minus
 abbrev pub gone_shapes : Spot → List Shape
 gone_shapes spot = ring spot 16 6 ∷ level spot 12 20 ∷ []

@@ -63,6 +63,7 @@ abbrev pub words_if : Option (List ℕ) → List ℕ
 words_if None = []
 words_if (Some words) = words
 
+-- the words of the line of a row, by the row's number
 abbrev pub words_at : List (List ℕ) → ℕ → List ℕ
 words_at all row = words_if (slice_get all row)
 
@@ -92,6 +93,7 @@ row_of setting lines spot = record {
   shapes = hit_shape setting spot ∷ mark_shapes spot spot.mark.kind;
 }
 
+-- THE ROWS OF A DRAWING, one for each mark, in the order of their spots
 abbrev pub rows_of : Setting → List (List ℕ) → List Spot → List Row
 rows_of setting lines spots = map (row_of setting lines) spots
 
@@ -99,6 +101,7 @@ rows_of setting lines spots = map (row_of setting lines) spots
 abbrev pub side_point : Spot → ℕ → Point
 side_point spot right = in_cell spot (if spot.turned then 6 else right) 13
 
+-- which part of a label stands at its point: the end where its column is turned, else the start
 abbrev pub anchor_of : Bool → Anchor
 anchor_of turned = if turned then End else Start
 
@@ -165,10 +168,11 @@ abbrev pub label_shapes : Setting → List (List ℕ) → Spot → List Shape
 label_shapes setting lines spot =
     label_if setting spot (label_of spot.mark.kind (words_at lines spot.row))
 
--- the words of a line at the left, and before those of a step its position
+-- the words of a line, cut to 42 characters
 abbrev pub line_words : List (List ℕ) → Spot → List ℕ
 line_words lines spot = cut 42 (words_at lines spot.row)
 
+-- the words of a line at the left, and before those of a step its position
 abbrev pub line_shapes : List (List ℕ) → Spot → List Shape
 line_shapes lines spot =
     if spot.mark.line.place == 0

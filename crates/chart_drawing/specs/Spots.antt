@@ -43,12 +43,13 @@ spots_of setting marks = spots_from setting 0 marks
 abbrev pub spot_at : List Spot → ItemAt → Option Spot
 spot_at spots line = find (λ (s : Spot). same_position s.mark.line line) spots
 
--- one column
+-- two columns are one
 abbrev pub same_column : Column → Column → Bool
 same_column (Life a) (Life b) = a == b
 same_column (Rail l n) (Rail m o) = l.0 == m.0 && n.0 == o.0
 same_column _ _ = false
 
+-- the point so far to the right and so far down
 abbrev pub point : ℕ → ℕ → Point
 point x y = record { x = x; y = y }
 
@@ -65,19 +66,22 @@ abbrev pub in_lane : Spot → ℕ → ℕ → Point
 in_lane spot along down =
     in_cell spot (if spot.turned then 156 - along else along) down
 
--- the same point of the cell, in another spot's row
+-- a point so far to the right in a spot's cell, and so far down in another spot's row
 abbrev pub beside : Spot → Spot → ℕ → ℕ → Point
 beside spot other right down = point (spot.x + right) (row_top other.row + down)
 
--- strokes by points of a cell or a lane
+-- a stroke that begins at this point of a spot's cell
 abbrev pub move : Spot → ℕ → ℕ → Stroke
 move spot right down = strokes.Move (in_cell spot right down)
 
+-- a straight stroke on to this point of a spot's cell
 abbrev pub line : Spot → ℕ → ℕ → Stroke
 line spot right down = strokes.Line (in_cell spot right down)
 
+-- a stroke that begins at this point of a lane
 abbrev pub lane_move : Spot → ℕ → ℕ → Stroke
 lane_move spot along down = strokes.Move (in_lane spot along down)
 
+-- a straight stroke on to this point of a lane
 abbrev pub lane_line : Spot → ℕ → ℕ → Stroke
 lane_line spot along down = strokes.Line (in_lane spot along down)

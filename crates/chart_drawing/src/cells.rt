@@ -55,30 +55,35 @@ pub(crate) fn beside(spot: &Spot, other: &Spot, right: u16, down: u16) -> Point
     }
 }
 
+/// A stroke that begins at this point of a spot's cell.
 pub(crate) fn move_to(spot: &Spot, right: u16, down: u16) -> Stroke
     ensures { result ≡ move spot.now right down }
 {
     Stroke::Move(in_cell(spot, right, down))
 }
 
+/// A straight stroke on to this point of a spot's cell.
 pub(crate) fn line_to(spot: &Spot, right: u16, down: u16) -> Stroke
     ensures { result ≡ line spot.now right down }
 {
     Stroke::Line(in_cell(spot, right, down))
 }
 
+/// A stroke that begins at this point of a lane.
 pub(crate) fn lane_move(spot: &Spot, along: u16, down: u16) -> Stroke
     ensures { result ≡ lane_move spot.now along down }
 {
     Stroke::Move(in_lane(spot, along, down))
 }
 
+/// A straight stroke on to this point of a lane.
 pub(crate) fn lane_line(spot: &Spot, along: u16, down: u16) -> Stroke
     ensures { result ≡ lane_line spot.now along down }
 {
     Stroke::Line(in_lane(spot, along, down))
 }
 
+/// A box.
 pub(crate) fn put_box(out: &mut Vec<Shape>, class: Class, area: Area) -> Result<(), NoMemory>
     ensures { OnOk result (out.new.items ≡ out.old.items ++ Box class area ∷ []) }
 {
@@ -86,6 +91,7 @@ pub(crate) fn put_box(out: &mut Vec<Shape>, class: Class, area: Area) -> Result<
     Ok(())
 }
 
+/// A circle.
 pub(crate) fn put_circle(
     out: &mut Vec<Shape>,
     class: Class,
@@ -98,6 +104,7 @@ pub(crate) fn put_circle(
     Ok(())
 }
 
+/// A path of these strokes.
 pub(crate) fn put_path(
     out: &mut Vec<Shape>,
     class: Class,
@@ -110,6 +117,7 @@ pub(crate) fn put_path(
     Ok(())
 }
 
+/// Words at a point.
 pub(crate) fn put_words(
     out: &mut Vec<Shape>,
     class: Class,

@@ -19,12 +19,14 @@ fn actor_of(setting: &Setting, number: u32) -> Option<&DrawnActor>
     setting.actors.as_slice().iter().find(|a| a.actor == number)
 }
 
+/// The link of a number, if there is one.
 pub(crate) fn link_of(setting: &Setting, number: u32) -> Option<&DrawnLink>
     ensures { option_copied result ≡ link_of setting.now number }
 {
     setting.links.as_slice().iter().find(|l| l.link.0 == number)
 }
 
+/// The node of a number, if there is one.
 pub(crate) fn node_of(setting: &Setting, number: u32) -> Option<&DrawnNode>
     ensures { option_copied result ≡ node_of setting.now number }
 {

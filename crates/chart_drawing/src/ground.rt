@@ -100,6 +100,7 @@ fn put_node(
     put_title(out, Class::Strong, middle, 21, &words)
 }
 
+/// The boxes of all nodes, with their names over them.
 pub(crate) fn put_nodes(
     out: &mut Vec<Shape>,
     setting: &Setting,
@@ -178,6 +179,7 @@ fn put_link(
     put_rail(out, setting, rows, later_end(link), left + 132)
 }
 
+/// The lanes of all links, with their names over them.
 pub(crate) fn put_links(
     out: &mut Vec<Shape>,
     setting: &Setting,
@@ -214,6 +216,7 @@ fn put_stripe(out: &mut Vec<Shape>, setting: &Setting, spot: &Spot) -> Result<()
     put_box(out, Class::Stripe, area)
 }
 
+/// A stripe behind each second step.
 pub(crate) fn put_stripes(
     out: &mut Vec<Shape>,
     setting: &Setting,
@@ -320,6 +323,7 @@ fn put_actor(
     put_life(out, rows, x, first_of(spots, actor), last_of(spots, actor))
 }
 
+/// The lines of all actors, with their numbers and names over them.
 pub(crate) fn put_actors(
     out: &mut Vec<Shape>,
     setting: &Setting,

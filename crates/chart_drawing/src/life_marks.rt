@@ -46,6 +46,7 @@ pub(crate) fn put_upright(out: &mut Vec<Shape>, spot: &Spot) -> Result<(), NoMem
     put_path(out, Class::Mark, &strokes)
 }
 
+/// A circle in the middle of a row, with its middle so far to the right.
 pub(crate) fn put_ring(
     out: &mut Vec<Shape>,
     spot: &Spot,
@@ -85,6 +86,7 @@ pub(crate) fn put_send(out: &mut Vec<Shape>, spot: &Spot, answer: SentTo) -> Res
     }
 }
 
+/// A take: a triangle from the queue to the line.
 pub(crate) fn put_take(out: &mut Vec<Shape>, spot: &Spot) -> Result<(), NoMemory>
     ensures { OnOk result (out.new.items ≡ out.old.items ++ take_shape spot.now ∷ []) }
 {
@@ -97,6 +99,7 @@ pub(crate) fn put_take(out: &mut Vec<Shape>, spot: &Spot) -> Result<(), NoMemory
     put_path(out, Class::Dot, &strokes)
 }
 
+/// A receive that found nothing: a crossed circle.
 pub(crate) fn put_none(out: &mut Vec<Shape>, spot: &Spot) -> Result<(), NoMemory>
     ensures { OnOk result (out.new.items ≡ out.old.items ++ none_shapes spot.now) }
 {
@@ -105,6 +108,7 @@ pub(crate) fn put_none(out: &mut Vec<Shape>, spot: &Spot) -> Result<(), NoMemory
     put_path(out, Class::Wrong, &strokes)
 }
 
+/// A hunt: a diamond on the line of an actor.
 pub(crate) fn put_diamond(out: &mut Vec<Shape>, spot: &Spot) -> Result<(), NoMemory>
     ensures { OnOk result (out.new.items ≡ out.old.items ++ diamond spot.now ∷ []) }
 {
@@ -118,6 +122,7 @@ pub(crate) fn put_diamond(out: &mut Vec<Shape>, spot: &Spot) -> Result<(), NoMem
     put_path(out, Class::Mark, &strokes)
 }
 
+/// An attach: a square on the line of an actor.
 pub(crate) fn put_square(out: &mut Vec<Shape>, spot: &Spot) -> Result<(), NoMemory>
     ensures { OnOk result (out.new.items ≡ out.old.items ++ square spot.now ∷ []) }
 {
@@ -161,6 +166,7 @@ pub(crate) fn put_flat(out: &mut Vec<Shape>, spot: &Spot) -> Result<(), NoMemory
     put_path(out, Class::Mark, &strokes)
 }
 
+/// The end of an actor: two level strokes.
 pub(crate) fn put_ended(out: &mut Vec<Shape>, spot: &Spot) -> Result<(), NoMemory>
     ensures { OnOk result (out.new.items ≡ out.old.items ++ ended spot.now ∷ []) }
 {
@@ -173,6 +179,7 @@ pub(crate) fn put_ended(out: &mut Vec<Shape>, spot: &Spot) -> Result<(), NoMemor
     put_path(out, Class::Mark, &strokes)
 }
 
+/// A session that is lost.
 pub(crate) fn put_down(out: &mut Vec<Shape>, spot: &Spot) -> Result<(), NoMemory>
     ensures { OnOk result (out.new.items ≡ out.old.items ++ down_shape spot.now ∷ []) }
 {
@@ -180,6 +187,7 @@ pub(crate) fn put_down(out: &mut Vec<Shape>, spot: &Spot) -> Result<(), NoMemory
     put_path(out, Class::Wrong, &strokes)
 }
 
+/// A peer that is met: a circle with a plus.
 pub(crate) fn put_met(out: &mut Vec<Shape>, spot: &Spot) -> Result<(), NoMemory>
     ensures { OnOk result (out.new.items ≡ out.old.items ++ met_shapes spot.now) }
 {
@@ -193,6 +201,7 @@ pub(crate) fn put_met(out: &mut Vec<Shape>, spot: &Spot) -> Result<(), NoMemory>
     put_path(out, Class::Mark, &strokes)
 }
 
+/// A peer that is gone: a circle with a minus.
 pub(crate) fn put_gone(out: &mut Vec<Shape>, spot: &Spot) -> Result<(), NoMemory>
     ensures { OnOk result (out.new.items ≡ out.old.items ++ gone_shapes spot.now) }
 {

@@ -14,6 +14,7 @@ pub fn item_at(word: &str) -> Result<ItemAt, Fail> {
     })
 }
 
+/// A node by its number, as `2`.
 pub fn node(word: &str) -> Result<NodeNo, Fail> {
     Ok(NodeNo(word.parse()?))
 }
@@ -39,6 +40,8 @@ fn data(alloc: Global, word: &str) -> Result<Vec<u8>, Fail> {
     Ok(Vec::from_elem(alloc, byte.parse()?, count.parse()?)?)
 }
 
+/// A signal by its number and its data: hexadecimal digits, `-`, or so many bytes of one value, as
+/// `64*90`.
 pub fn note(alloc: Global, number: &str, word: &str) -> Result<SigNote, Fail> {
     let signal = Signal::alloc(alloc, number.parse()?, data(alloc, word)?.as_slice())?;
     Ok(signal.note()?)

@@ -66,7 +66,7 @@ impl Line {
         self.text.as_slice()
     }
 
-    /// A text at the end.
+    /// A text at the end, for which the line has room.
     pub fn push(&mut self, text: &str)
         requires room { length self.old + length text.now ≤ line_most }
         ensures text { self.new ≡ self.old ++ text.now }

@@ -61,23 +61,27 @@ fn message(alloc: Global, size: u32) -> Result<Message, Fail> {
     })
 }
 
+/// A message with a body of so many bytes is offered, unless the side isn't up.
 fn offer_text(alloc: Global, c: &mut Carrier, side: Side, size: &str) -> Result<String, Fail> {
     let message = message(alloc, size.parse()?)?;
     let is_offered = offer(c, side, &message)?;
     text_of(alloc, if is_offered { "offered" } else { "not up" })
 }
 
+/// The packet at this place, from 0, is lost.
 fn lose_text(alloc: Global, c: &mut Carrier, from: Side, place: &str) -> Result<String, Fail> {
     lose(c, from, place.parse()?)?;
     text_of(alloc, "done")
 }
 
+/// The packets at two places, as `0 2`, are exchanged.
 fn swap_text(alloc: Global, c: &mut Carrier, from: Side, places: &str) -> Result<String, Fail> {
     let (first, second) = front(places);
     swap(c, from, first.parse()?, second.parse()?)?;
     text_of(alloc, "done")
 }
 
+/// A side boots again, with this boot number.
 fn restart_text(alloc: Global, c: &mut Carrier, side: Side, boot: &str) -> Result<String, Fail> {
     restart(c, side, boot.parse()?)?;
     text_of(alloc, "done")

@@ -65,6 +65,8 @@ fn take_pieces(alloc: Global, end: &mut End, from: u32, to: u32) -> Result<bool,
     Ok(true)
 }
 
+/// The pieces with the numbers from the first of two on, as `3 7`, and below the second one come,
+/// and mean nothing.
 fn pieces(alloc: Global, end: &mut End, numbers: &str) -> Result<bool, Fail> {
     let (from, to) = front(numbers);
     take_pieces(alloc, end, from.parse()?, to.parse()?)
@@ -108,7 +110,7 @@ fn offers(alloc: Global, end: &mut End, bytes: &str) -> Result<bool, Fail> {
     Ok(true)
 }
 
-/// The node boots again, for the sixth time.
+/// The node boots again, with boot number 6, whatever its boot was.
 fn restart(end: &mut End) -> Result<bool, Fail> {
     if end.mine().boot() >= 6 {
         return Err(Fail::from("no later boot"));
@@ -160,6 +162,8 @@ impl Exchanges for End {
         End::new(alloc, 5, window, 64)
     }
 
+    /// Whether a line goes as it says: a call by its first word, and what comes of it by the words
+    /// behind.
     fn goes_as(&mut self, alloc: Global, line: &str) -> Result<bool, Fail> {
         let (word, rest) = front(line);
         match word {

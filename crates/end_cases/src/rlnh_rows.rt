@@ -35,6 +35,7 @@ fn is_next(end: &RlnhEnd, message: &Message) -> bool {
     }
 }
 
+/// Whether the next message that goes out is this one, which is then let go.
 fn says(alloc: Global, end: &mut RlnhEnd, text: &str) -> Result<bool, Fail> {
     let message = message_of(alloc, text)?;
     let is_next = is_next(end, &message);
@@ -132,11 +133,13 @@ fn open_words(alloc: Global, end: &mut RlnhEnd, word: &str, text: &str) -> Resul
     }
 }
 
+/// The endpoint of this incarnation, as `1.2`, closes.
 fn close(end: &mut RlnhEnd, inc: &str) -> Result<(), Fail> {
     end.close(inc_of(inc)?)?;
     Ok(())
 }
 
+/// The other side is asked for this name.
 fn query(alloc: Global, end: &mut RlnhEnd, name: &str) -> Result<(), Fail> {
     let name = name_of(alloc, name)?;
     end.query(&name)?;
@@ -203,6 +206,8 @@ impl Exchanges for RlnhEnd {
         RlnhEnd::new(alloc)
     }
 
+    /// Whether a line goes as it says: a call or a message by its first word, and what comes of it
+    /// by the words behind.
     fn goes_as(&mut self, alloc: Global, line: &str) -> Result<bool, Fail> {
         let (word, rest) = front(line);
         comes(alloc, self, word, rest)

@@ -38,7 +38,7 @@ pub record TakesTo (s : EndState) (p : Packet) (made : Joined) : Type 0 where
   pub piece : p.part ≡ Piece next s.rx.expected frame
   pub makes : (take_frames s frame).made ≡ made
 
--- what a packet is answered with
+-- what a packet is answered with at an end, and exactly when
 pub record AnswersExactly (s : EndState) (p : Packet) : Type 0 where
   pub up : ((input_of s p).answer ≡ WentUp) ↔ BringsUp s p
   pub down :
@@ -46,6 +46,6 @@ pub record AnswersExactly (s : EndState) (p : Packet) : Type 0 where
       ↔ (IsGreater s p ⊎ (IsReset s p ⊎ TakesTo s p Broken))
   pub got : (m : Message) → ((input_of s p).answer ≡ Got m) ↔ TakesTo s p (Whole m)
 
--- of every end and every packet
+-- every packet is answered so at every end, and exactly then
 abbrev pub InputAnswersExactly : Type 0
 InputAnswersExactly = (s : EndState) (p : Packet) → AnswersExactly s p

@@ -67,11 +67,11 @@ anew s =
       asked = false;
     }
 
--- the next session is connecting
+-- an end whose session is over: the next one is connecting, and all begins anew
 abbrev pub gone_down : EndState → EndState
 gone_down s = anew (record s { talk = after_down s.talk })
 
--- the peer was heard
+-- an end that heard its peer just now
 abbrev pub heard : EndState → EndState
 heard s = record s { ticks = 0 }
 
@@ -148,10 +148,13 @@ ask s peer =
     let missing : Part = Nack s.rx.expected (missing_count s.rx.expected s.rx.kept) in
     if s.asked then s else record (put s peer missing) { asked = true }
 
+-- a frame above the expected number comes: it is kept where it is near, and the missing frames are
+-- asked for
 abbrev pub early : EndState → Session → SentFrame → Reaction Input
 early s peer sent = gives (ask (with_early s sent) peer) Nothing
 
--- a frame by its number
+-- what a frame means by its number: the expected one is taken, a lower one was taken before, a
+-- greater one comes early
 abbrev pub framed_in : EndState → Session → SentFrame → Reaction Input
 framed_in s peer sent =
     if sent.number == s.rx.expected then took s peer sent.frame
@@ -191,11 +194,12 @@ changed s src part (changes.Reply kind) = gives (replied s src kind) Nothing
 changed s src part (changes.WentUp reply) = gives (gone_up s src reply) WentUp
 changed s src part changes.WentDown = gives (anew s) WentDown
 
--- the same, after the session and its standing were set by the table
+-- what a part from session src means, once the table of sessions has said how the end stands and
+-- what changed
 abbrev pub reacts : EndState → Session → Part → Outcome → Reaction Input
 reacts s src part outcome = changed (record s { talk = outcome.state }) src part outcome.change
 
--- a packet comes
+-- what a packet makes of an end, and what it is answered
 unfoldable pub input_of : EndState → Packet → Reaction Input
 input_of s p = reacts s p.src p.part (outcome_of s.talk p.src p.dst (kind_in p.part))
 
@@ -222,16 +226,20 @@ beat s peer = sent_or_ack (ticked s) peer (unacknowledged s.tx)
 abbrev pub lost : EndState → Session → EndState
 lost s peer = gone_down (put s peer (Conn kinds.Reset))
 
+-- a tick of an end that is up: the third one in a row with nothing heard loses the link, the others
+-- send again what isn't acknowledged
 abbrev pub tick_up : EndState → Session → Reaction Ticked
 tick_up s peer =
     if nat_lt (s.ticks + 1) lost_at then gives (beat s peer) ticks.Stays
     else gives (lost s peer) ticks.WentDown
 
+-- a tick by the standing of the session: a connecting end asks for a peer, one that is up may lose
+-- the link
 abbrev pub tick_in : EndState → Standing → Reaction Ticked
 tick_in s Connecting = gives (connect s) ticks.Stays
 tick_in s (Up peer confirmed) = tick_up s peer
 
--- a tick comes
+-- what a tick makes of an end, and what it is answered
 unfoldable pub tick_of : EndState → Reaction Ticked
 tick_of s = tick_in s s.talk.standing
 
@@ -243,6 +251,8 @@ offered s peer message =
     let tx : Sender = with_frames s.tx (pieces_of message s.piece) in
     put_pieces (record s { tx = tx }) peer (coming_in s.tx tx)
 
+-- a message is offered by the standing of the session: a connecting end does nothing with it, one
+-- that is up sends it
 abbrev pub offer_in : EndState → Standing → Message → EndState
 offer_in s Connecting message = s
 offer_in s (Up peer confirmed) message = offered s peer message

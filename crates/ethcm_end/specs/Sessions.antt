@@ -49,13 +49,14 @@ pub record GoesDown (old new : EndState) : Type 0 where
   pub connecting : peer_of new ≡ None
   pub anew : IsAnew new
 
--- what a packet from this session, and what a tick, is answered says where the session goes
+-- what a packet from this session is answered says where the session goes
 abbrev pub GoesBy : EndState → EndState → Session → Input → Type 0
 GoesBy old new src Nothing = GoesOn old new
 GoesBy old new src WentUp = GoesUp old new src
 GoesBy old new src WentDown = GoesDown old new
 GoesBy old new src (Got m) = GoesOn old new × ((peer_of old ≡ Some src) × (new.ticks ≡ 0))
 
+-- what a tick is answered says where the session goes: it goes on, or is over
 abbrev pub GoesByTick : EndState → EndState → Ticked → Type 0
 GoesByTick old new ticks.Stays = GoesOn old new
 GoesByTick old new ticks.WentDown = GoesDown old new

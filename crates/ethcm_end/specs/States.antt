@@ -8,7 +8,8 @@ use Rattle.ethcm_window.specs.Sending.{Sender, empty_sender}
 use Rattle.ethcm_window.specs.Receiving.{Receiver, empty_receiver}
 use Rattle.fragmenter.specs.Joining.{Begun}
 
--- an end of a link
+-- an end of a link: its session, its watch, its window, the message that has begun, and the packets
+-- that are still to go out
 pub record EndState : Type 0 where
   -- its session, and whether it is connecting or up with a session of its peer, which has confirmed
   -- it or not

@@ -116,6 +116,7 @@ chain_of None bytes = None
 chain_of (Some layout) bytes =
     (if nat_lt (length bytes) (layout_length layout) then None else fields_at layout bytes)
 
+-- the chain of headers that stands in these bytes, if they are enough for one
 abbrev pub chain_at : List ℕ → Option Chain
 chain_at bytes = chain_of (layout_at bytes) bytes
 
@@ -150,7 +151,7 @@ FitsChain (Next next seq more) = (next < 2 ^ 32) × (seq < 2 ^ 32)
 abbrev pub FitsHeaders : Headers → Type 0
 FitsHeaders headers = (headers.src < 2 ^ 64) × (headers.dst < 2 ^ 64) × FitsChain headers.chain
 
--- a packet taken apart
+-- the chain of a packet's part, without its payload
 abbrev pub chain_in : Part → Chain
 chain_in (parts.Conn kind) = Conn kind
 chain_in (parts.Ack next) = Ack next
@@ -159,6 +160,7 @@ chain_in (parts.Piece next seq (frames.First more from to size payload)) =
     First next seq more from to size
 chain_in (parts.Piece next seq (frames.Next more payload)) = Next next seq more
 
+-- the payload of a packet's part, which pieces alone have
 abbrev pub payload_in : Part → List ℕ
 payload_in (parts.Conn kind) = []
 payload_in (parts.Ack next) = []
@@ -166,5 +168,6 @@ payload_in (parts.Nack next count) = []
 payload_in (parts.Piece next seq (frames.First more from to size payload)) = payload
 payload_in (parts.Piece next seq (frames.Next more payload)) = payload
 
+-- the headers of a packet: its sessions, and the chain of its part
 abbrev pub headers_in : Packet → Headers
 headers_in packet = record { src = packet.src.0; dst = packet.dst; chain = chain_in packet.part }

@@ -33,7 +33,8 @@ IsPart (Ack next) = Unit {0}
 IsPart (Nack next count) = (1 ≤ count) × (count ≤ 256)
 IsPart (Piece next seq frame) = (seq < 4294967295) × IsFrame frame
 
--- the bounds of a packet
+-- what holds of the numbers of a packet besides their fields: the sender is known, the receiver is
+-- unknown in a CONNECT alone, and its part is within its bounds
 pub record IsWithinBounds (packet : Packet) : Type 0 where
   pub sender_known : 0 < packet.src.0
   pub receiver_unknown_in_connect : (packet.dst ≡ 0) ↔ (packet.part ≡ Conn Connect)
@@ -53,7 +54,7 @@ pub record IsPacket (packet : Packet) : Type 0 where
   pub receiver_fits : packet.dst < 2 ^ 64
   pub part_fits : FitsPart packet.part
 
--- the bytes are the packet's
+-- the bytes are those of this packet
 pub record Spells (packet : Packet) (bytes : List ℕ) : Type 0 where
   pub is_packet : IsPacket packet
   pub spelled : bytes ≡ spelling_of packet

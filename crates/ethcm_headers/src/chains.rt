@@ -62,6 +62,7 @@ pub enum Chain {
 impl Chain {
     ghost use Rattle.ethcm_headers.specs.Chains.{layout_of};
 
+    /// Which headers the chain has.
     pub fn layout(&self) -> Layout
         ensures { result ≡ layout_of self.now }
     {

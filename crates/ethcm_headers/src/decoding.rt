@@ -115,7 +115,8 @@ fn chain_at(bytes: &[u8]) -> Option<Chain>
     fields_at(layout, bytes)
 }
 
-/// The headers that the fields make.
+/// The headers at the front of a packet's bytes; `None` where these have no whole chain of the
+/// protocol. The bytes behind the headers aren't looked at.
 #[tactic(auto, unfolding(crate::specs::Chains::headers_at))]
 pub fn headers_at(bytes: &[u8]) -> Option<Headers>
     ensures value { result ≡ headers_at bytes.now }

@@ -23,6 +23,7 @@ impl Model for HeaderBytes {
 }
 
 impl HeaderBytes {
+    /// No header as yet.
     pub(crate) fn new() -> HeaderBytes
         ensures { result ≡ [] }
     {
@@ -66,6 +67,7 @@ impl HeaderBytes {
         self.len = end;
     }
 
+    /// The bytes of all headers, at most 48.
     pub(crate) fn as_slice(&self) -> &[u8]
         ensures { result.now ≡ self.now }
     {

@@ -21,6 +21,7 @@ pub(crate) const NACK: u8 = 6;
 /// The version of the packets.
 const VERSION: u8 = 2;
 
+/// MAIN, with the type of the header behind it, and the bytes of the whole packet.
 #[tactic(auto, unfolding(crate::specs::Headers::main_header))]
 pub(crate) fn main_header(next: u8, length: u16, src: u64, dst: u64) -> [u8; 20]
     ensures { result ≡ main_header next length src dst }
@@ -45,6 +46,7 @@ fn kind_number(kind: ConnKind) -> u8
     }
 }
 
+/// CONN, behind which no header stands.
 #[tactic(auto, unfolding(crate::specs::Headers::conn_header))]
 pub(crate) fn conn_header(kind: ConnKind) -> [u8; 4]
     ensures { result ≡ conn_header kind }
@@ -52,6 +54,7 @@ pub(crate) fn conn_header(kind: ConnKind) -> [u8; 4]
     [NONE, kind_number(kind), 0, 0]
 }
 
+/// ACK, with the type of the header behind it, and the number below which all frames have come.
 #[tactic(auto, unfolding(crate::specs::Headers::ack_header))]
 pub(crate) fn ack_header(following: u8, next: u32) -> [u8; 8]
     ensures { result ≡ ack_header following next }
@@ -62,6 +65,7 @@ pub(crate) fn ack_header(following: u8, next: u32) -> [u8; 8]
     bytes
 }
 
+/// NACK, behind which no header stands: the first missing frame, and how many are missing.
 #[tactic(auto, unfolding(crate::specs::Headers::nack_header))]
 pub(crate) fn nack_header(next: u32, count: u16) -> [u8; 8]
     ensures { result ≡ nack_header next count }
@@ -72,6 +76,7 @@ pub(crate) fn nack_header(next: u32, count: u16) -> [u8; 8]
     bytes
 }
 
+/// UDATA: the first piece of a message, with its two addresses and its size.
 #[tactic(auto, unfolding(crate::specs::Headers::udata_header))]
 pub(crate) fn udata_header(more: bool, seq: u32, from: u32, to: u32, size: u32) -> [u8; 20]
     ensures { result ≡ udata_header more seq from to size }
@@ -85,6 +90,7 @@ pub(crate) fn udata_header(more: bool, seq: u32, from: u32, to: u32, size: u32) 
     bytes
 }
 
+/// FRAG: a further piece of a message.
 #[tactic(auto, unfolding(crate::specs::Headers::frag_header))]
 pub(crate) fn frag_header(more: bool, seq: u32) -> [u8; 8]
     ensures { result ≡ frag_header more seq }

@@ -47,14 +47,15 @@ pub record Outcome : Type 0 where
 abbrev pub gives : Change → TalkState → Outcome
 gives change state = record { change = change; state = state }
 
--- while connecting: the kind decides, and whether the packet is to this session
+-- what a packet means while connecting: its kind decides, and whether it is to this session
 abbrev pub while_connecting : TalkState → Session → Option ConnKind → Bool → Outcome
 while_connecting s src (Some Connect) to_me = gives (Reply ConnectAck) s
 while_connecting s src (Some ConnectAck) true = gives (WentUp true) (up_with s src false)
 while_connecting s src (Some Ack) true = gives (WentUp false) (up_with s src true)
 while_connecting s src _ _ = gives Ignored s
 
--- while up, from the peer's session: the kind decides, and whether the packet is to this session
+-- what a packet from the peer's session means while up: its kind decides, and whether it is to this
+-- session
 abbrev pub from_peer : TalkState → Session → Option ConnKind → Bool → Outcome
 from_peer s peer (Some Connect) to_me = gives (HeardReply Ack) s
 from_peer s peer (Some Reset) true = gives WentDown (after_down s)
@@ -63,7 +64,8 @@ from_peer s peer (Some Ack) true = gives Heard (up_with s peer true)
 from_peer s peer None true = gives Heard (up_with s peer true)
 from_peer s peer _ false = gives Ignored s
 
--- while up: a lower session is old, and a greater one ends this one
+-- what a packet means while up: one of a lower session than the peer's is old, and one of a greater
+-- session ends this one
 abbrev pub while_up : TalkState → Session → Session → Option ConnKind → Bool → Outcome
 while_up s peer src kind to_me =
     if nat_lt src.0 peer.0 then gives Ignored s
@@ -75,7 +77,7 @@ abbrev pub outcome_in : Standing → TalkState → Session → ℕ → Option Co
 outcome_in Connecting s src dst kind = while_connecting s src kind (dst == s.mine.0)
 outcome_in (Up peer confirmed) s src dst kind = while_up s peer src kind (dst == s.mine.0)
 
--- what it means in the present standing
+-- what a packet means to an end in its present standing
 abbrev pub outcome_of : TalkState → Session → ℕ → Option ConnKind → Outcome
 outcome_of s src dst kind = outcome_in s.standing s src dst kind
 

@@ -69,12 +69,12 @@ abbrev pub kept_early : ℕ → List SentFrame → SentFrame → List SentFrame
 kept_early expected kept s =
     if nat_lt s.number (expected + early_limit) then kept_with s kept else kept
 
--- from the expected number to the first of these frames; 256 where there is none
+-- how far it is from the expected number to the first of these frames; 256 where there is none
 abbrev pub distance_to : ℕ → List SentFrame → ℕ
 distance_to expected [] = early_limit
 distance_to expected (s ∷ above) = s.number - expected
 
--- from the expected number to the least kept one above it; 256 where none is
+-- how far it is from the expected number to the least kept one above it; 256 where none is
 abbrev pub missing_count : ℕ → List SentFrame → ℕ
 missing_count expected kept = distance_to expected (kept_above expected kept)
 
@@ -89,7 +89,7 @@ after_frame rx s =
     else (if nat_lt s.number rx.expected then rx
     else record rx { kept = kept_early rx.expected rx.kept s })
 
--- what it does with the frame
+-- what a receiver does with a frame
 abbrev pub acceptance_of : Receiver → SentFrame → Accept
 acceptance_of rx s =
     if s.number == rx.expected then Taken s.frame

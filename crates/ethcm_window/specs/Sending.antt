@@ -11,7 +11,7 @@ pub record Sender : Type 0 where
   pub base : ℕ
   pub frames : List Frame
 
--- the numbers that a session has for frames: from 0 up to this one
+-- how many numbers a session has for frames, from 0 on
 abbrev pub number_limit : ℕ
 number_limit = 4294967295
 
@@ -48,7 +48,7 @@ sent_end tx = tx.base + sent_of tx
 abbrev pub unacknowledged : Sender → List SentFrame
 unacknowledged tx = numbered_from tx.base (take tx.window tx.frames)
 
--- those whose number is at least n
+-- those of some frames whose number is at least n
 abbrev pub from_number : ℕ → List SentFrame → List SentFrame
 from_number n sent = filter (λ s. nat_le n s.number) sent
 

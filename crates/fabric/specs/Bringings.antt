@@ -45,11 +45,11 @@ brought_on k l (arrives x a b note) = Arrived b (There l x a) note ∷ []
 brought_on k l (meets x a name) = meeting k.node l (There l x a) name k.hunts
 brought_on k l (parts x a) = parting k.node (There l x a) k.attaches
 
--- of what is told at a side
+-- the effects at a node of what a side of a link hands up
 abbrev pub told_on : NodeState → At → TrunkUp → List Effect
 told_on k at up = brought_on k at.link (told_brings at.session up)
 
--- the node that is told of it, in a step
+-- the node after a step in which a side of a link handed this up
 abbrev pub node_told : NodeState → At → TrunkUp → ℕ → NodeState
 node_told k at up step = after_brought k at.link (told_brings at.session up) step
 
@@ -62,11 +62,12 @@ abbrev pub publishes_over : LinkNo → Side → List ℕ → Option Inc → List
 publishes_over l side name None ts = ts
 publishes_over l side name (Some i) ts = at_link l (published_at side i name) ts
 
--- one that is asked for a name publishes the first endpoint of that name
+-- a side that is asked for a name publishes the first endpoint of that name, where there is one
 abbrev pub answers_over : NodeState → LinkNo → Side → List ℕ → List TrunkState → List TrunkState
 answers_over k l side name ts = publishes_over l side name (first_named k.endpoints name) ts
 
--- THE TRUNKS once a node was told
+-- THE TRUNKS once a node was told: a side that went up asks for names, one that is asked for a name
+-- answers
 abbrev pub answers_told : NodeState → At → TrunkUp → List TrunkState → List TrunkState
 answers_told k at (WentUp session peer) ts = asks_over k at.link at.side ts
 answers_told k at (Asked name) ts = answers_over k at.link at.side name ts
@@ -123,7 +124,7 @@ passed_by from (Swap k) t =
     swapped_from from 0 (place_of k (length (flight_from from t.link))) t
 passed_by from _ t = t
 
--- the trunks after it
+-- the trunks after a verdict that hands no packet over, on the link that it is met on
 abbrev pub passes_by : LinkNo → Side → Verdict → List TrunkState → List TrunkState
 passes_by l from verdict ts = at_link l (passed_by from verdict) ts
 

@@ -36,7 +36,7 @@ event_of_call (Hunt path signal) = asks.Hunt path
 event_of_call (Attach q signal) = asks.Attach q
 event_of_call (Detach r) = asks.Detach r
 
--- the signal that goes with it
+-- the signal that a call hands over, if it has one
 abbrev pub hand_of_call : Call → Option SigNote
 hand_of_call Close = None
 hand_of_call End = None
@@ -45,7 +45,7 @@ hand_of_call (Hunt path signal) = Some signal
 hand_of_call (Attach q signal) = Some signal
 hand_of_call (Detach r) = None
 
--- what is asked by it
+-- what a call asks for: its event, with its signal in hand
 abbrev pub ask_of_call : Call → Ask
 ask_of_call call = record { event = event_of_call call; hand = hand_of_call call }
 
@@ -66,7 +66,7 @@ IsTyped (Send q signal) = signal.number < 4294967296
 IsTyped (Hunt path signal) = is_name (name_of_path path) ≡ true
 IsTyped _ = Unit {0}
 
--- it is known whether the peer of a send is alive
+-- for a send it is told rightly whether its peer is alive
 abbrev pub IsKnown : NodeState → Call → Bool → Type 0
 IsKnown k (Send q signal) living = living ≡ is_living k q
 IsKnown k _ living = Unit {0}

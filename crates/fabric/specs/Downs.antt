@@ -15,12 +15,12 @@ abbrev pub session_at : Side → TrunkState → Option Session
 session_at side t =
     if is_some (kept_of side t).now.peer then Some (kept_of side t).now.session else None
 
--- of a side, if there is one
+-- the session of a side that is up, if there is that side
 abbrev pub session_at_if : Option Side → TrunkState → Option Session
 session_at_if None t = None
 session_at_if (Some side) t = session_at side t
 
--- the ends of those of node n over the first so many links, by number
+-- the ends of the sessions of node n that are up, over the first so many links, by number
 abbrev pub downs_on : List LinkDecl → ℕ → List TrunkState → ℕ → List Effect
 downs_on links n ts zero = []
 downs_on links n ts (suc k) =

@@ -12,7 +12,7 @@ use Rattle.journal.specs.History.{endpoint_of}
 use Rattle.journal.specs.Queues.{reached_by}
 use Rattle.journal.specs.Rest.{is_idle}
 
--- this endpoint is reached, if one is
+-- an endpoint is the one that an effect reaches, if it reaches one
 abbrev pub is_reached : Inc → Option Inc → Bool
 is_reached j None = false
 is_reached j (Some i) = same_inc i j
@@ -45,6 +45,6 @@ pub record IsIdleAt (P : List Step) (k : ℕ) (j : Inc) : Type 0 where
   pub at : endpoint_of P k ≡ Some j
   pub idle : is_idle P k ≡ true
 
--- each of whom that is noted does
+-- each actor that is noted with an endpoint waits in vain there
 abbrev pub AreIdle : List Step → List (Option Inc) → Type 0
 AreIdle P noted = (k : ℕ) (j : Inc) → slice_get noted k ≡ Some (Some j) → IsIdleAt P k j

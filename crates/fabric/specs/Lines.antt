@@ -21,23 +21,23 @@ event_of_mark Cut l = asks.Cut l
 event_of_mark Mend l = asks.Mend l
 event_of_mark Settle l = asks.Settle l
 
--- its head
+-- the head of a mark's step
 abbrev pub head_of_mark : Mark → LinkNo → Head
 head_of_mark Cut l = heads.Cut l
 head_of_mark Mend l = heads.Mend l
 head_of_mark Settle l = heads.Settle l
 
--- a link that an actor has marked
+-- a line of a link that an actor has marked
 abbrev pub marked : Mark → Line → Line
 marked Cut line = record line { cut = true }
 marked Mend line = record line { cut = false }
 marked Settle line = record line { plans_ended = true }
 
--- a packet from a side more, which counts where the link isn't cut
+-- a line of a link with one packet from a side more, which counts where the link isn't cut
 abbrev pub counted : Side → Line → Line
 counted First line = if line.cut then line else record line { from_first = suc line.from_first }
 counted Second line = if line.cut then line else record line { from_second = suc line.from_second }
 
--- one more tick
+-- a line of a link with one tick more
 abbrev pub ticked_more : Line → Line
 ticked_more line = record line { ticks = suc line.ticks }

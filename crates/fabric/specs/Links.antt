@@ -39,7 +39,7 @@ abbrev pub none_stirs : List Step → RunTrunks → ℕ → Bool
 none_stirs P trunks zero = true
 none_stirs P trunks (suc n) = none_stirs P trunks n && not (stirs P trunks (suc n))
 
--- no link does
+-- no link of a run stirs
 abbrev pub no_link_stirs : Shape → List Step → RunTrunks → Bool
 no_link_stirs shape P trunks = none_stirs P trunks (length shape.links)
 
@@ -59,7 +59,7 @@ abbrev pub is_wire : ℕ → Side → Head → Bool
 is_wire l from (Wire k at verdict) = k.0 == l && same_side from at
 is_wire l from _ = false
 
--- the packets from a side that met their verdicts while the link wasn't cut
+-- how many packets from a side met their verdicts while the link wasn't cut
 abbrev pub wire_steps : List Step → ℕ → Side → ℕ
 wire_steps [] l from = 0
 wire_steps (s ∷ P) l from =
@@ -72,7 +72,7 @@ abbrev pub is_tick : ℕ → Head → Bool
 is_tick l (Tick k side) = k.0 == l
 is_tick l _ = false
 
--- the ticks of both sides
+-- how many ticks both sides of a link made together
 abbrev pub tick_steps : List Step → ℕ → ℕ
 tick_steps [] l = 0
 tick_steps (s ∷ P) l = if is_tick l s.head then suc (tick_steps P l) else tick_steps P l

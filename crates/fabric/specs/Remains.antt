@@ -107,7 +107,8 @@ pub record Parts : Type 0 where
   pub standings : List Standing
   pub lines : List Line
 
--- there are as many of each as the layout has
+-- a fabric has one kernel and one boot for each node, one standing for each actor, and one line and
+-- one trunk for each link
 pub record AreCounted (f : Layout) (parts : Parts) : Type 0 where
   pub kernels : length parts.kernels ≡ length f.log.names.nodes
   pub booted : length parts.booted ≡ length f.log.names.nodes
@@ -115,7 +116,8 @@ pub record AreCounted (f : Layout) (parts : Parts) : Type 0 where
   pub lines : length parts.lines ≡ length f.shape.links
   pub trunks : length f.trunks ≡ length f.shape.links
 
--- and each is what the journal leaves of it
+-- the kernels, the boots, the standings and the lines of a fabric are what the journal leaves of
+-- them
 pub record AreLeft (P : List Step) (parts : Parts) : Type 0 where
   pub kernels : AreNodesLeft P parts.kernels
   pub booted : AreBootsLeft P parts.booted

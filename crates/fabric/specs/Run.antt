@@ -49,7 +49,7 @@ IsReached nodes shape (s ∷ P) after =
     × (IsReached nodes shape P before × (IsTrunkStep shape P before s after
     × IsMade nodes shape P before s))
 
--- that of a layout is one of them
+-- the run of a layout is one of the machine's
 abbrev pub IsReachedBy : Layout → Type 0
 IsReachedBy f = IsReached (length f.log.names.nodes) f.shape f.log.steps (trunks_of f.trunks)
 

@@ -85,7 +85,8 @@ MayTellHunt s k (Over l v) =
     → HasNumbersLeft side (trunks_of s.is l.0))
 MayTellHunt s k _ = Unit {0}
 
--- so for a call; for a close each side on the node has numbers left
+-- a call may be told to the trunks: a send and a hunt as their sides can say them; for a close each
+-- side on the node has numbers left
 abbrev pub MayTell : TrunksState → NodeState → Inc → Call → Type 0
 MayTell s k j (Send q signal) = MayTellSend s k j (is_living k q) q
 MayTell s k j (Hunt path signal) = MayTellHunt s k path

@@ -18,7 +18,7 @@ use journal::By;
 use linx_base::{Inc, NodeNo};
 
 impl Fabric {
-    /// Whether an actor has made its last step.
+    /// Whether an actor, by its number from 1, has made its last step.
     pub fn has_ended(&self, actor: u32) -> bool
         requires above { 0 < actor }
         requires within { actor ≤ length self.now.shape.actors }
@@ -27,7 +27,7 @@ impl Fabric {
         self.standings[(actor - 1) as usize].ended
     }
 
-    /// The endpoint of an actor, if it has one.
+    /// The endpoint of an actor, by its number from 1, if it has one.
     pub fn endpoint_of(&self, actor: u32) -> Option<Inc>
         requires above { 0 < actor }
         requires within { actor ≤ length self.now.shape.actors }

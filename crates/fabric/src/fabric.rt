@@ -139,8 +139,8 @@ fn name_path(path: &Path)
 impl Fabric {
     ghost use Rattle.fabric.specs.Remains.{IsLaidOut};
 
-    /// A fabric without steps: its nodes and links have these names, each actor is on one of the
-    /// nodes, and each link is between two of them.
+    /// A fabric without steps: its nodes and links have these names, each of its at most 64 actors
+    /// is on one of the nodes, and each of its at most 32 links is between two of them.
     pub fn new(
         alloc: Global,
         names: Names,

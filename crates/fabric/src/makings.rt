@@ -151,7 +151,8 @@ pub(crate) fn make_take(
     }
 }
 
-/// A step that waits with a filter, which comes back.
+/// A step that waits with a filter. The journal has a copy of it, and the filter comes back for the
+/// wait that the step stands for.
 pub(crate) fn make_wait(
     alloc: Global,
     journal: &mut WatchedJournal,

@@ -169,12 +169,14 @@ impl WatchedJournal {
         self.journal.full()
     }
 
+    /// The journal that is watched.
     pub(crate) fn journal(&self) -> &Journal
         ensures { result.now ≡ self.now }
     {
         &self.journal
     }
 
+    /// The journal, which is watched no more.
     pub(crate) fn into_journal(self) -> Journal
         ensures { result ≡ self }
     {

@@ -8,7 +8,7 @@ use Rattle.linx_base.specs.declared.frame.Frame.{Frame}
 use Rattle.linx_base.specs.declared.frame.Frame.TheVariants.{First, Next}
 use Rattle.linx_base.specs.Frames.{payload_of, has_more}
 
--- something stands in the list
+-- further elements stand in the list
 abbrev pub is_more : {X : Type 0} → List X → Bool
 is_more [] = false
 is_more (x ∷ xs) = true

@@ -108,7 +108,7 @@ fn ask(
 }
 
 impl Gateway {
-    /// A gateway for so many clients, at moment 0.
+    /// A gateway for so many clients, 1 to 16, at moment 0.
     pub fn new(alloc: Global, clients: u32) -> Result<Gateway, NoMemory>
         requires { (0 < clients) × (clients ≤ 16) }
         ensures { IfOk result (λ gateway. gateway ≡ first_state clients) }

@@ -11,7 +11,7 @@ pub record IsRequest (clients : ℕ) (bytes : List ℕ) : Type 0 where
   pub request : Request
   pub spells : Spells clients client request bytes
 
--- so many first bytes are a request that has room
+-- so many first bytes are a request of a gateway with so many clients, which fits the room
 pub record BeginsWith (clients room : ℕ) (bytes : List ℕ) (size : ℕ) : Type 0 where
   pub within : size ≤ length bytes
   pub fits : size ≤ room

@@ -114,8 +114,8 @@ fn may_follow(clients: u8, size: u32, bytes: &[u8]) -> bool
     }
 }
 
-/// What the bytes begin with, where a request may have as many bytes as there is room. No byte
-/// behind the request is looked at.
+/// What the bytes begin with, where there are so many clients, and a request may have as many bytes
+/// as there is room. No byte behind the request is looked at.
 pub fn front_of(clients: u8, room: u64, bytes: &[u8]) -> Front
     requires { 0 < clients }
     ensures { IsFront clients room bytes.now result }

@@ -24,24 +24,25 @@ AreMade s (e ∷ es) made =
     (own : List Step) × (later : List Step) × (made ≡ later ++ own)
     × (e.server.layout.log.steps ≡ own ++ s.layout.log.steps) × AreMade e.server es later
 
--- THE TIMERS THAT SEND, one after the other: where a clock strikes, ..
+-- the timers that send where so many are due in turn
 abbrev pub fired : (moment n : ℕ) (old new : GateState) → Fires moment n old new → List Timer
 fired moment zero old new is = []
 fired moment (suc n) old new is = fired moment n old is.0 is.1.0 ++ is.1.1.timer ∷ []
 
+-- the timers that send where a clock is told: none where it is refused, else those that are due
 abbrev pub sent_by_clock : (refused : Bool) (moment : ℕ) (old new : GateState) (reply : Reply)
     → Clocks refused moment old new reply → List Timer
 sent_by_clock true moment old new reply is = []
 sent_by_clock false moment old new reply is = fired moment is.count old is.struck is.fires
 
--- .. where a request is handled, of which a clock alone sends, ..
+-- the timers that send where a request is handled; a clock alone has some send
 abbrev pub sent_by : (client : ℕ) (request : Request) (old new : GateState) (reply : Reply)
     → Handles client request old new reply → List Timer
 sent_by client (asks.Clock moment) old new reply is =
     sent_by_clock (nat_lt moment old.clock || nat_lt last_moment moment) moment old new reply is
 sent_by client _ old new reply is = []
 
--- .. in so many requests that are replied to, ..
+-- the timers that send in so many requests that are replied to, one after the other
 abbrev pub sent_in : (s : GateState) (es : List (Exchange GateState))
     → AreServed Asks Replies s es → List Timer
 sent_in s [] served = []
@@ -49,12 +50,14 @@ sent_in s (e ∷ es) served =
     sent_by served.1.client served.1.request s e.server served.1.answer served.1.handled
     ++ sent_in e.server es served.2
 
--- .. and in one that is stopped
+-- the timers that sent in a request before it was stopped; a clock alone has some send
 abbrev pub sent_at_stop : (request : Request) (old new : GateState) → Stops request old new
     → List Timer
 sent_at_stop (asks.Clock moment) old new is = fired moment is.count old is.sent is.fires
 sent_at_stop _ old new is = []
 
+-- the timers that send where the bytes behind the requests are left: none where no request was
+-- stopped
 abbrev pub sent_last : (old : GateState) (bytes : List ℕ) (new : GateState)
     → Leaves old bytes new → List Timer
 sent_last old bytes new (inl is) = []

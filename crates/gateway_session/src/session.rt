@@ -62,7 +62,7 @@ impl Server for Session {
 }
 
 impl Session {
-    /// A session of so many clients, at moment 0, with an empty journal.
+    /// A session of so many clients, 1 to 16, at moment 0, with an empty journal.
     pub fn new(alloc: Global, clients: u8) -> Result<Session, NoMemory>
         requires { (0 < clients) × (clients ≤ 16) }
         ensures { IfOk result (λ session. session ≡ first_state clients) }

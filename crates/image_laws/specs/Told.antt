@@ -75,7 +75,7 @@ told_note f reason (Some attach) note =
     then record note { bytes = (with_reason reason attach).bytes }
     else note
 
--- an effect with what its attach tells of it, in a history of which the newest step is its own
+-- an effect with what its attach tells of it, in a history whose newest step has the effect
 abbrev pub told_effect : (List ℕ → List ℕ) → List Step → Effect → Effect
 told_effect f R (Notified inc peer note reference reason) =
     Notified inc peer (told_note f reason (attached_at R reference.0) note) reference reason

@@ -115,7 +115,7 @@ abbrev pub opening_name : List Step → Inc → Option (List ℕ)
 opening_name [] i = None
 opening_name (s ∷ P) i = if list_any (opens i) s.effects then name_in s.head else opening_name P i
 
--- its bytes; none for what wasn't opened
+-- the bytes of a name that was found; none where none was
 abbrev pub name_or_none : Option (List ℕ) → List ℕ
 name_or_none None = []
 name_or_none (Some name) = name

@@ -84,17 +84,21 @@ IsBounded (Hunt path note) =
 IsBounded (Attach q note) = length note.bytes < data_limit
 IsBounded _ = Unit {0}
 
--- what a send, a hunt and an attach of an endpoint bring; nothing where there is none
+-- what a send of an endpoint brings; nothing where its maker has no endpoint
 abbrev pub sending : List Step → ℕ → Option Inc → Peer → SigNote → List Effect
 sending P node None q note = []
 sending P node (Some j) q note = arrivals_of j note (is_alive P node q) q
 
+-- what a hunt of an endpoint brings: its answer where the path finds a peer; nothing where its
+-- maker has no endpoint
 abbrev pub hunting_by : List Step → ℕ → Option Inc → Path → SigNote → List Effect
 hunting_by P node None path note = []
 hunting_by P node (Some j) path note =
     hunted (find P node path)
     (record { at = j; path = path; signal = note; number = suc (length P) })
 
+-- what an attach of an endpoint brings: a notification where the peer isn't alive; nothing where
+-- its maker has no endpoint
 abbrev pub attaching : List Step → ℕ → Option Inc → Peer → SigNote → List Effect
 attaching P node None q note = []
 attaching P node (Some j) q note =

@@ -18,7 +18,7 @@ use Rattle.journal.specs.declared.effect.Effect.TheVariants.{Met, Gone, Down}
 use Rattle.journal.specs.declared.effect.Step.{Step}
 use Rattle.journal.specs.History.{open_endpoints, name_of}
 
--- a peer over a link
+-- a peer is one over this link
 abbrev pub is_peer_over : LinkNo → Peer → Bool
 is_peer_over l (Here i) = false
 is_peer_over l (There m y i) = m.0 == l.0

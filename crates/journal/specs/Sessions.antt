@@ -10,7 +10,7 @@ session_after node link before (Up n l x y) = if n.0 == node && l.0 == link then
 session_after node link before (Down n l x) = if n.0 == node && l.0 == link then None else before
 session_after node link before _ = before
 
--- the same after effects, in order
+-- the session of a node on a link after some effects, in order
 abbrev pub session_past : ℕ → ℕ → Option Session → List Effect → Option Session
 session_past node link before [] = before
 session_past node link before (e ∷ es) =

@@ -15,12 +15,12 @@ abbrev pub node_of_actor : Shape → ℕ → Option NodeNo
 node_of_actor shape zero = None
 node_of_actor shape (suc k) = slice_get shape.actors k
 
--- the number of the maker's node; a pump has none
+-- the number of a node, or 0 where there is none
 abbrev pub number_or_0 : Option NodeNo → ℕ
 number_or_0 None = 0
 number_or_0 (Some n) = n.0
 
--- the number of the node that a maker acts on
+-- the number of the node that a maker acts on; a pump acts on none, which is 0
 abbrev pub node_by : Shape → By → ℕ
 node_by shape (Pump link) = 0
 node_by shape (Actor k) = number_or_0 (node_of_actor shape k)

@@ -145,6 +145,7 @@ impl Journal {
         self.steps.len() as u64
     }
 
+    /// Whether no step was made yet.
     pub fn is_empty(&self) -> bool
         ensures { IsTrue result ↔ (self.now.log.steps ≡ []) }
     {
@@ -166,6 +167,7 @@ impl Journal {
         self.len() >= STEPS_MOST || self.signal_bytes >= SIGNAL_BYTES_MOST
     }
 
+    /// The names of the nodes and the links, by their numbers.
     pub fn names(&self) -> &Names
         ensures { result.now ≡ self.now.log.names }
     {

@@ -34,6 +34,7 @@ abbrev pub makers_of : List Step → List ℕ
 makers_of [] = []
 makers_of (s ∷ P) = with_maker (makers_of P) s.by
 
+-- a head opens an endpoint
 abbrev pub is_open : Head → Bool
 is_open (Open name) = true
 is_open _ = false
@@ -62,10 +63,12 @@ abbrev pub node_opened : Option Effect → NodeNo
 node_opened None = record { 0 = rightmost }
 node_opened (Some e) = node_opened_by e
 
+-- the node on which this step opened an endpoint; right of all nodes where there is no such step
 abbrev pub node_of_opening : Option Step → NodeNo
 node_of_opening None = record { 0 = rightmost }
 node_of_opening (Some s) = node_opened (slice_get s.effects 0)
 
+-- the name by which a head opens an endpoint, no name where it opens none
 abbrev pub name_in : Head → List ℕ
 name_in (Open name) = name
 name_in _ = []

@@ -11,6 +11,7 @@ use Rattle.journal.specs.declared.effect.Effect.{Effect}
 use Rattle.journal.specs.declared.effect.Effect.TheVariants.{Met, Gone, Up, Down}
 use Rattle.journal.specs.declared.effect.Step.{Step}
 
+-- two sides of a link are one
 abbrev pub same_side : Side → Side → Bool
 same_side First First = true
 same_side Second Second = true
@@ -55,13 +56,15 @@ end_in (s ∷ P) link side = or_told (end_in P link side) (end_told link side s)
 abbrev pub rightmost : ℕ
 rightmost = 4294967295
 
+-- a node that was found, or else the one of this number
 abbrev pub node_or : ℕ → Option NodeNo → NodeNo
 node_or number None = record { 0 = number }
 node_or number (Some node) = node
 
--- the first side of a link that no step tells is left of all nodes, and the second one right of them
+-- the node at a link's first side; where no step tells it, it is drawn left of all nodes
 abbrev pub first_end : List Step → LinkNo → NodeNo
 first_end S link = node_or 0 (end_in S link First)
 
+-- the node at a link's second side; where no step tells it, it is drawn right of all nodes
 abbrev pub second_end : List Step → LinkNo → NodeNo
 second_end S link = node_or rightmost (end_in S link Second)

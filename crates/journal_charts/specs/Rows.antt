@@ -8,6 +8,7 @@ use Rattle.journal_charts.specs.declared.rows.Rows.{Rows}
 abbrev pub is_heading : List ℕ → Bool
 is_heading line = is_some (after (codes "journal ") line)
 
+-- what of a line stands behind its first space; the whole line where it has none
 abbrev pub words_if : List ℕ → Option (List ℕ × List ℕ) → List ℕ
 words_if line None = line
 words_if line (Some parts) = parts.1

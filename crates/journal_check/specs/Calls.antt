@@ -23,26 +23,33 @@ use Rattle.node_kernel.specs.Calls.{after_open, after_send, detached}
 use Rattle.node_kernel.specs.Nodes.{NodeState, find_at}
 use Rattle.node_kernel.specs.Nodes.{is_living, items_at, next_of, with_items}
 
--- a hunt and an attach of an endpoint in step k
+-- a hunt of an endpoint in step k, as its node keeps it
 abbrev pub hunt_of : ℕ → Inc → Path → SigNote → PendingHunt
 hunt_of k j path note = record { at = j; path = path; signal = note; number = k }
 
+-- an attach of an endpoint in step k, as its node keeps it
 abbrev pub attach_of : ℕ → Inc → Peer → SigNote → PendingAttach
 attach_of k j q note = record { at = j; peer = q; signal = note; reference = record { 0 = k } }
 
--- THE EFFECTS that a call has at a node in step k, by its endpoint
+-- the effects that a send of an endpoint has at a node; none where its maker has no endpoint
 abbrev pub send_effects : NodeState → Option Inc → Peer → SigNote → List Effect
 send_effects n None q note = []
 send_effects n (Some j) q note = arrivals_of j note (is_living n q) q
 
+-- the effects that a hunt of an endpoint has at a node in step k; none where its maker has no
+-- endpoint
 abbrev pub hunt_effects : NodeState → ℕ → Option Inc → Path → SigNote → List Effect
 hunt_effects n k None path note = []
 hunt_effects n k (Some j) path note = hunted (find_at n path) (hunt_of k j path note)
 
+-- the effects that an attach of an endpoint has at a node in step k; none where its maker has no
+-- endpoint
 abbrev pub attach_effects : NodeState → ℕ → Option Inc → Peer → SigNote → List Effect
 attach_effects n k None q note = []
 attach_effects n k (Some j) q note = attached (is_living n q) (attach_of k j q note)
 
+-- THE EFFECTS that the head of a call has at the node of its maker in step k, by the maker's
+-- endpoint
 abbrev pub call_effects : NodeState → ℕ → Option Inc → Head → List Effect
 call_effects n k me (Open name) = opening (next_of n) name n.hunts
 call_effects n k me Close = ending me n.attaches
@@ -62,17 +69,18 @@ call_effects n k me (Tick l side) = []
 call_effects n k me (Refused reason) = []
 call_effects n k me Ended = ending me n.attaches
 
--- THE NODE AFTER THE CALL: nothing changes where there is no endpoint
+-- what a call of this endpoint leaves of its node; nothing changes where there is no endpoint
 abbrev pub after_if : Option Inc → NodeState → (Inc → NodeState) → NodeState
 after_if None n after = n
 after_if (Some j) n after = after j
 
--- without the item that a filter selects first at an endpoint
+-- a node without the item that a filter selects first at an endpoint
 abbrev pub after_receive : NodeState → Inc → Sigsel → NodeState
 after_receive n j filter = record n {
   endpoints = with_items n.endpoints j (without_first filter (items_at n.endpoints j));
 }
 
+-- THE NODE AFTER THE HEAD of a call in step k, by the endpoint of its maker
 abbrev pub call_after : NodeState → ℕ → Option Inc → Head → NodeState
 call_after n k me (Open name) = after_open n name k
 call_after n k me Close = after_if me n (λ j. after_close n j k)
@@ -113,7 +121,8 @@ abbrev pub suits : Option Inc → Head → Bool
 suits me head =
     (not (is_opening head) || is_none me) && (not (is_endpoints head) || is_some me)
 
--- it is within its bounds
+-- a head is within its bounds: its name is one, and its signal has no more data than a signal may
+-- have, that of an attach one byte fewer
 abbrev pub is_bounded : Head → Bool
 is_bounded (Open name) = is_name name
 is_bounded (Send q note answer) = nat_le (length note.bytes) data_limit

@@ -62,33 +62,37 @@ is_made_by_maker t (Actor k) head = makes_steps (standing_of t.standings k)
 is_made_by_maker t (Pump l) head =
     nat_lt 0 l.0 && (nat_le l.0 (length t.shape.links) && may_make (Pump l) head)
 
--- the endpoint of who stands so, and of a maker
+-- the endpoint of who stands so
 abbrev pub endpoint_in : Option Standing → Option Inc
 endpoint_in None = None
 endpoint_in (Some s) = s.endpoint
 
+-- the endpoint of a maker; a pump has none
 abbrev pub endpoint_of_maker : Known → By → Option Inc
 endpoint_of_maker t (Actor k) = endpoint_in (standing_of t.standings k)
 endpoint_of_maker t (Pump l) = None
 
--- the filter that who stands so waits with, and whether who stands so has ended
+-- the filter that who stands so waits with
 abbrev pub waits_in_standing : Option Standing → Option Sigsel
 waits_in_standing None = None
 waits_in_standing (Some s) = s.waits
 
+-- who stands so has ended
 abbrev pub ended_in : Option Standing → Bool
 ended_in None = false
 ended_in (Some s) = s.ended
 
--- the kernel of a node by its number, and an empty one where there is none
+-- the kernel of a node by its number, from 1 on
 abbrev pub kernel_of : List NodeState → ℕ → Option NodeState
 kernel_of kernels zero = None
 kernel_of kernels (suc n) = slice_get kernels n
 
+-- a kernel that was found, or else an empty one
 abbrev pub kernel_or_empty : Option NodeState → NodeState
 kernel_or_empty None = empty_node (record { 0 = 0 })
 kernel_or_empty (Some k) = k
 
+-- the kernel of the node that a maker is on, or an empty one where there is none
 abbrev pub kernel_of_maker : Known → By → NodeState
 kernel_of_maker t by = kernel_or_empty (kernel_of t.kernels (node_by t.shape by))
 
@@ -98,7 +102,7 @@ is_vain_at n (Some filter) (Some j) = is_none (first_selected filter (items_at n
 is_vain_at n (Some filter) None = false
 is_vain_at n None me = false
 
--- an actor is idle
+-- an actor is idle, as the tables tell it
 abbrev pub is_idle_in : Known → ℕ → Bool
 is_idle_in t k =
     is_vain_at (kernel_of_maker t (Actor k)) (waits_in_standing (standing_of t.standings k))
@@ -121,6 +125,7 @@ is_patient_actor t k (TakeNone filter) = all_leave_at_rest_in t k (length t.shap
 is_patient_actor t k (Waits filter) = is_none (waits_in_standing (standing_of t.standings k))
 is_patient_actor t k _ = true
 
+-- a maker may find none or wait as this head says; a pump always may
 abbrev pub is_patient : Known → By → Head → Bool
 is_patient t (Actor k) head = is_patient_actor t k head
 is_patient t (Pump l) head = true
@@ -130,29 +135,35 @@ abbrev pub restarted_node : Head → Option NodeNo
 restarted_node (Restart m) = Some m
 restarted_node _ = None
 
--- THE EFFECTS of a step that is the k-th, and what it leaves of the kernels
+-- the effects of a restart at the kernel of its node: all endpoints that are open there are closed
 abbrev pub restart_effects : Option NodeState → List Effect
 restart_effects None = []
 restart_effects (Some n) = closings (map (λ (e : OpenEndpoint). e.inc) n.endpoints)
 
+-- the effects of the k-th step: of a restart at the node that it restarts, of a call at its maker's
 abbrev pub effects_of_step : Option NodeNo → Known → ℕ → By → Head → List Effect
 effects_of_step (Some m) t k by head = restart_effects (kernel_of t.kernels m.0)
 effects_of_step None t k by head =
     call_effects (kernel_of_maker t by) k (endpoint_of_maker t by) head
 
+-- THE EFFECTS of a step that is the k-th, by its maker and its head
 abbrev pub effects_in : Known → ℕ → By → Head → List Effect
 effects_in t k by head = effects_of_step (restarted_node head) t k by head
 
+-- the kernels once the node of this number, whose kernel this is, was restarted
 abbrev pub restarted_in : Option NodeState → List NodeState → ℕ → List NodeState
 restarted_in None kernels node = kernels
 restarted_in (Some n) kernels node = slice_set kernels (node - 1) (after_restart n)
 
+-- the kernels after the k-th step: a restart changes that of the node that it restarts, a call that
+-- of its maker's
 abbrev pub kernels_past : Option NodeNo → Known → ℕ → By → Head → List NodeState
 kernels_past (Some m) t k by head = restarted_in (kernel_of t.kernels m.0) t.kernels m.0
 kernels_past None t k by head =
     slice_set t.kernels (node_by t.shape by - 1)
     (call_after (kernel_of_maker t by) k (endpoint_of_maker t by) head)
 
+-- WHAT A STEP LEAVES OF THE KERNELS, by its number, its maker and its head
 abbrev pub kernels_after : Known → ℕ → By → Head → List NodeState
 kernels_after t k by head = kernels_past (restarted_node head) t k by head
 

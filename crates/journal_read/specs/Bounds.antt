@@ -20,7 +20,7 @@ line_bytes (Happened effect) = effect_bytes effect
 abbrev pub noted_limit : ℕ
 noted_limit = 268435456
 
--- the steps note more
+-- the steps note more signals than may be read
 abbrev pub is_over_full : List Step → Bool
 is_over_full P = nat_lt noted_limit (signal_bytes_of P)
 

@@ -31,7 +31,7 @@ pub record FitsStep (names : Names) (position : ℕ) (s : Step) : Type 0 where
   pub head : FitsHead names s.head
   pub effects : AllByRecursion (FitsEffect names) s.effects
 
--- the steps of a run
+-- the steps are such as a run has, with numbers that fit what is printed of them
 abbrev pub AllFit : Names → List Step → Type 0
 AllFit names [] = Unit {0}
 AllFit names (s ∷ P) = AllFit names P × FitsStep names (suc (length P)) s

@@ -80,7 +80,8 @@ is_whole (Some n) P line = length P == n
 unfoldable pub ended : SoFar → ℕ → Result (List Step) ℕ
 ended r line = if is_whole r.announced r.steps line then Ok r.steps else Err line
 
--- the same with what stands behind the last line feed: nothing
+-- the steps of a text behind whose last line feed nothing stands; else the line of this number is
+-- bad
 abbrev pub ended_behind : List ℕ → SoFar → ℕ → Result (List Step) ℕ
 ended_behind [] r line = ended r line
 ended_behind (b ∷ bytes) r line = Err line

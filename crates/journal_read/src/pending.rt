@@ -102,6 +102,7 @@ impl Pending {
     ghost use Rattle.journal_read.specs.Reading.{put_line, put_bytes};
     ghost use Rattle.text_words.specs.Gives.{Gives};
 
+    /// No step was read yet.
     pub(crate) fn new(alloc: Global, names: Names) -> Pending
         ensures { result ≡ record { names = names; steps = [] } }
     {

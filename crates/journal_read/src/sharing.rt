@@ -36,6 +36,7 @@ pub(crate) struct Shared {
 }
 
 impl Shared {
+    /// Nothing is kept yet.
     pub(crate) fn new(alloc: Global) -> Shared {
         Shared {
             kept: HashMap::new(alloc),

@@ -41,12 +41,13 @@ signal_at None place = None
 signal_at (Some s) zero = signal_in s.head
 signal_at (Some s) (suc k) = signal_of (slice_get s.effects k)
 
--- what is printed of long data
+-- what is printed of long data: their SHA-256, or their first bytes
 abbrev pub digest_by : DigestBy → Digest
 digest_by Sha256 = sha256
 digest_by FirstBytes = first_bytes
 
--- and where it may be known
+-- what is printed of long data whose digest may be known already: one that was made is their
+-- SHA-256
 abbrev pub digest_in : Known → Digest
 digest_in (Made digested) = sha256
 digest_in (By by) = digest_by by

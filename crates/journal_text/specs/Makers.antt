@@ -7,7 +7,7 @@ use Rattle.journal.specs.declared.by.By.TheVariants.{Actor, Pump}
 use Rattle.journal.specs.declared.effect.Step.{Step}
 use Rattle.journal.specs.History.{is_closed, last_endpoint}
 
--- an incarnation that wasn't closed
+-- an incarnation, if it wasn't closed
 abbrev pub if_not_closed : List Step → Option Inc → Option Inc
 if_not_closed P None = None
 if_not_closed P (Some i) = if is_closed P i then None else Some i

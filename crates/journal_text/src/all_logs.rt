@@ -17,6 +17,7 @@ use journal::{Effect, Journal};
 use linx_base::{Inc, NoMemory};
 use std::alloc::Global;
 
+/// The lines of all logs of a journal, which come with these digests.
 pub(crate) fn collect(alloc: Global, journal: &Journal, digests: &Digests) -> Result<Logs, NoMemory>
     requires { Fits digests.now journal.now.log.steps }
     ensures by { IfOk result (λ logs. logs.by ≡ digests.now.by) }
@@ -57,6 +58,7 @@ pub fn write_log_title(
     write_title(out, journal.names(), inc, logs.name(inc))
 }
 
+/// The log of an incarnation: its first line, and the lines behind it.
 #[tactic(auto, unfolding(crate::specs::Blocks::log_text))]
 pub(crate) fn write_block(
     out: &mut Vec<u8>,

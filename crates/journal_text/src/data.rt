@@ -22,6 +22,8 @@ fn write_known_digest(out: &mut Vec<u8>, bytes: &Blob, known: Known<'_>) -> Resu
     }
 }
 
+/// The data of a signal: `-` for none, up to 32 bytes in hexadecimal digits, and of more what
+/// stands for them.
 #[tactic(auto, unfolding(crate::specs::Values::data_text))]
 pub(crate) fn write_data(out: &mut Vec<u8>, bytes: &Blob, known: Known<'_>) -> Result<(), NoMemory>
     requires { IsOf known bytes.now }

@@ -78,6 +78,7 @@ impl Digested {
         self.bytes.same(bytes)
     }
 
+    /// What is printed of the bytes: their number and their SHA-256.
     pub(crate) fn text(&self) -> &[u8]
         ensures { result.now ≡ digest_text sha256 self.now }
     {
@@ -199,6 +200,7 @@ pub(crate) struct Digests {
 }
 
 impl Digests {
+    /// No digests: whatever long data are printed of is made anew.
     #[tactic(auto, using(crate::proofs::Fitting::nothing_placed))]
     pub(crate) fn none(alloc: Global, by: DigestBy) -> Digests
         ensures by { result.by ≡ by }

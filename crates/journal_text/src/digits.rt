@@ -38,6 +38,7 @@ pub(crate) fn write_bytes(out: &mut Vec<u8>, text: &[u8]) -> Result<(), NoMemory
     Ok(())
 }
 
+/// One byte.
 #[inline(always)]
 pub(crate) fn write_byte(out: &mut Vec<u8>, byte: u8) -> Result<(), NoMemory>
     ensures { OnOk result (out.new.items ≡ out.old.items ++ byte ∷ []) }
@@ -64,6 +65,7 @@ fn write_digits(out: &mut Vec<u8>, number: u64) -> Result<(), NoMemory>
     write_bytes(out, &digits[start..])
 }
 
+/// A number in decimal digits.
 #[inline(always)]
 pub(crate) fn write_number(out: &mut Vec<u8>, number: u64) -> Result<(), NoMemory>
     ensures { OnOk result (out.new.items ≡ out.old.items ++ decimal number) }

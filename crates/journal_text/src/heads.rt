@@ -151,6 +151,7 @@ fn write_wire(
     write_verdict(out, verdict)
 }
 
+/// The words of a step's head.
 #[tactic(auto, unfolding(crate::specs::Steps::head_text))]
 pub(crate) fn write_head(
     out: &mut Vec<u8>,

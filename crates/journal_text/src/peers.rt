@@ -31,6 +31,7 @@ fn nth_name(names: &NameList, number: u32) -> Option<&Name>
     }
 }
 
+/// A name, or `?` where there is none.
 pub(crate) fn write_name_or_mark(out: &mut Vec<u8>, name: Option<&Name>) -> Result<(), NoMemory>
     ensures { OnOk result (out.new.items
         ≡ out.old.items ++ name_or_mark (option_copied name.entry)) }
@@ -41,6 +42,7 @@ pub(crate) fn write_name_or_mark(out: &mut Vec<u8>, name: Option<&Name>) -> Resu
     }
 }
 
+/// A node by its name.
 #[tactic(auto, unfolding(crate::specs::Values::node_text))]
 pub(crate) fn write_node(out: &mut Vec<u8>, names: &Names, node: NodeNo) -> Result<(), NoMemory>
     ensures { OnOk result (out.new.items ≡ out.old.items ++ node_text names.now node.0) }
@@ -48,6 +50,7 @@ pub(crate) fn write_node(out: &mut Vec<u8>, names: &Names, node: NodeNo) -> Resu
     write_name_or_mark(out, nth_name(&names.nodes, node.0))
 }
 
+/// A link by its name.
 #[tactic(auto, unfolding(crate::specs::Values::link_text))]
 pub(crate) fn write_link(out: &mut Vec<u8>, names: &Names, link: LinkNo) -> Result<(), NoMemory>
     ensures { OnOk result (out.new.items ≡ out.old.items ++ link_text names.now link.0) }
@@ -55,6 +58,7 @@ pub(crate) fn write_link(out: &mut Vec<u8>, names: &Names, link: LinkNo) -> Resu
     write_name_or_mark(out, nth_name(&names.links, link.0))
 }
 
+/// A peer: an incarnation, or one over a link in a session of it.
 #[tactic(auto, unfolding(crate::specs::Values::peer_text))]
 pub(crate) fn write_peer(out: &mut Vec<u8>, names: &Names, peer: &Peer) -> Result<(), NoMemory>
     ensures { OnOk result (out.new.items ≡ out.old.items ++ peer_text names.now peer.now) }
@@ -71,6 +75,7 @@ pub(crate) fn write_peer(out: &mut Vec<u8>, names: &Names, peer: &Peer) -> Resul
     }
 }
 
+/// A signal: its number and its data.
 #[tactic(auto, unfolding(crate::specs::Values::signal_text))]
 pub(crate) fn write_signal(
     out: &mut Vec<u8>,
@@ -85,6 +90,7 @@ pub(crate) fn write_signal(
     write_data(out, note.data(), known)
 }
 
+/// A peer and a signal, with a space between them.
 #[tactic(auto, unfolding(crate::specs::Values::peer_signal_text))]
 pub(crate) fn write_peer_signal(
     out: &mut Vec<u8>,

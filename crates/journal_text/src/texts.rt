@@ -30,6 +30,7 @@ impl Text {
         }
     }
 
+    /// The digits.
     pub(crate) fn bytes(&self) -> &[u8]
         ensures { result.now ≡ self.now }
     {

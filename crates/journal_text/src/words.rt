@@ -41,6 +41,7 @@ fn write_numbers(out: &mut Vec<u8>, numbers: &[u32]) -> Result<(), NoMemory>
     }
 }
 
+/// A filter: `any`, `only` or `not` with its numbers.
 #[tactic(auto, unfolding(crate::specs::Values::filter_text))]
 pub(crate) fn write_filter(out: &mut Vec<u8>, filter: &Sigsel) -> Result<(), NoMemory>
     ensures { OnOk result (out.new.items ≡ out.old.items ++ filter_text filter.now) }
@@ -58,6 +59,7 @@ pub(crate) fn write_filter(out: &mut Vec<u8>, filter: &Sigsel) -> Result<(), NoM
     }
 }
 
+/// A path: a name, or one over a link.
 #[tactic(auto, unfolding(crate::specs::Values::path_text))]
 pub(crate) fn write_path(out: &mut Vec<u8>, names: &Names, path: &Path) -> Result<(), NoMemory>
     ensures { OnOk result (out.new.items ≡ out.old.items ++ path_text names.now path.now) }
@@ -72,6 +74,7 @@ pub(crate) fn write_path(out: &mut Vec<u8>, names: &Names, path: &Path) -> Resul
     }
 }
 
+/// A maker: `A1` for an actor, `P1` for the pump of a link.
 #[tactic(auto, unfolding(crate::specs::Values::maker_text))]
 pub(crate) fn write_maker(out: &mut Vec<u8>, by: By) -> Result<(), NoMemory>
     ensures { OnOk result (out.new.items ≡ out.old.items ++ maker_text by) }
@@ -88,6 +91,7 @@ pub(crate) fn write_maker(out: &mut Vec<u8>, by: By) -> Result<(), NoMemory>
     }
 }
 
+/// The position of an item: its step, and its place in that.
 #[tactic(auto, unfolding(crate::specs::Values::position_text))]
 pub(crate) fn write_position(out: &mut Vec<u8>, at: ItemAt) -> Result<(), NoMemory>
     ensures { OnOk result (out.new.items ≡ out.old.items ++ position_text at) }
@@ -97,6 +101,7 @@ pub(crate) fn write_position(out: &mut Vec<u8>, at: ItemAt) -> Result<(), NoMemo
     write_number(out, at.place)
 }
 
+/// A reference to a step: `@` and its number.
 #[tactic(auto, unfolding(crate::specs::Values::reference_text))]
 pub(crate) fn write_reference(out: &mut Vec<u8>, step: u64) -> Result<(), NoMemory>
     ensures { OnOk result (out.new.items ≡ out.old.items ++ reference_text step) }
@@ -105,6 +110,7 @@ pub(crate) fn write_reference(out: &mut Vec<u8>, step: u64) -> Result<(), NoMemo
     write_number(out, step)
 }
 
+/// The direction from a side: `>` from the first, `<` from the second.
 pub(crate) fn write_side(out: &mut Vec<u8>, side: Side) -> Result<(), NoMemory>
     ensures { OnOk result (out.new.items ≡ out.old.items ++ side_text side) }
 {
@@ -125,6 +131,7 @@ fn write_swapped(out: &mut Vec<u8>, place: u8) -> Result<(), NoMemory>
     }
 }
 
+/// A verdict on a packet.
 pub(crate) fn write_verdict(out: &mut Vec<u8>, verdict: Verdict) -> Result<(), NoMemory>
     ensures { OnOk result (out.new.items ≡ out.old.items ++ verdict_text verdict) }
 {
@@ -139,6 +146,7 @@ pub(crate) fn write_verdict(out: &mut Vec<u8>, verdict: Verdict) -> Result<(), N
     }
 }
 
+/// Why a peer is no more.
 pub(crate) fn write_reason(out: &mut Vec<u8>, reason: Reason) -> Result<(), NoMemory>
     ensures { OnOk result (out.new.items ≡ out.old.items ++ reason_text reason) }
 {
@@ -149,6 +157,7 @@ pub(crate) fn write_reason(out: &mut Vec<u8>, reason: Reason) -> Result<(), NoMe
     }
 }
 
+/// What became of a signal that was sent.
 pub(crate) fn write_sent(out: &mut Vec<u8>, answer: SentTo) -> Result<(), NoMemory>
     ensures { OnOk result (out.new.items ≡ out.old.items ++ sent_text answer) }
 {
@@ -159,6 +168,7 @@ pub(crate) fn write_sent(out: &mut Vec<u8>, answer: SentTo) -> Result<(), NoMemo
     }
 }
 
+/// What a detach did.
 pub(crate) fn write_detached(out: &mut Vec<u8>, answer: Detached) -> Result<(), NoMemory>
     ensures { OnOk result (out.new.items ≡ out.old.items ++ detached_text answer) }
 {
@@ -169,6 +179,7 @@ pub(crate) fn write_detached(out: &mut Vec<u8>, answer: Detached) -> Result<(), 
     }
 }
 
+/// Why a call was refused.
 pub(crate) fn write_refusal(out: &mut Vec<u8>, reason: Refusal) -> Result<(), NoMemory>
     ensures { OnOk result (out.new.items ≡ out.old.items ++ refusal_text reason) }
 {

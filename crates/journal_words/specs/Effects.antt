@@ -14,7 +14,7 @@ use Rattle.journal_words.specs.Data.{note_in}
 use Rattle.journal_words.specs.Peers.{peer_in, reference_in}
 use Rattle.journal_words.specs.Answers.{reason_in}
 
--- `arrived INC PEER SIGNAL`, behind its first word; and so each of these
+-- `arrived INC PEER SIGNAL`, read from the words behind its first one
 unfoldable pub arrived_in : Names → List (List ℕ) → Option Effect
 arrived_in names (inc ∷ peer ∷ number ∷ shown ∷ []) = do
   i ← halves_in inc
@@ -23,6 +23,7 @@ arrived_in names (inc ∷ peer ∷ number ∷ shown ∷ []) = do
   Some (Arrived (record { 0 = i }) q note)
 arrived_in names _ = None
 
+-- `found INC PEER SIGNAL REFERENCE`, read from the words behind its first one
 unfoldable pub found_in : Names → List (List ℕ) → Option Effect
 found_in names (inc ∷ peer ∷ number ∷ shown ∷ reference ∷ []) = do
   i ← halves_in inc
@@ -32,6 +33,7 @@ found_in names (inc ∷ peer ∷ number ∷ shown ∷ reference ∷ []) = do
   Some (Found (record { 0 = i }) q note hunt)
 found_in names _ = None
 
+-- `notified INC PEER SIGNAL REFERENCE REASON`, read from the words behind its first one
 unfoldable pub notified_in : Names → List (List ℕ) → Option Effect
 notified_in names (inc ∷ peer ∷ number ∷ shown ∷ reference ∷ reason ∷ []) = do
   i ← halves_in inc
@@ -42,6 +44,7 @@ notified_in names (inc ∷ peer ∷ number ∷ shown ∷ reference ∷ reason �
   Some (Notified (record { 0 = i }) q note (record { 0 = r }) why)
 notified_in names _ = None
 
+-- `met NODE PEER NAME`, read from the words behind its first one
 unfoldable pub met_in : Names → List (List ℕ) → Option Effect
 met_in names (node ∷ peer ∷ name ∷ []) = do
   n ← named_in names.nodes node
@@ -50,6 +53,7 @@ met_in names (node ∷ peer ∷ name ∷ []) = do
   Some (Met (record { 0 = n }) q called)
 met_in names _ = None
 
+-- `gone NODE PEER`, read from the words behind its first one
 unfoldable pub gone_in : Names → List (List ℕ) → Option Effect
 gone_in names (node ∷ peer ∷ []) = do
   n ← named_in names.nodes node
@@ -65,6 +69,7 @@ sessions_in (session ∷ other ∷ []) = do
   Some (record { 0 = own }, record { 0 = theirs })
 sessions_in _ = None
 
+-- `up NODE LINK SESSION OTHER`, read from the words behind its first one
 unfoldable pub up_in : Names → List (List ℕ) → Option Effect
 up_in names (node ∷ link ∷ words) = do
   n ← named_in names.nodes node
@@ -73,6 +78,7 @@ up_in names (node ∷ link ∷ words) = do
   Some (Up (record { 0 = n }) (record { 0 = l }) both.0 both.1)
 up_in names _ = None
 
+-- `down NODE LINK SESSION`, read from the words behind its first one
 unfoldable pub down_in : Names → List (List ℕ) → Option Effect
 down_in names (node ∷ link ∷ session ∷ []) = do
   n ← named_in names.nodes node

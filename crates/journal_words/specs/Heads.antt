@@ -14,7 +14,7 @@ use Rattle.journal_words.specs.Peers.{peer_in, path_in, position_in, reference_i
 use Rattle.journal_words.specs.Filter.{filter_in}
 use Rattle.journal_words.specs.Answers.{side_in, verdict_in, sent_in, detached_in, refusal_in}
 
--- `send PEER SIGNAL ANSWER`, behind its first word; and so each of these
+-- `send PEER SIGNAL ANSWER`, read from the words behind its first one
 unfoldable pub send_in : Names → List (List ℕ) → Option Head
 send_in names (peer ∷ number ∷ shown ∷ answer ∷ []) = do
   q ← peer_in names peer
@@ -23,6 +23,7 @@ send_in names (peer ∷ number ∷ shown ∷ answer ∷ []) = do
   Some (Send q note sent)
 send_in names _ = None
 
+-- `attach PEER SIGNAL`, read from the words behind its first one
 unfoldable pub attach_in : Names → List (List ℕ) → Option Head
 attach_in names (peer ∷ number ∷ shown ∷ []) = do
   q ← peer_in names peer
@@ -30,6 +31,7 @@ attach_in names (peer ∷ number ∷ shown ∷ []) = do
   Some (Attach q note)
 attach_in names _ = None
 
+-- `hunt PATH SIGNAL`, read from the words behind its first one
 unfoldable pub hunt_in : Names → List (List ℕ) → Option Head
 hunt_in names (path ∷ number ∷ shown ∷ []) = do
   p ← path_in names path
@@ -37,6 +39,7 @@ hunt_in names (path ∷ number ∷ shown ∷ []) = do
   Some (Hunt p note)
 hunt_in names _ = None
 
+-- `take FILTER POSITION`, read from the words behind its first one
 unfoldable pub take_in : List (List ℕ) → Option Head
 take_in (filter ∷ position ∷ []) = do
   f ← filter_in filter
@@ -44,6 +47,7 @@ take_in (filter ∷ position ∷ []) = do
   Some (Take f at)
 take_in _ = None
 
+-- `detach REFERENCE ANSWER`, read from the words behind its first one
 unfoldable pub detach_in : List (List ℕ) → Option Head
 detach_in (reference ∷ answer ∷ []) = do
   r ← reference_in reference
@@ -51,6 +55,7 @@ detach_in (reference ∷ answer ∷ []) = do
   Some (Detach (record { 0 = r }) detached)
 detach_in _ = None
 
+-- `wire LINK DIRECTION VERDICT`, read from the words behind its first one
 unfoldable pub wire_in : Names → List (List ℕ) → Option Head
 wire_in names (link ∷ side ∷ verdict ∷ []) = do
   l ← named_in names.links link
@@ -59,6 +64,7 @@ wire_in names (link ∷ side ∷ verdict ∷ []) = do
   Some (Wire (record { 0 = l }) from v)
 wire_in names _ = None
 
+-- `tick LINK DIRECTION`, read from the words behind its first one
 unfoldable pub tick_in : Names → List (List ℕ) → Option Head
 tick_in names (link ∷ side ∷ []) = do
   l ← named_in names.links link

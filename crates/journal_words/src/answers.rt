@@ -8,6 +8,7 @@ use journal::{Detached, Refusal, SentTo};
 use linx_base::{Inc, Reason, Side, Verdict};
 use text_words::{ReadError, is_text};
 
+/// `>` or `<`: the side from which a packet goes.
 #[tactic(auto, unfolding(crate::specs::Answers::side_in))]
 pub(crate) fn side_of(word: &[u8]) -> Result<Side, ReadError>
     ensures { Gives (λ s. s) result (side_in word.now) }
@@ -32,6 +33,7 @@ fn swap_of(word: &[u8]) -> Result<Verdict, ReadError>
     }
 }
 
+/// `deliver`, `lose`, `repeat`, or `swap` and a digit from 1 to 9.
 #[tactic(auto, unfolding(crate::specs::Answers::verdict_in))]
 pub(crate) fn verdict_of(word: &[u8]) -> Result<Verdict, ReadError>
     ensures { Gives (λ v. v) result (verdict_in word.now) }
@@ -48,6 +50,7 @@ pub(crate) fn verdict_of(word: &[u8]) -> Result<Verdict, ReadError>
     swap_of(word)
 }
 
+/// `closed`, `lost` or `dead`.
 #[tactic(auto, unfolding(crate::specs::Answers::reason_in))]
 pub(crate) fn reason_of(word: &[u8]) -> Result<Reason, ReadError>
     ensures { Gives (λ r. r) result (reason_in word.now) }
@@ -64,6 +67,7 @@ pub(crate) fn reason_of(word: &[u8]) -> Result<Reason, ReadError>
     Err(ReadError::Bad)
 }
 
+/// `queued`, `link` or `dead`.
 #[tactic(auto, unfolding(crate::specs::Answers::sent_in))]
 pub(crate) fn sent_of(word: &[u8]) -> Result<SentTo, ReadError>
     ensures { Gives (λ s. s) result (sent_in word.now) }
@@ -80,6 +84,7 @@ pub(crate) fn sent_of(word: &[u8]) -> Result<SentTo, ReadError>
     Err(ReadError::Bad)
 }
 
+/// `pending`, `queued` or `none`.
 #[tactic(auto, unfolding(crate::specs::Answers::detached_in))]
 pub(crate) fn detached_of(word: &[u8]) -> Result<Detached, ReadError>
     ensures { Gives (λ d. d) result (detached_in word.now) }

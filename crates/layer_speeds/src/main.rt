@@ -35,6 +35,7 @@ enum Layer {
     Packets,
 }
 
+/// The layer that a word of the command line names.
 fn layer_of(word: &str) -> Option<Layer> {
     match word {
         "queue" => Some(Layer::Queue),
@@ -61,6 +62,7 @@ fn size_of(layer: Layer) -> u32 {
     }
 }
 
+/// Does the work of a layer, in this size, and tells what came of it.
 fn work<R: Threads + Wait + Sync + Clock + Print + Input>(
     rt: &R,
     alloc: Global,

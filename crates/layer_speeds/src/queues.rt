@@ -12,6 +12,7 @@ use std::alloc::Global;
 use std::io::Print;
 use std::time::Clock;
 
+/// An item of this signal number, of 8 data bytes, that came in this step.
 fn item(alloc: Global, number: u32, kind: Kind, step: u32) -> anyhow::Result<Item> {
     Ok(Item {
         signal: Signal::alloc(alloc, number, b"8 bytes.").context("signal")?,
@@ -71,6 +72,8 @@ fn taken(
     Ok(taken)
 }
 
+/// Takes so many rounds from a queue of so many items that wait, with so many signal numbers, by a
+/// filter for any number or for one.
 fn takes<R: Clock + Print>(
     rt: &R,
     alloc: Global,

@@ -65,12 +65,14 @@ impl Table {
         }
     }
 
+    /// How many addresses are live or closing.
     pub(crate) fn used(&self) -> u32
         ensures { result ≡ used_in self.now.is }
     {
         self.used
     }
 
+    /// What an address means; 0, and one that was never given, is free.
     pub(crate) fn meaning(&self, addr: u32) -> Meaning
         ensures { result ≡ meaning_of self.now.is addr }
     {

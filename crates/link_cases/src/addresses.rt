@@ -78,11 +78,13 @@ fn changes(addresses: &mut Addresses, word: &str) -> Result<(), Fail> {
     Ok(())
 }
 
+/// A call that changes the addresses, and how many are in use then.
 fn used_text(alloc: Global, addresses: &mut Addresses, call: &str) -> Result<String, Fail> {
     changes(addresses, call)?;
     number_text(alloc, u64::from(addresses.used()))
 }
 
+/// A call about an incarnation, as `publish 1.2`, and the address that it answers.
 fn call_text(alloc: Global, addresses: &mut Addresses, call: &str) -> Result<String, Fail> {
     let (word, inc) = front(call);
     let addr = addr_of(addresses, word, inc_of(inc)?)?;
@@ -100,6 +102,7 @@ fn by_addr(alloc: Global, addresses: &mut Addresses, call: &str) -> Result<Strin
     }
 }
 
+/// What a call, by its words, answers.
 fn answer(alloc: Global, addresses: &mut Addresses, call: &str) -> Result<String, Fail> {
     if call.contains('.') {
         return call_text(alloc, addresses, call);

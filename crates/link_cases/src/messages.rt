@@ -25,6 +25,7 @@ fn message_text(alloc: Global, message: &Rlnh) -> Result<String, Fail> {
     }
 }
 
+/// Whether these bytes spell no message.
 fn is_bad(alloc: Global, bytes: &[u8]) -> bool {
     matches!(read(alloc, bytes), Err(RlnhError::Bad))
 }

@@ -91,6 +91,7 @@ impl Reader {
         meaning(alloc, changed(alloc, &self.last, place.parse()?, &others)?)
     }
 
+    /// What the bytes that these words spell are read as. A change may be made of them next.
     fn read(&mut self, alloc: Global, words: &str) -> Result<String, Fail> {
         self.last = bytes_of(alloc, words)?;
         meaning(alloc, bytes_of(alloc, words)?)
@@ -104,6 +105,7 @@ fn new_reader(alloc: Global) -> Reader {
     }
 }
 
+/// What bytes are read as: these, or behind `at ` the last ones with a byte changed.
 fn answer(alloc: Global, reader: &mut Reader, call: &str) -> Result<String, Fail> {
     match call.strip_prefix("at ") {
         None => reader.read(alloc, call),

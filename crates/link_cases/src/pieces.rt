@@ -66,6 +66,7 @@ fn whole_text(alloc: Global, whole: &Message, body: &[u8]) -> Result<String, Fai
     text_of(alloc, "whole")
 }
 
+/// What a joiner answers: `more`, `broken`, or whether the whole message has this body.
 fn joined_text(alloc: Global, joined: &Joined, body: &[u8]) -> Result<String, Fail> {
     match joined {
         Joined::More => text_of(alloc, "more"),
@@ -101,11 +102,13 @@ impl Cutting {
         Ok(text)
     }
 
+    /// The pieces from a place on, so many, as `0 3`, are added.
     fn add_words(&mut self, alloc: Global, places: &str) -> Result<String, Fail> {
         let (from, count) = front(places);
         self.add(alloc, from.parse()?, count.parse()?)
     }
 
+    /// The joiner is cleared, or its event stays or is undone.
     fn ends_event(&mut self, word: &str) -> Result<(), Fail> {
         match word {
             "clear" => self.joiner.clear(),
@@ -138,6 +141,7 @@ fn new_cutting(alloc: Global) -> Cutting {
     }
 }
 
+/// What a call, by its words, answers.
 fn answer(alloc: Global, cutting: &mut Cutting, call: &str) -> Result<String, Fail> {
     let (word, rest) = front(call);
     match word {

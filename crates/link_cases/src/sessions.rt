@@ -81,6 +81,7 @@ fn changes(talk: &mut Talk, word: &str) -> Result<bool, Fail> {
     Ok(true)
 }
 
+/// What a call, by its words, answers.
 fn answer(alloc: Global, talk: &mut Talk, call: &str) -> Result<String, Fail> {
     if changes(talk, call)? {
         return state_text(alloc, talk);

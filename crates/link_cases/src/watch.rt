@@ -12,6 +12,7 @@ fn tick_text(alloc: Global, watch: &mut Watch) -> Result<String, Fail> {
     }
 }
 
+/// What a call, by its words, answers: a tick, a packet that was heard, or the end of an event.
 fn answer(alloc: Global, watch: &mut Watch, call: &str) -> Result<String, Fail> {
     match call {
         "tick" => return tick_text(alloc, watch),

@@ -44,6 +44,7 @@ fn sent_text(alloc: Global, sent: &SentFrames) -> Result<String, Fail> {
     Ok(text)
 }
 
+/// A frame for each of these numbers, as `1 2 3`.
 fn frames(alloc: Global, numbers: &str) -> Result<Frames, Fail> {
     let mut frames = Frames::new(alloc);
     for number in numbers.split_whitespace() {
@@ -68,11 +69,13 @@ fn resend(tx: &Tx, words: &str) -> Result<SentFrames, Fail> {
     Ok(tx.resend(next.parse()?, count.parse()?)?)
 }
 
+/// A frame for each of these numbers is offered.
 fn offer_words(alloc: Global, tx: &mut Tx, numbers: &str) -> Result<SentFrames, Fail> {
     let frames = frames(alloc, numbers)?;
     offer(tx, frames)
 }
 
+/// All frames below this number are acknowledged.
 fn acked(tx: &mut Tx, next: &str) -> Result<SentFrames, Fail> {
     Ok(tx.acked(next.parse()?)?)
 }
@@ -92,12 +95,14 @@ fn sent_by(alloc: Global, tx: &mut Tx, word: &str, rest: &str) -> Result<SentFra
     }
 }
 
+/// A call by which frames are sent, and which these are.
 fn sends(alloc: Global, tx: &mut Tx, call: &str) -> Result<String, Fail> {
     let (word, rest) = front(call);
     let sent = sent_by(alloc, tx, word, rest)?;
     sent_text(alloc, &sent)
 }
 
+/// What a call at a sender, by its words, answers.
 fn tx_answer(alloc: Global, tx: &mut Tx, call: &str) -> Result<String, Fail> {
     match call {
         "begin" => tx.begin(),
@@ -149,6 +154,7 @@ fn next_text(alloc: Global, rx: &mut Rx) -> Result<String, Fail> {
     text_of(alloc, "taken")
 }
 
+/// What a call at a receiver, by its words, answers.
 fn rx_answer(alloc: Global, rx: &mut Rx, call: &str) -> Result<String, Fail> {
     match call {
         "begin" => rx.begin(),

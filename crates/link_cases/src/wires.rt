@@ -36,10 +36,12 @@ fn swap(wire: &mut Wire<Blob>, place: usize, other: usize) -> Result<(), Fail> {
     Ok(())
 }
 
+/// The packet at this place, from 0, is lost.
 fn lose_word(wire: &mut Wire<Blob>, place: &str) -> Result<(), Fail> {
     lose(wire, place.parse()?)
 }
 
+/// The packets at two places, as `0 2`, are exchanged.
 fn swap_words(wire: &mut Wire<Blob>, places: &str) -> Result<(), Fail> {
     let (place, other) = front(places);
     swap(wire, place.parse()?, other.parse()?)
@@ -54,6 +56,7 @@ fn flying(alloc: Global, wire: &Wire<Blob>) -> Result<String, Fail> {
     Ok(text)
 }
 
+/// The event of a wire stays, or is undone.
 fn ends_event(wire: &mut Wire<Blob>, word: &str) -> Result<(), Fail> {
     match word {
         "keep" => wire.keep(),
@@ -63,6 +66,7 @@ fn ends_event(wire: &mut Wire<Blob>, word: &str) -> Result<(), Fail> {
     Ok(())
 }
 
+/// A call by its first word, on what stands behind it.
 fn call(alloc: Global, wire: &mut Wire<Blob>, word: &str, rest: &str) -> Result<(), Fail> {
     match word {
         "put" => put(alloc, wire, rest),
@@ -72,6 +76,7 @@ fn call(alloc: Global, wire: &mut Wire<Blob>, word: &str, rest: &str) -> Result<
     }
 }
 
+/// A call, and what is in flight after it.
 fn answer(alloc: Global, wire: &mut Wire<Blob>, line: &str) -> Result<String, Fail> {
     let (word, rest) = front(line);
     call(alloc, wire, word, rest)?;

@@ -33,7 +33,7 @@ pub data Brought : Type 0 where
   meets : Session → Inc → List ℕ → Brought
   parts : Session → Inc → Brought
 
--- its effects at node n, in order
+-- the effects at node n of what a packet brings, in order
 abbrev pub brought_at : List Step → ℕ → LinkNo → Brought → List Effect
 brought_at P n l nothing = []
 brought_at P n l (goes_up x y) = Up (record { 0 = n }) l x y ∷ []
@@ -47,12 +47,12 @@ brought_at P n l (parts x a) = parting (record { 0 = n }) (There l x a) (owed P 
 abbrev pub was_opened : List Step → ℕ → Inc → Bool
 was_opened P node i = is_on node i && list_any (same_inc i) (openings P)
 
--- the node has met the peer, alive or not
+-- the effect is that the node meets this peer
 abbrev pub meets_peer : ℕ → Peer → Effect → Bool
 meets_peer node q (Met n p name) = n.0 == node && same_peer q p
 meets_peer node q _ = false
 
--- one of the effects so far is that meeting
+-- the node has met this peer, alive or not
 abbrev pub was_met : List Step → ℕ → Peer → Bool
 was_met P node q = list_any (meets_peer node q) (effects_of P)
 

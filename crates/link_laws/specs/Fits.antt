@@ -40,16 +40,16 @@ pub record FitsSide (P : List Step) (n : ℕ) (l : LinkNo) (A : SideRecord) : Ty
   pub sends : (x : Session) (b : Inc) → is_alive P n (There l x b) ≡ true → CanSend A x b
   pub says : (j : Inc) → is_alive P n (Here j) ≡ true → was_unpublished j A.now.said ≡ false
 
--- what its trunk may give next fits its node
+-- what the trunk of a side may give it next fits the side's node
 abbrev pub FitsNext : List Step → ℕ → LinkNo → SideRecord → SideRecord → Type 0
 FitsNext P n l A B = (g : Given) → IsTold A B g → FitsReceiver A g → FitsNode P n l A g
 
--- EVERY RUN GRANTS BOTH, on each side of each link
+-- what a node is given next fits it, and what it asks of its side fits that
 pub record FitsBoth (P : List Step) (n : ℕ) (l : LinkNo) (A B : SideRecord) : Type 0 where
   pub side : FitsSide P n l A
   pub node : FitsNext P n l A B
 
--- on each side of each link of a run within its bounds
+-- EVERY RUN within its bounds grants both, on each side of each link
 abbrev pub RunsFit : Type 0
 RunsFit = (shape : Shape) (P : List Step) (links : Links) → IsBoundedRun shape P links
     → (l : LinkNo) → IsLinkOf shape l → (side : Side)

@@ -31,7 +31,7 @@ abbrev pub down_if : ℕ → ℕ → Option Session → List Effect
 down_if node link None = []
 down_if node link (Some x) = Down (record { 0 = node }) (record { 0 = link }) x ∷ []
 
--- those of the first links, so many, by number
+-- the ends of the sessions of a node that are up, on the first so many links, by number
 abbrev pub downs_of : List Step → ℕ → ℕ → List Effect
 downs_of P node zero = []
 downs_of P node (suc k) = downs_of P node k ++ down_if node (suc k) (up_session P node (suc k))
@@ -78,12 +78,12 @@ pub record ArePacketEffects (P : List Step) (n m : ℕ) (l : LinkNo) (es : List 
   pub effects : es ≡ brought_at P n l what
   pub may : MayBring P n m l what
 
--- one that isn't handed over brings nothing
+-- a packet that is handed over keeps the law of packets, and one that isn't brings nothing
 abbrev pub IsHandedOver : Bool → List Step → (n m : ℕ) → LinkNo → List Effect → Type 0
 IsHandedOver true P n m l es = ArePacketEffects P n m l es
 IsHandedOver false P n m l es = es ≡ []
 
--- a packet that meets a verdict keeps it
+-- a packet that meets a verdict keeps the law of packets
 abbrev pub KeepsPackets : Shape → List Step → Head → List Effect → Type 0
 KeepsPackets shape P (Wire l from verdict) es =
     IsHandedOver (delivers verdict) P (node_at shape l (other_of from)) (node_at shape l from) l es
@@ -103,7 +103,7 @@ pub data IsTick (P : List Step) (n : ℕ) (l : LinkNo) (side : Side) (es : List 
     loses : (x : Session) → up_session P n l.0 ≡ Some x → 2 ≤ silent_ticks P n l.0 side
         → es ≡ losing (record { 0 = n }) l x (owed P n) → IsTick P n l side es
 
--- a tick keeps it
+-- a tick keeps the law of ticks
 abbrev pub KeepsTicks : Shape → List Step → Head → List Effect → Type 0
 KeepsTicks shape P (Tick l side) es = IsTick P (node_at shape l side) l side es
 KeepsTicks shape P _ es = Unit {0}

@@ -35,11 +35,11 @@ IsTrueOf P node (asked name) = Unit {0}
 IsTrueOf P node (signaled a b note) = Unit {0}
 IsTrueOf P node (unpublished i) = IsClosedOn P node i
 
--- all that it said is
+-- all that a side said in a session is true of its node
 abbrev pub SaysTruly : List Step → ℕ → SessionRecord → Type 0
 SaysTruly P node e = AllByRecursion (IsTrueOf P node) e.said
 
--- the session is this one
+-- a session is this one, if it is there
 abbrev pub is_session : Session → Option Session → Bool
 is_session x None = false
 is_session x (Some y) = x.0 == y.0
@@ -71,12 +71,12 @@ pub record IsTalking (A B : SideRecord) : Type 0 where
   pub said : A.now.said ≡ to_far ++ map heard_as B.now.given
   pub answered : B.now.said ≡ to_near ++ map heard_as A.now.given
 
--- this asks for the name
+-- what is said asks for this name
 abbrev pub asks : List ℕ → Said → Bool
 asks v (asked w) = bytes_eq v w
 asks v _ = false
 
--- this publishes an endpoint of the name
+-- what is said publishes an endpoint of this name
 abbrev pub offers : List ℕ → Said → Bool
 offers v (published i w) = bytes_eq v w
 offers v _ = false

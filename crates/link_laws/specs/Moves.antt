@@ -50,12 +50,12 @@ pub record IsLeft (before after : SideState) : Type 0 where
   pub noted : after.noted ≡ before.noted
   pub silent : after.silent ≤ before.silent
 
--- every side of every link is
+-- every side of every link is left
 abbrev pub AllLeft : Shape → Links → Links → Type 0
 AllLeft shape before after = (l : LinkNo) → IsLinkOf shape l → (side : Side)
     → IsLeft (before l.0 side) (after l.0 side)
 
--- the second side is the first
+-- a side of a link is this one
 abbrev pub is_side : LinkNo → Side → LinkNo → Side → Bool
 is_side l at h side = h.0 == l.0 && same_side at side
 
@@ -83,7 +83,7 @@ is_up A = is_some A.now.peer
 abbrev pub opening_side : Bool → Inc → List ℕ → SideRecord → SideRecord
 opening_side wanted i name A = saying (if wanted then published i name ∷ [] else []) A
 
--- that is where the side is up and has noted the name
+-- a name is wanted at a side that is up and has noted it
 abbrev pub is_wanted : List ℕ → SideState → Bool
 is_wanted name C = is_up C.side && list_any (bytes_eq name) C.noted
 
@@ -93,29 +93,29 @@ pub record PublishesOpened (i : Inc) (name : List ℕ) (before after : SideState
   pub noted : KeepsNotes name before after
   pub silent : after.silent ≤ before.silent
 
--- and of a side that is one of it or not
+-- what an opening makes of a side: on its node the endpoint is published where its name is wanted,
+-- and any other side is left
 abbrev pub OpensAt : Bool → Inc → List ℕ → SideState → SideState → Type 0
 OpensAt true i name before after = PublishesOpened i name before after
 OpensAt false i name before after = IsLeft before after
 
--- and of all sides, where it is on node n
+-- what an opening on node n makes of all sides of all links
 abbrev pub Opens : Shape → Links → Links → ℕ → Inc → List ℕ → Type 0
 Opens shape before after n i name = (l : LinkNo) → IsLinkOf shape l → (side : Side)
     → OpensAt (node_at shape l side == n) i name (before l.0 side) (after l.0 side)
 
--- A CLOSE on node n. On a side of node k, if that is the same, the endpoint is unpublished where it
--- is live
+-- A CLOSE. On a side of the node where the endpoint closes it is unpublished, if it is live
 abbrev pub closing_side : ℕ → ℕ → Inc → SideRecord → SideRecord
 closing_side n k j A =
     if k == n && is_live j A.now.said then saying (unpublished j ∷ []) A else A
 
--- what a close makes of a side
+-- what a close on node n makes of a side of node k
 pub record ClosesAt (n k : ℕ) (j : Inc) (before after : SideState) : Type 0 where
   pub side : after.side ≡ closing_side n k j before.side
   pub noted : after.noted ≡ before.noted
   pub silent : after.silent ≤ before.silent
 
--- and of all sides
+-- what a close on node n makes of all sides of all links
 abbrev pub Closes : Shape → Links → Links → ℕ → Inc → Type 0
 Closes shape before after n j = (l : LinkNo) → IsLinkOf shape l → (side : Side)
     → ClosesAt n (node_at shape l side) j (before l.0 side) (after l.0 side)
@@ -125,8 +125,8 @@ abbrev pub Ends : Shape → Links → Links → ℕ → Option Inc → Type 0
 Ends shape before after n None = AllLeft shape before after
 Ends shape before after n (Some j) = Closes shape before after n j
 
--- A SEND over a link. The side of the node says it, and publishes the sender first unless that one
--- is live; its name may be forgotten where it was noted
+-- A SEND over a link. The node's side says it, and publishes the sender first unless the sender is
+-- live; the sender's name may be forgotten where it was noted
 pub record SendsOver (shape : Shape) (P : List Step) (before after : Links) (n : ℕ) (j : Inc)
     (l : LinkNo) (b : Inc) (note : SigNote) : Type 0 where
   pub at : Side
@@ -138,7 +138,8 @@ pub record SendsOver (shape : Shape) (P : List Step) (before after : Links) (n :
   pub silent : (after l.0 at).silent ≤ (before l.0 at).silent
   pub others : OthersLeft shape before after l at
 
--- any other send leaves all sides
+-- what a send makes of the sides: one over a link is said by the node's side, any other leaves them
+-- all
 abbrev pub Sends : Shape → List Step → Links → Links → ℕ → Option Inc → Peer → SigNote → SentTo
     → Type 0
 Sends shape P before after n (Some j) (There l x b) note Link =
@@ -157,7 +158,8 @@ pub record AsksOver (shape : Shape) (before after : Links) (n : ℕ) (l : LinkNo
   pub silent : (after l.0 at).silent ≤ (before l.0 at).silent
   pub others : OthersLeft shape before after l at
 
--- any other hunt leaves all sides
+-- what a hunt makes of the sides: one over a link that finds nothing is asked by the node's side,
+-- any other leaves them all
 abbrev pub Hunts : Shape → Links → Links → ℕ → Path → Option Peer → Type 0
 Hunts shape before after n (Over l v) None = AsksOver shape before after n l v
 Hunts shape before after n path found = AllLeft shape before after
@@ -167,7 +169,8 @@ pub record Begins (x : Session) (before after : SideState) : Type 0 where
   pub side : after.side ≡ beginning x before.side
   pub silent : after.silent ≤ before.silent
 
--- where it is one of the node that restarts; else it is left
+-- what a restart makes of a side: one of the node that restarts begins this session, any other is
+-- left
 abbrev pub RestartsAt : Bool → Session → SideState → SideState → Type 0
 RestartsAt true x before after = Begins x before after
 RestartsAt false x before after = IsLeft before after
@@ -230,7 +233,7 @@ pub record PacketGives (P : List Step) (n : ℕ) (l : LinkNo) (before after far 
 abbrev pub IsAfter : Session → SessionRecord → Type 0
 IsAfter y e = IsNotAbove y e.peer
 
--- questions for names
+-- questions for these names, in order
 abbrev pub questions : List (List ℕ) → List Said
 questions names = map asked names
 
@@ -266,7 +269,8 @@ pub data Delivers (P : List Step) (n : ℕ) (l : LinkNo) (before after far : Sid
   brings_down : GoesDown P n l before after far es → Delivers P n l before after far es
   gives : PacketGives P n l before after far es → Delivers P n l before after far es
 
--- the other sides are left; a packet that isn't handed over does nothing
+-- a packet that is handed over brings something to one side and leaves the others; one that isn't
+-- does nothing
 abbrev pub HandsOver : Bool → Shape → List Step → Links → Links → LinkNo → Side → List Effect
     → Type 0
 HandsOver true shape P before after l from es =
@@ -291,20 +295,20 @@ pub record IsLost (P : List Step) (n : ℕ) (l : LinkNo) (before after : SideSta
   pub effects : es ≡ losing (record { 0 = n }) l before.side.now.session (owed P n)
   pub begins : Begins (next_session before.side.now.session) before after
 
--- or it stays, and was heard one tick longer ago at most
+-- a side stays at a tick, and was heard one tick longer ago at most
 pub record IsTicked (before after : SideState) (es : List Effect) : Type 0 where
   pub effects : es ≡ []
   pub side : after.side ≡ before.side
   pub noted : after.noted ≡ before.noted
   pub silent : after.silent ≤ suc before.silent
 
--- one of both
+-- what a tick makes of its side: it stays, or is lost
 pub data TicksAt (P : List Step) (n : ℕ) (l : LinkNo) (before after : SideState)
     (es : List Effect) : Type 0 where
   ticks_on : IsTicked before after es → TicksAt P n l before after es
   loses_it : IsLost P n l before after es → TicksAt P n l before after es
 
--- A TICK of a side
+-- A TICK of a side of a link leaves the others
 pub record TicksOver (shape : Shape) (P : List Step) (before after : Links) (l : LinkNo)
     (side : Side) (es : List Effect) : Type 0 where
   pub of_shape : IsLinkOf shape l
@@ -317,12 +321,12 @@ pub data IsResting (P : List Step) (l : LinkNo) (first second : SideState) : Typ
       → IsResting P l first second
   quiet : is_cut P l.0 ≡ false → IsQuiet first.side second.side → IsResting P l first second
 
--- all links do
+-- all links rest
 abbrev pub AllResting : Shape → List Step → Links → Type 0
 AllResting shape P links = (l : LinkNo) → IsLinkOf shape l
     → IsResting P l (links l.0 First) (links l.0 Second)
 
--- a receive finds none only there
+-- a receive finds none only where all links rest, and leaves all sides
 pub record FindsNone (shape : Shape) (P : List Step) (before after : Links) : Type 0 where
   pub resting : AllResting shape P before
   pub left : AllLeft shape before after

@@ -21,12 +21,13 @@ abbrev pub HasAllOf : List Step → Inc → Peer → Type 0
 HasAllOf P j (Here i) = arrived_from P j (Here i) ≡ sent_to P i (Here j)
 HasAllOf P j (There l x i) = GotAll P l x i j (paired_session P (node_of j) l.0 x)
 
--- an effect that notifies a close comes only where that holds
+-- an effect that notifies a close comes only where all that the peer sent has arrived
 abbrev pub IsToldWhole : List Step → Effect → Type 0
 IsToldWhole P (Notified j q note reference reasons.Closed) = HasAllOf P j q
 IsToldWhole P _ = Unit {0}
 
--- COMPLETE WHEN ITS CLOSE IS NOTIFIED: so in each step
+-- COMPLETE WHEN ITS CLOSE IS NOTIFIED: in each step all that a peer sent has arrived where its
+-- close is notified
 abbrev pub AllToldWhole : List Step → Type 0
 AllToldWhole [] = Unit {0}
 AllToldWhole (s ∷ P) = AllToldWhole P × AllByRecursion (IsToldWhole (s ∷ P)) s.effects
@@ -36,16 +37,16 @@ abbrev pub notifies_close : Inc → Peer → Effect → Bool
 notifies_close j q (Notified i p note reference reasons.Closed) = same_inc i j && same_peer p q
 notifies_close j q _ = false
 
--- it was notified so
+-- an endpoint was notified of the close of a peer
 abbrev pub was_told_closed : List Step → Inc → Peer → Bool
 was_told_closed P j q = list_any (notifies_close j q) (effects_of P)
 
--- what arrives is of nobody whose close was notified there
+-- what arrives is of no peer whose close was notified there
 abbrev pub IsOfUntold : List Step → Effect → Type 0
 IsOfUntold P (Arrived j q note) = was_told_closed P j q ≡ false
 IsOfUntold P _ = Unit {0}
 
--- AND NEVER FOLLOWED BY MORE: so in each step, after the steps before it
+-- AND NEVER FOLLOWED BY MORE: in no step anything arrives of a peer whose close was notified before
 abbrev pub NeverAfterTold : List Step → Type 0
 NeverAfterTold [] = Unit {0}
 NeverAfterTold (s ∷ P) = NeverAfterTold P × AllByRecursion (IsOfUntold P) s.effects

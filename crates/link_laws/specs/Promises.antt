@@ -33,7 +33,7 @@ GotFront P l x a b None = arrived_from P b (There l x a) ≡ []
 GotFront P l x a b (Some y) =
     IsFront (arrived_from P b (There l x a)) (sent_to P a (There l y b))
 
--- and it is all of it
+-- all that incarnation a sent to endpoint b, in the session that x is paired with, arrived there
 abbrev pub GotAll : List Step → LinkNo → Session → (a b : Inc) → Option Session → Type 0
 GotAll P l x a b None = ⊥
 GotAll P l x a b (Some y) = arrived_from P b (There l x a) ≡ sent_to P a (There l y b)
@@ -44,16 +44,16 @@ abbrev pub GotFrontOf : List Step → Inc → Peer → Type 0
 GotFrontOf P j (Here i) = arrived_from P j (Here i) ≡ sent_to P i (Here j)
 GotFrontOf P j (There l x i) = GotFront P l x i j (paired_session P (node_of j) l.0 x)
 
--- of all endpoints and all peers
+-- what arrived at any endpoint from any peer is the front of what that one sent it
 abbrev pub AllGotFronts : List Step → Type 0
 AllGotFronts P = (j : Inc) (q : Peer) → GotFrontOf P j q
 
--- a node parted from a peer
+-- the effect is that the node parts from this peer
 abbrev pub parts_peer : ℕ → Peer → Effect → Bool
 parts_peer node q (Gone n p) = n.0 == node && same_peer q p
 parts_peer node q _ = false
 
--- one of the effects so far is that parting
+-- one of the effects so far is that the node parted from this peer
 abbrev pub has_parted : List Step → ℕ → Peer → Bool
 has_parted P node q = list_any (parts_peer node q) (effects_of P)
 
@@ -68,7 +68,7 @@ pub record IsCarried (P : List Step) (n m : ℕ) (l : LinkNo) : Type 0 where
   pub over : (x : Session) (a : Inc) → has_parted P n (There l x a) ≡ true
       → is_alive P n (There l x a) ≡ false
 
--- of each side of each link
+-- what is promised of signals over a link holds of each side of each link
 abbrev pub AllCarried : Shape → List Step → Type 0
 AllCarried shape P = (l : LinkNo) → IsLinkOf shape l → (side : Side)
     → IsCarried P (node_at shape l side) (node_at shape l (other_of side)) l
@@ -78,7 +78,7 @@ pub record IsPairedBack (P : List Step) (n m : ℕ) (l : LinkNo) (x y : Session)
   pub pair : paired_session P n l.0 x ≡ Some y
   pub back : paired_session P m l.0 y ≡ Some x
 
--- the session has such a pair
+-- a session of node n has a pair, which is paired with it too
 abbrev pub HasPair : List Step → (n m : ℕ) → LinkNo → Session → Type 0
 HasPair P n m l x = (y : Session) × IsPairedBack P n m l x y
 
@@ -142,10 +142,11 @@ IsPublishedOpen P m l y (asked name) = Unit {0}
 IsPublishedOpen P m l y (signaled a b note) = Unit {0}
 IsPublishedOpen P m l y (unpublished i) = Unit {0}
 
--- all that was published in an entry
+-- all that was published in a session was open when it went up, or was opened later
 abbrev pub PublishesOpen : List Step → ℕ → LinkNo → SessionRecord → Type 0
 PublishesOpen P m l e = AllByRecursion (IsPublishedOpen P m l e.session) e.said
 
--- and in all entries of a side
+-- all that a side published, in any of its sessions, was open when that went up, or was opened
+-- later
 abbrev pub ArePublishedOpen : List Step → ℕ → LinkNo → SideRecord → Type 0
 ArePublishedOpen P m l B = AllByRecursion (PublishesOpen P m l) (all B)

@@ -34,11 +34,11 @@ use Rattle.link_laws.specs.Still.{IsStill}
 abbrev pub first_side : SideRecord
 first_side = new_side (first_session 1)
 
--- with no name noted, and heard just now
+-- a side before its first session went up, with no name noted, and heard just now
 abbrev pub first_state : SideState
 first_state = record { side = first_side; noted = []; silent = 0 }
 
--- all sides are
+-- all sides of all links are as before their first session went up
 abbrev pub AreFirst : Shape → Links → Type 0
 AreFirst shape links = (l : LinkNo) → IsLinkOf shape l → (side : Side)
     → IsLeft first_state (links l.0 side)
@@ -60,7 +60,7 @@ pub record IsSoundRun (shape : Shape) (P : List Step) (links : Links) : Type 0 w
   pub legal : IsLegal shape P
   pub linked : AreLinksKept shape P links
 
--- EVERY RUN IS
+-- EVERY RUN IS LEGAL, and its links are what its history tells
 abbrev pub RunsAreLegal : Type 0
 RunsAreLegal = (shape : Shape) (P : List Step) (links : Links) → IsBoundedRun shape P links
     → IsSoundRun shape P links
@@ -72,7 +72,7 @@ NothingVanishes P n m l A B = IsQuiet A B → (a b : Inc) → is_on m a ≡ true
     → is_alive P n (Here b) ≡ true
     → arrived_from P b (There l A.now.session a) ≡ sent_to P a (There l B.now.session b)
 
--- over each link, both ways
+-- nothing vanishes over any link, either way
 abbrev pub NothingVanishesThere : Shape → List Step → Links → Type 0
 NothingVanishesThere shape P links = (l : LinkNo) → IsLinkOf shape l → (side : Side)
     → NothingVanishes P (node_at shape l side) (node_at shape l (other_of side)) l
@@ -86,7 +86,7 @@ AllUnfound P = (n : ℕ) (l : LinkNo) (v : List ℕ) → is_hunted P n l v ≡ t
 abbrev pub is_hunted_here : List Step → ℕ → List ℕ → Bool
 is_hunted_here P n v = list_any (is_for (Local v)) (hunting P n)
 
--- such a name is that of no open endpoint of the node
+-- a name that a pending hunt looks for on its own node is that of no open endpoint there
 abbrev pub AllUnfoundHere : List Step → Type 0
 AllUnfoundHere P = (n : ℕ) (v : List ℕ) → is_hunted_here P n v ≡ true → HasNone P n v
 
@@ -95,11 +95,11 @@ pub record IsBetweenLiving (P : List Step) (n : ℕ) (a : PendingAttach) : Type 
   pub holder : is_alive P n (Here a.at) ≡ true
   pub peer : is_alive P n a.peer ≡ true
 
--- each one that is owed a notification is
+-- each attach that is owed a notification is between living
 abbrev pub AllBetweenLiving : List Step → Type 0
 AllBetweenLiving P = (n : ℕ) → AllByRecursion (IsBetweenLiving P n) (owed P n)
 
--- a link that rests is still
+-- a link that rests is still: nothing is under way on it
 abbrev pub RestsAreStill : Shape → List Step → Links → Type 0
 RestsAreStill shape P links = (l : LinkNo) → IsLinkOf shape l
     → IsResting P l (links l.0 First) (links l.0 Second) → IsStill shape P l
@@ -137,7 +137,7 @@ KeepsThroughout shape (s ∷ P) after =
     KeepsPromises shape (s ∷ P) after
     × ((before : Links) × (KeepsThroughout shape P before × IsMove shape P before s after))
 
--- EVERY RUN KEEPS IT
+-- EVERY RUN KEEPS ITS PROMISES, before its first step and after each one
 abbrev pub RunsKeepPromises : Type 0
 RunsKeepPromises = (shape : Shape) (P : List Step) (links : Links) → IsBoundedRun shape P links
     → KeepsThroughout shape P links

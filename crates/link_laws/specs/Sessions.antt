@@ -16,19 +16,21 @@ use Rattle.journal.specs.declared.effect.Step.{Step}
 use Rattle.journal.specs.declared.head.Head.{Head}
 use Rattle.journal.specs.declared.head.Head.TheVariants.{Cut, Mend, Restart, Tick}
 
--- PAIRS. The session of the other side that the Up of session x of a node names
+-- PAIRS. The session of the other side that session x of a node is paired with after an effect,
+-- which its Up names
 abbrev pub paired_after : ℕ → ℕ → Session → Option Session → Effect → Option Session
 paired_after node link x before (Up n l z y) =
     if n.0 == node && l.0 == link && z.0 == x.0 then Some y else before
 paired_after node link x before _ = before
 
--- none where it never went up
+-- the session of the other side that session x of a node is paired with; none where it never went
+-- up
 abbrev pub paired_session : List Step → ℕ → ℕ → Session → Option Session
 paired_session [] node link x = None
 paired_session (s ∷ P) node link x =
     fold (paired_after node link x) (paired_session P node link x) s.effects
 
--- THE OWN SESSION. The head restarts the node
+-- THE OWN SESSION. The head restarts this node
 abbrev pub restarts : ℕ → Head → Bool
 restarts node (Restart n) = n.0 == node
 restarts node _ = false
@@ -43,7 +45,7 @@ abbrev pub boots : List Step → ℕ → ℕ
 boots [] node = 0
 boots (s ∷ P) node = if restarts node s.head then suc (boots P node) else boots P node
 
--- how often its side of a link went down since the last restart
+-- how often a node's side of a link went down since the last restart
 abbrev pub downs : List Step → ℕ → ℕ → ℕ
 downs [] node link = 0
 downs (s ∷ P) node link =
@@ -70,7 +72,7 @@ tells_heard node link (Gone n (There l x i)) = n.0 == node && l.0 == link
 tells_heard node link (Arrived b (There l x i) note) = is_on node b && l.0 == link
 tells_heard node link _ = false
 
--- one side
+-- two sides of a link are one
 abbrev pub same_side : Side → Side → Bool
 same_side First First = true
 same_side First Second = false
@@ -90,13 +92,13 @@ silent_ticks (s ∷ P) node link side =
     else (if ticks link side s.head then suc (silent_ticks P node link side)
     else silent_ticks P node link side)
 
--- CUTS. A link is cut: of its cuts and mends the last is a cut
+-- CUTS. A link is cut after a head: of its cuts and mends the last is a cut
 abbrev pub cut_after : ℕ → Bool → Head → Bool
 cut_after link before (Cut l) = if l.0 == link then true else before
 cut_after link before (Mend l) = if l.0 == link then false else before
 cut_after link before _ = before
 
--- after all steps so far
+-- the link is cut after all steps so far
 abbrev pub is_cut : List Step → ℕ → Bool
 is_cut [] link = false
 is_cut (s ∷ P) link = cut_after link (is_cut P link) s.head

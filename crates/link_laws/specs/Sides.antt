@@ -37,7 +37,7 @@ pub record SideState : Type 0 where
 abbrev pub Links : Type 0
 Links = ℕ → Side → SideState
 
--- their records
+-- the records of the sides of all links
 abbrev pub records_of : Links → Trunks
 records_of links k at = (links k at).side
 

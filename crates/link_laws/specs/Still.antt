@@ -49,7 +49,7 @@ pub record IsStillHalf (P : List Step) (n m : ℕ) (l : LinkNo) (x y : Session) 
   pub peers_open : PeersOpen P n m l
   pub hunts_answered : HuntsAnswered P n m l
 
--- both directions of it
+-- both directions of a link are still
 pub record IsStillWhole (P : List Step) (n m : ℕ) (l : LinkNo) (x y : Session) : Type 0 where
   pub there : IsStillHalf P n m l x y
   pub back : IsStillHalf P m n l y x

@@ -38,16 +38,19 @@ pub record LinksSettle : Type 0 where
       (side : Side) (v : LinkState) → KeepsLink v → IsEmpty v → SettlesIn 0 side v
       → IsComplete v
 
--- AND IN SIX ROUNDS OR MORE, in each of which both sides tick once, whichever is the first
+-- A LINK SETTLES IN SIX ROUNDS OR MORE, in each of which both sides tick once, whichever is the
+-- first
 abbrev pub LinksSettleInRounds : Type 0
 LinksSettleInRounds = (n : ℕ) (v : LinkState) → 6 ≤ n → KeepsLink v → SettlesInRounds n v
 
--- the first packet from each of these sides comes, one after the other
+-- packets can come one after the other, the first one from each of these sides: each time one is in
+-- flight
 abbrev pub AreInFlight : LinkState → List Side → Type 0
 AreInFlight v [] = Unit {0}
 AreInFlight v (from ∷ sides) =
     (0 < length (flight_from from v)) × AreInFlight (delivered from 0 false v) sides
 
+-- the first packet from each of these sides comes, one after the other
 abbrev pub come_all : LinkState → List Side → LinkState
 come_all v [] = v
 come_all v (from ∷ sides) = come_all (delivered from 0 false v) sides

@@ -7,13 +7,13 @@ use Rattle.linx_base.specs.declared.identity.Side.{Side}
 use Rattle.ethcm_end.specs.States.{peer_of}
 use Rattle.carrier.specs.Events.{LinkState, delivered, half_of, is_quiet, offered_to, ticked_at}
 
--- nothing is lost or exchanged: the first packet from a side comes to the other one, or a message
--- is offered to a side
+-- something that may happen while nothing is lost or exchanged: the first packet from a side comes
+-- to the other one, or a message is offered to a side
 pub data Move : Type 0 where
   comes : Side → Move
   offers : Side → Message → Move
 
--- messages are offered to a side that is up
+-- a move may be made: a message is offered only to a side that is up
 abbrev pub MayBe : LinkState → Move → Type 0
 MayBe v (comes from) = Unit {0}
 MayBe v (offers side m) = IsSome (peer_of (half_of side v).end) × IsMessage m
@@ -23,11 +23,12 @@ abbrev pub moved : LinkState → Move → LinkState
 moved v (comes from) = delivered from 0 false v
 moved v (offers side m) = offered_to side m v
 
--- moves one after the other
+-- moves may be made, one after the other
 abbrev pub MayAllBe : LinkState → List Move → Type 0
 MayAllBe v [] = Unit {0}
 MayAllBe v (m ∷ ms) = MayBe v m × MayAllBe (moved v m) ms
 
+-- what moves make of a link, one after the other
 abbrev pub moved_all : LinkState → List Move → LinkState
 moved_all v [] = v
 moved_all v (m ∷ ms) = moved_all (moved v m) ms
@@ -50,9 +51,9 @@ SettlesIn zero side v = OnceEmpty v (λ w. is_quiet w ≡ true)
 SettlesIn (suc n) side v =
     OnceEmpty v (λ w. SettlesIn n (other_of side) (ticked_at side w))
 
--- IT SETTLES IN N ROUNDS, in each of which both sides tick once, whichever is the first this time:
--- once nothing is in flight a side may tick, then, once nothing is again, the other side may, and
--- so on; after n rounds, once nothing is in flight, the link is quiet
+-- A LINK SETTLES IN N ROUNDS, in each of which both sides tick once, whichever is the first this
+-- time: once nothing is in flight a side may tick, then, once nothing is again, the other side may,
+-- and so on; after n rounds, once nothing is in flight, the link is quiet
 unfoldable pub SettlesInRounds : ℕ → LinkState → Type 0
 SettlesInRounds zero v = OnceEmpty v (λ w. is_quiet w ≡ true)
 SettlesInRounds (suc n) v =

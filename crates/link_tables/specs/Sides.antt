@@ -28,7 +28,7 @@ pair_after node link before (Up n l x y) = if n.0 == node && l.0 == link then So
 pair_after node link before (Down n l x) = if n.0 == node && l.0 == link then None else before
 pair_after node link before _ = before
 
--- the same after effects, in order
+-- the pair of a side after some effects, in order
 abbrev pub pair_past : ℕ → ℕ → Option Session → List Effect → Option Session
 pair_past node link before [] = before
 pair_past node link before (e ∷ es) = pair_past node link (pair_after node link before e) es
@@ -59,7 +59,7 @@ side_left P node link side = record {
   silent = silent_ticks P node link side;
 }
 
--- after a step
+-- what is kept of a side after one step more
 abbrev pub side_past : ℕ → ℕ → Side → Step → SideSoFar → SideSoFar
 side_past node link side s old = record {
   earlier = if restarts node s.head then old.earlier ++ old.downs ∷ [] else old.earlier;
@@ -85,18 +85,21 @@ own_in t = session_of (1 + length t.earlier) (1 + t.downs)
 abbrev pub is_within : ℕ → ℕ → Bool
 is_within count downs = nat_lt 0 count && nat_le (count - 1) downs
 
--- the downs of a boot that is over, or of the present one, by its number from 1
+-- the downs of a boot that is over, or else those of the present boot, if it is that
 abbrev pub downs_or : Option ℕ → Bool → ℕ → Option ℕ
 downs_or (Some n) present downs = Some n
 downs_or None present downs = if present then Some downs else None
 
+-- how often a side went down in the boot of this number, from 1 on; nothing where there was none
 abbrev pub downs_at : List ℕ → ℕ → ℕ → Option ℕ
 downs_at earlier downs zero = None
 downs_at earlier downs (suc k) = downs_or (slice_get earlier k) (k == length earlier) downs
 
+-- how often a side went down in a boot, of those that it had
 abbrev pub downs_of_boot : SideSoFar → ℕ → Option ℕ
 downs_of_boot t boot = downs_at t.earlier t.downs boot
 
+-- there was this boot, and a session of this count in it
 abbrev pub within_downs : ℕ → Option ℕ → Bool
 within_downs count None = false
 within_downs count (Some downs) = is_within count downs

@@ -266,7 +266,8 @@ impl SideTable {
         }
     }
 
-    /// Passes a step, at its node and link.
+    /// Passes a step, as the side of this link sees it that is on this node. After a refusal the
+    /// table is thrown away.
     pub fn pass(
         &mut self,
         node: NodeNo,

@@ -35,7 +35,7 @@ use Rattle.linx_api.specs.Telling.{PlanParts, plan_of, steps_in, story_of}
 abbrev pub IsActors : PassView Step PlanParts → Type 0
 IsActors p = (0 < p.number) × (p.number ≤ length p.fixed.shape.actors)
 
--- none of its own steps is its end
+-- the actor of a pass has not ended, by the pass's own steps
 abbrev pub IsRunning : PassView Step PlanParts → Type 0
 IsRunning p = has_ended (steps_in (own_steps p)) p.number ≡ false
 
@@ -105,12 +105,13 @@ module _ (old new : Layout) (by : By) (ask : Ask) where
     pub hand : stop.hand ≡ ask.hand
     pub full : stop.cause ≡ JournalFull → is_full old.log.steps ≡ true
 
-  -- what the event gives there
+  -- what an event gives a maker: its step was made, or nothing is there yet, or no step could be
+  -- made
   abbrev pub Gives : Result StepAnswer StepStop → Type 0
   Gives (Ok answer) = MakesStep answer ⊎ FindsNothing answer
   Gives (Err stop) = IsStopped stop
 
-  -- and a full journal takes no step
+  -- WHAT A MAKER IS ANSWERED is what its event gives, and a full journal takes no step
   pub record IsAnswered (result : Result StepAnswer StepStop) : Type 0 where
     pub gives : Gives result
     pub full : is_full old.log.steps ≡ true

@@ -8,7 +8,7 @@ pub record Shared : Type 0 where
   pub run : Layout
   pub stop : Option StopCause
 
--- with another fabric
+-- what is shared, with another fabric in its place
 abbrev pub shared_with : Shared → Layout → Shared
 shared_with shared run = record shared { run = run }
 

@@ -14,11 +14,11 @@ pub record PlanParts : Type 0 where
   pub names : Names
   pub shape : Shape
 
--- that of a fabric
+-- what no step changes of a fabric
 abbrev pub plan_of : Layout → PlanParts
 plan_of f = record { names = f.log.names; shape = f.shape }
 
--- nothing is declared
+-- the plan of a fabric on which nothing is declared
 abbrev pub empty_plan : PlanParts
 empty_plan = record {
   names = record { nodes = []; links = [] };
@@ -39,7 +39,7 @@ numbered shape s = made (maker_number shape s.by) s
 abbrev pub made_steps : Shape → List Step → List (Made Step)
 made_steps shape P = map (numbered shape) P
 
--- that of a fabric
+-- the story of a fabric's steps, the newest step first
 abbrev pub story_of : Layout → List (Made Step)
 story_of f = made_steps f.shape f.log.steps
 

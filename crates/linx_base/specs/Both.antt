@@ -1,6 +1,7 @@
 -- A state with a way back: as it was when an event began, and as it is now.
 
--- a change moves what is alone; then either what is stays, or what was comes back
+-- what was when an event began, and what is now: a change moves the latter alone, and then it
+-- stays, or what was comes back
 pub record Both (X : Type 0) : Type 0 where
   pub was : X
   pub is : X

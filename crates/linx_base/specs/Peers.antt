@@ -7,22 +7,22 @@ use Rattle.linx_base.specs.declared.identity.Peer.TheVariants.{Here, There}
 use Rattle.linx_base.specs.declared.name.Path.{Path}
 use Rattle.linx_base.specs.declared.name.Path.TheVariants.{Local, Over}
 
--- one incarnation
+-- two incarnations are one
 abbrev pub same_inc : Inc → Inc → Bool
 same_inc a b = a.0 == b.0
 
--- one peer
+-- two peers are one
 abbrev pub same_peer : Peer → Peer → Bool
 same_peer (Here a) (Here b) = same_inc a b
 same_peer (Here a) (There l x b) = false
 same_peer (There l x a) (Here b) = false
 same_peer (There l x a) (There m y b) = l.0 == m.0 && x.0 == y.0 && same_inc a b
 
--- one position
+-- two positions are one
 abbrev pub same_position : ItemAt → ItemAt → Bool
 same_position p q = p.step == q.step && p.place == q.place
 
--- one path
+-- two paths are one
 abbrev pub same_path : Path → Path → Bool
 same_path (Local v) (Local w) = bytes_eq v w
 same_path (Local v) (Over m w) = false

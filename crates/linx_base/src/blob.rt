@@ -73,25 +73,29 @@ impl Blob {
         bytes.into_blob()
     }
 
+    /// The bytes, all of those that the blob shares.
     pub fn bytes(&self) -> &[u8]
         ensures { result.now ≡ self.now }
     {
         &self.buffer.as_slice()[self.from..self.to]
     }
 
+    /// How many bytes there are.
     pub fn len(&self) -> usize
         ensures { result ≡ length self.now }
     {
         self.to - self.from
     }
 
+    /// Whether there are no bytes.
     pub fn is_empty(&self) -> bool
         ensures { IsTrue result ↔ (length self.now ≡ 0) }
     {
         self.from == self.to
     }
 
-    /// The bytes from one place up to another, which are shared.
+    /// The bytes from place `from` on, which is 0 for the first, up to place `to`, which isn't
+    /// among them. They are shared.
     pub fn part(&self, from: usize, to: usize) -> Result<Blob, NoMemory>
         requires order { from ≤ to }
         requires within { to ≤ length self.now }

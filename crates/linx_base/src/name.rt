@@ -88,7 +88,8 @@ fn spells_name(bytes: &[u8]) -> bool
 }
 
 impl Name {
-    /// The name that these bytes spell.
+    /// The name that these bytes spell: 1 to 32 letters, digits, `_`, `-` and `.` of ASCII.
+    /// `BadName` comes exactly where they are no name.
     pub fn of(alloc: Global, bytes: &[u8]) -> Result<Name, NameError>
         ensures ok { IfOk result (λ name. (name ≡ bytes.now) × IsTrue (is_name bytes.now)) }
         ensures bad { is_name bytes.now ≡ false → result ≡ Err NameError.BadName }
@@ -102,6 +103,7 @@ impl Name {
         })
     }
 
+    /// The bytes of the name, 1 to 32 of them.
     pub fn bytes(&self) -> &[u8]
         ensures bytes { result.now ≡ self.now }
         ensures name { IsTrue (is_name self.now) }

@@ -119,7 +119,8 @@ impl Model for Signal {
 impl Signal {
     ghost use Rattle.linx_base.specs.Content.{data_limit, size_of, resized, with_reason};
 
-    /// A signal with this number and these data bytes, copied once.
+    /// A signal with this number and these data bytes, copied once. `TooLarge` comes exactly where
+    /// they are more than 65,532.
     pub fn alloc(alloc: Global, number: u32, bytes: &[u8]) -> Result<Signal, BufferError>
         ensures ok { IfOk result (λ signal. signal
             ≡ record { number = number; bytes = bytes.now }) }
@@ -144,8 +145,8 @@ impl Signal {
         Signal { number, bytes }
     }
 
-    /// Keeps the first n data bytes, and adds zeros where there are fewer. A refusal changes
-    /// nothing.
+    /// Keeps the first n data bytes, and adds zeros where there are fewer. `TooLarge` comes exactly
+    /// where n is above 65,532. A refusal changes nothing.
     pub fn resize(&mut self, n: usize) -> Result<(), BufferError>
         ensures ok { OnOk result (self.new ≡ record self.old { bytes = resized self.old.bytes n }) }
         ensures too_large { data_limit < n → result ≡ Err BufferError.TooLarge }
@@ -159,7 +160,8 @@ impl Signal {
         Ok(())
     }
 
-    /// A signal of the same number, with the byte of a reason behind the data.
+    /// A signal of the same number, with the byte of a reason behind the data, which are at most
+    /// 65,531 bytes before it.
     pub fn with_reason(&self, reason: Reason) -> Result<Signal, NoMemory>
         requires { length self.now.bytes < data_limit }
         ensures { IfOk result (λ told. told ≡ with_reason reason self.now) }
@@ -171,12 +173,14 @@ impl Signal {
         })
     }
 
+    /// The number of the signal, by which filters select it.
     pub fn number(&self) -> u32
         ensures { result ≡ self.now.number }
     {
         self.number
     }
 
+    /// The data bytes, at most 65,532 of them.
     pub fn bytes(&self) -> &[u8]
         ensures bytes { result.now ≡ self.now.bytes }
         ensures bounded { length self.now.bytes ≤ data_limit }

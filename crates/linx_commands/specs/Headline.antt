@@ -23,7 +23,7 @@ use Rattle.command_words.specs.declared.request.Asked.{Asked}
 use Rattle.command_words.specs.declared.request.Asked.TheVariants.{Run, InOrder, Gen}
 use Rattle.linx_commands.specs.Runs.{IsEmptyLog}
 
--- it holds before the first step, and after each one
+-- something holds of a journal before its first step, and after each one
 abbrev pub Throughout : (List Step → Type 0) → List Step → Type 0
 Throughout Holds [] = Holds []
 Throughout Holds (s ∷ P) = Throughout Holds P × Holds (s ∷ P)
@@ -43,7 +43,7 @@ IsReceived shape P by (Take filter position) =
 IsReceived shape P by (TakeNone filter) = FoundNone shape P by filter
 IsReceived shape P by _ = Unit {0}
 
--- each receive did, after the steps before it
+-- each receive of a journal took the earliest item that it could, or found none at rest
 abbrev pub AllReceived : Shape → List Step → Type 0
 AllReceived shape [] = Unit {0}
 AllReceived shape (s ∷ P) = AllReceived shape P × IsReceived shape P s.by s.head
@@ -61,7 +61,7 @@ pub record Headline (script : ScriptParts) (P : List Step) : Type 0 where
   -- each actor's steps are those of its script
   pub follows : AllFollow script P
 
--- it holds of the journal of a script, which the source's bytes spell, where it told them
+-- the headline holds of the journal of the script that the source's bytes spell, where it told them
 pub record HeadlineOfSource (told : Option (List ℕ)) (log : Log) : Type 0 where
   pub ordered : OrderedParts
   pub spelled : IfSome told (λ bytes. ordered_of bytes ≡ Ok ordered)

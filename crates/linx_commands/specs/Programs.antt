@@ -47,22 +47,22 @@ abbrev pub IsToldUnread : Words → Status → Type 0
 IsToldUnread (given.Read words) status = Unit {0}
 IsToldUnread (given.Unread reason) status = status ≡ status_of_unread reason
 
--- if a page of the help is asked for, this holds of it
+-- if the words ask for a page of the help, something holds of that page
 abbrev pub IfShow : Option Request → (Page → Type 0) → Type 0
 IfShow (Some (Show page)) holds = holds page
 IfShow _ holds = Unit {0}
 
--- if a run is asked for, this holds of it
+-- if the words ask for a run, something holds of that run
 abbrev pub IfPlay : Option Request → (Asked → Type 0) → Type 0
 IfPlay (Some (Play asked)) holds = holds asked
 IfPlay _ holds = Unit {0}
 
--- if an echo is asked for, this holds
+-- if the words ask for an echo, something holds
 abbrev pub IfEcho : Option Request → Type 0 → Type 0
 IfEcho (Some Echo) holds = holds
 IfEcho _ holds = Unit {0}
 
--- if a gateway is asked for, this holds of its clients
+-- if the words ask for a gateway, something holds of its number of clients
 abbrev pub IfServe : Option Request → (ℕ → Type 0) → Type 0
 IfServe (Some (Serve clients)) holds = holds clients
 IfServe _ holds = Unit {0}

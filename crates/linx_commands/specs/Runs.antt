@@ -68,7 +68,7 @@ abbrev pub seeded_order : OrderedParts → ℕ → Order
 seeded_order ordered seed =
     record { left = ordered.front; rule = rule_of (span_of ordered.script) seed }
 
--- rounds behind these makers
+-- the order of rounds behind these makers
 abbrev pub rounds_behind : List ℕ → Order
 rounds_behind front = record { left = front; rule = Rounds 0 }
 

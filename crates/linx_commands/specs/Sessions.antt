@@ -92,7 +92,7 @@ pub record IsGatewaySession {S K : Type 0} (clients : ℕ) (left : S → Option 
   pub faultless : is_faultless source → is_faultless rest
       × IfErr ended (λ stop. stop ≢ stops.ReadFault)
 
--- that, or memory was refused before the first read
+-- a session of a gateway ended so, or memory was refused before the first read
 abbrev pub IsGatewayOf : {S K : Type 0} → ℕ → (S → Option (List ℕ)) → (S → ℕ) → Option ℕ
     → (S → Type 0) → (K → Option (List ℕ)) → (K → ℕ) → Option ℕ → S → S → K → K → Status → Log
     → Type 0

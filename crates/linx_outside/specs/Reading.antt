@@ -13,12 +13,12 @@ abbrev pub IfGot : ReadAnswer → (ℕ → Type 0) → Type 0
 IfGot (Got count) holds = holds count
 IfGot Failed holds = Unit {0}
 
--- bytes were given
+-- a read gave bytes
 abbrev pub IsGot : ReadAnswer → Type 0
 IsGot (Got count) = Unit {0}
 IsGot Failed = ⊥
 
--- the read failed
+-- a read failed
 abbrev pub IsReadFailed : ReadAnswer → Type 0
 IsReadFailed (Got count) = ⊥
 IsReadFailed Failed = Unit {0}

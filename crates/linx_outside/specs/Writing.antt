@@ -19,7 +19,7 @@ abbrev pub IsTookAnd : WriteAnswer → (ℕ → Type 0) → Type 0
 IsTookAnd (Took count) holds = holds count
 IsTookAnd Failed holds = ⊥
 
--- the write failed
+-- a write failed
 abbrev pub IsWriteFailed : WriteAnswer → Type 0
 IsWriteFailed (Took count) = ⊥
 IsWriteFailed Failed = Unit {0}

@@ -20,6 +20,7 @@ impl Model for FaultPlan {
 }
 
 impl FaultPlan {
+    /// No call was made yet; those whose numbers, from 1, stand here are to fail.
     pub(crate) fn new(fails: Vec<u64>) -> FaultPlan
         ensures calls { result.calls ≡ 0 }
         ensures fails { result.fails ≡ fails.items }

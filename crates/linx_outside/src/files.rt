@@ -68,6 +68,7 @@ pub struct SystemFiles<'a, R> {
 }
 
 impl<'a, R> SystemFiles<'a, R> {
+    /// The files of this system.
     pub fn new(system: &'a R) -> SystemFiles<'a, R> {
         SystemFiles { system }
     }

@@ -9,7 +9,7 @@ use Rattle.lossy_wire.specs.declared.wire.Change.TheVariants.{Nothing, Lost, Exc
 abbrev pub HasOnlyGrown : {X : Type 0} → Both (List X) → Type 0
 HasOnlyGrown wire = take (length wire.was) wire.is ≡ wire.was
 
--- the packets after a change
+-- the packets in flight after one was lost, or two were exchanged
 abbrev pub changed : {X : Type 0} → Change → List X → List X
 changed Nothing packets = packets
 changed (Lost k) packets = remove packets k

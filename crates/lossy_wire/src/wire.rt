@@ -141,13 +141,14 @@ impl<P> Wire<P> {
         count(&self.packets, self.change)
     }
 
+    /// Whether no packet is in flight.
     pub fn is_empty(&self) -> bool
         ensures { result ≡ (length self.now.is == 0) }
     {
         count(&self.packets, self.change) == 0
     }
 
-    /// The packet at place k.
+    /// The packet at place k of those in flight, the oldest of which is at place 0.
     pub fn at(&self, k: usize) -> &P
         requires { k < length self.now.is }
         ensures { slice_get self.now.is k ≡ Some result.now }

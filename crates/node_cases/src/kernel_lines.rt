@@ -159,6 +159,7 @@ fn look_text(alloc: Global, kernel: &Kernel, call: &str, rest: &str) -> Result<S
     }
 }
 
+/// What a call answers: one that makes a step behind the step's number, as `3 open a`, or a look.
 pub fn answer(alloc: Global, kernel: &mut Kernel, call: &str) -> Result<String, Fail> {
     let (call, rest) = front(call);
     if let Ok(step) = call.parse::<u64>() {

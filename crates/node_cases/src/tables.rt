@@ -41,6 +41,7 @@ fn first(alloc: Global, table: &NameTable, rest: &str) -> Result<String, Fail> {
     }
 }
 
+/// What a call at a table of names, by its words, answers.
 fn names_answer(alloc: Global, table: &mut NameTable, call: &str) -> Result<String, Fail> {
     let (call, rest) = front(call);
     match call {
@@ -93,6 +94,7 @@ fn hunts_for(alloc: Global, table: &HuntTable, rest: &str) -> Result<String, Fai
     hunts_text(alloc, table.hunts_for(&path))
 }
 
+/// What a call at a table of hunts, by its words, answers.
 fn hunts_answer(alloc: Global, table: &mut HuntTable, call: &str) -> Result<String, Fail> {
     let (call, rest) = front(call);
     match call {
@@ -182,6 +184,7 @@ fn drop_within(table: &mut AttachTable, rest: &str) -> Result<(), Fail> {
     Ok(())
 }
 
+/// What a call at a table of attaches, by its words, answers.
 fn attaches_answer(alloc: Global, table: &mut AttachTable, call: &str) -> Result<String, Fail> {
     let (call, rest) = front(call);
     match call {

@@ -49,7 +49,7 @@ hand_of (heads.Hunt path note) = Some note
 hand_of (heads.Attach peer note) = Some note
 hand_of _ = None
 
--- what a head names
+-- what a head names: its event, and what was in hand
 abbrev pub named : Head → Ask
 named head = record { event = event_of head; hand = hand_of head }
 
@@ -63,12 +63,12 @@ is_pump_event _ = false
 abbrev pub is_pumped : Head → Bool
 is_pumped head = is_pump_event (event_of head)
 
--- the end of an actor
+-- the event is the end of an actor
 abbrev pub is_end_event : Event → Bool
 is_end_event asks.End = true
 is_end_event _ = false
 
--- nothing was found yet
+-- the head says that nothing was found yet
 abbrev pub is_waits : Head → Bool
 is_waits (heads.Waits filter) = true
 is_waits _ = false
@@ -126,7 +126,7 @@ items_by at (Some e) = items_from at e
 abbrev pub item_at : List Step → ItemAt → Item
 item_at P at = item_or_none at (items_by at (effect_at P at))
 
--- the answer to an opening
+-- the answer to an opening of this endpoint
 abbrev pub opened_as : Option Inc → StepAnswer
 opened_as (Some i) = answers.Opened i
 opened_as None = answers.Done

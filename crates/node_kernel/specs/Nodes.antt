@@ -73,7 +73,7 @@ with_items [] i items = []
 with_items (e ∷ es) i items = if is_at i e then (record e { items = items }) ∷ es else e
     ∷ with_items es i items
 
--- the endpoints without this incarnation
+-- the open endpoints without this incarnation
 abbrev pub without_endpoint : List OpenEndpoint → Inc → List OpenEndpoint
 without_endpoint endpoints i = without_match (is_at i) endpoints
 

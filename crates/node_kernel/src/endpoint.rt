@@ -34,6 +34,7 @@ fn drop_rest(queue: &mut Queue, attach: AttRef)
 }
 
 impl Endpoint {
+    /// An endpoint that was just opened: its queue is empty.
     pub(crate) fn new(alloc: Global, inc: Inc, name: Name) -> Endpoint
         ensures { result ≡ record { inc = inc; name = name; items = [] } }
     {
@@ -44,6 +45,7 @@ impl Endpoint {
         }
     }
 
+    /// Whether it is of this incarnation.
     pub(crate) fn is_at(&self, inc: Inc) -> bool
         ensures { result ≡ is_at inc self.now }
     {
@@ -85,18 +87,21 @@ impl Endpoint {
         self.queue.holds(filter)
     }
 
+    /// Its incarnation.
     pub(crate) fn inc(&self) -> Inc
         ensures { result ≡ self.now.inc }
     {
         self.inc
     }
 
+    /// Its name; its queue is freed.
     pub(crate) fn into_name(self) -> Name
         ensures { result ≡ self.name }
     {
         self.name
     }
 
+    /// The name that it was opened with.
     pub(crate) fn name(&self) -> &Name
         ensures { result.now ≡ self.now.name }
     {

@@ -84,6 +84,7 @@ impl Kernel {
         self.roster.endpoints().len()
     }
 
+    /// Whether this incarnation is open on the node.
     pub fn is_open(&self, inc: Inc) -> bool
         ensures { result ≡ is_open self.now.endpoints inc }
     {

@@ -96,18 +96,21 @@ impl Roster {
         *self.endpoints.allocator()
     }
 
+    /// The node.
     pub(crate) fn node(&self) -> NodeNo
         ensures { result ≡ self.now.node }
     {
         self.node
     }
 
+    /// How many endpoints were opened so far, closed or not.
     pub(crate) fn openings(&self) -> u32
         ensures { result ≡ self.now.openings }
     {
         self.openings
     }
 
+    /// Whether as many endpoints are open as may be: 4,096.
     pub(crate) fn is_full(&self) -> bool
         ensures { result ≡ (length self.now.endpoints == endpoint_limit) }
     {
@@ -129,6 +132,7 @@ impl Roster {
         &self.endpoints
     }
 
+    /// Whether this incarnation is open.
     pub(crate) fn has(&self, inc: Inc) -> bool
         ensures { result ≡ is_open self.now.endpoints inc }
     {

@@ -25,6 +25,8 @@ fn named(alloc: Global, rule: Rule, ready: &[u32], times: u32) -> Result<String,
     Ok(text)
 }
 
+/// A rule names these makers, one behind the other with spaces between, where these are ready so
+/// many times.
 fn is_named(
     alloc: Global,
     rule: Rule,

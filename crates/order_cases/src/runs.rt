@@ -43,6 +43,8 @@ fn run_in(alloc: Global, script: &str, front: &[u32], rule: Rule) -> Result<Stri
     makers_text(alloc, stage.journal())
 }
 
+/// The run of a script, behind a front and by a rule, has these makers, one behind the other with
+/// spaces between.
 fn is_run(
     alloc: Global,
     script: &str,

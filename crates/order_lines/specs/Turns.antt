@@ -39,7 +39,7 @@ maker_named makers word (letter ∷ digits) =
     then numbered word makers.actors makers.links (number_spelled digits)
     else Err (bad_shape word)
 
--- how often, by the number that is spelled
+-- how often a maker takes its turn, by the number that is spelled
 abbrev pub times_in : List ℕ → Option ℕ → Result ℕ Fault
 times_in word None = Err (bad_shape word)
 times_in word (Some n) = if is_within 1 turn_limit n then Ok n else Err (bad_shape word)
@@ -58,6 +58,6 @@ turns_of_parts makers word (Some parts) = do
 abbrev pub turns_spelled : Makers → List ℕ → Result Turns Fault
 turns_spelled makers word = turns_of_parts makers word (cut_at 42 word)
 
--- the same written out: the maker of each
+-- the turns that a word spells as the list of their makers: the maker as often as it comes
 abbrev pub written_out : Turns → List ℕ
 written_out turns = replicate turns.times turns.maker

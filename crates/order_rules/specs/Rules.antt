@@ -13,7 +13,7 @@ use Rattle.order_rules.specs.declared.rule.Rule.TheVariants as rules
 abbrev pub is_among : ℕ → List ℕ → Bool
 is_among m some = list_any (λ n. n == m) some
 
--- the first of these
+-- the first of these makers
 abbrev pub first_of : List ℕ → ℕ
 first_of some = slice_index_or some 0 0
 
@@ -24,7 +24,7 @@ abbrev pub behind : ℕ → ℕ → List ℕ → ℕ
 behind last first [] = first
 behind last first (m ∷ rest) = if nat_lt last m then m else behind last first rest
 
--- in a circle: the first one behind the last that took a turn, or else the first one
+-- whom rounds name: the first one behind the last that took a turn, or else the first one
 abbrev pub next_round : ℕ → List ℕ → ℕ
 next_round last some = behind last (first_of some) some
 
@@ -66,7 +66,7 @@ thrown_anew b some =
     then with_word b.words (thrown (below 16 b.dice).1 some)
     else record { dice = (below 16 b.dice).1; words = b.words }
 
--- one that a die throws, by their speeds
+-- whom bursts name: one that a die throws, by their speeds
 abbrev pub by_speeds : Bursts → List ℕ → ℕ × Bursts
 by_speeds b some = (
   with_place b.words (first_of some) (below (speeds b.words some) b.dice).0 some,
@@ -81,20 +81,20 @@ lowest_of ranks best [] = best
 lowest_of ranks best (m ∷ rest) =
     lowest_of ranks (if nat_lt (slice_index_or ranks m 0) (slice_index_or ranks best 0) then m else best) rest
 
--- the one of the lowest rank
+-- the one of the lowest rank of those that are ready
 abbrev pub lowest : List ℕ → List ℕ → ℕ
 lowest ranks some = lowest_of ranks (first_of some) some
 
--- at this turn the one of the lowest rank gets the highest one
+-- the ranks change at this turn
 abbrev pub is_change : Priorities → Bool
 is_change p = list_any (λ n. n == p.turn) p.changes
 
--- the ranks of such a turn
+-- the ranks at a turn: where they change the one of the lowest rank gets the highest one
 abbrev pub ranked : Priorities → List ℕ → List ℕ
 ranked p some =
     if is_change p then slice_set p.ranks (lowest p.ranks some) p.turn else p.ranks
 
--- the one of the lowest rank then
+-- whom priorities name: the one of the lowest rank, once the ranks have changed
 abbrev pub by_ranks : Priorities → List ℕ → ℕ × Priorities
 by_ranks p some = (
   lowest (ranked p some) some,

@@ -5,7 +5,7 @@ use Rattle.order_rules.specs.Dice.{below, words}
 use Rattle.order_rules.specs.declared.rule.Rule.{Rule}
 use Rattle.order_rules.specs.declared.rule.Rule.TheVariants as rules
 
--- speeds that a die throws
+-- the rule of bursts, with words and a die from which the speeds are thrown
 abbrev pub bursts : List ℕ × ℕ → Rule
 bursts it = rules.Bursts (record { dice = it.1; words = it.0 })
 
@@ -19,7 +19,8 @@ unfoldable pub changes : ℕ → ℕ → ℕ → List ℕ × ℕ
 changes span zero dice = (replicate 5 0, dice)
 changes span (suc n) dice = with_change span n (changes span n dice)
 
--- ranks that a die throws, and so many turns of the first so many at which they change
+-- the rule of priorities, with these ranks, and so many turns of the first so many at which they
+-- change
 abbrev pub priorities : ℕ → ℕ → List ℕ × ℕ → Rule
 priorities depth span it = rules.Priorities (record {
   ranks = it.0;

@@ -11,7 +11,7 @@ pub record IsReadyMaker (script : ScriptParts) (f : Layout) (m : ℕ) : Type 0 w
   pub within : m ≤ makers script
   pub is : is_ready script f m ≡ true
 
--- those of the first so many makers that are ready
+-- the makers that are ready, of the first so many
 abbrev pub ready_among : ScriptParts → Layout → ℕ → List ℕ
 ready_among script f zero = []
 ready_among script f (suc n) =

@@ -12,11 +12,12 @@ pub record Standing : Type 0 where
   pub order : Order
   pub run : Layout
 
--- the same of its parts
+-- where a run stands in an order: the makers that are left to come first, the rule behind them, and
+-- the run
 abbrev pub standing : List ℕ → Rule → Layout → Standing
 standing left rule run = record { order = record { left = left; rule = rule }; run = run }
 
--- who comes next there, and where the order stands then
+-- who comes next where a run stands in an order, and where the order stands then
 abbrev pub next_in : ScriptParts → Standing → Named
 next_in script s = named s.order.left s.order.rule (ready script s.run)
 
@@ -27,13 +28,13 @@ pub record IsNextTurn (script : ScriptParts) (old new : Standing) : Type 0 where
   pub turn : IsTurnOf script (next_in script old).maker old.run new.run
   pub order : new.order ≡ (next_in script old).order
 
--- so many turns
+-- so many turns, each of the maker whom the order names next
 abbrev pub AreNextTurns : ScriptParts → ℕ → Standing → Standing → Type 0
 AreNextTurns script zero start now = now ≡ start
 AreNextTurns script (suc n) start now =
     (before : Standing) × (AreNextTurns script n start before × IsNextTurn script before now)
 
--- before the first turn
+-- where a run in an order stands before its first turn
 abbrev pub first_standing : ScriptParts → Order → Standing
 first_standing script order = record { order = order; run = first_layout script }
 

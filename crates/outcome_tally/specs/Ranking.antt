@@ -12,7 +12,7 @@ place_for (before ∷ rest) o =
 abbrev pub with_ranked : List OutcomeParts → OutcomeParts → List OutcomeParts
 with_ranked ranked o = take 16 (insert ranked (place_for ranked o) o)
 
--- the same of these and of several
+-- the sixteen first of some outcomes and of further ones
 abbrev pub ranked_with : List OutcomeParts → List OutcomeParts → List OutcomeParts
 ranked_with ranked [] = ranked
 ranked_with ranked (o ∷ rest) = ranked_with (with_ranked ranked o) rest

@@ -4,7 +4,7 @@ use Rattle.run_outcomes.specs.declared.rare.Rares.{Rares}
 use Rattle.outcome_tally.specs.Times.{never, noted}
 use Rattle.outcome_tally.specs.declared.rare_times.RareTimes.{RareTimes}
 
--- none of them in any
+-- no rare thing came in any run
 abbrev pub no_rares : RareTimes
 no_rares = record {
   refused = never;
@@ -15,7 +15,7 @@ no_rares = record {
   down = never;
 }
 
--- with those of the run of a seed
+-- how often each rare thing came, with the run of one seed more
 abbrev pub with_rares : RareTimes → Rares → ℕ → RareTimes
 with_rares t rares seed = record {
   refused = noted t.refused rares.refused seed;

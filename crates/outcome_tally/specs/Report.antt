@@ -23,7 +23,7 @@ abbrev pub first_text : Option ℕ → List ℕ
 first_text None = []
 first_text (Some seed) = codes " seed " ++ decimal seed
 
--- in how many runs, and the first of them, to the end of the line
+-- the end of a line: in how many runs something came, and the seed of the first of them
 unfoldable pub times_text : Times → List ℕ
 times_text t = decimal t.runs ++ first_text t.first ++ codes "\n"
 
@@ -38,6 +38,8 @@ abbrev pub full_if_some : Times → Option ℕ → List ℕ
 full_if_some t None = []
 full_if_some t (Some seed) = times_line (codes "full") t
 
+-- the line that says of how many runs the journal was full before the end; none where it was of
+-- none
 abbrev pub full_text : Times → List ℕ
 full_text t = full_if_some t t.first
 
@@ -47,6 +49,8 @@ steps_text None = []
 steps_text (Some s) =
     codes "steps " ++ decimal s.least ++ codes " " ++ decimal s.most ++ codes "\n"
 
+-- the head of a report: how many runs there were, how many had a full journal, and how many steps
+-- the whole ones had
 unfoldable pub heads_text : ℕ → Times → Option Span → List ℕ
 heads_text runs full steps =
     count_line (codes "runs") runs ++ full_text full ++ steps_text steps
@@ -60,7 +64,7 @@ outcome_text actors rank first o =
     codes "outcome " ++ decimal rank ++ codes " " ++ times_text o.times
     ++ differences_text actors o.text first
 
--- the same of these, from this rank on
+-- the lines of these outcomes, from this rank on
 abbrev pub listed_text : ℕ → ℕ → List ℕ → List OutcomeParts → List ℕ
 listed_text actors rank first [] = []
 listed_text actors rank first (o ∷ rest) =
@@ -88,6 +92,7 @@ outcomes_text actors came =
 
 -- ---- the rare things
 
+-- the lines of the rare things, each with the runs that had it
 unfoldable pub rares_text : RareTimes → List ℕ
 rares_text t =
     times_line (word_of Refused) t.refused ++ times_line (word_of FoundNone) t.found_none

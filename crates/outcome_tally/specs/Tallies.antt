@@ -7,11 +7,11 @@ use Rattle.outcome_tally.specs.Spans.{spanned}
 use Rattle.outcome_tally.specs.TallyParts.{TallyParts}
 use Rattle.outcome_tally.specs.Times.{never, once_more}
 
--- of no run
+-- the tally of no run
 abbrev pub no_runs : TallyParts
 no_runs = record { runs = 0; full = never; steps = None; came = []; rares = no_rares }
 
--- with the run of a seed, whose journal was full before its end
+-- the tally with the run of one seed more, whose journal was full before its end
 abbrev pub with_full : TallyParts → ℕ → TallyParts
 with_full t seed = record {
   runs = t.runs + 1;
@@ -21,7 +21,7 @@ with_full t seed = record {
   rares = t.rares;
 }
 
--- with the whole run of a seed, of which this is seen
+-- the tally with the whole run of one seed more, of which this is seen
 abbrev pub with_seen : TallyParts → ℕ → SeenParts → TallyParts
 with_seen t seed seen = record {
   runs = t.runs + 1;
@@ -37,7 +37,7 @@ pub record Ran : Type 0 where
   pub seed : ℕ
   pub seen : Option SeenParts
 
--- with one run more
+-- the tally with the run of one seed more
 abbrev pub with_came : TallyParts → ℕ → Option SeenParts → TallyParts
 with_came t seed None = with_full t seed
 with_came t seed (Some seen) = with_seen t seed seen

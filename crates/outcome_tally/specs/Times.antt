@@ -2,14 +2,14 @@
 use Rattle.std.specs.Prelude.{ℕ, ◌+◌, Bool, None, Some, unwrap_or, if◌then◌else◌}
 use Rattle.outcome_tally.specs.declared.times.Times.{Times}
 
--- in no run
+-- nothing came, in no run
 abbrev pub never : Times
 never = record { runs = 0; first = None }
 
--- once more, in the run of this seed
+-- what came so often came once more, in the run of this seed
 abbrev pub once_more : Times → ℕ → Times
 once_more t seed = record { runs = t.runs + 1; first = Some (unwrap_or t.first seed) }
 
--- once more, if it came in the run of this seed
+-- what came so often came once more in the run of this seed, if it came there
 abbrev pub noted : Times → Bool → ℕ → Times
 noted t came seed = if came then once_more t seed else t

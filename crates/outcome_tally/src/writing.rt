@@ -8,6 +8,7 @@ use crate::times::Times;
 use itoa::Buffer;
 use linx_base::NoMemory;
 
+/// A text.
 pub(crate) fn write_text(out: &mut Vec<u8>, text: &str) -> Result<(), NoMemory>
     ensures { OnOk result (out.new.items ≡ out.old.items ++ text.now) }
 {
@@ -15,6 +16,7 @@ pub(crate) fn write_text(out: &mut Vec<u8>, text: &str) -> Result<(), NoMemory>
     Ok(())
 }
 
+/// A number in decimal digits.
 pub(crate) fn write_number(out: &mut Vec<u8>, number: u64) -> Result<(), NoMemory>
     ensures { OnOk result (out.new.items ≡ out.old.items ++ decimal number) }
 {

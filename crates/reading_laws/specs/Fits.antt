@@ -14,7 +14,7 @@ use Rattle.text_words.specs.Numbers.{half_limit, whole_limit}
 use Rattle.reading_laws.specs.Forms.{IsEffect, IsHead, IsLine, IsMaker, IsPath, IsPeer}
 use Rattle.reading_laws.specs.Images.{image_of_line}
 
--- a signal of a run
+-- a signal is such as a run has: its number and its data are within their bounds
 pub record FitsNote (note : SigNote) : Type 0 where
   pub number : note.number ≤ half_limit
   pub are_bytes : (i : ℕ) → get_or note.bytes i 0 < 256
@@ -28,7 +28,7 @@ FitsHead names (Attach peer note) = IsPeer names peer × FitsNote note
 FitsHead names (Refused reason) = Unit {0}
 FitsHead names head = IsHead names head
 
--- an effect of a run
+-- an effect is such as a run has: its numbers fit, and its signal too
 abbrev pub FitsEffect : Names → Effect → Type 0
 FitsEffect names (Arrived inc peer note) =
     (inc.0 ≤ whole_limit) × IsPeer names peer × FitsNote note
@@ -38,7 +38,7 @@ FitsEffect names (Notified inc peer note reference reason) =
     (inc.0 ≤ whole_limit) × IsPeer names peer × FitsNote note × (reference.0 ≤ whole_limit)
 FitsEffect names effect = IsEffect names effect
 
--- a line of a run
+-- a line is such as a run has: its numbers fit, and what it says too
 abbrev pub FitsLine : Names → Line → Type 0
 FitsLine names (Made position by head) =
     (position ≤ whole_limit) × IsMaker by × FitsHead names head

@@ -56,7 +56,7 @@ pub record IsShown (bytes : List ℕ) : Type 0 where
   pub short : length bytes ≤ data_limit
   pub filled : drop 32 bytes ≡ replicate (length bytes - 32) 255
 
--- a signal with such data
+-- a signal that its words show whole: its number fits, and its data are shown whole
 pub record IsNote (note : SigNote) : Type 0 where
   pub number : note.number ≤ half_limit
   pub bytes : IsShown note.bytes
@@ -77,11 +77,11 @@ abbrev pub IsMaker : By → Type 0
 IsMaker (Actor k) = k ≤ half_limit
 IsMaker (Pump link) = link.0 ≤ half_limit
 
--- numbers of 32 bits
+-- these are numbers of 32 bits
 abbrev pub AreNumbers : List ℕ → Type 0
 AreNumbers listed = (i : ℕ) → get_or listed i 0 ≤ half_limit
 
--- a filter of such numbers
+-- a filter lists numbers of 32 bits alone
 abbrev pub IsFilter : Sigsel → Type 0
 IsFilter Any = Unit {0}
 IsFilter (Only listed) = AreNumbers listed

@@ -39,11 +39,11 @@ step_adds Bytes s = head_adds Bytes s.head
 step_adds Taken s = head_adds Taken s.head
 step_adds FoundNone s = head_adds FoundNone s.head
 
--- a count over all steps
+-- what is counted, over all steps
 abbrev pub count_over : Counted → List Step → ℕ
 count_over counted steps = sum_by (step_adds counted) steps
 
--- the word of a count
+-- the word of a count in the summary
 abbrev pub word_of : Counted → List ℕ
 word_of (Effects happenings.Opened) = codes "endpoints"
 word_of Sent = codes "sent"
@@ -54,7 +54,7 @@ word_of (Effects happenings.Notified) = codes "notified"
 word_of Taken = codes "taken"
 word_of FoundNone = codes "none"
 
--- what is counted, in order
+-- what the summary counts, in the order of its lines
 abbrev pub all_counted : List Counted
 all_counted =
     Effects happenings.Opened ∷ Sent ∷ Bytes ∷ Effects happenings.Arrived

@@ -17,7 +17,7 @@ use Rattle.request_stream.specs.declared.front.Front.TheVariants.{More}
 abbrev pub stream_limit : ℕ
 stream_limit = 1073741824
 
--- the most that are read of it
+-- the most bytes that are read of a stream: one more than its requests may have
 abbrev pub read_limit : ℕ
 read_limit = 1073741825
 

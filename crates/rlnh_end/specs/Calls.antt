@@ -10,12 +10,12 @@ use Rattle.rlnh_end.specs.States.{RlnhTables, RlnhState, no_tables, addr_met, is
 use Rattle.rlnh_end.specs.States.{without_note}
 use Rattle.rlnh_end.specs.Words.{Word, hello, question, announce, tell, withdraw, message_of}
 
--- the tables afterwards, and what was said, in order
+-- the tables of an end after a call, and what it said, in order
 pub record Saying : Type 0 where
   pub tables : RlnhTables
   pub says : List Word
 
--- these tables, and these words said
+-- an end with these tables, which said these words
 abbrev pub end_saying : RlnhTables → List Word → Saying
 end_saying t words = record { tables = t; says = words }
 
@@ -24,7 +24,7 @@ abbrev pub with_words : List Message → List Word → List Message
 with_words out [] = out
 with_words out (word ∷ words) = with_words (out ++ message_of word ∷ []) words
 
--- an end afterwards
+-- an end after a call: its tables, and what was said behind what is still to go out
 abbrev pub after : RlnhState → Saying → RlnhState
 after s made = record { tables = made.tables; out = with_words s.out made.says }
 
@@ -32,7 +32,7 @@ after s made = record { tables = made.tables; out = with_words s.out made.says }
 abbrev pub begin_of : Saying
 begin_of = end_saying no_tables (hello ∷ [])
 
--- a name is asked for
+-- what an end makes of a question for a name, which it says
 abbrev pub query_of : RlnhTables → List ℕ → Saying
 query_of t name = end_saying t (question name ∷ [])
 
@@ -77,12 +77,13 @@ told _ sender _ receiver signal = []
 abbrev pub then_says : Saying → List Word → Saying
 then_says made words = end_saying made.tables (made.says ++ words)
 
+-- behind what an end said it tells a signal, by the addresses that its tables have now
 abbrev pub then_signals : Saying → Inc → Inc → SigNote → Saying
 then_signals made from to signal =
     then_says made
     (told (address_of made.tables.own from) from (addr_met made.tables.met to) to signal)
 
--- a signal is sent
+-- a signal is sent: its sender is published first where it isn't live, and then the signal goes
 abbrev pub send_of : RlnhTables → Inc → List ℕ → Inc → SigNote → Saying
 send_of t from name to signal =
     then_signals (publish_sender_of t from name (address_of t.own from)) from to signal

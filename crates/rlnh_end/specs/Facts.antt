@@ -44,6 +44,7 @@ is_sought (Name sought) (Noted name) = bytes_eq sought.now name
 
 -- ---- entries
 
+-- the fact of an entry is looked for
 abbrev pub is_sought_entry : Sought → Entry → Bool
 is_sought_entry sought e = is_sought sought e.fact
 
@@ -58,10 +59,13 @@ abbrev pub first_key : Fact → EntryKey
 first_key (Met m) = AddressKey m.addr
 first_key (Noted name) = NameKey name
 
+-- by what a peer that was met is found besides its address: its incarnation; a noted name has
+-- nothing else
 abbrev pub second_key : Fact → Option EntryKey
 second_key (Met m) = Some (IncKey m.inc)
 second_key (Noted name) = None
 
+-- all by what an entry is found: its number, and what its fact is found by
 abbrev pub keys_of : Entry → List EntryKey
 keys_of e = Number e.number ∷ first_key e.fact ∷ option_to_list (second_key e.fact)
 
@@ -86,7 +90,7 @@ AreNumbered next [] = ⊤
 AreNumbered next (e ∷ entries) =
     (e.number < next) × AllByRecursion (λ f. e.number < f.number) entries × AreNumbered next entries
 
--- the numbers are below another
+-- the numbers of entries are below another
 abbrev pub AreBelow : ℕ → List ℕ → Type 0
 AreBelow next numbers = AllByRecursion (λ n. n < next) numbers
 
@@ -101,11 +105,11 @@ pub record AreFacts (entries : List Entry) (before : Option (List Entry)) (come 
 
 -- ---- an end by its facts
 
--- its tables: the meanings of its addresses, and the peers and names among its facts
+-- the tables of an end: the meanings of its addresses, and the peers and names among its facts
 abbrev pub tables_of : List Meaning → List Fact → RlnhTables
 tables_of own facts = record { own = own; met = peers_in facts; noted = names_in facts }
 
--- with what is still to go out
+-- an end: its tables, and what is still to go out
 abbrev pub state_of : List Meaning → List Fact → List Message → RlnhState
 state_of own facts out = record { tables = tables_of own facts; out = out }
 

@@ -22,25 +22,26 @@ use Rattle.rlnh_end.specs.States.{RlnhTables, inc_met, addr_met, with_met, witho
 use Rattle.rlnh_end.specs.Words.{Word, hello_back, confirm}
 use Rattle.rlnh_end.specs.Calls.{Saying, end_saying}
 
--- a message with both addresses 0 is one of RLNH, and one with neither 0 is a signal
+-- a message with both addresses 0 is this message of RLNH
 pub record IsControl (m : Message) (message : Rlnh) : Type 0 where
   pub from : m.from ≡ 0
   pub to : m.to ≡ 0
   pub spelled : Spells message m.body
 
--- both addresses of a message are above 0, so it is for endpoints
+-- both addresses of a message are above 0, so it is a signal or nothing
 pub record HasAddresses (m : Message) : Type 0 where
   pub from : 0 < m.from
   pub to : 0 < m.to
 
+-- a message with both addresses above 0 is this signal, from the one to the other
 pub record IsSignalFrom (m : Message) (from to : ℕ) (note : SigNote) : Type 0 where
   pub addressed : HasAddresses m
   pub from_is : m.from ≡ from
   pub to_is : m.to ≡ to
   pub spelled : SpellsSignal note m.body
 
--- a message is neither: exactly one of its addresses is 0, or its body is that of no message of
--- RLNH, or of no signal
+-- a message is none of RLNH and no signal: exactly one of its addresses is 0, or its body is that
+-- of no message of RLNH, or of no signal
 pub data IsGarbage (m : Message) : Type 0 where
   from_alone : 0 < m.from → m.to ≡ 0 → IsGarbage m
   to_alone : m.from ≡ 0 → 0 < m.to → IsGarbage m
@@ -109,10 +110,11 @@ hears_control t (Publish addr inc name) = heard_publish t addr inc name
 hears_control t (Unpublish addr) = heard_unpublish t addr (inc_met t.met addr)
 hears_control t (UnpublishAck addr) = heard_ack t addr (meaning_of t.own addr)
 
+-- a signal comes from one address to another, by what the tables know of both
 abbrev pub hears_signal : RlnhTables → ℕ → ℕ → SigNote → Hearing
 hears_signal t from to note = heard_signal t note (inc_met t.met from) (meaning_of t.own to)
 
--- what was read comes
+-- what an end makes of what was read of a message
 unfoldable pub hears : RlnhTables → Heard → Hearing
 hears t (Control message) = hears_control t message
 hears t (Signal from to note) = hears_signal t from to note

@@ -14,6 +14,7 @@ pub record Reaction : Type 0 where
 abbrev pub gives : RlnhState → Up → Reaction
 gives s up = record { state = s; up = up }
 
+-- what an end has heard makes these tables of its own, is answered so, and is handed up so
 abbrev pub reacts : RlnhState → Hearing → Reaction
 reacts s heard = gives (after s heard.made) heard.up
 

@@ -104,10 +104,10 @@ pub record HearingRules (t : RlnhTables) : Type 0 where
   -- what is bad changes nothing, and nothing is said to it
   pub bad : (heard : Heard) → (hears t heard).up ≡ Bad → (hears t heard).made ≡ end_saying t []
 
--- an end follows the rules
+-- whatever its tables are, the calls of an end follow the rules
 abbrev pub CallsFollowRules : Type 0
 CallsFollowRules = (t : RlnhTables) → CallRules t
 
--- it hears by the rules
+-- whatever its tables are, an end hears by the rules
 abbrev pub HearingFollowsRules : Type 0
 HearingFollowsRules = (t : RlnhTables) → HearingRules t

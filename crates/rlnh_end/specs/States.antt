@@ -32,7 +32,7 @@ no_tables = record { own = []; met = []; noted = [] }
 abbrev pub new_end : RlnhState
 new_end = record { tables = no_tables; out = [] }
 
--- the tables are emptied
+-- an end whose tables are emptied; what is still to go out stays
 abbrev pub emptied : RlnhState → RlnhState
 emptied s = record s { tables = no_tables }
 

@@ -27,6 +27,7 @@ heard_with f w r = record f {
   end = r.made.tables;
 }
 
+-- a session whose end heard this word, and replied as its tables say
 abbrev pub heard_word : Talk → Word → Talk
 heard_word f w = heard_with f w (hears f.end (heard_of w))
 
@@ -44,7 +45,7 @@ Utters s said t (withdraw a i) = (meaning_of s.own a ≡ Live i)
     × (t.own ≡ with_meaning s.own a (Closing i)) × (t.met ≡ s.met)
 Utters s said t (confirm a) = ⊥
 
--- a session went on of its own accord: what held of it alone and with another still holds
+-- a session said more of its own accord: what held of it alone and with another session still holds
 pub record Grows (e g : Talk) : Type 0 where
   pub alone : Alone g
   pub pair : (f : Talk) → Pair e f → Pair g f

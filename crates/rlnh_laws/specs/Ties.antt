@@ -20,33 +20,36 @@ abbrev pub AreApart : List MetAt → Type 0
 AreApart [] = Unit {0}
 AreApart (m ∷ ms) = (inc_met ms m.addr ≡ None) × (addr_met ms m.inc ≡ None) × AreApart ms
 
--- what the owner of an address says of it
+-- what the owner of an address says of the address
 pub data About : Type 0 where
   announcing : Inc → About
   signaling : Inc → About
   withdrawing : Inc → About
 
--- what the other side says to it
+-- what the other side says to an address
 pub data Toward : Type 0 where
   signal_to : Inc → Toward
   confirming : Toward
 
+-- what a word of an address's owner says of the address, if anything
 abbrev pub about_by : ℕ → Word → List About
 about_by a (announce b i v) = if b == a then announcing i ∷ [] else []
 about_by a (tell b i c j note) = if b == a then signaling i ∷ [] else []
 about_by a (withdraw b i) = if b == a then withdrawing i ∷ [] else []
 about_by a _ = []
 
+-- what a word of the other side says to an address, if anything
 abbrev pub toward_by : ℕ → Word → List Toward
 toward_by a (tell b i c j note) = if c == a then signal_to j ∷ [] else []
 toward_by a (confirm b) = if b == a then confirming ∷ [] else []
 toward_by a _ = []
 
--- the words about an address, and those to it, in order
+-- what the words of an address's owner say of the address, in order
 abbrev pub about : ℕ → List Word → List About
 about a [] = []
 about a (w ∷ ws) = about_by a w ++ about a ws
 
+-- what the words of the other side say to an address, in order
 abbrev pub toward : ℕ → List Word → List Toward
 toward a [] = []
 toward a (w ∷ ws) = toward_by a w ++ toward a ws

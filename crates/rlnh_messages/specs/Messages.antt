@@ -42,12 +42,12 @@ FitsFields (Publish addr inc name) = (addr < 2 ^ 32) × (inc.0 < 2 ^ 64) × IsTr
 FitsFields (Unpublish addr) = addr < 2 ^ 32
 FitsFields (UnpublishAck addr) = addr < 2 ^ 32
 
--- a message
+-- a message of RLNH: no address of it is 0, its numbers fit their fields, and its name is a name
 pub record IsRlnh (message : Rlnh) : Type 0 where
   pub has_address : HasAddress message
   pub fits_fields : FitsFields message
 
--- the bytes are the message's
+-- the bytes are those of this message
 pub record Spells (message : Rlnh) (bytes : List ℕ) : Type 0 where
   pub is_message : IsRlnh message
   pub spelled : bytes ≡ spelling_of message

@@ -14,7 +14,7 @@ pub record IsSignal (signal : SigNote) : Type 0 where
   pub number_fits : signal.number < 2 ^ 32
   pub data_fit : length signal.bytes ≤ data_limit
 
--- the body is the signal's
+-- the body is the one by which this signal goes
 pub record SpellsSignal (signal : SigNote) (body : List ℕ) : Type 0 where
   pub is_signal : IsSignal signal
   pub spelled : body ≡ signal_body signal

@@ -37,6 +37,7 @@ fn used_text(alloc: Global, trunks: &RunTrunks, link: LinkNo, side: Side) -> Res
     number_text(alloc, u64::from(used))
 }
 
+/// A side asks for this name.
 fn ask_text(
     alloc: Global,
     trunks: &mut RunTrunks,
@@ -97,6 +98,7 @@ fn link_text(
     }
 }
 
+/// A node boots again, as `2 3` for node 2 with boot number 3.
 fn restart_text(alloc: Global, trunks: &mut RunTrunks, rest: &str) -> Result<String, Fail> {
     let (node, boot) = front(rest);
     restart(trunks, NodeNo(node.parse()?), boot.parse()?)?;

@@ -26,16 +26,17 @@ use Rattle.trunk_moves.specs.Trunks.{RunTrunks}
 abbrev pub numbers_given : HalfState → ℕ
 numbers_given h = h.end.tx.base + length h.end.tx.frames
 
--- the frames of the messages that were offered in its session
+-- the frames of the messages that were offered in the session of a side
 abbrev pub frames_offered : HalfState → List Frame
 frames_offered h = frames_of h.end.piece h.offered
 
--- it has given one number to each of them, and no more; and a message has at most 1,024 frames
+-- a side has given one number to each frame of the messages that were offered to it, and no more;
+-- and a message has at most 1,024 frames
 pub record NumbersFrames (h : HalfState) : Type 0 where
   pub each : numbers_given h ≡ length (frames_offered h)
   pub few : length (frames_offered h) ≤ length h.offered * 1024
 
--- AT EACH SIDE, whatever happened to the link
+-- EACH FRAME HAS ONE NUMBER, at each side, whatever happened to the link
 abbrev pub FramesAreNumbered : Type 0
 FramesAreNumbered = (side : Side) (v : LinkState) → KeepsLink v → NumbersFrames (half_of side v)
 

@@ -30,6 +30,7 @@ abbrev pub opener_text : Option Opener → List ℕ
 opener_text None = codes "?"
 opener_text (Some o) = codes "A" ++ decimal o.actor ++ codes "." ++ decimal o.nth
 
+-- an endpoint by who opened it, as the table of openers tells
 abbrev pub endpoint_text : List Opener → Inc → List ℕ
 endpoint_text table i = opener_text (find (λ o. o.inc.0 == i.0) table)
 

@@ -31,6 +31,7 @@ pub record Apart : Type 0 where
   pub one : Option (List ℕ)
   pub other : Option (List ℕ)
 
+-- where two lists of lines differ first, from this place on; nowhere where they are one
 abbrev pub apart_at : ℕ → List (List ℕ) → List (List ℕ) → Option Apart
 apart_at n [] [] = None
 apart_at n [] (y ∷ ys) = Some (record { place = n; one = None; other = Some y })
@@ -44,7 +45,7 @@ apart_at n (x ∷ xs) (y ∷ ys) =
 abbrev pub told_in : List ℕ → List ℕ → List ℕ
 told_in name line = drop (length name) (take (length line - 1) line)
 
--- the same; `-` where there is no line
+-- what a line tells, as a difference shows it; `-` where there is no line
 abbrev pub shown : List ℕ → Option (List ℕ) → List ℕ
 shown name None = codes "-"
 shown name (Some line) = told_in name line
@@ -55,7 +56,7 @@ apart_line name apart =
     codes "- " ++ name ++ decimal apart.place ++ codes " " ++ shown name apart.one ++ codes " / "
     ++ shown name apart.other ++ codes "\n"
 
--- the same, if there is one
+-- the line of a difference, if there is one
 abbrev pub apart_text : List ℕ → Option Apart → List ℕ
 apart_text name None = []
 apart_text name (Some apart) = apart_line name apart

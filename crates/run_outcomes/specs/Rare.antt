@@ -13,7 +13,7 @@ use Rattle.run_outcomes.specs.declared.rare.Rares.{Rares}
 use Rattle.run_outcomes.specs.declared.rare.Rare.TheVariants.{Refused, FoundNone, Dead, Closed}
 use Rattle.run_outcomes.specs.declared.rare.Rare.TheVariants.{Lost, Down}
 
--- its word
+-- the word of a rare thing in a report
 abbrev pub word_of : Rare → List ℕ
 word_of Refused = codes "refused"
 word_of FoundNone = codes "none"
@@ -22,14 +22,16 @@ word_of Closed = codes "closed"
 word_of Lost = codes "lost"
 word_of Down = codes "down"
 
--- a head says it: a refusal, a receive that found nothing, a send to the dead
+-- a head says that a rare thing happened: a refusal, a receive that found nothing, a send to the
+-- dead
 abbrev pub is_in_head : Rare → Head → Bool
 is_in_head Refused (heads.Refused reason) = true
 is_in_head FoundNone (heads.TakeNone filter) = true
 is_in_head Dead (heads.Send peer note sent.Dead) = true
 is_in_head _ _ = false
 
--- an effect says it: a notification for this reason, or a session that ended
+-- an effect says that a rare thing happened: a notification for this reason, or a session that
+-- ended
 abbrev pub is_in_effect : Rare → Effect → Bool
 is_in_effect Dead (effects.Notified i peer note reference reasons.Dead) = true
 is_in_effect Closed (effects.Notified i peer note reference reasons.Closed) = true
@@ -37,10 +39,11 @@ is_in_effect Lost (effects.Notified i peer note reference reasons.Lost) = true
 is_in_effect Down (effects.Down node link session) = true
 is_in_effect _ _ = false
 
+-- a step says that a rare thing happened, in its head or in one of its effects
 abbrev pub is_in_step : Rare → Step → Bool
 is_in_step rare s = is_in_head rare s.head || list_any (is_in_effect rare) s.effects
 
--- A RUN HAS IT: one of its steps says so
+-- A RUN HAS A RARE THING: one of its steps says so
 abbrev pub happens : Rare → List Step → Bool
 happens rare [] = false
 happens rare (s ∷ P) = is_in_step rare s || happens rare P
@@ -56,7 +59,7 @@ rares_of steps = record {
   down = happens Down steps;
 }
 
--- one of them is among these
+-- a rare thing is among these
 abbrev pub has : Rares → Rare → Bool
 has rares Refused = rares.refused
 has rares FoundNone = rares.found_none

@@ -18,6 +18,7 @@ const SPELLED_MOST: usize = 32;
 /// The digits of so many bytes.
 const SPELLED_DIGITS: usize = 64;
 
+/// A text.
 pub(crate) fn write_text(out: &mut Vec<u8>, text: &str) -> Result<(), NoMemory>
     ensures { OnOk result (out.new.items ≡ out.old.items ++ text.now) }
 {
@@ -25,6 +26,7 @@ pub(crate) fn write_text(out: &mut Vec<u8>, text: &str) -> Result<(), NoMemory>
     Ok(())
 }
 
+/// Any bytes.
 pub(crate) fn write_bytes(out: &mut Vec<u8>, bytes: &[u8]) -> Result<(), NoMemory>
     ensures { OnOk result (out.new.items ≡ out.old.items ++ bytes.now) }
 {
@@ -32,6 +34,7 @@ pub(crate) fn write_bytes(out: &mut Vec<u8>, bytes: &[u8]) -> Result<(), NoMemor
     Ok(())
 }
 
+/// A number in decimal digits.
 pub(crate) fn write_number(out: &mut Vec<u8>, number: u64) -> Result<(), NoMemory>
     ensures { OnOk result (out.new.items ≡ out.old.items ++ decimal number) }
 {
@@ -93,6 +96,7 @@ pub(crate) fn write_signal(out: &mut Vec<u8>, note: &SigNote) -> Result<(), NoMe
     write_data(out, note.data().bytes())
 }
 
+/// The word of the reason for which a peer is no more.
 pub(crate) fn reason_word(reason: Reason) -> &'static str
     ensures { result.now ≡ reason_text reason }
 {
@@ -103,6 +107,7 @@ pub(crate) fn reason_word(reason: Reason) -> &'static str
     }
 }
 
+/// The word of what became of a signal that was sent.
 pub(crate) fn sent_word(answer: SentTo) -> &'static str
     ensures { result.now ≡ sent_text answer }
 {
@@ -113,6 +118,7 @@ pub(crate) fn sent_word(answer: SentTo) -> &'static str
     }
 }
 
+/// The word of what a detach did.
 pub(crate) fn detached_word(answer: Detached) -> &'static str
     ensures { result.now ≡ detached_text answer }
 {
@@ -123,6 +129,7 @@ pub(crate) fn detached_word(answer: Detached) -> &'static str
     }
 }
 
+/// The word of a refusal.
 pub(crate) fn refusal_word(reason: Refusal) -> &'static str
     ensures { result.now ≡ refusal_text reason }
 {

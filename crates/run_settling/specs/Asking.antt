@@ -13,7 +13,7 @@ abbrev pub asks_body : List ℕ → ℕ
 asks_body [] = 0
 asks_body (type ∷ rest) = if type == 1 || (type == 3 || type == 5) then 1 else 0
 
--- and how many any message does: one of RLNH has no addresses
+-- how many answers a message asks for: one of RLNH by its body, a signal none
 abbrev pub asks : Message → ℕ
 asks m = if m.from == 0 then asks_body m.body else 0
 

@@ -11,7 +11,7 @@ use Rattle.run_trunks.specs.declared.call.SideCall.{SideCall}
 use Rattle.run_trunks.specs.declared.call.SideCall.TheVariants.{Asked, Closed, Opened, Published}
 use Rattle.run_trunks.specs.declared.call.SideCall.TheVariants.{Restarted, Sent}
 
--- what the side makes of the trunk
+-- what a call at a side makes of its trunk
 abbrev pub makes : SideCall → Side → TrunkState → TrunkState
 makes (Opened inc name) side t = opened_at side inc name.now t
 makes (Closed inc) side t = closed_at side inc t
@@ -24,8 +24,8 @@ makes (Sent from name to signal) side t = sent_at side from name.now to signal.n
 abbrev pub IsDown : Side → TrunkState → Type 0
 IsDown side t = peer_of (half_of side t.link).end ≡ None
 
--- what the call asks of the side: a boot is later than its own, and a name or a signal is one that
--- it may say
+-- what a call asks of its side: a boot is later than the side's own, and a name or a signal is one
+-- that the side may say
 abbrev pub MayCall : SideCall → Side → TrunkState → Type 0
 MayCall (Opened inc name) side t = MayPublish (side_of side t) inc name.now
 MayCall (Closed inc) side t = Unit {0}
@@ -34,7 +34,8 @@ MayCall (Published inc name) side t = MayPublish (side_of side t) inc name.now
 MayCall (Asked name) side t = Unit {0}
 MayCall (Sent from name to signal) side t = MaySend (side_of side t) from name.now to signal.now
 
--- and the numbers that it asks for: those of what the side says; one that boots again says nothing
+-- a side has the numbers of frames that a call asks for: those of what it says; a side that boots
+-- again says nothing
 abbrev pub HasNumbersFor : SideCall → Side → TrunkState → Type 0
 HasNumbersFor (Opened inc name) side t = HasNumbersLeft side t
 HasNumbersFor (Closed inc) side t = HasNumbersLeft side t

@@ -11,17 +11,17 @@ use Rattle.link_laws.specs.Ends.{IsLinkOf}
 use Rattle.trunk.specs.Events.{TrunkState, new_trunk}
 use Rattle.trunk_moves.specs.Trunks.{RunTrunks}
 
--- the links, and a trunk for each of them
+-- the links of a run, and the trunk of each, as it was when the event began and as it is now
 pub record TrunksState : Type 0 where
   pub links : List LinkDecl
   pub was : List TrunkState
   pub is : List TrunkState
 
--- what each trunk was
+-- the trunks as they were when the event began
 abbrev pub was_of : List (Both TrunkState) → List TrunkState
 was_of trunks = map (λ (t : Both TrunkState). t.was) trunks
 
--- what each trunk is
+-- the trunks as they are now
 abbrev pub is_of : List (Both TrunkState) → List TrunkState
 is_of trunks = map (λ (t : Both TrunkState). t.is) trunks
 
@@ -57,15 +57,15 @@ both_at s l = record { was = trunks_of s.was l.0; is = trunks_of s.is l.0 }
 abbrev pub resting : List LinkDecl → List TrunkState → TrunksState
 resting links ts = record { links = links; was = ts; is = ts }
 
--- what is now stays
+-- what the event changed on all links stays
 abbrev pub kept : TrunksState → TrunksState
 kept s = resting s.links s.is
 
--- what was is again
+-- what was when the event began is again, on all links
 abbrev pub undone : TrunksState → TrunksState
 undone s = resting s.links s.was
 
--- so for one link alone
+-- what the event changed on one link stays, and can't be undone any more
 abbrev pub kept_at : LinkNo → TrunksState → TrunksState
 kept_at l s = record s { was = slice_set s.was (l.0 - 1) (trunks_of s.is l.0) }
 
@@ -80,7 +80,7 @@ pub record FitsTrunk (link : LinkDecl) : Type 0 where
   pub window : 1 ≤ link.window
   pub piece : IsPiece link.piece
 
--- all links do
+-- each link has a window and a piece size that a trunk can have
 abbrev pub AllFit : List LinkDecl → Type 0
 AllFit links = AllByRecursion FitsTrunk links
 

@@ -38,8 +38,8 @@ use trunk::{Trunk, TrunkUp};
 /// The links of a run, each with its trunk, with a way back. An event is a keep or an undo of all
 /// and the calls since the one before it. Contracts see the trunks as they were when the event
 /// began, and as they are now. A call that is refused undoes the event, on all links. A session has
-/// 2^32 numbers for frames, and a boot as many sessions: whoever calls has some left, as every run
-/// of 200,000 steps has.
+/// 2^32 - 1 numbers for frames, and a boot as many sessions: whoever calls has some left, as every
+/// run of 200,000 steps has.
 #[derive(Drop)]
 pub struct RunTrunks {
     links: Vec<LinkDecl>,

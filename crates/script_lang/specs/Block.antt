@@ -49,17 +49,17 @@ has_room s commands more =
 abbrev pub commands_text : List ℕ
 commands_text = codes "20,000 commands of an actor, 400,000 in all"
 
--- the actor with these commands more, so many
+-- the actor with these commands more, so many, where the limits let it
 abbrev pub with_commands : ScriptParts → ActorScript → ℕ → List Command → Result ActorScript Fault
 with_commands s a more commands =
     if has_room s a.commands more then Ok (record a { commands = a.commands ++ commands })
     else Err (over_limit commands_text)
 
--- one command more
+-- the actor with one command more
 unfoldable pub command_added : ScriptParts → ActorScript → Command → Result ActorScript Fault
 command_added s a command = with_commands s a 1 (command ∷ [])
 
--- a repeated block written out
+-- the actor with a repeated block written out
 unfoldable pub written_out : ScriptParts → ActorScript → ℕ → List Command
     → Result ActorScript Fault
 written_out s a times commands = with_commands s a (times * length commands) (copies times commands)

@@ -18,22 +18,22 @@ use Rattle.script_lang.specs.Parts.{with_verdicts}
 use Rattle.script_lang.specs.Fits.{is_among}
 use Rattle.script_lang.specs.Naming.{node_named, link_named}
 
--- the name stands twice
+-- the fault of a name that stands twice
 abbrev pub twice_named : List ℕ → Fault
 twice_named name = bad TwiceNamed name
 
--- this limit is passed
+-- the fault of a limit that is passed
 abbrev pub over_limit : List ℕ → Fault
 over_limit limit = bad OverLimit limit
 
--- one more node, whose name is new
+-- the script with one more node, whose name is new
 unfoldable pub node_added : ScriptParts → List ℕ → Result ScriptParts Fault
 node_added s name =
     if is_among s.names.nodes name then Err (twice_named name)
     else if nat_lt (length s.names.nodes) node_limit then Ok (with_node s name)
     else Err (over_limit (codes "16 nodes"))
 
--- one more link, whose name is new, between two declared nodes
+-- the script with one more link, whose name is new, between two declared nodes
 unfoldable pub link_added : ScriptParts → List ℕ → List ℕ → List ℕ → ℕ → ℕ
     → Result ScriptParts Fault
 link_added s name first second window piece = do
@@ -45,7 +45,7 @@ link_added s name first second window piece = do
       else if nat_lt (length s.names.links) link_limit then Ok (with_link s name decl)
       else Err (over_limit (codes "32 links"))
 
--- more verdicts of a direction of a declared link
+-- the script with more verdicts of a direction of a declared link
 unfoldable pub plan_added : ScriptParts → List ℕ → Side → List Verdict → Result ScriptParts Fault
 plan_added s name from verdicts = do
   link ← link_named s name
@@ -53,7 +53,7 @@ plan_added s name from verdicts = do
       then Ok (with_verdicts s link from verdicts)
       else Err (over_limit (codes "10,000 verdicts of a direction"))
 
--- an actor's block begins
+-- what was read so far, with an actor's block that begins
 unfoldable pub actor_begun : ScriptParts → List (List ℕ) → List ℕ → List ℕ → Result Reading Fault
 actor_begun s actors name node = do
   n ← node_named s node
@@ -67,7 +67,7 @@ actor_begun s actors name node = do
 abbrev pub outside : List (List ℕ) → ScriptParts → Reading
 outside actors s = record { script = s; actors = actors; place = Outside }
 
--- a line outside a block
+-- what a line outside a block makes of what was read so far
 unfoldable pub declared : ScriptParts → List (List ℕ) → Declaration → Result Reading Fault
 declared s actors (Node name) = made (outside actors) (node_added s name)
 declared s actors (Link name first second window piece) =

@@ -48,12 +48,12 @@ joins None node = false
 abbrev pub has_end : ScriptParts → LinkNo → NodeNo → Bool
 has_end s link node = is_link s link && joins (slice_get s.links (link.0 - 1)) node
 
--- two nodes, with a window and a piece in range
+-- a link is between two nodes that differ, and its window and its piece are in range
 abbrev pub is_link_shape : LinkDecl → Bool
 is_link_shape decl =
     not (decl.first.0 == decl.second.0) && has_link_size decl.window decl.piece
 
--- the same, with both nodes declared
+-- both nodes of a link are declared, and its window and its piece are in range
 abbrev pub fits_link : ℕ → LinkDecl → Bool
 fits_link nodes decl =
     is_numbered nodes decl.first.0 && (is_numbered nodes decl.second.0 && is_link_shape decl)
@@ -62,7 +62,7 @@ fits_link nodes decl =
 abbrev pub fits_plan : List Verdict → Bool
 fits_plan verdicts = nat_le (length verdicts) verdict_limit && list_all fits_verdict verdicts
 
--- the same of both directions of a link
+-- the verdicts of both directions of a link are in range, and not too many
 abbrev pub fits_plans : Plans → Bool
 fits_plans plans = fits_plan plans.from_first && fits_plan plans.from_second
 
@@ -106,7 +106,8 @@ abbrev pub are_distinct : List (List ℕ) → Bool
 are_distinct [] = true
 are_distinct (name ∷ names) = not (list_any (bytes_eq name) names) && are_distinct names
 
--- what holds of every script
+-- what holds of every script: its parts are within their limits, fit each other, and no name stands
+-- twice
 pub record IsScript (s : ScriptParts) : Type 0 where
   pub nodes : length s.names.nodes ≤ node_limit
   pub node_names : are_distinct s.names.nodes ≡ true

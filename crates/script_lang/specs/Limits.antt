@@ -1,19 +1,19 @@
 -- The limits of a script.
 use Rattle.std.specs.Prelude.{ℕ}
 
--- the most bytes
+-- the most bytes of a script
 abbrev pub script_limit : ℕ
 script_limit = 1048576
 
--- the most nodes
+-- the most nodes of a script
 abbrev pub node_limit : ℕ
 node_limit = 16
 
--- the most links
+-- the most links of a script
 abbrev pub link_limit : ℕ
 link_limit = 32
 
--- the most actors
+-- the most actors of a script
 abbrev pub actor_limit : ℕ
 actor_limit = 64
 

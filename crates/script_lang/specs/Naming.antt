@@ -22,13 +22,13 @@ numbered name (Some place) = Ok (place + 1)
 abbrev pub number_among : List (List ℕ) → List ℕ → Result ℕ Fault
 number_among names name = numbered name (position (λ other. bytes_eq other name) names)
 
--- the node of this name
+-- the declared node of this name
 abbrev pub node_named : ScriptParts → List ℕ → Result NodeNo Fault
 node_named s name = do
   number ← number_among s.names.nodes name
   Ok (record { 0 = number })
 
--- the link of this name
+-- the declared link of this name
 abbrev pub link_named : ScriptParts → List ℕ → Result LinkNo Fault
 link_named s name = do
   number ← number_among s.names.links name

@@ -18,12 +18,12 @@ pub record ScriptParts : Type 0 where
   pub plans : List Plans
   pub actors : List ActorScript
 
--- the parts as one script
+-- the script of these names, links, plans and actors
 abbrev pub parts_of : Names → List LinkDecl → List Plans → List ActorScript → ScriptParts
 parts_of names links plans actors =
     record { names = names; links = links; plans = plans; actors = actors }
 
--- nothing is declared
+-- the script that declares nothing
 abbrev pub empty_script : ScriptParts
 empty_script = parts_of (record { nodes = []; links = [] }) [] [] []
 
@@ -52,11 +52,11 @@ planned_at [] place from verdicts = []
 planned_at (plans ∷ rest) zero from verdicts = planned plans from verdicts ∷ rest
 planned_at (plans ∷ rest) (suc place) from verdicts = plans ∷ planned_at rest place from verdicts
 
--- one more node
+-- the script with one more node
 abbrev pub with_node : ScriptParts → List ℕ → ScriptParts
 with_node s name = record s { names = record s.names { nodes = s.names.nodes ++ name ∷ [] } }
 
--- one more link, whose plans are empty
+-- the script with one more link, whose plans are empty
 abbrev pub with_link : ScriptParts → List ℕ → LinkDecl → ScriptParts
 with_link s name decl = record {
   names = record s.names { links = s.names.links ++ name ∷ [] };
@@ -65,16 +65,16 @@ with_link s name decl = record {
   actors = s.actors;
 }
 
--- verdicts behind those of a direction of a link
+-- the script with verdicts behind those of a direction of a link
 abbrev pub with_verdicts : ScriptParts → LinkNo → Side → List Verdict → ScriptParts
 with_verdicts s link from verdicts =
     record s { plans = planned_at s.plans (link.0 - 1) from verdicts }
 
--- one more verdict of a direction of a link
+-- the script with one more verdict of a direction of a link
 abbrev pub with_verdict : ScriptParts → LinkNo → Side → Verdict → ScriptParts
 with_verdict s link from verdict = with_verdicts s link from (verdict ∷ [])
 
--- one more actor
+-- the script with one more actor
 abbrev pub with_actor : ScriptParts → NodeNo → List Command → ScriptParts
 with_actor s node commands =
     record s { actors = s.actors ++ record { node = node; commands = commands } ∷ [] }

@@ -18,7 +18,7 @@ is_sized_in_actor (actor.Command command) = is_sized command
 is_sized_in_actor (actor.Repeat times) = true
 is_sized_in_actor actor.End = true
 
--- the same of a line of a repeated block
+-- the command of a line of a repeated block has its data and its filter in range
 abbrev pub is_sized_in_repeat : RepeatLine → Bool
 is_sized_in_repeat (repeat.Command command) = is_sized command
 is_sized_in_repeat repeat.End = true

@@ -6,6 +6,7 @@ use Rattle.script_words.specs.declared.line_error.LineError.TheVariants.{Bad, No
 
 -- goes on with the value, or stays at the fault
 infixl 10 ◌>>=◌
+-- what is read of a value that was read before; a fault before it stays
 abbrev pub ◌>>=◌ : {A B : Type 0} → Result A Fault → (A → Result B Fault) → Result B Fault
 (Ok x) >>= f = f x
 (Err fault) >>= f = Err fault

@@ -113,6 +113,7 @@ impl Word {
         }
     }
 
+    /// The bytes that were kept of the word: the first 64 at most.
     pub fn bytes(&self) -> &[u8]
         ensures bytes { result.now ≡ self.now }
         ensures few { length result.now ≤ word_limit }
@@ -120,6 +121,7 @@ impl Word {
         &self.bytes[..self.len as usize]
     }
 
+    /// Whether the word has no bytes.
     pub fn is_empty(&self) -> bool
         ensures { result ≡ (length self.now == 0) }
     {

@@ -9,7 +9,7 @@ Selects Any number = Unit {0}
 Selects (Only listed) number = Contains listed number
 Selects (Not listed) number = ¬ (Contains listed number)
 
--- the same as a test
+-- the test whether a filter selects signals of this number
 abbrev pub selects : Sigsel → ℕ → Bool
 selects Any number = true
 selects (Only listed) number = list_any (λ n. n == number) listed

@@ -29,6 +29,7 @@ impl Numbers {
         })
     }
 
+    /// The numbers, in the order in which they were listed.
     pub fn as_slice(&self) -> &[u32]
         ensures { result.now ≡ self.now }
     {

@@ -13,9 +13,10 @@ Ascends cmp (x ∷ xs) = AllByRecursion (λ y. cmp x y ≡ Less) xs × Ascends c
 abbrev pub elements_from : {X : Type 0} → (X → X → Ordering) → X → List X → List X
 elements_from cmp x xs = filter (λ y. is_le (cmp x y)) xs
 
--- all of them are below x, or above it
+-- all elements are below x
 abbrev pub AreBelow : {X : Type 0} → (X → X → Ordering) → X → List X → Type 0
 AreBelow cmp x ys = AllByRecursion (λ y. cmp x y ≡ Greater) ys
 
+-- all elements are above x
 abbrev pub AreAbove : {X : Type 0} → (X → X → Ordering) → X → List X → Type 0
 AreAbove cmp x ys = AllByRecursion (λ y. cmp x y ≡ Less) ys

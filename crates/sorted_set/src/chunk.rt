@@ -48,18 +48,21 @@ impl<T: Ord + Drop> Chunk<T> {
         Ok(Chunk { elements })
     }
 
+    /// How many elements the chunk has.
     pub(crate) fn len(&self) -> usize
         ensures { result ≡ length self.now }
     {
         self.elements.len()
     }
 
+    /// Whether the chunk has no elements.
     pub(crate) fn is_empty(&self) -> bool
         ensures { result ≡ (length self.now == 0) }
     {
         self.elements.is_empty()
     }
 
+    /// The element at place k from 0; `None` exactly where there are at most k.
     pub(crate) fn get(&self, k: usize) -> Option<&T>
         ensures { option_copied result ≡ slice_get self.now k }
     {

@@ -52,7 +52,8 @@ IsInTurn script P trunks (Some w) by head =
 IsInTurn script P trunks None (Actor k) head = is_pumped head ≡ false
 IsInTurn script P trunks None (Pump l) head = Unit {0}
 
--- a step as planned
+-- A STEP IS AS PLANNED: one of a packet or of a clock is what the pump's rule asks for, and it
+-- comes in its turn
 pub record IsPlannedStep (script : ScriptParts) (P : List Step) (before : RunTrunks) (s : Step)
     : Type 0 where
   pub planned : IsPlannedHead script P before s.head
@@ -80,6 +81,7 @@ pub record IsScriptStep (script : ScriptParts) (P : List Step) (before : RunTrun
   pub promises : KeepsPromises (shape_of script) (s ∷ P) (links_of after)
 
 -- A RUN OF THE SCRIPT: from the first trunks on, of which what is promised holds, each step is one
+-- of the script
 abbrev pub IsScriptRun : ScriptParts → List Step → RunTrunks → Type 0
 IsScriptRun script [] trunks =
     AreFirst (shape_of script) trunks × KeepsPromises (shape_of script) [] (links_of trunks)

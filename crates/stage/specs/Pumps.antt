@@ -77,6 +77,6 @@ abbrev pub pump_event : ScriptParts → List Step → RunTrunks → LinkNo → O
 pump_event script P trunks l =
     event_with (verdict_for script P l) P trunks l (flying_side (trunks l.0))
 
--- what it asks for of a settled link that isn't cut: each packet is delivered
+-- what the pump of a settled link that isn't cut asks for: each packet is delivered
 abbrev pub settling_event : List Step → RunTrunks → LinkNo → Option Event
 settling_event P trunks l = event_with (λ from. Deliver) P trunks l (flying_side (trunks l.0))

@@ -40,7 +40,7 @@ abbrev pub ticks_of : Event → ℕ
 ticks_of (asks.Tick l side) = 1
 ticks_of _ = 0
 
--- one step of it: what the pump of a settled link asks for
+-- one step of a settling: what the pump of a settled link asks for
 pub record IsSettling (by : By) (l : LinkNo) (old new : Layout) : Type 0 where
   pub event : Event
   pub asked : settling_event old.log.steps (trunks_of old.trunks) l ≡ Some event
@@ -48,7 +48,7 @@ pub record IsSettling (by : By) (l : LinkNo) (old new : Layout) : Type 0 where
   pub stepped : IsStepped old new by (record { event = event; hand = None }) answer
   pub fixed : OnlyRuns old new
 
--- so many steps of it
+-- so many steps of a settling
 abbrev pub AreSettlings : By → LinkNo → ℕ → Layout → Layout → Type 0
 AreSettlings by l zero old new = new ≡ old
 AreSettlings by l (suc n) old new =
@@ -67,7 +67,7 @@ pub record IsSettled (by : By) (l : LinkNo) (ticks : ℕ) (old new : Layout) : T
   pub still : stirs_in new l ≡ false
   pub joined : IsJoined l (trunks_of new.trunks)
 
--- a settling stopped: a step of it is due
+-- a settling stopped: the next step of it is due
 pub record StopsSettling (by : By) (l : LinkNo) (old new : Layout) : Type 0 where
   pub steps : ℕ
   pub made : AreSettlings by l steps old new
@@ -90,7 +90,7 @@ pub data GoesOnAfter (settled : Option LinkNo) (k : ℕ) (between new : Layout) 
       → (ticks : ℕ) → IsSettled (Actor k) l ticks between new
       → GoesOnAfter settled k between new
 
--- that stopped
+-- what an actor goes on to after its step stopped: the settling of a link that isn't cut
 pub record StopsAfter (settled : Option LinkNo) (k : ℕ) (between new : Layout) : Type 0 where
   pub link : LinkNo
   pub asked : settled ≡ Some link
@@ -103,6 +103,8 @@ pub record MaySettleNow (l : LinkNo) (k : ℕ) (f : Layout) : Type 0 where
   pub maker : IsMaker f.shape f.log.steps (Actor k)
   pub settled : are_plans_ended f.log.steps l.0 ≡ true
 
+-- an actor may go on as its step asks: anything where the step settles no link, else it may settle
+-- that link
 abbrev pub MayGoOn : Option LinkNo → ℕ → Layout → Type 0
 MayGoOn None k f = Unit {0}
 MayGoOn (Some l) k f = MaySettleNow l k f
@@ -128,7 +130,8 @@ module _ (old new : Layout) (k : ℕ) (ask : Ask) where
     pub same : new ≡ old
     pub hand : stop.hand ≡ ask.hand
 
-  -- what came of it, by what is said of it, with the cause of a stop
+  -- what came of what an actor asked for: it is done, half done or not done, and a stop has its
+  -- cause
   abbrev pub IsActedAs : Acted → Type 0
   IsActedAs (Done answer) = IsDone answer
   IsActedAs (Halfway answer cause) = IsHalfDone answer × IsCauseOf cause new.log.steps
@@ -141,33 +144,34 @@ pub record Settler : Type 0 where
   pub actor : ℕ
   pub link : LinkNo
 
+-- the actor of this number settles this link
 abbrev pub settler : ℕ → LinkNo → Settler
 settler k l = record { actor = k; link = l }
 
--- who settles a link where the last step is such a one of an actor: this actor, after a settle of a
--- link that isn't cut, a packet, or a tick
+-- who settles a link after this last step of an actor: it, where that step settles a link that
+-- isn't cut, or is a packet's or a tick's
 abbrev pub settler_by : List Step → ℕ → Head → Option Settler
 settler_by P k (Settle l) = if is_cut P l.0 then None else Some (settler k l)
 settler_by P k (Wire l from verdict) = Some (settler k l)
 settler_by P k (Tick l side) = Some (settler k l)
 settler_by P k _ = None
 
--- a pump settles none
+-- who settles a link after this last step: an actor may, a pump doesn't
 abbrev pub settler_after : List Step → By → Head → Option Settler
 settler_after P (Actor k) head = settler_by P k head
 settler_after P (Pump l) head = None
 
--- after a history
+-- who settles a link after the last step of a history
 abbrev pub settler_of : List Step → Option Settler
 settler_of [] = None
 settler_of (s ∷ P) = settler_after P s.by s.head
 
--- it is a link of the shape, and stirs
+-- a link of the shape stirs
 abbrev pub stirs_on : Shape → List Step → RunTrunks → LinkNo → Bool
 stirs_on shape P trunks l =
     (nat_lt 0 l.0 && nat_le l.0 (length shape.links)) && stirs P trunks l.0
 
--- as long as the link stirs
+-- who settles a link, as long as the link stirs
 abbrev pub if_stirs : Shape → List Step → RunTrunks → Option Settler → Option Settler
 if_stirs shape P trunks None = None
 if_stirs shape P trunks (Some w) = if stirs_on shape P trunks w.link then Some w else None
@@ -176,6 +180,6 @@ if_stirs shape P trunks (Some w) = if stirs_on shape P trunks w.link then Some w
 abbrev pub settler_now : Shape → List Step → RunTrunks → Option Settler
 settler_now shape P trunks = if_stirs shape P trunks (settler_of P)
 
--- in a state of a run
+-- who settles a link now, in a state of a run
 abbrev pub settler_in : Layout → Option Settler
 settler_in f = settler_now f.shape f.log.steps (trunks_of f.trunks)

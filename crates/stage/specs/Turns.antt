@@ -84,7 +84,7 @@ pub record IsBehind (P : List Step) (k : ℕ) : Type 0 where
 abbrev pub IsDueForActor : Layout → ℕ → Type 0
 IsDueForActor f k = (has_ended f.log.steps k ≡ false) ⊎ (is_some (settler_in f) ≡ true)
 
--- and the journal takes no further step
+-- the turn of an actor stops at a full journal: a step is due, and the journal takes no further one
 abbrev pub IsFullForActor : Layout → ℕ → Type 0
 IsFullForActor f k = (is_full f.log.steps ≡ true) × IsDueForActor f k
 
@@ -109,7 +109,7 @@ pub record IsPumped (l : LinkNo) (event : Event) (old new : Layout) (pump : pump
 abbrev pub IsDueForLink : Layout → LinkNo → Type 0
 IsDueForLink f l = (stirs_in f l ≡ true) ⊎ (is_some (settler_in f) ≡ true)
 
--- and the journal takes no further step
+-- the turn of a link stops at a full journal: a step is due, and the journal takes no further one
 abbrev pub IsFullForLink : Layout → LinkNo → Type 0
 IsFullForLink f l = (is_full f.log.steps ≡ true) × IsDueForLink f l
 
@@ -185,7 +185,7 @@ pub record IsStoppedRun (script : ScriptParts) (start new : Layout) : Type 0 whe
   pub few : turns < makers script
   pub stopped : IsStoppedRound script turns before new
 
--- before the first turn
+-- the run of a script before its first turn
 abbrev pub first_layout : ScriptParts → Layout
 first_layout script = record {
   shape = shape_of script;

@@ -37,7 +37,7 @@ fn came_of(answer: &StepAnswer) -> Turn
     }
 }
 
-/// What an actor does.
+/// The node and the commands of an actor of the script, by its number from 1.
 pub fn actor_of(script: &Script, actor: u32) -> &ActorScript
     requires above { 0 < actor }
     requires within { actor ≤ length script.now.actors }

@@ -31,7 +31,7 @@ Says t (Reply frame) new reply = (new ≡ t) × (reply ≡ spelling_of frame)
 Says t Nothing new reply = (new ≡ t) × (reply ≡ [])
 Says t Broken new reply = ⊥
 
--- a frame is replied to
+-- an echo replies to a frame: what it says to it, and how it stands then
 pub record Echoes (old : EchoState) (request : List ℕ) (new : EchoState) (reply : List ℕ) : Type 0 where
   pub frame : StreamFrame
   pub spells : Spells frame request

@@ -10,7 +10,7 @@ use Rattle.svg_text.specs.declared.class.Class.TheVariants.{QueueFound, QueueNot
 use Rattle.svg_text.specs.declared.class.Class.TheVariants.{Wrong, Label, Faint, Strong}
 use Rattle.svg_text.specs.declared.class.Class.TheVariants.{WrongLabel, Line, Effect, Hit}
 
--- all of them, in the order in which the style sheet has them
+-- all classes, in the order in which the style sheet has them
 unfoldable pub all_classes : List Class
 all_classes =
     Node ∷ NodeCaption ∷ Lane ∷ Stripe ∷ Cut ∷ Restart ∷ Fold ∷ Life ∷ Bar ∷ Wait ∷ Rail ∷
@@ -94,7 +94,7 @@ light_look Line = codes "fill:#667"
 light_look Effect = codes "fill:#99a"
 light_look Hit = codes "fill:#fff;fill-opacity:0"
 
--- and what is otherwise on a dark one
+-- how a class looks otherwise on a dark ground: declarations of CSS
 abbrev pub dark_look : Class → List ℕ
 dark_look Node = codes "fill:#191f26;stroke:#2a3947"
 dark_look NodeCaption = codes "fill:#2a3947"

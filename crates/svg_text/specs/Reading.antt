@@ -12,6 +12,7 @@ of_both f (Some a) (Some b) = f a b
 of_both f (Some a) None = None
 of_both f None b = None
 
+-- an element in front of a list, as a result that is there
 abbrev pub put_first : {A : Type 0} → A → List A → Option (List A)
 put_first x xs = Some (x ∷ xs)
 
@@ -93,6 +94,7 @@ tag_of (Some parts) =
     else opens parts.name parts.attributes)
     else None
 
+-- the tag that closes an element of this name, where it is a name
 abbrev pub closing_tag : List ℕ → Option Tag
 closing_tag name = if is_tag_name name then Some (closes name) else None
 
@@ -101,6 +103,7 @@ abbrev pub tag_in : List ℕ → Option Tag
 tag_in [] = None
 tag_in (b ∷ bs) = if b == 47 then closing_tag bs else tag_of (parts_in (cut_at 34 (b ∷ bs)))
 
+-- a tag and the text behind it
 abbrev pub token_with : Tag → List ℕ → Option Token
 token_with tag text = Some (record { tag = tag; behind = text })
 
@@ -139,6 +142,8 @@ opened name attributes text inside (c ∷ around) =
     })
     else None
 
+-- a tag in front of elements that were nested so far: an empty element is put before those here, a
+-- closing tag begins to nest, an opening one ends it
 abbrev pub put_tag : Tag → List ℕ → Nested → Option Nested
 put_tag (stands name attributes) text nested =
     Some (record { here = empty name attributes text nested.here; around = nested.around })
@@ -150,6 +155,7 @@ put_tag (closes name) text nested =
 put_tag (opens name attributes) text nested =
     opened name attributes text nested.here nested.around
 
+-- a tag and its text in front of elements that were nested, where they were
 abbrev pub with_token : Token → Option Nested → Option Nested
 with_token token None = None
 with_token token (Some nested) = put_tag token.tag token.behind nested
@@ -164,10 +170,12 @@ abbrev pub whole : List Closed → Content → Option Content
 whole [] content = if is_document content then Some content else None
 whole _ content = None
 
+-- the one element of a nesting, if it came to an end
 abbrev pub whole_in : Option Nested → Option Content
 whole_in None = None
 whole_in (Some nested) = whole nested.around nested.here
 
+-- the one element of these tags, if they were read
 abbrev pub content_of : Option (List Token) → Option Content
 content_of None = None
 content_of (Some tokens) = whole_in (nested_in tokens)

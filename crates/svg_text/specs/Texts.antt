@@ -18,6 +18,7 @@ at_text p = codes " x=\"" ++ decimal p.x ++ codes "\" y=\"" ++ decimal p.y ++ co
 unfoldable pub middle_text : Point → List ℕ
 middle_text p = codes " cx=\"" ++ decimal p.x ++ codes "\" cy=\"" ++ decimal p.y ++ codes "\""
 
+-- how wide and how high something is
 unfoldable pub size_text : ℕ → ℕ → List ℕ
 size_text width height =
     codes " width=\"" ++ decimal width ++ codes "\" height=\"" ++ decimal height ++ codes "\""
@@ -67,6 +68,7 @@ row_text row =
     begin_row_text row.step row.effect ++ title_text row.title ++ shapes_text row.shapes
     ++ codes "</g>\n"
 
+-- some rows, one after the other
 abbrev pub rows_text : List Row → List ℕ
 rows_text rows = flat_map row_text rows
 
@@ -79,10 +81,11 @@ layer_text name shapes =
 unfoldable pub rows_layer_text : List Row → List ℕ
 rows_layer_text rows = codes "<g class=\"rows\">\n" ++ rows_text rows ++ codes "</g>\n"
 
--- how the shapes of a class look on a light ground, and on a dark one
+-- how the shapes of a class look on a light ground
 abbrev pub light_rule : Class → List ℕ
 light_rule class = codes "." ++ class_name class ++ codes "{" ++ light_look class ++ codes "}\n"
 
+-- how the shapes of a class look on a dark ground
 abbrev pub dark_rule : Class → List ℕ
 dark_rule class = codes "." ++ class_name class ++ codes "{" ++ dark_look class ++ codes "}\n"
 
@@ -119,6 +122,7 @@ begin_picture_text width height =
     ++ codes " viewBox=\"0 0 " ++ decimal width ++ codes " " ++ decimal height
     ++ codes "\" role=\"img\">\n"
 
+-- the style sheet as an element of a picture
 unfoldable pub style_element_text : List ℕ
 style_element_text = codes "<style>\n" ++ style_text ++ codes "</style>\n"
 

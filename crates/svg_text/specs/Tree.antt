@@ -18,12 +18,15 @@ use Rattle.svg_text.specs.Xml.{Attribute, Content, done, empty, holding}
 abbrev pub line_end : List ℕ
 line_end = codes "\n"
 
+-- an attribute by its name and its value
 abbrev pub attribute : List ℕ → List ℕ → Attribute
 attribute name value = record { name = name; value = value }
 
+-- an attribute whose value is a number, in decimal digits
 abbrev pub number : List ℕ → ℕ → Attribute
 number name n = attribute name (decimal n)
 
+-- the attribute that says which class a shape is of
 abbrev pub of_class : Class → Attribute
 of_class class = attribute (codes "class") (class_name class)
 
@@ -35,20 +38,24 @@ words_element name attributes words rest = holding name attributes words done li
 abbrev pub group : List Attribute → Content → Content → Content
 group attributes inside rest = holding (codes "g") attributes line_end inside line_end rest
 
+-- the attributes of a box: its class, its corner, its width and its height
 abbrev pub box_attributes : Class → Area → List Attribute
 box_attributes class area =
     of_class class ∷ number (codes "x") area.corner.x ∷ number (codes "y") area.corner.y
     ∷ number (codes "width") area.width ∷ number (codes "height") area.height ∷ []
 
+-- the attributes of a circle: its class, its middle and its radius
 abbrev pub circle_attributes : Class → Point → ℕ → List Attribute
 circle_attributes class middle radius =
     of_class class ∷ number (codes "cx") middle.x ∷ number (codes "cy") middle.y
     ∷ number (codes "r") radius ∷ []
 
+-- the attributes of a path: its class and its strokes
 abbrev pub path_attributes : Class → List Stroke → List Attribute
 path_attributes class strokes =
     of_class class ∷ attribute (codes "d") (strokes_text strokes) ∷ []
 
+-- the attributes of words: their class, which part of them stands at their point, and the point
 abbrev pub text_attributes : Class → Anchor → Point → List Attribute
 text_attributes class anchor point =
     of_class class ∷ attribute (codes "text-anchor") (anchor_name anchor)
@@ -65,13 +72,16 @@ shape_before (Path class strokes) rest =
 shape_before (Words class anchor point words) rest =
     words_element (codes "text") (text_attributes class anchor point) (shown words) rest
 
+-- some shapes as elements, from the back to the front
 abbrev pub shapes_content : List Shape → Content
 shapes_content [] = done
 shapes_content (shape ∷ more) = shape_before shape (shapes_content more)
 
+-- the title of a row or of a picture, and the elements behind it
 abbrev pub title_before : List ℕ → Content → Content
 title_before words rest = words_element (codes "title") [] (shown words) rest
 
+-- the attributes of a row: its class, and its place by step and effect
 abbrev pub row_attributes : ℕ → ℕ → List Attribute
 row_attributes step effect =
     attribute (codes "class") (codes "row") ∷ attribute (codes "id") (place_text step effect) ∷ []
@@ -82,20 +92,24 @@ row_before row rest =
     group (row_attributes row.step row.effect)
     (title_before row.title (shapes_content row.shapes)) rest
 
+-- some rows as elements, in order
 abbrev pub rows_content : List Row → Content
 rows_content [] = done
 rows_content (row ∷ more) = row_before row (rows_content more)
 
+-- a layer of a picture by its name, with what is inside it and what stands behind it
 abbrev pub layer : List ℕ → Content → Content → Content
 layer name inside rest = group (attribute (codes "class") name ∷ []) inside rest
 
--- the three layers of a picture, from the last one on
+-- the last layer of a picture: the shapes in front of the rows
 abbrev pub front_layer : Picture → Content
 front_layer picture = layer (codes "front") (shapes_content picture.front) done
 
+-- the layer of a picture's rows, and the front layer behind it
 abbrev pub rows_layer : Picture → Content
 rows_layer picture = layer (codes "rows") (rows_content picture.rows) (front_layer picture)
 
+-- the three layers of a picture: back, rows and front
 abbrev pub layers : Picture → Content
 layers picture = layer (codes "back") (shapes_content picture.back) (rows_layer picture)
 
@@ -103,6 +117,8 @@ layers picture = layer (codes "back") (shapes_content picture.back) (rows_layer 
 abbrev pub style_before : Content → Content
 style_before rest = words_element (codes "style") [] (codes "\n" ++ style_text) rest
 
+-- the attributes of a picture: its name space, its width and height, what of it is seen, and that
+-- it is an image
 abbrev pub picture_attributes : ℕ → ℕ → List Attribute
 picture_attributes width height =
     attribute (codes "xmlns") (codes "http://www.w3.org/2000/svg")

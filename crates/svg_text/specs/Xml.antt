@@ -45,6 +45,7 @@ character_text b =
     else (if b == 60 then codes "&lt;"
     else (if b == 62 then codes "&gt;" else (if b == 34 then codes "&quot;" else b ∷ [])))
 
+-- an attribute as it is spelled: a space, its name, and its value in quotes
 abbrev pub attribute_text : Attribute → List ℕ
 attribute_text a = codes " " ++ a.name ++ codes "=\"" ++ a.value ++ codes "\""
 
@@ -54,6 +55,7 @@ tag_text (opens name attributes) = name ++ flat_map attribute_text attributes
 tag_text (closes name) = codes "/" ++ name
 tag_text (stands name attributes) = name ++ flat_map attribute_text attributes ++ codes "/"
 
+-- a tag in its angles, and the text behind it
 abbrev pub token_text : Token → List ℕ
 token_text token =
     codes "<" ++ tag_text token.tag ++ codes ">" ++ flat_map character_text token.behind
@@ -91,6 +93,7 @@ are_attributes [] = true
 are_attributes (a ∷ more) =
     is_tag_name a.name && list_all is_plain a.value && is_new a.name more && are_attributes more
 
+-- a tag may stand in a document: it has a name, and its attributes have names and plain values
 abbrev pub is_tag : Tag → Bool
 is_tag (opens name attributes) = is_tag_name name && are_attributes attributes
 is_tag (closes name) = is_tag_name name

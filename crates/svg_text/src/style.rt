@@ -46,6 +46,7 @@ fn write_dark_rules(out: &mut Vec<u8>, classes: &[Class]) -> Result<(), NoMemory
     Ok(())
 }
 
+/// The style sheet: how each class looks on a light ground and on a dark one.
 #[tactic(auto, unfolding(crate::specs::Texts::style_text))]
 pub(crate) fn write_style(out: &mut Vec<u8>) -> Result<(), NoMemory>
     ensures { OnOk result (out.new.items ≡ out.old.items ++ style_text) }

@@ -12,6 +12,7 @@ use crate::shape::{Anchor, Point, Stroke};
 use itoa::Buffer;
 use linx_base::NoMemory;
 
+/// Any bytes.
 pub(crate) fn write(out: &mut Vec<u8>, text: &[u8]) -> Result<(), NoMemory>
     ensures { OnOk result (out.new.items ≡ out.old.items ++ text.now) }
 {
@@ -19,6 +20,7 @@ pub(crate) fn write(out: &mut Vec<u8>, text: &[u8]) -> Result<(), NoMemory>
     Ok(())
 }
 
+/// A number in decimal digits.
 pub(crate) fn write_number(out: &mut Vec<u8>, number: u64) -> Result<(), NoMemory>
     ensures { OnOk result (out.new.items ≡ out.old.items ++ decimal number) }
 {
@@ -97,6 +99,7 @@ fn write_anchor_name(out: &mut Vec<u8>, anchor: Anchor) -> Result<(), NoMemory>
     }
 }
 
+/// Which part of words stands at their point.
 #[tactic(auto, unfolding(crate::specs::Texts::anchor_text))]
 pub(crate) fn write_anchor(out: &mut Vec<u8>, anchor: Anchor) -> Result<(), NoMemory>
     ensures { OnOk result (out.new.items ≡ out.old.items ++ anchor_text anchor) }
@@ -138,6 +141,7 @@ fn write_stroke(out: &mut Vec<u8>, stroke: Stroke) -> Result<(), NoMemory>
     }
 }
 
+/// The strokes of a path.
 pub(crate) fn write_strokes(out: &mut Vec<u8>, strokes: &[Stroke]) -> Result<(), NoMemory>
     ensures { OnOk result (out.new.items ≡ out.old.items ++ strokes_text strokes.now) }
 {

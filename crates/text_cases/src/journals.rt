@@ -17,6 +17,7 @@ pub fn empty_journal(alloc: Global, has_link: bool) -> Result<Journal, Fail> {
     Ok(Journal::new(alloc, Names { nodes, links }))
 }
 
+/// The effects of a step, with ` + ` between them.
 fn effects(alloc: Global, texts: &str) -> Result<Effects, Fail> {
     let mut effects = Vec::new(alloc);
     for text in texts.split(" + ") {

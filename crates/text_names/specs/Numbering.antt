@@ -21,13 +21,13 @@ highest told = fold (λ most t. max most t.number) 0 told
 abbrev pub nobody : List ℕ
 nobody = codes "-"
 
--- the name of a number, if it is told, or the next of the others
+-- the name of a number: the one that is told, or the next of the others
 abbrev pub name_at : Option (List ℕ) → List (List ℕ) → List ℕ
 name_at (Some name) others = name
 name_at None [] = nobody
 name_at None (name ∷ others) = name
 
--- the others behind it
+-- the other names once one was taken for a number: all of them where the number is told
 abbrev pub behind_name : Option (List ℕ) → List (List ℕ) → List (List ℕ)
 behind_name (Some name) others = others
 behind_name None [] = []

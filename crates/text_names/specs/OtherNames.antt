@@ -23,7 +23,7 @@ with_other told others word =
     else if is_name word then others ++ word ∷ []
     else others
 
--- the same, if a line names one
+-- the names with a further one, if a line names one
 abbrev pub with_if_named : List Numbered → List (List ℕ) → Option (List ℕ) → List (List ℕ)
 with_if_named told others None = others
 with_if_named told others (Some word) = with_other told others word
@@ -39,7 +39,7 @@ other_words told others words = record {
   links = with_if_named told.links others.links (link_named words);
 }
 
--- the same of a line that has so many words, or not
+-- the names with those of a line, where it has so many words
 abbrev pub other_front : Told → Names → Option Words → Names
 other_front told others None = others
 other_front told others (Some words) = other_words told others words

@@ -29,7 +29,7 @@ with_told told number word =
     else if is_name word then told ++ record { number = number; name = word } ∷ []
     else told
 
--- the same, if a number was read
+-- the names with a further one, of the number that was read, if one was
 abbrev pub with_if_told : List Numbered → Option ℕ → List ℕ → List Numbered
 with_if_told told (Some number) word = with_told told number word
 with_if_told told None word = told
@@ -45,7 +45,7 @@ told_words told words = record {
   links = with_if_told told.links (link_told words) words.fourth;
 }
 
--- the same of a line that has so many words, or not
+-- the names with those that a line tells, where it has so many words
 abbrev pub told_front : Told → Option Words → Told
 told_front told None = told
 told_front told (Some words) = told_words told words

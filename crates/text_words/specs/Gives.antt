@@ -5,6 +5,7 @@ use Rattle.text_words.specs.declared.read_error.ReadError.TheVariants.{Bad, NoMe
 
 -- goes on with the value, where there is one
 infixl 10 ◌>>=◌
+-- what is read of a value that was read before; nothing where there was none
 abbrev pub ◌>>=◌ : {A B : Type 0} → Option A → (A → Option B) → Option B
 (Some x) >>= f = f x
 None >>= f = None

@@ -31,7 +31,7 @@ number_in most word =
 abbrev pub half_limit : ℕ
 half_limit = 4294967295
 
--- and of 64 bits
+-- the greatest number of 64 bits
 abbrev pub whole_limit : ℕ
 whole_limit = 18446744073709551615
 

@@ -48,7 +48,8 @@ fn decimal(digits: &[u8]) -> u128
     value
 }
 
-/// The number that a word spells, if it is at most this one.
+/// The number that a word spells in decimal digits, with no zero in front, if it is at most this
+/// one; any other word is `Bad`.
 #[tactic(auto, unfolding(crate::specs::Numbers::number_in))]
 pub fn number(word: &[u8], most: u64) -> Result<u64, ReadError>
     ensures gives { Gives (λ n. n) result (number_in most word.now) }
@@ -65,14 +66,14 @@ pub fn number(word: &[u8], most: u64) -> Result<u64, ReadError>
     }
 }
 
-/// The word as a number of 64 bits.
+/// The word as a number of 64 bits in decimal digits; any other word is `Bad`.
 pub fn u64_of(word: &[u8]) -> Result<u64, ReadError>
     ensures { Gives (λ n. n) result (u64_in word.now) }
 {
     number(word, u64::MAX)
 }
 
-/// The word as a number of 32 bits.
+/// The word as a number of 32 bits in decimal digits; any other word is `Bad`.
 pub fn u32_of(word: &[u8]) -> Result<u32, ReadError>
     ensures { Gives (λ n. n) result (u32_in word.now) }
 {
@@ -80,7 +81,7 @@ pub fn u32_of(word: &[u8]) -> Result<u32, ReadError>
     Ok(value as u32)
 }
 
-/// The word as a number of 64 bits, spelled by its halves.
+/// The word as a number of 64 bits, spelled by its halves, as `2.1`; any other word is `Bad`.
 #[tactic(auto, unfolding(crate::specs::Numbers::halves_in))]
 pub fn halves_of(word: &[u8]) -> Result<u64, ReadError>
     ensures { Gives (λ n. n) result (halves_in word.now) }

@@ -40,6 +40,7 @@ fn reference(rt: &impl Abort, word: &str) -> u64 {
     step.parse().ok().expect(rt, "a step")
 }
 
+/// What a call, by its first word and those behind it, tells.
 fn called<'a, R: Abort + Wait>(rt: &R, alloc: Global, caller: Caller<'a>, call: &str) -> Told<'a> {
     let (word, rest) = front(call);
     match word {

@@ -14,6 +14,8 @@ pub struct Hold {
     until: u64,
 }
 
+/// Holds this turn of a maker, counted as the gate counts them, until that turn of another maker
+/// has come.
 pub const fn until_other(maker: u32, turn: u64, other: u32, until: u64) -> Hold {
     Hold {
         maker,

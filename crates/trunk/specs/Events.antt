@@ -63,7 +63,7 @@ new_trunk window piece =
 abbrev pub HasNumbersLeft : Side → TrunkState → Type 0
 HasNumbersLeft side t = 4096 ≤ left_of (half_of side t.link).end.tx
 
--- the link goes on
+-- a trunk whose link is this now
 abbrev pub with_link : TrunkState → LinkState → TrunkState
 with_link t v = record t { link = v }
 
@@ -96,7 +96,7 @@ near_said t made = if is_some (peer_of t.link.first.end) then near_says t made e
 
 -- ---- what is given for what is heard
 
--- for what is handed up
+-- what is given to a side for what its RLNH end hands up
 abbrev pub given_up : Up → List Given
 given_up ups.Nothing = []
 given_up (ups.Arrived from to note) = arrived from to note ∷ []
@@ -106,7 +106,7 @@ given_up (ups.Gone inc) = gone inc ∷ []
 given_up (ups.Asked name) = asked_for name ∷ []
 given_up ups.Bad = []
 
--- for what is heard where the tables are these
+-- what is given to a side for a message that its RLNH end hears, where its tables are these
 abbrev pub given_for_heard : RlnhTables → Heard → List Given
 given_for_heard t heard = given_up (hears t heard).up
 
@@ -116,53 +116,53 @@ giving_all given A = record A { now = record A.now { given = given ++ A.now.give
 
 -- ---- an event at the first side
 
--- it went up with session y: its RLNH end begins
+-- the first side goes up with session y: its RLNH end begins, and says INIT
 abbrev pub near_up : TrunkState → Session → TrunkState
 near_up t y = near_pumped t (after t.first.end begin_of) (going_up y t.first.kept)
 
--- its session is over, and session x begins: its RLNH end knows nothing
+-- the session of the first side is over, and session x begins: its RLNH end knows nothing
 abbrev pub near_down : TrunkState → Session → TrunkState
 near_down t x =
     record t { first = record { end = emptied t.first.end; kept = beginning x t.first.kept } }
 
--- a message of this reading came to its RLNH end
+-- a message of this reading came to the RLNH end of the first side
 abbrev pub near_heard : TrunkState → Heard → TrunkState
 near_heard t heard =
     near_pumped t (rlnh_input_of t.first.end heard).state
     (giving_all (given_for_heard t.first.end.tables heard) t.first.kept)
 
--- this was handed up by the link, with this reading
+-- the link handed this up at the first side; a message has this reading
 abbrev pub near_took : TrunkState → Heard → Handed → TrunkState
 near_took t heard Nothing = t
 near_took t heard (WentUp session peer) = near_up t peer
 near_took t heard (WentDown session) = near_down t (next_session session)
 near_took t heard (Got m) = near_heard t heard
 
--- the packet at place k of those in flight to it comes, and stays in flight or is gone
+-- the packet at place k of those in flight to the first side comes, and stays in flight or is gone
 abbrev pub near_delivered : TrunkState → ℕ → Bool → Heard → TrunkState
 near_delivered t k keep heard =
     near_took (with_link t (links.near_delivered t.link k keep)) heard
     (near_handed t.link (slice_get t.link.back k))
 
--- this was handed up of a tick
+-- a tick handed this up at the first side
 abbrev pub near_beat : TrunkState → TickedSide → TrunkState
 near_beat t ticked.Stays = t
 near_beat t (ticked.WentDown session) = near_down t (next_session session)
 
--- it is ticked
+-- the first side is ticked
 abbrev pub near_ticked : TrunkState → TrunkState
 near_ticked t =
     near_beat (with_link t (links.near_ticked t.link))
     (ticked_as t.link.first.end.talk.mine (tick_of t.link.first.end).answer)
 
--- it boots again
+-- the first side boots again
 abbrev pub near_restarted : TrunkState → ℕ → TrunkState
 near_restarted t boot =
     near_down (with_link t (links.near_restarted t.link boot)) (first_session boot)
 
 -- ---- what is handed up
 
--- of what an RLNH end hands up; Bad never comes within a trunk
+-- what a trunk hands up of what an RLNH end hands up; Bad never comes within a trunk
 abbrev pub told_up : Up → TrunkUp
 told_up ups.Nothing = tells.Nothing
 told_up (ups.Arrived from to note) = tells.Arrived from to note
@@ -172,14 +172,15 @@ told_up (ups.Gone inc) = tells.Gone inc
 told_up (ups.Asked name) = tells.Asked name
 told_up ups.Bad = tells.Nothing
 
--- of what the link hands up, with this reading, where the tables are these
+-- what a trunk hands up of what its link hands up; a message has this reading, where the tables are
+-- these
 abbrev pub told_of : RlnhTables → Heard → Handed → TrunkUp
 told_of t heard Nothing = tells.Nothing
 told_of t heard (WentUp session peer) = tells.WentUp session peer
 told_of t heard (WentDown session) = tells.WentDown session
 told_of t heard (Got m) = told_up (hears t heard).up
 
--- where a message is handed up, this is its reading
+-- a message that is handed up has this reading
 abbrev pub IsReading : Handed → Heard → Type 0
 IsReading Nothing heard = Unit {0}
 IsReading (WentUp session peer) heard = Unit {0}
@@ -201,11 +202,11 @@ seen_from Second t = turned t
 abbrev pub side_of : Side → TrunkState → TrunkSide
 side_of side t = (seen_from side t).first
 
--- the tables of its RLNH end
+-- the tables of a side's RLNH end
 abbrev pub tables_of : Side → TrunkState → RlnhTables
 tables_of side t = (side_of side t).end.tables
 
--- what is recorded of it
+-- what is recorded of a side
 abbrev pub kept_of : Side → TrunkState → SideRecord
 kept_of side t = (side_of side t).kept
 
@@ -215,12 +216,12 @@ abbrev pub delivered : Side → ℕ → Bool → Heard → TrunkState → TrunkS
 delivered from k keep heard t =
     seen_from (other_of from) (near_delivered (seen_from (other_of from) t) k keep heard)
 
--- what is handed up of it
+-- what the packet at place k from a side hands up at the other one
 abbrev pub told_by : Side → ℕ → Heard → TrunkState → TrunkUp
 told_by from k heard t =
     told_of (tables_of (other_of from) t) heard (links.handed_by from k t.link)
 
--- a side is ticked; its link tells what is handed up
+-- a side is ticked, and its session ends where the link is lost
 abbrev pub ticked_at : Side → TrunkState → TrunkState
 ticked_at side t = seen_from side (near_ticked (seen_from side t))
 
@@ -232,7 +233,7 @@ restarted_at side boot t = seen_from side (near_restarted (seen_from side t) boo
 abbrev pub lost_from : Side → ℕ → TrunkState → TrunkState
 lost_from from k t = with_link t (links.lost_from from k t.link)
 
--- two packets from a side are exchanged
+-- the packets at places k and n from a side are exchanged
 abbrev pub swapped_from : Side → ℕ → ℕ → TrunkState → TrunkState
 swapped_from from k n t = with_link t (links.swapped_from from k n t.link)
 
@@ -243,22 +244,22 @@ abbrev pub said_at : Side → (RlnhTables → Saying) → TrunkState → TrunkSt
 said_at side call t =
     seen_from side (near_said (seen_from side t) (call (tables_of side t)))
 
--- an endpoint is published
+-- a side publishes an endpoint, where it is up
 abbrev pub published_at : Side → Inc → List ℕ → TrunkState → TrunkState
 published_at side inc name t = said_at side (λ s. publish_of s inc name) t
 
--- an endpoint opened
+-- an endpoint opened on a side's node: where the side is up and has noted the name, it is published
 abbrev pub opened_at : Side → Inc → List ℕ → TrunkState → TrunkState
 opened_at side inc name t = said_at side (λ s. opened_of s inc name) t
 
--- an endpoint closed
+-- an endpoint closed on a side's node: where the side is up and has published it, it is unpublished
 abbrev pub closed_at : Side → Inc → TrunkState → TrunkState
 closed_at side inc t = said_at side (λ s. close_of s inc) t
 
--- a name is asked for
+-- a side asks for a name, where it is up
 abbrev pub asked_at : Side → List ℕ → TrunkState → TrunkState
 asked_at side name t = said_at side (λ s. query_of s name) t
 
--- a signal is sent from an endpoint of this name to a peer that was met
+-- a side sends a signal from an endpoint of this name to a peer that was met, where it is up
 abbrev pub sent_at : Side → Inc → List ℕ → Inc → SigNote → TrunkState → TrunkState
 sent_at side from name to signal t = said_at side (λ s. send_of s from name to signal) t

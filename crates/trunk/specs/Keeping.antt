@@ -22,7 +22,7 @@ pub record Mirrors (e : Entry) (t : Talk) : Type 0 where
   pub offered : e.offered ≡ messages_of t.words
   pub handed : e.handed ≡ messages_of t.heard
 
--- one after the other
+-- each entry of the link's record has the messages of the session at its place
 abbrev pub AllMirror : List Entry → List Talk → Type 0
 AllMirror [] [] = Unit {0}
 AllMirror [] (t ∷ ts) = ⊥

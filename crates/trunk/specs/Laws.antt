@@ -38,7 +38,8 @@ pub record MayPublish (s : TrunkSide) (inc : Inc) (name : List ℕ) : Type 0 whe
   pub named : IsTrue (is_name name)
   pub goes_on : was_unpublished inc s.kept.now.said ≡ false
 
--- a signal may be sent from it to an incarnation that was met and isn't gone
+-- a signal may be sent from an endpoint that may be published to an incarnation that was met and
+-- isn't gone
 pub record MaySend (s : TrunkSide) (from : Inc) (name : List ℕ) (to : Inc) (signal : SigNote)
     : Type 0 where
   pub sender : MayPublish s from name
@@ -119,7 +120,7 @@ pub record SideAgrees (s : TrunkSide) (h : HalfState) : Type 0 where
       (i : Inc)
       → is_some (addr_met s.end.tables.met i) ≡ is_live i (map heard_as s.kept.now.given)
 
--- both sides agree
+-- the half of the link, the RLNH end and the record tell the same at both sides of a trunk
 abbrev pub SidesAgree : Type 0
 SidesAgree =
     (side : Side) (t : TrunkState) → KeepsTrunk t
@@ -141,7 +142,7 @@ pub record CallsOffer (s : TrunkSide) : Type 0 where
       (from : Inc) (name : List ℕ) (to : Inc) (signal : SigNote)
       → MaySend s from name to signal → IsOffered (send_of s.end.tables from name to signal) 2
 
--- at both sides
+-- what each call of either side of a trunk offers goes by messages that the link takes
 abbrev pub SidesOffer : Type 0
 SidesOffer = (side : Side) (t : TrunkState) → KeepsTrunk t → CallsOffer (side_of side t)
 

@@ -10,7 +10,7 @@ use Rattle.trunk.specs.declared.note.Note.TheVariants.{Began, WentUp, Published,
 use Rattle.trunk.specs.declared.note.Note.TheVariants.{Unpublished, Met, AskedFor, Arrived, Freed}
 use Rattle.trunk.specs.declared.note.Note.TheVariants.{Gone}
 
--- one more note
+-- the record of a side after one more note
 abbrev pub noted : SideRecord → Note → SideRecord
 noted A (Began session) = beginning session A
 noted A (WentUp peer) = going_up peer A

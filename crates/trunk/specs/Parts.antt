@@ -19,20 +19,20 @@ use Rattle.trunk.specs.Events.{seen_from, taken_out}
 
 -- ---- a side above its link
 
--- it says this, which is recorded
+-- a side says this, which is recorded
 abbrev pub side_says : TrunkSide → Saying → TrunkSide
 side_says s made =
     record { end = after s.end made; kept = changes.saying (saids made.says) s.kept }
 
--- it goes up with session y
+-- a side goes up with session y
 abbrev pub side_begins : TrunkSide → Session → TrunkSide
 side_begins s y = record { end = after s.end begin_of; kept = going_up y s.kept }
 
--- its session is over, and session x begins
+-- the session of a side is over, and session x begins
 abbrev pub side_ends : TrunkSide → Session → TrunkSide
 side_ends s x = record { end = emptied s.end; kept = beginning x s.kept }
 
--- a message of this reading came
+-- a message of this reading came to a side
 abbrev pub side_hears : TrunkSide → Heard → TrunkSide
 side_hears s heard =
     record {
@@ -42,7 +42,7 @@ side_hears s heard =
 
 -- ---- a trunk
 
--- the side becomes this one
+-- the first side of a trunk becomes this one
 abbrev pub near_with : TrunkState → TrunkSide → TrunkState
 near_with t s = record t { first = s }
 
@@ -66,6 +66,6 @@ sends_at side t = seen_from side (near_sends (seen_from side t))
 abbrev pub offers_to : Side → List Message → LinkState → LinkState
 offers_to side ms v = links.seen_from side (near_offers (links.seen_from side v) ms)
 
--- since the event began no packet from this side was lost or exchanged
+-- since the event began no packet from this side of a trunk was lost or exchanged
 abbrev pub HasOnlyGrownAt : Side → Both TrunkState → Type 0
 HasOnlyGrownAt from t = HasOnlyGrownFrom from (record { was = t.was.link; is = t.is.link })

@@ -21,7 +21,8 @@ pub record ArePaired (A B : SideRecord) (x y : Session) : Type 0 where
   pub pair : peer_in A x ≡ Some y
   pub back : peer_in B y ≡ Some x
 
--- and what x was given is the meaning of a front of what y said
+-- sessions x and y are each other's peer, and what x was given is the meaning of a front of what y
+-- said
 pub record HearsFront (A B : SideRecord) (x y : Session) : Type 0 where
   pub paired : ArePaired A B x y
   pub later : List Said
@@ -29,7 +30,7 @@ pub record HearsFront (A B : SideRecord) (x y : Session) : Type 0 where
 
 -- ---- what is promised of session x of side A, beside side B
 
--- what it was given
+-- what is promised of what a side was given in a session
 pub record GivenPromises (A B : SideRecord) (x : Session) : Type 0 where
   -- it is the meaning of a front of what the session that is its peer said
   pub heard : given_in A x ≢ [] → (y : Session) × HearsFront A B x y
@@ -62,7 +63,7 @@ pub record EndsLast (later before : List Said) (i : Inc) : Type 0 where
   pub not_unpublished : was_unpublished i later ≡ false
   pub no_signal : (b : Inc) → signals_between i b later ≡ []
 
--- what it said
+-- what is promised of what a side said in a session
 pub record SaidPromises (A : SideRecord) (x : Session) : Type 0 where
   -- an incarnation is published once
   pub publishes :
@@ -90,7 +91,7 @@ PeersRise (e ∷ es) = ForSome e.peer (λ y. PeersUpTo y es) × PeersRise es
 abbrev pub IsPeerHeld : SideRecord → SessionRecord → Type 0
 IsPeerHeld B e = ForSome e.peer (λ y. list_any (has_session y) (all B) ≡ true)
 
--- of each of its sessions, and of all of them
+-- what is promised of each session of a side, against those of the other side
 pub record SidePromises (A B : SideRecord) : Type 0 where
   pub given : (x : Session) → GivenPromises A B x
   pub said : (x : Session) → SaidPromises A x
@@ -105,7 +106,7 @@ pub record SidePromises (A B : SideRecord) : Type 0 where
 
 -- ---- what is promised of a trunk
 
--- of both sides
+-- what is promised of both sides of a trunk
 pub record TrunkPromises (t : TrunkState) : Type 0 where
   pub first : SidePromises t.first.kept t.second.kept
   pub second : SidePromises t.second.kept t.first.kept

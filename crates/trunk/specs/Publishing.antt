@@ -17,7 +17,8 @@ newest_unpublished (asked name ∷ before) = newest_unpublished before
 newest_unpublished (signaled from to signal ∷ before) = newest_unpublished before
 newest_unpublished (unpublished inc ∷ before) = max (newest_unpublished before) inc.0
 
--- what one more note makes of it in the present session
+-- the greatest number of an incarnation that was unpublished in the present session, after one more
+-- note
 abbrev pub newest_noted : ℕ → Note → ℕ
 newest_noted newest (Began session) = 0
 newest_noted newest (WentUp peer) = newest

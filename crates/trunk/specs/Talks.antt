@@ -24,7 +24,7 @@ pub record Talks : Type 0 where
   pub now : Talk
   pub earlier : List Talk
 
--- all its sessions
+-- all sessions of a side, the newest first
 abbrev pub all_talks : Talks → List Talk
 all_talks A = A.now ∷ A.earlier
 
@@ -67,7 +67,7 @@ pub record Holds (others : List Talk) (e : Talk) : Type 0 where
   pub pair : Pair e (partner e others)
   pub blank : e.peer ≡ None → IsBlank e
 
--- of each session of these
+-- each of these sessions holds against all sessions of the other side
 abbrev pub HoldAll : List Talk → List Talk → Type 0
 HoldAll others [] = Unit {0}
 HoldAll others (e ∷ es) = Holds others e × HoldAll others es

@@ -30,8 +30,8 @@ use Rattle.trunk.specs.declared.up.TrunkUp.TheVariants.{Gone, Asked}
 
 -- ---- what a packet or a tick makes of a side, whose record was A and is C; the other side's is B
 
--- it was given one thing more: the meaning of what the session that is its peer, and has it as its
--- own, said next
+-- a side was given one thing more: the meaning of what the session that is its peer, and has it as
+-- its own, said next
 pub record IsGiven (A C B : SideRecord) (g : Given) : Type 0 where
   pub kept : C ≡ giving g A
   -- a signal arrives at a receiver that is live, and is freed where that was unpublished
@@ -42,12 +42,12 @@ pub record IsGiven (A C B : SideRecord) (g : Given) : Type 0 where
   pub later : List Said
   pub said : said_in B peer ≡ later ++ heard_as g ∷ map heard_as A.now.given
 
--- nothing that is shown: it was given nothing, or a signal that is freed
+-- a side was given nothing that is shown to its node: nothing, or a signal that is freed
 pub data IsQuietly (A C B : SideRecord) : Type 0 where
   stays : C ≡ A → IsQuietly A C B
   frees : (a b : Inc) (note : SigNote) → IsGiven A C B (freed a b note) → IsQuietly A C B
 
--- it went up, with a session that the other side has or had, and none of its peers was later
+-- a side went up, with a session that the other side has or had, and none of its peers was later
 pub record IsUp (A C B : SideRecord) (session peer : Session) : Type 0 where
   pub own : session ≡ A.now.session
   pub was_down : A.now.peer ≡ None
@@ -55,14 +55,14 @@ pub record IsUp (A C B : SideRecord) (session peer : Session) : Type 0 where
   pub held : list_any (has_session peer) (all B) ≡ true
   pub upto : PeersUpTo peer (all A)
 
--- its session, which was up, is over, and the next one, above all before, has begun
+-- the session of a side, which was up, is over, and the next one, above all before, has begun
 pub record IsDown (A C : SideRecord) (session : Session) : Type 0 where
   pub own : session ≡ A.now.session
   pub was_up : A.now.peer ≢ None
   pub kept : C ≡ beginning (next_session session) A
   pub above : AllByRecursion (IsBelow (next_session session)) (all A)
 
--- what is handed up says which of these it is
+-- what a trunk hands up at a side says what became of the side's record
 abbrev pub TellsSide : SideRecord → SideRecord → SideRecord → TrunkUp → Type 0
 TellsSide A C B Nothing = IsQuietly A C B
 TellsSide A C B (WentUp session peer) = IsUp A C B session peer
@@ -72,7 +72,8 @@ TellsSide A C B (Met inc name) = IsGiven A C B (met inc name)
 TellsSide A C B (Gone inc) = IsGiven A C B (gone inc)
 TellsSide A C B (Asked name) = IsGiven A C B (asked_for name)
 
--- and what becomes of the names that the other side asked for and that nobody has yet
+-- what a trunk hands up at a side says what becomes of the names that the other side asked for and
+-- that nobody has yet
 abbrev pub TellsNotes : List (List ℕ) → List (List ℕ) → TrunkUp → Type 0
 TellsNotes old new Nothing = new ≡ old
 TellsNotes old new (WentUp session peer) = new ≡ []
@@ -88,7 +89,7 @@ DownForLater A B (WentDown session) =
     (peer : Session) × (A.now.peer ≡ Some peer) × (peer.0 < B.now.session.0)
 DownForLater A B up = Unit {0}
 
--- a tick's answer among those to packets
+-- what a tick hands up, as if a packet had
 abbrev pub up_of_tick : TickedSide → TrunkUp
 up_of_tick ticked.Stays = Nothing
 up_of_tick (ticked.WentDown session) = WentDown session
@@ -99,20 +100,21 @@ up_of_tick (ticked.WentDown session) = WentDown session
 abbrev pub publishing : Inc → List ℕ → SideRecord → List Said
 publishing inc name A = if is_live inc A.now.said then [] else published inc name ∷ []
 
--- one that opened is, where its name is noted
+-- what a side says of an endpoint that opened: it is published where its name is noted, unless it
+-- is live
 abbrev pub says_opening : Inc → List ℕ → List (List ℕ) → SideRecord → List Said
 says_opening inc name noted A = if is_noted noted name then publishing inc name A else []
 
--- one that closes is unpublished where it is live
+-- what a side says of an endpoint that closes: it is unpublished where it is live
 abbrev pub says_closing : Inc → SideRecord → List Said
 says_closing inc A = if is_live inc A.now.said then unpublished inc ∷ [] else []
 
--- the notes once an incarnation was published before its first signal
+-- the noted names once the sender was published before its first signal
 abbrev pub notes_sending : Inc → List ℕ → SideRecord → List (List ℕ) → List (List ℕ)
 notes_sending inc name A noted =
     if is_live inc A.now.said then noted else without_note noted name
 
--- the notes once one that opened was published where its name was noted
+-- the noted names once an endpoint that opened was published where its name was noted
 abbrev pub notes_opening : List ℕ → List (List ℕ) → List (List ℕ)
 notes_opening name noted = if is_noted noted name then without_note noted name else noted
 
@@ -120,7 +122,7 @@ notes_opening name noted = if is_noted noted name then without_note noted name e
 abbrev pub noted_of : Side → TrunkState → List (List ℕ)
 noted_of side t = (tables_of side t).noted
 
--- a call at a side that is up says this, and leaves these notes
+-- a side says this to a call, and its noted names are these afterwards
 pub record SideSays (side : Side) (t u : TrunkState) (said : List Said) (noted : List (List ℕ))
     : Type 0 where
   pub kept : kept_of side u ≡ saying said (kept_of side t)
@@ -128,7 +130,7 @@ pub record SideSays (side : Side) (t u : TrunkState) (said : List Said) (noted :
 
 -- ---- what the events tell
 
--- a packet from a side
+-- how a packet from a side changes the other one's record and noted names; its sender stays
 pub record PacketsTell : Type 0 where
   -- how the record of the side that it comes to grows, and what becomes of its notes
   pub side :
@@ -155,7 +157,7 @@ pub record PacketsTell : Type 0 where
       (from at : Side) (k n : ℕ) (t : TrunkState)
       → side_of at (swapped_from from k n t) ≡ side_of at t
 
--- a tick, and a restart, of a side
+-- how a tick and a restart of a side change its record and its noted names; the other side stays
 pub record TurnsTell : Type 0 where
   pub tick :
       (side : Side) (t : TrunkState) → KeepsTrunk t
@@ -181,7 +183,7 @@ pub record TurnsTell : Type 0 where
       (side : Side) (boot : ℕ) (t : TrunkState)
       → side_of (other_of side) (restarted_at side boot t) ≡ side_of (other_of side) t
 
--- a call at a side
+-- how a call changes the record and the noted names of a side that is up; the other side stays
 pub record CallsTell : Type 0 where
   -- one that isn't up says nothing, and the other side stays
   pub down :
@@ -221,7 +223,7 @@ pub record CallsTell : Type 0 where
 abbrev pub silent_of : Side → TrunkState → ℕ
 silent_of side t = (half_of side t.link).end.ticks
 
--- where a packet shows something, the side has heard its peer now
+-- a side to which a packet shows something has heard its peer now
 abbrev pub HeardNow : ℕ → TrunkUp → Type 0
 HeardNow silent Nothing = Unit {0}
 HeardNow silent (WentUp session peer) = silent ≡ 0
@@ -231,7 +233,7 @@ HeardNow silent (Met inc name) = silent ≡ 0
 HeardNow silent (Gone inc) = silent ≡ 0
 HeardNow silent (Asked name) = silent ≡ 0
 
--- how long a side has heard nothing
+-- how long a side has heard nothing, after each event
 pub record SilenceTells : Type 0 where
   pub packet :
       (from : Side) (k : ℕ) (keep : Bool) (heard : Heard) (t : TrunkState)
@@ -268,7 +270,7 @@ pub record SilenceTells : Type 0 where
       (side at : Side) (call : RlnhTables → Saying) (t : TrunkState)
       → silent_of at (said_at side call t) ≡ silent_of at t
 
--- all of this
+-- how each event changes the records, the noted names and the silence of both sides of a trunk
 pub record EventsTell : Type 0 where
   pub packets : PacketsTell
   pub turns : TurnsTell

@@ -54,6 +54,7 @@ fn up_text(alloc: Global, up: &TrunkUp) -> Result<String, Fail> {
     }
 }
 
+/// The packet at this place, from 0, comes to the other side, and stays in flight or is gone.
 fn deliver_text(
     alloc: Global,
     t: &mut Trunk,
@@ -126,11 +127,13 @@ fn send_text(alloc: Global, t: &mut Trunk, side: Side, rest: &str) -> Result<Str
     answer_text(alloc, is_sent)
 }
 
+/// A side asks for this name.
 fn query_text(alloc: Global, t: &mut Trunk, side: Side, name: &str) -> Result<String, Fail> {
     query(t, side, &name_of(alloc, name)?)?;
     answer_text(alloc, true)
 }
 
+/// The endpoint of this incarnation, as `1.2`, closes.
 fn close_text(alloc: Global, t: &mut Trunk, side: Side, inc: &str) -> Result<String, Fail> {
     close(t, side, inc_of(inc)?)?;
     answer_text(alloc, true)
@@ -150,26 +153,31 @@ fn publish_text(
     answer_text(alloc, is_published)
 }
 
+/// The packet at this place, from 0, is lost.
 fn lose_text(alloc: Global, t: &mut Trunk, from: Side, place: &str) -> Result<String, Fail> {
     lose(t, from, place.parse()?)?;
     answer_text(alloc, true)
 }
 
+/// The packets at two places, as `0 2`, are exchanged.
 fn swap_text(alloc: Global, t: &mut Trunk, from: Side, places: &str) -> Result<String, Fail> {
     let (first, second) = front(places);
     swap(t, from, first.parse()?, second.parse()?)?;
     answer_text(alloc, true)
 }
 
+/// A side boots again, with this boot number.
 fn restart_text(alloc: Global, t: &mut Trunk, side: Side, boot: &str) -> Result<String, Fail> {
     restart(t, side, boot.parse()?)?;
     answer_text(alloc, true)
 }
 
+/// Whether a side has met this incarnation, as `2.1`.
 fn met_by_text(alloc: Global, t: &Trunk, side: Side, inc: &str) -> Result<String, Fail> {
     yes_text(alloc, t.is_met(side, inc_of(inc)?))
 }
 
+/// Whether a side has published this incarnation, as `1.2`, and not unpublished it since.
 fn live_text(alloc: Global, t: &Trunk, side: Side, inc: &str) -> Result<String, Fail> {
     yes_text(alloc, t.is_published(side, inc_of(inc)?))
 }

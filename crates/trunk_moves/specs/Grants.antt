@@ -31,7 +31,7 @@ use Rattle.trunk_moves.specs.Trunks.{RunTrunks}
 abbrev pub AreNames : List (List ℕ) → Type 0
 AreNames names = AllByRecursion (λ v. IsTrue (is_name v)) names
 
--- TO A SIDE of node n
+-- what a run grants to a side of node n, whatever its node asks of it next
 pub record GrantsSide (P : List Step) (n : ℕ) (l : LinkNo) (at : Side) (t : TrunkState) : Type 0
   where
     -- the endpoint that opens next, by its name
@@ -51,8 +51,8 @@ pub record GrantsSide (P : List Step) (n : ℕ) (l : LinkNo) (at : Side) (t : Tr
     -- the names of the hunts that are pending over the link
     pub asks : AreNames (names_hunted P n l)
 
--- TO A SIDE OF NODE n THAT HAS JUST BEEN ASKED FOR A NAME, by a packet from the other side: the
--- endpoint of that name that answers
+-- what a run grants to a side of node n that has just been asked for a name by a packet: the
+-- endpoint that answers may be published
 pub record GrantsAnswer (P : List Step) (n : ℕ) (from : Side) (t : TrunkState) : Type 0 where
   pub answers :
       (keep : Bool) (heard : Heard) → IsReading (handed_by from 0 t.link) heard
@@ -60,7 +60,7 @@ pub record GrantsAnswer (P : List Step) (n : ℕ) (from : Side) (t : TrunkState)
       → holder_of P n name ≡ Some i
       → MayPublish (side_of (other_of from) (delivered from 0 keep heard t)) i name
 
--- EVERY RUN THAT HAS ROOM FOR A STEP GRANTS IT, on each side of each link
+-- EVERY RUN THAT HAS ROOM FOR A STEP grants what its sides ask for, on each side of each link
 abbrev pub TrunkRunsGrant : Type 0
 TrunkRunsGrant = (shape : Shape) (P : List Step) (trunks : RunTrunks)
     → IsBoundedTrunkRun shape P trunks → length P < step_limit → (l : LinkNo) → IsLinkOf shape l

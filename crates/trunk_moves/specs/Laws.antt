@@ -18,8 +18,8 @@ abbrev pub TrunkRunsAreRuns : Type 0
 TrunkRunsAreRuns = (shape : Shape) (P : List Step) (trunks : RunTrunks)
     → IsBoundedTrunkRun shape P trunks → IsRunOfMoves shape P trunks
 
--- so it is legal, its links are what its history tells, and it keeps what is promised of runs after
--- each of its steps
+-- WHAT A RUN WITH TRUNKS KEEPS: it is legal, its links are what its history tells, and it keeps
+-- what is promised of runs after each of its steps
 pub record KeepsAll (shape : Shape) (P : List Step) (trunks : RunTrunks) : Type 0 where
   pub sound : IsSoundRun shape P (links_of trunks)
   pub promises : KeepsThroughout shape P (links_of trunks)

@@ -72,7 +72,7 @@ pub record Comes (P : List Step) (n : ℕ) (l : LinkNo) (from : Side) (keep : Bo
   pub makes : after ≡ answered P n l (other_of from) (told_by from 0 heard before)
       (delivered from 0 keep heard before)
 
--- it is lost
+-- the packet at place 0 is lost
 pub record IsLostThere (from : Side) (es : List Effect) (before after : TrunkState) : Type 0 where
   pub effects : es ≡ []
   pub makes : after ≡ lost_from from 0 before
@@ -81,7 +81,7 @@ pub record IsLostThere (from : Side) (es : List Effect) (before after : TrunkSta
 abbrev pub place_of : ℕ → ℕ → ℕ
 place_of k count = if nat_lt k count then k else count - 1
 
--- it is exchanged with the packet at the place that the swap names
+-- the packet at place 0 is exchanged with the one at the place that the swap names
 pub record IsSwapped (from : Side) (k : ℕ) (es : List Effect) (before after : TrunkState) : Type 0
   where
     pub effects : es ≡ []
@@ -89,7 +89,7 @@ pub record IsSwapped (from : Side) (k : ℕ) (es : List Effect) (before after : 
         after
         ≡ swapped_from from 0 (place_of k (length (flight_from from before.link))) before
 
--- what a verdict does with it
+-- what a verdict makes of the packet at place 0 from a side
 abbrev pub Meets : List Step → ℕ → LinkNo → Side → Verdict → List Effect → TrunkState → TrunkState
     → Type 0
 Meets P n l from Deliver es before after = Comes P n l from false es before after

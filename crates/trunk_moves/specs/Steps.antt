@@ -55,7 +55,8 @@ pub record SendsThere (shape : Shape) (P : List Step) (before after : RunTrunks)
   pub makes : Become shape after
       (with_trunk before l.0 (sent_at at j (name_of P j) b note (before l.0)))
 
--- any other send leaves all trunks
+-- what a send makes of the trunks: one over a link is sent by the node's side, any other leaves
+-- them all
 abbrev pub SendMakes : Shape → List Step → RunTrunks → RunTrunks → ℕ → Option Inc → Peer → SigNote
     → SentTo → Type 0
 SendMakes shape P before after n (Some j) (There l x b) note Link =
@@ -70,7 +71,8 @@ pub record AsksThere (shape : Shape) (before after : RunTrunks) (n : ℕ) (l : L
   pub node : node_at shape l at ≡ n
   pub makes : Become shape after (with_trunk before l.0 (asked_at at v (before l.0)))
 
--- any other hunt leaves all trunks
+-- what a hunt makes of the trunks: one over a link that finds nothing is asked by the node's side,
+-- any other leaves them all
 abbrev pub HuntMakes : Shape → RunTrunks → RunTrunks → ℕ → Path → Option Peer → Type 0
 HuntMakes shape before after n (Over l v) None = AsksThere shape before after n l v
 HuntMakes shape before after n path found = Become shape after before
@@ -85,7 +87,7 @@ pub record PacketMakes (shape : Shape) (P : List Step) (before after : RunTrunks
   pub meets : Meets P (node_at shape l (other_of from)) l from verdict es (before l.0) trunk
   pub makes : Become shape after (with_trunk before l.0 trunk)
 
--- A TICK of a side
+-- A TICK of a side of a link leaves the trunks of the other links
 pub record TickMakes (shape : Shape) (P : List Step) (before after : RunTrunks) (l : LinkNo)
     (side : Side) (es : List Effect) : Type 0 where
   pub of_shape : IsLinkOf shape l

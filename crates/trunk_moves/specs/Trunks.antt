@@ -22,7 +22,7 @@ abbrev pub state_of : Side → TrunkState → SideState
 state_of side t =
     record { side = kept_of side t; noted = noted_of side t; silent = silent_of side t }
 
--- of all sides
+-- what a run of moves sees of all sides of a run with trunks
 abbrev pub links_of : RunTrunks → Links
 links_of trunks k side = state_of side (trunks k)
 
@@ -34,7 +34,7 @@ AllKept shape trunks = (l : LinkNo) → IsLinkOf shape l → KeepsTrunk (trunks 
 abbrev pub UsesUpTo : ℕ → TrunkState → Type 0
 UsesUpTo n t = (side : Side) → used_in (tables_of side t).own ≤ n
 
--- every side of every link
+-- every side of every link has no more than so many addresses in use
 abbrev pub AllUseUpTo : Shape → ℕ → RunTrunks → Type 0
 AllUseUpTo shape n trunks = (l : LinkNo) → IsLinkOf shape l → UsesUpTo n (trunks l.0)
 
@@ -54,12 +54,12 @@ side_if false false = None
 abbrev pub side_on : Shape → ℕ → LinkNo → Option Side
 side_on shape n l = side_if (node_at shape l First == n) (node_at shape l Second == n)
 
--- a side does this, where there is one
+-- a side does something, where there is that side
 abbrev pub does : Option Side → (Side → TrunkState → TrunkState) → TrunkState → TrunkState
 does None act t = t
 does (Some side) act t = act side t
 
--- the side of each link that is on a node does this
+-- the side of each link that is on a node does something
 abbrev pub all_do : Shape → ℕ → (Side → TrunkState → TrunkState) → RunTrunks → RunTrunks
 all_do shape n act trunks k = does (side_on shape n (record { 0 = k })) act (trunks k)
 
@@ -78,7 +78,7 @@ pub record IsNew (t : TrunkState) : Type 0 where
   pub has_piece : 64 ≤ piece
   pub made : t ≡ new_trunk window piece
 
--- all are
+-- all trunks are new
 abbrev pub AllNew : Shape → RunTrunks → Type 0
 AllNew shape trunks = (l : LinkNo) → IsLinkOf shape l → IsNew (trunks l.0)
 

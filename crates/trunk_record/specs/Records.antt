@@ -17,7 +17,7 @@ pub record SideRecord : Type 0 where
   pub now : SessionRecord
   pub earlier : List SessionRecord
 
--- all its sessions
+-- all sessions of a side, the newest first
 abbrev pub all : SideRecord → List SessionRecord
 all A = A.now ∷ A.earlier
 
@@ -25,15 +25,17 @@ all A = A.now ∷ A.earlier
 abbrev pub has_session : Session → SessionRecord → Bool
 has_session x e = e.session.0 == x.0
 
--- what stands in an entry, and nothing where there is none
+-- the peer of the session that an entry is of; nothing without an entry
 abbrev pub peer_of : Option SessionRecord → Option Session
 peer_of None = None
 peer_of (Some e) = e.peer
 
+-- what was said in the session that an entry is of; nothing without an entry
 abbrev pub said_of : Option SessionRecord → List Said
 said_of None = []
 said_of (Some e) = e.said
 
+-- what was given in the session that an entry is of; nothing without an entry
 abbrev pub given_of : Option SessionRecord → List Given
 given_of None = []
 given_of (Some e) = e.given

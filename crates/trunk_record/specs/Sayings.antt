@@ -33,12 +33,12 @@ heard_as (gone i) = unpublished i
 
 -- In what follows, what was said and given in a session has the newest first.
 
--- this publishes the incarnation
+-- what is said publishes this incarnation
 abbrev pub publishes : Inc → Said → Bool
 publishes i (published j name) = same_inc i j
 publishes i _ = false
 
--- this unpublishes the incarnation
+-- what is said unpublishes this incarnation
 abbrev pub unpublishes : Inc → Said → Bool
 unpublishes i (unpublished j) = same_inc i j
 unpublishes i _ = false
@@ -74,7 +74,7 @@ IsProper (asked name ∷ before) = IsProper before
 IsProper (signaled i j note ∷ before) = (is_live i before ≡ true) × IsProper before
 IsProper (unpublished i ∷ before) = (is_live i before ≡ true) × IsProper before
 
--- this frees a signal to the incarnation
+-- what is given frees a signal to this incarnation
 abbrev pub frees : Inc → Given → Bool
 frees j (freed a b note) = same_inc j b
 frees j _ = false
@@ -89,14 +89,14 @@ AreInTurn (arrived a b note ∷ before) = (list_any (frees b) before ≡ false) 
 AreInTurn (freed a b note ∷ before) = AreInTurn before
 AreInTurn (gone i ∷ before) = AreInTurn before
 
--- this is a signal
+-- what is given is a signal
 abbrev pub is_signal : Said → Bool
 is_signal (published i name) = false
 is_signal (asked name) = false
 is_signal (signaled a b note) = true
 is_signal (unpublished i) = false
 
--- this is shown to the node: a meeting, an arrival, a parting
+-- what is given is shown to the node: a meeting, an arrival, a parting
 abbrev pub is_shown : Given → Bool
 is_shown (met i name) = true
 is_shown (asked_for name) = false
@@ -104,11 +104,12 @@ is_shown (arrived a b note) = true
 is_shown (freed a b note) = false
 is_shown (gone i) = true
 
--- this meets the incarnation, and is told that it is gone
+-- the side is given a meeting with this incarnation
 abbrev pub meets_inc : Inc → Given → Bool
 meets_inc a (met i name) = same_inc a i
 meets_inc a _ = false
 
+-- the side is told that this incarnation is gone
 abbrev pub parts_inc : Inc → Given → Bool
 parts_inc a (gone i) = same_inc a i
 parts_inc a _ = false

@@ -6,13 +6,13 @@ use Rattle.journal.specs.declared.effect.Step.{Step}
 use Rattle.turn_lines.specs.Turns.{begins_turn}
 use Rattle.turn_lines.specs.declared.rows.Row.{Row}
 
--- the makers are the same
+-- two makers are one
 abbrev pub is_same : By → By → Bool
 is_same (Actor k) (Actor m) = k == m
 is_same (Pump l) (Pump m) = l.0 == m.0
 is_same _ _ = false
 
--- one turn
+-- the row of one turn of a maker
 abbrev pub one_turn : By → Row
 one_turn maker = record { maker = maker; times = 1 }
 
@@ -38,17 +38,17 @@ turns_in (row ∷ rows) = row.times + turns_in rows
 
 -- ---- the same from the other end
 
--- a turn behind a row
+-- a row, and behind it a turn, in the row where it is its maker's
 abbrev pub behind_row : Row → By → List Row
 behind_row row maker =
     if is_same row.maker maker then longer row ∷ [] else row ∷ one_turn maker ∷ []
 
--- a turn behind a row and the rows that follow
+-- a row and those that follow, and behind them a turn
 abbrev pub behind_rows : Row → List Row → By → List Row
 behind_rows row [] maker = behind_row row maker
 behind_rows row (next ∷ rows) maker = row ∷ behind_rows next rows maker
 
--- a turn behind rows
+-- rows with a turn behind them
 abbrev pub with_turn : List Row → By → List Row
 with_turn [] maker = one_turn maker ∷ []
 with_turn (row ∷ rows) maker = behind_rows row rows maker

@@ -20,7 +20,7 @@ times_text n = if n == 1 then [] else codes "*" ++ decimal n
 unfoldable pub row_text : Row → List ℕ
 row_text row = maker_text row.maker ++ times_text row.times
 
--- the same behind a space
+-- the word of a row behind a space
 abbrev pub word_text : Row → List ℕ
 word_text row = codes " " ++ row_text row
 

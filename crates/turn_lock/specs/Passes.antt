@@ -5,13 +5,13 @@ use Rattle.atomic_table.specs.Seated.{TableId}
 use Rattle.turn_lock.specs.declared.story.Made.{Made}
 use Rattle.turn_lock.specs.Stories.{made_by, AllMadeUpTo, RestsFor}
 
--- which lock it is, and how many passes it has
+-- what a lock is seen as: which one it is, and how many passes it has
 pub record LockView : Type 0 where
   pub id : TableId
   pub seats : ℕ
 
--- the lock that it is of, its number there, what no step changes, and the steps that it has seen,
--- the newest first
+-- what a pass is seen as: the lock that it is of, its number there, what no step changes, and the
+-- steps that it has seen, the newest first
 pub record PassView (E F : Type 0) : Type 0 where
   pub lock : TableId
   pub number : ℕ
@@ -41,7 +41,7 @@ module _ {E F : Type 0} where
   abbrev pub AreDealt : LockView → F → List (PassView E F) → Type 0
   AreDealt lock fixed passes = AreFirst lock.id fixed lock.seats passes
 
-  -- the same pass, which may have seen other steps
+  -- two passes are one, which may have seen other steps since
   abbrev pub IsSamePass : PassView E F → PassView E F → Type 0
   IsSamePass before now = now ≡ record before { front = now.front }
 

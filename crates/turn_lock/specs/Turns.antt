@@ -27,7 +27,7 @@ module _ {E F : Type 0} where
   abbrev pub resting : Front E F → Known E F
   resting f = record { holds = false; deals = false; fronts = f ∷ [] }
 
-  -- it deals out the numbers that follow its own
+  -- a seat that deals out the numbers that follow its own
   abbrev pub dealing : Front E F → Known E F
   dealing f = record { holds = false; deals = true; fronts = f ∷ [] }
 
@@ -48,7 +48,7 @@ module _ {E F : Type 0} where
   next_fronts [] = []
   next_fronts (f ∷ fs) = next_front f ∷ []
 
-  -- the seat that has dealt
+  -- a seat that has dealt out the next number
   abbrev pub dealt : Known E F → Known E F
   dealt v = record v { deals = false }
 
@@ -140,7 +140,7 @@ module _ {E F : Type 0} where
   fixed_first none [] = none
   fixed_first none (f ∷ fs) = f.fixed
 
-  -- a seat as a pass
+  -- what a seat is seen as: a pass
   abbrev pub pass_view : F → TableId → ℕ → Known E F → PassView E F
   pass_view none id n v = record {
     lock = id;
@@ -154,7 +154,8 @@ module _ {E F : Type 0} where
   HasFront none n v =
       (0 < n) × (v.fronts ≡ front n (fixed_first none v.fronts) (seen_first v.fronts) ∷ [])
 
-  -- a pass as a front
+  -- what of a pass is proved at each turn: its number, what no step changes, and the steps that it
+  -- has seen
   abbrev pub front_of : PassView E F → Front E F
   front_of p = front p.number p.fixed p.front
 
@@ -167,7 +168,7 @@ module _ {E F : Type 0} where
       taken = m.1;
     }
 
-    -- the pass holds nothing
+    -- a pass that holds nothing of the lock
     abbrev pub at_rest : PassView E F → PlaceView S E F
     at_rest p = record { pass = p; holds = false; taken = [] }
 

@@ -11,7 +11,7 @@ use linx_outside::{MemSink, MemSource};
 use std::alloc::Global;
 use std::test::Fail;
 
-/// Gives a script, so many bytes a read. The read of this number fails.
+/// Gives a script, at most `most` bytes a read. The read number `failing`, from 1, fails.
 pub fn failing_source(
     alloc: Global,
     script: &str,
@@ -26,7 +26,7 @@ pub fn failing_source(
     Ok(MemSource::new(bytes, most, fails))
 }
 
-/// Takes so many bytes a write. The write of this number fails.
+/// Takes at most `most` bytes a write. The write number `failing`, from 1, fails.
 pub fn failing_sink(alloc: Global, most: usize, failing: u64) -> Result<MemSink, Fail> {
     if most == 0 {
         return Err(Fail::new("no bytes a write"));

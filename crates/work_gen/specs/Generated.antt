@@ -28,7 +28,7 @@ use Rattle.script_lang.specs.Copies.{copies}
 abbrev pub up_to : ℕ → List ℕ
 up_to count = range_with_len 1 count
 
--- a letter and a number
+-- a name of a letter and a number
 abbrev pub numbered : List ℕ → ℕ → List ℕ
 numbered letter k = letter ++ decimal k
 
@@ -78,11 +78,11 @@ nth_verdict n k from j = verdict_by ((n + 3 * j + k + shift from) % 10)
 unfoldable pub plan_of : ℕ → ℕ → Side → List Verdict
 plan_of n k from = map (nth_verdict n k from) (up_to 200)
 
--- the plans of link k
+-- the plans of both directions of link k
 abbrev pub plans_of : ℕ → ℕ → Plans
 plans_of n k = record { from_first = plan_of n k First; from_second = plan_of n k Second }
 
--- receives signals of one number
+-- the command that receives signals of one number
 abbrev pub receive : ℕ → Command
 receive number = Recv (Only (number ∷ []))
 
@@ -130,7 +130,7 @@ client n k i = record { node = record { 0 = k }; commands = client_commands n k 
 abbrev pub clients : ℕ → ℕ → List ActorScript
 clients n k = map (client n k) (range_with_len (8 * (k - 1) + 1) 8)
 
--- the actors over link k
+-- the actors over link k: its server, and its clients
 unfoldable pub actors_over : ℕ → ℕ → List ActorScript
 actors_over n k = server k ∷ clients n k
 

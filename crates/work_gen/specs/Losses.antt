@@ -11,6 +11,6 @@ abbrev pub LosesApart : List Verdict → Type 0
 LosesApart verdicts =
     (i : ℕ) → slice_get verdicts i ≡ Some Lose → slice_get verdicts (i + 1) ≢ Some Lose
 
--- in no direction of a link
+-- in no direction of a link a verdict `lose` stands right behind another one
 abbrev pub EachLosesApart : ScriptParts → Type 0
 EachLosesApart s = (link : LinkNo) (from : Side) → LosesApart (planned_verdicts s link from)

@@ -32,7 +32,7 @@ const REQUESTS: u32 = 100;
 /// The clients of a server.
 pub(crate) const CLIENTS: u32 = 8;
 
-/// Receives signals of one number.
+/// Receives signals of this number alone.
 fn receive_of(alloc: Global, number: u32) -> Result<Command, NoMemory>
     ensures { IfOk result (λ command. command ≡ receive number) }
 {
@@ -47,7 +47,7 @@ fn server_kept(alloc: Global) -> Result<Target, NoMemory>
     Ok(Target::Kept(name_of(alloc, b"s")?))
 }
 
-/// What the server of link k does.
+/// What the server of link k, from 1, does.
 #[tactic(auto, unfolding(crate::specs::Generated::server_commands))]
 pub(crate) fn server_commands(alloc: Global, k: u32) -> Result<Commands, NoMemory>
     ensures { IfOk result (λ commands. commands ≡ server_commands k) }
@@ -104,7 +104,7 @@ fn request_of(n: u32, i: u32) -> Filling
     }
 }
 
-/// Adds what client i asks of its server.
+/// Adds what client i, counted over all links, asks of its server in the load of number n.
 #[tactic(auto, unfolding(crate::specs::Generated::asking))]
 fn add_asking(alloc: Global, commands: &mut Commands, n: u32, i: u32) -> Result<(), NoMemory>
     ensures { OnOk result (commands.new ≡ commands.old ++ asking n i) }
@@ -132,7 +132,8 @@ fn add_leaving(alloc: Global, commands: &mut Commands) -> Result<(), NoMemory>
     Ok(())
 }
 
-/// What client i does over link k.
+/// What client i does, which stands over link k, in the load of number n. Links and clients are
+/// counted from 1, clients over all links.
 pub(crate) fn client_commands(alloc: Global, n: u32, k: u32, i: u32) -> Result<Commands, NoMemory>
     ensures { IfOk result (λ commands. commands ≡ client_commands n k i) }
 {

@@ -75,7 +75,7 @@ fn add_server(alloc: Global, script: &mut Script, k: u32) -> Result<(), NoMemory
     Ok(())
 }
 
-/// Adds client i of link k.
+/// Adds client i, counted over all links, which stands over link k, to the load of number n.
 fn add_client(alloc: Global, script: &mut Script, n: u32, k: u32, i: u32) -> Result<(), NoMemory>
     requires node { IsTrue (is_node script.old (record { 0 = k })) }
     requires link { IsTrue (has_end script.old (record { 0 = k }) (record { 0 = k })) }
@@ -86,7 +86,7 @@ fn add_client(alloc: Global, script: &mut Script, n: u32, k: u32, i: u32) -> Res
     Ok(())
 }
 
-/// Adds the clients of link k.
+/// Adds the clients of link k to the load of number n.
 fn add_clients(alloc: Global, script: &mut Script, n: u32, k: u32) -> Result<(), NoMemory>
     requires some { 1 ≤ k }
     requires few { k ≤ 3 }

@@ -33,7 +33,7 @@ passes_in all = map (λ (w : Worked). w.pass) all
 abbrev pub players_in : List Worked → List Player
 players_in all = filter_map (λ (w : Worked). w.player) all
 
--- all are finished
+-- all workers are finished
 abbrev pub AreFinished : List Worked → Type 0
 AreFinished [] = Unit {0}
 AreFinished (w ∷ rest) = (w.end ≡ Finished) × AreFinished rest

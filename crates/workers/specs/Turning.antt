@@ -104,16 +104,16 @@ stop_in turns.Goes = None
 stop_in turns.Waits = None
 stop_in (turns.Done stop) = stop
 
--- further turns follow
+-- a worker takes further turns
 abbrev pub goes_on : Turned → Bool
 goes_on turns.Goes = true
 goes_on turns.Waits = true
 goes_on (turns.Done stop) = false
 
--- a full journal is met only where it is one
+-- a stop at a full journal is met only where the journal is full
 abbrev pub IsRightlyFullOn : Layout → Option StopCause → Type 0
 IsRightlyFullOn f stop = stop ≡ Some JournalFull → is_full f.log.steps ≡ true
 
--- and where the pass has seen one
+-- a stop at a full journal is met only where the pass has seen one
 abbrev pub IsRightlyFull : PassView Step PlanParts → Option StopCause → Type 0
 IsRightlyFull p stop = stop ≡ Some JournalFull → is_full (seen p) ≡ true

@@ -57,7 +57,7 @@ pub record IsWorking (script : ScriptParts) (p : PassView Step PlanParts) (playe
   pub played : IsPlayedBy script (seen p) p.number player
   pub planned : OwnPlanned script p.number (seen p)
 
--- where it is an actor, it hasn't ended as far as its pass has seen
+-- an actor hasn't ended as far as its pass has seen; a link has no player
 abbrev pub StillRuns : PassView Step PlanParts → Option Player → Type 0
 StillRuns p player =
     (actor : Player) → player ≡ Some actor → has_ended (seen p) p.number ≡ false
@@ -99,7 +99,7 @@ pub record IsReadyJob (lock : LockView) (script : ScriptParts) (job : Job) : Typ
   pub working : IsWorking script job.pass job.player
   pub fresh : job.pass.front ≡ []
 
--- these are done, each at its place
+-- each of these workers is done, at the place of its job
 pub record AreWorkedJobs (script : ScriptParts) (jobs : List Job) (all : List Worked) : Type 0 where
   pub many : length all ≡ length jobs
   pub each : (k : ℕ) (job : Job) (done : Worked) → k < length jobs

@@ -249,7 +249,9 @@ fn concluded(mut stage: Stage, end: End) -> (Ran, bool)
     }
 }
 
-/// Runs a script, with a thread for each actor and each link.
+/// Runs a script, with a thread for each actor and each link. The run is over, or tells the stop
+/// that it met: a full journal, or want of memory. Where a worker gave up, what it left is done in
+/// the fixed order, which the run then says.
 pub fn run<R: Threads + Wait + Sync, G: Gate + Sync>(
     rt: &R,
     alloc: Global,
