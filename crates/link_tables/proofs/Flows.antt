@@ -1,7 +1,8 @@
 -- WHAT A FLOW HAS is what the history says was sent to its peer.
 use Rattle.std.proofs.Common.{◌≡◌, ℕ, zero, suc, Bool, true, false, ◌&&◌, ◌==◌, List, [], ◌∷◌, ◌++◌}
 use Rattle.std.proofs.Common.{filter, map, Option, Some, None, refl, sym, ◌∙◌, ap, slice_get}
-use Rattle.std.proofs.Common.{append-nil}
+use Rattle.std.proofs.Common.{append-nil, eq-eqb, eqb-true}
+use Rattle.std.proofs.lemmas.Bool.{and_parts}
 use Rattle.std.proofs.Common.{if◌then◌else◌, Ordering, is_eq, nat_cmp}
 use Rattle.std.specs.Ordering.{ordering_then}
 use Rattle.keyed_list.proofs.Finding.{flipped, same_number, same_parts}
@@ -96,3 +97,39 @@ under-flow f g =
     (same_parts _ _ (same_number f.session.0 g.session.0 ∙ flipped f.session.0 g.session.0)
     (same_number f.peer.0 g.peer.0 ∙ flipped f.peer.0 g.peer.0))
     ∙ and_nested (g.link.0 == f.link.0) (g.session.0 == f.session.0) (g.peer.0 == f.peer.0))
+
+-- FLOWS of the same parts are one
+inc-is : (a b : Inc) → same_inc a b ≡ true → a ≡ b
+inc-is a b is = ap (λ (n : ℕ). let z : Inc = record { 0 = n } in z) (eqb-true a.0 b.0 is)
+
+pub flow-is : (f g : Flow) → same_flow f g ≡ true → f ≡ g
+flow-is f g is =
+    let halves = and_parts (same_inc f.at g.at) (same_peer (peer_of g) (peer_of f)) is in
+    let parts = and_parts (g.link.0 == f.link.0 && g.session.0 == f.session.0)
+    (same_inc g.peer f.peer) halves.1 in
+    let others = and_parts (g.link.0 == f.link.0) (g.session.0 == f.session.0) parts.0 in
+    let at : f.at ≡ g.at = inc-is f.at g.at halves.0 in
+    let link : g.link.0 ≡ f.link.0 = eqb-true g.link.0 f.link.0 others.0 in
+    let session : g.session.0 ≡ f.session.0 = eqb-true g.session.0 f.session.0 others.1 in
+    let peer : g.peer ≡ f.peer = inc-is g.peer f.peer parts.1 in
+    (λ i. record {
+      at = at i;
+      link = record { 0 = sym link i };
+      session = record { 0 = sym session i };
+      peer = sym peer i;
+    })
+
+pub flow-same : (f : Flow) → same_flow f f ≡ true
+flow-same f =
+    rw (
+      eq-eqb f.at.0 f.at.0 refl,
+      eq-eqb f.link.0 f.link.0 refl,
+      eq-eqb f.session.0 f.session.0 refl,
+      eq-eqb f.peer.0 f.peer.0 refl,
+    ) refl
+
+pub flow-flipped : (f g : Flow) → same_flow f g ≡ same_flow g f
+flow-flipped f g =
+    λ i. flipped f.at.0 g.at.0 i
+    && (flipped g.link.0 f.link.0 i && flipped g.session.0 f.session.0 i
+    && flipped g.peer.0 f.peer.0 i)

@@ -5,3 +5,6 @@ pub mod Room
 pub mod Keys
 pub mod Marked
 pub mod Flows
+pub mod Arrived
+pub mod Counting
+pub mod Named

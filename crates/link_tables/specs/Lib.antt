@@ -1,3 +1,4 @@
 pub mod Sides
 pub mod Marks
 pub mod Sent
+pub mod Arrivals

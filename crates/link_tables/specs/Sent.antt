@@ -4,6 +4,8 @@ use Rattle.std.specs.Prelude.{None, if◌then◌else◌}
 use Rattle.linx_base.specs.Peers.{same_inc, same_peer}
 use Rattle.linx_base.specs.SigNotes.{SigNote}
 use Rattle.linx_base.specs.declared.identity.Inc.{Inc}
+use Rattle.linx_base.specs.declared.identity.LinkNo.{LinkNo}
+use Rattle.linx_base.specs.declared.identity.Session.{Session}
 use Rattle.linx_base.specs.declared.identity.Peer.{Peer}
 use Rattle.linx_base.specs.declared.identity.Peer.TheVariants.{Here, There}
 use Rattle.journal.specs.History.{endpoint_by}
@@ -12,19 +14,32 @@ use Rattle.journal.specs.declared.effect.Step.{Step}
 use Rattle.journal.specs.declared.head.Head.{Head}
 use Rattle.journal.specs.declared.head.Head.TheVariants.{Send}
 use Rattle.link_tables.specs.declared.sent.Flow.{Flow}
+use Rattle.link_tables.specs.declared.sent.SentKey.{SentKey}
+use Rattle.link_tables.specs.declared.sent.SentKey.TheVariants as keys
 use Rattle.link_tables.specs.declared.sent.SentOver.{SentOver}
 
--- a signal is found by its flow
-abbrev pub flow_keys : SentOver → List Flow
-flow_keys sent = sent.flow ∷ []
+-- a signal is found by its flow, by who sent it in which session, and by its link
+abbrev pub sent_keys : SentOver → List SentKey
+sent_keys sent =
+    keys.Flow sent.flow ∷ keys.From sent.flow.at sent.flow.link sent.flow.session
+    ∷ keys.Over sent.flow.link ∷ []
 
 -- the peer of a flow
 abbrev pub peer_of : Flow → Peer
 peer_of flow = There flow.link flow.session flow.peer
 
--- one flow
+-- two flows are one
 abbrev pub same_flow : Flow → Flow → Bool
 same_flow f g = same_inc f.at g.at && same_peer (peer_of g) (peer_of f)
+
+-- a flow from this endpoint, in this session of a link
+abbrev pub is_from : Inc → LinkNo → Session → Flow → Bool
+is_from at link session f =
+    same_inc at f.at && (link.0 == f.link.0 && session.0 == f.session.0)
+
+-- a flow over this link
+abbrev pub is_over : LinkNo → Flow → Bool
+is_over link f = link.0 == f.link.0
 
 -- the signals of a flow, in order
 abbrev pub notes_of : Flow → List SentOver → List SigNote
@@ -46,12 +61,12 @@ abbrev pub sent_over : Inc → Head → Option SentOver
 sent_over at (Send to note answer) = if was_sent answer then in_flow (flow_to at to) note else None
 sent_over at _ = None
 
--- with one more, if it is something
+-- the signals that were sent over links with one more, if there is one
 abbrev pub with_sent : List SentOver → Option SentOver → List SentOver
 with_sent sent None = sent
 with_sent sent (Some s) = sent ++ s ∷ []
 
--- after a head of which this is the endpoint
+-- the signals that were sent over links once this endpoint made a step of this head
 abbrev pub sent_past : Option Inc → Head → List SentOver → List SentOver
 sent_past None head sent = sent
 sent_past (Some at) head sent = with_sent sent (sent_over at head)

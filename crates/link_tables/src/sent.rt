@@ -1,11 +1,13 @@
 //! What was sent over links so far.
-ghost use Rattle.std.specs.Prelude.{◌≡◌, ◌++◌, [], ◌∷◌, slice_get, length, ◌≤◌, IfOk, OnOk};
+ghost use Rattle.std.specs.Prelude.{◌≡◌, ◌++◌, [], ◌∷◌, slice_get, length, ◌≤◌, IfOk, OnOk, filter};
 ghost use Rattle.std.specs.Option.{option_copied, option_map};
-ghost use Rattle.link_tables.specs.Sent.{flow_keys, flow_to, notes_of, sent_over};
-ghost use Rattle.link_tables.specs.Sent.{sent_past, with_sent};
+ghost use Rattle.link_tables.specs.Sent.{flow_to, is_from, is_over, notes_of, same_flow, sent_keys};
+ghost use Rattle.link_tables.specs.Sent.{sent_over, sent_past, with_sent};
+ghost use Rattle.keyed_list.specs.Keys.{is_under};
+ghost use Rattle.link_tables.specs.declared.sent.SentOver.{SentOver as Sending};
 
 use journal::{Head, SentTo};
-use keyed_list::{Keyed, KeyedList};
+use keyed_list::{Keyed, KeyedList, Under};
 use linx_base::{Inc, LinkNo, NoMemory, Peer, Session, SigNote, TryCopy};
 use std::alloc::Global;
 use std::marker::Model;
@@ -19,6 +21,15 @@ pub struct Flow {
     pub peer: Inc,
 }
 
+/// By what a signal is found: its flow, the endpoint that sent it with the session that it sent it
+/// in, and the link.
+#[derive(PartialEq, Eq, PartialOrd, Ord, Drop)]
+pub enum SentKey {
+    Flow(Flow),
+    From(Inc, LinkNo, Session),
+    Over(LinkNo),
+}
+
 /// A signal that an endpoint sent to a peer over a link.
 #[derive(Drop)]
 pub struct SentOver {
@@ -26,19 +37,57 @@ pub struct SentOver {
     note: SigNote,
 }
 
-impl Keyed<Flow> for SentOver {
-    ghost keys = { flow_keys };
+/// A walk over signals that were sent, in order.
+pub type SentUnder<'a> = Under<'a, SentOver, SentKey>;
 
-    fn key(&self, at: u8) -> Option<Flow> {
+impl Keyed<SentKey> for SentOver {
+    ghost keys = { sent_keys };
+
+    fn key(&self, at: u8) -> Option<SentKey> {
         match at {
-            0 => Some(self.flow),
+            0 => Some(SentKey::Flow(self.flow)),
+            1 => Some(SentKey::From(self.flow.at, self.flow.link, self.flow.session)),
+            2 => Some(SentKey::Over(self.flow.link)),
             _ => None,
         }
     }
 }
 
+impl SentOver {
+    /// The flow that it is of.
+    pub fn flow(&self) -> Flow
+        ensures { result ≡ self.now.flow }
+    {
+        self.flow
+    }
+}
+
+/// The key of the signals of a flow.
+fn flow_key(flow: Flow) -> SentKey
+    ensures { (sent : Sending) → is_under ⟦<SentKey as Ord>⟧.cmp sent_keys result sent
+        ≡ same_flow flow sent.flow }
+{
+    SentKey::Flow(flow)
+}
+
+/// The key of those that an endpoint sent in a session of a link.
+fn from_key(at: Inc, link: LinkNo, session: Session) -> SentKey
+    ensures { (sent : Sending) → is_under ⟦<SentKey as Ord>⟧.cmp sent_keys result sent
+        ≡ is_from at link session sent.flow }
+{
+    SentKey::From(at, link, session)
+}
+
+/// The key of those that were sent over a link.
+fn over_key(link: LinkNo) -> SentKey
+    ensures { (sent : Sending) → is_under ⟦<SentKey as Ord>⟧.cmp sent_keys result sent
+        ≡ is_over link sent.flow }
+{
+    SentKey::Over(link)
+}
+
 /// The flow from an endpoint to a peer over a link; none of a peer on the own node.
-fn flow_to(at: Inc, peer: Peer) -> Option<Flow>
+pub(crate) fn flow_to(at: Inc, peer: Peer) -> Option<Flow>
     ensures { result ≡ flow_to at peer }
 {
     match peer {
@@ -82,7 +131,7 @@ fn note_in(sent: Option<&SentOver>) -> Option<&SigNote>
 /// The signals that were sent over links, in order.
 #[derive(Drop)]
 pub struct Sent {
-    sent: KeyedList<SentOver, Flow>,
+    sent: KeyedList<SentOver, SentKey>,
 }
 
 impl Model for Sent {
@@ -108,7 +157,21 @@ impl Sent {
     pub fn nth(&self, flow: Flow, k: usize) -> Option<&SigNote>
         ensures { option_copied result ≡ slice_get (notes_of flow self.now) k }
     {
-        note_in(self.sent.nth(flow, k))
+        note_in(self.sent.nth(flow_key(flow), k))
+    }
+
+    /// Those that an endpoint sent in a session of a link, in order.
+    pub fn sent_from(&self, at: Inc, link: LinkNo, session: Session) -> SentUnder<'_>
+        ensures { result ≡ filter (λ s. is_from at link session s.flow) self.now }
+    {
+        self.sent.under(from_key(at, link, session))
+    }
+
+    /// Those that were sent over a link, in order.
+    pub fn sent_over(&self, link: LinkNo) -> SentUnder<'_>
+        ensures { result ≡ filter (λ s. is_over link s.flow) self.now }
+    {
+        self.sent.under(over_key(link))
     }
 
     /// Adds what was sent, if it is something.
@@ -124,7 +187,8 @@ impl Sent {
         }
     }
 
-    /// Notes what a head sends, of which this is the endpoint.
+    /// Notes what a head sends over a link, of which this is the maker's endpoint, if it has one.
+    /// After a refusal the table is thrown away.
     pub fn pass(&mut self, me: Option<Inc>, head: &Head) -> Result<(), NoMemory>
         ensures { OnOk result (self.new ≡ sent_past me head.now self.old) }
     {

@@ -1,0 +1,12 @@
+pub mod Links
+pub mod Cuts
+pub mod Ticks
+pub mod Deliveries
+pub mod Reading
+pub mod Coming
+pub mod Stillness
+pub mod Orderly
+pub mod Lines
+pub mod Books
+pub mod Told
+pub mod Judging

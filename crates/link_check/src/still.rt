@@ -1,0 +1,166 @@
+//! Whether a link is still.
+ghost use Rattle.std.specs.Prelude.{◌≡◌, is_none, is_some, filter, length};
+ghost use Rattle.std.specs.List.{list_any};
+ghost use Rattle.std.specs.Option.{option_copied};
+ghost use Rattle.linx_base.specs.Pending.{name_over};
+ghost use Rattle.link_check.specs.Deliveries.{is_session};
+ghost use Rattle.link_check.specs.Stillness.{any_findable, any_left_over, any_under_way};
+ghost use Rattle.link_check.specs.Stillness.{is_findable, is_left_over, is_open_name, is_still};
+ghost use Rattle.link_check.specs.Stillness.{is_still_half, is_still_whole, is_under_way};
+
+use crate::delivery::{Delivery, is_session};
+use link_tables::{Mark, SentOver};
+use linx_base::{LinkNo, Name, Path, PendingHunt, Session};
+use node_kernel::Kernel;
+use std::marker::Model;
+
+/// What is known at the two ends of a link, and whether it is cut.
+#[derive(Drop)]
+pub(crate) struct Line<'a> {
+    pub(crate) first: Delivery<'a>,
+    pub(crate) second: Delivery<'a>,
+    pub(crate) cut: bool,
+}
+
+impl<'a> Model for Line<'a> {
+    ghost use Rattle.link_check.specs.Stillness.{Ends};
+
+    ghost Value = { Ends };
+
+    ghost view = { λ l. record { first = l.first; second = l.second; cut = l.cut } };
+}
+
+/// The name that a path has over a link.
+fn name_over(link: LinkNo, path: &Path) -> Option<&Name>
+    ensures { option_copied result ≡ name_over link path.now }
+{
+    match path {
+        Path::Local(_) => None,
+        Path::Over { link: over, name } => { if over.0 == link.0 { Some(name) } else { None } }
+    }
+}
+
+/// Whether a name, if it is one, is open on a node.
+fn is_open_name(kernel: &Kernel, name: Option<&Name>) -> bool
+    ensures { result ≡ is_open_name kernel.now.endpoints (option_copied name.entry) }
+{
+    match name {
+        Some(name) => kernel.first(name).is_some(),
+        None => false,
+    }
+}
+
+impl<'a> Delivery<'a> {
+    /// Whether a signal of an open endpoint across has still to come to an open one here.
+    fn is_under_way(
+        &self,
+        across: &Delivery<'_>,
+        session: Session,
+        other: Session,
+        sent: &SentOver,
+    ) -> bool
+        ensures { result ≡ is_under_way self.now across.now session other sent.now }
+    {
+        let flow = sent.flow();
+        flow.session.0 == other.0
+            && (across.node.is_open(flow.at) && self.is_to_come(session, sent))
+    }
+
+    /// Whether one has.
+    fn any_under_way(&self, across: &Delivery<'_>, session: Session, other: Session) -> bool
+        ensures { result ≡ any_under_way self.now across.now session other }
+    {
+        let mut left = self.sent.sent_over(self.link);
+        while let Some(sent) = left.next_entry() {
+            let under_way = self.is_under_way(across, session, other, sent);
+            if under_way {
+                return true;
+            }
+        }
+        false
+    }
+
+    /// Whether a peer that was met is alive here, and isn't open across.
+    fn is_left_over(&self, across: &Delivery<'_>, mark: &Mark) -> bool
+        ensures { result ≡ is_left_over self.now across.now mark.now }
+    {
+        match mark.met() {
+            Some((peer, inc)) => self.node.is_living(peer) && !across.node.is_open(inc),
+            None => false,
+        }
+    }
+
+    /// Whether one is.
+    fn any_left_over(&self, across: &Delivery<'_>, session: Session) -> bool
+        ensures { result ≡ any_left_over self.now across.now session }
+    {
+        let mut left = self.marks.met_in(self.at, self.link, session);
+        while let Some(mark) = left.next_entry() {
+            let left_over = self.is_left_over(across, mark);
+            if left_over {
+                return true;
+            }
+        }
+        false
+    }
+
+    /// Whether a hunt from here is for a name that is open across.
+    fn is_findable(&self, across: &Delivery<'_>, hunt: &PendingHunt) -> bool
+        ensures { result ≡ is_findable self.now across.now hunt.now }
+    {
+        is_open_name(across.node, name_over(self.link, &hunt.path))
+    }
+
+    /// Whether one is.
+    fn any_findable(&self, across: &Delivery<'_>) -> bool
+        ensures { result ≡ any_findable self.now across.now }
+    {
+        let mut left = self.node.hunts_over(self.link);
+        while let Some(hunt) = left.next_entry() {
+            let findable = self.is_findable(across, hunt);
+            if findable {
+                return true;
+            }
+        }
+        false
+    }
+
+    /// Whether one direction is still.
+    fn is_still_half(&self, across: &Delivery<'_>, session: Session, other: Session) -> bool
+        ensures { result ≡ is_still_half self.now across.now session other }
+    {
+        is_session(self.here.pair(), other)
+            && (!self.any_under_way(across, session, other)
+                && (!self.any_left_over(across, session) && !self.any_findable(across)))
+    }
+}
+
+impl<'a> Line<'a> {
+    /// Whether both directions are.
+    fn is_still_whole(&self) -> bool
+        ensures { result ≡ is_still_whole self.now.first self.now.second self.now.first.here.up
+            self.now.second.here.up }
+    {
+        match self.first.here.up() {
+            Some(here) => match self.second.here.up() {
+                Some(there) => {
+                    self.first.is_still_half(&self.second, here, there)
+                        && self.second.is_still_half(&self.first, there, here)
+                }
+                None => false,
+            },
+            None => false,
+        }
+    }
+
+    /// Whether the link is still.
+    pub(crate) fn is_still(&self) -> bool
+        ensures { result ≡ is_still self.now }
+    {
+        if self.cut {
+            self.first.here.up().is_none() && self.second.here.up().is_none()
+        } else {
+            self.is_still_whole()
+        }
+    }
+}

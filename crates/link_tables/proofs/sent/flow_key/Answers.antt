@@ -1,0 +1,6 @@
+use Rattle.keyed_list.proofs.Finding.{alone}
+use Rattle.link_tables.proofs.Flows.{under-flow}
+use Rattle.link_tables.proofs.sent.flow_key.Goals as goal
+
+pub returns : goal.returns
+returns c = λ s. alone (under-flow c.args.flow s.flow)
