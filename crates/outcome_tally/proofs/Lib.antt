@@ -1,3 +1,2 @@
-mod Placed
-mod Ranked
+mod Kept
 pub mod Within

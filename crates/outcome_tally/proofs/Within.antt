@@ -1,12 +1,13 @@
 -- That nothing came in more runs than there are, so that there is room for each count.
-use Rattle.std.proofs.Common.{◌≡◌, ◌<◌, ◌≤◌, ◌+◌, ◌^◌, ℕ, zero, suc, Bool, true, false, List, []}
+use Rattle.std.proofs.Common.{◌≡◌, ◌<◌, ◌≤◌, ◌+◌, ◌^◌, ℕ, Bool, true, false, cond, List, []}
 use Rattle.std.proofs.Common.{◌∷◌, All, Option, Some, None, arith, length, refl}
-use Rattle.std.proofs.lemmas.List.Elements.{All-cons, All-head, All-nil, All-push, All-tail}
+use Rattle.std.proofs.lemmas.List.Elements.{All-cons, All-head, All-nil, All-tail}
 use Rattle.std.proofs.lemmas.List.Elements.{All-weaker}
+use Rattle.std.specs.Str.{bytes_eq}
 use Rattle.run_outcomes.specs.SeenParts.{SeenParts}
 use Rattle.outcome_tally.specs.Few.{AllFew, IsFew, RaresFew}
 use Rattle.outcome_tally.specs.OutcomeParts.{OutcomeParts}
-use Rattle.outcome_tally.specs.Outcomes.{again, again_at, place_in, with_outcome, with_placed}
+use Rattle.outcome_tally.specs.Outcomes.{again, with_outcome}
 use Rattle.outcome_tally.specs.RareTimes.{with_rares}
 use Rattle.outcome_tally.specs.Tallies.{Ran, tally_of, with_came}
 use Rattle.outcome_tally.specs.TallyParts.{TallyParts}
@@ -79,29 +80,25 @@ all-more came most is =
     All-weaker (HasWithin most) (HasWithin (most + 1))
     (λ (o : OutcomeParts) (within : o.times.runs ≤ most). omega arith) came is
 
-all-again : (came : List OutcomeParts) (place seed most : ℕ) → AllWithin most came
-    → AllWithin (most + 1) (again_at came place seed)
-all-again [] place seed most is = All-nil (HasWithin (most + 1))
-all-again (o ∷ rest) zero seed most is =
+by-within : (b : Bool) (o : OutcomeParts) (rest with : List OutcomeParts) (seed most : ℕ)
+    → AllWithin most (o ∷ rest) → AllWithin (most + 1) with
+    → AllWithin (most + 1) (cond b (again o seed ∷ rest) (o ∷ with))
+by-within true o rest with seed most is also =
     let within : o.times.runs ≤ most = All-head (HasWithin most) o rest is in
     All-cons (HasWithin (most + 1)) (again o seed) rest (omega arith)
     (all-more rest most (All-tail (HasWithin most) o rest is))
-all-again (o ∷ rest) (suc place) seed most is =
+by-within false o rest with seed most is also =
     let within : o.times.runs ≤ most = All-head (HasWithin most) o rest is in
-    All-cons (HasWithin (most + 1)) o (again_at rest place seed) (omega arith)
-    (all-again rest place seed most (All-tail (HasWithin most) o rest is))
-
-all-placed : (came : List OutcomeParts) (text : List ℕ) (seed most : ℕ) (place : Option ℕ)
-    → AllWithin most came → AllWithin (most + 1) (with_placed came text seed place)
-all-placed came text seed most (Some place) is = all-again came place seed most is
-all-placed came text seed most None is =
-    All-push (HasWithin (most + 1)) came (record { text = text; times = once_more never seed })
-    (all-more came most is) (omega arith)
+    All-cons (HasWithin (most + 1)) o with (omega arith) also
 
 all-within : (came : List OutcomeParts) (text : List ℕ) (seed most : ℕ) → AllWithin most came
     → AllWithin (most + 1) (with_outcome came text seed)
-unfolding with_outcome
-all-within came text seed most is = all-placed came text seed most (place_in came text) is
+all-within [] text seed most is =
+    All-cons (HasWithin (most + 1)) (record { text = text; times = once_more never seed }) []
+    (omega arith) (All-nil (HasWithin (most + 1)))
+all-within (o ∷ rest) text seed most is =
+    by-within (bytes_eq text o.text) o rest (with_outcome rest text seed) seed most is
+    (all-within rest text seed most (All-tail (HasWithin most) o rest is))
 
 all-few : (came : List OutcomeParts) (most : ℕ) → most < 2 ^ 63 → AllWithin most came
     → AllFew came

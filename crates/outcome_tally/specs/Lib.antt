@@ -2,6 +2,7 @@ pub mod Times
 pub mod Spans
 pub mod OutcomeParts
 pub mod Outcomes
+pub mod Entries
 pub mod RareTimes
 pub mod TallyParts
 pub mod Few

@@ -1,82 +1,81 @@
 //! The outcomes that came.
 
-ghost use Rattle.std.specs.Prelude.{◌≡◌, ◌<◌, ◌^◌, OnOk};
-ghost use Rattle.std.specs.Str.{bytes_eq};
+ghost use Rattle.std.specs.Prelude.{◌≡◌, [], length, OnOk};
 ghost use Rattle.outcome_tally.specs.Few.{AllFew};
-ghost use Rattle.outcome_tally.specs.Outcomes.{again, place_in, with_outcome};
+ghost use Rattle.outcome_tally.specs.Outcomes.{times_of, with_outcome};
 
 use crate::times::Times;
+use indexmap::IndexMap;
 use linx_base::NoMemory;
+use std::alloc::Global;
 use std::marker::Model;
 
 /// An outcome, and how often it came.
 #[derive(Drop)]
-pub(crate) struct Outcome {
-    text: Vec<u8>,
-    times: Times,
+pub(crate) struct Outcome<'a> {
+    pub(crate) text: &'a [u8],
+    pub(crate) times: Times,
 }
 
-impl Model for Outcome {
+impl<'a> Model for Outcome<'a> {
     ghost use Rattle.outcome_tally.specs.OutcomeParts.{OutcomeParts};
 
     ghost Value = { OutcomeParts };
 
-    ghost view = { λ o. record { text = o.text.items; times = o.times } };
+    ghost view = { λ o. record { text = o.text.now; times = o.times } };
 }
 
-impl Outcome {
-    /// Whether this is its text.
-    fn has_text(&self, text: &[u8]) -> bool
-        ensures { result ≡ bytes_eq self.now.text text.now }
-    {
-        self.text.as_slice() == text
-    }
-
-    /// Its text.
-    pub(crate) fn text(&self) -> &[u8]
-        ensures { result.now ≡ self.now.text }
-    {
-        self.text.as_slice()
-    }
-
-    /// How often it came.
-    pub(crate) fn times(&self) -> Times
-        ensures { result ≡ self.now.times }
-    {
-        self.times
-    }
-
-    /// It came once more.
-    fn again(&mut self, seed: u64)
-        requires { self.old.times.runs < 2 ^ 63 }
-        ensures { self.new ≡ again self.old seed }
-    {
-        self.times = self.times.once_more(seed);
-    }
+/// The outcomes that came, in the order in which they came first. One is found by its text, without a
+/// look at the others.
+#[derive(Drop)]
+pub(crate) struct Outcomes {
+    pub(crate) times: IndexMap<Vec<u8>, Times>,
 }
 
-/// The place of an outcome among these.
-fn place_in(came: &[Outcome], text: &[u8]) -> Option<usize>
-    ensures { result ≡ place_in came.now text.now }
-{
-    came.iter().position(|outcome| outcome.has_text(text))
+impl Model for Outcomes {
+    ghost use Rattle.std.specs.Prelude.{List};
+    ghost use Rattle.outcome_tally.specs.OutcomeParts.{OutcomeParts};
+    ghost use Rattle.outcome_tally.specs.Entries.{outcomes_in};
+
+    ghost Value = { List OutcomeParts };
+
+    ghost view = { λ o. outcomes_in o.times.entries };
 }
 
-/// Notes the outcome of the run of a seed.
-#[tactic(auto, unfolding(crate::specs::Outcomes::with_outcome))]
-pub(crate) fn note(came: &mut Vec<Outcome>, text: Vec<u8>, seed: u64) -> Result<(), NoMemory>
-    requires { AllFew came.old.items }
-    ensures { OnOk result (came.new.items ≡ with_outcome came.old.items text.items seed) }
-{
-    match place_in(came.as_slice(), text.as_slice()) {
-        Some(place) => {
-            came[place].again(seed);
-            Ok(())
+impl Outcomes {
+    /// None. It takes no memory.
+    pub(crate) fn none(alloc: Global) -> Outcomes
+        ensures { result ≡ [] }
+    {
+        Outcomes {
+            times: IndexMap::new(alloc),
         }
-        None => {
-            let times = Times::never().once_more(seed);
-            came.push(Outcome { text, times })?;
-            Ok(())
+    }
+
+    /// How many there are.
+    pub(crate) fn len(&self) -> usize
+        ensures { result ≡ length self.now }
+    {
+        self.times.len()
+    }
+
+    /// How often an outcome came so far.
+    fn times_of(&self, text: &[u8]) -> Times
+        ensures { result ≡ times_of self.now text.now }
+    {
+        match self.times.get(text) {
+            Some(times) => *times,
+            None => Times::never(),
         }
+    }
+
+    /// Notes the outcome of the run of a seed.
+    pub(crate) fn note(&mut self, text: Vec<u8>, seed: u64) -> Result<(), NoMemory>
+        requires { AllFew self.old }
+        ensures { OnOk result (self.new ≡ with_outcome self.old text.items seed) }
+    {
+        let times = self.times_of(text.as_slice()).once_more(seed);
+        self.times.insert(text, times)?;
+        Ok(())
     }
 }

@@ -1,11 +1,11 @@
 //! The lines of the report.
 
-ghost use Rattle.std.specs.Prelude.{◌≡◌, ◌++◌, map, OnOk};
+ghost use Rattle.std.specs.Prelude.{◌≡◌, ◌++◌, OnOk};
 ghost use Rattle.outcome_tally.specs.Report.{first_of, full_text, heads_text, listed_text};
 ghost use Rattle.outcome_tally.specs.Report.{others_text, outcome_text, outcomes_text, rares_text};
 ghost use Rattle.outcome_tally.specs.Report.{steps_text};
 
-use crate::outcomes::Outcome;
+use crate::outcomes::{Outcome, Outcomes};
 use crate::ranking::most_of;
 use crate::rare_times::RareTimes;
 use crate::span::Span;
@@ -72,8 +72,8 @@ fn write_outcome(
     write_text(out, "outcome ")?;
     write_number(out, rank as u64)?;
     write_text(out, " ")?;
-    write_times(out, outcome.times())?;
-    write_differences(alloc, out, actors, outcome.text(), first)
+    write_times(out, outcome.times)?;
+    write_differences(alloc, out, actors, outcome.text, first)
 }
 
 /// The outcomes that are listed.
@@ -82,10 +82,10 @@ fn write_listed(
     out: &mut Vec<u8>,
     actors: u32,
     first: &[u8],
-    listed: &[&Outcome],
+    listed: &[Outcome],
 ) -> Result<(), NoMemory>
     ensures { OnOk result (out.new.items ≡ out.old.items
-        ++ listed_text actors 1 first.now (map (λ o. o.now) listed.now)) }
+        ++ listed_text actors 1 first.now listed.now) }
 {
     for (place, outcome) in listed.iter().enumerate() {
         write_outcome(alloc, out, actors, place + 1, first, outcome)?;
@@ -105,11 +105,11 @@ fn write_others(out: &mut Vec<u8>, others: usize) -> Result<(), NoMemory>
 }
 
 /// The text of the first of some outcomes.
-fn first_of<'a>(listed: &[&'a Outcome]) -> &'a [u8]
-    ensures { result.now ≡ first_of (map (λ o. o.now) listed.now) }
+fn first_of<'a>(listed: &[Outcome<'a>]) -> &'a [u8]
+    ensures { result.now ≡ first_of listed.now }
 {
     match listed {
-        [first, ..] => first.text(),
+        [first, ..] => first.text,
         [] => &[],
     }
 }
@@ -120,7 +120,7 @@ pub(crate) fn write_outcomes(
     alloc: Global,
     out: &mut Vec<u8>,
     actors: u32,
-    came: &[Outcome],
+    came: &Outcomes,
 ) -> Result<(), NoMemory>
     ensures { OnOk result (out.new.items ≡ out.old.items ++ outcomes_text actors came.now) }
 {

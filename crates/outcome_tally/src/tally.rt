@@ -5,7 +5,7 @@ ghost use Rattle.outcome_tally.specs.Few.{IsFew};
 ghost use Rattle.outcome_tally.specs.Report.{report_text};
 ghost use Rattle.outcome_tally.specs.Tallies.{no_runs, with_came, with_full, with_seen};
 
-use crate::outcomes::{Outcome, note};
+use crate::outcomes::Outcomes;
 use crate::rare_times::RareTimes;
 use crate::report;
 use crate::span::{Span, spanned};
@@ -21,7 +21,7 @@ pub struct Tally {
     runs: u64,
     full: Times,
     steps: Option<Span>,
-    came: Vec<Outcome>,
+    came: Outcomes,
     rares: RareTimes,
 }
 
@@ -34,7 +34,7 @@ impl Model for Tally {
       runs = t.runs;
       full = t.full;
       steps = t.steps;
-      came = t.came.items;
+      came = t.came;
       rares = t.rares;
     } };
 }
@@ -48,7 +48,7 @@ impl Tally {
             runs: 0,
             full: Times::never(),
             steps: None,
-            came: Vec::new(alloc),
+            came: Outcomes::none(alloc),
             rares: RareTimes::none(),
         }
     }
@@ -70,7 +70,7 @@ impl Tally {
         self.runs += 1;
         self.steps = Some(spanned(self.steps, seen.steps()));
         self.rares = self.rares.with(seen.rares(), seed);
-        note(&mut self.came, seen.into_outcome(), seed)
+        self.came.note(seen.into_outcome(), seed)
     }
 
     /// Adds the run of a seed: what is seen of it; or nothing, where its journal was full before its
@@ -94,7 +94,7 @@ impl Tally {
     {
         let mut out = Vec::new(alloc);
         report::write_heads(&mut out, self.runs, self.full, self.steps)?;
-        report::write_outcomes(alloc, &mut out, actors, self.came.as_slice())?;
+        report::write_outcomes(alloc, &mut out, actors, &self.came)?;
         report::write_rares(&mut out, &self.rares)?;
         Ok(out)
     }

@@ -1,10 +1,9 @@
-use Rattle.std.proofs.Common.{◌≡◌, ◌+◌, ◌++◌, drop, map}
+use Rattle.std.proofs.Common.{◌≡◌, ◌+◌, ◌++◌, drop}
 use Rattle.outcome_tally.specs.Report.{listed_text}
 use Rattle.outcome_tally.proofs.report.write_listed.Given as goal
 
 -- the lines of those so far, and of the rest
 abbrev pub invariant-loop-place : goal.invariant-loop-place
 invariant-loop-place l =
-    l.out.items
-    ++ listed_text l.actors (l.place + 1) l.first (map (λ o. o.now) (drop l.place l.listed))
-    ≡ l.initial.out.items ++ listed_text l.actors 1 l.first (map (λ o. o.now) l.listed)
+    l.out.items ++ listed_text l.actors (l.place + 1) l.first (drop l.place l.listed)
+    ≡ l.initial.out.items ++ listed_text l.actors 1 l.first l.listed

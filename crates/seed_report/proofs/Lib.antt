@@ -1,0 +1,3 @@
+mod Counted
+mod Stopped
+pub mod Tallies
