@@ -24,7 +24,7 @@ TOP = "linx_commands"
 TOP_CALLS = ["run", "alone", "serial", "tell", "report", "program", "journals_are_decided"]
 LAYERS = [
     ("Values", "linx_base sigsel"),
-    ("The world outside", "linx_outside"),
+    ("The world outside", "linx_outside linx_files"),
     ("A journal and the laws of a node", "journal"),
     ("A node", "sorted_set keyed_list name_table hunt_table attach_table front_heap"
                " endpoint_queue node_kernel"),
@@ -35,15 +35,16 @@ LAYERS = [
     ("What two nodes tell each other", "rlnh_messages link_addresses rlnh_end rlnh_laws trunk"),
     ("All links of a run", "trunk_moves run_trunks run_settling run_numbers run_states"),
     ("The machine", "fabric"),
-    ("A journal checked", "link_tables journal_check"),
-    ("The script", "script_words script_lang work_gen line_search order_lines turn_lines"),
+    ("A journal checked", "link_tables link_check journal_check"),
+    ("The script", "script_words script_lang work_gen script_texts line_search order_lines turn_lines"),
     ("A run of a script", "actor_run stage run_orders orders runs_again"),
     ("Runs in many orders", "order_rules run_outcomes outcome_tally seed_runs seed_search"
-                            " seed_threads"),
+                            " seed_threads seed_report"),
     ("Threads", "turn_lock linx_api workers"),
     ("The text", "journal_text report"),
     ("A text read back", "text_words text_names journal_words reading_laws journal_read text_alone"
-                         " text_logs log_laws image_laws journal_told printed_laws texts_again"),
+                         " text_logs log_laws image_laws journal_told printed_laws texts_again"
+                         " text_replay text_check"),
     ("A chart", "svg_text chart chart_drawing journal_charts"),
     ("A byte stream", "request_stream tcpcm_frames tcpcm_framing tcpcm_end stream_echo"),
     ("Timers, and a gateway",

@@ -1,19 +1,23 @@
 #!/usr/bin/env python3
-"""Compares `linx_sim find` with a slow search: a run under `linx_sim seed S` for each number.
+"""Compares `linx_sim find` and `seeds` with a run under `linx_sim seed S` for each number.
 
 Each script of examples/, and the random scripts of the seeds 1 to COUNT, are searched for some
-lines, and for runs without them, over the numbers 1 to 40. What `find` writes, its line on standard
-error and its exit status must be those of the slow search. It says how many were, and the first
-that weren't.
+lines, and for runs without them, over the numbers 1 to 40, and what comes of them is reported. What
+`find` and `seeds` write, their line on standard error and their exit status must be those of the
+slow search, and of the report that is reckoned from the texts of the runs one by one. The searches
+take one processor, two, and so on by turns. It says how many were, and the first that weren't.
 
     bench/try finds [COUNT [PROGRAM]]           COUNT is 100 if unsaid
 """
+import itertools
+import os
 import sys
 
 sys.dont_write_bytecode = True
 
 import arguments
 import judge
+import outcomes
 from seeds import scripts
 
 LAST = 40
@@ -52,15 +56,35 @@ def slowly(runs, wanted, without):
     return 7, b"linx_sim: found in none\n", b""
 
 
+def reported(script, runs):
+    """How the report of the runs of the numbers from 1 on must end."""
+    for status, errors, _ in runs:
+        if status not in (0, 5):
+            return status, errors, b""
+    return 0, b"", outcomes.report(script, [(status, text) for status, _, text in runs])
+
+
+def on_processors(count):
+    """What leaves a process so many of the processors."""
+    left = sorted(os.sched_getaffinity(0))[:count]
+    return lambda: os.sched_setaffinity(0, left)
+
+
 def searches(program, script):
-    """Each search of a script, with what is wrong with it, or None."""
+    """Each search of a script, and its report, with what is wrong with it, or None."""
     runs = [judge.ended([program, "seed", str(seed)], script, SECONDS)
             for seed in range(1, LAST + 1)]
+    counts = itertools.cycle(range(1, len(os.sched_getaffinity(0)) + 1))
     for sought in SOUGHT:
         for without in (False, True):
             words = ["not"] * without + sought.split()
-            end = judge.ended([program, "find", "1", str(LAST), *words], script, SECONDS)
-            yield " ".join(words), judge.difference(end, slowly(runs, sought.split(), without))
+            count = next(counts)
+            end = judge.ended([program, "find", "1", str(LAST), *words], script, SECONDS,
+                              preexec_fn=on_processors(count))
+            yield (f"{' '.join(words)} on {count} processors",
+                   judge.difference(end, slowly(runs, sought.split(), without)))
+    end = judge.ended([program, "seeds", "1", str(LAST)], script, SECONDS)
+    yield "seeds", judge.difference(end, reported(script, runs))
 
 
 def main():

@@ -1,9 +1,9 @@
 #!/usr/bin/env python3
 """Looks at the races of examples/races under a thousand orders each.
 
-Each `find` that the head of a script shows must find a run, and the line that it writes must stand in
-the text of that run under `seed`. It says how many scripts were as they say, and the first that
-wasn't.
+`linx_sim seeds 1 1000` must find as many outcomes as the head of each script says. Each `find` that
+the head shows must find a run, and the line that it writes must stand in the text of that run under
+`seed`. It says how many scripts were as they say, and the first that wasn't.
 
     bench/try races [PROGRAM]
 """
@@ -17,6 +17,7 @@ import arguments
 import judge
 
 TOP = pathlib.Path(__file__).resolve().parent.parent
+OUTCOMES = re.compile(r"`seeds 1 1000` of it: (\d+) outcomes")
 FOUND = re.compile(r"`find 1 1000 in (\S+) ([^`]+)`")
 SECONDS = 60
 
@@ -30,6 +31,10 @@ def head_of(path):
 def wrong(program, path):
     """What a script's head says that isn't so, or None."""
     head = head_of(path)
+    status, said, report = judge.ended([program, "seeds", "1", "1000", str(path)], b"", SECONDS)
+    wanted = b"\noutcomes %s\n" % OUTCOMES.search(head).group(1).encode()
+    if status != 0 or wanted not in report:
+        return f"another report: {status} {said!r} {report[:60]!r}"
     for name, words in FOUND.findall(head):
         command = [program, "find", "1", "1000", "in", str(TOP / name), *words.split()]
         status, said, found = judge.ended(command, b"", SECONDS)

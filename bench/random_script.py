@@ -1,4 +1,5 @@
-"""Writes one random script with links, the same one for the same seed.
+"""Writes one random script, the same one for the same seed: with links, or with the word `alone`
+without one, on one or two nodes.
 
 Its links lose, repeat and exchange packets by plans, have small windows and pieces, and are cut
 and mended; its nodes are restarted. In two of five scripts links are settled too. Of four seeds in
@@ -7,7 +8,7 @@ sense then; one a varied one: they do anything, and more of it is refused; and o
 nodes restart and endpoints open and close again and again, while packets are repeated and
 exchanged.
 
-    bench/try random_script SEED
+    bench/try random_script SEED [alone]
 """
 import random
 import sys
@@ -29,12 +30,13 @@ COMMANDS = (SENSIBLE, VARIED, SENSIBLE, RESTLESS)
 class Writer:
     """The lines of a script in the making, and what they declared."""
 
-    def __init__(self, seed):
+    def __init__(self, seed, alone=False):
         self.random = random.Random(seed)
+        self.alone = alone
         self.commands = COMMANDS[seed % len(COMMANDS)]
         self.sensible = self.commands is not VARIED
         self.restless = self.commands is RESTLESS
-        self.settles = self.chance(0.4)
+        self.settles = self.chance(0.4) and not alone
         self.lines, self.nodes, self.links, self.actors = [], [], [], []
 
     def chance(self, share):
@@ -48,7 +50,7 @@ class Writer:
     def script(self):
         """The whole script."""
         self.write_nodes()
-        for number in range(self.pick(1, 1, 2, 3)):
+        for number in range(0 if self.alone else self.pick(1, 1, 2, 3)):
             self.write_link(f"l{number}")
         for name, _ in self.links:
             for direction in "><":
@@ -60,8 +62,9 @@ class Writer:
         return "\n".join(self.lines) + "\n"
 
     def write_nodes(self):
-        """Two to four nodes."""
-        self.nodes = [f"n{number}" for number in range(1, self.pick(2, 2, 2, 3, 4) + 1)]
+        """Two to four nodes; without links one or two."""
+        count = self.pick(1, 1, 2) if self.alone else self.pick(2, 2, 2, 3, 4)
+        self.nodes = [f"n{number}" for number in range(1, count + 1)]
         self.lines += [f"node {name}" for name in self.nodes]
 
     def write_link(self, name):
@@ -89,7 +92,7 @@ class Writer:
 
     def place_actors(self):
         """One to four actors, mostly at the ends of links in turn; each has its first name."""
-        used = sorted({node for _, ends in self.links for node in ends})
+        used = sorted({node for _, ends in self.links for node in ends}) or self.nodes[:1]
         for number in range(self.pick(1, 2, 2, 3, 3, 4)):
             node = used[number % len(used)] if self.chance(0.7) else self.random.choice(self.nodes)
             self.actors.append((node, NAMES[number]))
@@ -105,6 +108,7 @@ class Writer:
         if self.commands is SENSIBLE and self.chance(0.8):
             self.write_found(number)
         commands = self.commands + ["settle"] * (2 if self.settles else 0)
+        commands = [word for word in commands if not (self.alone and word in ("cut", "mend"))]
         for _ in range(self.random.randint(2, 20)):
             self.write_command(number, self.random.choice(commands))
         if self.chance(0.5):
@@ -179,7 +183,8 @@ class Writer:
         if command == "send":
             return f"send {self.target()} {self.signal()}"
         if command == "attach":
-            signal = self.pick("", "", " 300 hex:aa")
+            fills = [f" 300 fill:{size}:5a" for size in (31, 32, 33, 700)] if self.alone else []
+            signal = self.pick("", "", " 300 hex:aa", *fills)
             return f"attach {self.target()} {self.pick(*'rt')}{signal}"
         words = {
             "close": [],
@@ -196,4 +201,4 @@ class Writer:
 
 
 if __name__ == "__main__":
-    sys.stdout.write(Writer(int(sys.argv[1])).script())
+    sys.stdout.write(Writer(int(sys.argv[1]), sys.argv[2:] == ["alone"]).script())

@@ -62,7 +62,7 @@ printf 'node n\nnod m\n' > "$work/bad"
 # an actor shares a filling with the one before it where they are equal: so these take turns
 printf '%s\n' 'node n' 'actor p n' 'open a' 'repeat 300' 'send self 1 fill:65532:00' \
     'send self 1 fill:65532:01' 'end' 'close' 'end' > "$work/large"
-words='the words are: run serial seed find order chart gen stream gateway help version'
+words='the words are: run serial seed find seeds order replay check chart gen stream gateway help version'
 usage="linx_sim: usage: linx_sim WORD ..; $words"$'\n'
 printf x > "$work/closed" && chmod 000 "$work/closed"
 
@@ -130,6 +130,16 @@ row 'an order' 0 '' "$work/printed" "$work/text" plain order
 head -1 "$work/printed" > "$work/front"
 row 'no printed text' 8 $'linx_sim: text line 2: no line of a printed text\n' "$work/front" \
     "$work/text" plain order
+{ cat "$script"; echo text; cat "$work/printed"; } > "$work/both"
+row 'a replay' 0 '' "$work/both" "$work/text" plain replay
+[ "$(cat "$work/text")" = 'same 5' ] || complain 'a replay: another text'
+sed 's/^took 1.1 5/took 1.1 6/' "$work/both" > "$work/other"
+row 'another text' 7 $'linx_sim: text line 4: the run has another line here\n' "$work/other" \
+    "$work/text" plain replay
+row 'a check' 0 '' "$work/both" "$work/text" plain check
+[ "$(cat "$work/text")" = 'legal 5' ] || complain 'a check: another text'
+row 'a replay without a text' 8 $'linx_sim: no line `text` behind the script\n' "$script" \
+    "$work/text" plain replay
 row 'a torn stream' 9 $'linx_sim: torn at 0\n' "$work/torn" "$work/text" plain stream
 row 'a bad stream' 11 $'linx_sim: bad stream at 0\n' "$work/bad" "$work/text" plain stream
 printf '\0\0\0\5\1\1\0\0a' > "$work/open"

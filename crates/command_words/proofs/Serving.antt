@@ -7,10 +7,11 @@ use Rattle.std.proofs.lemmas.Bool.Decides.{nat_tests}
 use Rattle.script_words.specs.Numbers.{number_spelled}
 use Rattle.command_words.specs.Requests.{asked_alone, asked_with, asked_with_file, asked_with_plain}
 use Rattle.command_words.specs.Requests.{clients_in, clients_spelled, is_file_name}
-use Rattle.command_words.specs.Requests.{asked_with_more, request_by, searched, seeded}
+use Rattle.command_words.specs.Requests.{asked_with_more, ranged, request_by, searched, seeded}
 use Rattle.command_words.specs.Words.{called, is_help_flag}
 use Rattle.command_words.specs.declared.request.Asked.{Asked}
 use Rattle.command_words.specs.declared.request.Request.TheVariants.{Show, Play, Work, Serve}
+use Rattle.command_words.specs.declared.range.Range.{Range}
 use Rattle.command_words.specs.declared.search.Search.{Search}
 use Rattle.command_words.specs.declared.word.Word.{Word}
 use Rattle.command_words.specs.declared.request.TurnOrder.TheVariants.{Fixed}
@@ -18,8 +19,9 @@ use Rattle.command_words.specs.declared.page.Page.TheVariants as pages
 use Rattle.command_words.specs.declared.request.Asked.TheVariants as asks
 use Rattle.command_words.specs.declared.work.Work.{Work as Works}
 use Rattle.command_words.specs.declared.work.Work.TheVariants as works
-use Rattle.command_words.specs.declared.word.Word.TheVariants.{Run, Serial, Seed, Find, Order, Chart}
-use Rattle.command_words.specs.declared.word.Word.TheVariants.{Gen, Stream, Gateway, Help, Version}
+use Rattle.command_words.specs.declared.word.Word.TheVariants.{Run, Serial, Seed, Find, Seeds, Order}
+use Rattle.command_words.specs.declared.word.Word.TheVariants.{Replay, Check, Chart, Gen, Stream, Gateway}
+use Rattle.command_words.specs.declared.word.Word.TheVariants.{Help, Version}
 
 -- 1 to 16
 pub record AreFew (n : ℕ) : Type 0 where
@@ -83,7 +85,10 @@ few_plain Serial argument n is =
     absurd (no_run (asks.InOrder Fixed) (is_file_name argument) n is)
 few_plain Seed argument n is = absurd (no_order (seeded argument) n is)
 few_plain Find argument n is = absurd cc
+few_plain Seeds argument n is = absurd cc
 few_plain Order argument n is = absurd (no_work works.Order (is_file_name argument) n is)
+few_plain Replay argument n is = absurd (no_work works.Replay (is_file_name argument) n is)
+few_plain Check argument n is = absurd (no_work works.Check (is_file_name argument) n is)
 few_plain Chart argument n is = absurd (no_work works.Chart (is_file_name argument) n is)
 few_plain Gen argument n is = absurd (no_gen (number_spelled argument) n is)
 few_plain Stream argument n is = absurd cc
@@ -110,9 +115,15 @@ none_alone None n is = cc
 none_alone (Some Run) n is = cc
 none_alone _ n is = cc
 
+no_range : (o : Option Range) (n : ℕ)
+    → option_map (λ range. Work (works.Seeds range)) o ≡ Some (Serve n) → ⊥
+no_range None n is = cc
+no_range (Some range) n is = cc
+
 none_with_file : (word : Option Word) (argument file : List ℕ) (n : ℕ)
     → option_and_then (λ w. asked_with_file w argument file) word ≡ Some (Serve n) → ⊥
 none_with_file (Some Seed) argument file n is = no_file (seeded argument) (is_file_name file) n is
+none_with_file (Some Seeds) argument file n is = no_range (ranged argument file) n is
 none_with_file _ argument file n is = cc
 
 no_search : (o : Option Search) (n : ℕ)
@@ -120,9 +131,18 @@ no_search : (o : Option Search) (n : ℕ)
 no_search None n is = cc
 no_search (Some s) n is = cc
 
+no_ranged_file : (o : Option Range) (named : Bool) (n : ℕ)
+    → option_and_then (λ request. if named then Some request else None)
+    (option_map (λ range. Work (works.Seeds range)) o) ≡ Some (Serve n) → ⊥
+no_ranged_file None named n is = cc
+no_ranged_file (Some range) true n is = cc
+no_ranged_file (Some range) false n is = cc
+
 none_with_more : (word : Option Word) (from to : List ℕ) (behind : List (List ℕ)) (n : ℕ)
     → option_and_then (λ w. asked_with_more w from to behind) word ≡ Some (Serve n) → ⊥
 none_with_more (Some Find) from to behind n is = no_search (searched from to behind) n is
+none_with_more (Some Seeds) from to (file ∷ []) n is =
+    no_ranged_file (ranged from to) (is_file_name file) n is
 none_with_more _ from to behind n is = cc
 
 -- a gateway that words ask for has 1 to 16 clients

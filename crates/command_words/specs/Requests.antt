@@ -14,11 +14,13 @@ use Rattle.command_words.specs.declared.request.Asked.TheVariants as asks
 use Rattle.command_words.specs.declared.request.Request.{Request}
 use Rattle.command_words.specs.declared.request.TurnOrder.TheVariants as orders
 use Rattle.command_words.specs.declared.request.Request.TheVariants.{Show, Play, Work, Echo, Serve}
+use Rattle.command_words.specs.declared.range.Range.{Range}
 use Rattle.command_words.specs.declared.search.Search.{Search}
 use Rattle.command_words.specs.declared.work.Work.TheVariants as works
 use Rattle.command_words.specs.declared.word.Word.{Word}
-use Rattle.command_words.specs.declared.word.Word.TheVariants.{Run, Serial, Seed, Find, Order, Chart}
-use Rattle.command_words.specs.declared.word.Word.TheVariants.{Gen, Stream, Gateway, Help, Version}
+use Rattle.command_words.specs.declared.word.Word.TheVariants.{Run, Serial, Seed, Find, Seeds, Order}
+use Rattle.command_words.specs.declared.word.Word.TheVariants.{Replay, Check, Chart, Gen, Stream, Gateway}
+use Rattle.command_words.specs.declared.word.Word.TheVariants.{Help, Version}
 
 -- the text is empty, or begins with `-` (45)
 abbrev pub is_no_name : List ℕ → Bool
@@ -52,7 +54,10 @@ asked_alone Run = Some (Play asks.Run)
 asked_alone Serial = Some (Play (asks.InOrder orders.Fixed))
 asked_alone Seed = None
 asked_alone Find = None
+asked_alone Seeds = None
 asked_alone Order = Some (Work works.Order)
+asked_alone Replay = Some (Work works.Replay)
+asked_alone Check = Some (Work works.Check)
 asked_alone Chart = Some (Work works.Chart)
 asked_alone Gen = None
 asked_alone Stream = Some Echo
@@ -66,7 +71,10 @@ asked_with_plain Run argument = of_file (Play asks.Run) argument
 asked_with_plain Serial argument = of_file (Play (asks.InOrder orders.Fixed)) argument
 asked_with_plain Seed argument = option_map (λ asked. Play asked) (seeded argument)
 asked_with_plain Find argument = None
+asked_with_plain Seeds argument = None
 asked_with_plain Order argument = of_file (Work works.Order) argument
+asked_with_plain Replay argument = of_file (Work works.Replay) argument
+asked_with_plain Check argument = of_file (Work works.Check) argument
 asked_with_plain Chart argument = of_file (Work works.Chart) argument
 asked_with_plain Gen argument = option_map (λ n. Play (asks.Gen n)) (number_spelled argument)
 asked_with_plain Stream argument = None
@@ -79,10 +87,27 @@ abbrev pub asked_with : Word → List ℕ → Option Request
 asked_with word argument =
     if is_help_flag argument then Some (Show (pages.Of word)) else asked_with_plain word argument
 
--- what a word, an argument and a file ask for
+-- a range of at most a million numbers
+abbrev pub range_over : ℕ → ℕ → Option Range
+range_over first last =
+    if nat_lt last first || nat_le 1000000 (last - first)
+    then None
+    else Some (record { first = first; more = last - first })
+
+-- the range that two texts spell
+abbrev pub ranged : List ℕ → List ℕ → Option Range
+ranged from to = option_and_then (λ first.
+    option_and_then (λ last. range_over first last) (number_spelled to)) (number_spelled from)
+
+-- the request for a report of the seeds of a range, if the words spell one
+abbrev pub reported : List ℕ → List ℕ → Option Request
+reported from to = option_map (λ range. Work (works.Seeds range)) (ranged from to)
+
+-- what a word, an argument and a file ask for, or a word and two arguments
 abbrev pub asked_with_file : Word → List ℕ → List ℕ → Option Request
 asked_with_file Seed argument file =
     option_and_then (λ asked. of_file (Play asked) file) (seeded argument)
+asked_with_file Seeds argument file = reported argument file
 asked_with_file _ argument file = None
 
 -- a search for so many words: one to eight
@@ -114,28 +139,25 @@ search_behind search (first ∷ rest) =
     then with_file search rest
     else sought_by search (first ∷ rest)
 
--- a search for a line, over a range of at most a million numbers, by the words behind it
-abbrev pub search_over : ℕ → ℕ → List (List ℕ) → Option Search
-search_over first last behind =
-    if nat_lt last first || nat_le 1000000 (last - first)
-    then None
-    else search_behind (record {
-      first = first;
-      more = last - first;
-      in_file = false;
-      sought = Line;
-    }) behind
+-- a search for a line over a range, by the words behind it
+abbrev pub search_over : Range → List (List ℕ) → Option Search
+search_over range behind = search_behind (record {
+  first = range.first;
+  more = range.more;
+  in_file = false;
+  sought = Line;
+}) behind
 
 -- the search of the range that two texts spell, by the words behind it
 abbrev pub searched : List ℕ → List ℕ → List (List ℕ) → Option Search
-searched from to behind = option_and_then (λ first.
-    option_and_then (λ last. search_over first last behind) (number_spelled to))
-    (number_spelled from)
+searched from to behind = option_and_then (λ range. search_over range behind) (ranged from to)
 
 -- what a word and further texts ask for, of which the first two are arguments
 abbrev pub asked_with_more : Word → List ℕ → List ℕ → List (List ℕ) → Option Request
 asked_with_more Find from to behind =
     option_map (λ search. Work (works.Find search)) (searched from to behind)
+asked_with_more Seeds from to (file ∷ []) =
+    option_and_then (λ request. of_file request file) (reported from to)
 asked_with_more _ from to behind = None
 
 -- what these texts ask for: nothing where they are those of no command
@@ -148,18 +170,21 @@ request_by (word ∷ from ∷ to ∷ next ∷ rest) =
     option_and_then (λ w. asked_with_more w from to (next ∷ rest)) (called word)
 request_by [] = None
 
--- what the words ask for
+-- what the words of a command line ask for, if they ask for anything
 abbrev pub request_of : {Z : Type 0} → List (String Z) → Option Request
 request_of words = request_by (map string_bytes words)
 
 -- the place, from 0, of the file among the texts of what reads one: behind the word, behind the
--- number of `seed`, or behind the `in` of a search
+-- number of `seed`, behind the range of `seeds`, or behind the `in` of a search
 abbrev pub file_place : Option Request → Option ℕ
 file_place (Some (Play asks.Run)) = Some 1
 file_place (Some (Play (asks.InOrder orders.Fixed))) = Some 1
 file_place (Some (Play (asks.InOrder (orders.Seed n)))) = Some 2
 file_place (Some (Work (works.Find search))) = if search.in_file then Some 4 else None
+file_place (Some (Work (works.Seeds range))) = Some 3
 file_place (Some (Work works.Order)) = Some 1
+file_place (Some (Work works.Replay)) = Some 1
+file_place (Some (Work works.Check)) = Some 1
 file_place (Some (Work works.Chart)) = Some 1
 file_place _ = None
 

@@ -3,8 +3,9 @@ use Rattle.std.specs.Prelude.{ℕ, Bool, ◌||◌, List, [], ◌∷◌, codes, O
 use Rattle.std.specs.Prelude.{if◌then◌else◌}
 use Rattle.std.specs.Str.{bytes_eq}
 use Rattle.command_words.specs.declared.word.Word.{Word}
-use Rattle.command_words.specs.declared.word.Word.TheVariants.{Run, Serial, Seed, Find, Order, Chart}
-use Rattle.command_words.specs.declared.word.Word.TheVariants.{Gen, Stream, Gateway, Help, Version}
+use Rattle.command_words.specs.declared.word.Word.TheVariants.{Run, Serial, Seed, Find, Seeds, Order}
+use Rattle.command_words.specs.declared.word.Word.TheVariants.{Replay, Check, Chart, Gen, Stream, Gateway}
+use Rattle.command_words.specs.declared.word.Word.TheVariants.{Help, Version}
 
 -- a row of the table: the name of a word, its use, a line, a paragraph and an example
 pub record Row : Type 0 where
@@ -48,6 +49,14 @@ said_of Find = record {
       codes "Plays a script as seed does, in the orders of the numbers A, A + 1, .. B, a million at\nmost, and writes the first one whose text has a line that begins with these words, and\nthe line. There are one to eight words; _ stands for any. What a line begins with is\nwhat stands behind the number and the maker of a step, or the + of an effect. With not\nit writes the first one whose text has no such line. Where there is none it exits 7.\n";
   example = codes "linx_sim find 1 1000 in examples/losses.linx notified _ _ _ dead";
 }
+said_of Seeds = record {
+  name = codes "seeds";
+  usage = codes "seeds A B [FILE]";
+  line = codes "report what comes of a script in the orders of the numbers A to B";
+  paragraph =
+      codes "Plays a script as seed does, in the orders of the numbers A, A + 1, .. B, a million at\nmost, and writes which outcomes came, how often and for which number first; and in how\nmany runs a refusal, a none, a dead, closed or lost, or a down came.\n";
+  example = codes "linx_sim seeds 1 1000 examples/losses.linx";
+}
 said_of Order = record {
   name = codes "order";
   usage = codes "order [FILE]";
@@ -55,6 +64,24 @@ said_of Order = record {
   paragraph =
       codes "Reads the text of a run from FILE, or from standard input, and writes whose turns its\nsteps were, as lines of a script. With these lines its script makes the same run again\nunder serial, byte for byte, also where run made it.\n";
   example = codes "linx_sim run examples/losses.linx | linx_sim order";
+}
+said_of Replay = record {
+  name = codes "replay";
+  usage = codes "replay [FILE]";
+  line = codes "play a printed run again, and tell whether it is the same";
+  paragraph =
+      codes "Reads a script, behind it a line `text`, and behind that the text of a run, all from FILE,\nor from standard input. It plays the script again with the turns that the text tells, and\nwrites same and how many steps there are where the text is that of a run of this script,\nbyte for byte. Else it exits 7 and names the first line that is another.\n";
+  example =
+      codes "(cat examples/link.linx; echo text; linx_sim run examples/link.linx) | linx_sim replay";
+}
+said_of Check = record {
+  name = codes "check";
+  usage = codes "check [FILE]";
+  line = codes "tell whether a printed run is legal";
+  paragraph =
+      codes "Reads a script, behind it a line `text`, and behind that the text of a run, all from FILE,\nor from standard input, and looks at each step by the laws of LINX, whoever made the\ntext. It writes legal and how many steps there are where the text is that of a legal\nrun of the script. Else it exits 7 and names the first step that isn't legal, and the\nlaw that it breaks. Scripts with links can't be checked yet.\n";
+  example =
+      codes "(cat examples/question.linx; echo text; linx_sim run examples/question.linx) | linx_sim check";
 }
 said_of Chart = record {
   name = codes "chart";
@@ -107,7 +134,7 @@ said_of Version = record {
 
 -- all words, in the order of the help
 abbrev pub all_words : List Word
-all_words = Run ∷ Serial ∷ Seed ∷ Find ∷ Order ∷ Chart ∷ Gen ∷ Stream ∷ Gateway ∷ Help ∷ Version ∷ []
+all_words = Run ∷ Serial ∷ Seed ∷ Find ∷ Seeds ∷ Order ∷ Replay ∷ Check ∷ Chart ∷ Gen ∷ Stream ∷ Gateway ∷ Help ∷ Version ∷ []
 
 -- the first of these words whose name is the text
 abbrev pub named : List ℕ → List Word → Option Word

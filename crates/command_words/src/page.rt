@@ -33,8 +33,8 @@ fn foot() -> &'static str
     ensures { result.now ≡ page_foot }
 {
     "\n\
-    FILE is a script, and under order and chart a printed text; without it,\n\
-    or where it is -, standard input is read.\n\
+    FILE is a script, under order and chart a printed text, under replay and check\n\
+    both; without it, or where it is -, standard input is read.\n\
     `linx_sim help WORD` says more of a word.\n\n\
     exit status:\n  \
     0  done\n  \
@@ -44,8 +44,8 @@ fn foot() -> &'static str
     4  the text can't be written\n  \
     5  the journal is full before the run is over\n  \
     6  memory was refused\n  \
-    7  no run has what is sought\n  \
-    8  the bytes are no printed text, or one of too much\n  \
+    7  what is sought isn't found, or the text is no run's, or no legal run's\n  \
+    8  the bytes are no printed text, or one that is too large\n  \
     9  a stream ended within a frame or a request\n  \
     11 the bytes of a stream are no frame or request, or break the rules\n\n\
     The manual is docs/use/linx_sim.1, or `man linx_sim` once it is installed.\n"

@@ -3,10 +3,11 @@ ghost use Rattle.std.specs.Prelude.{◌≡◌, map, option_map, string_bytes};
 ghost use Rattle.command_words.specs.Requests.{asked_alone, asked_with, asked_with_file};
 ghost use Rattle.command_words.specs.Requests.{asked_with_more, clients_in, clients_spelled};
 ghost use Rattle.command_words.specs.Requests.{file_at, file_of, file_place, is_file_name};
-ghost use Rattle.command_words.specs.Requests.{of_file, request_of, seeded};
+ghost use Rattle.command_words.specs.Requests.{of_file, reported, request_of, seeded};
 
 use crate::number::number;
 use crate::page::Page;
+use crate::range::ranged;
 use crate::search::{Search, searched};
 use crate::word::{Word, called, is_help_flag};
 use crate::work::Work;
@@ -43,7 +44,7 @@ pub enum Request {
     Show(Page),
     /// A run.
     Play(Asked),
-    /// What is done with what is read, on one thread.
+    /// What is done with what is read.
     Work(Work),
     /// An echo over the program's streams.
     Echo,
@@ -105,8 +106,10 @@ pub(crate) fn asked_alone(word: Word) -> Option<Request>
         Word::Run => Some(Request::Play(Asked::Run)),
         Word::Serial => Some(Request::Play(Asked::InOrder(TurnOrder::Fixed))),
         Word::Order => Some(Request::Work(Work::Order)),
+        Word::Replay => Some(Request::Work(Work::Replay)),
+        Word::Check => Some(Request::Work(Work::Check)),
         Word::Chart => Some(Request::Work(Work::Chart)),
-        Word::Seed | Word::Find | Word::Gen => None,
+        Word::Seed | Word::Find | Word::Seeds | Word::Gen => None,
         Word::Stream => Some(Request::Echo),
         Word::Gateway => None,
         Word::Help => Some(Request::Show(Page::All)),
@@ -126,20 +129,30 @@ pub(crate) fn asked_with(word: Word, argument: &str) -> Option<Request>
         Word::Serial => of_file(Request::Play(Asked::InOrder(TurnOrder::Fixed)), argument),
         Word::Seed => Some(Request::Play(seeded(argument)?)),
         Word::Order => of_file(Request::Work(Work::Order), argument),
+        Word::Replay => of_file(Request::Work(Work::Replay), argument),
+        Word::Check => of_file(Request::Work(Work::Check), argument),
         Word::Chart => of_file(Request::Work(Work::Chart), argument),
         Word::Gen => Some(Request::Play(Asked::Gen(number(argument)?))),
         Word::Gateway => Some(Request::Serve(clients(argument)?)),
         Word::Help => Some(Request::Show(Page::Of(called(argument)?))),
-        Word::Find | Word::Stream | Word::Version => None,
+        Word::Find | Word::Seeds | Word::Stream | Word::Version => None,
     }
 }
 
-/// What a word, an argument and a file ask for.
+/// The report of a range.
+fn reported(from: &str, to: &str) -> Option<Request>
+    ensures { result ≡ reported from.now to.now }
+{
+    Some(Request::Work(Work::Seeds(ranged(from, to)?)))
+}
+
+/// What a word, an argument and a file ask for, or a word and two arguments.
 pub(crate) fn asked_with_file(word: Word, argument: &str, file: &str) -> Option<Request>
     ensures { result ≡ asked_with_file word argument.now file.now }
 {
     match word {
         Word::Seed => of_file(Request::Play(seeded(argument)?), file),
+        Word::Seeds => reported(argument, file),
         _ => None,
     }
 }
@@ -148,8 +161,9 @@ pub(crate) fn asked_with_file(word: Word, argument: &str, file: &str) -> Option<
 fn asked_with_more(word: Word, from: &str, to: &str, behind: &[String]) -> Option<Request>
     ensures { result ≡ asked_with_more word from.now to.now (map string_bytes behind.now) }
 {
-    match word {
-        Word::Find => Some(Request::Work(Work::Find(searched(from, to, behind)?))),
+    match (word, behind) {
+        (Word::Find, _) => Some(Request::Work(Work::Find(searched(from, to, behind)?))),
+        (Word::Seeds, [file]) => of_file(reported(from, to)?, file.as_str()),
         _ => None,
     }
 }
@@ -179,7 +193,8 @@ fn file_place(request: Option<Request>) -> Option<usize>
         Some(Request::Play(Asked::Run | Asked::InOrder(TurnOrder::Fixed))) => Some(1),
         Some(Request::Play(Asked::InOrder(TurnOrder::Seed(_)))) => Some(2),
         Some(Request::Work(Work::Find(Search { in_file: true, .. }))) => Some(4),
-        Some(Request::Work(Work::Order | Work::Chart)) => Some(1),
+        Some(Request::Work(Work::Seeds(_))) => Some(3),
+        Some(Request::Work(Work::Order | Work::Replay | Work::Check | Work::Chart)) => Some(1),
         _ => None,
     }
 }

@@ -3,12 +3,9 @@ ghost use Rattle.std.specs.Prelude.{◌≡◌, map, string_bytes};
 ghost use Rattle.command_words.specs.Requests.{fitting, search_behind, searched, sought_by};
 ghost use Rattle.command_words.specs.Requests.{wanted_place, with_file, wanted_of};
 
-use crate::number::number;
+use crate::range::{Range, ranged};
 use crate::request::is_file_name;
 use line_search::Sought;
-
-/// The most numbers of a range.
-const RANGE_MOST: u32 = 1_000_000;
 
 /// The most words that are wanted of a line.
 const WANTED_MOST: usize = 8;
@@ -76,14 +73,10 @@ fn search_behind(search: Search, behind: &[String]) -> Option<Search>
 pub(crate) fn searched(from: &str, to: &str, behind: &[String]) -> Option<Search>
     ensures { result ≡ searched from.now to.now (map string_bytes behind.now) }
 {
-    let first = number(from)?;
-    let last = number(to)?;
-    if last < first || last - first >= RANGE_MOST {
-        return None;
-    }
+    let Range { first, more } = ranged(from, to)?;
     let search = Search {
         first,
-        more: last - first,
+        more,
         in_file: false,
         sought: Sought::Line,
     };

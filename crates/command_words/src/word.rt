@@ -13,8 +13,14 @@ pub enum Word {
     Seed,
     /// The first of some orders whose run shows what is sought.
     Find,
+    /// What comes of a script in some orders.
+    Seeds,
     /// The order of a printed run.
     Order,
+    /// Whether a printed run is one of a script.
+    Replay,
+    /// Whether a printed run is legal.
+    Check,
     /// The picture of a printed run.
     Chart,
     /// The run of a generated script.
@@ -30,12 +36,15 @@ pub enum Word {
 }
 
 /// All words, in the order of the help.
-pub const WORDS: [Word; 11] = [
+pub const WORDS: [Word; 14] = [
     Word::Run,
     Word::Serial,
     Word::Seed,
     Word::Find,
+    Word::Seeds,
     Word::Order,
+    Word::Replay,
+    Word::Check,
     Word::Chart,
     Word::Gen,
     Word::Stream,
@@ -102,6 +111,15 @@ impl Word {
                     it writes the first one whose text has no such line. Where there is none it exits 7.\n",
                 example: "linx_sim find 1 1000 in examples/losses.linx notified _ _ _ dead",
             },
+            Word::Seeds => Said {
+                name: "seeds",
+                usage: "seeds A B [FILE]",
+                line: "report what comes of a script in the orders of the numbers A to B",
+                paragraph: "Plays a script as seed does, in the orders of the numbers A, A + 1, .. B, a million at\n\
+                    most, and writes which outcomes came, how often and for which number first; and in how\n\
+                    many runs a refusal, a none, a dead, closed or lost, or a down came.\n",
+                example: "linx_sim seeds 1 1000 examples/losses.linx",
+            },
             Word::Order => Said {
                 name: "order",
                 usage: "order [FILE]",
@@ -110,6 +128,27 @@ impl Word {
                     steps were, as lines of a script. With these lines its script makes the same run again\n\
                     under serial, byte for byte, also where run made it.\n",
                 example: "linx_sim run examples/losses.linx | linx_sim order",
+            },
+            Word::Replay => Said {
+                name: "replay",
+                usage: "replay [FILE]",
+                line: "play a printed run again, and tell whether it is the same",
+                paragraph: "Reads a script, behind it a line `text`, and behind that the text of a run, all from FILE,\n\
+                    or from standard input. It plays the script again with the turns that the text tells, and\n\
+                    writes same and how many steps there are where the text is that of a run of this script,\n\
+                    byte for byte. Else it exits 7 and names the first line that is another.\n",
+                example: "(cat examples/link.linx; echo text; linx_sim run examples/link.linx) | linx_sim replay",
+            },
+            Word::Check => Said {
+                name: "check",
+                usage: "check [FILE]",
+                line: "tell whether a printed run is legal",
+                paragraph: "Reads a script, behind it a line `text`, and behind that the text of a run, all from FILE,\n\
+                    or from standard input, and looks at each step by the laws of LINX, whoever made the\n\
+                    text. It writes legal and how many steps there are where the text is that of a legal\n\
+                    run of the script. Else it exits 7 and names the first step that isn't legal, and the\n\
+                    law that it breaks. Scripts with links can't be checked yet.\n",
+                example: "(cat examples/question.linx; echo text; linx_sim run examples/question.linx) | linx_sim check",
             },
             Word::Chart => Said {
                 name: "chart",

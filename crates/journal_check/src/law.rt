@@ -37,50 +37,50 @@ pub struct Fault {
 
 impl Law {
     /// The word of a law, as it is printed.
-    pub fn word(self) -> &'static [u8]
+    pub fn word(self) -> &'static str
         ensures { result.now ≡ word_of self }
     {
         match self {
-            Law::Makers => b"makers",
-            Law::Endpoints => b"endpoints",
-            Law::Bounds => b"bounds",
-            Law::Effects => b"effects",
-            Law::Sends => b"sends",
-            Law::Receives => b"receives",
-            Law::Links => b"links",
-            Law::Rest => b"rest",
-            Law::Packets => b"packets",
-            Law::Cuts => b"cuts",
-            Law::Ticks => b"ticks",
+            Law::Makers => "makers",
+            Law::Endpoints => "endpoints",
+            Law::Bounds => "bounds",
+            Law::Effects => "effects",
+            Law::Sends => "sends",
+            Law::Receives => "receives",
+            Law::Links => "links",
+            Law::Rest => "rest",
+            Law::Packets => "packets",
+            Law::Cuts => "cuts",
+            Law::Ticks => "ticks",
         }
     }
 
     /// What a law asks, as it is printed behind its word.
-    pub fn rule(self) -> &'static [u8]
+    pub fn rule(self) -> &'static str
         ensures { result.now ≡ rule_of self }
     {
         match self {
             Law::Makers => {
-                b"an actor makes steps until it ends, and a pump those of its own link"
+                "an actor makes steps until it ends, and a pump those of its own link"
             }
             Law::Endpoints =>
-                b"who opens an endpoint has none, and the steps of an endpoint need one",
+                "who opens an endpoint has none, and the steps of an endpoint need one",
             Law::Bounds => {
-                b"a signal has at most 65532 data bytes, and that of an attach one fewer"
+                "a signal has at most 65532 data bytes, and that of an attach one fewer"
             }
-            Law::Effects => b"the effects are exactly those that the step has, in order",
-            Law::Sends => b"a signal is answered dead exactly where its peer is not alive",
+            Law::Effects => "the effects are exactly those that the step has, in order",
+            Law::Sends => "a signal is answered dead exactly where its peer is not alive",
             Law::Receives => {
-                b"a receive takes the earliest item that its filter selects, or finds none at rest"
+                "a receive takes the earliest item that its filter selects, or finds none at rest"
             }
-            Law::Links => b"the link is one that there is",
-            Law::Rest => b"a receive finds none only where every link is still",
+            Law::Links => "the link is one that there is",
+            Law::Rest => "a receive finds none only where every link is still",
             Law::Packets => {
-                b"a packet brings one thing, with exactly its effects, and only what may come"
+                "a packet brings one thing, with exactly its effects, and only what may come"
             }
-            Law::Cuts => b"while a link is cut, its packets are lost",
+            Law::Cuts => "while a link is cut, its packets are lost",
             Law::Ticks => {
-                b"a tick does nothing, or ends a session whose side heard nothing for two ticks"
+                "a tick does nothing, or ends a session whose side heard nothing for two ticks"
             }
         }
     }

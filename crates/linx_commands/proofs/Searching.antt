@@ -1,6 +1,7 @@
 -- From what a search answers to how it ends.
 use Rattle.std.proofs.Common.{◌≡◌, ◌≢◌, ℕ, ◌+◌, ◌≤◌, ◌<◌, inl, inr, true, List, length, refl, sym}
 use Rattle.std.proofs.Common.{arith, None, Ok}
+use Rattle.command_words.specs.declared.range.Range.{Range}
 use Rattle.command_words.specs.declared.search.Search.{Search}
 use Rattle.fabric.specs.declared.stop.StopCause.{StopCause}
 use Rattle.fabric.specs.declared.stop.StopCause.TheVariants as stops
@@ -9,15 +10,20 @@ use Rattle.order_lines.specs.Fronts.{OrderedParts, ordered_of}
 use Rattle.order_lines.proofs.Lengths.{ordered_within}
 use Rattle.seed_runs.specs.Runs.{IsStoppedRunOf}
 use Rattle.seed_search.specs.Searches.{IsAmong, IsFirst, IsShown, ShowNothing, found_text}
-use Rattle.linx_commands.specs.Causes.{is_of_writing, stop_status}
+use Rattle.order_lines.specs.Faults.{IsBadOf}
+use Rattle.script_lang.specs.declared.script_error.ScriptError.{ScriptError}
+use Rattle.script_lang.specs.declared.script_error.ScriptError.TheVariants as scripts
+use Rattle.seed_report.specs.Reports.{IsReport}
+use Rattle.linx_commands.specs.Causes.{is_of_writing, script_status, stop_status}
 use Rattle.linx_commands.specs.Runs.{IsEmptyLog, IsLegalSomehow}
-use Rattle.linx_commands.specs.Searches.{IsSearchEnd}
+use Rattle.linx_commands.specs.Searches.{IsSearchEnd, IsSeedsEnd}
 use Rattle.linx_commands.specs.Statuses.{is_of_whole, is_silent}
 use Rattle.linx_commands.specs.declared.outcome.Status.{Status}
 use Rattle.linx_commands.specs.declared.outcome.Status.TheVariants.{Done, Usage, Script, Unopened}
 use Rattle.linx_commands.specs.declared.outcome.Status.TheVariants.{ReadFault, WriteFault}
 use Rattle.linx_commands.specs.declared.outcome.Status.TheVariants.{JournalFull, NoMemory, Torn}
 use Rattle.linx_commands.specs.declared.outcome.Status.TheVariants.{BadStream, FoundNone, Text}
+use Rattle.linx_commands.specs.declared.outcome.Status.TheVariants.{Unlike, Illegal}
 use Rattle.linx_commands.proofs.Answering.{legal-run}
 
 -- ---- how it ends
@@ -75,6 +81,42 @@ pub legal_halted : (bytes : List ℕ) (seed : ℕ) (cause : StopCause) (log : Lo
 legal_halted bytes seed cause log stopped =
     legal-run stopped.ordered.script stopped.run.run log stopped.run.so_far (sym stopped.run.logged)
 
+-- ---- the report
+
+-- it went out, or was to
+pub report_written : (range : Range) (bytes : List ℕ) (status : Status) (text : List ℕ)
+    → is_of_writing status ≡ true → IsReport bytes range.first range.more text
+    → IsSeedsEnd range bytes status text
+report_written range bytes Done text writes is = is
+report_written range bytes WriteFault text writes is = is
+report_written range bytes NoMemory text writes is = tt
+report_written range bytes _ text writes is = cc
+
+-- there was no script
+pub report_unread : (range : Range) (bytes : List ℕ) (error : ScriptError) (text : List ℕ)
+    → IsBadOf (ordered_of bytes) error → IsSeedsEnd range bytes (script_status error) text
+report_unread range bytes (scripts.Bad line fault) text bad = bad
+report_unread range bytes scripts.NoMemory text bad = tt
+
+pub silent_unread : (error : ScriptError) → is_silent (script_status error) ≡ true
+silent_unread (scripts.Bad line fault) = refl
+silent_unread scripts.NoMemory = refl
+
+-- where it is whole, so is the script
+pub short_report : (range : Range) (bytes : List ℕ) (status : Status) (text : List ℕ)
+    → IsSeedsEnd range bytes status text → is_of_whole status ≡ true → length bytes < 1048577
+short_report range bytes Done text ended whole =
+    let it = ended.has_actors in
+    let within : length bytes ≤ 1048576 = ordered_within bytes it.ordered it.spelled in
+    omega (arith, within)
+short_report range bytes WriteFault text ended whole =
+    let it = ended.has_actors in
+    let within : length bytes ≤ 1048576 = ordered_within bytes it.ordered it.spelled in
+    omega (arith, within)
+short_report range bytes (Script line fault) text ended whole = cc
+short_report range bytes NoMemory text ended whole = cc
+short_report range bytes _ text ended whole = absurd ended
+
 -- ---- what it read
 
 -- bytes spell a script
@@ -106,6 +148,8 @@ spelled search wanted bytes JournalFull text log ended whole = record {
   ordered = ended.stopped.ordered;
   is = ended.stopped.spelled;
 }
+spelled search wanted bytes (Unlike how) text log ended whole = absurd ended
+spelled search wanted bytes (Illegal fault) text log ended whole = absurd ended
 spelled search wanted bytes _ text log ended whole = cc
 
 -- a search whose status needs the whole script read bytes that are no more than a script has

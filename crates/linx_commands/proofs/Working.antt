@@ -7,11 +7,13 @@ use Rattle.command_words.specs.Requests.{wanted_of}
 use Rattle.command_words.specs.declared.request.Request.{Request}
 use Rattle.command_words.specs.declared.request.Request.TheVariants as requests
 use Rattle.command_words.specs.declared.work.Work.{Work}
-use Rattle.command_words.specs.declared.work.Work.TheVariants.{Find, Order, Chart}
+use Rattle.command_words.specs.declared.work.Work.TheVariants.{Find, Seeds, Order, Replay, Check, Chart}
 use Rattle.journal.specs.Logs.{Log}
 use Rattle.linx_commands.specs.Causes.{is_of_writing}
+use Rattle.linx_commands.specs.Checks.{IsCheckEnd, IsLegalInput, IsRefusedInput, check_status}
 use Rattle.linx_commands.specs.Printed.{IsChartEnd, IsOrderEnd, IsOrdered, IsUnreadText}
 use Rattle.linx_commands.specs.Printed.{SaysOf}
+use Rattle.linx_commands.specs.Replays.{IsReplayEnd, IsSame, IsUnlike, IsUnlikeBy, replay_status}
 use Rattle.linx_commands.specs.Runs.{IsEmptyLog}
 use Rattle.linx_commands.specs.Statuses.{is_of_whole, is_silent}
 use Rattle.linx_commands.specs.Streams.{IsScanned, ReadsUpTo, TakesAtMost, Writes}
@@ -19,8 +21,14 @@ use Rattle.linx_commands.specs.Works.{IfWork, IsEndOf, IsReadStop, most_of}
 use Rattle.linx_commands.specs.declared.outcome.Status.{Status}
 use Rattle.linx_commands.specs.declared.outcome.Status.TheVariants.{Done, ReadFault, WriteFault}
 use Rattle.linx_commands.specs.declared.outcome.Status.TheVariants.{JournalFull, NoMemory, FoundNone}
-use Rattle.linx_commands.specs.declared.outcome.Status.TheVariants.{Text}
-use Rattle.linx_commands.proofs.Searching.{short_search}
+use Rattle.linx_commands.specs.declared.outcome.Status.TheVariants.{Script, Text, Unlike, Illegal}
+use Rattle.linx_commands.specs.declared.outcome.Unlike.{Unlike as UnlikeBy}
+use Rattle.linx_commands.specs.declared.outcome.Unlike.TheVariants.{Line, Filled}
+use Rattle.text_check.specs.declared.stop.CheckStop.{CheckStop}
+use Rattle.text_check.specs.declared.stop.CheckStop.TheVariants as check_stops
+use Rattle.text_replay.specs.declared.stop.ReplayStop.{ReplayStop}
+use Rattle.text_replay.specs.declared.stop.ReplayStop.TheVariants as stops
+use Rattle.linx_commands.proofs.Searching.{short_report, short_search}
 
 -- ---- what it read
 
@@ -52,21 +60,64 @@ fault_of_chart : (bytes text : List ℕ) → IsChartEnd bytes ReadFault text →
 fault_of_chart bytes text (inl unread) = unread
 fault_of_chart bytes text (inr drawn) = drawn.says
 
+-- where the replay of a text is whole, so is the text
+short_unlike : (bytes : List ℕ) (unlike : UnlikeBy) → IsUnlikeBy bytes unlike
+    → length bytes < 268435457
+short_unlike bytes (Line line) ended =
+    let within : length bytes ≤ 268435456 = ended.short in omega (arith, within)
+short_unlike bytes Filled ended =
+    let within : length bytes ≤ 268435456 = ended.short in omega (arith, within)
+
+short_replay : (bytes : List ℕ) (status : Status) (text : List ℕ) → IsReplayEnd bytes status text
+    → is_of_whole status ≡ true → length bytes < 268435457
+short_replay bytes Done text ended whole =
+    let within : length bytes ≤ 268435456 = ended.short in omega (arith, within)
+short_replay bytes WriteFault text ended whole =
+    let within : length bytes ≤ 268435456 = ended.short in omega (arith, within)
+short_replay bytes (Unlike unlike) text ended whole = short_unlike bytes unlike ended
+short_replay bytes (Script line fault) text ended whole = cc
+short_replay bytes (Text fault) text ended whole = cc
+short_replay bytes NoMemory text ended whole = cc
+short_replay bytes _ text ended whole = absurd ended
+
+-- where the check of a text is whole, so is the text
+short_check : (bytes : List ℕ) (status : Status) (text : List ℕ) → IsCheckEnd bytes status text
+    → is_of_whole status ≡ true → length bytes < 268435457
+short_check bytes Done text ended whole =
+    let within : length bytes ≤ 268435456 = ended.short in omega (arith, within)
+short_check bytes WriteFault text ended whole =
+    let within : length bytes ≤ 268435456 = ended.short in omega (arith, within)
+short_check bytes (Illegal fault) text ended whole =
+    let within : length bytes ≤ 268435456 = ended.short in omega (arith, within)
+short_check bytes (Script line fault) text ended whole = cc
+short_check bytes (Text fault) text ended whole = cc
+short_check bytes NoMemory text ended whole = cc
+short_check bytes _ text ended whole = absurd ended
+
 -- a work whose status needs the whole input read fewer bytes than it may
 short : (work : Work) (texts : List (List ℕ)) (bytes : List ℕ) (status : Status) (text : List ℕ)
     (log : Log) → IsEndOf work texts bytes status text log → is_of_whole status ≡ true
     → length bytes < most_of work
 short (Find search) texts bytes status text log ended whole =
     short_search search (wanted_of search texts) bytes status text log ended whole
+short (Seeds range) texts bytes status text log ended whole =
+    short_report range bytes status text ended.ended whole
 short Order texts bytes status text log ended whole =
     short_order bytes status text ended.ended whole
+short Replay texts bytes status text log ended whole =
+    short_replay bytes status text ended.ended whole
+short Check texts bytes status text log ended whole =
+    short_check bytes status text ended.ended whole
 short Chart texts bytes status text log ended whole =
     short_chart bytes status text ended.ended whole
 
 fault_of_none : (work : Work) (texts : List (List ℕ)) (bytes text : List ℕ) (log : Log)
     → IsEndOf work texts bytes ReadFault text log → ⊥
 fault_of_none (Find search) texts bytes text log ended = ended
+fault_of_none (Seeds range) texts bytes text log ended = ended.ended
 fault_of_none Order texts bytes text log ended = ended.ended
+fault_of_none Replay texts bytes text log ended = ended.ended
+fault_of_none Check texts bytes text log ended = ended.ended
 fault_of_none Chart texts bytes text log ended = fault_of_chart bytes text ended.ended
 
 -- a work with bytes that were read ends by no fault of their source
@@ -158,6 +209,66 @@ unread_undone bytes status unread is = subst (λ (s : Status). IsUnreadText byte
 pub unread_unfailed : (bytes : List ℕ) (status : Status) → IsUnreadText bytes status
     → status ≢ WriteFault
 unread_unfailed bytes status unread is = subst (λ (s : Status). IsUnreadText bytes s) is unread
+
+-- ---- the replay of a printed text
+
+-- what is said of it went out, or was to
+pub replay_written : (bytes : List ℕ) (status : Status) (text : List ℕ)
+    → is_of_writing status ≡ true → IsSame bytes text → IsReplayEnd bytes status text
+replay_written bytes Done text writes same = same
+replay_written bytes WriteFault text writes same = same
+replay_written bytes NoMemory text writes same = tt
+replay_written bytes _ text writes same = cc
+
+-- no run of the script has it
+pub replay_stopped : (bytes : List ℕ) (stop : ReplayStop) (text : List ℕ) → IsUnlike bytes stop
+    → IsReplayEnd bytes (replay_status stop) text
+replay_stopped bytes (stops.Bad line fault) text unlike = unlike
+replay_stopped bytes (stops.Unread line) text unlike = unlike
+replay_stopped bytes (stops.Full line) text unlike = unlike
+replay_stopped bytes (stops.Other line) text unlike = unlike
+replay_stopped bytes stops.JournalFull text unlike = unlike
+replay_stopped bytes stops.NoMemory text unlike = tt
+
+-- and nothing is written then
+pub silent_replay : (stop : ReplayStop) → is_silent (replay_status stop) ≡ true
+silent_replay (stops.Bad line fault) = refl
+silent_replay (stops.Unread line) = refl
+silent_replay (stops.Full line) = refl
+silent_replay (stops.Other line) = refl
+silent_replay stops.JournalFull = refl
+silent_replay stops.NoMemory = refl
+
+-- ---- the check of a printed text
+
+-- what is said of it went out, or was to
+pub check_written : (bytes : List ℕ) (status : Status) (text : List ℕ)
+    → is_of_writing status ≡ true → IsLegalInput bytes text → IsCheckEnd bytes status text
+check_written bytes Done text writes legal = legal
+check_written bytes WriteFault text writes legal = legal
+check_written bytes NoMemory text writes legal = tt
+check_written bytes _ text writes legal = cc
+
+-- it is that of no legal run of the script
+pub check_stopped : (bytes : List ℕ) (stop : CheckStop) (text : List ℕ) → IsRefusedInput bytes stop
+    → IsCheckEnd bytes (check_status stop) text
+check_stopped bytes (check_stops.Bad line fault) text refused = refused
+check_stopped bytes check_stops.Linked text refused = refused
+check_stopped bytes (check_stops.Unread line) text refused = refused
+check_stopped bytes (check_stops.Full line) text refused = refused
+check_stopped bytes (check_stops.Illegal fault) text refused = refused
+check_stopped bytes (check_stops.Log line) text refused = refused
+check_stopped bytes check_stops.NoMemory text refused = tt
+
+-- and nothing is written then
+pub silent_check : (stop : CheckStop) → is_silent (check_status stop) ≡ true
+silent_check (check_stops.Bad line fault) = refl
+silent_check check_stops.Linked = refl
+silent_check (check_stops.Unread line) = refl
+silent_check (check_stops.Full line) = refl
+silent_check (check_stops.Illegal fault) = refl
+silent_check (check_stops.Log line) = refl
+silent_check check_stops.NoMemory = refl
 
 -- ---- the chart of a printed text
 

@@ -10,6 +10,8 @@ use Rattle.command_words.specs.declared.misuse.Misuse.TheVariants.{Wordless, Unk
 use Rattle.command_words.specs.declared.word.Word.{Word}
 use Rattle.journal.specs.declared.effect.Step.{Step}
 use Rattle.journal.specs.Logs.{Log, step_limit}
+use Rattle.journal_check.specs.Words.{rule_of, word_of}
+use Rattle.journal_check.specs.declared.law.Fault.{Fault as LawFault}
 use Rattle.linx_outside.specs.declared.files.OpenFault.{OpenFault}
 use Rattle.linx_outside.specs.declared.files.OpenFault.TheVariants as why
 use Rattle.script_words.specs.Failures.{reason_of}
@@ -19,12 +21,16 @@ use Rattle.linx_commands.specs.declared.outcome.Status.TheVariants.{Done, Usage,
 use Rattle.linx_commands.specs.declared.outcome.Status.TheVariants.{ReadFault, WriteFault}
 use Rattle.linx_commands.specs.declared.outcome.Status.TheVariants.{JournalFull, NoMemory, Torn}
 use Rattle.linx_commands.specs.declared.outcome.Status.TheVariants.{BadStream, FoundNone, Text}
+use Rattle.linx_commands.specs.declared.outcome.Status.TheVariants.{Unlike, Illegal}
 use Rattle.linx_commands.specs.declared.outcome.TextFault.{TextFault}
 use Rattle.linx_commands.specs.declared.outcome.TextFault.TheVariants.{Bad, Full, Long, Rows, Lanes}
+use Rattle.linx_commands.specs.declared.outcome.TextFault.TheVariants.{Missing, Log as LogAt, Linked}
+use Rattle.linx_commands.specs.declared.outcome.Unlike.{Unlike as UnlikeBy}
+use Rattle.linx_commands.specs.declared.outcome.Unlike.TheVariants.{Line, Filled}
 use Rattle.linx_commands.specs.declared.phrase.Phrase.{Phrase}
 use Rattle.linx_commands.specs.declared.phrase.Phrase.TheVariants as says
 
--- THE PHRASES of the lines
+-- THE PHRASES of which the program's lines are made
 unfoldable pub phrase_of : Phrase → List ℕ
 phrase_of says.Program = codes "linx_sim: "
 phrase_of says.LineEnd = codes "\n"
@@ -58,6 +64,13 @@ phrase_of says.TooMuchNoted = codes ": more signals than a journal holds"
 phrase_of says.TextTooLong = codes "text longer than 268435456 bytes"
 phrase_of says.TooManyRows = codes "chart of more than 6000 rows"
 phrase_of says.TooManyLanes = codes "more than 64 nodes, links or actors"
+phrase_of says.NoTextBehind = codes "no line `text` behind the script"
+phrase_of says.AnotherLine = codes ": the run has another line here"
+phrase_of says.TurnsFill = codes "the turns of the text fill the journal"
+phrase_of says.AnotherLog = codes ": the steps tell another log"
+phrase_of says.HasLinks = codes "runs over links can't be checked yet"
+phrase_of says.StepAt = codes "step "
+phrase_of says.BreaksLaw = codes " breaks the law "
 
 -- the text at a place, from 0; none where there are fewer
 abbrev pub text_at : List (List ℕ) → ℕ → List ℕ
@@ -109,6 +122,20 @@ text_fault_text (Full line) = phrase_of says.TextLine ++ decimal line ++ phrase_
 text_fault_text Long = phrase_of says.TextTooLong
 text_fault_text Rows = phrase_of says.TooManyRows
 text_fault_text Lanes = phrase_of says.TooManyLanes
+text_fault_text Missing = phrase_of says.NoTextBehind
+text_fault_text (LogAt line) = phrase_of says.TextLine ++ decimal line ++ phrase_of says.AnotherLog
+text_fault_text Linked = phrase_of says.HasLinks
+
+-- how a printed text shows that no run has it
+unfoldable pub unlike_text : UnlikeBy → List ℕ
+unlike_text (Line line) = phrase_of says.TextLine ++ decimal line ++ phrase_of says.AnotherLine
+unlike_text Filled = phrase_of says.TurnsFill
+
+-- which step isn't legal, and what the law asks that it breaks
+unfoldable pub illegal_text : LawFault → List ℕ
+illegal_text fault =
+    phrase_of says.StepAt ++ decimal fault.step ++ phrase_of says.BreaksLaw ++ word_of fault.law
+    ++ phrase_of says.Colon ++ rule_of fault.law
 
 -- where a run without memory stopped; nothing where it made no step
 unfoldable pub stop_text : List Step → List ℕ
@@ -129,6 +156,8 @@ text_by texts (Torn at) log = phrase_of says.TornAt ++ decimal at
 text_by texts (BadStream at) log = phrase_of says.BadStreamAt ++ decimal at
 text_by texts FoundNone log = phrase_of says.FoundNone
 text_by texts (Text fault) log = text_fault_text fault
+text_by texts (Unlike unlike) log = unlike_text unlike
+text_by texts (Illegal fault) log = illegal_text fault
 
 -- THE PROGRAM'S LINE on standard error, by its words, its status and the journal; none at Done
 unfoldable pub line_by : List (List ℕ) → Status → Log → List ℕ
@@ -136,6 +165,6 @@ line_by texts Done log = []
 line_by texts status log =
     phrase_of says.Program ++ text_by texts status log ++ phrase_of says.LineEnd
 
--- the same of words
+-- the program's line on standard error, by its words as strings
 abbrev pub line_of : {Z : Type 0} → List (String Z) → Status → Log → List ℕ
 line_of words status log = line_by (map string_bytes words) status log

@@ -26,10 +26,21 @@ pub record IsTextOf (bytes : List ℕ) (log : Log) : Type 0 where
   pub read : read_in (names_in bytes) bytes ≡ Ok log.steps
   pub room : full_in (names_in bytes) bytes ≡ None
 
--- what is wrong with bytes that are no printed text, or one of too much
+-- bytes that aren't too many are no printed text: this is the first line that none has there
+pub record IsBadAt (bytes : List ℕ) (line : ℕ) : Type 0 where
+  pub short : length bytes ≤ text_most
+  pub bad : read_in (names_in bytes) bytes ≡ Err line
+  pub room : full_in (names_in bytes) bytes ≡ None
+
+-- bytes that aren't too many tell more signals than a journal holds: this is the first line that does
+pub record IsFullAt (bytes : List ℕ) (line : ℕ) : Type 0 where
+  pub short : length bytes ≤ text_most
+  pub full : full_in (names_in bytes) bytes ≡ Some line
+
+-- what is wrong with bytes that are no printed text, or one that is too large
 abbrev pub IsFaultOf : List ℕ → TextFault → Type 0
-IsFaultOf bytes (Bad line) = read_in (names_in bytes) bytes ≡ Err line
-IsFaultOf bytes (Full line) = full_in (names_in bytes) bytes ≡ Some line
+IsFaultOf bytes (Bad line) = IsBadAt bytes line
+IsFaultOf bytes (Full line) = IsFullAt bytes line
 IsFaultOf bytes Long = text_most < length bytes
 IsFaultOf bytes _ = ⊥
 
@@ -63,7 +74,7 @@ SaysOf chart (Text Lanes) text = chart ≡ Err draws.TooWide
 SaysOf chart NoMemory text = Unit {0}
 SaysOf chart _ text = ⊥
 
--- the same of the chart of a printed text's journal
+-- what a status says of the chart of a printed text's journal, and of the text that is written
 pub record IsDrawn (bytes : List ℕ) (status : Status) (text : List ℕ) : Type 0 where
   pub log : Log
   pub spelled : IsTextOf bytes log
@@ -74,14 +85,14 @@ pub record IsDrawn (bytes : List ℕ) (status : Status) (text : List ℕ) : Type
 abbrev pub IsChartEnd : List ℕ → Status → List ℕ → Type 0
 IsChartEnd bytes status text = IsUnreadText bytes status ⊎ IsDrawn bytes status text
 
--- what became of a chart, and what was written of it
+-- a chart, or why there is none, and what was written of it
 pub record IsWrittenOf (chart : Result (List ℕ) DrawError) (writes : List ℕ → Type 0)
     (status : Status) : Type 0 where
   pub text : List ℕ
   pub says : SaysOf chart status text
   pub written : writes text
 
--- one of these with an empty journal
+-- a work with a text ended with such a status and such a text, and with an empty journal
 pub record IsTextDone (ends : Status → List ℕ → Type 0) (status : Status) (text : List ℕ) (log : Log)
     : Type 0 where
   pub ended : ends status text

@@ -1,11 +1,13 @@
--- How a search of the runs of some seeds ends.
+-- How a search of the runs of some seeds ends, and their report.
 use Rattle.std.specs.Prelude.{ℕ, ◌≡◌, ◌+◌, ◌⊎◌, List, [], Err}
+use Rattle.command_words.specs.declared.range.Range.{Range}
 use Rattle.command_words.specs.declared.search.Search.{Search}
 use Rattle.fabric.specs.declared.stop.StopCause.{StopCause}
 use Rattle.fabric.specs.declared.stop.StopCause.TheVariants as stops
 use Rattle.journal.specs.Logs.{Log}
 use Rattle.order_lines.specs.Fronts.{ordered_of}
 use Rattle.seed_runs.specs.Runs.{IsStoppedRunOf}
+use Rattle.seed_report.specs.Reports.{IsReport}
 use Rattle.seed_search.specs.Searches.{IsAmong, IsFirst, ShowNothing, found_text}
 use Rattle.linx_commands.specs.Runs.{IsEmptyLog}
 use Rattle.linx_commands.specs.declared.outcome.Status.{Status}
@@ -53,3 +55,11 @@ IsSearchEnd search wanted bytes _ text log = ⊥
 -- a search ended so, and nothing is written
 abbrev pub IsHaltedBy : Search → List (List ℕ) → List ℕ → Status → Log → Type 0
 IsHaltedBy search wanted bytes status log = IsSearchEnd search wanted bytes status [] log
+
+-- WHAT EACH STATUS SAYS OF THE REPORT of the runs of a range of seeds, and of the text that is written
+abbrev pub IsSeedsEnd : Range → List ℕ → Status → List ℕ → Type 0
+IsSeedsEnd range bytes Done text = IsReport bytes range.first range.more text
+IsSeedsEnd range bytes WriteFault text = IsReport bytes range.first range.more text
+IsSeedsEnd range bytes (Script line fault) text = ordered_of bytes ≡ Err (line, fault)
+IsSeedsEnd range bytes NoMemory text = Unit {0}
+IsSeedsEnd range bytes _ text = ⊥

@@ -6,6 +6,7 @@ use Rattle.linx_commands.specs.declared.outcome.Status.TheVariants.{Done, Usage,
 use Rattle.linx_commands.specs.declared.outcome.Status.TheVariants.{ReadFault, WriteFault}
 use Rattle.linx_commands.specs.declared.outcome.Status.TheVariants.{JournalFull, NoMemory, Torn}
 use Rattle.linx_commands.specs.declared.outcome.Status.TheVariants.{BadStream, FoundNone, Text}
+use Rattle.linx_commands.specs.declared.outcome.Status.TheVariants.{Unlike, Illegal}
 
 -- the exit status of the program
 abbrev pub exit_of : Status → ℕ
@@ -18,6 +19,8 @@ exit_of WriteFault = 4
 exit_of JournalFull = 5
 exit_of NoMemory = 6
 exit_of FoundNone = 7
+exit_of (Unlike how) = 7
+exit_of (Illegal fault) = 7
 exit_of (Text fault) = 8
 exit_of (Torn at) = 9
 exit_of (BadStream at) = 11
@@ -40,6 +43,8 @@ is_of_whole Done = true
 is_of_whole WriteFault = true
 is_of_whole JournalFull = true
 is_of_whole FoundNone = true
+is_of_whole (Unlike how) = true
+is_of_whole (Illegal fault) = true
 is_of_whole _ = false
 
 -- the bytes that were read are no script, or no printed text

@@ -4,13 +4,15 @@ use Rattle.command_words.specs.Requests.{wanted_of}
 use Rattle.command_words.specs.declared.request.Request.{Request}
 use Rattle.command_words.specs.declared.request.Request.TheVariants as requests
 use Rattle.command_words.specs.declared.work.Work.{Work}
-use Rattle.command_words.specs.declared.work.Work.TheVariants.{Find, Order, Chart}
+use Rattle.command_words.specs.declared.work.Work.TheVariants.{Find, Seeds, Order, Replay, Check, Chart}
 use Rattle.journal.specs.Logs.{Log}
 use Rattle.linx_outside.specs.declared.files.OpenFault.{OpenFault}
+use Rattle.linx_commands.specs.Checks.{IsCheckEnd}
 use Rattle.linx_commands.specs.Printed.{IsChartEnd, IsOrderEnd, IsTextDone}
 use Rattle.linx_commands.specs.Opened.{IsUnopened}
+use Rattle.linx_commands.specs.Replays.{IsReplayEnd}
 use Rattle.linx_commands.specs.Runs.{IsEmptyLog, IsLegalSomehow}
-use Rattle.linx_commands.specs.Searches.{IsSearchEnd}
+use Rattle.linx_commands.specs.Searches.{IsSearchEnd, IsSeedsEnd}
 use Rattle.linx_commands.specs.Streams.{read_most}
 use Rattle.linx_commands.specs.declared.outcome.Status.{Status}
 use Rattle.linx_commands.specs.declared.outcome.Status.TheVariants.{ReadFault, NoMemory}
@@ -18,6 +20,7 @@ use Rattle.linx_commands.specs.declared.outcome.Status.TheVariants.{ReadFault, N
 -- the most bytes that are read: one more than a script may have, or a printed text
 abbrev pub most_of : Work → ℕ
 most_of (Find search) = read_most
+most_of (Seeds range) = read_most
 most_of _ = 268435457
 
 -- HOW A WORK ENDS: what each status says of the bytes that were read, of the text that is written and
@@ -25,7 +28,11 @@ most_of _ = 268435457
 abbrev pub IsEndOf : Work → List (List ℕ) → List ℕ → Status → List ℕ → Log → Type 0
 IsEndOf (Find search) texts bytes status text log =
     IsSearchEnd search (wanted_of search texts) bytes status text log
+IsEndOf (Seeds range) texts bytes status text log =
+    IsTextDone (IsSeedsEnd range bytes) status text log
 IsEndOf Order texts bytes status text log = IsTextDone (IsOrderEnd bytes) status text log
+IsEndOf Replay texts bytes status text log = IsTextDone (IsReplayEnd bytes) status text log
+IsEndOf Check texts bytes status text log = IsTextDone (IsCheckEnd bytes) status text log
 IsEndOf Chart texts bytes status text log = IsTextDone (IsChartEnd bytes) status text log
 
 -- a work ended so, and this was written
@@ -81,7 +88,7 @@ IsWorkedFrom work texts (Some name) told unread reads of_file refuses silent rea
     unread × IsWorkedOfFile work texts (of_file name) (refuses name) silent (reads_file name) writes
     status log
 
--- if a work is asked for, this holds of it
+-- if the words ask for a work, something holds of that work
 abbrev pub IfWork : Option Request → (Work → Type 0) → Type 0
 IfWork (Some (requests.Work work)) holds = holds work
 IfWork _ holds = Unit {0}

@@ -2,6 +2,7 @@
 
 use command_words::Misuse;
 use journal::Journal;
+use journal_check::Fault as LawFault;
 use linx_outside::OpenFault;
 use script_lang::Fault;
 
@@ -19,6 +20,21 @@ pub enum TextFault {
     Rows,
     /// A chart of it would have more than 64 nodes, links or actors.
     Lanes,
+    /// No line `text` stands behind the script.
+    Missing,
+    /// The first line, from 1, that isn't that of the logs which its steps tell.
+    Log { line: u64 },
+    /// Its script declares links, and no run over links is judged.
+    Linked,
+}
+
+/// How a printed text shows that no run of a script has it.
+#[derive(Clone, Copy, Debug, PartialEq, Eq, Hash)]
+pub enum Unlike {
+    /// The first line, from 1, that isn't that of the run which its turns make.
+    Line { line: u64 },
+    /// Its turns fill the journal before all is over.
+    Filled,
 }
 
 /// How a run ended.
@@ -48,8 +64,12 @@ pub enum Status {
     BadStream { at: u64 },
     /// No run has what is sought.
     FoundNone,
-    /// The bytes are no printed text, or one of too much.
+    /// The bytes are no printed text, or one that is too large.
     Text(TextFault),
+    /// No run of the script has the text.
+    Unlike(Unlike),
+    /// The text is that of no legal run: its first step that isn't, and the law that it breaks.
+    Illegal(LawFault),
 }
 
 /// How a run ended, and its journal so far.

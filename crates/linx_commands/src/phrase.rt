@@ -69,6 +69,20 @@ pub enum Phrase {
     TooManyRows,
     /// A chart would have too many lanes.
     TooManyLanes,
+    /// There is no text behind a script.
+    NoTextBehind,
+    /// That line isn't the run's.
+    AnotherLine,
+    /// The turns of a text fill the journal.
+    TurnsFill,
+    /// That line isn't of the logs.
+    AnotherLog,
+    /// A script has links.
+    HasLinks,
+    /// The number of a step follows.
+    StepAt,
+    /// The law follows that a step breaks.
+    BreaksLaw,
 }
 
 impl Phrase {
@@ -111,6 +125,13 @@ impl Phrase {
             Phrase::TextTooLong => "text longer than 268435456 bytes",
             Phrase::TooManyRows => "chart of more than 6000 rows",
             Phrase::TooManyLanes => "more than 64 nodes, links or actors",
+            Phrase::NoTextBehind => "no line `text` behind the script",
+            Phrase::AnotherLine => ": the run has another line here",
+            Phrase::TurnsFill => "the turns of the text fill the journal",
+            Phrase::AnotherLog => ": the steps tell another log",
+            Phrase::HasLinks => "runs over links can't be checked yet",
+            Phrase::StepAt => "step ",
+            Phrase::BreaksLaw => " breaks the law ",
         }
     }
 }

@@ -23,7 +23,7 @@ use text_alone::read_alone;
 use turn_lines::order_lines;
 
 /// The most bytes that a printed text may have.
-const TEXT_MOST: usize = 268_435_456;
+pub(crate) const TEXT_MOST: usize = 268_435_456;
 
 /// The journal that a printed text spells, with the names that it spells.
 fn read_text(alloc: Global, bytes: &[u8]) -> Result<Journal, Status>

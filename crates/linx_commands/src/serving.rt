@@ -54,6 +54,7 @@ pub(crate) fn unstarted(alloc: Global, status: Status) -> Outcome
     Outcome { status, journal }
 }
 
+/// The status of a read that stopped.
 pub(crate) fn status_of_read(stop: ReadStop) -> Status
     ensures { result ≡ read_status stop }
 {
@@ -63,7 +64,8 @@ pub(crate) fn status_of_read(stop: ReadStop) -> Status
     }
 }
 
-fn status_of_script(error: ScriptError) -> Status
+/// The status of bytes that spell no script.
+pub(crate) fn status_of_script(error: ScriptError) -> Status
     ensures { result ≡ script_status error }
 {
     match error {
@@ -72,6 +74,7 @@ fn status_of_script(error: ScriptError) -> Status
     }
 }
 
+/// The status of a run that stopped.
 pub(crate) fn status_of_stop(cause: StopCause) -> Status
     ensures { result ≡ stop_status cause }
 {

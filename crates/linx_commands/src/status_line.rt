@@ -1,15 +1,17 @@
 //! The program's line on standard error.
 ghost use Rattle.std.specs.Prelude.{◌≡◌, ◌+◌, ◌≤◌, ◌++◌, decimal, length, map, string_bytes};
 ghost use Rattle.command_words.specs.Requests.{file_by};
-ghost use Rattle.linx_commands.specs.Lines.{bad_text, full_text, hint_of, limit_of, line_of};
+ghost use Rattle.linx_commands.specs.Lines.{bad_text, full_text, hint_of, illegal_text, limit_of};
+ghost use Rattle.linx_commands.specs.Lines.{line_of};
 ghost use Rattle.linx_commands.specs.Lines.{misuse_text, phrase_of, phrase_of_fault};
 ghost use Rattle.linx_commands.specs.Lines.{source_prefix, stop_text};
-ghost use Rattle.linx_commands.specs.Lines.{text_at, text_by, text_fault_text};
+ghost use Rattle.linx_commands.specs.Lines.{text_at, text_by, text_fault_text, unlike_text};
 
-use crate::outcome::{Status, TextFault};
+use crate::outcome::{Status, TextFault, Unlike};
 use crate::phrase::Phrase;
 use command_words::{Line, Misuse, WORDS, Word, file_named};
 use journal::Journal;
+use journal_check::Fault as LawFault;
 use linx_outside::OpenFault;
 use script_lang::Fault;
 
@@ -21,7 +23,7 @@ const STEPS_MOST: u64 = 200_000;
 fn push_hint(line: &mut Line, near: Option<Word>)
     requires room { length line.old ≤ 200 }
     ensures text { line.new ≡ line.old ++ hint_of near }
-    ensures room { length line.new ≤ length line.old + 240 }
+    ensures room { length line.new ≤ length line.old + 280 }
 {
     match near {
         Some(near) => {
@@ -128,7 +130,7 @@ fn push_bad(line: &mut Line, number: u32, fault: Fault)
     line.push_pair(Phrase::Colon.text(), reason.as_str());
 }
 
-/// Which line of a printed text shows that it is none, or one of too much.
+/// Which line of a printed text it is, and what is wrong with it.
 fn push_text_line(line: &mut Line, number: u64, wrong: Phrase)
     requires room { length line.old ≤ 40 }
     ensures text { line.new
@@ -152,7 +154,35 @@ fn push_text_fault(line: &mut Line, fault: TextFault)
         TextFault::Long => line.push(Phrase::TextTooLong.text()),
         TextFault::Rows => line.push(Phrase::TooManyRows.text()),
         TextFault::Lanes => line.push(Phrase::TooManyLanes.text()),
+        TextFault::Missing => line.push(Phrase::NoTextBehind.text()),
+        TextFault::Log { line: number } => push_text_line(line, number, Phrase::AnotherLog),
+        TextFault::Linked => line.push(Phrase::HasLinks.text()),
     }
+}
+
+/// How a printed text shows that no run has it.
+#[tactic(auto, unfolding(crate::specs::Lines::unlike_text))]
+fn push_unlike(line: &mut Line, unlike: Unlike)
+    requires room { length line.old ≤ 40 }
+    ensures text { line.new ≡ line.old ++ unlike_text unlike }
+    ensures room { length line.new ≤ length line.old + 430 }
+{
+    match unlike {
+        Unlike::Line { line: number } => push_text_line(line, number, Phrase::AnotherLine),
+        Unlike::Filled => line.push(Phrase::TurnsFill.text()),
+    }
+}
+
+/// Which step isn't legal, and what the law asks that it breaks.
+#[tactic(auto, unfolding(crate::specs::Lines::illegal_text))]
+fn push_illegal(line: &mut Line, fault: LawFault)
+    requires room { length line.old ≤ 40 }
+    ensures text { line.new ≡ line.old ++ illegal_text fault }
+    ensures room { length line.new ≤ length line.old + 430 }
+{
+    line.push_numbered(Phrase::StepAt.text(), fault.step);
+    line.push_pair(Phrase::BreaksLaw.text(), fault.law.word());
+    line.push_pair(Phrase::Colon.text(), fault.law.rule());
 }
 
 /// Where a run stopped for want of memory.
@@ -200,6 +230,8 @@ fn push_text(line: &mut Line, words: &[String], status: Status, journal: &Journa
         Status::BadStream { at } => line.push_numbered(Phrase::BadStreamAt.text(), at),
         Status::FoundNone => line.push(Phrase::FoundNone.text()),
         Status::Text(fault) => push_text_fault(line, fault),
+        Status::Unlike(unlike) => push_unlike(line, unlike),
+        Status::Illegal(fault) => push_illegal(line, fault),
     }
 }
 

@@ -48,7 +48,7 @@ fn exit_code(status: Status) -> u8
         Status::WriteFault => 4,
         Status::JournalFull => 5,
         Status::NoMemory => 6,
-        Status::FoundNone => 7,
+        Status::FoundNone | Status::Unlike(_) | Status::Illegal(_) => 7,
         Status::Text(_) => 8,
         Status::Torn { .. } => 9,
         Status::BadStream { .. } => 11,

@@ -10,9 +10,12 @@ ghost use Rattle.linx_commands.specs.Streams.{IsScanned, ReadsUpTo, TakesAtMost,
 ghost use Rattle.linx_commands.specs.Works.{Ends, IsEndOf, IsReadStop, IsWorked, IsWorkedFrom};
 ghost use Rattle.linx_commands.specs.Works.{IsWorkedOfFile, most_of};
 
+use crate::checking::check;
 use crate::outcome::{Outcome, Status};
 use crate::printed::{chart, order};
+use crate::replay::replay;
 use crate::search::find;
+use crate::seeds::report;
 use crate::serving::{READ_MOST, status_of_read, unstarted};
 use command_words::Work;
 use linx_outside::{Files, Sink, Source, read_up_to};
@@ -27,8 +30,8 @@ fn most_of(work: Work) -> usize
     ensures { result ≡ most_of work }
 {
     match work {
-        Work::Find(_) => READ_MOST,
-        Work::Order | Work::Chart => TEXT_MOST,
+        Work::Find(_) | Work::Seeds(_) => READ_MOST,
+        Work::Order | Work::Replay | Work::Check | Work::Chart => TEXT_MOST,
     }
 }
 
@@ -71,7 +74,10 @@ fn look<R: Threads + Sync, K: Sink>(
 {
     match work {
         Work::Find(search) => find(rt, alloc, search, search.wanted(words), bytes, out),
+        Work::Seeds(range) => report(alloc, range, bytes, out),
         Work::Order => order(alloc, bytes, out),
+        Work::Replay => replay(alloc, bytes, out),
+        Work::Check => check(alloc, bytes, out),
         Work::Chart => chart(alloc, bytes, out),
     }
 }

@@ -6,6 +6,8 @@
 #[cfg(test)]
 mod bad_line_rows;
 #[cfg(test)]
+mod checks;
+#[cfg(test)]
 mod command_line;
 #[cfg(test)]
 mod echoes;
@@ -27,6 +29,8 @@ mod listed_turns;
 mod lost_links;
 #[cfg(test)]
 mod program_ends;
+#[cfg(test)]
+mod replays;
 #[cfg(test)]
 mod requests;
 #[cfg(test)]

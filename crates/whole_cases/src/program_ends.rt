@@ -36,10 +36,10 @@ fn a_bad_line_is_told_with_its_number_and_its_fault(rt: HostRuntime) -> Result<(
 }
 
 const USAGE: &str =
-    "linx_sim: usage: linx_sim WORD ..; the words are: run serial seed find order chart gen stream gateway help version\n";
+    "linx_sim: usage: linx_sim WORD ..; the words are: run serial seed find seeds order replay check chart gen stream gateway help version\n";
 
 const NO_WORD: &str =
-    "linx_sim: no word 'fast'; the words are: run serial seed find order chart gen stream gateway help version\n";
+    "linx_sim: no word 'fast'; the words are: run serial seed find seeds order replay check chart gen stream gateway help version\n";
 
 /// What the program is given, and how it ends.
 #[derive(Clone, Copy)]
@@ -111,6 +111,15 @@ const CASES: &[Case] = &[
         ..DONE
     },
     Case {
+        word: Ok("check"),
+        script: "node n\nactor p n\nopen a\nend\ntext\njournal 2\n1 A1 open a\n+ opened 1.1\n\
+                 2 A1 send 1.1 5 - dead\n+ arrived 1.1 1.1 5 -\n",
+        number: 7,
+        line: "linx_sim: step 2 breaks the law sends: a signal is answered dead exactly where its \
+               peer is not alive\n",
+        ..DONE
+    },
+    Case {
         word: Ok("stream"),
         script: "\u{1}\u{1}",
         number: 9,
@@ -125,6 +134,7 @@ const CASES: &[Case] = &[
     },
 ];
 
+/// A command line of this one word, or one that can't be had.
 fn words_of(alloc: Global, word: Result<&str, Unread>) -> Result<Words, Fail> {
     match word {
         Ok(word) => Ok(Words::Read(owned(alloc, &[word])?)),
@@ -149,7 +159,7 @@ fn ends_as<R: Threads + Wait + Sync + Eprint>(
 #[test]
 fn each_end_has_its_line_and_its_exit_status(rt: HostRuntime) -> Result<(), Fail> {
     for &case in CASES {
-        let mut errors = MemSink::new(rt.alloc(), 7, 128, Vec::new(rt.alloc()))?;
+        let mut errors = MemSink::new(rt.alloc(), 7, 256, Vec::new(rt.alloc()))?;
         assert!(rt;
             ends_as(&rt, rt.alloc(), case, &mut errors)?,
             "not {}",

@@ -101,8 +101,14 @@ writes everything that happened.
       play a script in the order that a number decides
   find A B [in FILE] [not] WORD ..
       find the first number from A to B whose run has a line of these words
+  seeds A B [FILE]
+      report what comes of a script in the orders of the numbers A to B
   order [FILE]
       write the order of a printed run, as lines of a script
+  replay [FILE]
+      play a printed run again, and tell whether it is the same
+  check [FILE]
+      tell whether a printed run is legal
   chart [FILE]
       draw a printed run as a picture
   gen N
@@ -116,8 +122,8 @@ writes everything that happened.
   version
       write the version
 
-FILE is a script, and under order and chart a printed text; without it,
-or where it is -, standard input is read.
+FILE is a script, under order and chart a printed text, under replay and check
+both; without it, or where it is -, standard input is read.
 `linx_sim help WORD` says more of a word.
 
 exit status:
@@ -128,8 +134,8 @@ exit status:
   4  the text can't be written
   5  the journal is full before the run is over
   6  memory was refused
-  7  no run has what is sought
-  8  the bytes are no printed text, or one of too much
+  7  what is sought isn't found, or the text is no run's, or no legal run's
+  8  the bytes are no printed text, or one that is too large
   9  a stream ended within a frame or a request
   11 the bytes of a stream are no frame or request, or break the rules
 
@@ -202,6 +208,13 @@ journal 5
 const FOUND: &str = "seed 1\ntook 1.1 5 -\n";
 
 const USAGE_OF_FIND: &str = "linx_sim: usage: linx_sim find A B [in FILE] [not] WORD ..\n";
+
+/// What comes of the self send in nine orders.
+const REPORT: &str =
+    "runs 9\nsteps 5 5\noutcomes 1\noutcome 1 9 seed 1\nrefused 0\nnone 0\ndead 0\n\
+    closed 0\nlost 0\ndown 0\n";
+
+const USAGE_OF_SEEDS: &str = "linx_sim: usage: linx_sim seeds A B [FILE]\n";
 
 /// Each word that runs a script or serves a stream, with each source.
 const SOURCES: &[Row] = &[
@@ -283,6 +296,21 @@ const SOURCES: &[Row] = &[
     Row {
         words: &["find", "9", "1", "took"],
         line: USAGE_OF_FIND,
+        ..MISUSED
+    },
+    Row {
+        words: &["seeds", "1", "9"],
+        text: Text::Is(REPORT),
+        ..INPUT
+    },
+    Row {
+        words: &["seeds", "1", "9", "s.linx"],
+        text: Text::Is(REPORT),
+        ..FILE
+    },
+    Row {
+        words: &["seeds", "9", "1"],
+        line: USAGE_OF_SEEDS,
         ..MISUSED
     },
     Row {
@@ -464,7 +492,7 @@ const MISUSES: &[Row] = &[
     },
     Row {
         words: &["fast\n\u{7f}"],
-        line: "linx_sim: no word 'fast??'; the words are: run serial seed find order chart gen stream gateway help version\n",
+        line: "linx_sim: no word 'fast??'; the words are: run serial seed find seeds order replay check chart gen stream gateway help version\n",
         ..MISUSED
     },
     Row {
@@ -623,7 +651,7 @@ fn a_long_word_is_cut(rt: HostRuntime) -> Result<(), Fail> {
     );
     let wanted =
         "linx_sim: no word 'xxxxxxxxxxxxxxxxxxxxxxxxxxxxxxxxxxxxxxxxxxxxxxxxxxxxxxxxxxxxxxxx\
-        '; the words are: run serial seed find order chart gen stream gateway help version\n";
+        '; the words are: run serial seed find seeds order replay check chart gen stream gateway help version\n";
     assert_eq!(rt; errors.held(), wanted.as_bytes());
     Ok(())
 }

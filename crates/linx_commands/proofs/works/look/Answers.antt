@@ -32,3 +32,33 @@ returns-in-Chart g c =
       written = charted.written;
       legal = charted.legal;
     })
+
+pub returns-in-Seeds : goal.returns-in-Seeds
+returns-in-Seeds g c =
+    let reported = c.report.ensures in
+    rw c.in-Seeds.is (record {
+      text = reported.text;
+      is = reported.is;
+      written = reported.written;
+      legal = reported.legal;
+    })
+
+pub returns-in-Check : goal.returns-in-Check
+returns-in-Check g c =
+    let checked = c.check.ensures in
+    rw c.in-Check.is (record {
+      text = checked.text;
+      is = checked.is;
+      written = checked.written;
+      legal = checked.legal;
+    })
+
+pub returns-in-Replay : goal.returns-in-Replay
+returns-in-Replay g c =
+    let replayed = c.replay.ensures in
+    rw c.in-Replay.is (record {
+      text = replayed.text;
+      is = replayed.is;
+      written = replayed.written;
+      legal = replayed.legal;
+    })

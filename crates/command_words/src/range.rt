@@ -1,0 +1,31 @@
+//! A range of numbers.
+ghost use Rattle.std.specs.Prelude.{◌≡◌};
+ghost use Rattle.command_words.specs.Requests.{ranged};
+
+use crate::number::number;
+
+/// The most numbers of a range.
+const RANGE_MOST: u32 = 1_000_000;
+
+/// A number, and so many behind it.
+#[derive(Clone, Copy, Debug, PartialEq, Eq, Hash)]
+pub struct Range {
+    pub first: u32,
+    pub more: u32,
+}
+
+/// The range that two texts spell.
+pub(crate) fn ranged(from: &str, to: &str) -> Option<Range>
+    ensures { result ≡ ranged from.now to.now }
+{
+    let first = number(from)?;
+    let last = number(to)?;
+    if last < first || last - first >= RANGE_MOST {
+        None
+    } else {
+        Some(Range {
+            first,
+            more: last - first,
+        })
+    }
+}

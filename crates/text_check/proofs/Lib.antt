@@ -1,0 +1,3 @@
+mod Few
+mod Shapes
+mod Passing

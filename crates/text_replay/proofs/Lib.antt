@@ -1,0 +1,4 @@
+mod OneText
+mod OneFront
+mod Decided
+mod Stops

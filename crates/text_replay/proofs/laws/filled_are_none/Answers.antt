@@ -1,0 +1,5 @@
+use Rattle.text_replay.proofs.Decided.{filled_are_none}
+use Rattle.text_replay.proofs.laws.filled_are_none.Goals as goal
+
+pub returns : goal.returns
+returns c = filled_are_none c.printed_is_read.ensures c.order_decides.ensures
