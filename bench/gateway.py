@@ -6,7 +6,9 @@ loopback, by `socat` where that is there: they hunt for each other, attach, exch
 have timers that one of them lets fall due, until so many requests were made. Then gateways of 1 to 4
 clients get streams drawn by chance, some bytes of which are altered, lost or added. All that is
 replied, and how each session ends, must be as bench/model/gateway_rules.py says by
-docs/use/gateway.md; and the program of that page must print what it says. Prints what each took.
+docs/use/gateway.md; the journal that the four clients leave in a file must be the one of these
+rules, byte by byte, and `linx_sim check` must find it legal; and the program of that page must print
+what it says. Prints what each took.
 
     bench/try gateway [REQUESTS [SPOILED [PROGRAM]]]                  20,000 and 100,000 if unsaid
 """
@@ -160,24 +162,41 @@ def at_table(gateway, requests, seed):
     return table.faults
 
 
-def over_socket(program):
+def script_of(clients):
+    """The script whose node and actors are those of a gateway."""
+    actors = "".join(f"actor client{number} g\nend\n" for number in range(1, clients + 1))
+    return f"node g\n{actors}text\n"
+
+
+def is_journal_wrong(program, told, kept):
+    """Whether the journal in a file is another one than the rules tell, or isn't legal."""
+    text = kept.read_text()
+    ran = subprocess.run([program, "check"], input=script_of(CLIENTS) + text, capture_output=True,
+                         text=True, timeout=SECONDS, check=False)
+    right = text == told.journal.text() and ran.stdout == f"legal {told.journal.steps}\n"
+    print(f"the journal of these: {len(text)} bytes, {(ran.stdout or ran.stderr).strip()}"
+          f"{'' if right else ': WRONG'}")
+    return not right
+
+
+def over_socket(program, kept):
     """A program with its end of a connection as streams, and the other end."""
     with socket.create_server(("127.0.0.1", 0)) as door:
         client = socket.create_connection(door.getsockname(), SECONDS)
         there, _ = door.accept()
     with there:
-        ran = subprocess.Popen([program, "gateway", str(CLIENTS)], stdin=there, stdout=there,
-                               stderr=subprocess.PIPE)
+        ran = subprocess.Popen([program, "gateway", str(CLIENTS), "--journal", kept],
+                               stdin=there, stdout=there, stderr=subprocess.PIPE)
     return ran, client
 
 
-def over_socat(program):
+def over_socat(program, kept):
     """The same by `socat`."""
     with socket.create_server(("127.0.0.1", 0)) as door:
         port = door.getsockname()[1]
     ran = subprocess.Popen(["socat", "-t", str(SECONDS),
                             f"TCP-LISTEN:{port},bind=127.0.0.1,reuseaddr",
-                            f"EXEC:{program} gateway {CLIENTS}"], stderr=subprocess.PIPE)
+                            f"EXEC:{program} gateway {CLIENTS} --journal {kept}"], stderr=subprocess.PIPE)
     until = time.monotonic() + SECONDS
     while True:
         try:
@@ -191,7 +210,9 @@ def over_socat(program):
 def is_table_wrong(program, way, requests):
     """Whether clients at a table are replied otherwise than they should be."""
     began = time.monotonic()
-    ran, client = way(program)
+    folder = tempfile.TemporaryDirectory()
+    kept = pathlib.Path(folder.name) / "journal"
+    ran, client = way(program, kept)
     client.setsockopt(socket.IPPROTO_TCP, socket.TCP_NODELAY, 1)
     said, heard = Taped(client.makefile("wb", 0)), Taped(client.makefile("rb"))
     gateway = Gateway(said, heard, client.close)
@@ -209,7 +230,8 @@ def is_table_wrong(program, way, requests):
           f"{'' if right else ': WRONG'}")
     for fault in faults[:1]:
         print(f"first fault: {fault!r}")
-    return not right
+    with folder:
+        return is_journal_wrong(program, told, kept) or not right
 
 
 def is_page_wrong(program):

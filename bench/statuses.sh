@@ -91,7 +91,10 @@ row 'three words' 1 $'linx_sim: usage: linx_sim run [FILE]\n' "$script" "$work/t
 row 'a number too large' 1 $'linx_sim: usage: linx_sim gen N\n' "$script" "$work/text" \
     plain gen 4294967296
 row 'no seed' 1 $'linx_sim: usage: linx_sim seed S [FILE]\n' "$script" "$work/text" plain seed x
-row 'no clients' 1 $'linx_sim: usage: linx_sim gateway N\n' "$script" "$work/text" plain gateway 17
+row 'no clients' 1 $'linx_sim: usage: linx_sim gateway N [--journal FILE]\n' "$script" "$work/text" \
+    plain gateway 17
+row 'no file of a journal' 1 $'linx_sim: usage: linx_sim gateway N [--journal FILE]\n' "$script" \
+    "$work/text" plain gateway 4 --journal
 row 'a dashed word' 1 "linx_sim: no word '-x'; $words"$'\n' "$script" "$work/text" plain -x
 row 'an empty word' 1 "linx_sim: no word ''; $words"$'\n' "$script" "$work/text" plain ''
 row 'a word that is not UTF-8' 1 "$usage" "$script" "$work/text" plain $'run\xff'
@@ -147,6 +150,18 @@ head -c 8 "$work/open" > "$work/part"
 printf '\0\0\0\14\201\1\0\0\0\0\0\1\0\0\0\1' > "$work/opened"
 row 'a gateway' 0 '' "$work/open" "$work/text" plain gateway 4
 cmp -s "$work/text" "$work/opened" || complain 'a gateway: another reply'
+row 'a journal that is kept' 0 '' "$work/open" "$work/text" plain gateway 4 --journal "$work/journal"
+cmp -s "$work/text" "$work/opened" || complain 'a journal that is kept: another reply'
+[ "$(cat "$work/journal")" = $'log 1.1 a g\njournal 1\n1 A1 open a\n+ opened 1.1' ] ||
+    complain 'a journal that is kept: another text'
+row 'a folder for a journal' 4 $'linx_sim: /: is a folder\n' "$work/open" "$work/text" \
+    plain gateway 4 --journal /
+[ -s "$work/text" ] && complain 'a folder for a journal: something was replied'
+row 'no folder for a journal' 4 $'linx_sim: missing/a: no such folder\n' "$work/open" "$work/text" \
+    plain gateway 4 --journal missing/a
+row 'a full file' 4 $'linx_sim: /dev/full: write fault\n' "$work/open" "$work/text" \
+    plain gateway 4 --journal /dev/full
+cmp -s "$work/text" "$work/opened" || complain 'a full file: another reply'
 row 'a torn request' 9 $'linx_sim: torn at 0\n' "$work/part" "$work/text" plain gateway 4
 row 'a bad request' 11 $'linx_sim: bad stream at 0\n' "$work/bad" "$work/text" plain gateway 4
 limited 30000 run < "$work/large" > "$work/text" 2> "$work/errors"

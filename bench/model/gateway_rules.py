@@ -161,6 +161,8 @@ class Gateway:
         answer = "dead"
         if self.is_there(peer):
             answer = self.node.send(client.endpoint, peer, signal)
+        else:
+            self.journal.log(client.endpoint.incarnation, "sent", peer, signal, answer)
         self.made(client, "send", peer, signal, answer)
         return answer
 
@@ -181,10 +183,12 @@ class Gateway:
         item = client.endpoint.first(selected)
         if item:
             client.endpoint.queue.remove(item)
+            self.journal.log(client.endpoint.incarnation, "took", item.sender, item.signal)
             self.made(client, "take", selected, ".".join(map(str, item.position)))
             sender = number_of(item.sender.incarnation)
             return 0, struct.pack(">I", item.signal.number) + sender + item.signal.data
         if self.is_at_rest(client):
+            self.journal.log(client.endpoint.incarnation, "none")
             self.made(client, "none", selected)
             return (NOTHING,)
         if client.waits is None:

@@ -1,12 +1,13 @@
 -- How many clients a gateway has that words ask for.
 use Rattle.std.proofs.Common.{◌≡◌, ℕ, ◌<◌, ◌≤◌, Bool, true, false, List, [], ◌∷◌, refl, arith}
 use Rattle.std.proofs.Common.{subst, Option, Some, None, option_map, option_and_then, ◌&&◌, nat_le}
-use Rattle.std.proofs.Common.{nat_lt, if◌then◌else◌, length}
+use Rattle.std.proofs.Common.{nat_lt, if◌then◌else◌, length, not, ◌||◌, codes}
+use Rattle.std.specs.Str.{bytes_eq}
 use Rattle.std.proofs.lemmas.Bool.{and_parts}
 use Rattle.std.proofs.lemmas.Bool.Decides.{nat_tests}
 use Rattle.script_words.specs.Numbers.{number_spelled}
 use Rattle.command_words.specs.Requests.{asked_alone, asked_with, asked_with_file, asked_with_plain}
-use Rattle.command_words.specs.Requests.{clients_in, clients_spelled, is_file_name}
+use Rattle.command_words.specs.Requests.{clients_in, clients_spelled, is_file_name, is_no_name}
 use Rattle.command_words.specs.Requests.{asked_with_more, ranged, request_by, searched, seeded}
 use Rattle.command_words.specs.Words.{called, is_help_flag}
 use Rattle.command_words.specs.declared.request.Asked.{Asked}
@@ -138,12 +139,22 @@ no_ranged_file None named n is = cc
 no_ranged_file (Some range) true n is = cc
 no_ranged_file (Some range) false n is = cc
 
-none_with_more : (word : Option Word) (from to : List ℕ) (behind : List (List ℕ)) (n : ℕ)
-    → option_and_then (λ w. asked_with_more w from to behind) word ≡ Some (Serve n) → ⊥
-none_with_more (Some Find) from to behind n is = no_search (searched from to behind) n is
-none_with_more (Some Seeds) from to (file ∷ []) n is =
-    no_ranged_file (ranged from to) (is_file_name file) n is
-none_with_more _ from to behind n is = cc
+few_kept : (refused : Bool) (number : List ℕ) (n : ℕ)
+    → (if refused then None else option_map (λ k. Serve k) (clients_spelled number))
+    ≡ Some (Serve n) → AreFew n
+few_kept true number n is = absurd cc
+few_kept false number n is =
+    few_spelled (nat_lt 2 (length number)) (number_spelled number) n
+    (mapped (clients_spelled number) n is)
+
+few_with_more : (word : Option Word) (from to : List ℕ) (behind : List (List ℕ)) (n : ℕ)
+    → option_and_then (λ w. asked_with_more w from to behind) word ≡ Some (Serve n) → AreFew n
+few_with_more (Some Find) from to behind n is = absurd (no_search (searched from to behind) n is)
+few_with_more (Some Seeds) from to (file ∷ []) n is =
+    absurd (no_ranged_file (ranged from to) (is_file_name file) n is)
+few_with_more (Some Gateway) from to (file ∷ []) n is =
+    few_kept (not (bytes_eq to (codes "--journal")) || is_no_name file) from n is
+few_with_more _ from to behind n is = absurd cc
 
 -- a gateway that words ask for has 1 to 16 clients
 pub few_clients : (texts : List (List ℕ)) (n : ℕ) → request_by texts ≡ Some (Serve n) → AreFew n
@@ -153,4 +164,4 @@ few_clients (word ∷ argument ∷ []) n is = few_called (called word) argument 
 few_clients (word ∷ argument ∷ file ∷ []) n is =
     absurd (none_with_file (called word) argument file n is)
 few_clients (word ∷ from ∷ to ∷ next ∷ rest) n is =
-    absurd (none_with_more (called word) from to (next ∷ rest) n is)
+    few_with_more (called word) from to (next ∷ rest) n is

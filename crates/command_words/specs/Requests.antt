@@ -110,6 +110,14 @@ asked_with_file Seed argument file =
 asked_with_file Seeds argument file = reported argument file
 asked_with_file _ argument file = None
 
+-- a gateway whose journal is kept in a file: behind the number of its clients stand `--journal` and
+-- the file
+abbrev pub kept : List ℕ → List ℕ → List ℕ → Option Request
+kept number flag file =
+    if not (bytes_eq flag (codes "--journal")) || is_no_name file
+    then None
+    else option_map (λ n. Serve n) (clients_spelled number)
+
 -- a search for so many words: one to eight
 abbrev pub fitting : Search → List (List ℕ) → Option Search
 fitting search wanted =
@@ -158,6 +166,7 @@ asked_with_more Find from to behind =
     option_map (λ search. Work (works.Find search)) (searched from to behind)
 asked_with_more Seeds from to (file ∷ []) =
     option_and_then (λ request. of_file request file) (reported from to)
+asked_with_more Gateway from to (file ∷ []) = kept from to file
 asked_with_more _ from to behind = None
 
 -- what these texts ask for: nothing where they are those of no command
@@ -204,6 +213,20 @@ file_by texts = option_and_then (λ place. file_at texts place) (file_place (req
 -- the file that the words name
 abbrev pub file_of : {Z : Type 0} → List (String Z) → Option (List ℕ)
 file_of words = file_by (map string_bytes words)
+
+-- the file in which the journal of what is asked for by these texts is kept: that of a gateway may
+-- stand behind its word, its number and `--journal`
+abbrev pub journal_in : Option Request → List (List ℕ) → Option (List ℕ)
+journal_in (Some (Serve clients)) texts = slice_get texts 3
+journal_in _ texts = None
+
+-- the file in which these texts keep the journal of a gateway; none where they keep no journal
+abbrev pub journal_by : List (List ℕ) → Option (List ℕ)
+journal_by texts = journal_in (request_by texts) texts
+
+-- the file in which the words keep it
+abbrev pub journal_of : {Z : Type 0} → List (String Z) → Option (List ℕ)
+journal_of words = journal_by (map string_bytes words)
 
 -- the place behind `not`, where it stands at this one
 abbrev pub wanted_place_by : Sought → ℕ → ℕ

@@ -109,10 +109,10 @@ said_of Stream = record {
 }
 said_of Gateway = record {
   name = codes "gateway";
-  usage = codes "gateway N";
+  usage = codes "gateway N [--journal FILE]";
   line = codes "serve clients over a byte stream, each with the calls of LINX";
   paragraph =
-      codes "Reads the requests of the clients 1 to N, which is at most 16, from standard input,\nin whatever pieces they come, and writes the replies to standard output. Each\nclient has an endpoint and timers. No socket is opened.\n";
+      codes "Reads the requests of the clients 1 to N, which is at most 16, from standard input,\nin whatever pieces they come, and writes the replies to standard output. Each\nclient has an endpoint and timers. No socket is opened. With --journal it makes\nFILE first, empties it if it is there, and writes the text of the session's\njournal into it at the end, as run writes one.\n";
   example = codes "socat TCP-LISTEN:9000,bind=127.0.0.1,fork EXEC:'linx_sim gateway 4'";
 }
 said_of Help = record {

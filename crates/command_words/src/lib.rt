@@ -19,7 +19,7 @@ pub use line::Line;
 pub use misuse::Misuse;
 pub use page::Page;
 pub use range::Range;
-pub use request::{Asked, Request, TurnOrder, file_named};
+pub use request::{Asked, Request, TurnOrder, file_named, journal_named};
 pub use search::Search;
 pub use word::{Said, WORDS, Word};
 pub use work::Work;

@@ -3,6 +3,7 @@ ghost use Rattle.std.specs.Prelude.{◌≡◌, map, option_map, string_bytes};
 ghost use Rattle.command_words.specs.Requests.{asked_alone, asked_with, asked_with_file};
 ghost use Rattle.command_words.specs.Requests.{asked_with_more, clients_in, clients_spelled};
 ghost use Rattle.command_words.specs.Requests.{file_at, file_of, file_place, is_file_name};
+ghost use Rattle.command_words.specs.Requests.{is_no_name, journal_of, kept};
 ghost use Rattle.command_words.specs.Requests.{of_file, reported, request_of, seeded};
 
 use crate::number::number;
@@ -16,6 +17,12 @@ use crate::work::Work;
 const CLIENTS_MOST: u32 = 16;
 
 const CLIENTS_DIGITS: usize = 2;
+
+/// The word before the file in which the journal of a gateway is kept, and the place of that file
+/// among the words, from 0.
+const JOURNAL_FLAG: &str = "--journal";
+
+const JOURNAL_PLACE: usize = 3;
 
 /// The order in which a script is played on one thread.
 #[derive(Clone, Copy, Debug, PartialEq, Eq, Hash)]
@@ -48,16 +55,23 @@ pub enum Request {
     Work(Work),
     /// An echo over the program's streams.
     Echo,
-    /// A gateway for so many clients over the program's streams.
+    /// A gateway for so many clients over the program's streams. `journal_named` says where its
+    /// journal is kept.
     Serve(u8),
 }
 
-/// Whether a text names a file, or standard input by `-`. The name of a file isn't empty, and
-/// begins with no `-`.
+/// Whether a text is no name of a file: it is empty, or begins with `-`.
+fn is_no_name(text: &str) -> bool
+    ensures { result ≡ is_no_name text.now }
+{
+    text.is_empty() || text.starts_with('-')
+}
+
+/// Whether a text names a file, or standard input by `-`.
 pub(crate) fn is_file_name(text: &str) -> bool
     ensures { result ≡ is_file_name text.now }
 {
-    text == "-" || !(text.is_empty() || text.starts_with('-'))
+    text == "-" || !is_no_name(text)
 }
 
 /// What is asked for of a file.
@@ -157,6 +171,16 @@ pub(crate) fn asked_with_file(word: Word, argument: &str, file: &str) -> Option<
     }
 }
 
+/// A gateway whose journal is kept in a file.
+fn kept(number: &str, flag: &str, file: &str) -> Option<Request>
+    ensures { result ≡ kept number.now flag.now file.now }
+{
+    if flag != JOURNAL_FLAG || is_no_name(file) {
+        return None;
+    }
+    Some(Request::Serve(clients(number)?))
+}
+
 /// What a word and further ones ask for, of which the first two are arguments.
 fn asked_with_more(word: Word, from: &str, to: &str, behind: &[String]) -> Option<Request>
     ensures { result ≡ asked_with_more word from.now to.now (map string_bytes behind.now) }
@@ -164,6 +188,7 @@ fn asked_with_more(word: Word, from: &str, to: &str, behind: &[String]) -> Optio
     match (word, behind) {
         (Word::Find, _) => Some(Request::Work(Work::Find(searched(from, to, behind)?))),
         (Word::Seeds, [file]) => of_file(reported(from, to)?, file.as_str()),
+        (Word::Gateway, [file]) => kept(from, to, file.as_str()),
         _ => None,
     }
 }
@@ -214,4 +239,14 @@ pub fn file_named(words: &[String]) -> Option<&str>
     ensures { option_map (λ name. name.now) result ≡ file_of words.now }
 {
     file_at(words, file_place(request_by(words))?)
+}
+
+/// The file in which the journal of a gateway is kept; `None` where the words name none.
+pub fn journal_named(words: &[String]) -> Option<&str>
+    ensures { option_map (λ name. name.now) result ≡ journal_of words.now }
+{
+    match request_by(words)? {
+        Request::Serve(_) => Some(words.get(JOURNAL_PLACE)?.as_str()),
+        _ => None,
+    }
 }

@@ -179,11 +179,13 @@ impl Word {
             },
             Word::Gateway => Said {
                 name: "gateway",
-                usage: "gateway N",
+                usage: "gateway N [--journal FILE]",
                 line: "serve clients over a byte stream, each with the calls of LINX",
                 paragraph: "Reads the requests of the clients 1 to N, which is at most 16, from standard input,\n\
                     in whatever pieces they come, and writes the replies to standard output. Each\n\
-                    client has an endpoint and timers. No socket is opened.\n",
+                    client has an endpoint and timers. No socket is opened. With --journal it makes\n\
+                    FILE first, empties it if it is there, and writes the text of the session's\n\
+                    journal into it at the end, as run writes one.\n",
                 example: "socat TCP-LISTEN:9000,bind=127.0.0.1,fork EXEC:'linx_sim gateway 4'",
             },
             Word::Help => Said {

@@ -3,7 +3,7 @@ use Rattle.std.specs.Prelude.{ℕ, List, [], ◌++◌, codes, decimal, length, m
 use Rattle.std.specs.Prelude.{Option, Some, None, String, string_bytes, slice_index_or}
 use Rattle.std.specs.Prelude.{if◌then◌else◌}
 use Rattle.command_words.specs.Lines.{named_list, shown}
-use Rattle.command_words.specs.Requests.{file_by}
+use Rattle.command_words.specs.Requests.{file_by, journal_by}
 use Rattle.command_words.specs.Words.{all_words, said_of}
 use Rattle.command_words.specs.declared.misuse.Misuse.{Misuse}
 use Rattle.command_words.specs.declared.misuse.Misuse.TheVariants.{Wordless, Unknown, Arguments}
@@ -12,6 +12,8 @@ use Rattle.journal.specs.declared.effect.Step.{Step}
 use Rattle.journal.specs.Logs.{Log, step_limit}
 use Rattle.journal_check.specs.Words.{rule_of, word_of}
 use Rattle.journal_check.specs.declared.law.Fault.{Fault as LawFault}
+use Rattle.linx_files.specs.declared.make_fault.MakeFault.{MakeFault}
+use Rattle.linx_files.specs.declared.make_fault.MakeFault.TheVariants as makes
 use Rattle.linx_outside.specs.declared.files.OpenFault.{OpenFault}
 use Rattle.linx_outside.specs.declared.files.OpenFault.TheVariants as why
 use Rattle.script_words.specs.Failures.{reason_of}
@@ -21,7 +23,7 @@ use Rattle.linx_commands.specs.declared.outcome.Status.TheVariants.{Done, Usage,
 use Rattle.linx_commands.specs.declared.outcome.Status.TheVariants.{ReadFault, WriteFault}
 use Rattle.linx_commands.specs.declared.outcome.Status.TheVariants.{JournalFull, NoMemory, Torn}
 use Rattle.linx_commands.specs.declared.outcome.Status.TheVariants.{BadStream, FoundNone, Text}
-use Rattle.linx_commands.specs.declared.outcome.Status.TheVariants.{Unlike, Illegal}
+use Rattle.linx_commands.specs.declared.outcome.Status.TheVariants.{Unlike, Illegal, Unmade, Unkept}
 use Rattle.linx_commands.specs.declared.outcome.TextFault.{TextFault}
 use Rattle.linx_commands.specs.declared.outcome.TextFault.TheVariants.{Bad, Full, Long, Rows, Lanes}
 use Rattle.linx_commands.specs.declared.outcome.TextFault.TheVariants.{Missing, Log as LogAt, Linked}
@@ -47,6 +49,8 @@ phrase_of says.NoSuchFile = codes "no such file"
 phrase_of says.IsFolder = codes "is a folder"
 phrase_of says.NotAllowed = codes "not allowed"
 phrase_of says.NotOpened = codes "can't be opened"
+phrase_of says.NoSuchFolder = codes "no such folder"
+phrase_of says.NotMade = codes "can't be made"
 phrase_of says.ReadFault = codes "read fault"
 phrase_of says.WriteFault = codes "write fault"
 phrase_of says.JournalFull = codes "journal full after step "
@@ -95,10 +99,17 @@ phrase_of_fault why.Folder = says.IsFolder
 phrase_of_fault why.NotAllowed = says.NotAllowed
 phrase_of_fault why.Other = says.NotOpened
 
--- what is said before a fault of this source: the file's name, or nothing of standard input
-abbrev pub source_prefix : Option (List ℕ) → List ℕ
-source_prefix (Some name) = shown name ++ phrase_of says.Colon
-source_prefix None = []
+-- why a file can't be made
+abbrev pub phrase_of_unmade : MakeFault → Phrase
+phrase_of_unmade makes.NoFolder = says.NoSuchFolder
+phrase_of_unmade makes.Folder = says.IsFolder
+phrase_of_unmade makes.NotAllowed = says.NotAllowed
+phrase_of_unmade makes.Other = says.NotMade
+
+-- what is said before a fault of this file: its name; nothing of a stream
+abbrev pub file_prefix : Option (List ℕ) → List ℕ
+file_prefix (Some name) = shown name ++ phrase_of says.Colon
+file_prefix None = []
 
 -- the limit of a journal that is full
 abbrev pub limit_of : List Step → Phrase
@@ -147,8 +158,10 @@ unfoldable pub text_by : List (List ℕ) → Status → Log → List ℕ
 text_by texts Done log = []
 text_by texts (Usage wrong) log = misuse_text texts wrong
 text_by texts (Script line fault) log = bad_text line fault
-text_by texts (Unopened why) log = source_prefix (file_by texts) ++ phrase_of (phrase_of_fault why)
-text_by texts ReadFault log = source_prefix (file_by texts) ++ phrase_of says.ReadFault
+text_by texts (Unopened why) log = file_prefix (file_by texts) ++ phrase_of (phrase_of_fault why)
+text_by texts (Unmade why) log = file_prefix (journal_by texts) ++ phrase_of (phrase_of_unmade why)
+text_by texts Unkept log = file_prefix (journal_by texts) ++ phrase_of says.WriteFault
+text_by texts ReadFault log = file_prefix (file_by texts) ++ phrase_of says.ReadFault
 text_by texts WriteFault log = phrase_of says.WriteFault
 text_by texts JournalFull log = full_text log.steps
 text_by texts NoMemory log = phrase_of says.OutOfMemory ++ stop_text log.steps

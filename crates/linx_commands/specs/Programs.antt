@@ -2,7 +2,7 @@
 use Rattle.std.specs.Prelude.{ℕ, ◌≡◌, ◌⊎◌, true, List, [], map, Option, Some, None, IfNone}
 use Rattle.std.specs.Prelude.{string_bytes}
 use Rattle.command_words.specs.Pages.{page_of}
-use Rattle.command_words.specs.Requests.{file_by, request_by}
+use Rattle.command_words.specs.Requests.{file_by, journal_by, request_by}
 use Rattle.command_words.specs.declared.misuse.Misuse.TheVariants.{Wordless}
 use Rattle.command_words.specs.declared.page.Page.{Page}
 use Rattle.command_words.specs.declared.request.Asked.{Asked}
@@ -133,7 +133,7 @@ IsPlayedFrom asked (Some name) told unread reads of_file refuses silent reads_fi
 -- WHAT THE PROGRAM TELLS of its words, its files and its streams. The words ask for nothing, and
 -- nothing is touched but standard error; or for a page of the help; or for a run; or for a work with
 -- what is read; or for an echo; or for a gateway
-pub record IsServed (texts : List (List ℕ)) (unread silent : Type 0) (writes : List ℕ → Type 0)
+pub record IsServed (texts : List (List ℕ)) (unread silent unmade : Type 0) (writes : List ℕ → Type 0)
     (plays : Asked → Log → Type 0) (works : Work → Log → Type 0) (echoes : Log → Type 0)
     (serves : ℕ → Log → Type 0)
     (tells : List ℕ → Type 0) (status : Status) : Type 0 where
@@ -153,6 +153,8 @@ pub record IsServed (texts : List (List ℕ)) (unread silent : Type 0) (writes :
   pub echoed : IfEcho (request_by texts) (echoes log)
   -- a gateway that is asked for
   pub served : IfServe (request_by texts) (λ clients. serves clients log)
+  -- no file is made but where the words keep the journal of a gateway in one
+  pub no_file : journal_by texts ≡ None → unmade
   -- the journal is legal
   pub legal : IsLegalSomehow log.steps
   -- the line on standard error, by the words, the status and the journal

@@ -6,7 +6,7 @@ use Rattle.linx_commands.specs.declared.outcome.Status.TheVariants.{Done, Usage,
 use Rattle.linx_commands.specs.declared.outcome.Status.TheVariants.{ReadFault, WriteFault}
 use Rattle.linx_commands.specs.declared.outcome.Status.TheVariants.{JournalFull, NoMemory, Torn}
 use Rattle.linx_commands.specs.declared.outcome.Status.TheVariants.{BadStream, FoundNone, Text}
-use Rattle.linx_commands.specs.declared.outcome.Status.TheVariants.{Unlike, Illegal}
+use Rattle.linx_commands.specs.declared.outcome.Status.TheVariants.{Unlike, Illegal, Unmade, Unkept}
 
 -- the exit status of the program
 abbrev pub exit_of : Status → ℕ
@@ -14,6 +14,8 @@ exit_of Done = 0
 exit_of (Usage wrong) = 1
 exit_of (Script line fault) = 2
 exit_of (Unopened why) = 3
+exit_of (Unmade why) = 4
+exit_of Unkept = 4
 exit_of ReadFault = 3
 exit_of WriteFault = 4
 exit_of JournalFull = 5

@@ -1,10 +1,10 @@
 //! What takes threads: a run with a thread for each actor and each link, and a work with what is
 //! read. What doesn't is `alone`'s.
 
-ghost use Rattle.std.specs.Prelude.{◌≡◌, IfOk, IfSome, IfNone, map, option_map, string_bytes};
+ghost use Rattle.std.specs.Prelude.{◌≡◌, IfOk, IfSome, IfNone, None, map, option_map, string_bytes};
 ghost use Rattle.journal_text.specs.Text.{text_of};
 ghost use Rattle.work_gen.specs.Generated.{generated};
-ghost use Rattle.command_words.specs.Requests.{file_of, request_of};
+ghost use Rattle.command_words.specs.Requests.{file_of, journal_of, request_of};
 ghost use Rattle.linx_commands.specs.Statuses.{IsUsageOrRefused};
 ghost use Rattle.linx_commands.specs.Opened.{IsReadOfFile};
 ghost use Rattle.linx_commands.specs.Streams.{Reads, ReadsUpTo, Writes};
@@ -15,6 +15,7 @@ ghost use Rattle.linx_commands.specs.Commands.{written_under};
 ghost use Rattle.linx_commands.specs.Headline.{HeadlineUnder};
 ghost use Rattle.linx_commands.specs.Programs.{IfEcho, IfPlay, IfServe, IfShow, IsPlayedFrom};
 ghost use Rattle.linx_commands.specs.Programs.{IsPlayedOfFile, IsShown, ReadsFile, asked_in};
+ghost use Rattle.linx_commands.specs.Keeping.{IsGatewayFrom};
 ghost use Rattle.linx_commands.specs.Sessions.{IsGatewayOf, IsSession};
 ghost use Rattle.linx_commands.specs.Works.{IfWork, IsWorkedFrom, most_of};
 
@@ -23,6 +24,7 @@ use crate::serving::{InThreads, Left, alone, conclude, read_script, unstarted};
 use crate::works::work_from;
 use command_words::{Asked, file_named};
 use linx_base::NoMemory;
+use linx_files::NewFile;
 use linx_outside::{Files, Gate, Sink, Source};
 use order_lines::Ordered;
 use script_lang::Script;
@@ -185,11 +187,12 @@ fn play<R: Threads + Wait + Sync, G: Gate + Sync, F: Files, S: Source, K: Sink>(
 }
 
 /// Does what the words of the command line ask for.
-pub fn run<R: Threads + Wait + Sync, G: Gate + Sync, F: Files, S: Source, K: Sink>(
+pub fn run<R: Threads + Wait + Sync, G: Gate + Sync, F: Files, N: NewFile, S: Source, K: Sink>(
     rt: &R,
     alloc: Global,
     words: &[String],
     files: &F,
+    new_file: &mut N,
     script: &mut S,
     out: &mut K,
     gate: &G,
@@ -239,12 +242,15 @@ pub fn run<R: Threads + Wait + Sync, G: Gate + Sync, F: Files, S: Source, K: Sin
         result.status result.journal.log) }
 
     // Of a gateway over the streams.
-    ensures served { IfServe (request_of words.now) (λ clients. IsGatewayOf clients S.left S.faults
-        S.last_count S.is_faultless K.held K.faults K.last_count script.old script.new out.old
-        out.new result.status result.journal.log) }
+    ensures served { IfServe (request_of words.now) (λ clients. IsGatewayFrom (journal_of words.now)
+        (IsGatewayOf clients S.left S.faults S.last_count S.is_faultless K.held K.faults
+        K.last_count script.old script.new out.old out.new)
+        ((script.new ≡ script.old) × (out.new ≡ out.old)) (N.refuses new_file.old) N.held N.faults
+        N.last_count N.at_first new_file.old new_file.new result.status result.journal.log) }
+    ensures unmade { journal_of words.now ≡ None → new_file.new ≡ new_file.old }
     ensures legal { IsLegalSomehow result.journal.log.steps }
 {
-    match alone(alloc, words, files, script, out) {
+    match alone(alloc, words, files, new_file, script, out) {
         Ok(outcome) => outcome,
         Err(Left::Work(work)) => work_from(
             rt,

@@ -5,7 +5,8 @@
 //! writes a page of the help; or it does a work with what it reads: it finds the first of many such
 //! orders whose run shows what is sought, or reports what comes in them, or writes the order of a
 //! printed run, or its picture, or tells whether it is that of its script, or a legal one; or it
-//! serves one peer over the program's streams by an echo, or clients by a gateway.
+//! serves one peer over the program's streams by an echo, or clients by a gateway, whose journal it may
+//! keep in a file.
 //! `alone` does what takes no thread and is no work, and `run` all of it. `program` is the whole program, over a
 //! command line, files and streams of any kind. It alone gives a `Told`, so a `main` with this
 //! result can't end in any other way.
@@ -13,6 +14,7 @@
 
 mod checking;
 mod in_threads;
+mod keeping;
 mod laws;
 mod outcome;
 mod phrase;

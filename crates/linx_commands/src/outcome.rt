@@ -3,6 +3,7 @@
 use command_words::Misuse;
 use journal::Journal;
 use journal_check::Fault as LawFault;
+use linx_files::MakeFault;
 use linx_outside::OpenFault;
 use script_lang::Fault;
 
@@ -49,6 +50,10 @@ pub enum Status {
     Script { line: u32, fault: Fault },
     /// The file that the words name can't be opened.
     Unopened(OpenFault),
+    /// The file in which the words keep a journal can't be made.
+    Unmade(MakeFault),
+    /// A write into that file failed. A front of the journal's text was written.
+    Unkept,
     /// The source failed.
     ReadFault,
     /// The sink failed. A front of the text, or of the summary, was written.

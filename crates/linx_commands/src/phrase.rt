@@ -31,10 +31,14 @@ pub enum Phrase {
     NoSuchFile,
     /// It is a folder.
     IsFolder,
-    /// It may not be read.
+    /// It may not be read, or written.
     NotAllowed,
     /// It can't be opened for another reason.
     NotOpened,
+    /// There is no folder for it.
+    NoSuchFolder,
+    /// It can't be made for another reason.
+    NotMade,
     /// The source failed.
     ReadFault,
     /// The sink failed.
@@ -108,6 +112,8 @@ impl Phrase {
             Phrase::IsFolder => "is a folder",
             Phrase::NotAllowed => "not allowed",
             Phrase::NotOpened => "can't be opened",
+            Phrase::NoSuchFolder => "no such folder",
+            Phrase::NotMade => "can't be made",
             Phrase::ReadFault => "read fault",
             Phrase::WriteFault => "write fault",
             Phrase::JournalFull => "journal full after step ",

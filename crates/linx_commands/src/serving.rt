@@ -1,13 +1,13 @@
 //! What is done without threads: a page of the help, a run in an order, and an echo or a gateway
 //! over the streams. It returns where each read and each write does.
 
-ghost use Rattle.std.specs.Prelude.{◌≡◌, true, Ok, IfOk, IfErr, OnOk, IfSome, IfNone, map};
+ghost use Rattle.std.specs.Prelude.{◌≡◌, true, Ok, IfOk, IfErr, OnOk, IfSome, IfNone, None, map};
 ghost use Rattle.std.specs.Prelude.{option_map, string_bytes};
 ghost use Rattle.std.specs.Io.KnownBytes.{IsAtEnd};
 ghost use Rattle.journal_text.specs.Text.{text_of};
 ghost use Rattle.order_lines.specs.Fronts.{OrderedParts, ordered_of};
 ghost use Rattle.command_words.specs.Pages.{page_of};
-ghost use Rattle.command_words.specs.Requests.{file_of, request_of};
+ghost use Rattle.command_words.specs.Requests.{file_of, journal_of, request_of};
 ghost use Rattle.linx_commands.specs.Statuses.{IsUsageOrRefused};
 ghost use Rattle.linx_commands.specs.Streams.{Reads, Writes, TakesAtMost, read_most};
 ghost use Rattle.linx_commands.specs.Runs.{Completes, IsCaused, IsEmptyLog, IsLegalSomehow};
@@ -18,15 +18,18 @@ ghost use Rattle.linx_commands.specs.Causes.{IsUnread, is_of_writing, read_statu
 ghost use Rattle.linx_commands.specs.Causes.{stop_status, report_status};
 ghost use Rattle.linx_commands.specs.Programs.{IfEcho, IfPlay, IfServe, IfShow, IsLeft};
 ghost use Rattle.linx_commands.specs.Programs.{IsPlayedFrom, IsPlayedOfFile, IsShown, ReadsFile};
+ghost use Rattle.linx_commands.specs.Keeping.{IsGatewayFrom};
 ghost use Rattle.linx_commands.specs.Sessions.{IsGatewayOf, IsSession};
 ghost use Rattle.linx_commands.specs.Works.{IfWork};
 
+use crate::keeping::gateway_from;
 use crate::outcome::{Outcome, Status};
-use crate::session::{echo, gateway};
-use command_words::{Asked, Misuse, Page, Request, TurnOrder, Work, file_named};
+use crate::session::echo;
+use command_words::{Asked, Misuse, Page, Request, TurnOrder, Work, file_named, journal_named};
 use fabric::StopCause;
 use journal::Journal;
 use linx_base::{NameList, Names, NoMemory};
+use linx_files::NewFile;
 use linx_outside::{Files, ReadStop, Sink, Source, WriteFault, read_up_to, write_all};
 use order_lines::Ordered;
 use order_rules::Rule;
@@ -352,10 +355,11 @@ pub enum Left {
 /// Does what the words of the command line ask for, but a run in threads or a work, which is told
 /// and left. It takes neither `Threads` nor `Wait`, and so returns where each read and each write
 /// does.
-pub fn alone<F: Files, S: Source, K: Sink>(
+pub fn alone<F: Files, N: NewFile, S: Source, K: Sink>(
     alloc: Global,
     words: &[String],
     files: &F,
+    new_file: &mut N,
     script: &mut S,
     out: &mut K,
 ) -> Result<Outcome, Left>
@@ -398,15 +402,26 @@ pub fn alone<F: Files, S: Source, K: Sink>(
 
     // Of a gateway over the streams.
     ensures served { IfOk result (λ outcome. IfServe (request_of words.now) (λ clients.
-        IsGatewayOf clients S.left S.faults S.last_count S.is_faultless K.held K.faults
-        K.last_count script.old script.new out.old out.new outcome.status outcome.journal.log)) }
+        IsGatewayFrom (journal_of words.now)
+        (IsGatewayOf clients S.left S.faults S.last_count S.is_faultless K.held K.faults
+        K.last_count script.old script.new out.old out.new)
+        ((script.new ≡ script.old) × (out.new ≡ out.old)) (N.refuses new_file.old) N.held N.faults
+        N.last_count N.at_first new_file.old new_file.new outcome.status outcome.journal.log)) }
+    ensures unmade { journal_of words.now ≡ None → new_file.new ≡ new_file.old }
     ensures legal { IfOk result (λ outcome. IsLegalSomehow outcome.journal.log.steps) }
 {
     match Request::of(alloc, words) {
         None => Ok(refuse(alloc, words)),
         Some(Request::Show(page)) => Ok(show(alloc, page, out)),
         Some(Request::Echo) => Ok(echo(alloc, script, out)),
-        Some(Request::Serve(clients)) => Ok(gateway(alloc, clients, script, out)),
+        Some(Request::Serve(clients)) => Ok(gateway_from(
+            alloc,
+            clients,
+            journal_named(words),
+            script,
+            out,
+            new_file,
+        )),
         Some(Request::Work(work)) => Err(Left::Work(work)),
         Some(Request::Play(Asked::InOrder(order))) => Ok(in_order_from(
             alloc,

@@ -1,17 +1,18 @@
 //! The program's line on standard error.
-ghost use Rattle.std.specs.Prelude.{◌≡◌, ◌+◌, ◌≤◌, ◌++◌, decimal, length, map, string_bytes};
-ghost use Rattle.command_words.specs.Requests.{file_by};
+ghost use Rattle.std.specs.Prelude.{◌≡◌, ◌+◌, ◌≤◌, ◌++◌, decimal, length, map, option_map};
+ghost use Rattle.std.specs.Prelude.{string_bytes};
 ghost use Rattle.linx_commands.specs.Lines.{bad_text, full_text, hint_of, illegal_text, limit_of};
 ghost use Rattle.linx_commands.specs.Lines.{line_of};
 ghost use Rattle.linx_commands.specs.Lines.{misuse_text, phrase_of, phrase_of_fault};
-ghost use Rattle.linx_commands.specs.Lines.{source_prefix, stop_text};
+ghost use Rattle.linx_commands.specs.Lines.{file_prefix, phrase_of_unmade, stop_text};
 ghost use Rattle.linx_commands.specs.Lines.{text_at, text_by, text_fault_text, unlike_text};
 
 use crate::outcome::{Status, TextFault, Unlike};
 use crate::phrase::Phrase;
-use command_words::{Line, Misuse, WORDS, Word, file_named};
+use command_words::{Line, Misuse, WORDS, Word, file_named, journal_named};
 use journal::Journal;
 use journal_check::Fault as LawFault;
+use linx_files::MakeFault;
 use linx_outside::OpenFault;
 use script_lang::Fault;
 
@@ -84,13 +85,25 @@ fn phrase_of_fault(why: OpenFault) -> Phrase
     }
 }
 
-/// What is said before a fault of the source that the words name.
-fn push_source(line: &mut Line, words: &[String])
+/// Why a file can't be made.
+fn phrase_of_unmade(why: MakeFault) -> Phrase
+    ensures { result ≡ phrase_of_unmade why }
+{
+    match why {
+        MakeFault::NoFolder => Phrase::NoSuchFolder,
+        MakeFault::Folder => Phrase::IsFolder,
+        MakeFault::NotAllowed => Phrase::NotAllowed,
+        MakeFault::Other => Phrase::NotMade,
+    }
+}
+
+/// What is said before a fault of a file that the words name.
+fn push_file(line: &mut Line, file: Option<&str>)
     requires room { length line.old ≤ 40 }
-    ensures text { line.new ≡ line.old ++ source_prefix (file_by (map string_bytes words.now)) }
+    ensures text { line.new ≡ line.old ++ file_prefix (option_map (λ name. name.now) file.entry) }
     ensures room { length line.new ≤ length line.old + 110 }
 {
-    if let Some(name) = file_named(words) {
+    if let Some(name) = file {
         line.push_shown(name);
         line.push(Phrase::Colon.text());
     }
@@ -213,11 +226,19 @@ fn push_text(line: &mut Line, words: &[String], status: Status, journal: &Journa
             fault,
         } => push_bad(line, number, fault),
         Status::Unopened(why) => {
-            push_source(line, words);
+            push_file(line, file_named(words));
             line.push(phrase_of_fault(why).text());
         }
+        Status::Unmade(why) => {
+            push_file(line, journal_named(words));
+            line.push(phrase_of_unmade(why).text());
+        }
+        Status::Unkept => {
+            push_file(line, journal_named(words));
+            line.push(Phrase::WriteFault.text());
+        }
         Status::ReadFault => {
-            push_source(line, words);
+            push_file(line, file_named(words));
             line.push(Phrase::ReadFault.text());
         }
         Status::WriteFault => line.push(Phrase::WriteFault.text()),

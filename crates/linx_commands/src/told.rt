@@ -45,7 +45,7 @@ fn exit_code(status: Status) -> u8
         Status::Usage(_) => 1,
         Status::Script { .. } => 2,
         Status::Unopened(_) | Status::ReadFault => 3,
-        Status::WriteFault => 4,
+        Status::Unmade(_) | Status::Unkept | Status::WriteFault => 4,
         Status::JournalFull => 5,
         Status::NoMemory => 6,
         Status::FoundNone | Status::Unlike(_) | Status::Illegal(_) => 7,

@@ -2,11 +2,13 @@
 #![tactic(auto)]
 
 use linx_commands::{Told, Words, program};
+use linx_files::SystemNewFile;
 use linx_outside::{ReadFrom, SystemFiles, WriteTo};
 
 fn main(rt: HostRuntime) -> Told {
     let words = Words::of(&rt, rt.alloc());
     let files = SystemFiles::new(&rt);
+    let mut new_file = SystemNewFile::new(&rt);
     let mut script = ReadFrom::new(rt.stdin());
     let mut text = WriteTo::new(rt.stdout());
     let mut errors = WriteTo::new(rt.stderr());
@@ -15,6 +17,7 @@ fn main(rt: HostRuntime) -> Told {
         rt.alloc(),
         words,
         &files,
+        &mut new_file,
         &mut script,
         &mut text,
         &mut errors,

@@ -1,6 +1,6 @@
 //! What the program says of bad lines: a row for each kind, with its exact line.
 
-use crate::runs::{NO_FILE, owned, roomy_sink, source_of};
+use crate::runs::{NO_FILE, no_new_file, owned, roomy_sink, source_of};
 use linx_commands::{Words, program};
 use std::alloc::Global;
 use std::process::{ExitCode, Termination};
@@ -95,6 +95,7 @@ fn says<R: Threads + Wait + Sync + Eprint>(
         alloc,
         words,
         &NO_FILE,
+        &mut no_new_file(alloc)?,
         &mut source,
         &mut text,
         &mut errors,

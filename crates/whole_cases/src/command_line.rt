@@ -98,6 +98,11 @@ const NEAR_NUMBERS: &[&[&str]] = &[
     &["gateway"],
     &["gateway", "0"],
     &["gateway", "001"],
+    &["gateway", "1", "j.txt"],
+    &["gateway", "1", "--journal", ""],
+    &["gateway", "--journal", "j.txt", "1"],
+    &["gateway", "1", "--journal", "j.txt", "k.txt"],
+    &["stream", "1", "--journal", "j.txt"],
 ];
 
 #[test]

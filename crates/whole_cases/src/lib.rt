@@ -18,6 +18,8 @@ mod example_rows;
 #[cfg(test)]
 mod failing_streams;
 #[cfg(test)]
+mod kept_gateways;
+#[cfg(test)]
 mod limits;
 #[cfg(test)]
 mod link_facts;

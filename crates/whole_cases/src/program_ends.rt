@@ -2,7 +2,7 @@
 
 use crate::failing_streams::failing_source;
 use crate::limits::LARGE_SENDS;
-use crate::runs::{Ended, NO_FILE, end_without_text, owned, roomy_sink, source_of};
+use crate::runs::{Ended, NO_FILE, end_without_text, no_new_file, owned, roomy_sink, source_of};
 use crate::signals::SELF_SEND;
 use crate::texts::unindented;
 use linx_commands::{Status, Unread, Words, program};
@@ -152,7 +152,16 @@ fn ends_as<R: Threads + Wait + Sync + Eprint>(
     let words = words_of(alloc, case.word)?;
     let mut source = failing_source(alloc, case.script, 10, case.failing)?;
     let mut text = MemSink::new(alloc, 100, case.room, Vec::new(alloc))?;
-    let told = program(rt, alloc, words, &NO_FILE, &mut source, &mut text, errors);
+    let told = program(
+        rt,
+        alloc,
+        words,
+        &NO_FILE,
+        &mut no_new_file(alloc)?,
+        &mut source,
+        &mut text,
+        errors,
+    );
     Ok(told.report(rt) == ExitCode::from(case.number))
 }
 
@@ -232,6 +241,7 @@ fn ends_with<R: Threads + Wait + Sync + Eprint>(
         alloc,
         words,
         &NO_FILE,
+        &mut no_new_file(alloc)?,
         &mut source,
         &mut written,
         &mut errors,

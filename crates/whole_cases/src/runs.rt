@@ -2,6 +2,7 @@
 
 use crate::texts::{compare, unindented};
 use linx_commands::{Outcome, Status, run};
+use linx_files::{MakeFault, MemNewFile};
 use linx_outside::{MemFile, MemSink, OpenFault, OpenGate, PlainSource, Source};
 use std::alloc::Global;
 use std::sync::Wait;
@@ -34,6 +35,12 @@ pub const NO_FILE: MemFile<'static> = MemFile {
     name: "",
     content: Err(OpenFault::Missing),
 };
+
+/// No file can be made.
+pub fn no_new_file(alloc: Global) -> Result<MemNewFile<'static>, Fail> {
+    let sink = MemSink::new(alloc, 1, 0, Vec::new(alloc))?;
+    Ok(MemNewFile::new("", Some(MakeFault::NotAllowed), sink))
+}
 
 /// What an outcome says.
 pub fn end_of(outcome: Outcome) -> Ended {
@@ -72,7 +79,18 @@ pub fn run_of<R: Threads + Wait + Sync, S: Source>(
     sink: &mut MemSink,
 ) -> Result<Ended, Fail> {
     let words = owned(alloc, words)?;
-    Ok(end_of(run(rt, alloc, &words, &NO_FILE, source, sink, &OpenGate)))
+    let mut new_file = no_new_file(alloc)?;
+    let outcome = run(
+        rt,
+        alloc,
+        &words,
+        &NO_FILE,
+        &mut new_file,
+        source,
+        sink,
+        &OpenGate,
+    );
+    Ok(end_of(outcome))
 }
 
 /// How the run of a script under a word ends that writes nothing.

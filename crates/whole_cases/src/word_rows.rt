@@ -2,7 +2,7 @@
 //! status, its text and its line.
 
 use crate::command_line::SUMMARY_OF_7;
-use crate::runs::{owned, roomy_sink, source_of};
+use crate::runs::{no_new_file, owned, roomy_sink, source_of};
 use crate::signals::SELF_SEND;
 use crate::texts::unindented;
 use linx_commands::{Words, program};
@@ -115,7 +115,7 @@ writes everything that happened.
       play the generated script of a number, and write its summary
   stream
       serve one peer over a byte stream by an echo
-  gateway N
+  gateway N [--journal FILE]
       serve clients over a byte stream, each with the calls of LINX
   help [WORD]
       write this help, or that of a word
@@ -164,11 +164,13 @@ example:
 ";
 
 const HELP_OF_GATEWAY: &str = "\
-linx_sim gateway N
+linx_sim gateway N [--journal FILE]
 
 Reads the requests of the clients 1 to N, which is at most 16, from standard input,
 in whatever pieces they come, and writes the replies to standard output. Each
-client has an endpoint and timers. No socket is opened.
+client has an endpoint and timers. No socket is opened. With --journal it makes
+FILE first, empties it if it is there, and writes the text of the session's
+journal into it at the end, as run writes one.
 
 example:
   socat TCP-LISTEN:9000,bind=127.0.0.1,fork EXEC:'linx_sim gateway 4'
@@ -527,7 +529,27 @@ const MISUSES: &[Row] = &[
     },
     Row {
         words: &["gateway", "17"],
-        line: "linx_sim: usage: linx_sim gateway N\n",
+        line: "linx_sim: usage: linx_sim gateway N [--journal FILE]\n",
+        ..MISUSED
+    },
+    Row {
+        words: &["gateway", "4", "--journal"],
+        line: "linx_sim: usage: linx_sim gateway N [--journal FILE]\n",
+        ..MISUSED
+    },
+    Row {
+        words: &["gateway", "4", "--journal", "-"],
+        line: "linx_sim: usage: linx_sim gateway N [--journal FILE]\n",
+        ..MISUSED
+    },
+    Row {
+        words: &["gateway", "4", "--log", "j.txt"],
+        line: "linx_sim: usage: linx_sim gateway N [--journal FILE]\n",
+        ..MISUSED
+    },
+    Row {
+        words: &["gateway", "17", "--journal", "j.txt"],
+        line: "linx_sim: usage: linx_sim gateway N [--journal FILE]\n",
         ..MISUSED
     },
 ];
@@ -581,6 +603,7 @@ fn ends_as<R: Threads + Wait + Sync + Eprint>(
         alloc,
         words,
         &files,
+        &mut no_new_file(alloc)?,
         &mut source,
         &mut text,
         &mut errors,
@@ -645,6 +668,7 @@ fn a_long_word_is_cut(rt: HostRuntime) -> Result<(), Fail> {
         alloc,
         words,
         &files,
+        &mut no_new_file(alloc)?,
         &mut source,
         &mut text,
         &mut errors,

@@ -22,6 +22,7 @@ returns-in-Read-clause-served g c =
       worked = run.worked;
       echoed = run.echoed;
       served = run.served;
+      no_file = run.unmade;
       legal = run.legal;
       line = rw (c.deref.ensures.value, ← c.deref-in-Read.ensures.value) c.tell.ensures.line;
     })))
@@ -38,6 +39,7 @@ returns-in-Unread-clause-served g c =
       worked = tt;
       echoed = tt;
       served = tt;
+      no_file = λ none. refl;
       legal = nothing.legal;
       line = c.tell-in-Unread.ensures.line;
     }))
