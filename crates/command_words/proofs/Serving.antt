@@ -7,11 +7,15 @@ use Rattle.std.proofs.lemmas.Bool.{and_parts}
 use Rattle.std.proofs.lemmas.Bool.Decides.{nat_tests}
 use Rattle.script_words.specs.Numbers.{number_spelled}
 use Rattle.command_words.specs.Requests.{asked_alone, asked_with, asked_with_file, asked_with_plain}
-use Rattle.command_words.specs.Requests.{clients_in, clients_spelled, is_file_name, is_no_name}
-use Rattle.command_words.specs.Requests.{asked_with_more, ranged, request_by, searched, seeded}
+use Rattle.command_words.specs.Charts.{chart_by}
+use Rattle.command_words.specs.Files.{is_file_name, is_no_name}
+use Rattle.command_words.specs.Ranges.{ranged}
+use Rattle.command_words.specs.Requests.{asked_with_more, clients_in, clients_spelled, request_by}
+use Rattle.command_words.specs.Requests.{searched, seeded}
 use Rattle.command_words.specs.Words.{called, is_help_flag}
 use Rattle.command_words.specs.declared.request.Asked.{Asked}
 use Rattle.command_words.specs.declared.request.Request.TheVariants.{Show, Play, Work, Serve}
+use Rattle.command_words.specs.declared.drawn.Drawn.{Drawn}
 use Rattle.command_words.specs.declared.range.Range.{Range}
 use Rattle.command_words.specs.declared.search.Search.{Search}
 use Rattle.command_words.specs.declared.word.Word.{Word}
@@ -62,6 +66,11 @@ no_work : (work : Works) (named : Bool) (n : ℕ)
 no_work work true n is = cc
 no_work work false n is = cc
 
+no_chart : (o : Option Drawn) (n : ℕ)
+    → option_map (λ drawn. Work (works.Chart drawn)) o ≡ Some (Serve n) → ⊥
+no_chart None n is = cc
+no_chart (Some drawn) n is = cc
+
 no_order : (o : Option Asked) (n : ℕ) → option_map (λ asked. Play asked) o ≡ Some (Serve n) → ⊥
 no_order None n is = cc
 no_order (Some asked) n is = cc
@@ -90,7 +99,7 @@ few_plain Seeds argument n is = absurd cc
 few_plain Order argument n is = absurd (no_work works.Order (is_file_name argument) n is)
 few_plain Replay argument n is = absurd (no_work works.Replay (is_file_name argument) n is)
 few_plain Check argument n is = absurd (no_work works.Check (is_file_name argument) n is)
-few_plain Chart argument n is = absurd (no_work works.Chart (is_file_name argument) n is)
+few_plain Chart argument n is = absurd (no_chart (chart_by (argument ∷ [])) n is)
 few_plain Gen argument n is = absurd (no_gen (number_spelled argument) n is)
 few_plain Stream argument n is = absurd cc
 few_plain Gateway argument n is =
@@ -125,6 +134,7 @@ none_with_file : (word : Option Word) (argument file : List ℕ) (n : ℕ)
     → option_and_then (λ w. asked_with_file w argument file) word ≡ Some (Serve n) → ⊥
 none_with_file (Some Seed) argument file n is = no_file (seeded argument) (is_file_name file) n is
 none_with_file (Some Seeds) argument file n is = no_range (ranged argument file) n is
+none_with_file (Some Chart) argument file n is = no_chart (chart_by (argument ∷ file ∷ [])) n is
 none_with_file _ argument file n is = cc
 
 no_search : (o : Option Search) (n : ℕ)
@@ -154,6 +164,8 @@ few_with_more (Some Seeds) from to (file ∷ []) n is =
     absurd (no_ranged_file (ranged from to) (is_file_name file) n is)
 few_with_more (Some Gateway) from to (file ∷ []) n is =
     few_kept (not (bytes_eq to (codes "--journal")) || is_no_name file) from n is
+few_with_more (Some Chart) from to behind n is =
+    absurd (no_chart (chart_by (from ∷ to ∷ behind)) n is)
 few_with_more _ from to behind n is = absurd cc
 
 -- a gateway that words ask for has 1 to 16 clients

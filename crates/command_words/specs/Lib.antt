@@ -1,5 +1,8 @@
 pub mod CommandLine
 pub mod Words
+pub mod Files
+pub mod Ranges
+pub mod Charts
 pub mod Requests
 pub mod Nearest
 pub mod Misuses

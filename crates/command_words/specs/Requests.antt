@@ -7,6 +7,9 @@ use Rattle.std.specs.Str.{bytes_eq}
 use Rattle.line_search.specs.declared.sought.Sought.{Sought}
 use Rattle.line_search.specs.declared.sought.Sought.TheVariants.{Line, NoLine}
 use Rattle.script_words.specs.Numbers.{number_spelled}
+use Rattle.command_words.specs.Charts.{chart_by, file_behind, whole_chart}
+use Rattle.command_words.specs.Files.{is_file_name, is_no_name}
+use Rattle.command_words.specs.Ranges.{ranged}
 use Rattle.command_words.specs.Words.{called, is_help_flag}
 use Rattle.command_words.specs.declared.page.Page.TheVariants as pages
 use Rattle.command_words.specs.declared.request.Asked.{Asked}
@@ -21,15 +24,6 @@ use Rattle.command_words.specs.declared.word.Word.{Word}
 use Rattle.command_words.specs.declared.word.Word.TheVariants.{Run, Serial, Seed, Find, Seeds, Order}
 use Rattle.command_words.specs.declared.word.Word.TheVariants.{Replay, Check, Chart, Gen, Stream, Gateway}
 use Rattle.command_words.specs.declared.word.Word.TheVariants.{Help, Version}
-
--- the text is empty, or begins with `-` (45)
-abbrev pub is_no_name : List ℕ → Bool
-is_no_name [] = true
-is_no_name (byte ∷ bytes) = byte == 45
-
--- the text names a file, or standard input by `-`
-abbrev pub is_file_name : List ℕ → Bool
-is_file_name text = bytes_eq text (codes "-") || not (is_no_name text)
 
 -- what is asked for of a file
 abbrev pub of_file : Request → List ℕ → Option Request
@@ -48,6 +42,10 @@ clients_spelled word = if nat_lt 2 (length word) then None else clients_in (numb
 abbrev pub seeded : List ℕ → Option Asked
 seeded text = option_map (λ n. asks.InOrder (orders.Seed n)) (number_spelled text)
 
+-- the chart that the texts behind its word ask for
+abbrev pub charts : List (List ℕ) → Option Request
+charts texts = option_map (λ drawn. Work (works.Chart drawn)) (chart_by texts)
+
 -- what a word alone asks for
 abbrev pub asked_alone : Word → Option Request
 asked_alone Run = Some (Play asks.Run)
@@ -58,7 +56,7 @@ asked_alone Seeds = None
 asked_alone Order = Some (Work works.Order)
 asked_alone Replay = Some (Work works.Replay)
 asked_alone Check = Some (Work works.Check)
-asked_alone Chart = Some (Work works.Chart)
+asked_alone Chart = Some (Work (works.Chart whole_chart))
 asked_alone Gen = None
 asked_alone Stream = Some Echo
 asked_alone Gateway = None
@@ -75,7 +73,7 @@ asked_with_plain Seeds argument = None
 asked_with_plain Order argument = of_file (Work works.Order) argument
 asked_with_plain Replay argument = of_file (Work works.Replay) argument
 asked_with_plain Check argument = of_file (Work works.Check) argument
-asked_with_plain Chart argument = of_file (Work works.Chart) argument
+asked_with_plain Chart argument = charts (argument ∷ [])
 asked_with_plain Gen argument = option_map (λ n. Play (asks.Gen n)) (number_spelled argument)
 asked_with_plain Stream argument = None
 asked_with_plain Gateway argument = option_map (λ n. Serve n) (clients_spelled argument)
@@ -87,18 +85,6 @@ abbrev pub asked_with : Word → List ℕ → Option Request
 asked_with word argument =
     if is_help_flag argument then Some (Show (pages.Of word)) else asked_with_plain word argument
 
--- a range of at most a million numbers
-abbrev pub range_over : ℕ → ℕ → Option Range
-range_over first last =
-    if nat_lt last first || nat_le 1000000 (last - first)
-    then None
-    else Some (record { first = first; more = last - first })
-
--- the range that two texts spell
-abbrev pub ranged : List ℕ → List ℕ → Option Range
-ranged from to = option_and_then (λ first.
-    option_and_then (λ last. range_over first last) (number_spelled to)) (number_spelled from)
-
 -- the request for a report of the seeds of a range, if the words spell one
 abbrev pub reported : List ℕ → List ℕ → Option Request
 reported from to = option_map (λ range. Work (works.Seeds range)) (ranged from to)
@@ -108,6 +94,7 @@ abbrev pub asked_with_file : Word → List ℕ → List ℕ → Option Request
 asked_with_file Seed argument file =
     option_and_then (λ asked. of_file (Play asked) file) (seeded argument)
 asked_with_file Seeds argument file = reported argument file
+asked_with_file Chart argument file = charts (argument ∷ file ∷ [])
 asked_with_file _ argument file = None
 
 -- a gateway whose journal is kept in a file: behind the number of its clients stand `--journal` and
@@ -167,6 +154,7 @@ asked_with_more Find from to behind =
 asked_with_more Seeds from to (file ∷ []) =
     option_and_then (λ request. of_file request file) (reported from to)
 asked_with_more Gateway from to (file ∷ []) = kept from to file
+asked_with_more Chart from to behind = charts (from ∷ to ∷ behind)
 asked_with_more _ from to behind = None
 
 -- what these texts ask for: nothing where they are those of no command
@@ -184,7 +172,8 @@ abbrev pub request_of : {Z : Type 0} → List (String Z) → Option Request
 request_of words = request_by (map string_bytes words)
 
 -- the place, from 0, of the file among the texts of what reads one: behind the word, behind the
--- number of `seed`, behind the range of `seeds`, or behind the `in` of a search
+-- number of `seed`, behind the range of `seeds`, behind the options of a chart, or behind the `in` of
+-- a search
 abbrev pub file_place : Option Request → Option ℕ
 file_place (Some (Play asks.Run)) = Some 1
 file_place (Some (Play (asks.InOrder orders.Fixed))) = Some 1
@@ -194,7 +183,7 @@ file_place (Some (Work (works.Seeds range))) = Some 3
 file_place (Some (Work works.Order)) = Some 1
 file_place (Some (Work works.Replay)) = Some 1
 file_place (Some (Work works.Check)) = Some 1
-file_place (Some (Work works.Chart)) = Some 1
+file_place (Some (Work (works.Chart drawn))) = file_behind drawn
 file_place _ = None
 
 -- the file that a text names, which may be missing: none by `-`

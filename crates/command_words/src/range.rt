@@ -1,6 +1,6 @@
 //! A range of numbers.
 ghost use Rattle.std.specs.Prelude.{◌≡◌};
-ghost use Rattle.command_words.specs.Requests.{ranged};
+ghost use Rattle.command_words.specs.Ranges.{range_over, ranged};
 
 use crate::number::number;
 
@@ -14,12 +14,10 @@ pub struct Range {
     pub more: u32,
 }
 
-/// The range that two texts spell.
-pub(crate) fn ranged(from: &str, to: &str) -> Option<Range>
-    ensures { result ≡ ranged from.now to.now }
+/// The range from a number to another, if there is one.
+pub(crate) fn range_over(first: u32, last: u32) -> Option<Range>
+    ensures { result ≡ range_over first last }
 {
-    let first = number(from)?;
-    let last = number(to)?;
     if last < first || last - first >= RANGE_MOST {
         None
     } else {
@@ -28,4 +26,13 @@ pub(crate) fn ranged(from: &str, to: &str) -> Option<Range>
             more: last - first,
         })
     }
+}
+
+/// The range that two texts spell.
+pub(crate) fn ranged(from: &str, to: &str) -> Option<Range>
+    ensures { result ≡ ranged from.now to.now }
+{
+    let first = number(from)?;
+    let last = number(to)?;
+    range_over(first, last)
 }

@@ -2,10 +2,11 @@
 ghost use Rattle.std.specs.Prelude.{◌≡◌, map, option_map, string_bytes};
 ghost use Rattle.command_words.specs.Requests.{asked_alone, asked_with, asked_with_file};
 ghost use Rattle.command_words.specs.Requests.{asked_with_more, clients_in, clients_spelled};
-ghost use Rattle.command_words.specs.Requests.{file_at, file_of, file_place, is_file_name};
-ghost use Rattle.command_words.specs.Requests.{is_no_name, journal_of, kept};
+ghost use Rattle.command_words.specs.Requests.{file_at, file_of, file_place, journal_of, kept};
+ghost use Rattle.command_words.specs.Files.{is_file_name, is_no_name};
 ghost use Rattle.command_words.specs.Requests.{of_file, reported, request_of, seeded};
 
+use crate::drawn::{Drawn, chart_of_more, chart_of_one, chart_of_two};
 use crate::number::number;
 use crate::page::Page;
 use crate::range::ranged;
@@ -122,7 +123,7 @@ pub(crate) fn asked_alone(word: Word) -> Option<Request>
         Word::Order => Some(Request::Work(Work::Order)),
         Word::Replay => Some(Request::Work(Work::Replay)),
         Word::Check => Some(Request::Work(Work::Check)),
-        Word::Chart => Some(Request::Work(Work::Chart)),
+        Word::Chart => Some(Request::Work(Work::Chart(Drawn::whole()))),
         Word::Seed | Word::Find | Word::Seeds | Word::Gen => None,
         Word::Stream => Some(Request::Echo),
         Word::Gateway => None,
@@ -145,7 +146,7 @@ pub(crate) fn asked_with(word: Word, argument: &str) -> Option<Request>
         Word::Order => of_file(Request::Work(Work::Order), argument),
         Word::Replay => of_file(Request::Work(Work::Replay), argument),
         Word::Check => of_file(Request::Work(Work::Check), argument),
-        Word::Chart => of_file(Request::Work(Work::Chart), argument),
+        Word::Chart => Some(Request::Work(Work::Chart(chart_of_one(argument)?))),
         Word::Gen => Some(Request::Play(Asked::Gen(number(argument)?))),
         Word::Gateway => Some(Request::Serve(clients(argument)?)),
         Word::Help => Some(Request::Show(Page::Of(called(argument)?))),
@@ -167,6 +168,7 @@ pub(crate) fn asked_with_file(word: Word, argument: &str, file: &str) -> Option<
     match word {
         Word::Seed => of_file(Request::Play(seeded(argument)?), file),
         Word::Seeds => reported(argument, file),
+        Word::Chart => Some(Request::Work(Work::Chart(chart_of_two(argument, file)?))),
         _ => None,
     }
 }
@@ -189,6 +191,7 @@ fn asked_with_more(word: Word, from: &str, to: &str, behind: &[String]) -> Optio
         (Word::Find, _) => Some(Request::Work(Work::Find(searched(from, to, behind)?))),
         (Word::Seeds, [file]) => of_file(reported(from, to)?, file.as_str()),
         (Word::Gateway, [file]) => kept(from, to, file.as_str()),
+        (Word::Chart, _) => Some(Request::Work(Work::Chart(chart_of_more(from, to, behind)?))),
         _ => None,
     }
 }
@@ -219,7 +222,8 @@ fn file_place(request: Option<Request>) -> Option<usize>
         Some(Request::Play(Asked::InOrder(TurnOrder::Seed(_)))) => Some(2),
         Some(Request::Work(Work::Find(Search { in_file: true, .. }))) => Some(4),
         Some(Request::Work(Work::Seeds(_))) => Some(3),
-        Some(Request::Work(Work::Order | Work::Replay | Work::Check | Work::Chart)) => Some(1),
+        Some(Request::Work(Work::Chart(drawn))) => drawn.file_place(),
+        Some(Request::Work(Work::Order | Work::Replay | Work::Check)) => Some(1),
         _ => None,
     }
 }

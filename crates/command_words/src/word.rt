@@ -152,11 +152,13 @@ impl Word {
             },
             Word::Chart => Said {
                 name: "chart",
-                usage: "chart [FILE]",
-                line: "draw a printed run as a picture",
+                usage: "chart [page] [plain] [steps A B] [FILE]",
+                line: "draw a printed run as a picture, or as a page with one",
                 paragraph: "Reads the text of a run from FILE, or from standard input, and writes a picture of it\n\
                     as SVG: a lane for each endpoint and link, a row for each step and what it did, and an\n\
-                    arrow from each send to its arrival. It draws 6,000 rows at most.\n",
+                    arrow from each send to its arrival. With page it writes a page for a browser, where a\n\
+                    click lights what belongs together; with plain the picture without the lines of the\n\
+                    journal; with steps A B only the rows of these steps. It draws 6,000 rows at most.\n",
                 example: "linx_sim serial examples/losses.linx | linx_sim chart > losses.svg",
             },
             Word::Gen => Said {

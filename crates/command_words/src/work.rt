@@ -1,5 +1,6 @@
 //! What is done with what is read.
 
+use crate::drawn::Drawn;
 use crate::range::Range;
 use crate::search::Search;
 
@@ -16,6 +17,6 @@ pub enum Work {
     Replay,
     /// `check`: whether a printed run is a legal one of the script before it.
     Check,
-    /// `chart`: a picture of a printed run.
-    Chart,
+    /// `chart`: a picture of a printed run, or a page with one.
+    Chart(Drawn),
 }
