@@ -4,6 +4,7 @@ use Rattle.std.proofs.Common.{Option, Some, Result, Ok}
 use Rattle.std.specs.Io.KnownBytes.{IsAtEnd}
 use Rattle.chart_drawing.specs.declared.drawing.DrawError.{DrawError}
 use Rattle.command_words.specs.Requests.{wanted_of}
+use Rattle.command_words.specs.declared.drawn.Drawn.{Drawn}
 use Rattle.command_words.specs.declared.request.Request.{Request}
 use Rattle.command_words.specs.declared.request.Request.TheVariants as requests
 use Rattle.command_words.specs.declared.work.Work.{Work}
@@ -50,15 +51,16 @@ unread_part bytes NoMemory unread whole = cc
 unread_part bytes _ unread whole = unread
 
 -- where the chart of a text is whole, so is the text
-short_chart : (bytes : List ℕ) (status : Status) (text : List ℕ) → IsChartEnd bytes status text
-    → is_of_whole status ≡ true → length bytes < 268435457
-short_chart bytes status text (inl unread) whole = absurd (unread_part bytes status unread whole)
-short_chart bytes status text (inr drawn) whole =
-    let within : length bytes ≤ 268435456 = drawn.spelled.short in omega (arith, within)
+short_chart : (drawn : Drawn) (bytes : List ℕ) (status : Status) (text : List ℕ)
+    → IsChartEnd drawn bytes status text → is_of_whole status ≡ true → length bytes < 268435457
+short_chart drawn bytes status text (inl unread) whole =
+    absurd (unread_part bytes status unread whole)
+short_chart drawn bytes status text (inr is) whole =
+    let within : length bytes ≤ 268435456 = is.spelled.short in omega (arith, within)
 
-fault_of_chart : (bytes text : List ℕ) → IsChartEnd bytes ReadFault text → ⊥
-fault_of_chart bytes text (inl unread) = unread
-fault_of_chart bytes text (inr drawn) = drawn.says
+fault_of_chart : (drawn : Drawn) (bytes text : List ℕ) → IsChartEnd drawn bytes ReadFault text → ⊥
+fault_of_chart drawn bytes text (inl unread) = unread
+fault_of_chart drawn bytes text (inr is) = is.says
 
 -- where the replay of a text is whole, so is the text
 short_unlike : (bytes : List ℕ) (unlike : UnlikeBy) → IsUnlikeBy bytes unlike
@@ -108,8 +110,8 @@ short Replay texts bytes status text log ended whole =
     short_replay bytes status text ended.ended whole
 short Check texts bytes status text log ended whole =
     short_check bytes status text ended.ended whole
-short Chart texts bytes status text log ended whole =
-    short_chart bytes status text ended.ended whole
+short (Chart drawn) texts bytes status text log ended whole =
+    short_chart drawn bytes status text ended.ended whole
 
 fault_of_none : (work : Work) (texts : List (List ℕ)) (bytes text : List ℕ) (log : Log)
     → IsEndOf work texts bytes ReadFault text log → ⊥
@@ -118,7 +120,7 @@ fault_of_none (Seeds range) texts bytes text log ended = ended.ended
 fault_of_none Order texts bytes text log ended = ended.ended
 fault_of_none Replay texts bytes text log ended = ended.ended
 fault_of_none Check texts bytes text log ended = ended.ended
-fault_of_none Chart texts bytes text log ended = fault_of_chart bytes text ended.ended
+fault_of_none (Chart drawn) texts bytes text log ended = fault_of_chart drawn bytes text ended.ended
 
 -- a work with bytes that were read ends by no fault of their source
 no_fault : (work : Work) (texts : List (List ℕ)) (bytes : List ℕ) (status : Status)

@@ -33,7 +33,8 @@ IsEndOf (Seeds range) texts bytes status text log =
 IsEndOf Order texts bytes status text log = IsTextDone (IsOrderEnd bytes) status text log
 IsEndOf Replay texts bytes status text log = IsTextDone (IsReplayEnd bytes) status text log
 IsEndOf Check texts bytes status text log = IsTextDone (IsCheckEnd bytes) status text log
-IsEndOf Chart texts bytes status text log = IsTextDone (IsChartEnd bytes) status text log
+IsEndOf (Chart drawn) texts bytes status text log =
+    IsTextDone (IsChartEnd drawn bytes) status text log
 
 -- a work ended so, and this was written
 pub record Ends (ended : Status → List ℕ → Log → Type 0) (writes : List ℕ → Type 0)

@@ -31,7 +31,7 @@ fn most_of(work: Work) -> usize
 {
     match work {
         Work::Find(_) | Work::Seeds(_) => READ_MOST,
-        Work::Order | Work::Replay | Work::Check | Work::Chart => TEXT_MOST,
+        Work::Order | Work::Replay | Work::Check | Work::Chart(_) => TEXT_MOST,
     }
 }
 
@@ -78,7 +78,7 @@ fn look<R: Threads + Sync, K: Sink>(
         Work::Order => order(alloc, bytes, out),
         Work::Replay => replay(alloc, bytes, out),
         Work::Check => check(alloc, bytes, out),
-        Work::Chart => chart(alloc, bytes, out),
+        Work::Chart(drawn) => chart(alloc, drawn, bytes, out),
     }
 }
 

@@ -6,8 +6,8 @@ use Rattle.linx_commands.proofs.printed.write_chart.Goals as goal
 
 pub returns-in-Ok : goal.returns-in-Ok
 returns-in-Ok g c = record {
-  text = c.in-Ok.svg.items;
-  says = says_written _ c.write_text.result c.in-Ok.svg.items c.write_text.ensures.kinds
+  text = c.in-Ok.text.items;
+  says = says_written _ c.write_text.result c.in-Ok.text.items c.write_text.ensures.kinds
       c.in-Ok.ensures.drawn;
   written = rw (← c.as_slice.ensures.value) c.write_text.ensures.sink;
 }
