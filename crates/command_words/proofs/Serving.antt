@@ -7,10 +7,12 @@ use Rattle.std.proofs.lemmas.Bool.Decides.{nat_tests}
 use Rattle.script_words.specs.Numbers.{number_spelled}
 use Rattle.command_words.specs.Requests.{asked_alone, asked_with, asked_with_file, asked_with_plain}
 use Rattle.command_words.specs.Requests.{clients_in, clients_spelled, is_file_name}
+use Rattle.command_words.specs.Requests.{drawn_with, drawn_with_file, drawn_with_more}
 use Rattle.command_words.specs.Requests.{asked_with_more, ranged, request_by, searched, seeded}
 use Rattle.command_words.specs.Words.{called, is_help_flag}
 use Rattle.command_words.specs.declared.request.Asked.{Asked}
 use Rattle.command_words.specs.declared.request.Request.TheVariants.{Show, Play, Work, Serve}
+use Rattle.command_words.specs.declared.drawn.Drawn.{Drawn}
 use Rattle.command_words.specs.declared.range.Range.{Range}
 use Rattle.command_words.specs.declared.search.Search.{Search}
 use Rattle.command_words.specs.declared.word.Word.{Word}
@@ -78,6 +80,11 @@ no_page : (o : Option Word) (n : ℕ) → option_map (λ w. Show (pages.Of w)) o
 no_page None n is = cc
 no_page (Some w) n is = cc
 
+no_chart : (o : Option Drawn) (n : ℕ)
+    → option_map (λ d. Work (works.Chart d)) o ≡ Some (Serve n) → ⊥
+no_chart None n is = cc
+no_chart (Some drawn) n is = cc
+
 few_plain : (word : Word) (argument : List ℕ) (n : ℕ)
     → asked_with_plain word argument ≡ Some (Serve n) → AreFew n
 few_plain Run argument n is = absurd (no_run asks.Run (is_file_name argument) n is)
@@ -89,7 +96,7 @@ few_plain Seeds argument n is = absurd cc
 few_plain Order argument n is = absurd (no_work works.Order (is_file_name argument) n is)
 few_plain Replay argument n is = absurd (no_work works.Replay (is_file_name argument) n is)
 few_plain Check argument n is = absurd (no_work works.Check (is_file_name argument) n is)
-few_plain Chart argument n is = absurd (no_work works.Chart (is_file_name argument) n is)
+few_plain Chart argument n is = absurd (no_chart (drawn_with argument) n is)
 few_plain Gen argument n is = absurd (no_gen (number_spelled argument) n is)
 few_plain Stream argument n is = absurd cc
 few_plain Gateway argument n is =
@@ -124,6 +131,7 @@ none_with_file : (word : Option Word) (argument file : List ℕ) (n : ℕ)
     → option_and_then (λ w. asked_with_file w argument file) word ≡ Some (Serve n) → ⊥
 none_with_file (Some Seed) argument file n is = no_file (seeded argument) (is_file_name file) n is
 none_with_file (Some Seeds) argument file n is = no_range (ranged argument file) n is
+none_with_file (Some Chart) argument file n is = no_chart (drawn_with_file argument file) n is
 none_with_file _ argument file n is = cc
 
 no_search : (o : Option Search) (n : ℕ)
@@ -143,6 +151,7 @@ none_with_more : (word : Option Word) (from to : List ℕ) (behind : List (List 
 none_with_more (Some Find) from to behind n is = no_search (searched from to behind) n is
 none_with_more (Some Seeds) from to (file ∷ []) n is =
     no_ranged_file (ranged from to) (is_file_name file) n is
+none_with_more (Some Chart) from to behind n is = no_chart (drawn_with_more from to behind) n is
 none_with_more _ from to behind n is = cc
 
 -- a gateway that words ask for has 1 to 16 clients

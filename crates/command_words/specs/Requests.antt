@@ -1,13 +1,14 @@
 -- What the words of a command line ask for.
 use Rattle.std.specs.Prelude.{◌==◌, ℕ, ◌+◌, ◌-◌, Bool, true, ◌&&◌, ◌||◌, false, not, List, []}
 use Rattle.std.specs.Prelude.{◌∷◌, map, codes, drop, length, nat_le, nat_lt, String, string_bytes}
-use Rattle.std.specs.Prelude.{slice_get, Option, Some, None, option_map, option_and_then}
+use Rattle.std.specs.Prelude.{slice_get, Option, Some, None, is_some, option_map, option_and_then}
 use Rattle.std.specs.Prelude.{if◌then◌else◌}
 use Rattle.std.specs.Str.{bytes_eq}
 use Rattle.line_search.specs.declared.sought.Sought.{Sought}
 use Rattle.line_search.specs.declared.sought.Sought.TheVariants.{Line, NoLine}
 use Rattle.script_words.specs.Numbers.{number_spelled}
 use Rattle.command_words.specs.Words.{called, is_help_flag}
+use Rattle.command_words.specs.declared.drawn.Drawn.{Drawn}
 use Rattle.command_words.specs.declared.page.Page.TheVariants as pages
 use Rattle.command_words.specs.declared.request.Asked.{Asked}
 use Rattle.command_words.specs.declared.request.Asked.TheVariants as asks
@@ -48,6 +49,71 @@ clients_spelled word = if nat_lt 2 (length word) then None else clients_in (numb
 abbrev pub seeded : List ℕ → Option Asked
 seeded text = option_map (λ n. asks.InOrder (orders.Seed n)) (number_spelled text)
 
+-- a range of at most a million numbers
+abbrev pub range_over : ℕ → ℕ → Option Range
+range_over first last =
+    if nat_lt last first || nat_le 1000000 (last - first)
+    then None
+    else Some (record { first = first; more = last - first })
+
+-- the range that two texts spell
+abbrev pub ranged : List ℕ → List ℕ → Option Range
+ranged from to = option_and_then (λ first.
+    option_and_then (λ last. range_over first last) (number_spelled to)) (number_spelled from)
+
+-- the whole chart of a run
+abbrev pub whole_chart : Drawn
+whole_chart = record { plain = false; steps = None }
+
+-- the chart of all steps, without the lines of the text
+abbrev pub plain_chart : Drawn
+plain_chart = record { plain = true; steps = None }
+
+-- the chart of a range of steps
+abbrev pub chart_of_range : Bool → Range → Drawn
+chart_of_range plain range = record { plain = plain; steps = Some range }
+
+-- the chart of the run in a file, which `steps` doesn't name
+abbrev pub of_run : Drawn → List ℕ → Option Drawn
+of_run drawn file =
+    if not (bytes_eq file (codes "steps")) && is_file_name file then Some drawn else None
+
+-- the chart that one argument asks for: `plain`, or a file
+abbrev pub drawn_with : List ℕ → Option Drawn
+drawn_with argument =
+    if bytes_eq argument (codes "plain") then Some plain_chart else of_run whole_chart argument
+
+-- the chart that an argument and a file ask for: `plain FILE`
+abbrev pub drawn_with_file : List ℕ → List ℕ → Option Drawn
+drawn_with_file argument file =
+    if bytes_eq argument (codes "plain") then of_run plain_chart file else None
+
+-- the chart of the steps from here to those of the next text, in the run of a file, where one is named
+abbrev pub drawn_steps : Bool → List ℕ → List (List ℕ) → Option Drawn
+drawn_steps plain from (to ∷ []) =
+    option_map (λ range. chart_of_range plain range) (ranged from to)
+drawn_steps plain from (to ∷ file ∷ []) =
+    option_and_then (λ range. of_run (chart_of_range plain range) file) (ranged from to)
+drawn_steps plain from _ = None
+
+-- the same, without the lines of the text
+abbrev pub drawn_plain_steps : List (List ℕ) → Option Drawn
+drawn_plain_steps [] = None
+drawn_plain_steps (from ∷ behind) = drawn_steps true from behind
+
+-- the chart that three arguments and more ask for: `[plain] steps A B [FILE]`
+abbrev pub drawn_with_more : List ℕ → List ℕ → List (List ℕ) → Option Drawn
+drawn_with_more first second behind =
+    if bytes_eq first (codes "steps") then drawn_steps false second behind
+    else if bytes_eq first (codes "plain") && bytes_eq second (codes "steps")
+    then drawn_plain_steps behind
+    else None
+
+-- the place, from 0, of the file behind the options of a chart
+abbrev pub file_behind : Drawn → ℕ
+file_behind drawn =
+    (if drawn.plain then 2 else 1) + (if is_some drawn.steps then 3 else 0)
+
 -- what a word alone asks for
 abbrev pub asked_alone : Word → Option Request
 asked_alone Run = Some (Play asks.Run)
@@ -58,7 +124,7 @@ asked_alone Seeds = None
 asked_alone Order = Some (Work works.Order)
 asked_alone Replay = Some (Work works.Replay)
 asked_alone Check = Some (Work works.Check)
-asked_alone Chart = Some (Work works.Chart)
+asked_alone Chart = Some (Work (works.Chart whole_chart))
 asked_alone Gen = None
 asked_alone Stream = Some Echo
 asked_alone Gateway = None
@@ -75,7 +141,7 @@ asked_with_plain Seeds argument = None
 asked_with_plain Order argument = of_file (Work works.Order) argument
 asked_with_plain Replay argument = of_file (Work works.Replay) argument
 asked_with_plain Check argument = of_file (Work works.Check) argument
-asked_with_plain Chart argument = of_file (Work works.Chart) argument
+asked_with_plain Chart argument = option_map (λ d. Work (works.Chart d)) (drawn_with argument)
 asked_with_plain Gen argument = option_map (λ n. Play (asks.Gen n)) (number_spelled argument)
 asked_with_plain Stream argument = None
 asked_with_plain Gateway argument = option_map (λ n. Serve n) (clients_spelled argument)
@@ -87,18 +153,6 @@ abbrev pub asked_with : Word → List ℕ → Option Request
 asked_with word argument =
     if is_help_flag argument then Some (Show (pages.Of word)) else asked_with_plain word argument
 
--- a range of at most a million numbers
-abbrev pub range_over : ℕ → ℕ → Option Range
-range_over first last =
-    if nat_lt last first || nat_le 1000000 (last - first)
-    then None
-    else Some (record { first = first; more = last - first })
-
--- the range that two texts spell
-abbrev pub ranged : List ℕ → List ℕ → Option Range
-ranged from to = option_and_then (λ first.
-    option_and_then (λ last. range_over first last) (number_spelled to)) (number_spelled from)
-
 -- the request for a report of the seeds of a range, if the words spell one
 abbrev pub reported : List ℕ → List ℕ → Option Request
 reported from to = option_map (λ range. Work (works.Seeds range)) (ranged from to)
@@ -108,6 +162,8 @@ abbrev pub asked_with_file : Word → List ℕ → List ℕ → Option Request
 asked_with_file Seed argument file =
     option_and_then (λ asked. of_file (Play asked) file) (seeded argument)
 asked_with_file Seeds argument file = reported argument file
+asked_with_file Chart argument file =
+    option_map (λ d. Work (works.Chart d)) (drawn_with_file argument file)
 asked_with_file _ argument file = None
 
 -- a search for so many words: one to eight
@@ -158,6 +214,8 @@ asked_with_more Find from to behind =
     option_map (λ search. Work (works.Find search)) (searched from to behind)
 asked_with_more Seeds from to (file ∷ []) =
     option_and_then (λ request. of_file request file) (reported from to)
+asked_with_more Chart from to behind =
+    option_map (λ d. Work (works.Chart d)) (drawn_with_more from to behind)
 asked_with_more _ from to behind = None
 
 -- what these texts ask for: nothing where they are those of no command
@@ -175,7 +233,8 @@ abbrev pub request_of : {Z : Type 0} → List (String Z) → Option Request
 request_of words = request_by (map string_bytes words)
 
 -- the place, from 0, of the file among the texts of what reads one: behind the word, behind the
--- number of `seed`, behind the range of `seeds`, or behind the `in` of a search
+-- number of `seed`, behind the range of `seeds`, behind the options of a chart, or behind the `in` of a
+-- search
 abbrev pub file_place : Option Request → Option ℕ
 file_place (Some (Play asks.Run)) = Some 1
 file_place (Some (Play (asks.InOrder orders.Fixed))) = Some 1
@@ -185,7 +244,7 @@ file_place (Some (Work (works.Seeds range))) = Some 3
 file_place (Some (Work works.Order)) = Some 1
 file_place (Some (Work works.Replay)) = Some 1
 file_place (Some (Work works.Check)) = Some 1
-file_place (Some (Work works.Chart)) = Some 1
+file_place (Some (Work (works.Chart drawn))) = Some (file_behind drawn)
 file_place _ = None
 
 -- the file that a text names, which may be missing: none by `-`

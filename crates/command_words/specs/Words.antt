@@ -85,10 +85,10 @@ said_of Check = record {
 }
 said_of Chart = record {
   name = codes "chart";
-  usage = codes "chart [FILE]";
-  line = codes "draw a printed run as a picture";
+  usage = codes "chart [plain] [steps A B] [FILE]";
+  line = codes "draw a printed run, or some of its steps, as a picture";
   paragraph =
-      codes "Reads the text of a run from FILE, or from standard input, and writes a picture of it\nas SVG: a lane for each endpoint and link, a row for each step and what it did, and an\narrow from each send to its arrival. It draws 6,000 rows at most.\n";
+      codes "Reads the text of a run from FILE, or from standard input, and writes a picture of it\nas SVG: a lane for each endpoint and link, a row for each step and what it did, and an\narrow from each send to its arrival. With plain it leaves out the lines of the text; with\nsteps A B it draws the steps A to B alone, and the columns in which they did anything. It\ndraws 6,000 rows at most.\n";
   example = codes "linx_sim serial examples/losses.linx | linx_sim chart > losses.svg";
 }
 said_of Gen = record {

@@ -4,6 +4,7 @@
 #![tactic(auto)]
 
 mod command_line;
+mod drawn;
 mod line;
 mod misuse;
 mod nearest;
@@ -15,6 +16,7 @@ mod search;
 mod word;
 mod work;
 
+pub use drawn::Drawn;
 pub use line::Line;
 pub use misuse::Misuse;
 pub use page::Page;

@@ -5,6 +5,7 @@ ghost use Rattle.command_words.specs.Requests.{asked_with_more, clients_in, clie
 ghost use Rattle.command_words.specs.Requests.{file_at, file_of, file_place, is_file_name};
 ghost use Rattle.command_words.specs.Requests.{of_file, reported, request_of, seeded};
 
+use crate::drawn::{Drawn, drawn_with, drawn_with_file, drawn_with_more};
 use crate::number::number;
 use crate::page::Page;
 use crate::range::ranged;
@@ -108,7 +109,7 @@ pub(crate) fn asked_alone(word: Word) -> Option<Request>
         Word::Order => Some(Request::Work(Work::Order)),
         Word::Replay => Some(Request::Work(Work::Replay)),
         Word::Check => Some(Request::Work(Work::Check)),
-        Word::Chart => Some(Request::Work(Work::Chart)),
+        Word::Chart => Some(Request::Work(Work::Chart(Drawn::whole()))),
         Word::Seed | Word::Find | Word::Seeds | Word::Gen => None,
         Word::Stream => Some(Request::Echo),
         Word::Gateway => None,
@@ -131,7 +132,7 @@ pub(crate) fn asked_with(word: Word, argument: &str) -> Option<Request>
         Word::Order => of_file(Request::Work(Work::Order), argument),
         Word::Replay => of_file(Request::Work(Work::Replay), argument),
         Word::Check => of_file(Request::Work(Work::Check), argument),
-        Word::Chart => of_file(Request::Work(Work::Chart), argument),
+        Word::Chart => Some(Request::Work(Work::Chart(drawn_with(argument)?))),
         Word::Gen => Some(Request::Play(Asked::Gen(number(argument)?))),
         Word::Gateway => Some(Request::Serve(clients(argument)?)),
         Word::Help => Some(Request::Show(Page::Of(called(argument)?))),
@@ -153,6 +154,7 @@ pub(crate) fn asked_with_file(word: Word, argument: &str, file: &str) -> Option<
     match word {
         Word::Seed => of_file(Request::Play(seeded(argument)?), file),
         Word::Seeds => reported(argument, file),
+        Word::Chart => Some(Request::Work(Work::Chart(drawn_with_file(argument, file)?))),
         _ => None,
     }
 }
@@ -164,6 +166,10 @@ fn asked_with_more(word: Word, from: &str, to: &str, behind: &[String]) -> Optio
     match (word, behind) {
         (Word::Find, _) => Some(Request::Work(Work::Find(searched(from, to, behind)?))),
         (Word::Seeds, [file]) => of_file(reported(from, to)?, file.as_str()),
+        (Word::Chart, _) => {
+            let drawn = drawn_with_more(from, to, behind)?;
+            Some(Request::Work(Work::Chart(drawn)))
+        }
         _ => None,
     }
 }
@@ -194,7 +200,8 @@ fn file_place(request: Option<Request>) -> Option<usize>
         Some(Request::Play(Asked::InOrder(TurnOrder::Seed(_)))) => Some(2),
         Some(Request::Work(Work::Find(Search { in_file: true, .. }))) => Some(4),
         Some(Request::Work(Work::Seeds(_))) => Some(3),
-        Some(Request::Work(Work::Order | Work::Replay | Work::Check | Work::Chart)) => Some(1),
+        Some(Request::Work(Work::Order | Work::Replay | Work::Check)) => Some(1),
+        Some(Request::Work(Work::Chart(drawn))) => Some(drawn.file_place()),
         _ => None,
     }
 }

@@ -152,11 +152,13 @@ impl Word {
             },
             Word::Chart => Said {
                 name: "chart",
-                usage: "chart [FILE]",
-                line: "draw a printed run as a picture",
+                usage: "chart [plain] [steps A B] [FILE]",
+                line: "draw a printed run, or some of its steps, as a picture",
                 paragraph: "Reads the text of a run from FILE, or from standard input, and writes a picture of it\n\
                     as SVG: a lane for each endpoint and link, a row for each step and what it did, and an\n\
-                    arrow from each send to its arrival. It draws 6,000 rows at most.\n",
+                    arrow from each send to its arrival. With plain it leaves out the lines of the text; with\n\
+                    steps A B it draws the steps A to B alone, and the columns in which they did anything. It\n\
+                    draws 6,000 rows at most.\n",
                 example: "linx_sim serial examples/losses.linx | linx_sim chart > losses.svg",
             },
             Word::Gen => Said {

@@ -1,5 +1,6 @@
 //! What is done with what is read.
 
+use crate::drawn::Drawn;
 use crate::range::Range;
 use crate::search::Search;
 
@@ -17,5 +18,5 @@ pub enum Work {
     /// `check`: whether a printed run is a legal one of the script before it.
     Check,
     /// `chart`: a picture of a printed run.
-    Chart,
+    Chart(Drawn),
 }
