@@ -1,7 +1,7 @@
 #!/usr/bin/env python3
 """Draws the chart of a printed text by itself, as SVG: what `journal_charts` is judged by.
 
-    bench/try charts < TEXT > CHART.svg
+    bench/try charts [plain] [steps A B] < TEXT > CHART.svg
 """
 import re
 import sys
@@ -10,7 +10,6 @@ from pathlib import Path
 ROOT = Path(__file__).resolve().parent.parent
 RIGHTMOST = 2**32 - 1
 NOWHERE = ("nowhere",)
-NOWHERE_LEFT = 312
 
 
 class Line:
@@ -20,7 +19,8 @@ class Line:
         self.step, self.place, self.maker, self.text, self.head = step, place, maker, text, head
         self.words = text.split(" ")[1:]
         self.kind = self.words[0]
-        self.row = self.x = 0
+        self.row = self.x = self.at = 0
+        self.seen = True
         self.told = self.turned = False
         self.column = NOWHERE
 
@@ -73,6 +73,12 @@ class Run:
             return ("rail", self.link(words[2].split(":")[0]), self.node(words[1]))
         maker = self.opener.get(words[1], "P")
         return ("life", int(maker[1:])) if maker[0] == "A" else NOWHERE
+
+    def is_of_link(self, line, number):
+        """Whether a line's mark is in a link's lane or on a rail of it, or cuts or mends it."""
+        if line.column[0] in ("lane", "rail"):
+            return line.column[1] == number
+        return line.place == 0 and line.kind in ("cut", "mend") and self.link(line.words[1]) == number
 
     def find(self, at):
         """The line of a place."""
@@ -159,7 +165,8 @@ def ties_of(run):
 class Setting:
     """What stands side by side, and where."""
 
-    def __init__(self, run):
+    def __init__(self, run, plain, window):
+        self.left = 60 if plain else 364
         self.names = dict(enumerate(run.node_names, 1))
         self.actors = []
         for line in run.lines:
@@ -174,9 +181,27 @@ class Setting:
             self.names[RIGHTMOST] = "?"
         self.links = [(k, name, self.end(run, name, ">", 0), self.end(run, name, "<", RIGHTMOST))
                       for k, name in enumerate(run.link_names, 1)]
+        if window:
+            self.leave_out(run, [line for line in run.lines if line.seen])
         count = len(self.actors)
         self.gap = 168 if count <= 6 else 120 if count <= 12 else 84
-        self.width = 374 + 34 * len(self.names) + self.gap * count + 162 * len(self.links)
+        self.width = self.left + 10 + 34 * len(self.names) + self.gap * count + 162 * len(self.links)
+
+    def leave_out(self, run, seen):
+        """Leaves out the columns without a mark that is seen, and the nodes without columns."""
+        self.actors = [a for a in self.actors if any(l.column == ("life", a[0]) for l in seen)]
+        self.links = [k for k in self.links if any(run.is_of_link(l, k[0]) for l in seen)]
+        used = {a[1] for a in self.actors} | {node for k in self.links for node in k[2:]}
+        self.names = {node: name for node, name in self.names.items() if node in used}
+
+    def has(self, run, line):
+        """Whether a line's mark stands in a column, or cuts or mends a link that has one."""
+        return any(line.column == ("life", a[0]) for a in self.actors) \
+            or any(run.is_of_link(line, k[0]) for k in self.links)
+
+    def link(self, number):
+        """The link of a number, if it has a lane."""
+        return next((k for k in self.links if k[0] == number), None)
 
     @staticmethod
     def end(run, link, side, otherwise):
@@ -191,7 +216,7 @@ class Setting:
 
     def node_left(self, node):
         """Where what belongs to a node begins."""
-        return (364 + 34 * sum(n < node for n in self.names) + self.gap * sum(a[1] < node for a in self.actors)
+        return (self.left + 34 * sum(n < node for n in self.names) + self.gap * sum(a[1] < node for a in self.actors)
                 + 162 * sum(max(l[2], l[3]) < node for l in self.links))
 
     def lane_left(self, link):
@@ -213,11 +238,13 @@ class Setting:
 
     def place(self, column):
         """The left edge of a column, and whether it is turned."""
+        nowhere = self.left - 52, False
         if column[0] == "life":
-            return self.life_left(next(a for a in self.actors if a[0] == column[1])), False
-        if column == NOWHERE:
-            return NOWHERE_LEFT, False
-        link = self.links[column[1] - 1]
+            actor = next((a for a in self.actors if a[0] == column[1]), None)
+            return (self.life_left(actor), False) if actor else nowhere
+        link = self.link(column[1]) if column != NOWHERE else None
+        if link is None:
+            return nowhere
         earlier = min(link[2], link[3])
         if column[0] == "lane":
             return self.lane_left(link), (link[2] if column[2] == ">" else link[3]) != earlier
@@ -245,14 +272,28 @@ def cut(most, words):
 class Drawing:
     """Shapes, as they are written."""
 
-    def __init__(self, run):
-        self.run, self.setting, self.out = run, Setting(run), []
+    def __init__(self, run, plain=False, window=None):
+        self.run, self.plain, self.window, self.out = run, plain, window, []
+        first, last = window or (0, 2**64)
         lines = run.lines
-        for row, line in enumerate(lines):
+        above = sum(line.step < first for line in lines)
+        self.seen = [line for line in lines if first <= line.step <= last]
+        self.rows = len(self.seen) + (above > 0)
+        for at, line in enumerate(lines):
+            line.seen = first <= line.step <= last
+            line.told = at + 1 < len(lines) and lines[at + 1].place != 0
+            line.row = 0 if line.step < first else self.rows
+        for row, line in enumerate(self.seen, above > 0):
             line.row = row
-            line.told = row + 1 < len(lines) and lines[row + 1].place != 0
+        self.setting = Setting(run, plain, window)
+        self.kept = [line for line in lines if line.seen or self.setting.has(run, line)]
+        for at, line in enumerate(self.kept):
+            line.at = at
             line.x, line.turned = self.setting.place(line.column)
-        self.ties = ties_of(run)
+        kept = set(map(id, self.kept))
+        self.ties = [(kind, start, end) for kind, start, end in ties_of(run)
+                     if start.step <= last and first <= end.step and id(start) in kept and id(end) in kept
+                     and (kind != "carried" or id(end.head) in kept)]
 
     def box(self, kind, x, y, width, height):
         """A rectangle."""
@@ -285,7 +326,7 @@ class Drawing:
 
     def whole(self):
         """The bytes of the picture."""
-        rows, s = len(self.run.lines), self.setting
+        rows, s = self.rows, self.setting
         height = top(rows) + 24
         self.out.append(f'<svg xmlns="http://www.w3.org/2000/svg" width="{s.width}" height="{height}" '
                         f'viewBox="0 0 {s.width} {height}" role="img">\n<title>{rows} rows</title>\n')
@@ -296,20 +337,21 @@ class Drawing:
         self.loops()
         self.signals()
         self.out.append("</g>\n<g class=\"rows\">\n")
-        for line in self.run.lines:
+        for line in self.seen:
             place = f"s{line.step}" + (f".{line.place}" if line.place else "")
             self.out.append(f'<g class="row" id="{place}">\n<title>{escaped(f"{line.step} {line.text}")}</title>\n')
             self.box("hit", 0, top(line.row), s.width, 18)
             self.mark(line)
             self.out.append("</g>\n")
         self.out.append("</g>\n<g class=\"front\">\n")
-        for line in self.run.lines:
+        for line in self.seen:
             self.label(line)
-        for line in self.run.lines:
+        for line in self.seen:
             y = top(line.row) + 13
             if line.place == 0:
                 self.words("line", "end", 48, y, str(line.step))
-            self.words("effect" if line.place else "line", "start", 60, y, cut(42, line.text))
+            if not self.plain:
+                self.words("effect" if line.place else "line", "start", 60, y, cut(42, line.text))
         self.out.append("</g>\n</svg>\n")
         return "".join(self.out)
 
@@ -318,6 +360,8 @@ class Drawing:
         s = self.setting
         foot = top(rows) + 8
         for node, name in s.names.items():
+            if self.window and not any(actor[1] == node for actor in s.actors):
+                continue
             left, width = s.box_left(node), s.box_width(node)
             self.box("node", left, 66, width, 18 * rows + 28)
             self.box("node-caption", left, 6, width, 22)
@@ -329,36 +373,39 @@ class Drawing:
             for node, x in (min(link[2:]), left + 24), (max(link[2:]), left + 132):
                 self.path("rail", ("M", x, 70), ("L", x, foot))
                 self.words("faint", "middle", x, 44, cut(10, s.names.get(node, "?")))
-        for line in self.run.lines:
+        for line in self.seen:
             if line.step % 2 == 0:
                 self.box("stripe", 0, top(line.row), s.width, 18)
         for actor in s.actors:
             x = s.life_left(actor) + 32
             self.words("strong", "middle", x, 44, f"A{actor[0]}")
             self.words("faint", "middle", x, 58, cut(s.gap // 7, actor[2]))
-            mine = [line for line in self.run.lines if line.column == ("life", actor[0])]
+            mine = [line for line in self.kept if line.column == ("life", actor[0])]
             if mine:
                 last = next((l for l in mine if l.place == 0 and l.kind == "ended"), None)
                 self.path("life", ("M", x, top(mine[0].row) + 9), ("L", x, top(last.row) + 9 if last else foot))
 
     def bands(self, rows):
         """Cuts and restarts."""
-        for line in self.run.lines:
+        for line in self.kept:
             y = top(line.row) + 9
             if line.place == 0 and line.kind == "cut":
-                end = next((l.row for l in self.run.lines[line.row + 1:]
+                end = next((l.row for l in self.kept[line.at + 1:]
                             if l.place == 0 and l.kind == "mend" and l.words[1] == line.words[1]), rows)
-                left = self.setting.lane_left(self.setting.links[self.run.link(line.words[1]) - 1])
-                self.box("cut", left, y, 156, 18 * (end - line.row))
-            elif line.place == 0 and line.kind == "restart":
+                link = self.setting.link(self.run.link(line.words[1]))
+                if link and end > line.row:
+                    self.box("cut", self.setting.lane_left(link), y, 156, 18 * (end - line.row))
+            elif line.place == 0 and line.kind == "restart" and line.seen:
                 node = self.run.node(line.words[1])
+                if node not in self.setting.names:
+                    continue
                 left = self.setting.box_left(node)
                 self.path("restart", ("M", left, y), ("L", left + self.setting.box_width(node), y))
 
     def bars(self, rows):
         """Open endpoints, waits and sessions."""
-        for line in self.run.lines:
-            below = [l for l in self.run.lines[line.row + 1:] if l.column == line.column and l.column[0] != "lane"
+        for line in self.kept:
+            below = [l for l in self.kept[line.at + 1:] if l.column == line.column and l.column[0] != "lane"
                      and l.column != NOWHERE]
             kind = (line.place > 0, line.kind)
             ends = {(True, "opened"): lambda l: l.place and l.kind == "closed",
@@ -366,6 +413,8 @@ class Drawing:
                     (True, "up"): lambda l: l.place and l.kind == "down"}.get(kind)
             if ends:
                 end = next((l.row for l in below if ends(l)), rows)
+                if end == line.row:
+                    continue
                 name, left, width = {"opened": ("bar", 27, 10), "waits": ("wait", 28, 8), "up": ("session", 13, 6)}[line.kind]
                 self.box(name, line.x + left, top(line.row) + 9, width, 18 * (end - line.row))
 
@@ -422,7 +471,7 @@ class Drawing:
             elif kind == "lost":
                 self.path("signal", *self.cell(start, (32, 9), (48, 9)))
                 self.cross(start, 48)
-        for line in self.run.lines:
+        for line in self.seen:
             name = {"arrived": "signal", "found": "found", "notified": "notice"}.get(line.kind) if line.place else None
             head = line.head
             if name is None or head.kind == "send":
@@ -557,5 +606,13 @@ def style():
     return literal(parts["light_ground"]) + rules("light") + literal(parts["dark_ground"]) + rules("dark") + "}\n"
 
 
+def main(words):
+    """Draws what the words ask for."""
+    plain = words[:1] == ["plain"]
+    rest = words[plain:]
+    window = tuple(map(int, rest[1:3])) if rest[:1] == ["steps"] else None
+    sys.stdout.write(Drawing(Run(sys.stdin.read()), plain, window).whole())
+
+
 if __name__ == "__main__":
-    sys.stdout.write(Drawing(Run(sys.stdin.read())).whole())
+    main(sys.argv[1:])

@@ -2,13 +2,15 @@
 """Judges the charts that `linx_sim chart` draws by those of bench/charts.py.
 
 The texts are those of examples/ and its races in the fixed order, and of the random scripts of the
-seeds 1 to COUNT, each in the order of its seed. Both must draw the same, byte for byte; a chart of
-more than 6,000 rows must be refused. The pictures of docs/use/pictures must be those that the program
+seeds 1 to COUNT, each in the order of its seed. Both must draw the same, byte for byte: of each text
+the whole chart, that without lines, a window of its steps, with lines and without, and one behind
+its last step; a chart of more than 6,000 rows must be refused. The pictures of docs/use/pictures must be those that the program
 draws. It says how many charts were the same, and the first that wasn't.
 
     bench/try drawn [COUNT [PROGRAM]]           COUNT is 100 if unsaid
 """
 import pathlib
+import random
 import subprocess
 import sys
 
@@ -23,20 +25,29 @@ TOP = BENCH.parent
 PICTURES = TOP / "docs/use/pictures"
 ROWS_MOST = 6000
 SECONDS = 60
-TOO_LARGE = b"linx_sim: chart of more than 6000 rows\n"
+TOO_LARGE = b"linx_sim: chart of more than 6000 rows: draw some by steps A B\n"
 
 
-def rows_of(text):
-    """How many lines the journal of a text has."""
-    return text[text.index(b"journal "):].count(b"\n") - 1 if text else 0
+def journal_of(text):
+    """The lines of the journal of a text."""
+    return text[text.index(b"journal "):].split(b"\n")[1:-1] if text else []
 
 
-def wrong(program, text):
-    """What is wrong with the chart of a text, or None."""
-    ended = judge.ended([program, "chart"], text, SECONDS)
-    if rows_of(text) > ROWS_MOST:
+def views(name, text):
+    """The views of a text that are drawn."""
+    steps = sum(not line.startswith(b"+") for line in journal_of(text))
+    dice = random.Random(name)
+    first = dice.randint(1, max(steps, 1))
+    window = ["steps", str(first), str(dice.randint(first, max(steps, 1)))]
+    return [[], ["plain"], window, ["plain", *window], ["steps", str(steps + 1), str(steps + 9)]]
+
+
+def wrong(program, text, view):
+    """What is wrong with a chart of a text, or None."""
+    ended = judge.ended([program, "chart", *view], text, SECONDS)
+    if "steps" not in view and len(journal_of(text)) > ROWS_MOST:
         return judge.difference(ended, (8, TOO_LARGE, b""))
-    drawn = subprocess.run([sys.executable, str(BENCH / "charts.py")], input=text,
+    drawn = subprocess.run([sys.executable, str(BENCH / "charts.py"), *view], input=text,
                            capture_output=True, check=True).stdout
     return judge.difference(ended, (0, b"", drawn))
 
@@ -60,10 +71,11 @@ def main():
     program = arguments.found_program(parser, given)
     same, faults = 0, []
     for name, text in texts(program, given.count):
-        fault = wrong(program, text)
-        same += fault is None
-        if fault is not None:
-            faults.append(f"{name}: {fault}")
+        for view in views(name, text):
+            fault = wrong(program, text, view)
+            same += fault is None
+            if fault is not None:
+                faults.append(f"{name} {' '.join(view)}: {fault}")
     for path in sorted(PICTURES.glob("*.svg")):
         script = (TOP / "examples" / f"{path.stem}.linx").read_bytes()
         text = judge.ended([program, "serial"], script, SECONDS)[2]

@@ -1,6 +1,6 @@
 -- What lasts in a column: an open endpoint from its opening to its closing, a wait to what its actor
 -- does next, a session from up to down. What nothing ends lasts to the foot of the drawing.
-use Rattle.std.specs.Prelude.{ℕ, ◌-◌, ◌*◌, ◌==◌, Bool, true, false, ◌&&◌, ◌||◌}
+use Rattle.std.specs.Prelude.{ℕ, ◌-◌, ◌*◌, ◌==◌, Bool, true, false, ◌&&◌, ◌||◌, if◌then◌else◌}
 use Rattle.std.specs.Prelude.{List, [], ◌∷◌, ◌++◌, Option, Some, None, find}
 use Rattle.svg_text.specs.declared.class.Class.{Class}
 use Rattle.svg_text.specs.declared.class.Class.TheVariants.{Bar, Wait, Session}
@@ -44,18 +44,19 @@ reach rows from None = 18 * (rows - from.row)
 reach rows from (Some to) = 18 * (to.row - from.row)
 
 -- a bar in the look of this class, from the line of a spot down, so far to the right of its cell's
--- edge
-abbrev pub bar : Class → Spot → ℕ → ℕ → ℕ → Shape
+-- edge; none where it has no height, since it begins and ends above a window or below it
+abbrev pub bar : Class → Spot → ℕ → ℕ → ℕ → List Shape
 bar class from left width height =
-    Box class (record { corner = in_cell from left 9; width = width; height = height })
+    if height == 0 then []
+    else Box class (record { corner = in_cell from left 9; width = width; height = height }) ∷ []
 
 -- what lasts from a mark on, before these marks
 abbrev pub bars_at : ℕ → Spot → MarkKind → List Spot → List Shape
 bars_at rows s kinds.Opened more =
-    bar Bar s 27 10 (reach rows s (closing_in s.mark.column more)) ∷ []
+    bar Bar s 27 10 (reach rows s (closing_in s.mark.column more))
 bars_at rows s kinds.Waits more =
-    bar Wait s 28 8 (reach rows s (going_on_in s.mark.column more)) ∷ []
-bars_at rows s kinds.Up more = bar Session s 13 6 (reach rows s (down_in s.mark.column more)) ∷ []
+    bar Wait s 28 8 (reach rows s (going_on_in s.mark.column more))
+bars_at rows s kinds.Up more = bar Session s 13 6 (reach rows s (down_in s.mark.column more))
 bars_at rows s _ more = []
 
 -- WHAT LASTS, of so many rows, in the order in which it begins

@@ -1,16 +1,19 @@
 -- The drawing of a chart.
-use Rattle.std.specs.Prelude.{◌≡◌, ◌+◌, nat_le, List, [], ◌++◌, length, map, flat_map, codes}
+use Rattle.std.specs.Prelude.{◌≡◌, ℕ, ◌+◌, nat_le, List, [], ◌++◌, length, map, flat_map, codes}
 use Rattle.std.specs.Prelude.{decimal, Result, Ok, Err, if◌then◌else◌}
 use Rattle.linx_base.specs.declared.identity.ItemAt.{ItemAt}
 use Rattle.svg_text.specs.declared.picture.Picture.{Picture}
 use Rattle.svg_text.specs.declared.picture.Row.{Row}
 use Rattle.svg_text.specs.declared.shape.Shape.{Shape}
 use Rattle.chart.specs.declared.mark.Mark.{Mark}
+use Rattle.chart.specs.declared.tie.Tie.{Tie}
 use Rattle.chart_drawing.specs.declared.drawing.Chart.{Chart}
 use Rattle.chart_drawing.specs.declared.drawing.DrawError.{DrawError}
 use Rattle.chart_drawing.specs.declared.drawing.DrawError.TheVariants.{TooLong, TooWide}
 use Rattle.chart_drawing.specs.declared.setting.Setting.{Setting}
 use Rattle.chart_drawing.specs.declared.spot.Spot.{Spot}
+use Rattle.chart_drawing.specs.declared.view.View.{View}
+use Rattle.chart_drawing.specs.declared.view.Window.{Window}
 use Rattle.chart_drawing.specs.Arrows.{signal_arrows, comings}
 use Rattle.chart_drawing.specs.Bands.{bands_of}
 use Rattle.chart_drawing.specs.Bars.{bars_of}
@@ -18,50 +21,70 @@ use Rattle.chart_drawing.specs.Beside.{loops_with, loop_shape}
 use Rattle.chart_drawing.specs.Ground.{node_shapes, link_shapes, stripe_shapes, actor_shapes}
 use Rattle.chart_drawing.specs.Layout.{is_narrow, width_of}
 use Rattle.chart_drawing.specs.Rows.{rows_of, label_shapes, line_shapes}
-use Rattle.chart_drawing.specs.Spots.{row_top, spots_of}
+use Rattle.chart_drawing.specs.Seen.{setting_in}
+use Rattle.chart_drawing.specs.Spots.{row_top, spots_of, seen_of}
+use Rattle.chart_drawing.specs.Views.{marks_in, ties_in, steps_seen, window_of, lines_from}
 
--- boxes, lanes, stripes and lines, from the back to the front
-abbrev pub ground_of : Setting → List Spot → List Shape
-ground_of setting spots =
-    flat_map (node_shapes setting (length spots)) setting.nodes
-    ++ flat_map (link_shapes setting (length spots)) setting.links
-    ++ flat_map (stripe_shapes setting) spots
-    ++ flat_map (actor_shapes setting (length spots) spots) setting.actors
+-- boxes, lanes, stripes and lines of so many rows, from the back to the front
+abbrev pub ground_of : Setting → ℕ → List Spot → List Shape
+ground_of setting rows spots =
+    flat_map (node_shapes setting rows) setting.nodes
+    ++ flat_map (link_shapes setting rows) setting.links
+    ++ flat_map (stripe_shapes setting) (seen_of spots)
+    ++ flat_map (actor_shapes setting rows spots) setting.actors
 
 -- WHAT LIES BEHIND THE ROWS: the ground, what lasts, and the ties
-abbrev pub back_of : Setting → Chart → List Spot → List Shape
-back_of setting chart spots =
-    ground_of setting spots ++ bands_of setting (length spots) spots
-    ++ bars_of (length spots) spots
-    ++ map loop_shape (loops_with spots [] chart.ties)
-    ++ signal_arrows spots chart.ties ++ comings spots spots
+abbrev pub back_of : Setting → ℕ → List Tie → List Spot → List Shape
+back_of setting rows ties spots =
+    ground_of setting rows spots ++ bands_of setting rows spots
+    ++ bars_of rows spots
+    ++ map loop_shape (loops_with spots [] ties)
+    ++ signal_arrows spots ties ++ comings spots (seen_of spots)
 
 -- WHAT LIES IN FRONT OF THEM: the labels, and the lines of the journal at the left
-abbrev pub front_of : Setting → Chart → List Spot → List Shape
-front_of setting chart spots =
-    flat_map (label_shapes setting chart.lines) spots ++ flat_map (line_shapes chart.lines) spots
+abbrev pub front_of : Setting → List (List ℕ) → List Spot → List Shape
+front_of setting lines seen =
+    flat_map (label_shapes setting lines) seen
+    ++ flat_map (line_shapes setting.view.plain lines) seen
 
--- the picture of marks that stand at these spots
-abbrev pub picture_of : Setting → Chart → List Spot → Picture
-picture_of setting chart spots = record {
+-- the picture of marks that stand at these spots, of so many rows, with these ties and lines
+abbrev pub picture_of : Setting → ℕ → List Tie → List (List ℕ) → List Spot → Picture
+picture_of setting rows ties lines spots = record {
   width = width_of setting;
-  height = row_top (length spots) + 24;
-  title = decimal (length spots) ++ codes " rows";
-  back = back_of setting chart spots;
-  rows = rows_of setting chart.lines spots;
-  front = front_of setting chart spots;
+  height = row_top rows + 24;
+  title = decimal rows ++ codes " rows";
+  back = back_of setting rows ties spots;
+  rows = rows_of setting lines (seen_of spots);
+  front = front_of setting lines (seen_of spots);
 }
 
--- THE DRAWING OF A CHART
-unfoldable pub drawing_of : Setting → Chart → Picture
-drawing_of setting chart = picture_of setting chart (spots_of setting chart.marks)
+-- the drawing of a chart in a window
+abbrev pub drawing_in : Setting → Window → Chart → Picture
+drawing_in setting window chart =
+    picture_of setting window.rows (ties_in window.steps chart.ties)
+    (lines_from window.hidden chart.lines) (spots_of setting window chart.marks)
 
--- the drawing of a chart, or why there is none: it has more than 6,000 marks, or the setting has
--- more than 64 nodes, links or actors
+-- THE DRAWING OF A CHART: of the steps that are seen
+unfoldable pub drawing_of : Setting → Chart → Picture
+drawing_of setting chart =
+    drawing_in setting (window_of (steps_seen setting.view.steps) chart.marks) chart
+
+-- the marks of a chart that are seen: each of them has a row
+abbrev pub seen_marks : View → List Mark → List Mark
+seen_marks view marks = marks_in (steps_seen view.steps) marks
+
+-- the drawing of a chart where few enough marks are seen, or why there is none: more than 64 nodes,
+-- links or actors are left
+abbrev pub drawn_if_narrow : Setting → Chart → Result Picture DrawError
+drawn_if_narrow setting chart =
+    if is_narrow setting then Ok (drawing_of setting chart) else Err TooWide
+
+-- the drawing of a chart in the columns that its window leaves, or why there is none: more than 6,000
+-- marks are seen, or there are too many columns
 unfoldable pub drawn : Setting → Chart → Result Picture DrawError
 drawn setting chart =
-    if nat_le (length chart.marks) 6000
-    then (if is_narrow setting then Ok (drawing_of setting chart) else Err TooWide)
+    if nat_le (length (seen_marks setting.view chart.marks)) 6000
+    then drawn_if_narrow (setting_in setting.view.steps chart.marks setting) chart
     else Err TooLong
 
 -- the line that a row is of

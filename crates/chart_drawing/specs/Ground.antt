@@ -1,7 +1,7 @@
 -- What a drawing stands on: the boxes of nodes, the lanes of links, the lines of actors, and the
 -- words over them.
 use Rattle.std.specs.Prelude.{ℕ, ◌+◌, ◌*◌, ◌/◌, ◌%◌, ◌==◌, Bool, true, false, ◌&&◌, if◌then◌else◌}
-use Rattle.std.specs.Prelude.{List, [], ◌∷◌, ◌++◌, Option, Some, None, find, codes, decimal}
+use Rattle.std.specs.Prelude.{List, [], ◌∷◌, ◌++◌, Option, Some, None, is_some, find, codes, decimal}
 use Rattle.svg_text.specs.declared.class.Class.{Class}
 use Rattle.svg_text.specs.declared.class.Class.TheVariants.{Node, NodeCaption, Lane, Stripe, Life}
 use Rattle.svg_text.specs.declared.class.Class.TheVariants.{Rail, Strong, Faint}
@@ -19,7 +19,7 @@ use Rattle.chart_drawing.specs.declared.setting.DrawnActor.{DrawnActor}
 use Rattle.chart_drawing.specs.declared.setting.Setting.{Setting}
 use Rattle.chart_drawing.specs.declared.spot.Spot.{Spot}
 use Rattle.chart_drawing.specs.Layout.{gap, box_left, box_width, lane_left, life_left, width_of}
-use Rattle.chart_drawing.specs.Layout.{earlier_end, later_end, node_of}
+use Rattle.chart_drawing.specs.Layout.{actors_on, earlier_end, later_end, node_of}
 use Rattle.chart_drawing.specs.Rows.{cut}
 use Rattle.chart_drawing.specs.Spots.{point, row_top, same_column}
 
@@ -36,10 +36,15 @@ abbrev pub ground : Class → ℕ → ℕ → ℕ → Shape
 ground class left width rows =
     Box class (record { corner = point left 66; width = width; height = 18 * rows + 28 })
 
+-- a node has no box: in a window, where none of its actors is seen, and its rails alone have its name
+abbrev pub is_bare : Setting → ℕ → Bool
+is_bare setting node = is_some setting.view.steps && actors_on setting node == 0
+
 -- THE BOX OF A NODE, and its name over it
 abbrev pub node_shapes : Setting → ℕ → DrawnNode → List Shape
 node_shapes setting rows n =
-    ground Node (box_left setting n.node.0) (box_width setting n.node.0) rows
+    if is_bare setting n.node.0 then []
+    else ground Node (box_left setting n.node.0) (box_width setting n.node.0) rows
     ∷ Box NodeCaption (record {
       corner = point (box_left setting n.node.0) 6;
       width = box_width setting n.node.0;

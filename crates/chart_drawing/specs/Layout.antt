@@ -39,6 +39,11 @@ end_at Second link = link.second.0
 abbrev pub is_right : ℕ → DrawnLink → Bool
 is_right node link = not (node == earlier_end link)
 
+-- how much room the lines of the journal have at the left: that of their numbers where they are left
+-- out
+abbrev pub text_width : Setting → ℕ
+text_width setting = if setting.view.plain then 60 else 364
+
 -- how far apart actors stand: narrower where there are many
 abbrev pub gap : Setting → ℕ
 gap setting =
@@ -84,7 +89,7 @@ links_left setting node link =
 -- stand before it
 unfoldable pub node_left : Setting → ℕ → ℕ
 node_left setting node =
-    364 + 34 * nodes_before setting node + gap setting * actors_before setting node
+    text_width setting + 34 * nodes_before setting node + gap setting * actors_before setting node
     + 162 * links_before setting node
 
 -- the left edge of a link's lane, which is 156 wide
@@ -108,7 +113,7 @@ life_left setting a =
 -- the width of a picture
 unfoldable pub width_of : Setting → ℕ
 width_of setting =
-    374 + 34 * length setting.nodes + gap setting * length setting.actors
+    text_width setting + 10 + 34 * length setting.nodes + gap setting * length setting.actors
     + 162 * length setting.links
 
 -- the actor of a number, if there is one
@@ -124,17 +129,17 @@ abbrev pub node_of : Setting → ℕ → Option DrawnNode
 node_of setting number = find (λ (n : DrawnNode). n.node.0 == number) setting.nodes
 
 -- where the marks of a column stand that no actor and no link has
-abbrev pub nowhere_left : ℕ
-nowhere_left = 312
+abbrev pub nowhere_left : Setting → ℕ
+nowhere_left setting = text_width setting - 52
 
 -- where the cells of an actor begin, if there is that actor
 abbrev pub life_left_if : Setting → Option DrawnActor → ℕ
-life_left_if setting None = nowhere_left
+life_left_if setting None = nowhere_left setting
 life_left_if setting (Some a) = life_left setting a
 
 -- where the cells of a link's lane begin, if there is that link
 abbrev pub lane_left_if : Setting → Option DrawnLink → ℕ
-lane_left_if setting None = nowhere_left
+lane_left_if setting None = nowhere_left setting
 lane_left_if setting (Some link) = lane_left setting link
 
 -- where the cells of a rail begin, 16 before it; the rails stand 24 inside the lane
@@ -144,7 +149,7 @@ rail_left setting node link =
 
 -- where the cells of a link's rail at a node begin, if there is that link
 abbrev pub rail_left_if : Setting → ℕ → Option DrawnLink → ℕ
-rail_left_if setting node None = nowhere_left
+rail_left_if setting node None = nowhere_left setting
 rail_left_if setting node (Some link) = rail_left setting node link
 
 -- WHERE THE CELLS OF A COLUMN BEGIN
@@ -152,7 +157,7 @@ unfoldable pub column_left : Setting → Column → ℕ
 column_left setting (Life actor) = life_left_if setting (actor_of setting actor)
 column_left setting (Lane link side) = lane_left_if setting (link_of setting link.0)
 column_left setting (Rail link node) = rail_left_if setting node.0 (link_of setting link.0)
-column_left setting Nowhere = nowhere_left
+column_left setting Nowhere = nowhere_left setting
 
 -- there is a link, and its rail at the node is the right one
 abbrev pub is_right_if : ℕ → Option DrawnLink → Bool

@@ -11,3 +11,5 @@ pub mod Arrows
 pub mod Ground
 pub mod Drawing
 pub mod Failures
+pub mod Views
+pub mod Seen

@@ -172,10 +172,21 @@ label_shapes setting lines spot =
 abbrev pub line_words : List (List ℕ) → Spot → List ℕ
 line_words lines spot = cut 42 (words_at lines spot.row)
 
--- the words of a line at the left, and before those of a step its position
-abbrev pub line_shapes : List (List ℕ) → Spot → List Shape
-line_shapes lines spot =
+-- before the line of a step its position
+abbrev pub position_shapes : Spot → List Shape
+position_shapes spot =
     if spot.mark.line.place == 0
-    then Words Line End (point 48 (row_top spot.row + 13)) (decimal spot.mark.line.step)
-    ∷ Words Line Start (point 60 (row_top spot.row + 13)) (line_words lines spot) ∷ []
-    else Words Effect Start (point 60 (row_top spot.row + 13)) (line_words lines spot) ∷ []
+    then Words Line End (point 48 (row_top spot.row + 13)) (decimal spot.mark.line.step) ∷ []
+    else []
+
+-- how a line looks, by its place among those of its step
+abbrev pub line_class : ℕ → Class
+line_class place = if place == 0 then Line else Effect
+
+-- the words of a line at the left, unless lines are left out, and before those of a step its position
+abbrev pub line_shapes : Bool → List (List ℕ) → Spot → List Shape
+line_shapes plain lines spot =
+    position_shapes spot
+    ++ (if plain then []
+    else Words (line_class spot.mark.line.place) Start (point 60 (row_top spot.row + 13))
+    (line_words lines spot) ∷ [])

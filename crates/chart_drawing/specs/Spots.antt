@@ -1,7 +1,8 @@
--- Where each mark stands: its row is the number of marks before it, and its cell begins at the left
--- edge of its column.
-use Rattle.std.specs.Prelude.{ℕ, ◌+◌, ◌*◌, ◌-◌, ◌==◌, Bool, false, not, ◌&&◌, if◌then◌else◌}
-use Rattle.std.specs.Prelude.{List, [], ◌∷◌, Option, Some, None, slice_get, find}
+-- Where each mark stands: its row is the number of marks before it, less those that have none, and its
+-- cell begins at the left edge of its column.
+use Rattle.std.specs.Prelude.{ℕ, ◌+◌, ◌*◌, ◌-◌, ◌==◌, Bool, true, false, not, ◌&&◌}
+use Rattle.std.specs.Prelude.{if◌then◌else◌, List, [], ◌∷◌, ◌++◌, filter, Option, Some, None}
+use Rattle.std.specs.Prelude.{slice_get, find}
 use Rattle.linx_base.specs.declared.identity.ItemAt.{ItemAt}
 use Rattle.linx_base.specs.Peers.{same_position}
 use Rattle.svg_text.specs.declared.shape.Point.{Point}
@@ -12,32 +13,49 @@ use Rattle.chart.specs.declared.column.Column.TheVariants.{Life, Rail}
 use Rattle.chart.specs.declared.mark.Mark.{Mark}
 use Rattle.chart_drawing.specs.declared.setting.Setting.{Setting}
 use Rattle.chart_drawing.specs.declared.spot.Spot.{Spot}
+use Rattle.chart_drawing.specs.declared.view.Window.{Window}
 use Rattle.chart_drawing.specs.Layout.{column_left, is_turned}
+use Rattle.chart_drawing.specs.Seen.{stands_in}
+use Rattle.chart_drawing.specs.Views.{is_in, row_at}
 
 -- a mark is of an effect
 abbrev pub is_effect_if : Option Mark → Bool
 is_effect_if None = false
 is_effect_if (Some m) = not (m.line.place == 0)
 
--- the spot of a mark in this row, before these marks; it is told where an effect comes next
-abbrev pub spot_of : Setting → ℕ → Mark → List Mark → Spot
-spot_of setting row mark more = record {
+-- the spot of a mark at this place, before these marks; it is told where an effect comes next
+abbrev pub spot_of : Setting → Window → ℕ → Bool → Mark → List Mark → Spot
+spot_of setting window place seen mark more = record {
   mark = mark;
-  row = row;
+  row = row_at window place;
+  seen = seen;
   told = is_effect_if (slice_get more 0);
   x = column_left setting mark.column;
   turned = is_turned setting mark.column;
 }
 
--- the spots of marks, from this row on
-abbrev pub spots_from : Setting → ℕ → List Mark → List Spot
-spots_from setting row [] = []
-spots_from setting row (mark ∷ more) =
-    spot_of setting row mark more ∷ spots_from setting (row + 1) more
+-- the spot of a mark that is seen, or that stands in a column that is; others have none
+abbrev pub spot_if : Setting → Window → ℕ → Mark → List Mark → Bool → Bool → List Spot
+spot_if setting window place mark more true stands =
+    spot_of setting window place true mark more ∷ []
+spot_if setting window place mark more false true =
+    spot_of setting window place false mark more ∷ []
+spot_if setting window place mark more false false = []
 
--- THE SPOTS OF MARKS: that of the k-th mark is in row k, in the mark's column
-abbrev pub spots_of : Setting → List Mark → List Spot
-spots_of setting marks = spots_from setting 0 marks
+-- the spots of marks, from this place on
+abbrev pub spots_from : Setting → Window → ℕ → List Mark → List Spot
+spots_from setting window place [] = []
+spots_from setting window place (mark ∷ more) =
+    spot_if setting window place mark more (is_in window.steps mark.line) (stands_in setting mark)
+    ++ spots_from setting window (place + 1) more
+
+-- THE SPOTS OF MARKS: each is in its row and in its column
+abbrev pub spots_of : Setting → Window → List Mark → List Spot
+spots_of setting window marks = spots_from setting window 0 marks
+
+-- the spots of the marks that are seen
+abbrev pub seen_of : List Spot → List Spot
+seen_of spots = filter (λ (s : Spot). s.seen) spots
 
 -- the spot of a line
 abbrev pub spot_at : List Spot → ItemAt → Option Spot

@@ -250,10 +250,14 @@ fn put_coming(out: &mut Vec<Shape>, spots: &[Spot], to: &Spot) -> Result<(), NoM
 }
 
 /// The arrows to what came to queues.
-pub(crate) fn put_comings(out: &mut Vec<Shape>, spots: &[Spot]) -> Result<(), NoMemory>
-    ensures { OnOk result (out.new.items ≡ out.old.items ++ comings spots.now spots.now) }
+pub(crate) fn put_comings(
+    out: &mut Vec<Shape>,
+    spots: &[Spot],
+    seen: &[Spot],
+) -> Result<(), NoMemory>
+    ensures { OnOk result (out.new.items ≡ out.old.items ++ comings spots.now seen.now) }
 {
-    for spot in spots {
+    for spot in seen {
         put_coming(out, spots, spot)?;
     }
     Ok(())

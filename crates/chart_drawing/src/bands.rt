@@ -3,12 +3,12 @@
 ghost use Rattle.std.specs.Prelude.{◌≡◌, ◌++◌, [], ◌∷◌, flat_map, OnOk};
 ghost use Rattle.std.specs.Option.{option_copied};
 ghost use Rattle.chart_drawing.specs.Layout.{IsNarrow};
-ghost use Rattle.chart_drawing.specs.Bands.{is_mend_of, mend_of, cut_shape, restart_shape};
+ghost use Rattle.chart_drawing.specs.Bands.{is_mend_of, mend_of, cut_shapes, restart_shapes};
 ghost use Rattle.chart_drawing.specs.Bands.{band_of, bands_of};
 
 use crate::bars::reach;
 use crate::cells::{put_box, put_path, row_top};
-use crate::columns::column_left;
+use crate::columns::{column_left, link_of, node_of};
 use crate::layout::{box_left, box_width};
 use crate::setting::Setting;
 use crate::spot::Spot;
@@ -30,12 +30,10 @@ fn is_mend_of(link: LinkNo, kind: MarkKind) -> bool
 fn mend_of<'a>(link: LinkNo, cut: &Spot, spots: &'a [Spot]) -> Option<&'a Spot>
     ensures { option_copied result ≡ mend_of link cut.now spots.now }
 {
-    spots
-        .iter()
-        .find(|s| cut.row < s.row && is_mend_of(link, s.mark.kind))
+    spots.iter().find(|s| cut.mark.line.step < s.mark.line.step && is_mend_of(link, s.mark.kind))
 }
 
-/// The band of a link that is cut.
+/// The band of a link that is cut, where it has a lane and a height.
 fn put_cut(
     out: &mut Vec<Shape>,
     setting: &Setting,
@@ -46,8 +44,12 @@ fn put_cut(
 ) -> Result<(), NoMemory>
     requires { IsNarrow setting.now }
     ensures { OnOk result (out.new.items ≡ out.old.items
-        ++ cut_shape setting.now rows link cut.now (option_copied mend.entry) ∷ []) }
+        ++ cut_shapes setting.now rows link cut.now (option_copied mend.entry)) }
 {
+    let height = reach(rows, cut, mend);
+    if height == 0 || link_of(setting, link.0).is_none() {
+        return Ok(());
+    }
     let left = column_left(setting, Column::Lane(link, Side::First));
     let area = Area {
         corner: Point {
@@ -55,12 +57,12 @@ fn put_cut(
             y: row_top(cut.row) + 9,
         },
         width: 156,
-        height: reach(rows, cut, mend),
+        height,
     };
     put_box(out, Class::Cut, area)
 }
 
-/// The line across the box of a node that restarts.
+/// The line across the box of a node that restarts, where the mark is seen and there is that box.
 fn put_restart(
     out: &mut Vec<Shape>,
     setting: &Setting,
@@ -69,8 +71,11 @@ fn put_restart(
 ) -> Result<(), NoMemory>
     requires { IsNarrow setting.now }
     ensures { OnOk result (out.new.items
-        ≡ out.old.items ++ restart_shape setting.now node spot.now ∷ []) }
+        ≡ out.old.items ++ restart_shapes setting.now node spot.now) }
 {
+    if !spot.seen || node_of(setting, node.0).is_none() {
+        return Ok(());
+    }
     let left = u32::from(box_left(setting, node.0));
     let width = u32::from(box_width(setting, node.0));
     let y = row_top(spot.row) + 9;

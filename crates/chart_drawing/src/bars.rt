@@ -1,5 +1,5 @@
 //! What lasts in a column: open endpoints, waits and sessions.
-ghost use Rattle.std.specs.Prelude.{◌≡◌, ◌++◌, [], ◌∷◌, OnOk};
+ghost use Rattle.std.specs.Prelude.{◌≡◌, ◌++◌, OnOk};
 ghost use Rattle.std.specs.Option.{option_copied};
 ghost use Rattle.chart_drawing.specs.Bars.{is_closing, is_down, closing_in, going_on_in, down_in};
 ghost use Rattle.chart_drawing.specs.Bars.{reach, bar, bars_at, bars_of};
@@ -65,6 +65,7 @@ pub(crate) fn reach(rows: u16, from: &Spot, to: Option<&Spot>) -> u32
     ROW * u32::from(end.saturating_sub(from.row))
 }
 
+/// A bar from a spot down, where it has a height.
 fn put_bar(
     out: &mut Vec<Shape>,
     class: Class,
@@ -74,8 +75,11 @@ fn put_bar(
     height: u32,
 ) -> Result<(), NoMemory>
     ensures { OnOk result (out.new.items
-        ≡ out.old.items ++ bar class from.now left width height ∷ []) }
+        ≡ out.old.items ++ bar class from.now left width height) }
 {
+    if height == 0 {
+        return Ok(());
+    }
     let area = Area {
         corner: in_cell(from, left, 9),
         width,

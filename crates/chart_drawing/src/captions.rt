@@ -5,6 +5,7 @@ ghost use Rattle.svg_text.specs.declared.shape.Shape.TheVariants.{Words};
 ghost use Rattle.chart_drawing.specs.Rows.{cut, anchor_of, side_point, lane_words, label_class};
 ghost use Rattle.chart_drawing.specs.Rows.{send_class, packet_label, label_shape, label_room};
 ghost use Rattle.chart_drawing.specs.Rows.{label_if, label_shapes, line_shapes, line_words};
+ghost use Rattle.chart_drawing.specs.Rows.{position_shapes, line_class};
 ghost use Rattle.chart_drawing.specs.Spots.{point, row_top};
 
 use crate::cells::{in_cell, in_lane, put_words, row_top};
@@ -240,32 +241,54 @@ fn put_left(
     put_words(out, class, anchor, point, words)
 }
 
-/// The line of a row, and before that of a step its position.
-fn put_line(out: &mut Vec<Shape>, lines: &[Blob], spot: &Spot) -> Result<(), NoMemory>
-    ensures { OnOk result (out.new.items ≡ out.old.items ++ line_shapes lines.now spot.now) }
+/// The position of a step, before its line.
+fn put_position(out: &mut Vec<Shape>, spot: &Spot) -> Result<(), NoMemory>
+    ensures { OnOk result (out.new.items ≡ out.old.items ++ position_shapes spot.now) }
 {
-    let alloc = *out.allocator();
-    let words = cut(alloc, LINE_ROOM, words_at(lines, spot.row))?;
     if spot.mark.line.place != 0 {
-        return put_left(out, Class::Effect, Anchor::Start, 60, spot.row, &words);
+        return Ok(());
     }
-    let mut number = Vec::new(alloc);
+    let mut number = Vec::new(*out.allocator());
     put_number(&mut number, spot.mark.line.step)?;
-    put_left(out, Class::Line, Anchor::End, 48, spot.row, &number)?;
-    put_left(out, Class::Line, Anchor::Start, 60, spot.row, &words)
+    put_left(out, Class::Line, Anchor::End, 48, spot.row, &number)
+}
+
+/// How a line looks, by its place among those of its step.
+fn line_class(place: u64) -> Class
+    ensures { result ≡ line_class place }
+{
+    if place == 0 {
+        Class::Line
+    } else {
+        Class::Effect
+    }
+}
+
+/// The line of a row, unless lines are left out, and before that of a step its position.
+fn put_line(out: &mut Vec<Shape>, plain: bool, lines: &[Blob], spot: &Spot) -> Result<(), NoMemory>
+    ensures { OnOk result (out.new.items ≡ out.old.items ++ line_shapes plain lines.now spot.now) }
+{
+    put_position(out, spot)?;
+    if plain {
+        return Ok(());
+    }
+    let words = cut(*out.allocator(), LINE_ROOM, words_at(lines, spot.row))?;
+    let class = line_class(spot.mark.line.place);
+    put_left(out, class, Anchor::Start, 60, spot.row, &words)
 }
 
 /// The lines of all rows.
 pub(crate) fn put_lines(
     out: &mut Vec<Shape>,
+    plain: bool,
     lines: &[Blob],
     spots: &[Spot],
 ) -> Result<(), NoMemory>
     ensures { OnOk result (out.new.items
-        ≡ out.old.items ++ flat_map (line_shapes lines.now) spots.now) }
+        ≡ out.old.items ++ flat_map (line_shapes plain lines.now) spots.now) }
 {
     for spot in spots {
-        put_line(out, lines, spot)?;
+        put_line(out, plain, lines, spot)?;
     }
     Ok(())
 }

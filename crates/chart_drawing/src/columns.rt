@@ -3,15 +3,19 @@ ghost use Rattle.std.specs.Prelude.{◌≡◌};
 ghost use Rattle.std.specs.Option.{option_copied};
 ghost use Rattle.chart_drawing.specs.Layout.{IsNarrow, actor_of, link_of, node_of, column_left};
 ghost use Rattle.chart_drawing.specs.Layout.{life_left_if, lane_left_if, rail_left, rail_left_if};
-ghost use Rattle.chart_drawing.specs.Layout.{is_right_if, goes_left_if, is_turned};
+ghost use Rattle.chart_drawing.specs.Layout.{is_right_if, goes_left_if, is_turned, nowhere_left};
 
-use crate::layout::{end_at, is_right, lane_left, life_left};
+use crate::layout::{end_at, is_right, lane_left, life_left, text_width};
 use crate::setting::{DrawnActor, DrawnLink, DrawnNode, Setting};
 use chart::Column;
 use linx_base::{LinkNo, Side};
 
 /// Where the marks of a column stand that no actor and no link has.
-const NOWHERE_LEFT: u16 = 312;
+fn nowhere_left(setting: &Setting) -> u16
+    ensures { result ≡ nowhere_left setting.now }
+{
+    text_width(setting) - 52
+}
 
 fn actor_of(setting: &Setting, number: u32) -> Option<&DrawnActor>
     ensures { option_copied result ≡ actor_of setting.now number }
@@ -39,7 +43,7 @@ fn life_left_of(setting: &Setting, number: u32) -> u16
 {
     match actor_of(setting, number) {
         Some(actor) => life_left(setting, actor),
-        None => NOWHERE_LEFT,
+        None => nowhere_left(setting),
     }
 }
 
@@ -49,7 +53,7 @@ fn lane_left_of(setting: &Setting, number: u32) -> u16
 {
     match link_of(setting, number) {
         Some(link) => lane_left(setting, link),
-        None => NOWHERE_LEFT,
+        None => nowhere_left(setting),
     }
 }
 
@@ -67,7 +71,7 @@ fn rail_left_of(setting: &Setting, node: u32, number: u32) -> u16
 {
     match link_of(setting, number) {
         Some(link) => rail_left(setting, node, link),
-        None => NOWHERE_LEFT,
+        None => nowhere_left(setting),
     }
 }
 
@@ -99,7 +103,7 @@ pub(crate) fn column_left(setting: &Setting, column: Column) -> u16
         Column::Life(actor) => life_left_of(setting, actor),
         Column::Lane(link, _) => lane_left_of(setting, link.0),
         Column::Rail(link, node) => rail_left_of(setting, node.0, link.0),
-        Column::Nowhere => NOWHERE_LEFT,
+        Column::Nowhere => nowhere_left(setting),
     }
 }
 

@@ -3,8 +3,11 @@ ghost use Rattle.std.specs.Prelude.{◌≡◌, ◌≢◌, ◌≤◌, ◌++◌, [
 ghost use Rattle.std.specs.Prelude.{IfOk, IfErr};
 ghost use Rattle.chart_drawing.specs.declared.drawing.DrawError.TheVariants.{NoMemory as OutOfMemory};
 ghost use Rattle.chart_drawing.specs.Drawing.{ground_of, back_of, front_of, picture_of};
-ghost use Rattle.chart_drawing.specs.Drawing.{drawing_of, drawn, RowEachMark};
+ghost use Rattle.chart_drawing.specs.Drawing.{drawing_of, drawing_in, drawn, drawn_if_narrow};
+ghost use Rattle.chart_drawing.specs.Drawing.{seen_marks, RowEachMark};
 ghost use Rattle.chart_drawing.specs.Layout.{IsNarrow};
+ghost use Rattle.chart_drawing.specs.Spots.{seen_of};
+ghost use Rattle.chart_drawing.specs.Views.{marks_in, lines_from};
 
 use crate::arrows::{put_comings, put_signals};
 use crate::bands::put_bands;
@@ -15,8 +18,10 @@ use crate::cells::row_top;
 use crate::ground::{put_actors, put_links, put_nodes, put_stripes};
 use crate::layout::{is_narrow, width_of};
 use crate::rows::{put_bytes, put_number, rows_of};
+use crate::seen::setting_in;
 use crate::setting::Setting;
-use crate::spot::{Spot, spots_of};
+use crate::spot::{Spot, seen_of, spots_of};
+use crate::view::{Window, count_in, steps_seen, ties_in, window_of};
 use chart::{Mark, Tie};
 use linx_base::{Blob, NoMemory, Sequence};
 use std::alloc::Global;
@@ -24,8 +29,8 @@ use std::error::Error;
 use std::fmt;
 use svg_text::{Picture, Shape};
 
-/// The most rows of a drawing.
-const ROWS_MOST: usize = 6000;
+/// The most marks that are seen in a drawing.
+const MARKS_MOST: usize = 6000;
 
 /// A chart, and the line of each mark as it is printed, that of a step without its position. A mark
 /// whose line isn't there has no words.
@@ -39,9 +44,9 @@ pub struct Chart {
 /// Why a chart isn't drawn.
 #[derive(Clone, Copy, Debug, PartialEq, Eq)]
 pub enum DrawError {
-    /// It has more than 6,000 marks.
+    /// More than 6,000 of its marks are seen.
     TooLong,
-    /// It has more than 64 nodes, links or actors.
+    /// It has more than 64 nodes, links or actors that are seen.
     TooWide,
     NoMemory,
 }
@@ -77,14 +82,15 @@ fn put_ground(
     setting: &Setting,
     rows: u16,
     spots: &[Spot],
+    seen: &[Spot],
 ) -> Result<(), NoMemory>
     requires narrow { IsNarrow setting.now }
-    requires rows { rows ≡ length spots.now }
-    ensures { OnOk result (out.new.items ≡ out.old.items ++ ground_of setting.now spots.now) }
+    requires seen { seen.now ≡ seen_of spots.now }
+    ensures { OnOk result (out.new.items ≡ out.old.items ++ ground_of setting.now rows spots.now) }
 {
     put_nodes(out, setting, rows, setting.nodes.as_slice())?;
     put_links(out, setting, rows, setting.links.as_slice())?;
-    put_stripes(out, setting, spots)?;
+    put_stripes(out, setting, seen)?;
     put_actors(out, setting, rows, spots, setting.actors.as_slice())
 }
 
@@ -92,21 +98,22 @@ fn put_ground(
 fn back_of(
     alloc: Global,
     setting: &Setting,
-    chart: &Chart,
     rows: u16,
+    ties: &[Tie],
     spots: &[Spot],
+    seen: &[Spot],
 ) -> Result<Sequence<Shape>, NoMemory>
     requires narrow { IsNarrow setting.now }
-    requires rows { rows ≡ length spots.now }
-    ensures { IfOk result (λ back. back ≡ back_of setting.now chart.now spots.now) }
+    requires seen { seen.now ≡ seen_of spots.now }
+    ensures { IfOk result (λ back. back ≡ back_of setting.now rows ties.now spots.now) }
 {
     let mut back = Vec::new(alloc);
-    put_ground(&mut back, setting, rows, spots)?;
+    put_ground(&mut back, setting, rows, spots, seen)?;
     put_bands(&mut back, setting, rows, spots)?;
     put_bars(&mut back, rows, spots)?;
-    put_loops(&mut back, spots, chart.ties.as_slice())?;
-    put_signals(&mut back, spots, chart.ties.as_slice())?;
-    put_comings(&mut back, spots)?;
+    put_loops(&mut back, spots, ties)?;
+    put_signals(&mut back, spots, ties)?;
+    put_comings(&mut back, spots, seen)?;
     Ok(Sequence::of(back))
 }
 
@@ -114,14 +121,14 @@ fn back_of(
 fn front_of(
     alloc: Global,
     setting: &Setting,
-    chart: &Chart,
-    spots: &[Spot],
+    lines: &[Blob],
+    seen: &[Spot],
 ) -> Result<Sequence<Shape>, NoMemory>
-    ensures { IfOk result (λ front. front ≡ front_of setting.now chart.now spots.now) }
+    ensures { IfOk result (λ front. front ≡ front_of setting.now lines.now seen.now) }
 {
     let mut front = Vec::new(alloc);
-    put_labels(&mut front, setting, chart.lines.as_slice(), spots)?;
-    put_lines(&mut front, chart.lines.as_slice(), spots)?;
+    put_labels(&mut front, setting, lines, seen)?;
+    put_lines(&mut front, setting.view.plain, lines, seen)?;
     Ok(Sequence::of(front))
 }
 
@@ -135,54 +142,90 @@ fn title_of(alloc: Global, rows: u16) -> Result<Blob, NoMemory>
     Blob::shared(title)
 }
 
-/// The picture of marks that stand at these spots.
+/// The picture of marks that stand at these spots, of so many rows.
 fn picture_of(
     alloc: Global,
     setting: &Setting,
-    chart: &Chart,
+    rows: u16,
+    ties: &[Tie],
+    lines: &[Blob],
     spots: &[Spot],
 ) -> Result<Picture, NoMemory>
-    requires narrow { IsNarrow setting.now }
-    requires few { length spots.now ≤ 6000 }
-    ensures { IfOk result (λ picture. picture ≡ picture_of setting.now chart.now spots.now) }
+    requires { IsNarrow setting.now }
+    ensures { IfOk result (λ picture.
+        picture ≡ picture_of setting.now rows ties.now lines.now spots.now) }
 {
-    let rows = spots.len() as u16;
+    let seen = seen_of(alloc, spots)?;
     Ok(Picture {
         width: u32::from(width_of(setting)),
         height: row_top(rows) + 24,
         title: title_of(alloc, rows)?,
-        back: back_of(alloc, setting, chart, rows, spots)?,
-        rows: Sequence::of(rows_of(alloc, setting, chart.lines.as_slice(), spots)?),
-        front: front_of(alloc, setting, chart, spots)?,
+        back: back_of(alloc, setting, rows, ties, spots, &seen)?,
+        rows: Sequence::of(rows_of(alloc, setting, lines, &seen)?),
+        front: front_of(alloc, setting, lines, &seen)?,
     })
 }
 
-/// The drawing of a chart that is short enough in a setting that is narrow enough.
-#[tactic(auto, unfolding(crate::specs::Drawing::drawing_of))]
-fn drawing_of(alloc: Global, setting: &Setting, chart: &Chart) -> Result<Picture, NoMemory>
-    requires narrow { IsNarrow setting.now }
-    requires few { length chart.now.marks ≤ 6000 }
-    ensures drawn { IfOk result (λ picture. picture ≡ drawing_of setting.now chart.now) }
-    ensures one_row_each { IfOk result (λ picture. RowEachMark picture.rows chart.now.marks) }
+/// The lines of a journal from the first row of a window on.
+fn lines_from(lines: &[Blob], hidden: usize) -> &[Blob]
+    ensures { result.now ≡ lines_from hidden lines.now }
 {
-    let spots = spots_of(alloc, setting, chart.marks.as_slice())?;
-    let picture = picture_of(alloc, setting, chart, &spots)?;
+    if hidden <= lines.len() {
+        &lines[hidden..]
+    } else {
+        &[]
+    }
+}
+
+/// The drawing of a chart in a window.
+fn drawing_in(
+    alloc: Global,
+    setting: &Setting,
+    window: Window,
+    chart: &Chart,
+) -> Result<Picture, NoMemory>
+    requires { IsNarrow setting.now }
+    ensures drawn { IfOk result (λ picture.
+        picture ≡ drawing_in setting.now window chart.now) }
+    ensures one_row_each { IfOk result (λ picture.
+        RowEachMark picture.rows (marks_in window.steps chart.now.marks)) }
+{
+    let ties = ties_in(alloc, window.steps, chart.ties.as_slice())?;
+    let lines = lines_from(chart.lines.as_slice(), window.hidden);
+    let spots = spots_of(alloc, setting, window, chart.marks.as_slice())?;
+    let picture = picture_of(alloc, setting, window.rows, &ties, lines, &spots)?;
     Ok(picture)
 }
 
-/// The drawing of a chart in a setting: a row for each mark, in order, and nothing else in the rows.
-#[tactic(auto, unfolding(crate::specs::Drawing::drawn))]
-pub fn draw(alloc: Global, setting: &Setting, chart: &Chart) -> Result<Picture, DrawError>
-    ensures drawn { IfOk result (λ picture. drawn setting.now chart.now ≡ Ok picture) }
-    ensures refused { IfErr result (λ e. e ≢ OutOfMemory
-        → drawn setting.now chart.now ≡ Err e) }
-    ensures one_row_each { IfOk result (λ picture. RowEachMark picture.rows chart.now.marks) }
+/// The drawing of a chart of which few enough marks are seen, in a setting that is narrow enough.
+#[tactic(auto, unfolding(crate::specs::Drawing::drawing_of))]
+fn drawing_of(alloc: Global, setting: &Setting, chart: &Chart) -> Result<Picture, NoMemory>
+    requires narrow { IsNarrow setting.now }
+    requires few { length (seen_marks setting.now.view chart.now.marks) ≤ 6000 }
+    ensures drawn { IfOk result (λ picture. picture ≡ drawing_of setting.now chart.now) }
+    ensures one_row_each { IfOk result (λ picture.
+        RowEachMark picture.rows (seen_marks setting.now.view chart.now.marks)) }
 {
-    if chart.marks.len() > ROWS_MOST {
+    let window = window_of(steps_seen(setting.view.steps), chart.marks.as_slice());
+    drawing_in(alloc, setting, window, chart)
+}
+
+/// The drawing of a chart in a setting: a row for each mark that is seen, in order, and nothing else in
+/// the rows.
+#[tactic(auto, unfolding(crate::specs::Drawing::drawn))]
+pub fn draw(alloc: Global, setting: Setting, chart: &Chart) -> Result<Picture, DrawError>
+    ensures drawn { IfOk result (λ picture. drawn setting chart.now ≡ Ok picture) }
+    ensures refused { IfErr result (λ e. e ≢ OutOfMemory → drawn setting chart.now ≡ Err e) }
+    ensures one_row_each { IfOk result (λ picture.
+        RowEachMark picture.rows (seen_marks setting.view chart.now.marks)) }
+{
+    let marks = chart.marks.as_slice();
+    if count_in(steps_seen(setting.view.steps), marks) > MARKS_MOST {
         return Err(DrawError::TooLong);
     }
-    if !is_narrow(setting) {
+    let setting = setting_in(setting, marks);
+    if !is_narrow(&setting) {
         return Err(DrawError::TooWide);
     }
-    Ok(drawing_of(alloc, setting, chart)?)
+    Ok(drawing_of(alloc, &setting, chart)?)
 }

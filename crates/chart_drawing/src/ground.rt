@@ -5,13 +5,13 @@ ghost use Rattle.chart_drawing.specs.Layout.{IsNarrow, node_of};
 ghost use Rattle.chart_drawing.specs.Ground.{foot, title_at, ground, node_shapes, straight};
 ghost use Rattle.chart_drawing.specs.Ground.{name_if, rail_shapes, link_shapes, stripe_shapes};
 ghost use Rattle.chart_drawing.specs.Ground.{is_ended, first_of, last_of, end_of, life_shapes};
-ghost use Rattle.chart_drawing.specs.Ground.{name_room, actor_shapes};
+ghost use Rattle.chart_drawing.specs.Ground.{name_room, actor_shapes, is_bare};
 
 use crate::captions::cut;
 use crate::cells::{put_box, put_path, put_words, row_top};
 use crate::columns::node_of;
 use crate::layout::{
-    box_left, box_width, earlier_end, gap, lane_left, later_end, life_left, width_of,
+    actors_on, box_left, box_width, earlier_end, gap, lane_left, later_end, life_left, width_of,
 };
 use crate::rows::{put_bytes, put_number};
 use crate::setting::{DrawnActor, DrawnLink, DrawnNode, Setting};
@@ -72,6 +72,14 @@ fn kind_and_name(alloc: Global, kind: &[u8], name: &[u8]) -> Result<Vec<u8>, NoM
     Ok(words)
 }
 
+/// Whether no box is drawn for a node: in a window, where none of its actors is seen.
+fn is_bare(setting: &Setting, node: u32) -> bool
+    requires { IsNarrow setting.now }
+    ensures { result ≡ is_bare setting.now node }
+{
+    setting.view.steps.is_some() && actors_on(setting, node) == 0
+}
+
 /// The box of a node, and its name over it.
 fn put_node(
     out: &mut Vec<Shape>,
@@ -83,6 +91,9 @@ fn put_node(
     ensures { OnOk result (out.new.items
         ≡ out.old.items ++ node_shapes setting.now rows node.now) }
 {
+    if is_bare(setting, node.node.0) {
+        return Ok(());
+    }
     let left = box_left(setting, node.node.0);
     let width = box_width(setting, node.node.0);
     put_ground(out, Class::Node, left, width, rows)?;

@@ -5,7 +5,7 @@ ghost use Rattle.chart_drawing.specs.Layout.{IsNarrow, is_narrow, earlier_end, l
 ghost use Rattle.chart_drawing.specs.Layout.{is_right, gap, nodes_before, actors_before};
 ghost use Rattle.chart_drawing.specs.Layout.{actors_on, actors_left, links_before, links_to};
 ghost use Rattle.chart_drawing.specs.Layout.{links_left, node_left, lane_left, box_left, box_width};
-ghost use Rattle.chart_drawing.specs.Layout.{life_left, width_of};
+ghost use Rattle.chart_drawing.specs.Layout.{life_left, width_of, text_width};
 
 use crate::setting::{DrawnActor, DrawnLink, Setting};
 use linx_base::Side;
@@ -49,6 +49,15 @@ pub(crate) fn is_right(node: u32, link: &DrawnLink) -> bool
     ensures { result ≡ is_right node link.now }
 {
     node != earlier_end(link)
+}
+
+/// How much room the lines of the journal have at the left.
+pub(crate) fn text_width(setting: &Setting) -> u16
+    ensures width { result ≡ text_width setting.now }
+    ensures least { 60 ≤ result }
+    ensures most { result ≤ 364 }
+{
+    if setting.view.plain { 60 } else { 364 }
 }
 
 /// How far apart actors stand.
@@ -111,8 +120,9 @@ fn actors_before(setting: &Setting, node: u32) -> usize
         .count()
 }
 
+/// How many actors are on a node.
 #[tactic(auto, using(crate::proofs::Counts::filter_short))]
-fn actors_on(setting: &Setting, node: u32) -> usize
+pub(crate) fn actors_on(setting: &Setting, node: u32) -> usize
     requires { IsNarrow setting.now }
     ensures count { result ≡ actors_on setting.now node }
     ensures bound { result ≤ 64 }
@@ -184,7 +194,7 @@ fn node_left(setting: &Setting, node: u32) -> u16
     ensures left { result ≡ node_left setting.now node }
     ensures bound { result ≤ 23660 }
 {
-    let boxes = 364 + 34 * nodes_before(setting, node) as u16;
+    let boxes = text_width(setting) + 34 * nodes_before(setting, node) as u16;
     let columns = gaps(setting, actors_before(setting, node));
     let lanes = 162 * links_before(setting, node) as u16;
     boxes + columns + lanes
@@ -238,7 +248,7 @@ pub(crate) fn width_of(setting: &Setting) -> u16
     requires { IsNarrow setting.now }
     ensures { result ≡ width_of setting.now }
 {
-    let boxes = 374 + 34 * setting.nodes.len() as u16;
+    let boxes = text_width(setting) + 10 + 34 * setting.nodes.len() as u16;
     let columns = gaps(setting, setting.actors.len());
     let lanes = 162 * setting.links.len() as u16;
     boxes + columns + lanes

@@ -19,8 +19,11 @@ mod lane_marks;
 mod layout;
 mod life_marks;
 mod rows;
+mod seen;
 mod setting;
 mod spot;
+mod view;
 
 pub use drawing::{Chart, DrawError, draw};
 pub use setting::{DrawnActor, DrawnLink, DrawnNode, Setting};
+pub use view::{Steps, View};

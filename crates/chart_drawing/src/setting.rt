@@ -1,5 +1,6 @@
 //! What stands side by side in a drawing: nodes with their actors, and links.
 
+use crate::view::View;
 use linx_base::{Blob, LinkNo, NodeNo, Sequence};
 
 /// A node, with its name.
@@ -26,9 +27,11 @@ pub struct DrawnActor {
     pub name: Blob,
 }
 
-/// What a run is laid out on. Nodes stand in the order of their numbers, and so do a node's actors.
+/// What a run is laid out on, and what of it is seen. Nodes stand in the order of their numbers, and
+/// so do a node's actors.
 #[derive(Drop)]
 pub struct Setting {
+    pub view: View,
     pub nodes: Sequence<DrawnNode>,
     pub links: Sequence<DrawnLink>,
     pub actors: Sequence<DrawnActor>,

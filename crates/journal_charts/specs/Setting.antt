@@ -8,6 +8,7 @@ use Rattle.chart_drawing.specs.declared.setting.DrawnNode.{DrawnNode}
 use Rattle.chart_drawing.specs.declared.setting.DrawnLink.{DrawnLink}
 use Rattle.chart_drawing.specs.declared.setting.DrawnActor.{DrawnActor}
 use Rattle.chart_drawing.specs.declared.setting.Setting.{Setting}
+use Rattle.chart_drawing.specs.declared.view.View.{View}
 use Rattle.journal_charts.specs.Ends.{first_end, second_end, rightmost}
 use Rattle.journal_charts.specs.Actors.{actors_of}
 
@@ -47,9 +48,11 @@ nodes_with names actors =
     then nodes_from 1 names ++ record { node = record { 0 = rightmost }; name = codes "?" } ∷ []
     else nodes_from 1 names
 
--- WHAT A JOURNAL IS LAID OUT ON: the nodes and links of these names, and the actors of these steps
-abbrev pub setting_of : Names → List Step → Setting
-setting_of names S = record {
+-- WHAT A JOURNAL IS LAID OUT ON, for this view: the nodes and links of these names, and the actors of
+-- these steps
+abbrev pub setting_of : Names → List Step → View → Setting
+setting_of names S view = record {
+  view = view;
   nodes = nodes_with names.nodes (actors_of S);
   links = links_from S 1 names.links;
   actors = actors_of S;

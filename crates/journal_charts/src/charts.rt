@@ -6,7 +6,7 @@ ghost use Rattle.journal_charts.specs.Charts.{rows_chart, svg_of};
 use crate::rows::rows_in;
 use crate::setting::setting_of;
 use chart::{all_marks, all_ties};
-use chart_drawing::{Chart, DrawError, draw};
+use chart_drawing::{Chart, DrawError, View, draw};
 use journal::Journal;
 use linx_base::NoMemory;
 use std::alloc::Global;
@@ -23,15 +23,21 @@ fn rows_chart(alloc: Global, text: &[u8], journal: &Journal) -> Result<Chart, No
     })
 }
 
-/// The chart of a journal with this printed text, as the bytes of an SVG picture.
-pub fn chart_of(alloc: Global, text: &[u8], journal: &Journal) -> Result<Vec<u8>, DrawError>
+/// The chart of a journal with this printed text, or what of it is seen by a view, as the bytes of an
+/// SVG picture.
+pub fn chart_of(
+    alloc: Global,
+    text: &[u8],
+    journal: &Journal,
+    view: View,
+) -> Result<Vec<u8>, DrawError>
     ensures drawn { IfOk result (λ svg.
-        svg_of journal.now.log.names text.now journal.now.log.steps ≡ Ok svg.items) }
+        svg_of journal.now.log.names text.now journal.now.log.steps view ≡ Ok svg.items) }
     ensures refused { IfErr result (λ e. e ≢ OutOfMemory
-        → svg_of journal.now.log.names text.now journal.now.log.steps ≡ Err e) }
+        → svg_of journal.now.log.names text.now journal.now.log.steps view ≡ Err e) }
 {
-    let setting = setting_of(alloc, journal)?;
+    let setting = setting_of(alloc, journal, view)?;
     let chart = rows_chart(alloc, text, journal)?;
-    let picture = draw(alloc, &setting, &chart)?;
+    let picture = draw(alloc, setting, &chart)?;
     Ok(picture.text(alloc)?)
 }

@@ -6,7 +6,7 @@ ghost use Rattle.journal_charts.specs.Setting.{nodes_with, drawn_link, setting_o
 
 use crate::actors::actors_of;
 use crate::ends::{RIGHTMOST, first_end, second_end};
-use chart_drawing::{DrawnActor, DrawnLink, DrawnNode, Setting};
+use chart_drawing::{DrawnActor, DrawnLink, DrawnNode, Setting, View};
 use journal::Journal;
 use linx_base::{Blob, LinkNo, Name, NoMemory, NodeNo, Sequence};
 use std::alloc::Global;
@@ -85,14 +85,15 @@ fn nodes_with(
     Ok(nodes)
 }
 
-/// What a journal is laid out on.
-pub(crate) fn setting_of(alloc: Global, journal: &Journal) -> Result<Setting, NoMemory>
+/// What a journal is laid out on, for a view.
+pub(crate) fn setting_of(alloc: Global, journal: &Journal, view: View) -> Result<Setting, NoMemory>
     ensures { IfOk result (λ setting.
-        setting ≡ setting_of journal.now.log.names journal.now.log.steps) }
+        setting ≡ setting_of journal.now.log.names journal.now.log.steps view) }
 {
     let names = journal.names();
     let actors = actors_of(alloc, journal)?;
     Ok(Setting {
+        view,
         nodes: Sequence::of(nodes_with(alloc, names.nodes.as_slice(), &actors)?),
         links: Sequence::of(links_named(alloc, journal, names.links.as_slice())?),
         actors: Sequence::of(actors),

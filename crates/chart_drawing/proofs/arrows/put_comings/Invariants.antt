@@ -6,4 +6,4 @@ use Rattle.chart_drawing.proofs.arrows.put_comings.Given as goal
 abbrev pub invariant-loop-spot : goal.invariant-loop-spot
 invariant-loop-spot l =
     l.out.items
-    ≡ l.initial.out.items ++ comings l.spots (take l.spot-index l.spots)
+    ≡ l.initial.out.items ++ comings l.spots (take l.spot-index l.seen)

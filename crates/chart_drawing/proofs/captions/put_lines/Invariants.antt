@@ -6,4 +6,4 @@ use Rattle.chart_drawing.proofs.captions.put_lines.Given as goal
 abbrev pub invariant-loop-spot : goal.invariant-loop-spot
 invariant-loop-spot l =
     l.out.items
-    ≡ l.initial.out.items ++ flat_map (line_shapes l.lines) (take l.spot-index l.spots)
+    ≡ l.initial.out.items ++ flat_map (line_shapes l.plain l.lines) (take l.spot-index l.spots)

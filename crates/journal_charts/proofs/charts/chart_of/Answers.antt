@@ -6,7 +6,7 @@ use Rattle.journal_charts.proofs.charts.chart_of.Goals as goal
 pub returns-clause-drawn : goal.returns-clause-drawn
 returns-clause-drawn c =
     written c.in_ok-setting.setting
-    (setting_of c.args.journal.now.log.names c.args.journal.now.log.steps) c.in_ok-chart.chart
+    (setting_of c.args.journal.now.log.names c.args.journal.now.log.steps c.args.view) c.in_ok-chart.chart
     (rows_chart c.args.text.now c.args.journal.now.log.steps) c.in_ok-picture.picture
     c.in_ok-text.field-0.items c.in_ok-setting.ensures c.in_ok-chart.ensures
     c.in_ok-picture.ensures.drawn c.in_ok-text.ensures.spelled
@@ -17,6 +17,6 @@ returns-in_err-picture-clause-refused c =
     c.from_residual-in_err-picture.ensures.1
     (λ apart.
     not_written c.in_ok-setting.setting
-    (setting_of c.args.journal.now.log.names c.args.journal.now.log.steps) c.in_ok-chart.chart
+    (setting_of c.args.journal.now.log.names c.args.journal.now.log.steps c.args.view) c.in_ok-chart.chart
     (rows_chart c.args.text.now c.args.journal.now.log.steps) c.in_err-picture.field-0.0
     c.in_ok-setting.ensures c.in_ok-chart.ensures (c.in_err-picture.ensures.refused apart))

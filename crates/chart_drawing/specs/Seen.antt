@@ -1,0 +1,83 @@
+-- Which columns a window has: those in which one of its marks stands.
+use Rattle.std.specs.Prelude.{ℕ, ◌==◌, Bool, false, ◌&&◌, ◌||◌, List, filter, Option, Some, None}
+use Rattle.std.specs.List.{list_any}
+use Rattle.chart.specs.declared.column.Column.{Column}
+use Rattle.chart.specs.declared.column.Column.TheVariants.{Life, Lane, Rail}
+use Rattle.chart.specs.declared.mark.Mark.{Mark}
+use Rattle.chart.specs.declared.mark.MarkKind.{MarkKind}
+use Rattle.chart.specs.declared.mark.MarkKind.TheVariants.{Cut, Mend}
+use Rattle.chart_drawing.specs.declared.setting.DrawnNode.{DrawnNode}
+use Rattle.chart_drawing.specs.declared.setting.DrawnLink.{DrawnLink}
+use Rattle.chart_drawing.specs.declared.setting.DrawnActor.{DrawnActor}
+use Rattle.chart_drawing.specs.declared.setting.Setting.{Setting}
+use Rattle.chart_drawing.specs.declared.view.Steps.{Steps}
+use Rattle.chart_drawing.specs.Views.{is_in}
+
+-- a column is the line of this actor
+abbrev pub on_life : ℕ → Column → Bool
+on_life actor (Life number) = number == actor
+on_life actor _ = false
+
+-- a column is the lane of this link, or a rail of it
+abbrev pub on_link : ℕ → Column → Bool
+on_link link (Lane on side) = on.0 == link
+on_link link (Rail on node) = on.0 == link
+on_link link _ = false
+
+-- a mark cuts or mends this link
+abbrev pub does_to : ℕ → MarkKind → Bool
+does_to link (Cut on) = on.0 == link
+does_to link (Mend on) = on.0 == link
+does_to link _ = false
+
+-- a mark stands in the lane of this link or on a rail of it, or cuts or mends it
+abbrev pub is_of_link : ℕ → Mark → Bool
+is_of_link link m = on_link link m.column || does_to link m.kind
+
+-- a mark of these steps stands on this actor's line
+abbrev pub has_actor : Steps → List Mark → ℕ → Bool
+has_actor steps marks actor =
+    list_any (λ (m : Mark). is_in steps m.line && on_life actor m.column) marks
+
+-- a mark of these steps is of this link
+abbrev pub has_link : Steps → List Mark → ℕ → Bool
+has_link steps marks link =
+    list_any (λ (m : Mark). is_in steps m.line && is_of_link link m) marks
+
+-- an actor is on this node, or a link ends there
+abbrev pub has_node : List DrawnActor → List DrawnLink → ℕ → Bool
+has_node actors links node =
+    list_any (λ (a : DrawnActor). a.node.0 == node) actors
+    || list_any (λ (l : DrawnLink). l.first.0 == node || l.second.0 == node) links
+
+-- a mark stands in a column of this setting, or cuts or mends one of its links
+abbrev pub stands_in : Setting → Mark → Bool
+stands_in setting m =
+    list_any (λ (a : DrawnActor). on_life a.actor m.column) setting.actors
+    || list_any (λ (l : DrawnLink). is_of_link l.link.0 m) setting.links
+
+-- the actors of a window
+abbrev pub actors_in : Steps → List Mark → List DrawnActor → List DrawnActor
+actors_in steps marks actors =
+    filter (λ (a : DrawnActor). has_actor steps marks a.actor) actors
+
+-- the links of a window
+abbrev pub links_in : Steps → List Mark → List DrawnLink → List DrawnLink
+links_in steps marks links = filter (λ (l : DrawnLink). has_link steps marks l.link.0) links
+
+-- the nodes of these actors and links
+abbrev pub nodes_of : List DrawnActor → List DrawnLink → List DrawnNode → List DrawnNode
+nodes_of actors links nodes =
+    filter (λ (n : DrawnNode). has_node actors links n.node.0) nodes
+
+-- WHAT A WINDOW IS LAID OUT ON: the actors and links of its marks, and their nodes; all of the
+-- setting where there is no window
+abbrev pub setting_in : Option Steps → List Mark → Setting → Setting
+setting_in None marks setting = setting
+setting_in (Some steps) marks setting = record setting {
+  nodes =
+      nodes_of (actors_in steps marks setting.actors) (links_in steps marks setting.links)
+      setting.nodes;
+  links = links_in steps marks setting.links;
+  actors = actors_in steps marks setting.actors;
+}

@@ -1,0 +1,136 @@
+//! Which columns a window has: those in which one of its marks stands.
+ghost use Rattle.std.specs.Prelude.{◌≡◌};
+ghost use Rattle.chart_drawing.specs.Seen.{on_life, on_link, does_to, is_of_link, has_actor};
+ghost use Rattle.chart_drawing.specs.Seen.{has_link, has_node, stands_in, setting_in};
+ghost use Rattle.chart_drawing.specs.Seen.{actors_in, links_in, nodes_of};
+
+use crate::setting::{DrawnActor, DrawnLink, DrawnNode, Setting};
+use crate::view::{Steps, is_in};
+use chart::{Column, Mark, MarkKind};
+use linx_base::Sequence;
+
+/// Whether a column is the line of an actor.
+fn on_life(actor: u32, column: Column) -> bool
+    ensures { result ≡ on_life actor column }
+{
+    match column {
+        Column::Life(number) => number == actor,
+        _ => false,
+    }
+}
+
+/// Whether a column is the lane of a link, or a rail of it.
+fn on_link(link: u32, column: Column) -> bool
+    ensures { result ≡ on_link link column }
+{
+    match column {
+        Column::Lane(on, _) | Column::Rail(on, _) => on.0 == link,
+        _ => false,
+    }
+}
+
+/// Whether a mark cuts or mends a link.
+fn does_to(link: u32, kind: MarkKind) -> bool
+    ensures { result ≡ does_to link kind }
+{
+    match kind {
+        MarkKind::Cut(on) | MarkKind::Mend(on) => on.0 == link,
+        _ => false,
+    }
+}
+
+fn is_of_link(link: u32, mark: &Mark) -> bool
+    ensures { result ≡ is_of_link link mark.now }
+{
+    on_link(link, mark.column) || does_to(link, mark.kind)
+}
+
+/// Whether one of the marks of these steps stands on an actor's line.
+fn has_actor(steps: Steps, marks: &[Mark], actor: u32) -> bool
+    ensures { result ≡ has_actor steps marks.now actor }
+{
+    marks
+        .iter()
+        .any(|m| is_in(steps, m.line) && on_life(actor, m.column))
+}
+
+/// Whether one of them is of a link.
+fn has_link(steps: Steps, marks: &[Mark], link: u32) -> bool
+    ensures { result ≡ has_link steps marks.now link }
+{
+    marks
+        .iter()
+        .any(|m| is_in(steps, m.line) && is_of_link(link, m))
+}
+
+/// Whether one of the actors is on a node, or one of the links ends there.
+fn has_node(actors: &[DrawnActor], links: &[DrawnLink], node: u32) -> bool
+    ensures { result ≡ has_node actors.now links.now node }
+{
+    actors.iter().any(|a| a.node.0 == node)
+        || links
+            .iter()
+            .any(|l| l.first.0 == node || l.second.0 == node)
+}
+
+/// Whether a mark stands in a column of the setting, or cuts or mends one of its links.
+pub(crate) fn stands_in(setting: &Setting, mark: &Mark) -> bool
+    ensures { result ≡ stands_in setting.now mark.now }
+{
+    let actors = setting.actors.as_slice();
+    let links = setting.links.as_slice();
+    actors.iter().any(|a| on_life(a.actor, mark.column))
+        || links.iter().any(|l| is_of_link(l.link.0, mark))
+}
+
+fn actors_in(actors: Sequence<DrawnActor>, steps: Steps, marks: &[Mark]) -> Sequence<DrawnActor>
+    ensures { result ≡ actors_in steps marks.now actors }
+{
+    let mut kept = actors.into_vec();
+    kept.retain(|a| has_actor(steps, marks, a.actor));
+    Sequence::of(kept)
+}
+
+fn links_in(links: Sequence<DrawnLink>, steps: Steps, marks: &[Mark]) -> Sequence<DrawnLink>
+    ensures { result ≡ links_in steps marks.now links }
+{
+    let mut kept = links.into_vec();
+    kept.retain(|l| has_link(steps, marks, l.link.0));
+    Sequence::of(kept)
+}
+
+fn nodes_of(
+    nodes: Sequence<DrawnNode>,
+    actors: &[DrawnActor],
+    links: &[DrawnLink],
+) -> Sequence<DrawnNode>
+    ensures { result ≡ nodes_of actors.now links.now nodes }
+{
+    let mut kept = nodes.into_vec();
+    kept.retain(|n| has_node(actors, links, n.node.0));
+    Sequence::of(kept)
+}
+
+/// The columns of a setting in which marks of the window stand; all where there is no window.
+pub(crate) fn setting_in(setting: Setting, marks: &[Mark]) -> Setting
+    ensures { result ≡ setting_in setting.view.steps marks.now setting }
+{
+    let Some(steps) = setting.view.steps else {
+        return setting;
+    };
+    let Setting {
+        view,
+        nodes,
+        links,
+        actors,
+    } = setting;
+    let actors = actors_in(actors, steps, marks);
+    let links = links_in(links, steps, marks);
+    let nodes = nodes_of(nodes, actors.as_slice(), links.as_slice());
+    Setting {
+        view,
+        nodes,
+        links,
+        actors,
+    }
+}
