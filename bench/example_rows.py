@@ -1,9 +1,9 @@
 #!/usr/bin/env python3
-"""Writes crates/whole_cases/src/example_rows.rt, which tests the examples against their texts.
+"""Writes crates/worked_cases/src/example_rows.rt, which tests the examples against their texts.
 
 Run it after each change of an example, whose text is that of bench/model:
 
-    bench/try example_rows > crates/whole_cases/src/example_rows.rt
+    bench/try example_rows > crates/worked_cases/src/example_rows.rt
 """
 import pathlib
 import sys
@@ -13,7 +13,7 @@ HEAD = """\
 //! The scripts of `examples/` with the texts that stand beside them, in the fixed order.
 //! `bench/example_rows.py` writes this file.
 
-use crate::runs::text_under;
+use crate::runs::text_by_rounds;
 use crate::texts::compare;
 use std::test::Fail;
 
@@ -22,7 +22,7 @@ TEST = """
 #[test]
 fn each_example_prints_the_text_beside_it(rt: HostRuntime) -> Result<(), Fail> {
     for (script, wanted) in EXAMPLES {
-        let text = text_under(&rt, rt.alloc(), "serial", script)?;
+        let text = text_by_rounds(rt.alloc(), script)?;
         compare(text.as_str(), wanted)?;
     }
     Ok(())

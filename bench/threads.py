@@ -2,7 +2,7 @@
 """Runs the built program with a thread for each actor and each link: each worked script many times,
 and random scripts once each.
 
-The worked scripts are those of `examples/` and those that stand in whole_cases and thread_cases.
+The worked scripts are those of `examples/` and those that stand in worked_cases, whole_cases and thread_cases.
 The makers of the steps in a run's journal are the order in which they took their turns. In this
 order bench/model takes the same turns: all must be over behind the last of them, and its text
 must be the run's, byte by byte. A run may say that its journal is full only where the model's is in
@@ -30,7 +30,7 @@ LITERAL = re.compile(r'"(node (?:[^"\\]|\\.)*)"', re.DOTALL)
 def worked_scripts():
     """The good scripts of the examples and of the tests, each once."""
     scripts = {file.read_text(): file.stem for file in sorted((TOP / "examples").glob("*.linx"))}
-    for crate in "whole_cases", "thread_cases":
+    for crate in "worked_cases", "whole_cases", "thread_cases":
         for file in sorted((TOP / "crates" / crate / "src").glob("*.rt")):
             for literal in LITERAL.findall(file.read_text()):
                 script = re.sub(r"\\\n\s*", "", literal).replace("\\n", "\n")

@@ -1,8 +1,7 @@
 //! Runs of which one read or one write fails, each in its turn.
 
-use crate::endpoints::PENDING_HUNT;
 use crate::requests::{log_of_client, log_of_server, script_of_requests};
-use crate::runs::{Ended, end_of, roomy_sink, source_of};
+use crate::runs::{Ended, Worked, end_of, prints, roomy_sink, source_of};
 use crate::signals::SELF_SEND;
 use crate::texts::unindented;
 use command_words::TurnOrder;
@@ -101,6 +100,52 @@ fn a_write_that_fails_leaves_a_front_of_the_text(rt: HostRuntime) -> Result<(), 
     assert_eq!(rt; status, Status::WriteFault);
     assert!(rt; sink.held() == b"log 1.1 a ".as_slice());
     Ok(())
+}
+
+/// A hunt that waits, whose text is longer than many writes.
+const PENDING_HUNT: Worked = Worked {
+    script: "node n
+        actor p n
+          open a
+          hunt b
+          recv 251
+        end
+        actor q n
+          open c
+          close
+          open b
+        end",
+    text: "log 1.1 a n
+        hunt b 251 -
+        found 1.3 251 -
+        took 1.3 251 -
+        closed
+        log 1.2 c n
+        closed
+        log 1.3 b n
+        closed
+        journal 9
+        1 A1 open a
+        + opened 1.1
+        2 A2 open c
+        + opened 1.2
+        3 A1 hunt b 251 -
+        4 A2 close
+        + closed 1.2
+        5 A1 waits only:251
+        6 A2 open b
+        + opened 1.3
+        + found 1.1 1.3 251 - @3
+        7 A1 take only:251 6.2
+        8 A2 ended
+        + closed 1.3
+        9 A1 ended
+        + closed 1.1",
+};
+
+#[test]
+fn a_hunt_waits_for_an_endpoint_of_the_name(rt: HostRuntime) -> Result<(), Fail> {
+    prints(&rt, rt.alloc(), PENDING_HUNT)
 }
 
 /// Whether a run whose text goes 64 bytes a write, and whose write of this number fails, writes

@@ -12,10 +12,6 @@ mod command_line;
 #[cfg(test)]
 mod echoes;
 #[cfg(test)]
-mod endpoints;
-#[cfg(test)]
-mod example_rows;
-#[cfg(test)]
 mod failing_streams;
 #[cfg(test)]
 mod kept_gateways;
@@ -24,21 +20,13 @@ mod limits;
 #[cfg(test)]
 mod link_facts;
 #[cfg(test)]
-mod link_peers;
-#[cfg(test)]
 mod listed_turns;
-#[cfg(test)]
-mod lost_links;
 #[cfg(test)]
 mod program_ends;
 #[cfg(test)]
 mod replays;
 #[cfg(test)]
 mod requests;
-#[cfg(test)]
-mod restarted_links;
-#[cfg(test)]
-mod restarts;
 #[cfg(test)]
 mod ring;
 #[cfg(test)]
@@ -49,8 +37,6 @@ mod searches;
 mod seeds;
 #[cfg(test)]
 mod settle_facts;
-#[cfg(test)]
-mod settled_links;
 #[cfg(test)]
 mod signals;
 #[cfg(test)]

@@ -70,7 +70,7 @@ const SETTLED_BEFORE_THE_RECEIVE: Worked = Worked {
 /// tick, and then finds the answer of its hunt.
 #[test]
 fn what_a_settle_brings_is_taken_at_once(rt: HostRuntime) -> Result<(), Fail> {
-    prints(&rt, rt.alloc(), SETTLED_BEFORE_THE_RECEIVE)
+    prints(rt.alloc(), SETTLED_BEFORE_THE_RECEIVE)
 }
 
 const SETTLED_FROM_A_THIRD_NODE: Worked = Worked {
@@ -129,7 +129,7 @@ const SETTLED_FROM_A_THIRD_NODE: Worked = Worked {
 /// no step.
 #[test]
 fn each_link_that_connects_is_settled_in_one_tick(rt: HostRuntime) -> Result<(), Fail> {
-    prints(&rt, rt.alloc(), SETTLED_FROM_A_THIRD_NODE)
+    prints(rt.alloc(), SETTLED_FROM_A_THIRD_NODE)
 }
 
 const SETTLED_WHILE_CUT: Worked = Worked {
@@ -207,7 +207,7 @@ const SETTLED_WHILE_CUT: Worked = Worked {
 /// The settle is one step. Behind the mending no plan loses anything.
 #[test]
 fn a_cut_link_is_not_settled_but_its_plans_end(rt: HostRuntime) -> Result<(), Fail> {
-    prints(&rt, rt.alloc(), SETTLED_WHILE_CUT)
+    prints(rt.alloc(), SETTLED_WHILE_CUT)
 }
 
 const SETTLED_WITH_ONE_END_UP: Worked = Worked {
@@ -296,7 +296,7 @@ const SETTLED_WITH_ONE_END_UP: Worked = Worked {
 fn a_link_is_settled_whose_one_end_is_up_with_a_session_that_connects(
     rt: HostRuntime,
 ) -> Result<(), Fail> {
-    prints(&rt, rt.alloc(), SETTLED_WITH_ONE_END_UP)
+    prints(rt.alloc(), SETTLED_WITH_ONE_END_UP)
 }
 
 const SETTLED_BEHIND_A_RESTART: Worked = Worked {
@@ -410,7 +410,7 @@ const SETTLED_BEHIND_A_RESTART: Worked = Worked {
 fn a_link_is_settled_whose_one_end_is_up_with_an_ended_session(
     rt: HostRuntime,
 ) -> Result<(), Fail> {
-    prints(&rt, rt.alloc(), SETTLED_BEHIND_A_RESTART)
+    prints(rt.alloc(), SETTLED_BEHIND_A_RESTART)
 }
 
 const LOST_WHILE_SETTLED: Worked = Worked {
@@ -550,5 +550,5 @@ const LOST_WHILE_SETTLED: Worked = Worked {
 fn a_session_that_is_lost_while_its_link_is_settled_is_followed_by_another(
     rt: HostRuntime,
 ) -> Result<(), Fail> {
-    prints(&rt, rt.alloc(), LOST_WHILE_SETTLED)
+    prints(rt.alloc(), LOST_WHILE_SETTLED)
 }

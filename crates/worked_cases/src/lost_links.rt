@@ -80,7 +80,7 @@ const CUT_AND_MENDED_IN_A_ROUND: Worked = Worked {
 fn a_link_that_is_mended_in_the_round_of_its_cut_loses_nothing(
     rt: HostRuntime,
 ) -> Result<(), Fail> {
-    prints(&rt, rt.alloc(), CUT_AND_MENDED_IN_A_ROUND)
+    prints(rt.alloc(), CUT_AND_MENDED_IN_A_ROUND)
 }
 
 const CUT_FOR_A_ROUND: Worked = Worked {
@@ -191,7 +191,7 @@ const CUT_FOR_A_ROUND: Worked = Worked {
 fn a_link_that_is_cut_for_one_round_loses_a_packet_and_no_signal(
     rt: HostRuntime,
 ) -> Result<(), Fail> {
-    prints(&rt, rt.alloc(), CUT_FOR_A_ROUND)
+    prints(rt.alloc(), CUT_FOR_A_ROUND)
 }
 
 const LOST_BY_ITS_PLAN: Worked = Worked {
@@ -340,7 +340,7 @@ const LOST_BY_ITS_PLAN: Worked = Worked {
 fn a_link_whose_plan_loses_all_of_one_direction_is_lost_at_both_sides(
     rt: HostRuntime,
 ) -> Result<(), Fail> {
-    prints(&rt, rt.alloc(), LOST_BY_ITS_PLAN)
+    prints(rt.alloc(), LOST_BY_ITS_PLAN)
 }
 
 const HUNTED_AGAIN: Worked = Worked {
@@ -569,5 +569,5 @@ const HUNTED_AGAIN: Worked = Worked {
 /// an endpoint of the name opens.
 #[test]
 fn a_pending_hunt_is_asked_for_again_after_each_reconnection(rt: HostRuntime) -> Result<(), Fail> {
-    prints(&rt, rt.alloc(), HUNTED_AGAIN)
+    prints(rt.alloc(), HUNTED_AGAIN)
 }

@@ -111,7 +111,7 @@ const RESTARTED: Worked = Worked {
 fn a_node_that_another_ones_actor_restarts_loses_its_endpoints_and_nobody_is_told(
     rt: HostRuntime,
 ) -> Result<(), Fail> {
-    prints(&rt, rt.alloc(), RESTARTED)
+    prints(rt.alloc(), RESTARTED)
 }
 
 const RESTARTS_ITSELF: Worked = Worked {
@@ -195,7 +195,7 @@ const RESTARTS_ITSELF: Worked = Worked {
 fn a_node_that_one_of_its_own_actors_restarts_closes_all_and_ends_their_waits(
     rt: HostRuntime,
 ) -> Result<(), Fail> {
-    prints(&rt, rt.alloc(), RESTARTS_ITSELF)
+    prints(rt.alloc(), RESTARTS_ITSELF)
 }
 
 const CLOSE_EACH_OTHER: Worked = Worked {
@@ -246,5 +246,5 @@ const CLOSE_EACH_OTHER: Worked = Worked {
 /// A receive that waits, and whose endpoint somebody else closes, is refused in its next turn.
 #[test]
 fn two_actors_of_one_node_close_each_others_waits(rt: HostRuntime) -> Result<(), Fail> {
-    prints(&rt, rt.alloc(), CLOSE_EACH_OTHER)
+    prints(rt.alloc(), CLOSE_EACH_OTHER)
 }

@@ -150,7 +150,7 @@ const RESTARTED_AT_BOTH_ENDS: Worked = Worked {
 /// attaches of before are gone, and the sessions of the next boot connect new endpoints.
 #[test]
 fn a_link_whose_ends_are_both_restarted_connects_again(rt: HostRuntime) -> Result<(), Fail> {
-    prints(&rt, rt.alloc(), RESTARTED_AT_BOTH_ENDS)
+    prints(rt.alloc(), RESTARTED_AT_BOTH_ENDS)
 }
 
 const RESTARTED_IN_ONE_ROUND: Worked = Worked {
@@ -282,5 +282,5 @@ const RESTARTED_IN_ONE_ROUND: Worked = Worked {
 fn a_link_whose_ends_are_restarted_in_one_round_connects_again(
     rt: HostRuntime,
 ) -> Result<(), Fail> {
-    prints(&rt, rt.alloc(), RESTARTED_IN_ONE_ROUND)
+    prints(rt.alloc(), RESTARTED_IN_ONE_ROUND)
 }

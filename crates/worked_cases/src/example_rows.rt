@@ -1,7 +1,7 @@
 //! The scripts of `examples/` with the texts that stand beside them, in the fixed order.
 //! `bench/example_rows.py` writes this file.
 
-use crate::runs::text_under;
+use crate::runs::text_by_rounds;
 use crate::texts::compare;
 use std::test::Fail;
 
@@ -622,7 +622,7 @@ const EXAMPLES: [(&str, &str); 15] = [
 #[test]
 fn each_example_prints_the_text_beside_it(rt: HostRuntime) -> Result<(), Fail> {
     for (script, wanted) in EXAMPLES {
-        let text = text_under(&rt, rt.alloc(), "serial", script)?;
+        let text = text_by_rounds(rt.alloc(), script)?;
         compare(text.as_str(), wanted)?;
     }
     Ok(())

@@ -180,7 +180,7 @@ const TWO_LINKS: Worked = Worked {
 /// close the other one. The second link is declared from the other node.
 #[test]
 fn two_links_between_two_nodes_are_told_apart(rt: HostRuntime) -> Result<(), Fail> {
-    prints(&rt, rt.alloc(), TWO_LINKS)
+    prints(rt.alloc(), TWO_LINKS)
 }
 
 const A_CHAIN: Worked = Worked {
@@ -365,7 +365,7 @@ const A_CHAIN: Worked = Worked {
 
 #[test]
 fn an_actor_between_two_links_forwards_what_it_takes(rt: HostRuntime) -> Result<(), Fail> {
-    prints(&rt, rt.alloc(), A_CHAIN)
+    prints(rt.alloc(), A_CHAIN)
 }
 
 const A_WINDOW_OF_ONE: Worked = Worked {
@@ -466,7 +466,7 @@ const A_WINDOW_OF_ONE: Worked = Worked {
 /// went out.
 #[test]
 fn a_window_of_one_frame_sends_them_one_by_one(rt: HostRuntime) -> Result<(), Fail> {
-    prints(&rt, rt.alloc(), A_WINDOW_OF_ONE)
+    prints(rt.alloc(), A_WINDOW_OF_ONE)
 }
 
 const ENDS: Worked = Worked {
@@ -664,5 +664,5 @@ const ENDS: Worked = Worked {
 /// back. Then the same peer is dead, another one is lost with its link, and is dead behind that.
 #[test]
 fn an_attach_over_a_link_is_told_closed_lost_and_dead(rt: HostRuntime) -> Result<(), Fail> {
-    prints(&rt, rt.alloc(), ENDS)
+    prints(rt.alloc(), ENDS)
 }

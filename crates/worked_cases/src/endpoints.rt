@@ -3,51 +3,6 @@
 use crate::runs::{Worked, prints};
 use std::test::Fail;
 
-pub const PENDING_HUNT: Worked = Worked {
-    script: "node n
-        actor p n
-          open a
-          hunt b
-          recv 251
-        end
-        actor q n
-          open c
-          close
-          open b
-        end",
-    text: "log 1.1 a n
-        hunt b 251 -
-        found 1.3 251 -
-        took 1.3 251 -
-        closed
-        log 1.2 c n
-        closed
-        log 1.3 b n
-        closed
-        journal 9
-        1 A1 open a
-        + opened 1.1
-        2 A2 open c
-        + opened 1.2
-        3 A1 hunt b 251 -
-        4 A2 close
-        + closed 1.2
-        5 A1 waits only:251
-        6 A2 open b
-        + opened 1.3
-        + found 1.1 1.3 251 - @3
-        7 A1 take only:251 6.2
-        8 A2 ended
-        + closed 1.3
-        9 A1 ended
-        + closed 1.1",
-};
-
-#[test]
-fn a_hunt_waits_for_an_endpoint_of_the_name(rt: HostRuntime) -> Result<(), Fail> {
-    prints(&rt, rt.alloc(), PENDING_HUNT)
-}
-
 const FIRST_OPEN: Worked = Worked {
     script: "node n
         actor p n
@@ -98,7 +53,7 @@ const FIRST_OPEN: Worked = Worked {
 fn a_hunt_finds_the_first_opened_endpoint_that_is_open_and_a_receive_ends_at_rest(
     rt: HostRuntime,
 ) -> Result<(), Fail> {
-    prints(&rt, rt.alloc(), FIRST_OPEN)
+    prints(rt.alloc(), FIRST_OPEN)
 }
 
 const ATTACHES: Worked = Worked {
@@ -168,7 +123,7 @@ const ATTACHES: Worked = Worked {
 
 #[test]
 fn attaches_are_notified_once_with_their_reason(rt: HostRuntime) -> Result<(), Fail> {
-    prints(&rt, rt.alloc(), ATTACHES)
+    prints(rt.alloc(), ATTACHES)
 }
 
 const DETACHES: Worked = Worked {
@@ -244,7 +199,7 @@ const DETACHES: Worked = Worked {
 
 #[test]
 fn a_detach_takes_a_queued_notification_back_once(rt: HostRuntime) -> Result<(), Fail> {
-    prints(&rt, rt.alloc(), DETACHES)
+    prints(rt.alloc(), DETACHES)
 }
 
 const TWO_ATTACHED: Worked = Worked {
@@ -348,5 +303,5 @@ const TWO_ATTACHED: Worked = Worked {
 fn all_that_are_attached_are_notified_in_the_order_of_attaching(
     rt: HostRuntime,
 ) -> Result<(), Fail> {
-    prints(&rt, rt.alloc(), TWO_ATTACHED)
+    prints(rt.alloc(), TWO_ATTACHED)
 }
