@@ -38,7 +38,7 @@ fn one(alloc: Global, effect: Effect) -> Result<Vec<Effect>, Fail> {
 }
 
 /// A server and a client of one node: the client asks, and attaches.
-fn two_on_a_node(alloc: Global) -> Result<Journal, Fail> {
+pub(crate) fn two_on_a_node(alloc: Global) -> Result<Journal, Fail> {
     let mut journal = empty_journal(alloc)?;
     let server = inc_of("1.1")?;
     let client = inc_of("1.2")?;

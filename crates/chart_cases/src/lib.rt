@@ -1,4 +1,4 @@
-//! Cases of charts and pictures. They stand apart from `chart` and `svg_text`, so that those are
+//! Cases of charts, views and pictures. They stand apart from the layers below, so that those are
 //! proved once.
 #![tactic(auto)]
 
@@ -6,3 +6,5 @@
 mod charts;
 #[cfg(test)]
 mod pictures;
+#[cfg(test)]
+mod windows;

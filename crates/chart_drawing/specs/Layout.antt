@@ -1,6 +1,6 @@
 -- Where things stand from left to right: a box for each node with a column for each of its actors,
 -- and a lane for each link, before the box of the later one of its nodes. All measures are whole.
-use Rattle.std.specs.Prelude.{ℕ, ◌+◌, ◌*◌, ◌==◌, ◌≤◌, nat_lt, nat_le, min, max, Bool, false, not}
+use Rattle.std.specs.Prelude.{ℕ, ◌+◌, ◌-◌, ◌*◌, ◌==◌, ◌≤◌, nat_lt, nat_le, min, max, Bool, false, not}
 use Rattle.std.specs.Prelude.{◌&&◌, if◌then◌else◌, length, filter, find, Option, Some, None}
 use Rattle.linx_base.specs.declared.identity.Side.{Side}
 use Rattle.linx_base.specs.declared.identity.Side.TheVariants.{First, Second}

@@ -44,17 +44,29 @@ abbrev pub has_link : Steps → List Mark → ℕ → Bool
 has_link steps marks link =
     list_any (λ (m : Mark). is_in steps m.line && is_of_link link m) marks
 
+-- one of the actors is on this node
+abbrev pub is_on_node : List DrawnActor → ℕ → Bool
+is_on_node actors node = list_any (λ (a : DrawnActor). a.node.0 == node) actors
+
+-- one of the links ends at this node
+abbrev pub ends_at : List DrawnLink → ℕ → Bool
+ends_at links node = list_any (λ (l : DrawnLink). l.first.0 == node || l.second.0 == node) links
+
 -- an actor is on this node, or a link ends there
 abbrev pub has_node : List DrawnActor → List DrawnLink → ℕ → Bool
-has_node actors links node =
-    list_any (λ (a : DrawnActor). a.node.0 == node) actors
-    || list_any (λ (l : DrawnLink). l.first.0 == node || l.second.0 == node) links
+has_node actors links node = is_on_node actors node || ends_at links node
+
+-- a column is the line of one of the actors
+abbrev pub is_on_line : List DrawnActor → Column → Bool
+is_on_line actors column = list_any (λ (a : DrawnActor). on_life a.actor column) actors
+
+-- a mark is of one of the links
+abbrev pub is_of_one : List DrawnLink → Mark → Bool
+is_of_one links m = list_any (λ (l : DrawnLink). is_of_link l.link.0 m) links
 
 -- a mark stands in a column of this setting, or cuts or mends one of its links
 abbrev pub stands_in : Setting → Mark → Bool
-stands_in setting m =
-    list_any (λ (a : DrawnActor). on_life a.actor m.column) setting.actors
-    || list_any (λ (l : DrawnLink). is_of_link l.link.0 m) setting.links
+stands_in setting m = is_on_line setting.actors m.column || is_of_one setting.links m
 
 -- the actors of a window
 abbrev pub actors_in : Steps → List Mark → List DrawnActor → List DrawnActor

@@ -2,7 +2,9 @@
 //! All places are whole numbers that follow from the rows and from what stands side by side: a box
 //! for each node with a line for each of its actors, and a lane for each link before the later of its
 //! nodes. Each mark is drawn once, at the place of its line; each tie joins the places of its two
-//! lines; and nothing else stands in the rows.
+//! lines; and nothing else stands in the rows. A view leaves out the lines of the journal, or all but a
+//! window of some steps: that has a row for each of their marks, the columns in which these stand, and
+//! the ties that reach into it.
 #![tactic(auto)]
 
 mod arrows;

@@ -1,7 +1,8 @@
 //! Which columns a window has: those in which one of its marks stands.
 ghost use Rattle.std.specs.Prelude.{◌≡◌};
 ghost use Rattle.chart_drawing.specs.Seen.{on_life, on_link, does_to, is_of_link, has_actor};
-ghost use Rattle.chart_drawing.specs.Seen.{has_link, has_node, stands_in, setting_in};
+ghost use Rattle.chart_drawing.specs.Seen.{has_link, is_on_node, ends_at, is_on_line};
+ghost use Rattle.chart_drawing.specs.Seen.{is_of_one, stands_in, setting_in, has_node};
 ghost use Rattle.chart_drawing.specs.Seen.{actors_in, links_in, nodes_of};
 
 use crate::setting::{DrawnActor, DrawnLink, DrawnNode, Setting};
@@ -63,24 +64,44 @@ fn has_link(steps: Steps, marks: &[Mark], link: u32) -> bool
         .any(|m| is_in(steps, m.line) && is_of_link(link, m))
 }
 
+fn is_on_node(actors: &[DrawnActor], node: u32) -> bool
+    ensures { result ≡ is_on_node actors.now node }
+{
+    actors.iter().any(|a| a.node.0 == node)
+}
+
+fn ends_at(links: &[DrawnLink], node: u32) -> bool
+    ensures { result ≡ ends_at links.now node }
+{
+    links
+        .iter()
+        .any(|l| l.first.0 == node || l.second.0 == node)
+}
+
 /// Whether one of the actors is on a node, or one of the links ends there.
 fn has_node(actors: &[DrawnActor], links: &[DrawnLink], node: u32) -> bool
     ensures { result ≡ has_node actors.now links.now node }
 {
-    actors.iter().any(|a| a.node.0 == node)
-        || links
-            .iter()
-            .any(|l| l.first.0 == node || l.second.0 == node)
+    is_on_node(actors, node) || ends_at(links, node)
+}
+
+fn is_on_line(actors: &[DrawnActor], column: Column) -> bool
+    ensures { result ≡ is_on_line actors.now column }
+{
+    actors.iter().any(|a| on_life(a.actor, column))
+}
+
+fn is_of_one(links: &[DrawnLink], mark: &Mark) -> bool
+    ensures { result ≡ is_of_one links.now mark.now }
+{
+    links.iter().any(|l| is_of_link(l.link.0, mark))
 }
 
 /// Whether a mark stands in a column of the setting, or cuts or mends one of its links.
 pub(crate) fn stands_in(setting: &Setting, mark: &Mark) -> bool
     ensures { result ≡ stands_in setting.now mark.now }
 {
-    let actors = setting.actors.as_slice();
-    let links = setting.links.as_slice();
-    actors.iter().any(|a| on_life(a.actor, mark.column))
-        || links.iter().any(|l| is_of_link(l.link.0, mark))
+    is_on_line(setting.actors.as_slice(), mark.column) || is_of_one(setting.links.as_slice(), mark)
 }
 
 fn actors_in(actors: Sequence<DrawnActor>, steps: Steps, marks: &[Mark]) -> Sequence<DrawnActor>
