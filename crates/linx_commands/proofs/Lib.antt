@@ -6,4 +6,4 @@ mod Decided
 mod Headline
 mod Searching
 mod Working
-mod Keeping
+mod Kept

@@ -17,7 +17,7 @@ use report::{ReportError, write_report};
 use std::alloc::Global;
 
 /// Writes the text of a journal into a file that was made.
-#[tactic(auto, using(crate::proofs::Keeping::kept_front, crate::proofs::Keeping::kept_unfinished, crate::proofs::Keeping::kept_whole))]
+#[tactic(auto, using(crate::proofs::Kept::kept_front, crate::proofs::Kept::kept_unfinished, crate::proofs::Kept::kept_whole))]
 fn keep<N: NewFile>(alloc: Global, journal: &Journal, file: &mut N) -> Result<(), ReportError>
     ensures { IsKept N.held N.faults N.last_count file.old file.new result
         (text_of journal.now.log) }
