@@ -6,3 +6,4 @@ mod Decided
 mod Headline
 mod Searching
 mod Working
+mod Kept

@@ -12,18 +12,23 @@ use crate::serving::unstarted;
 use crate::session::gateway;
 use journal::Journal;
 use linx_files::NewFile;
-use linx_outside::{Sink, Source};
+use linx_outside::{Sink, Source, WriteFault};
 use report::{ReportError, write_report};
 use std::alloc::Global;
 
 /// Writes the text of a journal into a file that was made.
+#[tactic(auto, using(crate::proofs::Kept::kept_front, crate::proofs::Kept::kept_unfinished, crate::proofs::Kept::kept_whole))]
 fn keep<N: NewFile>(alloc: Global, journal: &Journal, file: &mut N) -> Result<(), ReportError>
     ensures { IsKept N.held N.faults N.last_count file.old file.new result
         (text_of journal.now.log) }
 {
-    write_report(alloc, journal, file)?;
-    file.finish()?;
-    Ok(())
+    match write_report(alloc, journal, file) {
+        Ok(()) => match file.finish() {
+            Ok(()) => Ok(()),
+            Err(WriteFault) => Err(ReportError::WriteFault),
+        },
+        Err(error) => Err(error),
+    }
 }
 
 /// The status of a session that ended with this one, and whose journal was kept, or wasn't.
