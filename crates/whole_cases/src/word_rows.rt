@@ -109,8 +109,8 @@ writes everything that happened.
       play a printed run again, and tell whether it is the same
   check [FILE]
       tell whether a printed run is legal
-  chart [FILE]
-      draw a printed run as a picture
+  chart [page] [plain] [steps A B] [FILE]
+      draw a printed run as a picture, or as a page with one
   gen N
       play the generated script of a number, and write its summary
   stream
@@ -215,6 +215,8 @@ const USAGE_OF_FIND: &str = "linx_sim: usage: linx_sim find A B [in FILE] [not] 
 const REPORT: &str =
     "runs 9\nsteps 5 5\noutcomes 1\noutcome 1 9 seed 1\nrefused 0\nnone 0\ndead 0\n\
     closed 0\nlost 0\ndown 0\n";
+
+const USAGE_OF_CHART: &str = "linx_sim: usage: linx_sim chart [page] [plain] [steps A B] [FILE]\n";
 
 const USAGE_OF_SEEDS: &str = "linx_sim: usage: linx_sim seeds A B [FILE]\n";
 
@@ -334,6 +336,37 @@ const SOURCES: &[Row] = &[
         text: Text::Empty,
         line: "linx_sim: text line 1: no line of a printed text\n",
         ..INPUT
+    },
+    Row {
+        words: &["chart", "page", "plain", "steps", "1", "2", "s.linx"],
+        file: Content::NoScript,
+        number: 8,
+        text: Text::Empty,
+        line: "linx_sim: text line 1: no line of a printed text\n",
+        ..FILE
+    },
+    Row {
+        words: &["chart", "steps", "4", "4", "-"],
+        input: Content::NoScript,
+        number: 8,
+        text: Text::Empty,
+        line: "linx_sim: text line 1: no line of a printed text\n",
+        ..INPUT
+    },
+    Row {
+        words: &["chart", "steps", "4", "3"],
+        line: USAGE_OF_CHART,
+        ..MISUSED
+    },
+    Row {
+        words: &["chart", "steps", "4"],
+        line: USAGE_OF_CHART,
+        ..MISUSED
+    },
+    Row {
+        words: &["chart", "plain", "page", "s.linx"],
+        line: USAGE_OF_CHART,
+        ..MISUSED
     },
     Row {
         words: &["gen", "7"],
