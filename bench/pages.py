@@ -20,7 +20,7 @@ sys.dont_write_bytecode = True
 import arguments
 import charts
 import judge
-from drawn import SECONDS, rows_of, texts
+from drawn import SECONDS, texts
 
 ROWS_MOST = 600
 SOUGHT = "take"
@@ -106,7 +106,7 @@ def main():
     program = arguments.found_program(parser, given)
     right, faults = 0, []
     for name, text in texts(program, given.count):
-        if rows_of(text) > ROWS_MOST:
+        if text[text.index(b"journal "):].count(b"\n") > ROWS_MOST:
             continue
         fault = wrong(program, text)
         right += fault is None
