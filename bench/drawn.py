@@ -25,7 +25,7 @@ TOP = BENCH.parent
 PICTURES = TOP / "docs/use/pictures"
 ROWS_MOST = 6000
 SECONDS = 60
-TOO_LARGE = b"linx_sim: chart of more than 6000 rows: draw some by steps A B\n"
+TOO_LARGE = b"linx_sim: more than 6000 rows: draw steps A B\n"
 
 
 def journal_of(text):

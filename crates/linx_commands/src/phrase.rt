@@ -129,7 +129,7 @@ impl Phrase {
             Phrase::NoTextLine => ": no line of a printed text",
             Phrase::TooMuchNoted => ": more signals than a journal holds",
             Phrase::TextTooLong => "text longer than 268435456 bytes",
-            Phrase::TooManyRows => "chart of more than 6000 rows: draw some by steps A B",
+            Phrase::TooManyRows => "more than 6000 rows: draw steps A B",
             Phrase::TooManyLanes => "more than 64 nodes, links or actors",
             Phrase::NoTextBehind => "no line `text` behind the script",
             Phrase::AnotherLine => ": the run has another line here",
