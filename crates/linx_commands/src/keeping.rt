@@ -58,14 +58,16 @@ fn kept_gateway<S: Source, K: Sink, N: NewFile>(
         N.faults N.last_count N.at_first file.old file.new result.status result.journal.log }
     ensures legal { IsLegalSomehow result.journal.log.steps }
 {
-    if let Err(why) = file.make(name) {
-        return unstarted(alloc, Status::Unmade(why));
-    }
-    let Outcome { status, journal } = gateway(alloc, clients, source, out);
-    let kept = keep(alloc, &journal, file);
-    Outcome {
-        status: status_of_kept(status, kept),
-        journal,
+    match file.make(name) {
+        Ok(()) => {
+            let Outcome { status, journal } = gateway(alloc, clients, source, out);
+            let kept = keep(alloc, &journal, file);
+            Outcome {
+                status: status_of_kept(status, kept),
+                journal,
+            }
+        }
+        Err(why) => unstarted(alloc, Status::Unmade(why)),
     }
 }
 

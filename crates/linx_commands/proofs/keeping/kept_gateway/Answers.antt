@@ -12,15 +12,14 @@ returns-in-Err-clause-served g c =
       unmade = c.in-Err.ensures.untouched;
     })
 
-pub returns-clause-served : goal.returns-clause-served
-returns-clause-served g c =
-    let made = c.make.ensures in
+pub returns-in-Ok-clause-served : goal.returns-in-Ok-clause-served
+returns-in-Ok-clause-served g c =
     inr (record {
-      made = c.make.new.file;
-      begun = made.made;
-      unfaulted = made.counts_nothing;
-      ended = c.gateway.result.status;
-      served = c.gateway.ensures.session;
+      made = c.make.new.self;
+      begun = c.in-Ok.ensures.made;
+      unfaulted = c.in-Ok.ensures.counts_nothing;
+      ended = c.gateway-status.result.status;
+      served = c.gateway-status.ensures.session;
       kept = c.keep-kept.result;
       written = c.keep-kept.ensures;
       told = c.status_of_kept.ensures;
