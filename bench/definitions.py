@@ -45,7 +45,7 @@ LAYERS = [
     ("A text read back", "text_words text_names journal_words reading_laws journal_read text_alone"
                          " text_logs log_laws image_laws journal_told printed_laws texts_again"
                          " text_replay text_check"),
-    ("A chart", "svg_text chart chart_drawing journal_charts"),
+    ("A chart", "svg_text chart chart_drawing journal_charts chart_page"),
     ("A byte stream", "request_stream tcpcm_frames tcpcm_framing tcpcm_end stream_echo"),
     ("Timers, and a gateway",
      "deadlines linx_timers timer_laws gateway_msgs gateway_core gateway_session"),
