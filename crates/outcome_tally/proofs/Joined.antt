@@ -66,7 +66,14 @@ noted_later t later false seed = refl
 
 same_rares : (t u : RareTimes) → t.refused ≡ u.refused → t.found_none ≡ u.found_none
     → t.dead ≡ u.dead → t.closed ≡ u.closed → t.lost ≡ u.lost → t.down ≡ u.down → t ≡ u
-same_rares t u refused found_none dead closed lost down = cc
+same_rares t u refused found_none dead closed lost down = λ i. record {
+  refused = refused i;
+  found_none = found_none i;
+  dead = dead i;
+  closed = closed i;
+  lost = lost i;
+  down = down i;
+}
 
 rares_later : (t later : RareTimes) (rares : Rares) (seed : ℕ)
     → with_rares (and_rares t later) rares seed ≡ and_rares t (with_rares later rares seed)
@@ -154,7 +161,6 @@ outcome_later [] o seed =
     cond-true (bytes_eq o.text o.text) (again o seed ∷ []) (o ∷ with_outcome [] o.text seed)
     (alike o.text)
 outcome_later (p ∷ rest) o seed =
-    let here : Bool = bytes_eq o.text p.text in
     let more = λ (is : bytes_eq o.text p.text ≡ true).
     cond-true (bytes_eq o.text p.text) (again (again_later p o.times) seed ∷ rest)
     (again_later p o.times ∷ with_outcome rest o.text seed) is
@@ -165,7 +171,7 @@ outcome_later (p ∷ rest) o seed =
     ∙ ap (in_front p) (outcome_later rest o seed) in
     chosen
     (λ (l : List OutcomeParts). with_outcome l o.text seed
-    ≡ with_later (p ∷ rest) (again o seed)) here
+    ≡ with_later (p ∷ rest) (again o seed)) (bytes_eq o.text p.text)
     (again_later p o.times ∷ rest) (p ∷ with_later rest o)
     (λ is. more is ∙ sym (cond-true (bytes_eq o.text p.text)
     (again_later p (once_more o.times seed) ∷ rest) (p ∷ with_later rest (again o seed)) is))
@@ -177,7 +183,6 @@ fresh_later : (came : List OutcomeParts) (text : List ℕ) (seed : ℕ)
     → with_outcome came text seed ≡ with_later came (outcome text (once_more never seed))
 fresh_later [] text seed = refl
 fresh_later (p ∷ rest) text seed =
-    let first : Times = once_more never seed in
     let once : once_more p.times seed ≡ and_later p.times (once_more never seed) =
     ap (λ (t : Times). once_more t seed) (sym (never_later p.times))
     ∙ once_later p.times never seed in
@@ -332,8 +337,8 @@ outcomes_later : (later came : List OutcomeParts) (text : List ℕ) (seed : ℕ)
     → with_outcome (with_all came later) text seed ≡ with_all came (with_outcome later text seed)
 outcomes_later [] came text seed first = fresh_later came text seed
 outcomes_later (o ∷ later) came text seed first =
-    let all : List OutcomeParts = with_all (with_later came o) later in
-    let noted : with_outcome all o.text seed ≡ with_all (with_later came (again o seed)) later =
+    let noted : with_outcome (with_all (with_later came o) later) o.text seed
+    ≡ with_all (with_later came (again o seed)) later =
     behind_all later (with_later came o) o.text seed
     (later_come came o (All-head HasFirst o later first))
     ∙ ap (λ (l : List OutcomeParts). with_all l later) (outcome_later came o seed) in
@@ -362,7 +367,8 @@ first_with (o ∷ rest) text seed first =
 
 same_tallies : (t u : TallyParts) → t.runs ≡ u.runs → t.full ≡ u.full → t.steps ≡ u.steps
     → t.came ≡ u.came → t.rares ≡ u.rares → t ≡ u
-same_tallies t u runs full steps came rares = cc
+same_tallies t u runs full steps came rares =
+    λ i. record { runs = runs i; full = full i; steps = steps i; came = came i; rares = rares i }
 
 first_came : (t : TallyParts) (seed : ℕ) (seen : Option SeenParts) → All HasFirst t.came
     → All HasFirst (with_came t seed seen).came

@@ -1,7 +1,10 @@
 -- That there is room for each count of outcomes which are joined, where there is for what comes of it.
-use Rattle.std.proofs.Common.{◌<◌, ◌+◌, ◌^◌, ℕ, Bool, true, false, cond, List, [], ◌∷◌, All, arith}
+use Rattle.std.proofs.Common.{◌≡◌, ◌∙◌, ◌<◌, ◌+◌, ◌^◌, ℕ, Bool, true, false, cond, List, [], ◌∷◌, All}
+use Rattle.std.proofs.Common.{ap, arith, subst, sym}
 use Rattle.std.proofs.lemmas.List.Elements.{All-cons, All-head, All-nil, All-tail}
+use Rattle.std.specs.Global.{Vec}
 use Rattle.std.specs.Str.{bytes_eq}
+use Rattle.outcome_tally.specs.Entries.{outcomes_in}
 use Rattle.outcome_tally.specs.Few.{AllFew}
 use Rattle.outcome_tally.specs.OutcomeParts.{OutcomeParts}
 use Rattle.outcome_tally.specs.Outcomes.{again_later, times_of, with_all, with_later}
@@ -47,9 +50,17 @@ both_few (p ∷ rest) o few =
     both_by (bytes_eq o.text p.text) p o rest (with_later rest o) (times_of rest o.text)
     (both_few rest o) few
 
--- there is room for the next one of the later outcomes
-pub next_few : (came : List OutcomeParts) (o : OutcomeParts) (later : List OutcomeParts)
+next_few : (came : List OutcomeParts) (o : OutcomeParts) (later : List OutcomeParts)
     → AllFew (with_all came (o ∷ later))
     → (times_of came o.text).runs + o.times.runs < 2 ^ 63
-next_few came o later few =
-    both_few came o (few_before_all later (with_later came o) few)
+next_few came o later few = both_few came o (few_before_all later (with_later came o) few)
+
+-- there is room for the next one of the later outcomes
+pub room_for_next : (all came : List OutcomeParts) (entries next : List (Vec ℕ × Times))
+    (text : Vec ℕ) (times : Times) → AllFew all → with_all came (outcomes_in entries) ≡ all
+    → entries ≡ (text, times) ∷ next
+    → (times_of came text.items).runs + times.runs < 2 ^ 63
+room_for_next all came entries next text times few is first =
+    next_few came (record { text = text.items; times = times }) (outcomes_in next)
+    (subst AllFew
+    (sym is ∙ ap (λ (l : List (Vec ℕ × Times)). with_all came (outcomes_in l)) first) few)

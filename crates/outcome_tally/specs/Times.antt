@@ -1,5 +1,6 @@
 -- HOW OFTEN SOMETHING CAME.
-use Rattle.std.specs.Prelude.{ℕ, ◌+◌, Bool, None, Some, option_or, unwrap_or, if◌then◌else◌}
+use Rattle.std.specs.Prelude.{ℕ, ◌+◌, Bool, None, Some, unwrap_or, if◌then◌else◌}
+use Rattle.std.specs.Option.{option_or}
 use Rattle.outcome_tally.specs.declared.times.Times.{Times}
 
 -- nothing came, in no run

@@ -18,13 +18,15 @@ fn both(
     requires { HaveRoom front behind }
     ensures { IsOfBoth front behind result }
 {
-    match (front, behind) {
-        (Ok(mut tally), Ok(later)) => match tally.add_all(later) {
-            Ok(()) => Ok(tally),
-            Err(NoMemory) => Err(ScriptError::NoMemory),
+    match front {
+        Ok(mut tally) => match behind {
+            Ok(later) => match tally.add_all(later) {
+                Ok(()) => Ok(tally),
+                Err(NoMemory) => Err(ScriptError::NoMemory),
+            },
+            Err(error) => Err(error),
         },
-        (Ok(_), Err(error)) => Err(error),
-        (Err(error), _) => Err(error),
+        Err(error) => Err(error),
     }
 }
 
