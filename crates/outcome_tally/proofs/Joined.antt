@@ -24,12 +24,12 @@ use Rattle.outcome_tally.specs.declared.times.Times.{Times}
 
 -- ---- how often something came
 
-abbrev times : ℕ → Option ℕ → Times
-times runs first = record { runs = runs; first = first }
+abbrev so_often : ℕ → Option ℕ → Times
+so_often runs first = record { runs = runs; first = first }
 
-same_times : (n m : ℕ) (f g : Option ℕ) → n ≡ m → f ≡ g → times n f ≡ times m g
+same_times : (n m : ℕ) (f g : Option ℕ) → n ≡ m → f ≡ g → so_often n f ≡ so_often m g
 same_times n m f g same also =
-    ap (λ (r : ℕ). times r f) same ∙ ap (λ (o : Option ℕ). times m o) also
+    ap (λ (r : ℕ). so_often r f) same ∙ ap (λ (o : Option ℕ). so_often m o) also
 
 same_first : (f g : Option ℕ) (seed : ℕ)
     → Some (unwrap_or (option_or f g) seed) ≡ option_or f (Some (unwrap_or g seed))
@@ -144,7 +144,7 @@ chosen P true one two first second = first refl
 chosen P false one two first second = second refl
 
 abbrev outcome : List ℕ → Times → OutcomeParts
-outcome text times = record { text = text; times = times }
+outcome text often = record { text = text; times = often }
 
 abbrev in_front : OutcomeParts → List OutcomeParts → List OutcomeParts
 in_front o rest = o ∷ rest
@@ -155,28 +155,38 @@ alike : (text : List ℕ) → bytes_eq text text ≡ true
 alike text = (bytes_eq-Decides text text).1 refl
 
 -- noted behind a later one of the same text, or with it
+module _ (p : OutcomeParts) (rest : List OutcomeParts) (o : OutcomeParts) (seed : ℕ) where
+  again_here : bytes_eq o.text p.text ≡ true
+      → with_outcome (again_later p o.times ∷ rest) o.text seed
+      ≡ with_later (p ∷ rest) (again o seed)
+  again_here is =
+      cond-true (bytes_eq o.text p.text) (again (again_later p o.times) seed ∷ rest)
+      (again_later p o.times ∷ with_outcome rest o.text seed) is
+      ∙ ap (λ (t : Times). outcome p.text t ∷ rest) (once_later p.times o.times seed)
+      ∙ sym (cond-true (bytes_eq o.text p.text)
+      (again_later p (once_more o.times seed) ∷ rest) (p ∷ with_later rest (again o seed)) is)
+
+  again_behind : bytes_eq o.text p.text ≡ false
+      → with_outcome (with_later rest o) o.text seed ≡ with_later rest (again o seed)
+      → with_outcome (p ∷ with_later rest o) o.text seed ≡ with_later (p ∷ rest) (again o seed)
+  again_behind is same =
+      cond-false (bytes_eq o.text p.text) (again p seed ∷ with_later rest o)
+      (p ∷ with_outcome (with_later rest o) o.text seed) is
+      ∙ ap (in_front p) same
+      ∙ sym (cond-false (bytes_eq o.text p.text)
+      (again_later p (once_more o.times seed) ∷ rest) (p ∷ with_later rest (again o seed)) is)
+
 outcome_later : (came : List OutcomeParts) (o : OutcomeParts) (seed : ℕ)
     → with_outcome (with_later came o) o.text seed ≡ with_later came (again o seed)
 outcome_later [] o seed =
     cond-true (bytes_eq o.text o.text) (again o seed ∷ []) (o ∷ with_outcome [] o.text seed)
     (alike o.text)
 outcome_later (p ∷ rest) o seed =
-    let more = λ (is : bytes_eq o.text p.text ≡ true).
-    cond-true (bytes_eq o.text p.text) (again (again_later p o.times) seed ∷ rest)
-    (again_later p o.times ∷ with_outcome rest o.text seed) is
-    ∙ ap (λ (t : Times). outcome p.text t ∷ rest) (once_later p.times o.times seed) in
-    let behind = λ (is : bytes_eq o.text p.text ≡ false).
-    cond-false (bytes_eq o.text p.text) (again p seed ∷ with_later rest o)
-    (p ∷ with_outcome (with_later rest o) o.text seed) is
-    ∙ ap (in_front p) (outcome_later rest o seed) in
     chosen
     (λ (l : List OutcomeParts). with_outcome l o.text seed
-    ≡ with_later (p ∷ rest) (again o seed)) (bytes_eq o.text p.text)
-    (again_later p o.times ∷ rest) (p ∷ with_later rest o)
-    (λ is. more is ∙ sym (cond-true (bytes_eq o.text p.text)
-    (again_later p (once_more o.times seed) ∷ rest) (p ∷ with_later rest (again o seed)) is))
-    (λ is. behind is ∙ sym (cond-false (bytes_eq o.text p.text)
-    (again_later p (once_more o.times seed) ∷ rest) (p ∷ with_later rest (again o seed)) is))
+    ≡ with_later (p ∷ rest) (again o seed))
+    (bytes_eq o.text p.text) (again_later p o.times ∷ rest) (p ∷ with_later rest o)
+    (again_here p rest o seed) (λ is. again_behind p rest o seed is (outcome_later rest o seed))
 
 -- noted alone
 fresh_later : (came : List OutcomeParts) (text : List ℕ) (seed : ℕ)
@@ -209,13 +219,13 @@ later_of_both None g is = is
 later_of_both (Some s) g is = refl
 
 -- it still has, with later ones
-still_by : (b : Bool) (t later : Times) (rest after : Times)
+still_by : (b : Bool) (t rest after : Times)
     → (is_some rest.first ≡ true → is_some after.first ≡ true)
     → is_some (cond b t rest).first ≡ true → is_some (cond b t after).first ≡ true
-still_by true t later rest after keeps is = is
-still_by false t later rest after keeps is = keeps is
+still_by true t rest after keeps is = is
+still_by false t rest after keeps is = keeps is
 
-more_by : (b : Bool) (t later : Times) (rest : Times) → is_some (cond b t rest).first ≡ true
+more_by : (b : Bool) (t later rest : Times) → is_some (cond b t rest).first ≡ true
     → is_some (cond b (and_later t later) rest).first ≡ true
 more_by true t later rest is = first_of_both t.first later.first is
 more_by false t later rest is = is
@@ -227,7 +237,7 @@ still_come (p ∷ rest) o text is =
     chosen (λ (l : List OutcomeParts). HasCome l text) (bytes_eq o.text p.text)
     (again_later p o.times ∷ rest) (p ∷ with_later rest o)
     (λ b. more_by (bytes_eq text p.text) p.times o.times (times_of rest text) is)
-    (λ b. still_by (bytes_eq text p.text) p.times o.times (times_of rest text)
+    (λ b. still_by (bytes_eq text p.text) p.times (times_of rest text)
     (times_of (with_later rest o) text) (still_come rest o text) is)
 
 -- it has, where it came later
@@ -337,7 +347,7 @@ outcomes_later : (later came : List OutcomeParts) (text : List ℕ) (seed : ℕ)
     → with_outcome (with_all came later) text seed ≡ with_all came (with_outcome later text seed)
 outcomes_later [] came text seed first = fresh_later came text seed
 outcomes_later (o ∷ later) came text seed first =
-    let noted : with_outcome (with_all (with_later came o) later) o.text seed
+    let same : with_outcome (with_all (with_later came o) later) o.text seed
     ≡ with_all (with_later came (again o seed)) later =
     behind_all later (with_later came o) o.text seed
     (later_come came o (All-head HasFirst o later first))
@@ -349,7 +359,7 @@ outcomes_later (o ∷ later) came text seed first =
     (λ is. subst
     (λ (t : List ℕ). with_outcome (with_all (with_later came o) later) t seed
     ≡ with_all (with_later came (again o seed)) later)
-    (sym ((bytes_eq-Decides text o.text).0 is)) noted)
+    (sym ((bytes_eq-Decides text o.text).0 is)) same)
     (λ is. outcomes_later later (with_later came o) text seed (All-tail HasFirst o later first))
 
 first_with : (came : List OutcomeParts) (text : List ℕ) (seed : ℕ) → All HasFirst came
