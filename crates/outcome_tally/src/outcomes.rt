@@ -90,7 +90,6 @@ impl Outcomes {
     }
 
     /// Notes the outcomes of later runs.
-    #[tactic(auto, using(crate::proofs::Room::room_for_next))]
     pub(crate) fn note_all(&mut self, later: Outcomes) -> Result<(), NoMemory>
         requires { AllFew (with_all self.old later) }
         ensures { OnOk result (self.new ≡ with_all self.old later) }

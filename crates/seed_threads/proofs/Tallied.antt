@@ -2,11 +2,9 @@
 use Rattle.std.proofs.Common.{◌≡◌, ◌+◌, ◌-◌, ◌<◌, ◌^◌, ℕ, List, Result, Ok, Err, arith, subst, sym}
 use Rattle.order_lines.specs.Faults.{IsBadOf}
 use Rattle.order_lines.specs.Fronts.{ordered_of}
-use Rattle.outcome_tally.specs.Few.{IsFew}
 use Rattle.outcome_tally.specs.Tallies.{joined}
 use Rattle.outcome_tally.specs.TallyParts.{TallyParts}
 use Rattle.script_lang.specs.declared.script_error.ScriptError.{ScriptError}
-use Rattle.script_lang.specs.declared.script_error.ScriptError.TheVariants.{NoMemory}
 use Rattle.seed_report.specs.Reports.{IsTallied}
 use Rattle.seed_report.proofs.Tallies.{both_tallied, few_tallied}
 use Rattle.seed_threads.specs.Tallies.{HaveRoom, IsOfBoth, Tallies}

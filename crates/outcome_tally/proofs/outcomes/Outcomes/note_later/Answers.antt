@@ -1,4 +1,4 @@
-use Rattle.std.proofs.Common.{◌≡◌, ◌∙◌, ◌+◌, ◌<◌, ◌^◌, ℕ, List, ap, subst, sym}
+use Rattle.std.proofs.Common.{◌∙◌, ◌+◌, ◌<◌, ◌^◌, ℕ, List, ap, subst, sym}
 use Rattle.outcome_tally.specs.OutcomeParts.{OutcomeParts}
 use Rattle.outcome_tally.specs.Outcomes.{times_of, with_later}
 use Rattle.outcome_tally.specs.Times.{and_later}
