@@ -21,128 +21,148 @@ fn note(alloc: Global, number: u32) -> Result<SigNote, Fail> {
     Ok(Signal::alloc(alloc, number, b"")?.note()?)
 }
 
-fn add(journal: &mut Journal, by: By, head: Head, effects: Vec<Effect>) -> Result<(), Fail> {
-    journal.reserve(1)?;
-    journal.push(Step {
-        by,
-        head,
-        effects: Effects::of(effects),
-    });
-    Ok(())
-}
-
 fn one(alloc: Global, effect: Effect) -> Result<Vec<Effect>, Fail> {
     let mut effects = Vec::new(alloc);
     effects.push(effect)?;
     Ok(effects)
 }
 
-/// A server and a client of one node: the client asks, and attaches.
+fn step(by: By, head: Head, effects: Vec<Effect>) -> Step {
+    Step {
+        by,
+        head,
+        effects: Effects::of(effects),
+    }
+}
+
+/// An actor opens an endpoint of this name and this incarnation.
+fn opening(alloc: Global, actor: u32, name: &str, inc: &str) -> Result<Step, Fail> {
+    let head = Head::Open(name_of(alloc, name)?);
+    let effects = one(alloc, Effect::Opened(inc_of(inc)?))?;
+    Ok(step(By::Actor(actor), head, effects))
+}
+
+/// The client asks the server.
+fn asking(alloc: Global) -> Result<Step, Fail> {
+    let head = Head::Send(peer_of("1.1")?, note(alloc, 5)?, SentTo::Queued);
+    let asked = Effect::Arrived(inc_of("1.1")?, peer_of("1.2")?, note(alloc, 5)?);
+    Ok(step(By::Actor(1), head, one(alloc, asked)?))
+}
+
+/// The server takes what came by the third step.
+fn taking(alloc: Global) -> Result<Step, Fail> {
+    let at = ItemAt { step: 3, place: 1 };
+    let head = Head::Take(filter_of(alloc, "any")?, at);
+    Ok(step(By::Actor(2), head, Vec::new(alloc)))
+}
+
+/// The client attaches to the server.
+fn attaching(alloc: Global) -> Result<Step, Fail> {
+    let head = Head::Attach(peer_of("1.1")?, note(alloc, 6)?);
+    Ok(step(By::Actor(1), head, Vec::new(alloc)))
+}
+
+/// The server closes, which the client is told of for its fifth step.
+fn closing(alloc: Global) -> Result<Step, Fail> {
+    let (client, server, why) = (inc_of("1.2")?, peer_of("1.1")?, Reason::Closed);
+    let told = Effect::Notified(client, server, note(alloc, 6)?, AttRef(5), why);
+    let mut effects = one(alloc, Effect::Closed(inc_of("1.1")?))?;
+    effects.push(told)?;
+    Ok(step(By::Actor(2), Head::Close, effects))
+}
+
+/// The client detaches what it attached in its fifth step.
+fn detaching(alloc: Global) -> Step {
+    let head = Head::Detach(AttRef(5), Detached::Queued);
+    step(By::Actor(1), head, Vec::new(alloc))
+}
+
+/// The client sends to the server, which is closed.
+fn sending_in_vain(alloc: Global) -> Result<Step, Fail> {
+    let head = Head::Send(peer_of("1.1")?, note(alloc, 5)?, SentTo::Dead);
+    Ok(step(By::Actor(1), head, Vec::new(alloc)))
+}
+
+/// A step of a server and a client of one node, by its number.
+fn step_on_a_node(alloc: Global, number: u32) -> Result<Step, Fail> {
+    match number {
+        1 => opening(alloc, 2, "server", "1.1"),
+        2 => opening(alloc, 1, "client", "1.2"),
+        3 => asking(alloc),
+        4 => taking(alloc),
+        5 => attaching(alloc),
+        6 => closing(alloc),
+        7 => Ok(detaching(alloc)),
+        _ => sending_in_vain(alloc),
+    }
+}
+
+fn add(journal: &mut Journal, step: Step) -> Result<(), Fail> {
+    journal.reserve(1)?;
+    journal.push(step);
+    Ok(())
+}
+
+/// A server and a client of one node: the client asks, and attaches. Each step is made by a function
+/// of its own: to prove one that makes them all takes minutes.
 pub(crate) fn two_on_a_node(alloc: Global) -> Result<Journal, Fail> {
     let mut journal = empty_journal(alloc)?;
-    let server = inc_of("1.1")?;
-    let client = inc_of("1.2")?;
-    let to_server = peer_of("1.1")?;
-    let from_client = peer_of("1.2")?;
-    let j = &mut journal;
-    add(
-        j,
-        By::Actor(2),
-        Head::Open(name_of(alloc, "server")?),
-        one(alloc, Effect::Opened(server))?,
-    )?;
-    add(
-        j,
-        By::Actor(1),
-        Head::Open(name_of(alloc, "client")?),
-        one(alloc, Effect::Opened(client))?,
-    )?;
-    let asked = Effect::Arrived(server, from_client, note(alloc, 5)?);
-    add(
-        j,
-        By::Actor(1),
-        Head::Send(to_server, note(alloc, 5)?, SentTo::Queued),
-        one(alloc, asked)?,
-    )?;
-    let at = ItemAt { step: 3, place: 1 };
-    add(
-        j,
-        By::Actor(2),
-        Head::Take(filter_of(alloc, "any")?, at),
-        Vec::new(alloc),
-    )?;
-    add(
-        j,
-        By::Actor(1),
-        Head::Attach(to_server, note(alloc, 6)?),
-        Vec::new(alloc),
-    )?;
-    let told = Effect::Notified(
-        client,
-        to_server,
-        note(alloc, 6)?,
-        AttRef(5),
-        Reason::Closed,
-    );
-    let mut closing = one(alloc, Effect::Closed(server))?;
-    closing.push(told)?;
-    add(j, By::Actor(2), Head::Close, closing)?;
-    add(
-        j,
-        By::Actor(1),
-        Head::Detach(AttRef(5), Detached::Queued),
-        Vec::new(alloc),
-    )?;
-    add(
-        j,
-        By::Actor(1),
-        Head::Send(to_server, note(alloc, 5)?, SentTo::Dead),
-        Vec::new(alloc),
-    )?;
+    for number in 1..9u32 {
+        add(&mut journal, step_on_a_node(alloc, number)?)?;
+    }
     Ok(journal)
+}
+
+/// The client hunts for a server over the link.
+fn hunting(alloc: Global) -> Result<Step, Fail> {
+    let head = Head::Hunt(path_of(alloc, "1/server")?, note(alloc, 7)?);
+    Ok(step(By::Actor(1), head, Vec::new(alloc)))
+}
+
+/// The second side of the link is ticked.
+fn ticking(alloc: Global) -> Step {
+    let head = Head::Tick(LinkNo(1), Side::Second);
+    step(By::Pump(LinkNo(1)), head, Vec::new(alloc))
+}
+
+/// What the packet brings: a session, a peer, and the answer of the hunt.
+fn brought(alloc: Global) -> Result<Vec<Effect>, Fail> {
+    let (session, server) = (session_of("1.1")?, peer_of("1:1.1:2.1")?);
+    let mut brought = one(alloc, Effect::Up(NodeNo(1), LinkNo(1), session, session))?;
+    brought.push(Effect::Met(NodeNo(1), server, name_of(alloc, "server")?))?;
+    brought.push(Effect::Found(inc_of("1.1")?, server, note(alloc, 7)?, 2))?;
+    Ok(brought)
+}
+
+/// A packet from the second side comes.
+fn coming(alloc: Global) -> Result<Step, Fail> {
+    let head = Head::Wire(LinkNo(1), Side::Second, Verdict::Swap(1));
+    Ok(step(By::Pump(LinkNo(1)), head, brought(alloc)?))
+}
+
+/// The client ends, and an endpoint that nobody opened closes.
+fn ending(alloc: Global) -> Result<Step, Fail> {
+    let effects = one(alloc, Effect::Closed(inc_of("1.9")?))?;
+    Ok(step(By::Actor(1), Head::Ended, effects))
+}
+
+/// A step of a client of a server over a link, by its number.
+fn step_over_a_link(alloc: Global, number: u32) -> Result<Step, Fail> {
+    match number {
+        1 => opening(alloc, 1, "client", "1.1"),
+        2 => hunting(alloc),
+        3 => Ok(ticking(alloc)),
+        4 => coming(alloc),
+        _ => ending(alloc),
+    }
 }
 
 /// A packet that brings a session and a peer, and a hunt that it answers.
 fn one_over_a_link(alloc: Global) -> Result<Journal, Fail> {
     let mut journal = empty_journal(alloc)?;
-    let client = inc_of("1.1")?;
-    let server = peer_of("1:1.1:2.1")?;
-    let link = LinkNo(1);
-    let j = &mut journal;
-    add(
-        j,
-        By::Actor(1),
-        Head::Open(name_of(alloc, "client")?),
-        one(alloc, Effect::Opened(client))?,
-    )?;
-    add(
-        j,
-        By::Actor(1),
-        Head::Hunt(path_of(alloc, "1/server")?, note(alloc, 7)?),
-        Vec::new(alloc),
-    )?;
-    add(
-        j,
-        By::Pump(link),
-        Head::Tick(link, Side::Second),
-        Vec::new(alloc),
-    )?;
-    let session = session_of("1.1")?;
-    let mut brought = one(alloc, Effect::Up(NodeNo(1), link, session, session))?;
-    brought.push(Effect::Met(NodeNo(1), server, name_of(alloc, "server")?))?;
-    brought.push(Effect::Found(client, server, note(alloc, 7)?, 2))?;
-    add(
-        j,
-        By::Pump(link),
-        Head::Wire(link, Side::Second, Verdict::Swap(1)),
-        brought,
-    )?;
-    add(
-        j,
-        By::Actor(1),
-        Head::Ended,
-        one(alloc, Effect::Closed(inc_of("1.9")?))?,
-    )?;
+    for number in 1..6u32 {
+        add(&mut journal, step_over_a_link(alloc, number)?)?;
+    }
     Ok(journal)
 }
 
