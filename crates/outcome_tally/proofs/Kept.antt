@@ -9,9 +9,10 @@ use Rattle.indexmap.specs.IndexMap.{insert_entry}
 use Rattle.outcome_tally.specs.Entries.{outcome_in, outcomes_in}
 use Rattle.outcome_tally.specs.Few.{AllFew}
 use Rattle.outcome_tally.specs.OutcomeParts.{OutcomeParts}
-use Rattle.outcome_tally.specs.Outcomes.{again, times_of, with_outcome}
-use Rattle.outcome_tally.specs.Times.{never, once_more}
+use Rattle.outcome_tally.specs.Outcomes.{again, again_later, times_of, with_later, with_outcome}
+use Rattle.outcome_tally.specs.Times.{and_later, never, once_more}
 use Rattle.outcome_tally.specs.declared.times.Times.{Times}
+use Rattle.outcome_tally.proofs.Joined.{later_alone}
 
 -- the keys of entries are alike where their bytes are
 abbrev alike : Vec ℕ → Vec ℕ → Bool
@@ -77,3 +78,37 @@ pub with_kept : (entries after : List (Vec ℕ × Times)) (text : Vec ℕ) (seed
 with_kept entries after text seed times is came =
     ap outcomes_in (is ∙ ap (λ (t : Times). insert_entry alike entries text t) came)
     ∙ kept entries text seed
+
+-- ---- as often as in later runs
+
+later_by : (b : Bool) (e : Vec ℕ × Times) (rest : List (Vec ℕ × Times)) (later then : Times)
+    (put : Times → List (Vec ℕ × Times)) (with : List OutcomeParts)
+    → outcomes_in (put (and_later then later)) ≡ with
+    → outcomes_in (cond b ((e.0, and_later (cond b e.1 then) later) ∷ rest)
+    (e ∷ put (and_later (cond b e.1 then) later)))
+    ≡ cond b (again_later (outcome_in e) later ∷ outcomes_in rest) (outcome_in e ∷ with)
+later_by true e rest later then put with is = refl
+later_by false e rest later then put with is =
+    ap (λ (l : List OutcomeParts). outcome_in e ∷ l) is
+
+-- the entries, with one of a text that came so often later, are the outcomes with it
+kept_later : (entries : List (Vec ℕ × Times)) (text : Vec ℕ) (later : Times)
+    → outcomes_in (insert_entry alike entries text
+    (and_later (times_of (outcomes_in entries) text.items) later))
+    ≡ with_later (outcomes_in entries) (record { text = text.items; times = later })
+kept_later [] text later =
+    ap (λ (t : Times). outcome_in (text, t) ∷ []) (later_alone later)
+kept_later (e ∷ rest) text later =
+    later_by (bytes_eq text.items e.0.items) e rest later (times_of (outcomes_in rest) text.items)
+    (λ (t : Times). insert_entry alike rest text t)
+    (with_later (outcomes_in rest) (record { text = text.items; times = later }))
+    (kept_later rest text later)
+
+pub with_kept_later : (entries after : List (Vec ℕ × Times)) (text : Vec ℕ) (later times : Times)
+    → after ≡ insert_entry alike entries text times
+    → times ≡ and_later (times_of (outcomes_in entries) text.items) later
+    → outcomes_in after
+    ≡ with_later (outcomes_in entries) (record { text = text.items; times = later })
+with_kept_later entries after text later times is came =
+    ap outcomes_in (is ∙ ap (λ (t : Times). insert_entry alike entries text t) came)
+    ∙ kept_later entries text later

@@ -1,2 +1,4 @@
+pub mod Joined
 mod Kept
+mod Room
 pub mod Within

@@ -1,11 +1,11 @@
 -- WHAT CAME OF SOME RUNS, as they are added one after another.
 use Rattle.std.specs.Prelude.{ℕ, ◌+◌, List, [], ◌∷◌, Option, None, Some}
 use Rattle.run_outcomes.specs.SeenParts.{SeenParts}
-use Rattle.outcome_tally.specs.Outcomes.{with_outcome}
-use Rattle.outcome_tally.specs.RareTimes.{no_rares, with_rares}
-use Rattle.outcome_tally.specs.Spans.{spanned}
+use Rattle.outcome_tally.specs.Outcomes.{with_all, with_outcome}
+use Rattle.outcome_tally.specs.RareTimes.{and_rares, no_rares, with_rares}
+use Rattle.outcome_tally.specs.Spans.{both_spanned, spanned}
 use Rattle.outcome_tally.specs.TallyParts.{TallyParts}
-use Rattle.outcome_tally.specs.Times.{never, once_more}
+use Rattle.outcome_tally.specs.Times.{and_later, never, once_more}
 
 -- the tally of no run
 abbrev pub no_runs : TallyParts
@@ -46,3 +46,13 @@ with_came t seed (Some seen) = with_seen t seed seen
 abbrev pub tally_of : List Ran → TallyParts
 tally_of [] = no_runs
 tally_of (r ∷ before) = with_came (tally_of before) r.seed r.seen
+
+-- THE TALLY OF SOME RUNS, JOINED WITH THAT OF LATER ONES
+abbrev pub joined : TallyParts → TallyParts → TallyParts
+joined t later = record {
+  runs = t.runs + later.runs;
+  full = and_later t.full later.full;
+  steps = both_spanned t.steps later.steps;
+  came = with_all t.came later.came;
+  rares = and_rares t.rares later.rares;
+}

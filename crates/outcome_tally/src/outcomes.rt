@@ -1,8 +1,8 @@
 //! The outcomes that came.
 
-ghost use Rattle.std.specs.Prelude.{◌≡◌, [], length, OnOk};
+ghost use Rattle.std.specs.Prelude.{◌≡◌, ◌+◌, ◌<◌, ◌^◌, [], length, OnOk};
 ghost use Rattle.outcome_tally.specs.Few.{AllFew};
-ghost use Rattle.outcome_tally.specs.Outcomes.{times_of, with_outcome};
+ghost use Rattle.outcome_tally.specs.Outcomes.{times_of, with_all, with_later, with_outcome};
 
 use crate::times::Times;
 use indexmap::IndexMap;
@@ -76,6 +76,28 @@ impl Outcomes {
     {
         let times = self.times_of(text.as_slice()).once_more(seed);
         self.times.insert(text, times)?;
+        Ok(())
+    }
+    /// Notes an outcome that came so often in later runs.
+    fn note_later(&mut self, text: Vec<u8>, times: Times) -> Result<(), NoMemory>
+        requires { (times_of self.old text.items).runs + times.runs < 2 ^ 63 }
+        ensures { OnOk result (self.new
+            ≡ with_later self.old (record { text = text.items; times = times })) }
+    {
+        let both = self.times_of(text.as_slice()).and(times);
+        self.times.insert(text, both)?;
+        Ok(())
+    }
+
+    /// Notes the outcomes of later runs.
+    pub(crate) fn note_all(&mut self, later: Outcomes) -> Result<(), NoMemory>
+        requires { AllFew (with_all self.old later) }
+        ensures { OnOk result (self.new ≡ with_all self.old later) }
+    {
+        let Outcomes { times } = later;
+        'later: for (text, times) in times {
+            self.note_later(text, times)?;
+        }
         Ok(())
     }
 }

@@ -2,7 +2,7 @@
 
 ghost use Rattle.std.specs.Prelude.{◌≡◌};
 ghost use Rattle.outcome_tally.specs.Few.{RaresFew};
-ghost use Rattle.outcome_tally.specs.RareTimes.{no_rares, with_rares};
+ghost use Rattle.outcome_tally.specs.RareTimes.{and_rares, no_rares, with_rares};
 
 use crate::times::Times;
 use run_outcomes::Rares;
@@ -45,6 +45,20 @@ impl RareTimes {
             closed: self.closed.noted(rares.closed, seed),
             lost: self.lost.noted(rares.lost, seed),
             down: self.down.noted(rares.down, seed),
+        }
+    }
+    /// And those of later runs.
+    pub(crate) fn and(self, later: RareTimes) -> RareTimes
+        requires { RaresFew (and_rares self later) }
+        ensures { result ≡ and_rares self later }
+    {
+        RareTimes {
+            refused: self.refused.and(later.refused),
+            found_none: self.found_none.and(later.found_none),
+            dead: self.dead.and(later.dead),
+            closed: self.closed.and(later.closed),
+            lost: self.lost.and(later.lost),
+            down: self.down.and(later.down),
         }
     }
 }

@@ -3,12 +3,12 @@
 ghost use Rattle.std.specs.Prelude.{◌≡◌, IfOk, OnOk};
 ghost use Rattle.outcome_tally.specs.Few.{IsFew};
 ghost use Rattle.outcome_tally.specs.Report.{report_text};
-ghost use Rattle.outcome_tally.specs.Tallies.{no_runs, with_came, with_full, with_seen};
+ghost use Rattle.outcome_tally.specs.Tallies.{joined, no_runs, with_came, with_full, with_seen};
 
 use crate::outcomes::Outcomes;
 use crate::rare_times::RareTimes;
 use crate::report;
-use crate::span::{Span, spanned};
+use crate::span::{Span, both_spanned, spanned};
 use crate::times::Times;
 use linx_base::NoMemory;
 use run_outcomes::Seen;
@@ -86,6 +86,19 @@ impl Tally {
                 Ok(())
             }
         }
+    }
+
+    /// Adds the tally of later runs, which is then that of all of them. After a refusal the tally is
+    /// thrown away.
+    pub fn add_all(&mut self, later: Tally) -> Result<(), NoMemory>
+        requires { IsFew (joined self.old later) }
+        ensures { OnOk result (self.new ≡ joined self.old later) }
+    {
+        self.runs += later.runs;
+        self.full = self.full.and(later.full);
+        self.steps = both_spanned(self.steps, later.steps);
+        self.rares = self.rares.and(later.rares);
+        self.came.note_all(later.came)
     }
 
     /// THE REPORT, of the runs of a script with so many actors.

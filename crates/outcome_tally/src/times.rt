@@ -1,7 +1,7 @@
 //! How often something came.
 
-ghost use Rattle.std.specs.Prelude.{◌≡◌, ◌<◌, ◌^◌};
-ghost use Rattle.outcome_tally.specs.Times.{never, noted, once_more};
+ghost use Rattle.std.specs.Prelude.{◌≡◌, ◌+◌, ◌<◌, ◌^◌};
+ghost use Rattle.outcome_tally.specs.Times.{and_later, never, noted, once_more};
 
 /// In how many runs something came, and the seed of the first of them.
 #[derive(Clone, Copy, Debug, PartialEq, Eq, Hash)]
@@ -38,5 +38,15 @@ impl Times {
         ensures { result ≡ noted self came seed }
     {
         if came { self.once_more(seed) } else { self }
+    }
+    /// And so often in later runs.
+    pub(crate) fn and(self, later: Times) -> Times
+        requires { self.runs + later.runs < 2 ^ 63 }
+        ensures { result ≡ and_later self later }
+    {
+        Times {
+            runs: self.runs + later.runs,
+            first: self.first.or(later.first),
+        }
     }
 }
