@@ -21,9 +21,9 @@ pub fn actors_in(alloc: Global, bytes: &[u8]) -> Result<u32, ScriptError>
     Ok(ordered.script.actors().len() as u32)
 }
 
-/// The tally of the runs of this seed and so many behind it.
+/// THE TALLY of the runs of this seed and so many behind it, of a script with so many actors.
 #[tactic(auto, using(crate::proofs::Tallies::none_tallied, crate::proofs::Tallies::few_tallied, crate::proofs::Tallies::more_tallied))]
-fn tally(
+pub fn tally(
     alloc: Global,
     bytes: &[u8],
     actors: u32,
