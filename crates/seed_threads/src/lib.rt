@@ -1,8 +1,13 @@
-//! A search of the runs of many seeds, side by side: as many at a time as the machine has processors.
-//! What it answers is what the search one after another does, whichever thread is done first.
+//! A search of the runs of many seeds, and their report, side by side: as many runs at a time as the
+//! machine has processors. What they answer is what the search and the report one after another do,
+//! whichever thread is done first. Where a thread can't be made, its runs are made by another one.
 #![tactic(auto)]
 
 mod pieces;
+mod processors;
+mod reports;
+mod tallies;
 mod waves;
 
+pub use reports::report;
 pub use waves::find;

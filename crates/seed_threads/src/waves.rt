@@ -1,33 +1,19 @@
 //! A range in waves, each behind the one before, so that what is found early is told early.
 
-ghost use Rattle.std.specs.Prelude.{◌≡◌, ◌+◌, ◌<◌, ◌≤◌, ◌^◌, IfErr, IfOk, map, string_bytes};
+ghost use Rattle.std.specs.Prelude.{◌≡◌, ◌+◌, ◌<◌, ◌^◌, IfErr, IfOk, map, string_bytes};
 ghost use Rattle.seed_search.specs.Searches.{IsAnswer, IsStop};
 ghost use Rattle.seed_threads.specs.Answers.{Finds};
 
 use crate::pieces::find_in_pieces;
+use crate::processors::pieces;
 use line_search::Sought;
 use seed_runs::RunStop;
 use seed_search::Found;
 use std::alloc::Global;
-use std::thread::{Threads, available_parallelism};
-
-/// The most pieces of a wave.
-const PIECES_MOST: u32 = 64;
+use std::thread::Threads;
 
 /// The most seeds of a piece: each wave has twice as many in each of its pieces as the one before.
-const PIECE_MOST: u32 = 256;
-
-/// One piece for each processor; one where it can't be told how many there are.
-fn pieces<R: Threads>(rt: &R) -> u32
-    ensures some { 1 ≤ result }
-    ensures few { result ≤ 64 }
-{
-    match available_parallelism(rt) {
-        Ok(count) if count.get() < PIECES_MOST as usize => count.get() as u32,
-        Ok(_) => PIECES_MOST,
-        Err(_) => 1,
-    }
-}
+const PIECE_MOST: u32 = 4096;
 
 /// The search of a range in waves of so many pieces.
 fn find_in_waves<R: Threads + Sync>(

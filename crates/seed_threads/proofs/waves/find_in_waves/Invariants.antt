@@ -7,7 +7,7 @@ pub record Stands (first more from left size : ℕ) : Type 0 where
   pub low : first ≤ from
   pub same : from + left ≡ first + more
   pub some : 1 ≤ size
-  pub few : size ≤ 256
+  pub few : size ≤ 4096
 
 abbrev pub invariant-waves : goal.invariant-waves
 invariant-waves g l =
