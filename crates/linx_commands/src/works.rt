@@ -74,7 +74,7 @@ fn look<R: Threads + Sync, K: Sink>(
 {
     match work {
         Work::Find(search) => find(rt, alloc, search, search.wanted(words), bytes, out),
-        Work::Seeds(range) => report(alloc, range, bytes, out),
+        Work::Seeds(range) => report(rt, alloc, range, bytes, out),
         Work::Order => order(alloc, bytes, out),
         Work::Replay => replay(alloc, bytes, out),
         Work::Check => check(alloc, bytes, out),
