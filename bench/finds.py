@@ -5,7 +5,8 @@ Each script of examples/, and the random scripts of the seeds 1 to COUNT, are se
 lines, and for runs without them, over the numbers 1 to 40, and what comes of them is reported. What
 `find` and `seeds` write, their line on standard error and their exit status must be those of the
 slow search, and of the report that is reckoned from the texts of the runs one by one. The searches
-take one processor, two, and so on by turns. It says how many were, and the first that weren't.
+take one processor, two, and so on by turns, and the report takes each of these numbers. It says how
+many were, and the first that weren't.
 
     bench/try finds [COUNT [PROGRAM]]           COUNT is 100 if unsaid
 """
@@ -83,8 +84,11 @@ def searches(program, script):
                               preexec_fn=on_processors(count))
             yield (f"{' '.join(words)} on {count} processors",
                    judge.difference(end, slowly(runs, sought.split(), without)))
-    end = judge.ended([program, "seeds", "1", str(LAST)], script, SECONDS)
-    yield "seeds", judge.difference(end, reported(script, runs))
+    told = reported(script, runs)
+    for count in range(1, len(os.sched_getaffinity(0)) + 1):
+        end = judge.ended([program, "seeds", "1", str(LAST)], script, SECONDS,
+                          preexec_fn=on_processors(count))
+        yield f"seeds on {count} processors", judge.difference(end, told)
 
 
 def main():
