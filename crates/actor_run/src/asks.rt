@@ -51,10 +51,10 @@ pub(crate) fn ask_send(
     ensures { IfOk result (λ ask. ask ≡ ask_send peer (signal_of number (data_of bytes.now))) }
 {
     match peer {
-        Some(peer) => Ok(holding(
-            Event::Send(peer),
-            signal_filled(alloc, last, number, bytes)?,
-        )),
+        Some(peer) => {
+            let signal = signal_filled(alloc, last, number, bytes)?;
+            Ok(holding(Event::Send(peer), signal))
+        }
         None => Ok(refuse(Refusal::NoPeer)),
     }
 }
@@ -71,10 +71,14 @@ pub(crate) fn ask_hunt(
     ensures { IfOk result (λ ask. ask
         ≡ with_hand (Hunt path.now) (signal_of number (data_of bytes.now))) }
 {
-    Ok(holding(
-        Event::Hunt(path.copy()?),
-        signal_filled(alloc, last, number, bytes)?,
-    ))
+    let path = path.copy()?;
+    match signal_filled(alloc, last, number, bytes) {
+        Ok(signal) => Ok(holding(Event::Hunt(path), signal)),
+        Err(refusal) => {
+            drop(path);
+            Err(refusal)
+        }
+    }
 }
 
 /// What an attach asks for.
@@ -89,10 +93,10 @@ pub(crate) fn ask_attach(
     ensures { IfOk result (λ ask. ask ≡ ask_attach peer (signal_of number (data_of bytes.now))) }
 {
     match peer {
-        Some(peer) => Ok(holding(
-            Event::Attach(peer),
-            signal_filled(alloc, last, number, bytes)?,
-        )),
+        Some(peer) => {
+            let signal = signal_filled(alloc, last, number, bytes)?;
+            Ok(holding(Event::Attach(peer), signal))
+        }
         None => Ok(refuse(Refusal::NoPeer)),
     }
 }

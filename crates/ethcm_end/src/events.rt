@@ -50,12 +50,15 @@ pub(crate) fn take_packet(parts: &mut Parts, packet: Packet) -> Result<Input, No
 {
     let kind = kind_of(&packet.part);
     let src = packet.src;
-    match parts.talk.input(src, packet.dst, kind) {
+    let change = parts.talk.input(src, packet.dst, kind);
+    if let Change::Heard = change {
+        parts.hear();
+        return take_part(parts, src, packet.part);
+    }
+    drop(packet.part);
+    match change {
         Change::Ignored => Ok(Input::Nothing),
-        Change::Heard => {
-            parts.hear();
-            take_part(parts, src, packet.part)
-        }
+        Change::Heard => unreachable!(),
         Change::HeardReply(kind) => {
             parts.hear();
             parts.reply(src, kind)?;

@@ -182,6 +182,7 @@ pub(crate) fn make_told(
             Ok(())
         }
         Err(NoMemory) => {
+            drop(head);
             trunks.undo_all();
             Err(NoMemory)
         }
@@ -250,9 +251,19 @@ pub(crate) fn make_delivery(
     ensures err { OnErr result ((journal.new.log ≡ journal.old.log) × (kernel.new ≡ kernel.old)
         × (trunks.new ≡ trunks.old)) }
 {
-    journal.reserve(1)?;
-    let up = trunks.deliver(at.link, at.side.other(), keep)?;
+    if let Err(refusal) = journal.reserve(1) {
+        drop(head);
+        return Err(refusal);
+    }
+    let up = match trunks.deliver(at.link, at.side.other(), keep) {
+        Ok(up) => up,
+        Err(refusal) => {
+            drop(head);
+            return Err(refusal);
+        }
+    };
     if let TrunkUp::Nothing = up {
+        drop(up);
         make_still(alloc, journal, trunks, by, head, at.link);
         return Ok(());
     }

@@ -226,6 +226,7 @@ impl Fabric {
         ensures err { IfErr result (λ stop. (stop.hand ≡ hand) × (self.new ≡ self.old)) }
     {
         if self.journal.full() {
+            drop(event);
             return Err(StepStop {
                 cause: StopCause::JournalFull,
                 hand,
@@ -233,21 +234,24 @@ impl Fabric {
         }
         match by {
             By::Actor(actor) => self.act(actor, event, hand),
-            By::Pump(_) => match event {
-                Event::Wire {
-                    link,
-                    from,
-                    verdict,
-                } => {
-                    self.wire(by, link, from, verdict)?;
-                    Ok(StepAnswer::Done)
+            By::Pump(_) => {
+                drop(hand);
+                match event {
+                    Event::Wire {
+                        link,
+                        from,
+                        verdict,
+                    } => {
+                        self.wire(by, link, from, verdict)?;
+                        Ok(StepAnswer::Done)
+                    }
+                    Event::Tick { link, side } => {
+                        self.tick(by, link, side)?;
+                        Ok(StepAnswer::Done)
+                    }
+                    _ => unreachable!(),
                 }
-                Event::Tick { link, side } => {
-                    self.tick(by, link, side)?;
-                    Ok(StepAnswer::Done)
-                }
-                _ => unreachable!(),
-            },
+            }
         }
     }
 

@@ -46,9 +46,16 @@ pub(crate) fn make_quiet(
         { steps = record { by = by; head = head; effects = [] } ∷ journal.old.log.steps }) }
     ensures err { OnErr result (journal.new.log ≡ journal.old.log) }
 {
-    journal.reserve(1)?;
-    journal.push_quiet(alloc, by, head);
-    Ok(())
+    match journal.reserve(1) {
+        Ok(()) => {
+            journal.push_quiet(alloc, by, head);
+            Ok(())
+        }
+        Err(refusal) => {
+            drop(head);
+            Err(refusal)
+        }
+    }
 }
 
 /// An opening.
@@ -76,19 +83,40 @@ pub(crate) fn make_open(
 {
     let _name = name.bytes();
     journal.reserve(1)?;
-    let head = Head::Open(name.copy()?);
+    let copy = name.copy()?;
     match kernel.open(name, journal.len() + 1) {
         Ok(opened) => {
             journal.push(Step {
                 by,
-                head,
+                head: Head::Open(copy),
                 effects: opened.effects,
             });
             Ok(opened.inc)
         }
-        Err(OpenError::NoMemory(_)) => Err(NoMemory),
+        Err(OpenError::NoMemory(name)) => {
+            drop(name);
+            Err(NoMemory)
+        }
         Err(OpenError::Full(_)) => unreachable!(),
     }
+}
+
+/// The effects of the closing of an endpoint, on a journal that gets room for its step.
+fn close_endpoint(
+    journal: &mut WatchedJournal,
+    kernel: &mut Kernel,
+    at: Inc,
+) -> Result<Effects, NoMemory>
+    requires short { length journal.old.log.steps < 200000 }
+    ensures effects { IfOk result (λ effects. effects ≡ closing at kernel.old.attaches) }
+    ensures kernel { OnOk result (kernel.new ≡ after_close kernel.old at
+        (length journal.old.log.steps + 1)) }
+    ensures room { OnOk result (0 < journal.new.spare) }
+    ensures log { journal.new.log ≡ journal.old.log }
+    ensures err { OnErr result (kernel.new ≡ kernel.old) }
+{
+    journal.reserve(1)?;
+    kernel.close(at, journal.len() + 1)
 }
 
 /// The closing of an endpoint, by this head.
@@ -109,10 +137,16 @@ pub(crate) fn make_close(
     }) }
     ensures err { OnErr result ((journal.new.log ≡ journal.old.log) × (kernel.new ≡ kernel.old)) }
 {
-    journal.reserve(1)?;
-    let effects = kernel.close(at, journal.len() + 1)?;
-    journal.push(Step { by, head, effects });
-    Ok(())
+    match close_endpoint(journal, kernel, at) {
+        Ok(effects) => {
+            journal.push(Step { by, head, effects });
+            Ok(())
+        }
+        Err(refusal) => {
+            drop(head);
+            Err(refusal)
+        }
+    }
 }
 
 /// What a look found: an item, or nothing, and then the filter comes back.

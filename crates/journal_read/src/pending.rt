@@ -1,5 +1,5 @@
 //! The steps that lines made so far.
-ghost use Rattle.std.specs.Prelude.{◌≡◌, None, OnOk, OnErr};
+ghost use Rattle.std.specs.Prelude.{◌≡◌, None, IfOk, OnOk, OnErr};
 ghost use Rattle.linx_base.specs.Content.{size_of};
 ghost use Rattle.journal.specs.Logs.{head_bytes, effect_bytes};
 ghost use Rattle.journal_read.specs.Bounds.{line_bytes};
@@ -77,6 +77,19 @@ fn end_newest(whole: &mut Journal, newest: &mut Option<Step>) -> Result<(), NoMe
         whole.push(step);
     }
     Ok(())
+}
+
+/// The journal of whole steps and the newest one, if there is one.
+fn with_last(mut whole: Journal, mut newest: Option<Step>) -> Result<Journal, NoMemory>
+    ensures { IfOk result (λ journal. journal.log
+        ≡ record whole.log { steps = with_newest newest whole.log.steps }) }
+{
+    let ended = end_newest(&mut whole, &mut newest);
+    drop(newest);
+    match ended {
+        Ok(()) => Ok(whole),
+        Err(refusal) => Err(refusal),
+    }
 }
 
 impl Model for Pending {
@@ -167,14 +180,20 @@ impl Pending {
         match line {
             Line::Made(position, by, head) => {
                 if !self.is_next(position) {
+                    drop(head);
                     return Err(ReadError::Bad);
                 }
-                end_newest(&mut self.whole, &mut self.newest)?;
-                self.newest = Some(Step {
-                    by,
-                    head,
-                    effects: Effects::new(self.alloc),
-                });
+                if end_newest(&mut self.whole, &mut self.newest).is_err() {
+                    drop(head);
+                    return Err(ReadError::NoMemory);
+                }
+                drop(
+                    self.newest.replace(Step {
+                        by,
+                        head,
+                        effects: Effects::new(self.alloc),
+                    }),
+                );
                 self.noted = noted;
                 Ok(())
             }
@@ -184,7 +203,10 @@ impl Pending {
                     self.noted = noted;
                     Ok(())
                 }
-                None => Err(ReadError::Bad),
+                None => {
+                    drop(effect);
+                    Err(ReadError::Bad)
+                }
             },
         }
     }
@@ -202,10 +224,10 @@ impl Pending {
     }
 
     /// The journal of all steps so far.
-    pub(crate) fn into_journal(mut self) -> Result<Journal, NoMemory>
+    pub(crate) fn into_journal(self) -> Result<Journal, NoMemory>
         ensures { IfOk result (λ journal. journal.log ≡ self) }
     {
-        end_newest(&mut self.whole, &mut self.newest)?;
-        Ok(self.whole)
+        let Pending { whole, newest, .. } = self;
+        with_last(whole, newest)
     }
 }

@@ -35,12 +35,12 @@ impl Model for Reading {
 }
 
 impl Reading {
-    ghost use Rattle.std.specs.Prelude.{◌≡◌, IfOk, Some, None};
+    ghost use Rattle.std.specs.Prelude.{◌≡◌, IfOk, Some, None, Ok};
     ghost use Rattle.text_words.specs.Gives.{Gives};
     ghost use Rattle.text_words.specs.Words.{after};
     ghost use Rattle.journal_read.specs.Bounds.{is_over_full};
     ghost use Rattle.journal_read.specs.Reading.{unread, heading, take_front, take_bytes};
-    ghost use Rattle.journal_read.specs.Reading.{take_line, is_whole, ended};
+    ghost use Rattle.journal_read.specs.Reading.{take_line, is_whole};
     ghost use Rattle.journal_read.specs.Results.{Reads, IsWithin};
 
     fn new(alloc: Global, names: Names) -> Reading
@@ -120,20 +120,39 @@ impl Reading {
         self.pending.is_over_full()
     }
 
-    /// The journal of the steps, where the text ends before the line of this number.
-    #[tactic(auto, unfolding(crate::specs::Reading::ended))]
-    fn end(self, line: u64) -> Result<Journal, Unread>
-        ensures steps { Reads (λ journal. journal.log.steps) result (ended self line) }
+    /// The journal of the steps. It is refused only for want of memory.
+    fn into_journal(self) -> Result<Journal, Unread>
+        ensures steps { Reads (λ journal. journal.log.steps) result (Ok self.steps) }
         ensures full { IsWithin result None }
         ensures names { IfOk result (λ journal. journal.log.names ≡ self.names) }
     {
-        if !self.is_whole(line) {
-            return Err(Unread::Bad { line });
-        }
         match self.pending.into_journal() {
             Ok(journal) => Ok(journal),
             Err(_) => Err(Unread::NoMemory),
         }
+    }
+}
+
+/// Takes the lines of a text, and what stands behind the last one.
+#[tactic(auto, unfolding(crate::specs::Reading::ended))]
+fn take_lines(reading: &mut Reading, lines: &[&[u8]], rest: &[u8]) -> Result<(), Unread>
+    ensures steps { Reads (λ _. reading.new.steps) result
+        (read_lines reading.old 1 (map (λ l. l.now) lines.now) rest.now) }
+    ensures full { IsWithin result (full_lines reading.old 1 (map (λ l. l.now) lines.now)) }
+    ensures names { reading.new.names ≡ reading.old.names }
+{
+    let mut number: u64 = 1;
+    for bytes in lines {
+        match reading.take_line(bytes) {
+            Ok(()) if reading.is_over_full() => return Err(Unread::Full { line: number }),
+            Ok(()) => number += 1,
+            Err(ReadError::Bad) => return Err(Unread::Bad { line: number }),
+            Err(ReadError::NoMemory) => return Err(Unread::NoMemory),
+        }
+    }
+    match rest {
+        [] if reading.is_whole(number) => Ok(()),
+        _ => Err(Unread::Bad { line: number }),
     }
 }
 
@@ -145,18 +164,12 @@ fn read_lines(alloc: Global, names: Names, lines: &[&[u8]], rest: &[u8]) -> Resu
     ensures names { IfOk result (λ journal. journal.log.names ≡ names) }
 {
     let mut reading = Reading::new(alloc, names);
-    let mut number: u64 = 1;
-    for bytes in lines {
-        match reading.take_line(bytes) {
-            Ok(()) if reading.is_over_full() => return Err(Unread::Full { line: number }),
-            Ok(()) => number += 1,
-            Err(ReadError::Bad) => return Err(Unread::Bad { line: number }),
-            Err(ReadError::NoMemory) => return Err(Unread::NoMemory),
+    match take_lines(&mut reading, lines, rest) {
+        Ok(()) => reading.into_journal(),
+        Err(unread) => {
+            drop(reading);
+            Err(unread)
         }
-    }
-    match rest {
-        [] => reading.end(number),
-        _ => Err(Unread::Bad { line: number }),
     }
 }
 

@@ -4,6 +4,7 @@ ghost use Rattle.std.specs.Option.{option_copied};
 ghost use Rattle.linx_base.specs.Content.{data_limit};
 ghost use Rattle.linx_base.specs.Pending.{name_over};
 ghost use Rattle.linx_base.specs.declared.identity.Peer.TheVariants.{Here, There};
+ghost use Rattle.linx_base.specs.declared.name.Path.TheVariants.{Over};
 ghost use Rattle.sigsel.specs.Selection.{first_selected, without_first};
 ghost use Rattle.journal.specs.declared.effect.Effect.TheVariants.{Arrived};
 ghost use Rattle.journal.specs.Effects.{opening, closing, closings, hunted, attached, meeting};
@@ -157,14 +158,19 @@ impl Kernel {
             return Err(OpenError::NoMemory(name));
         };
         let Ok(effects) = opening(self.roster.allocator(), inc, &path, &self.hunts) else {
+            drop(path);
             return Err(OpenError::NoMemory(name));
         };
         match self.roster.open(name, effects.as_slice(), step) {
             Ok(()) => {
                 self.hunts.drop_for(&path);
+                drop(path);
                 Ok(OpenedAs { inc, effects })
             }
-            Err(name) => Err(OpenError::NoMemory(name)),
+            Err(name) => {
+                drop(path);
+                Err(OpenError::NoMemory(name))
+            }
         }
     }
 
@@ -363,13 +369,33 @@ impl Kernel {
     {
         let peer = Peer::There { link, session, inc };
         let path = path_over(link, &name)?;
+        let made = self.meet(link, peer, name, &path, step);
+        drop(path);
+        made
+    }
+
+    /// A peer is met over a link: the hunts for its name there, which make this path, are answered.
+    fn meet(
+        &mut self,
+        link: LinkNo,
+        peer: Peer,
+        name: Name,
+        path: &Path,
+        step: u64,
+    ) -> Result<Effects, NoMemory>
+        requires { path.now ≡ Over link name }
+        ensures effects { IfOk result (λ effects. effects
+            ≡ meeting self.old.node link peer name self.old.hunts) }
+        ensures ok { OnOk result (self.new ≡ after_met self.old link peer name step) }
+        ensures err { OnErr result (self.new ≡ self.old) }
+    {
         let node = self.roster.node();
         let effects = meeting(
             self.roster.allocator(),
             node,
             peer,
             &name,
-            &path,
+            path,
             &self.hunts,
         )?;
         self.roster.bring_all(effects.as_slice(), step)?;
@@ -377,7 +403,7 @@ impl Kernel {
             self.roster.take_back_all(effects.as_slice());
             return Err(refusal);
         }
-        self.hunts.drop_for(&path);
+        self.hunts.drop_for(path);
         Ok(effects)
     }
 
