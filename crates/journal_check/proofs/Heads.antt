@@ -1,22 +1,15 @@
 -- What a law says of a head alone is what its test tells.
-use Rattle.std.proofs.Common.{◌≡◌, ◌≤◌, ◌<◌, Bool, true, false, not, ◌||◌, ◌&&◌, List, length}
-use Rattle.std.proofs.Common.{Option, is_none, refl, sym, arith, is_some, nat_le, le-leb, leb-true}
-use Rattle.std.proofs.Common.{lt-ltb, ltb-true, true≢false}
+use Rattle.std.proofs.Common.{◌≡◌, Bool, true, false, not, ◌||◌, ◌&&◌, length, Option, is_none, refl}
+use Rattle.std.proofs.Common.{sym, is_some, nat_le, le-leb, leb-true, lt-ltb, ltb-true, true≢false}
 use Rattle.std.proofs.lemmas.Bool.{and_parts}
 use Rattle.linx_base.specs.Content.{data_limit}
 use Rattle.linx_base.specs.NameText.{is_name}
 use Rattle.linx_base.specs.declared.identity.Inc.{Inc}
-use Rattle.linx_base.specs.declared.identity.LinkNo.{LinkNo}
-use Rattle.journal.specs.declared.effect.Effect.{Effect}
-use Rattle.journal.specs.declared.effect.Step.{Step}
 use Rattle.journal.specs.declared.head.Head.{Head}
 use Rattle.journal.specs.Laws.{IsBounded, KeepsEndpoints, is_endpoints}
 use Rattle.journal.specs.Laws.{is_opening, name_of_path}
-use Rattle.journal.specs.Shapes.{Shape}
 use Rattle.journal.specs.declared.head.Head.TheVariants as heads
-use Rattle.link_laws.specs.Ends.{IsLinkOf}
-use Rattle.link_laws.specs.Laws.{KeepsCuts, KeepsLinks, KeepsPackets, KeepsTicks}
-use Rattle.journal_check.specs.Calls.{is_bounded, is_of_link, suits}
+use Rattle.journal_check.specs.Calls.{is_bounded, suits}
 
 -- one test wherever another
 pub implied : (a b : Bool) → (not a || b) ≡ true → a ≡ true → b ≡ true
@@ -63,41 +56,3 @@ kept-bounded (heads.Hunt path note) is =
     (le-leb (length note.bytes) data_limit is.1)
 kept-bounded (heads.Attach q note) is = lt-ltb (length note.bytes) data_limit is
 kept-bounded _ is = refl
-
--- WHERE THERE IS NO LINK a head that speaks of one breaks the law of links
-module _ (shape : Shape) (alone : length shape.links ≡ 0) where
-  pub no-link : (l : LinkNo) → IsLinkOf shape l → ⊥
-  no-link l of_shape =
-      let above : 0 < l.0 = of_shape.0 in
-      let within : l.0 ≤ length shape.links = of_shape.1 in
-      omega arith
-
-  pub links-kept : (head : Head) → is_of_link head ≡ false → KeepsLinks shape head
-  links-kept (heads.Wire l from verdict) is = absurd (true≢false is)
-  links-kept (heads.Tick l side) is = absurd (true≢false is)
-  links-kept (heads.Cut l) is = absurd (true≢false is)
-  links-kept (heads.Mend l) is = absurd (true≢false is)
-  links-kept (heads.Settle l) is = absurd (true≢false is)
-  links-kept _ is = tt
-
-  pub kept-links : (head : Head) → KeepsLinks shape head → is_of_link head ≡ false
-  kept-links (heads.Wire l from verdict) kept = absurd (no-link l kept)
-  kept-links (heads.Tick l side) kept = absurd (no-link l kept)
-  kept-links (heads.Cut l) kept = absurd (no-link l kept)
-  kept-links (heads.Mend l) kept = absurd (no-link l kept)
-  kept-links (heads.Settle l) kept = absurd (no-link l kept)
-  kept-links _ kept = refl
-
--- and any other head keeps those of packets, cuts and ticks
-module _ (shape : Shape) (P : List Step) (es : List Effect) where
-  pub packets-kept : (head : Head) → is_of_link head ≡ false → KeepsPackets shape P head es
-  packets-kept (heads.Wire l from verdict) is = absurd (true≢false is)
-  packets-kept _ is = tt
-
-  pub cuts-kept : (head : Head) → is_of_link head ≡ false → KeepsCuts P head
-  cuts-kept (heads.Wire l from verdict) is = absurd (true≢false is)
-  cuts-kept _ is = tt
-
-  pub ticks-kept : (head : Head) → is_of_link head ≡ false → KeepsTicks shape P head es
-  ticks-kept (heads.Tick l side) is = absurd (true≢false is)
-  ticks-kept _ is = tt

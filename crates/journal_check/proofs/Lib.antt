@@ -2,12 +2,15 @@ pub mod Lists
 pub mod First
 pub mod Heads
 pub mod Actors
+pub mod Books
 pub mod Nodes
+pub mod Downs
 pub mod Resting
 pub mod Onward
+pub mod Bringing
+pub mod Laws
 pub mod Verdicts
 pub mod Ready
-pub mod Telling
 pub mod Whole
 pub mod Passing
 pub mod Exact

@@ -1,6 +1,6 @@
 -- What the kernels tell of a step of an actor, and what they are after it: the history's words.
-use Rattle.std.proofs.Common.{◌≡◌, ℕ, zero, suc, ◌<◌, ◌≤◌, Bool, true, false, List, [], ◌∷◌, ◌++◌}
-use Rattle.std.proofs.Common.{length, map, Option, Some, None, refl, sym, ◌∙◌, ap, subst, arith}
+use Rattle.std.proofs.Common.{◌≡◌, ℕ, zero, suc, ◌<◌, ◌≤◌, Bool, true, false, List, [], ◌∷◌}
+use Rattle.std.proofs.Common.{length, Option, Some, None, refl, sym, ◌∙◌, ap, subst, arith}
 use Rattle.std.proofs.Common.{is_some, nat_lt, slice_get, IsSomeAnd, eqb-true, ltb-false, ltb-true}
 use Rattle.std.proofs.Common.{true≢false}
 use Rattle.std.specs.List.{list_any, AllByRecursion}
@@ -28,17 +28,18 @@ use Rattle.journal.specs.Laws.{effects_by, hunting_by, sending}
 use Rattle.journal.specs.Shapes.{Shape, node_by, number_or_0}
 use Rattle.journal.specs.declared.head.Head.TheVariants as heads
 use Rattle.journal.proofs.Openings.{IsBelow, IsShort, same_inc-refl}
-use Rattle.link_laws.specs.Laws.{IsLegal, downs_of, restarting}
+use Rattle.link_laws.specs.Laws.{IsLegal}
 use Rattle.link_laws.proofs.Endpoints.Places.{endpoint-on, open-below, owned}
 use Rattle.node_kernel.specs.Calls.{after_detach_of}
-use Rattle.node_kernel.specs.Nodes.{NodeState, OpenEndpoint, items_at}
-use Rattle.fabric.specs.Remains.{endpoint_left, node_left, IsNode}
+use Rattle.node_kernel.specs.Nodes.{NodeState, items_at}
+use Rattle.fabric.specs.Remains.{node_left, IsNode}
 use Rattle.fabric.proofs.AfterStep.NodeOffTheLinks as nodes
 use Rattle.journal_check.specs.Calls.{AnswersAs, attach_effects, attach_of, call_after}
 use Rattle.journal_check.specs.Calls.{call_effects, hunt_effects, hunt_of, send_effects}
 use Rattle.journal_check.specs.Tables.{AreLeft}
 use Rattle.journal_check.specs.Tables.{Known, kernel_of, kernel_of_maker, kernel_or_empty}
-use Rattle.journal_check.specs.Tables.{restart_effects, restarted_node}
+use Rattle.journal_check.specs.Tables.{restart_closings, restarted_node}
+use Rattle.journal_check.proofs.Books.{incs-left}
 use Rattle.journal_check.proofs.Lists.{past-list}
 
 -- THE EFFECTS OF A CALL at a node that a history left are those that its head has
@@ -221,17 +222,6 @@ module _ (P : List Step) (t : Known) (left : AreLeft P t) where
         → open_endpoints P node ≡ []
     open-none node off = nobody node off (open_endpoints P node) refl
 
-    incs-left : (incs : List Inc)
-        → map (λ (e : OpenEndpoint). e.inc) (map (endpoint_left P) incs) ≡ incs
-    incs-left [] = refl
-    incs-left (i ∷ incs) = ap (λ l. i ∷ l) (incs-left incs)
-
-    -- without links a restart closes the open endpoints alone
-    restarting-alone : (n : ℕ) → length t.shape.links ≡ 0
-        → restarting t.shape P n ≡ closings (open_endpoints P n)
-    restarting-alone n alone =
-        ap (λ (k : ℕ). downs_of P n k ++ closings (open_endpoints P n)) alone
-
     pub kernel-past : (node : ℕ) → ((0 < node) × (node ≤ length t.kernels) → ⊥)
         → kernel_of t.kernels node ≡ None
     kernel-past zero off = refl
@@ -248,26 +238,25 @@ module _ (P : List Step) (t : Known) (left : AreLeft P t) where
         by_cases false is =
             ltb-false n (length t.kernels) is
 
-    -- THE EFFECTS OF A RESTART by the kernels
-    pub restart-same : (n : ℕ) → length t.shape.links ≡ 0
-        → restart_effects (kernel_of t.kernels n) ≡ restarting t.shape P n
-    restart-same zero alone =
+    -- WHAT A RESTART CLOSES by the kernels
+    pub closings-same : (n : ℕ)
+        → restart_closings (kernel_of t.kernels n) ≡ closings (open_endpoints P n)
+    closings-same zero =
         let none : open_endpoints P 0 ≡ [] = open-none 0 (λ at. let h : 0 < 0 = at.0 in omega arith) in
-        ap closings (sym none) ∙ sym (restarting-alone 0 alone)
-    restart-same (suc n) alone =
-        go (nat_lt n (length t.kernels)) refl ∙ sym (restarting-alone (suc n) alone)
+        ap closings (sym none)
+    closings-same (suc n) = go (nat_lt n (length t.kernels)) refl
       where
         go : (b : Bool) → nat_lt n (length t.kernels) ≡ b
-            → restart_effects (kernel_of t.kernels (suc n)) ≡ closings (open_endpoints P (suc n))
+            → restart_closings (kernel_of t.kernels (suc n)) ≡ closings (open_endpoints P (suc n))
         go true is =
             let within : n < length t.kernels =
             ltb-true n (length t.kernels) is in
-            ap restart_effects (kernel-left (suc n) (omega arith) (omega arith))
-            ∙ ap closings (incs-left (open_endpoints P (suc n)))
+            ap restart_closings (kernel-left (suc n) (omega arith) (omega arith))
+            ∙ ap closings (incs-left P (open_endpoints P (suc n)))
         go false is =
             let past : length t.kernels ≤ n =
             ltb-false n (length t.kernels) is in
             let off : (0 < suc n) × (suc n ≤ length t.kernels) → ⊥ =
             λ at. let h : suc n ≤ length t.kernels = at.1 in omega arith in
-            ap restart_effects (kernel-past (suc n) off)
+            ap restart_closings (kernel-past (suc n) off)
             ∙ ap closings (sym (open-none (suc n) off))

@@ -1,7 +1,7 @@
 -- WHAT IS KNOWN AFTER A LEGAL STEP is what the history then leaves.
 use Rattle.std.proofs.Common.{◌≡◌, ◌≢◌, ℕ, zero, suc, ◌<◌, ◌≤◌, Bool, true, false, List, ◌∷◌}
 use Rattle.std.proofs.Common.{length, Option, Some, None, refl, sym, ◌∙◌, ap, subst, arith, ◌-◌}
-use Rattle.std.proofs.Common.{nat_lt, slice_get, slice_set, ltb-false, ltb-true, true≢false}
+use Rattle.std.proofs.Common.{nat_lt, slice_get, slice_set, ltb-false, ltb-true}
 use Rattle.linx_base.specs.declared.identity.Inc.{Inc}
 use Rattle.linx_base.specs.declared.identity.NodeNo.{NodeNo}
 use Rattle.journal.specs.declared.by.By.{By}
@@ -21,7 +21,8 @@ use Rattle.node_kernel.specs.Nodes.{NodeState}
 use Rattle.fabric.specs.Remains.{AreNodesLeft, node_left}
 use Rattle.fabric.proofs.AfterStep.NodeAtALink.{node-restart}
 use Rattle.fabric.proofs.AfterStep.OtherNodes.{changed_node, node_left-elsewhere, step-about}
-use Rattle.journal_check.specs.Calls.{AnswersAs, call_after, is_of_link}
+use Rattle.journal_check.specs.Brought.{side_reached}
+use Rattle.journal_check.specs.Calls.{AnswersAs, call_after}
 use Rattle.journal_check.specs.Standings.{AreStandingsLeft}
 use Rattle.journal_check.specs.Standings.{standing_left}
 use Rattle.journal_check.specs.Tables.{AreLeft, ArePast, Known, endpoint_of_maker}
@@ -38,21 +39,21 @@ pub standings-next : (P : List Step) (s : Step) (old new : List Standing)
 standings-next P s old new left past k under =
     past.each k (standing_left P (suc k)) (left k (omega (arith, past.counted)))
 
--- a step of a head off the links that restarts no node changes its maker's
+-- a step off the links that restarts no node changes its maker's
 changed-home : (shape : Shape) (by : By) (head : Head) → restarted_node head ≡ None
-    → is_of_link head ≡ false → changed_node shape by head ≡ node_by shape by
+    → side_reached head ≡ None → changed_node shape by head ≡ node_by shape by
 changed-home shape by (heads.Restart m) plain off = cc
-changed-home shape by (heads.Wire l side verdict) plain off = absurd (true≢false off)
-changed-home shape by (heads.Tick l side) plain off = absurd (true≢false off)
+changed-home shape by (heads.Wire l side verdict) plain off = cc off
+changed-home shape by (heads.Tick l side) plain off = cc off
 changed-home shape by _ plain off = refl
 
 -- such a head has the effects of its node
 plain-effects : (shape : Shape) (P : List Step) (node : ℕ) (me : Option Inc) (head : Head)
-    (es : List Effect) → restarted_node head ≡ None → is_of_link head ≡ false
+    (es : List Effect) → restarted_node head ≡ None → side_reached head ≡ None
     → HasEffects shape P node me head es → es ≡ effects_by P node me head
 plain-effects shape P node me (heads.Restart m) es plain off has = cc
-plain-effects shape P node me (heads.Wire l side verdict) es plain off has = absurd (true≢false off)
-plain-effects shape P node me (heads.Tick l side) es plain off has = absurd (true≢false off)
+plain-effects shape P node me (heads.Wire l side verdict) es plain off has = cc off
+plain-effects shape P node me (heads.Tick l side) es plain off has = cc off
 plain-effects shape P node me _ es plain off has = has
 
 module _ (P : List Step) (t : Known) (left : AreLeft P t) (short : IsShort P) (a : ℕ)
@@ -80,7 +81,7 @@ module _ (P : List Step) (t : Known) (left : AreLeft P t) (short : IsShort P) (a
       (step-about t.shape P left.legal short (step_of head) step) (record { 0 = n }) other
 
   -- a call changes the kernel of the maker's node
-  call-next : (head : Head) → restarted_node head ≡ None → is_of_link head ≡ false
+  call-next : (head : Head) → restarted_node head ≡ None → side_reached head ≡ None
       → IsLegalStep t.shape P (step_of head)
       → AnswersAs (before home) (endpoint_of P a) head
       → AreNodesLeft (step_of head ∷ P)
@@ -114,8 +115,7 @@ module _ (P : List Step) (t : Known) (left : AreLeft P t) (short : IsShort P) (a
       inside told
 
   -- a restart that of its node, if there is one
-  module _ (m : NodeNo) (alone : length t.shape.links ≡ 0)
-      (step : IsLegalStep t.shape P (step_of (heads.Restart m))) where
+  module _ (m : NodeNo) (step : IsLegalStep t.shape P (step_of (heads.Restart m))) where
     abbrev restart : Head
     restart = heads.Restart m
 
@@ -175,9 +175,9 @@ module _ (P : List Step) (t : Known) (left : AreLeft P t) (short : IsShort P) (a
     restart-next = by_number m.0 refl
 
   -- THE KERNELS
-  pub kernels-next : (head : Head) → length t.shape.links ≡ 0 → is_of_link head ≡ false
+  pub kernels-next : (head : Head) → side_reached head ≡ None
       → IsLegalStep t.shape P (step_of head)
       → AnswersAs (before home) (endpoint_of P a) head
       → AreNodesLeft (step_of head ∷ P) (kernels_after t at (Actor a) head)
-  kernels-next (heads.Restart m) alone off step answers = restart-next m alone step
-  kernels-next _ alone off step answers = call-next _ refl off step answers
+  kernels-next (heads.Restart m) off step answers = restart-next m step
+  kernels-next _ off step answers = call-next _ refl off step answers

@@ -4,7 +4,6 @@ use Rattle.std.proofs.Common.{refl, sym, ◌∙◌, ap, subst, arith, add-one, �
 use Rattle.journal.specs.declared.effect.Step.{Step}
 use Rattle.journal.specs.Histories.{first_steps}
 use Rattle.journal.specs.Shapes.{Shape}
-use Rattle.journal.proofs.Openings.{IsShort}
 use Rattle.link_laws.specs.Laws.{IsLegal}
 use Rattle.journal_check.specs.Faults.{Breaks, IsFault}
 use Rattle.journal_check.specs.Tables.{AreLeft, IsReady, Known}
@@ -30,19 +29,15 @@ first-all k xs past =
 -- ONE STEP of the check
 module _ (shape : Shape) (steps : List Step) (t : Known) (done : ℕ)
     (left : AreLeft (first_steps done steps) t) (is : t.shape ≡ shape)
-    (alone : length shape.links ≡ 0) (position : length (first_steps done steps) ≡ done)
-    (few : done < 4294967295) where
+    (position : length (first_steps done steps) ≡ done) (few : done < 4294967294) where
   abbrev P : List Step
   P = first_steps done steps
 
-  short : IsShort P
-  short = subst (λ (n : ℕ). n < 4294967295) (sym position) few
-
-  pub loop-alone : length t.shape.links ≡ 0
-  loop-alone = ap (λ (x : Shape). length x.links) is ∙ alone
+  few-steps : length P < 4294967294
+  few-steps = subst (λ (n : ℕ). n < 4294967294) (sym position) few
 
   pub loop-ready : IsReady t
-  loop-ready = ready P t left short
+  loop-ready = ready P t left few-steps
 
   at : suc (length P) ≡ done + 1
   at = ap suc position ∙ sym (add-one done)
@@ -52,7 +47,7 @@ module _ (shape : Shape) (steps : List Step) (t : Known) (done : ℕ)
         → AreLeft (first_steps (done + 1) steps) new
     loop-left told =
         subst (λ (Q : List Step). AreLeft Q new) (sym next)
-        (verdict-legal P t left short loop-alone s new
+        (verdict-legal P t left few-steps s new
         (subst (λ (k : ℕ). IsToldVerdict t k s new None) (sym at) told)).1
 
     pub loop-shape : IsToldVerdict t (done + 1) s new None → new.shape ≡ shape
@@ -69,7 +64,7 @@ module _ (shape : Shape) (steps : List Step) (t : Known) (done : ℕ)
               (subst (λ (x : Shape). IsLegal x P) is left.legal);
           breaks = subst (λ (k : ℕ). Breaks shape (first_steps k steps) s law) back
               (subst (λ (x : Shape). Breaks x P s law) is
-              (verdict-broken P t left short loop-alone s new law
+              (verdict-broken P t left few-steps s new law
               (subst (λ (k : ℕ). IsToldVerdict t k s new (Some law)) (sym at) told)));
         }
 

@@ -137,15 +137,6 @@ is_on_link (Wire l side verdict) = true
 is_on_link (Tick l side) = true
 is_on_link _ = false
 
--- the head speaks of a link
-abbrev pub is_of_link : Head → Bool
-is_of_link (Cut l) = true
-is_of_link (Mend l) = true
-is_of_link (Settle l) = true
-is_of_link (Wire l side verdict) = true
-is_of_link (Tick l side) = true
-is_of_link _ = false
-
 -- the noted effects are those that were made, where a law but that of packets or of ticks names them
 abbrev pub AreEffects : Bool → List Effect → List Effect → Type 0
 AreEffects true noted made = Unit {0}

@@ -1,10 +1,11 @@
 -- What a checker knows, and how it changes with a step.
-use Rattle.std.specs.Prelude.{ℕ, zero, suc, ◌-◌, ◌≡◌, ◌≤◌, ◌<◌, Bool, true, false, not, ◌&&◌, ◌||◌}
-use Rattle.std.specs.Prelude.{◌==◌, List, [], ◌∷◌, ◌++◌, length, map, nat_lt, nat_le, is_none}
+use Rattle.std.specs.Prelude.{ℕ, zero, suc, ◌-◌, ◌≡◌, ◌<◌, Bool, true, false, not, ◌&&◌, ◌||◌}
+use Rattle.std.specs.Prelude.{◌==◌, List, [], ◌++◌, length, map, nat_lt, nat_le, is_none}
 use Rattle.std.specs.Prelude.{Option, Some, None, slice_get, slice_set}
-use Rattle.std.specs.List.{AllByRecursion}
 use Rattle.linx_base.specs.declared.identity.Inc.{Inc}
+use Rattle.linx_base.specs.declared.identity.LinkNo.{LinkNo}
 use Rattle.linx_base.specs.declared.identity.NodeNo.{NodeNo}
+use Rattle.linx_base.specs.declared.identity.Side.{Side}
 use Rattle.sigsel.specs.Selection.{first_selected}
 use Rattle.sigsel.specs.declared.sigsel.Sigsel.{Sigsel}
 use Rattle.journal.specs.declared.by.By.{By}
@@ -17,20 +18,28 @@ use Rattle.journal.specs.Effects.{closings}
 use Rattle.journal.specs.History.{is_by}
 use Rattle.journal.specs.Laws.{may_make}
 use Rattle.journal.specs.Shapes.{Shape, node_by}
+use Rattle.link_laws.specs.Brought.{Brought}
 use Rattle.link_laws.specs.Laws.{IsLegal}
 use Rattle.node_kernel.specs.Calls.{after_restart}
 use Rattle.node_kernel.specs.Nodes.{NodeState, OpenEndpoint, empty_node}
 use Rattle.node_kernel.specs.Nodes.{endpoint_limit, items_at}
+use Rattle.link_check.specs.Books.{BookSoFar, IsBookLeft, IsPast as IsBookPast, end_no}
+use Rattle.link_check.specs.Downs.{downs_in}
+use Rattle.link_check.specs.Told.{IsReady as IsBookReady, ends_in, kernel_in}
+use Rattle.fabric.specs.Brings.{after_brought}
 use Rattle.fabric.specs.Remains.{AreNodesLeft, IsLaidOut}
+use Rattle.journal_check.specs.Brought.{effects_brought, side_reached, told_by}
 use Rattle.journal_check.specs.Calls.{call_after, call_effects}
 use Rattle.journal_check.specs.Standings.{AreStandingsLeft, standing_of, standing_past}
 use Rattle.journal_check.specs.declared.standing.Standing.{Standing}
 
--- WHAT A CHECKER KNOWS: the shape, a kernel for each node, and how each actor stands
+-- WHAT A CHECKER KNOWS: the shape, a kernel for each node, how each actor stands, and a book of all
+-- links
 pub record Known : Type 0 where
   pub shape : Shape
   pub kernels : List NodeState
   pub standings : List Standing
+  pub book : BookSoFar
 
 -- WHAT IT KEEPS: its tables are those that a legal history leaves
 pub record AreLeft (P : List Step) (t : Known) : Type 0 where
@@ -38,6 +47,7 @@ pub record AreLeft (P : List Step) (t : Known) : Type 0 where
   pub counted : length t.standings ≡ length t.shape.actors
   pub kernels : AreNodesLeft P t.kernels
   pub standings : AreStandingsLeft P t.standings
+  pub book : IsBookLeft P t.shape.links t.book
   pub legal : IsLegal t.shape P
 
 -- a kernel takes one more opening
@@ -50,6 +60,7 @@ pub record IsReady (t : Known) : Type 0 where
   pub laid_out : IsLaidOut (length t.kernels) t.shape
   pub counted : length t.standings ≡ length t.shape.actors
   pub room : (n : ℕ) (k : NodeState) → slice_get t.kernels n ≡ Some k → HasRoom k
+  pub book : IsBookReady t.book t.kernels
 
 -- an actor makes steps until its end
 abbrev pub makes_steps : Option Standing → Bool
@@ -135,14 +146,19 @@ abbrev pub restarted_node : Head → Option NodeNo
 restarted_node (Restart m) = Some m
 restarted_node _ = None
 
--- the effects of a restart at the kernel of its node: all endpoints that are open there are closed
-abbrev pub restart_effects : Option NodeState → List Effect
-restart_effects None = []
-restart_effects (Some n) = closings (map (λ (e : OpenEndpoint). e.inc) n.endpoints)
+-- what a restart closes at the kernel of its node: all endpoints that are open there
+abbrev pub restart_closings : Option NodeState → List Effect
+restart_closings None = []
+restart_closings (Some n) = closings (map (λ (e : OpenEndpoint). e.inc) n.endpoints)
+
+-- the effects of a restart: the ends of the sessions of its node, and what it closes there
+abbrev pub restart_effects : Known → ℕ → List Effect
+restart_effects t node =
+    downs_in t.book node (length t.book.links) ++ restart_closings (kernel_of t.kernels node)
 
 -- the effects of the k-th step: of a restart at the node that it restarts, of a call at its maker's
 abbrev pub effects_of_step : Option NodeNo → Known → ℕ → By → Head → List Effect
-effects_of_step (Some m) t k by head = restart_effects (kernel_of t.kernels m.0)
+effects_of_step (Some m) t k by head = restart_effects t m.0
 effects_of_step None t k by head =
     call_effects (kernel_of_maker t by) k (endpoint_of_maker t by) head
 
@@ -163,9 +179,40 @@ kernels_past None t k by head =
     slice_set t.kernels (node_by t.shape by - 1)
     (call_after (kernel_of_maker t by) k (endpoint_of_maker t by) head)
 
--- WHAT A STEP LEAVES OF THE KERNELS, by its number, its maker and its head
+-- what a step off the links leaves of the kernels, by its number, its maker and its head
 abbrev pub kernels_after : Known → ℕ → By → Head → List NodeState
 kernels_after t k by head = kernels_past (restarted_node head) t k by head
+
+-- ON THE LINKS. The node at a side of a link
+abbrev pub node_there : Known → LinkNo → Side → NodeNo
+node_there t l side = end_no (ends_in t.book l) side
+
+-- its kernel
+abbrev pub kernel_there : Known → LinkNo → Side → NodeState
+kernel_there t l side = kernel_in t.kernels (node_there t l side)
+
+-- the effects there of what these effects tell
+abbrev pub effects_there : Known → LinkNo → Side → List Effect → List Effect
+effects_there t l side es =
+    effects_brought (node_there t l side) (kernel_there t l side) l (told_by es)
+
+-- the kernels once this was brought in step k to the node of this number
+abbrev pub kernels_with : List NodeState → ℕ → NodeNo → LinkNo → Brought → List NodeState
+kernels_with kernels k at l what =
+    slice_set kernels (at.0 - 1) (after_brought (kernel_in kernels at) l what k)
+
+-- the kernels after the k-th step, which brings to a side of a link what its effects tell
+abbrev pub kernels_brought : Known → ℕ → LinkNo → Side → List Effect → List NodeState
+kernels_brought t k l side es = kernels_with t.kernels k (node_there t l side) l (told_by es)
+
+-- the kernels after a step that reaches a side of a link, or is off the links
+abbrev pub kernels_reached : Option (LinkNo × Side) → Known → ℕ → Step → List NodeState
+kernels_reached None t k s = kernels_after t k s.by s.head
+kernels_reached (Some at) t k s = kernels_brought t k at.0 at.1 s.effects
+
+-- WHAT A STEP LEAVES OF THE KERNELS, by its number
+abbrev pub kernels_left : Known → ℕ → Step → List NodeState
+kernels_left t k s = kernels_reached (side_reached s.head) t k s
 
 -- each standing is past a step
 pub record ArePast (s : Step) (old new : List Standing) : Type 0 where
@@ -173,8 +220,16 @@ pub record ArePast (s : Step) (old new : List Standing) : Type 0 where
   pub each : (k : ℕ) (x : Standing) → slice_get old k ≡ Some x
       → slice_get new k ≡ Some (standing_past (is_by s.by (suc k)) s.head s.effects x)
 
+-- all but the kernels is past a step, whose maker has this endpoint
+pub record HavePassed (me : Option Inc) (s : Step) (old new : Known) : Type 0 where
+  pub shape : new.shape ≡ old.shape
+  pub kernels : new.kernels ≡ old.kernels
+  pub standings : ArePast s old.standings new.standings
+  pub book : IsBookPast me s old.book new.book
+
 -- WHAT IT KNOWS after a step that is the k-th
 pub record IsPast (k : ℕ) (s : Step) (old new : Known) : Type 0 where
   pub shape : new.shape ≡ old.shape
-  pub kernels : new.kernels ≡ kernels_after old k s.by s.head
+  pub kernels : new.kernels ≡ kernels_left old k s
   pub standings : ArePast s old.standings new.standings
+  pub book : IsBookPast (endpoint_of_maker old s.by) s old.book new.book

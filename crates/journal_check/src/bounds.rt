@@ -1,8 +1,8 @@
 //! Laws of a head alone.
-ghost use Rattle.std.specs.Prelude.{◌≡◌, ◌↔◌, IsTrue, is_none, is_some};
+ghost use Rattle.std.specs.Prelude.{◌≡◌, is_none, is_some};
 ghost use Rattle.journal.specs.Laws.{is_endpoints, is_opening, name_of_path};
 ghost use Rattle.linx_base.specs.NameText.{is_name};
-ghost use Rattle.journal_check.specs.Calls.{is_bounded, is_of_link, is_on_link, suits};
+ghost use Rattle.journal_check.specs.Calls.{is_bounded, suits};
 
 use journal::Head;
 use linx_base::{Inc, Name, Path};
@@ -68,25 +68,5 @@ pub(crate) fn is_bounded(head: &Head) -> bool
         Head::Hunt(path, note) => has_name(path) && note.data().len() <= DATA_MOST,
         Head::Attach(_, note) => note.data().len() < DATA_MOST,
         _ => true,
-    }
-}
-
-/// Whether the laws of packets and of ticks name the effects of a head.
-pub(crate) fn is_on_link(head: &Head) -> bool
-    ensures { result ≡ is_on_link head.now }
-{
-    match head {
-        Head::Wire(..) | Head::Tick(..) => true,
-        _ => false,
-    }
-}
-
-/// Whether a head speaks of a link.
-pub(crate) fn is_of_link(head: &Head) -> bool
-    ensures { result ≡ is_of_link head.now }
-{
-    match head {
-        Head::Cut(_) | Head::Mend(_) | Head::Settle(_) | Head::Wire(..) | Head::Tick(..) => true,
-        _ => false,
     }
 }

@@ -1,6 +1,5 @@
 //! The check of a whole journal.
-ghost use Rattle.std.specs.Prelude.{◌≡◌, ◌↔◌, ◌≤◌, ◌<◌, length, IfOk, None};
-ghost use Rattle.journal.specs.Histories.{first_steps};
+ghost use Rattle.std.specs.Prelude.{◌≡◌, ◌↔◌, ◌<◌, length, IfOk, None};
 ghost use Rattle.link_laws.specs.Laws.{IsLegal};
 ghost use Rattle.journal_check.specs.Faults.{IsAnswer};
 ghost use Rattle.fabric.specs.Remains.{IsLaidOut};
@@ -11,8 +10,7 @@ use journal::Journal;
 use linx_base::{LinkDecl, NoMemory, NodeNo};
 use std::alloc::Global;
 
-/// Whether a journal is legal for this shape, which has no links: nothing where it is, or else its
-/// first fault.
+/// Whether a journal is legal for this shape: nothing where it is, or else its first fault.
 pub fn first_illegal(
     alloc: Global,
     journal: &Journal,
@@ -21,7 +19,6 @@ pub fn first_illegal(
     actors: &[NodeNo],
 ) -> Result<Option<Fault>, NoMemory>
     requires laid_out { IsLaidOut nodes (record { links = links.now; actors = actors.now }) }
-    requires alone { length links.now ≡ 0 }
     requires short { length journal.now.log.steps < 4294967295 }
     ensures fault { IfOk result (IsAnswer (record { links = links.now; actors = actors.now })
         journal.now.log.steps) }

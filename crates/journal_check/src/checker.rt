@@ -1,40 +1,51 @@
-//! What a checker knows between two steps: a kernel for each node, and how each actor stands.
+//! What a checker knows between two steps: a kernel for each node, how each actor stands, and a book
+//! of all links.
 ghost use Rattle.std.specs.Prelude.{◌≡◌, ◌↔◌, ◌+◌, ◌-◌, ◌<◌, ◌≤◌, ◌==◌, ◌&&◌, ◌||◌, [], length};
 ghost use Rattle.std.specs.Prelude.{is_none, replicate, IfOk, OnOk, IsTrue, Some, None, true};
-ghost use Rattle.std.specs.Prelude.{false, slice_set};
+ghost use Rattle.std.specs.Prelude.{false, slice_set, ◌++◌};
 ghost use Rattle.std.specs.Option.{option_copied};
 ghost use Rattle.journal.specs.History.{is_by};
 ghost use Rattle.journal.specs.Laws.{may_make};
 ghost use Rattle.journal.specs.Shapes.{node_by};
 ghost use Rattle.node_kernel.specs.Nodes.{endpoint_limit};
+ghost use Rattle.link_check.specs.Books.{TakesStep};
+ghost use Rattle.link_check.specs.Downs.{downs_in};
+ghost use Rattle.link_check.specs.Links.{is_of_link};
+ghost use Rattle.link_check.specs.Told.{IsThere, keeps_cuts, keeps_rest, may_pass, may_tick};
+ghost use Rattle.fabric.specs.Remains.{IsLaidOut};
+ghost use Rattle.fabric.specs.Standings.{empty_nodes};
 ghost use Rattle.journal_check.specs.Calls.{AnswersAs, SendsAs, call_after, call_effects};
 ghost use Rattle.journal_check.specs.Calls.{is_bounded};
 ghost use Rattle.journal_check.specs.Standings.{fresh, standing_of};
-ghost use Rattle.fabric.specs.Remains.{IsLaidOut};
-ghost use Rattle.fabric.specs.Standings.{empty_nodes};
 ghost use Rattle.journal_check.specs.Tables.{AreLeft, ArePast, IsReady, all_leave_at_rest_in};
-ghost use Rattle.journal_check.specs.Tables.{effects_in, ended_in, endpoint_in, endpoint_of_maker};
-ghost use Rattle.journal_check.specs.Tables.{is_idle_in, is_made_by_maker, is_patient_actor};
+ghost use Rattle.journal_check.specs.Tables.{is_patient_actor, IsPast, kernels_past};
+ghost use Rattle.journal_check.specs.Tables.{effects_of_step, effects_in, ended_in, endpoint_in};
+ghost use Rattle.journal_check.specs.Tables.{endpoint_of_maker, is_idle_in, is_made_by_maker};
 ghost use Rattle.journal_check.specs.Tables.{is_vain_at, kernel_of, kernel_of_maker, kernels_after};
-ghost use Rattle.journal_check.specs.Tables.{IsPast, leaves_at_rest_in, makes_steps};
-ghost use Rattle.journal_check.specs.Tables.{restart_effects, kernels_past, restarted_in};
-ghost use Rattle.journal_check.specs.Tables.{effects_of_step, is_patient, restarted_node};
-ghost use Rattle.journal_check.specs.Tables.{waits_in_standing};
+ghost use Rattle.journal_check.specs.Tables.{leaves_at_rest_in, makes_steps, restart_closings};
+ghost use Rattle.journal_check.specs.Tables.{restart_effects, restarted_in, effects_there};
+ghost use Rattle.journal_check.specs.Tables.{kernels_brought, HavePassed, is_patient};
+ghost use Rattle.journal_check.specs.Tables.{restarted_node, waits_in_standing, kernel_there};
+ghost use Rattle.journal_check.specs.Tables.{kernels_with, node_there};
 
-use crate::call::{Called, call, heard, keeps_sends, quiet};
+use crate::bring::bring_to;
+use crate::call::{Called, call, heard, keeps_sends};
+use crate::same::same_effects;
 use crate::standing::Standing;
-use journal::{By, Head, Step};
-use linx_base::{Inc, LinkDecl, LinkNo, NoMemory, NodeNo};
+use journal::{By, Effect, Effects, Head, Step};
+use link_check::Book;
+use linx_base::{Inc, LinkDecl, LinkNo, NoMemory, NodeNo, Side};
 use node_kernel::Kernel;
 use sigsel::Sigsel;
 use std::alloc::Global;
 use std::marker::Model;
 
-/// The shape of a run, a kernel for each of its nodes, and how each of its actors stands.
+/// Where the actors of a run are, a kernel for each of its nodes, how each of its actors stands, and
+/// a book of its links.
 #[derive(Drop)]
 pub(crate) struct Checker {
     alloc: Global,
-    links: Vec<LinkDecl>,
+    book: Book,
     homes: Vec<NodeNo>,
     kernels: Vec<Kernel>,
     standings: Vec<Standing>,
@@ -46,9 +57,10 @@ impl Model for Checker {
     ghost Value = { Known };
 
     ghost view = { λ c. record {
-      shape = record { links = c.links.items; actors = c.homes.items };
+      shape = record { links = c.book.links; actors = c.homes.items };
       kernels = c.kernels.items;
       standings = c.standings.items;
+      book = c.book;
     } };
 }
 
@@ -123,10 +135,12 @@ impl Checker {
     {
         let kernels = kernels_of(alloc, nodes)?;
         let standings = standings_of(alloc, actors.len())?;
+        let book = Book::new(alloc, links)?;
+        let homes = Vec::from_slice(alloc, actors)?;
         Ok(Checker {
             alloc,
-            links: Vec::from_slice(alloc, links)?,
-            homes: Vec::from_slice(alloc, actors)?,
+            book,
+            homes,
             kernels,
             standings,
         })
@@ -159,7 +173,7 @@ impl Checker {
         match by {
             By::Actor(actor) => self.makes_steps(actor),
             By::Pump(link) => {
-                0 < link.0 && ((link.0 as usize) <= self.links.len() && may_pump(link, head))
+                0 < link.0 && ((link.0 as usize) <= self.book.link_count() && may_pump(link, head))
             }
         }
     }
@@ -291,20 +305,43 @@ impl Checker {
         keeps_sends(self.kernel_of_maker(actor), head)
     }
 
-    /// Restarts a node again, in any step.
-    fn restart(&mut self, node: NodeNo) -> Result<Called, NoMemory>
-        ensures effects { IfOk result (λ called. called.effects
-            ≡ restart_effects (kernel_of self.old.kernels node.0)) }
-        ensures answered { IfOk result (λ called. called.answered ≡ true) }
+    /// Restarts a node again, in any step. What is closed there.
+    fn close_all(&mut self, node: NodeNo) -> Result<Effects, NoMemory>
+        ensures effects { IfOk result (λ effects. effects
+            ≡ restart_closings (kernel_of self.old.kernels node.0)) }
         ensures after { OnOk result (self.new ≡ record self.old {
           kernels = restarted_in (kernel_of self.old.kernels node.0) self.old.kernels node.0;
         }) }
     {
         if node.0 == 0 || (node.0 as usize) > self.kernels.len() {
-            return Ok(quiet(self.alloc, true));
+            return Ok(Effects::new(self.alloc));
         }
-        let effects = self.kernels[node.0 as usize - 1].restart()?;
-        Ok(heard(effects))
+        self.kernels[node.0 as usize - 1].restart()
+    }
+
+    /// The ends of the sessions of a node that are up.
+    fn downs_of(&self, node: NodeNo) -> Result<Vec<Effect>, NoMemory>
+        requires ready { IsReady self.now }
+        ensures { IfOk result (λ downs. downs.items
+            ≡ downs_in self.now.book node.0 (length self.now.book.links)) }
+    {
+        self.book.downs_of(self.alloc, node)
+    }
+
+    /// Restarts a node again, in any step: the sessions of its links end, and then its endpoints are
+    /// closed.
+    fn restart(&mut self, node: NodeNo) -> Result<Called, NoMemory>
+        requires ready { IsReady self.old }
+        ensures effects { IfOk result (λ called. called.effects
+            ≡ restart_effects self.old node.0) }
+        ensures answered { IfOk result (λ called. called.answered ≡ true) }
+        ensures after { OnOk result (self.new ≡ record self.old {
+          kernels = restarted_in (kernel_of self.old.kernels node.0) self.old.kernels node.0;
+        }) }
+    {
+        let downs = self.downs_of(node)?;
+        let closings = self.close_all(node)?;
+        Ok(heard(joined(downs, closings)?))
     }
 
     /// Makes the call of a head again, at the kernel of its maker's node.
@@ -360,14 +397,89 @@ impl Checker {
         }
     }
 
-    /// Every actor passes a step.
-    pub(crate) fn pass(&mut self, step: &Step) -> Result<(), NoMemory>
-        ensures shape { self.new.shape ≡ self.old.shape }
-        ensures kernels { self.new.kernels ≡ self.old.kernels }
-        ensures standings { OnOk result (ArePast step.now self.old.standings self.new.standings) }
+    /// Runs what a packet or a tick brought to a side of a link again, and says whether its effects
+    /// are those that it then has.
+    pub(crate) fn bring(
+        &mut self,
+        link: LinkNo,
+        side: Side,
+        noted: &[Effect],
+        step: u64,
+    ) -> Result<bool, NoMemory>
+        requires ready { IsReady self.old }
+        requires there { IsThere self.old.book link }
+        ensures exact { IfOk result (λ exact. IsTrue exact
+            ↔ (noted.now ≡ effects_there self.old link side noted.now)) }
+        ensures after { OnOk result (self.new ≡ record self.old {
+          kernels = kernels_brought self.old step link side noted.now;
+        }) }
     {
+        let at = self.book.node_at(link, side);
+        let effects = bring_to(self.alloc, &mut self.kernels, at, link, noted, step)?;
+        Ok(same_effects(noted, effects.as_slice()))
+    }
+
+    /// Whether what a head says of a link is said of one that there is.
+    pub(crate) fn is_of_link(&self, head: &Head) -> bool
+        ensures { result ≡ is_of_link (length self.now.book.links) head.now }
+    {
+        self.book.is_of_link(head)
+    }
+
+    /// Whether a receive that finds none finds every link still.
+    pub(crate) fn keeps_rest(&self, head: &Head) -> bool
+        requires ready { IsReady self.now }
+        ensures { result ≡ keeps_rest self.now.book self.now.kernels head.now }
+    {
+        self.book.keeps_rest(&self.kernels, head)
+    }
+
+    /// Whether what the packet of a step brings may come.
+    pub(crate) fn may_pass(&self, step: &Step) -> bool
+        requires ready { IsReady self.now }
+        requires of_link { is_of_link (length self.now.book.links) step.now.head ≡ true }
+        ensures { result
+            ≡ may_pass self.now.book self.now.kernels step.now.head step.now.effects }
+    {
+        self.book.may_pass(&self.kernels, step)
+    }
+
+    /// Whether a packet meets a verdict that its link allows.
+    pub(crate) fn keeps_cuts(&self, head: &Head) -> bool
+        requires ready { IsReady self.now }
+        requires of_link { is_of_link (length self.now.book.links) head.now ≡ true }
+        ensures { result ≡ keeps_cuts self.now.book head.now }
+    {
+        self.book.keeps_cuts(head)
+    }
+
+    /// Whether what the tick of a step brings may come.
+    pub(crate) fn may_tick(&self, step: &Step) -> bool
+        requires ready { IsReady self.now }
+        requires of_link { is_of_link (length self.now.book.links) step.now.head ≡ true }
+        ensures { result ≡ may_tick self.now.book step.now.head step.now.effects }
+    {
+        self.book.may_tick(step)
+    }
+
+    /// Every actor and the book pass a step, whose maker has this endpoint.
+    pub(crate) fn pass(&mut self, me: Option<Inc>, step: &Step) -> Result<(), NoMemory>
+        requires takes { TakesStep self.old.book }
+        ensures { OnOk result (HavePassed me step.now self.old self.new) }
+    {
+        self.book.pass(me, step)?;
         pass_all(&mut self.standings, step)
     }
+}
+
+/// Some effects, and further ones.
+fn joined(first: Vec<Effect>, rest: Effects) -> Result<Effects, NoMemory>
+    ensures { IfOk result (λ all. all ≡ first.items ++ rest) }
+{
+    let mut all = first;
+    let mut rest = rest.into_vec();
+    all.append(&mut rest)?;
+    Ok(Effects::of(all))
 }
 
 /// Every one of these passes a step.

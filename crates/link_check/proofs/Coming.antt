@@ -70,7 +70,7 @@ module _ (P : List Step) where
 
   -- BOTH, by the head
   module _ (shape : Shape) where
-    splits : (head : Head) (es : List Effect) → KeepsPackets shape P head es
+    pub splits : (head : Head) (es : List Effect) → KeepsPackets shape P head es
         → KeepsTicks shape P head es
         → MayPass shape P head es × (MayTick shape P head es × HasExact shape P head es)
     splits (Wire l from verdict) es packet tick =
@@ -80,14 +80,14 @@ module _ (P : List Step) where
         let parts = tick-splits (node_at shape l side) l side es tick in (tt, (parts.0, parts.1))
     splits _ es packet tick = (tt, (tt, tt))
 
-    packets-join : (head : Head) (es : List Effect) → MayPass shape P head es
+    pub packets-join : (head : Head) (es : List Effect) → MayPass shape P head es
         → HasExact shape P head es → KeepsPackets shape P head es
     packets-join (Wire l from verdict) es may exact =
         packet-joins (delivers verdict) (node_at shape l (other_of from)) (node_at shape l from) l
         es may exact
     packets-join _ es may exact = tt
 
-    ticks-join : (head : Head) (es : List Effect) → MayTick shape P head es
+    pub ticks-join : (head : Head) (es : List Effect) → MayTick shape P head es
         → HasExact shape P head es → KeepsTicks shape P head es
     ticks-join (Tick l side) es may exact =
         tick-joins (node_at shape l side) l side es may exact
@@ -102,15 +102,21 @@ legal-by-laws shape P s = (to, back)
         let parts = splits P shape s.head s.effects legal.packets legal.ticks in
         record {
           nodes = legal.nodes;
-          links = (parts.1.0, (legal.cuts, (parts.0, (legal.rest, (legal.nodes.links, tt)))));
+          links = record {
+            links = legal.nodes.links;
+            rest = legal.rest;
+            packets = parts.0;
+            cuts = legal.cuts;
+            ticks = parts.1.0;
+          };
           exact = parts.1.1;
         }
 
     back : IsLegalBy shape P s → IsLegalStep shape P s
     back by = record {
       nodes = by.nodes;
-      rest = by.links.1.1.1.0;
-      packets = packets-join P shape s.head s.effects by.links.1.1.0 by.exact;
-      cuts = by.links.1.0;
-      ticks = ticks-join P shape s.head s.effects by.links.0 by.exact;
+      rest = by.links.rest;
+      packets = packets-join P shape s.head s.effects by.links.packets by.exact;
+      cuts = by.links.cuts;
+      ticks = ticks-join P shape s.head s.effects by.links.ticks by.exact;
     }

@@ -9,4 +9,5 @@ pub mod Orderly
 pub mod Lines
 pub mod Books
 pub mod Told
+pub mod Downs
 pub mod Judging

@@ -1,6 +1,6 @@
 -- The laws of links, as a book and the kernels of the nodes tell them.
-use Rattle.std.specs.Prelude.{ℕ, zero, suc, ◌-◌, ◌<◌, ◌≤◌, ◌≡◌, Bool, true, false, ◌&&◌, List, []}
-use Rattle.std.specs.Prelude.{is_none, length, Option, Some, None, slice_get, if◌then◌else◌}
+use Rattle.std.specs.Prelude.{ℕ, zero, suc, ◌-◌, ◌<◌, ◌≤◌, ◌≡◌, Bool, true, false, ◌&&◌, List}
+use Rattle.std.specs.Prelude.{is_none, length, Option, Some, None, slice_get}
 use Rattle.std.specs.List.{AllByRecursion}
 use Rattle.std.specs.Option.{unwrap_or}
 use Rattle.linx_base.specs.Sides.{other_of}
@@ -22,12 +22,9 @@ use Rattle.link_check.specs.Books.{BookSoFar, IsBookLeft, TakesStep, delivery_at
 use Rattle.link_check.specs.Cuts.{loses_if_cut}
 use Rattle.link_check.specs.Deliveries.{Known, is_session, may_bring}
 use Rattle.link_check.specs.Lines.{LineSoFar, fresh_line, side_in}
-use Rattle.link_check.specs.Links.{is_of_link}
 use Rattle.link_check.specs.Orderly.{IsNodeTold}
 use Rattle.link_check.specs.Stillness.{Ends, is_still}
 use Rattle.link_check.specs.Ticks.{session_to_lose}
-use Rattle.link_check.specs.declared.law.LinkLaw.{LinkLaw}
-use Rattle.link_check.specs.declared.law.LinkLaw.TheVariants as laws
 
 -- WHAT IS READ. The nodes of a link of a book, by its number
 abbrev pub nowhere : LinkDecl
@@ -103,24 +100,6 @@ may_lose side es = may_lose_if side (slice_get es 0)
 abbrev pub may_tick : BookSoFar → Head → List Effect → Bool
 may_tick book (Tick l side) es = may_lose (side_in (line_in book l) side) es
 may_tick book _ es = true
-
--- A STEP KEEPS A LAW, as they tell it
-abbrev pub told : BookSoFar → List NodeState → Step → LinkLaw → Bool
-told book kernels s laws.Links = is_of_link (length book.links) s.head
-told book kernels s laws.Rest = keeps_rest book kernels s.head
-told book kernels s laws.Packets = may_pass book kernels s.head s.effects
-told book kernels s laws.Cuts = keeps_cuts book s.head
-told book kernels s laws.Ticks = may_tick book s.head s.effects
-
--- the first law that isn't kept
-abbrev pub first_told : (LinkLaw → Bool) → Option LinkLaw
-first_told keeps =
-    if keeps laws.Links
-    then (if keeps laws.Rest
-    then (if keeps laws.Packets
-    then (if keeps laws.Cuts
-    then (if keeps laws.Ticks then None else Some laws.Ticks)
-    else Some laws.Cuts) else Some laws.Packets) else Some laws.Rest) else Some laws.Links
 
 -- WHAT A BOOK IS READ WITH. A link is between two nodes of so many
 pub record IsBetween (nodes : ℕ) (ends : LinkDecl) : Type 0 where

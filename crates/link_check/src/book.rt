@@ -1,21 +1,19 @@
 //! What is kept of all links, step by step.
-ghost use Rattle.std.specs.Prelude.{◌≡◌, ◌<◌, ◌≤◌, [], ◌∷◌, length, replicate, slice_get};
-ghost use Rattle.std.specs.Prelude.{IfOk, List, OnOk, Some};
-ghost use Rattle.journal.specs.History.{endpoint_by};
-ghost use Rattle.journal.specs.Shapes.{Shape};
-ghost use Rattle.journal.specs.declared.effect.Step.{Step as Made};
-ghost use Rattle.link_laws.specs.Laws.{IsLegalStep};
+ghost use Rattle.std.specs.Prelude.{◌≡◌, ◌<◌, ◌≤◌, [], length, replicate, slice_get};
+ghost use Rattle.std.specs.Prelude.{IfOk, OnOk, Some, option_to_list};
+ghost use Rattle.link_laws.specs.Laws.{down_if};
 ghost use Rattle.link_check.specs.Books.{ArePast, HaveRoom, IsBookLeft, IsFresh, IsPast, TakesStep};
 ghost use Rattle.link_check.specs.Books.{end_no};
+ghost use Rattle.link_check.specs.Downs.{downs_in, session_on};
 ghost use Rattle.link_check.specs.Lines.{fresh_line, side_in};
 ghost use Rattle.link_check.specs.Told.{IsReady, IsThere, ends_in, ends_of, kernel_in, known_at, line_in};
 
 use crate::delivery::Delivery;
 use crate::line_table::LineTable;
 use crate::still::Line;
-use journal::Step;
+use journal::{Effect, Step};
 use link_tables::{Arrivals, Marks, Sent, SideTable};
-use linx_base::{Inc, LinkDecl, LinkNo, NoMemory, NodeNo, Side};
+use linx_base::{Inc, LinkDecl, LinkNo, NoMemory, NodeNo, Session, Side};
 use node_kernel::Kernel;
 use std::alloc::Global;
 use std::marker::Model;
@@ -121,7 +119,7 @@ impl Book {
     }
 
     /// Passes a step, whose maker has this endpoint.
-    fn pass_each(&mut self, me: Option<Inc>, step: &Step) -> Result<(), NoMemory>
+    pub fn pass(&mut self, me: Option<Inc>, step: &Step) -> Result<(), NoMemory>
         requires takes { TakesStep self.old }
         ensures { OnOk result (IsPast me step.now self.old self.new) }
     {
@@ -132,18 +130,8 @@ impl Book {
         Ok(())
     }
 
-    /// Passes a legal step, whose maker has this endpoint.
-    pub fn pass(&mut self, me: Option<Inc>, step: &Step) -> Result<(), NoMemory>
-        requires takes { TakesStep self.old }
-        ensures { (shape : Shape) (P : List Made) → IsBookLeft P shape.links self.old
-            → IsLegalStep shape P step.now → me ≡ endpoint_by P step.now.by
-            → OnOk result (IsBookLeft (step.now ∷ P) shape.links self.new) }
-    {
-        self.pass_each(me, step)
-    }
-
     /// How many links there are.
-    pub(crate) fn link_count(&self) -> usize
+    pub fn link_count(&self) -> usize
         ensures { result ≡ length self.now.links }
     {
         self.links.len()
@@ -156,6 +144,14 @@ impl Book {
     {
         let place = (link.0 - 1) as usize;
         &self.links[place]
+    }
+
+    /// The node at a side of a link.
+    pub fn node_at(&self, link: LinkNo, side: Side) -> NodeNo
+        requires there { IsThere self.now link }
+        ensures { result ≡ end_no (ends_in self.now link) side }
+    {
+        end_of(self.link_of(link), side)
     }
 
     /// What is kept of a link.
@@ -184,6 +180,50 @@ impl Book {
         ensures { result.now ≡ side_in (line_in self.now link) side }
     {
         self.line_of(link).side(side)
+    }
+
+    /// The session of a node on a link, if it is up there.
+    fn session_on(&self, link: LinkNo, node: NodeNo) -> Option<Session>
+        requires takes { TakesStep self.now }
+        requires there { IsThere self.now link }
+        ensures { result ≡ session_on self.now link node.0 }
+    {
+        let ends = self.link_of(link);
+        let line = self.line_of(link);
+        if ends.first.0 == node.0 {
+            line.side(Side::First).up()
+        } else if ends.second.0 == node.0 {
+            line.side(Side::Second).up()
+        } else {
+            None
+        }
+    }
+
+    /// The end of the session of a node on a link, if it is up there.
+    fn down_on(&self, link: LinkNo, node: NodeNo) -> Option<Effect>
+        requires takes { TakesStep self.now }
+        requires there { IsThere self.now link }
+        ensures { option_to_list result ≡ down_if node.0 link.0 (session_on self.now link node.0) }
+    {
+        match self.session_on(link, node) {
+            Some(session) => Some(Effect::Down(node, link, session)),
+            None => None,
+        }
+    }
+
+    /// The ends of the sessions of a node that are up, by the numbers of their links.
+    pub fn downs_of(&self, alloc: Global, node: NodeNo) -> Result<Vec<Effect>, NoMemory>
+        requires takes { TakesStep self.now }
+        ensures { IfOk result (λ downs. downs.items
+            ≡ downs_in self.now node.0 (length self.now.links)) }
+    {
+        let mut downs = Vec::new(alloc);
+        for place in 0..self.link_count() {
+            if let Some(down) = self.down_on(LinkNo(place as u32 + 1), node) {
+                downs.push(down)?;
+            }
+        }
+        Ok(downs)
     }
 
     /// What is known where a packet of a link comes to a side, where the nodes have these kernels.

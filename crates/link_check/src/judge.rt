@@ -1,20 +1,15 @@
-//! Which law of links a step breaks.
-ghost use Rattle.std.specs.Prelude.{◌≡◌, List, length, true};
+//! Whether a step keeps the laws of links.
+ghost use Rattle.std.specs.Prelude.{◌≡◌, length, true};
 ghost use Rattle.link_laws.specs.Laws.{delivers};
-ghost use Rattle.journal.specs.Shapes.{Shape};
-ghost use Rattle.journal.specs.declared.effect.Step.{Step as Made};
-ghost use Rattle.link_check.specs.Judging.{IsVerdict};
 ghost use Rattle.link_check.specs.Links.{is_of_link};
-ghost use Rattle.link_check.specs.Told.{AreLeft, IsReady, all_still, are_none};
-ghost use Rattle.link_check.specs.Told.{first_told, keeps_cuts, keeps_rest};
-ghost use Rattle.link_check.specs.Told.{may_lose, may_lose_by, may_pass, may_pass_if, may_tick, told};
+ghost use Rattle.link_check.specs.Told.{IsReady, all_still, are_none, keeps_cuts, keeps_rest};
+ghost use Rattle.link_check.specs.Told.{may_lose, may_lose_by, may_pass, may_pass_if, may_tick};
 ghost use Rattle.link_check.specs.Books.{TakesStep};
 ghost use Rattle.link_tables.specs.Sides.{HasRoom};
 
 use crate::book::Book;
 use crate::cut::loses_if_cut;
 use crate::delivery::{Delivery, is_session};
-use crate::law::LinkLaw;
 use crate::shape::is_of_link;
 use crate::tick::session_to_lose;
 use journal::{Effect, Head, Step};
@@ -89,8 +84,15 @@ impl Book {
         all
     }
 
-    /// Whether a receive that finds none may do so.
-    fn keeps_rest(&self, kernels: &[Kernel], head: &Head) -> bool
+    /// Whether what a head says of a link is said of one that there is.
+    pub fn is_of_link(&self, head: &Head) -> bool
+        ensures { result ≡ is_of_link (length self.now.links) head.now }
+    {
+        is_of_link(self.link_count(), head)
+    }
+
+    /// Whether a receive that finds none may do so, where the nodes have these kernels.
+    pub fn keeps_rest(&self, kernels: &[Kernel], head: &Head) -> bool
         requires ready { IsReady self.now kernels.now }
         ensures { result ≡ keeps_rest self.now kernels.now head.now }
     {
@@ -100,8 +102,8 @@ impl Book {
         }
     }
 
-    /// Whether what the packet of a step brings may come.
-    fn may_pass(&self, kernels: &[Kernel], step: &Step) -> bool
+    /// Whether what the packet of a step brings may come, where the nodes have these kernels.
+    pub fn may_pass(&self, kernels: &[Kernel], step: &Step) -> bool
         requires ready { IsReady self.now kernels.now }
         requires of_link { is_of_link (length self.now.links) step.now.head ≡ true }
         ensures { result ≡ may_pass self.now kernels.now step.now.head step.now.effects }
@@ -116,7 +118,7 @@ impl Book {
     }
 
     /// Whether a packet meets a verdict that its link allows.
-    fn keeps_cuts(&self, head: &Head) -> bool
+    pub fn keeps_cuts(&self, head: &Head) -> bool
         requires takes { TakesStep self.now }
         requires of_link { is_of_link (length self.now.links) head.now ≡ true }
         ensures { result ≡ keeps_cuts self.now head.now }
@@ -128,7 +130,7 @@ impl Book {
     }
 
     /// Whether what the tick of a step brings may come.
-    fn may_tick(&self, step: &Step) -> bool
+    pub fn may_tick(&self, step: &Step) -> bool
         requires takes { TakesStep self.now }
         requires of_link { is_of_link (length self.now.links) step.now.head ≡ true }
         ensures { result ≡ may_tick self.now step.now.head step.now.effects }
@@ -137,43 +139,5 @@ impl Book {
             Head::Tick(link, side) => { may_lose(self.side(*link, *side), step.effects.as_slice()) }
             _ => true,
         }
-    }
-
-    /// The first law that a step breaks, as the book and these kernels tell it.
-    fn first_told(&self, kernels: &[Kernel], step: &Step) -> Option<LinkLaw>
-        requires ready { IsReady self.now kernels.now }
-        ensures { result ≡ first_told (told self.now kernels.now step.now) }
-    {
-        let links = is_of_link(self.link_count(), &step.head);
-        if !links {
-            return Some(LinkLaw::Links);
-        }
-        let rest = self.keeps_rest(kernels, &step.head);
-        if !rest {
-            return Some(LinkLaw::Rest);
-        }
-        let packets = self.may_pass(kernels, step);
-        if !packets {
-            return Some(LinkLaw::Packets);
-        }
-        let cuts = self.keeps_cuts(&step.head);
-        if !cuts {
-            return Some(LinkLaw::Cuts);
-        }
-        let ticks = self.may_tick(step);
-        if !ticks {
-            return Some(LinkLaw::Ticks);
-        }
-        None
-    }
-
-    /// The first law of links that a step breaks, where the nodes have these kernels; none where it
-    /// keeps them all.
-    pub fn first_broken(&self, kernels: &[Kernel], step: &Step) -> Option<LinkLaw>
-        requires ready { IsReady self.now kernels.now }
-        ensures { (shape : Shape) (P : List Made) → AreLeft shape P self.now kernels.now
-            → IsVerdict shape P step.now result }
-    {
-        self.first_told(kernels, step)
     }
 }
