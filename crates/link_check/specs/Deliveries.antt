@@ -156,5 +156,6 @@ abbrev pub may_bring_if : Known → Option Effect → Bool
 may_bring_if d None = true
 may_bring_if d (Some e) = may_be_first d e
 
+-- what a packet brings may come: its first effect tells what it is, and none is always one
 abbrev pub may_bring : Known → List Effect → Bool
 may_bring d es = may_bring_if d (slice_get es 0)

@@ -26,10 +26,11 @@ use Rattle.link_check.specs.Orderly.{IsNodeTold}
 use Rattle.link_check.specs.Stillness.{Ends, is_still}
 use Rattle.link_check.specs.Ticks.{session_to_lose}
 
--- WHAT IS READ. The nodes of a link of a book, by its number
+-- the nodes of a link that there isn't
 abbrev pub nowhere : LinkDecl
 nowhere = record { first = record { 0 = 0 }; second = record { 0 = 0 }; window = 0; piece = 0 }
 
+-- WHAT IS READ: the nodes of a link of a book, by its number
 abbrev pub ends_in : BookSoFar → LinkNo → LinkDecl
 ends_in book l = unwrap_or (slice_get book.links (l.0 - 1)) nowhere
 
@@ -61,6 +62,7 @@ all_still book kernels zero = true
 all_still book kernels (suc k) =
     all_still book kernels k && is_still (ends_of book kernels (record { 0 = suc k }))
 
+-- the law of rest: a receive finds none only where every link is still
 abbrev pub keeps_rest : BookSoFar → List NodeState → Head → Bool
 keeps_rest book kernels (TakeNone filter) = all_still book kernels (length book.links)
 keeps_rest book kernels _ = true
@@ -74,6 +76,7 @@ abbrev pub may_pass_if : Bool → Known → List Effect → Bool
 may_pass_if true d es = may_bring d es
 may_pass_if false d es = are_none es
 
+-- the law of packets: what a packet brings may come at the side that it goes to
 abbrev pub may_pass : BookSoFar → List NodeState → Head → List Effect → Bool
 may_pass book kernels (Wire l from verdict) es =
     may_pass_if (delivers verdict) (known_at book kernels l (other_of from)) es
@@ -97,6 +100,7 @@ may_lose_if side (Some e) = may_lose_by side e
 abbrev pub may_lose : SideSoFar → List Effect → Bool
 may_lose side es = may_lose_if side (slice_get es 0)
 
+-- the law of ticks: what a tick tells may come at the side that ticks
 abbrev pub may_tick : BookSoFar → Head → List Effect → Bool
 may_tick book (Tick l side) es = may_lose (side_in (line_in book l) side) es
 may_tick book _ es = true
