@@ -1,6 +1,6 @@
 use Rattle.std.proofs.Common.{◌≤◌, ◌<◌, length, arith}
 use Rattle.text_check.proofs.Few.{steps_few}
-use Rattle.text_check.proofs.checking.check_unlinked.Goals as goal
+use Rattle.text_check.proofs.checking.check_of.Goals as goal
 
 pub judge-requires-clause-few : goal.judge-requires-clause-few
 judge-requires-clause-few c =
