@@ -79,7 +79,7 @@ said_of Check = record {
   usage = codes "check [FILE]";
   line = codes "tell whether a printed run is legal";
   paragraph =
-      codes "Reads a script, behind it a line `text`, and behind that the text of a run, all from FILE,\nor from standard input, and looks at each step by the laws of LINX, whoever made the\ntext. It writes legal and how many steps there are where the text is that of a legal\nrun of the script. Else it exits 7 and names the first step that isn't legal, and the\nlaw that it breaks. Scripts with links can't be checked yet.\n";
+      codes "Reads a script, behind it a line `text`, and behind that the text of a run, all from FILE,\nor from standard input, and looks at each step by the laws of LINX, whoever made the\ntext. It writes legal and how many steps there are where the text is that of a legal\nrun of the script. Else it exits 7 and names the first step that isn't legal, and the\nlaw that it breaks.\n";
   example =
       codes "(cat examples/question.linx; echo text; linx_sim run examples/question.linx) | linx_sim check";
 }

@@ -147,7 +147,7 @@ impl Word {
                     or from standard input, and looks at each step by the laws of LINX, whoever made the\n\
                     text. It writes legal and how many steps there are where the text is that of a legal\n\
                     run of the script. Else it exits 7 and names the first step that isn't legal, and the\n\
-                    law that it breaks. Scripts with links can't be checked yet.\n",
+                    law that it breaks.\n",
                 example: "(cat examples/question.linx; echo text; linx_sim run examples/question.linx) | linx_sim check",
             },
             Word::Chart => Said {

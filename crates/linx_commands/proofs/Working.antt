@@ -255,7 +255,6 @@ check_written bytes _ text writes legal = cc
 pub check_stopped : (bytes : List ℕ) (stop : CheckStop) (text : List ℕ) → IsRefusedInput bytes stop
     → IsCheckEnd bytes (check_status stop) text
 check_stopped bytes (check_stops.Bad line fault) text refused = refused
-check_stopped bytes check_stops.Linked text refused = refused
 check_stopped bytes (check_stops.Unread line) text refused = refused
 check_stopped bytes (check_stops.Full line) text refused = refused
 check_stopped bytes (check_stops.Illegal fault) text refused = refused
@@ -265,7 +264,6 @@ check_stopped bytes check_stops.NoMemory text refused = tt
 -- and nothing is written then
 pub silent_check : (stop : CheckStop) → is_silent (check_status stop) ≡ true
 silent_check (check_stops.Bad line fault) = refl
-silent_check check_stops.Linked = refl
 silent_check (check_stops.Unread line) = refl
 silent_check (check_stops.Full line) = refl
 silent_check (check_stops.Illegal fault) = refl

@@ -12,7 +12,7 @@ use Rattle.linx_commands.specs.declared.outcome.Status.TheVariants.{Done, Script
 use Rattle.linx_commands.specs.declared.outcome.Status.TheVariants.{NoMemory, Text, Illegal}
 use Rattle.linx_commands.specs.declared.outcome.TextFault.{TextFault}
 use Rattle.linx_commands.specs.declared.outcome.TextFault.TheVariants.{Bad, Full, Long, Missing}
-use Rattle.linx_commands.specs.declared.outcome.TextFault.TheVariants.{Log as LogAt, Linked}
+use Rattle.linx_commands.specs.declared.outcome.TextFault.TheVariants.{Log as LogAt}
 
 -- an input has a script and the text of a legal run of it, and this is written of that
 pub record IsLegalInput (bytes text : List ℕ) : Type 0 where
@@ -35,7 +35,6 @@ abbrev pub IsFaultOfInput : List ℕ → TextFault → Type 0
 IsFaultOfInput bytes (Bad line) = IsRefusedInput bytes (stops.Unread line)
 IsFaultOfInput bytes (Full line) = IsRefusedInput bytes (stops.Full line)
 IsFaultOfInput bytes (LogAt line) = IsRefusedInput bytes (stops.Log line)
-IsFaultOfInput bytes Linked = IsRefusedInput bytes stops.Linked
 IsFaultOfInput bytes Long = text_most < length bytes
 IsFaultOfInput bytes Missing = HasNoText bytes
 IsFaultOfInput bytes _ = ⊥
@@ -53,7 +52,6 @@ IsCheckEnd bytes _ text = ⊥
 -- how a check ends whose text isn't that of a legal run
 abbrev pub check_status : CheckStop → Status
 check_status (stops.Bad line fault) = Script line fault
-check_status stops.Linked = Text Linked
 check_status (stops.Unread line) = Text (Bad line)
 check_status (stops.Full line) = Text (Full line)
 check_status (stops.Illegal fault) = Illegal fault

@@ -26,7 +26,7 @@ use Rattle.linx_commands.specs.declared.outcome.Status.TheVariants.{BadStream, F
 use Rattle.linx_commands.specs.declared.outcome.Status.TheVariants.{Unlike, Illegal, Unmade, Unkept}
 use Rattle.linx_commands.specs.declared.outcome.TextFault.{TextFault}
 use Rattle.linx_commands.specs.declared.outcome.TextFault.TheVariants.{Bad, Full, Long, Rows, Lanes}
-use Rattle.linx_commands.specs.declared.outcome.TextFault.TheVariants.{Missing, Log as LogAt, Linked}
+use Rattle.linx_commands.specs.declared.outcome.TextFault.TheVariants.{Missing, Log as LogAt}
 use Rattle.linx_commands.specs.declared.outcome.Unlike.{Unlike as UnlikeBy}
 use Rattle.linx_commands.specs.declared.outcome.Unlike.TheVariants.{Line, Filled}
 use Rattle.linx_commands.specs.declared.phrase.Phrase.{Phrase}
@@ -72,7 +72,6 @@ phrase_of says.NoTextBehind = codes "no line `text` behind the script"
 phrase_of says.AnotherLine = codes ": the run has another line here"
 phrase_of says.TurnsFill = codes "the turns of the text fill the journal"
 phrase_of says.AnotherLog = codes ": the steps tell another log"
-phrase_of says.HasLinks = codes "runs over links can't be checked yet"
 phrase_of says.StepAt = codes "step "
 phrase_of says.BreaksLaw = codes " breaks the law "
 
@@ -135,7 +134,6 @@ text_fault_text Rows = phrase_of says.TooManyRows
 text_fault_text Lanes = phrase_of says.TooManyLanes
 text_fault_text Missing = phrase_of says.NoTextBehind
 text_fault_text (LogAt line) = phrase_of says.TextLine ++ decimal line ++ phrase_of says.AnotherLog
-text_fault_text Linked = phrase_of says.HasLinks
 
 -- how a printed text shows that no run has it
 unfoldable pub unlike_text : UnlikeBy → List ℕ

@@ -21,7 +21,6 @@ fn status_of_check(stop: CheckStop) -> Status
 {
     match stop {
         CheckStop::Bad { line, fault } => Status::Script { line, fault },
-        CheckStop::Linked => Status::Text(TextFault::Linked),
         CheckStop::Unread { line } => Status::Text(TextFault::Bad { line }),
         CheckStop::Full { line } => Status::Text(TextFault::Full { line }),
         CheckStop::Illegal(fault) => Status::Illegal(fault),

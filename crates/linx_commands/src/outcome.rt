@@ -25,8 +25,6 @@ pub enum TextFault {
     Missing,
     /// The first line, from 1, that isn't that of the logs which its steps tell.
     Log { line: u64 },
-    /// Its script declares links, and no run over links is judged.
-    Linked,
 }
 
 /// How a printed text shows that no run of a script has it.

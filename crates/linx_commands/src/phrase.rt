@@ -81,8 +81,6 @@ pub enum Phrase {
     TurnsFill,
     /// That line isn't of the logs.
     AnotherLog,
-    /// A script has links.
-    HasLinks,
     /// The number of a step follows.
     StepAt,
     /// The law follows that a step breaks.
@@ -135,7 +133,6 @@ impl Phrase {
             Phrase::AnotherLine => ": the run has another line here",
             Phrase::TurnsFill => "the turns of the text fill the journal",
             Phrase::AnotherLog => ": the steps tell another log",
-            Phrase::HasLinks => "runs over links can't be checked yet",
             Phrase::StepAt => "step ",
             Phrase::BreaksLaw => " breaks the law ",
         }

@@ -169,7 +169,6 @@ fn push_text_fault(line: &mut Line, fault: TextFault)
         TextFault::Lanes => line.push(Phrase::TooManyLanes.text()),
         TextFault::Missing => line.push(Phrase::NoTextBehind.text()),
         TextFault::Log { line: number } => push_text_line(line, number, Phrase::AnotherLog),
-        TextFault::Linked => line.push(Phrase::HasLinks.text()),
     }
 }
 

@@ -1,5 +1,5 @@
 -- THE TEXT OF A LEGAL RUN of a script, and why a text isn't one.
-use Rattle.std.specs.Prelude.{ℕ, ◌≡◌, ◌<◌, List, length, Option, None, Some, Ok, Err}
+use Rattle.std.specs.Prelude.{ℕ, ◌≡◌, List, length, Option, None, Some, Ok, Err}
 use Rattle.image_laws.specs.Told.{told_of}
 use Rattle.journal.specs.declared.effect.Step.{Step}
 use Rattle.journal_check.specs.Faults.{IsFault}
@@ -13,7 +13,7 @@ use Rattle.script_lang.specs.Parts.{ScriptParts}
 use Rattle.stage.specs.Turns.{shape_of}
 use Rattle.text_logs.specs.First.{first_other, front_of}
 use Rattle.text_check.specs.declared.stop.CheckStop.{CheckStop}
-use Rattle.text_check.specs.declared.stop.CheckStop.TheVariants.{Bad, Linked, Unread, Full}
+use Rattle.text_check.specs.declared.stop.CheckStop.TheVariants.{Bad, Unread, Full}
 use Rattle.text_check.specs.declared.stop.CheckStop.TheVariants.{Illegal, Log, NoMemory}
 
 -- bytes spell a script; its lines `order` mean nothing here
@@ -50,7 +50,6 @@ pub record HasOtherLog (script : ScriptParts) (text : List ℕ) (line : ℕ) : T
 
 -- why a text isn't that of a legal run of a script
 abbrev pub IsStopIn : ScriptParts → List ℕ → CheckStop → Type 0
-IsStopIn script text Linked = 0 < length script.links
 IsStopIn script text (Unread line) = read_in script.names text ≡ Err line
 IsStopIn script text (Full line) = full_in script.names text ≡ Some line
 IsStopIn script text (Illegal fault) = IsIllegalText script text fault

@@ -53,7 +53,6 @@ fn read_told(alloc: Global, script: &Script, text: &[u8]) -> Result<Journal, Che
 
 /// Whether the steps that were read are legal, with what their attaches tell.
 fn judge(alloc: Global, script: &Script, told: &Journal) -> Result<(), CheckStop>
-    requires unlinked { length script.now.links ≡ 0 }
     requires few { length told.now.log.steps < 4294967295 }
     ensures legal { OnOk result (IsJudged script.now told.now.log.steps) }
     ensures illegal { IfErr result (λ stop. IsJudgeStop script.now told.now.log.steps stop) }
@@ -78,9 +77,8 @@ fn compare(alloc: Global, text: &[u8], told: &Journal) -> Result<(), CheckStop>
     }
 }
 
-/// How many steps a text has that is that of a legal run of a script without links.
-fn check_unlinked(alloc: Global, script: &Script, text: &[u8]) -> Result<u64, CheckStop>
-    requires unlinked { length script.now.links ≡ 0 }
+/// How many steps a text has that is that of a legal run of a script.
+fn check_of(alloc: Global, script: &Script, text: &[u8]) -> Result<u64, CheckStop>
     requires short { length text.now < 4294967295 }
     ensures legal { IfOk result (λ steps. IsLegalText script.now text.now steps) }
     ensures stopped { IfErr result (λ stop. IsStopIn script.now text.now stop) }
@@ -89,18 +87,6 @@ fn check_unlinked(alloc: Global, script: &Script, text: &[u8]) -> Result<u64, Ch
     judge(alloc, script, &told)?;
     compare(alloc, text, &told)?;
     Ok(told.len())
-}
-
-/// How many steps a text has that is that of a legal run of a script.
-fn check_of(alloc: Global, script: &Script, text: &[u8]) -> Result<u64, CheckStop>
-    requires short { length text.now < 4294967295 }
-    ensures legal { IfOk result (λ steps. IsLegalText script.now text.now steps) }
-    ensures stopped { IfErr result (λ stop. IsStopIn script.now text.now stop) }
-{
-    if !script.links().is_empty() {
-        return Err(CheckStop::Linked);
-    }
-    check_unlinked(alloc, script, text)
 }
 
 /// HOW MANY STEPS THE TEXT HAS, that is that of a legal run of the script which these bytes spell; or

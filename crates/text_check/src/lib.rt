@@ -5,8 +5,6 @@
 //! legal and its logs are theirs; else the first bad line is named, or the first step that isn't
 //! legal with the first law that it breaks, or the first line of the logs that isn't told; or that
 //! it notes more than may be read.
-//!
-//! Scripts with links are refused by name: no run over links is judged.
 #![tactic(auto)]
 
 mod checking;

@@ -10,8 +10,6 @@ use std::alloc::AllocError;
 pub enum CheckStop {
     /// The bytes are no script: the first bad line, from 1, and what is wrong with it.
     Bad { line: u32, fault: Fault },
-    /// The script declares links, and no run over links is judged.
-    Linked,
     /// The text is no printed text with the names of the script: its first bad line, from 1.
     Unread { line: u64 },
     /// The first line, from 1, with which the text tells more signals than a journal holds.

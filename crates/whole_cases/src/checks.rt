@@ -124,8 +124,6 @@ const NO_TEXTS: &[(&str, TextFault)] = &[
          + opened 1.1\n2 A1 ended\n+ closed 1.1\n",
         TextFault::Log { line: 1 },
     ),
-    // Runs over links aren't judged.
-    ("node m\nnode n\nlink l m n\ntext\n", TextFault::Linked),
 ];
 
 #[test]

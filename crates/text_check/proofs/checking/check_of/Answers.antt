@@ -1,9 +1,9 @@
 use Rattle.std.proofs.Common.{◌≤◌, ◌<◌, length, arith}
 use Rattle.text_check.proofs.Few.{steps_few}
-use Rattle.text_check.proofs.checking.check_unlinked.Goals as goal
+use Rattle.text_check.proofs.checking.check_of.Goals as goal
 
-pub judge-requires-clause-few : goal.judge-requires-clause-few
-judge-requires-clause-few c =
+pub judge-requires : goal.judge-requires
+judge-requires c =
     let few : length c.in_ok-told.told.log.steps ≤ length c.args.text.now =
     steps_few c.args.script.now.names c.args.text.now c.in_ok-told.told.log.steps
     c.in_ok-told.ensures.read in
