@@ -1,8 +1,9 @@
 #!/usr/bin/env python3
 """Compares `linx_sim check` and the laws of bench/model/laws.py on legal texts and on spoiled ones.
 
-The legal ones are the texts of examples/ and examples/races without links, in threads, in the fixed
-order and in those of some numbers, and of random scripts. Each must be legal by both. Then COUNT
+The legal ones are the texts of examples/ and examples/races, in threads, in the fixed order and in
+those of some numbers, and of random scripts. Each must be legal, without links by both: the laws
+there speak of no links, so of runs over links nothing else is judged. Then COUNT
 texts are spoiled in each of the kinds of spoiled_steps.py, spoiled_calls.py and spoiled_lines.py.
 Both must say the same of them: legal, or the first step that isn't with the first law that it
 breaks, or the first bad line, or the first line of the logs that their steps don't tell. A spoiled
@@ -91,13 +92,14 @@ end
 
 # Legal texts.
 
-def unlinked_scripts():
-    """The scripts without links of examples/, and one of many that hunt and attach."""
+def scripts(linked):
+    """The scripts of examples/ with links or without, and one of many that hunt and attach."""
     for path in sorted([*TOP.glob("examples/*.linx"), *TOP.glob("examples/races/*.linx")]):
         script = path.read_text()
-        if not re.search("^ *link ", script, re.M):
+        if bool(re.search("^ *link ", script, re.M)) == linked:
             yield path.name, script
-    yield "a crowd", CROWD.format("".join(ASKER.format(k, 30 + k) for k in (1, 2, 3)))
+    if not linked:
+        yield "a crowd", CROWD.format("".join(ASKER.format(k, 30 + k) for k in (1, 2, 3)))
 
 
 def texts_of(program, script, orders):
@@ -108,15 +110,15 @@ def texts_of(program, script, orders):
             yield text.decode()
 
 
-def legal_runs(program, count):
-    """Each legal run, with its name: examples in many orders, and random scripts in threads and,
-    some of them, in the orders of numbers."""
+def legal_runs(program, count, linked=False):
+    """Each legal run, over links or without, with its name: examples in many orders, and random
+    scripts in threads and, some of them, in the orders of numbers."""
     orders = [["run"], ["serial"], *(["seed", str(seed)] for seed in range(20))]
-    for name, script in unlinked_scripts():
+    for name, script in scripts(linked):
         for text in texts_of(program, script, orders):
             yield name, script, text
     for seed in range(1, count + 1):
-        script = random_script.Writer(seed, alone=True).script()
+        script = random_script.Writer(seed, alone=not linked).script()
         orders = [["run"]] + [["serial"], ["seed", str(seed)]] * (seed <= count // 10)
         for text in texts_of(program, script, orders):
             yield f"seed {seed}", script, text
@@ -143,13 +145,13 @@ def said(line):
 
 
 def wanted(script, text):
-    """How a check of a text behind a script must end."""
+    """How a check of a text behind a script must end; None where the laws don't say it."""
     bad = first_bad_line(script.encode("latin-1"))
     if bad is not None:
         return 2, re.compile(rb"linx_sim: script line %d: " % bad + judge.REASON + rb"\n"), b""
     parsed = parse(script)
     if parsed.links:
-        return 8, said("runs over links can't be checked yet"), b""
+        return None
     verdict = laws.verdict(laws.shape_of(parsed), text)
     if verdict.kind == "legal":
         return 0, b"", b"legal %d\n" % verdict.at
@@ -195,7 +197,7 @@ def name_of(end):
     if law:
         return law[1].decode()
     kinds = {b"no line": "unread", b"another log": "log", b"more signals": "full",
-             b"links": "linked", b"script line": "no script"}
+             b"script line": "no script"}
     return next((name for words, name in kinds.items() if words in errors),
                 "legal" if status == 0 else str(status))
 
@@ -205,8 +207,9 @@ def fault_of(program, tally, run, script, text):
     end = judge.ended([program, "check"], behind(script, text), SECONDS)
     tally.judged += 1
     tally.statuses[name_of(end)] += 1
-    fault = judge.difference(end, wanted(script, text))
-    if fault or end[0] != 0:
+    right = wanted(script, text)
+    fault = right and judge.difference(end, right)
+    if fault or end[0] != 0 or right is None:
         return fault
     tally.legal += 1
     what, may_be = replayed(program, run, script, text)
@@ -251,7 +254,7 @@ def judged_legal(program, runs):
         fault = judge.difference(end, legal)
         if fault:
             yield f"{name}: {fault}:\n{script}text\n{text}"
-        elif wanted(script, text) != legal:
+        elif wanted(script, text) not in (legal, None):
             yield f"{name}: is {wanted(script, text)} by the laws:\n{script}text\n{text}"
 
 
@@ -282,6 +285,10 @@ def main():
     runs = list(legal_runs(program, given.runs))
     faults = list(judged_legal(program, runs))
     print(f"{len(runs) - len(faults)} of {len(runs)} runs are legal by both")
+    linked = list(legal_runs(program, given.runs, linked=True))
+    over_links = list(judged_legal(program, linked))
+    print(f"{len(linked) - len(over_links)} of {len(linked)} runs over links are legal")
+    faults += over_links
     faults += filter(None, judged_rows(program))
     pool, tallies = list(pooled(runs)), []
     for kind in [*KINDS, *LINE_KINDS, *SCRIPT_KINDS]:
