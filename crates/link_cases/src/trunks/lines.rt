@@ -1,6 +1,6 @@
 //! What comes of an event that a line of text names, as text.
 
-use crate::events::{close, deliver, lose, publish, query, restart, send, swap, tick};
+use crate::trunks::events::{close, deliver, lose, publish, query, restart, send, swap, tick};
 use carrier::TickedSide;
 use case_words::{
     add_piece, asked_text, front, gone_text, inc_of, inc_text, met_text, name_of, number_text,

@@ -1,7 +1,7 @@
 //! Exchanges over a link, each line an event and what comes of it. An event that is `undone` is
 //! undone then.
 
-use crate::carrier_events::{deliver, lose, new_link, offer, restart, swap, tick};
+use crate::ends::carrier_events::{deliver, lose, new_link, offer, restart, swap, tick};
 use carrier::{Carrier, Handed, TickedSide};
 use case_words::{
     follow_sections, front, number_text, session_or_none, session_text, side_of, text_of,

@@ -5,7 +5,7 @@
 //! `keep` and `undo` end an event; `met` and `unmet` say whether a peer is met; `used` how many
 //! addresses are in use.
 
-use crate::exchange::{Exchanges, follows};
+use crate::ends::exchange::{Exchanges, follows};
 use case_words::{
     asked_text, bytes_of, front, gone_text, inc_of, inc_text, met_text, name_of, text_of,
 };

@@ -7,7 +7,7 @@
 //! the node's sixth boot; `keep` and `undo` end an event; `work` and `rest` say whether the end has
 //! work.
 
-use crate::exchange::{Exchanges, follows};
+use crate::ends::exchange::{Exchanges, follows};
 use case_words::{bytes_of, front};
 use ethcm_end::{End, Input, Ticked};
 use ethcm_headers::PacketBytes;

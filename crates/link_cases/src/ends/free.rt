@@ -2,8 +2,8 @@
 //! and either side is ticked, boots again or has a message offered to it. What the calls answer is
 //! listed, and the lists are looked at after each event.
 
-use crate::carrier_events::{deliver, lose, new_link, offer, restart, swap, tick};
-use crate::listed::{ListedLink, must};
+use crate::ends::carrier_events::{deliver, lose, new_link, offer, restart, swap, tick};
+use crate::ends::listed::{ListedLink, must};
 use carrier::{Carrier, Handed, TickedSide};
 use case_words::Random;
 use linx_base::Side;

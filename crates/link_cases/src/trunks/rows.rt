@@ -1,7 +1,7 @@
 //! Exchanges over a trunk, each line an event and what comes of it. They stand in sections, each
 //! behind a `#` and a line that says what it shows, and each is gone through by a new trunk.
 
-use crate::lines::event_text;
+use crate::trunks::lines::event_text;
 use case_words::follow_sections;
 use std::alloc::Global;
 use std::test::Fail;

@@ -1,11 +1,11 @@
 //! Events in free order over a trunk: any packet comes, again or never, while sides call, restart
 //! and fall silent. What is handed up is judged by a plain account.
 
-use crate::account::{
+use crate::trunks::account::{
     Node, Word, begin, closes, data_of, is_complete, is_live, judge, met_at, name_of, new_node,
     opens, publishes, says,
 };
-use crate::events::{close, deliver, lose, publish, query, restart, send, swap, tick};
+use crate::trunks::events::{close, deliver, lose, publish, query, restart, send, swap, tick};
 use carrier::TickedSide;
 use case_words::Random;
 use linx_base::{Inc, Name, NodeNo, Session, Side, Signal};
