@@ -1,7 +1,7 @@
 //! What a gateway replies to a stream of requests, in pieces of each size.
 ghost use Rattle.std.specs.Prelude.{◌<◌, ◌≤◌};
 
-use crate::talking::{joined, talk};
+use crate::talking::{SIZES, joined, talk};
 use std::alloc::Global;
 use std::test::Fail;
 
@@ -244,15 +244,31 @@ const TOGETHER: &[Case] = &[
     ),
 ];
 
-/// Whether a session of so many clients is replied exactly this, in pieces of each size, and ends
-/// where the bytes do.
+/// Whether a session of so many clients is replied exactly this, in pieces of so many bytes at most,
+/// and ends where the bytes do.
+fn is_replied_in(
+    alloc: Global,
+    clients: u8,
+    asked: &[&str],
+    said: &[&str],
+    most: usize,
+) -> Result<bool, Fail>
+    requires { (0 < clients) × (clients ≤ 16) }
+{
+    if most == 0 {
+        return Ok(false);
+    }
+    let talk = talk(alloc, clients, joined(alloc, asked)?, most)?;
+    let wanted = joined(alloc, said)?;
+    Ok(talk.ended == Ok(()) && talk.said.as_slice() == wanted.as_slice())
+}
+
+/// Whether it is, in pieces of each size.
 fn is_replied(alloc: Global, clients: u8, asked: &[&str], said: &[&str]) -> Result<bool, Fail>
     requires { (0 < clients) × (clients ≤ 16) }
 {
-    let wanted = joined(alloc, said)?;
-    for most in [1, 3, 16, 4096] {
-        let talk = talk(alloc, clients, joined(alloc, asked)?, most)?;
-        if talk.ended != Ok(()) || talk.said.as_slice() != wanted.as_slice() {
+    for &most in SIZES {
+        if !is_replied_in(alloc, clients, asked, said, most)? {
             return Ok(false);
         }
     }

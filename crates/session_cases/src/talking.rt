@@ -2,6 +2,7 @@
 //! case has one in hand.
 ghost use Rattle.std.specs.Prelude.{◌<◌, ◌≤◌};
 
+use case_words::bytes_of;
 use gateway_session::Session;
 use journal_text::text;
 use linx_outside::{MemSink, MemSource};
@@ -9,6 +10,9 @@ use request_stream::ServeStop;
 use std::alloc::Global;
 use std::mem;
 use std::test::Fail;
+
+/// The most bytes of the pieces in which bytes come.
+pub const SIZES: &[usize] = &[1, 3, 16, 4096];
 
 /// How a session ended, and all that it replied.
 #[derive(Drop)]
@@ -20,10 +24,8 @@ pub struct Talked {
 /// The bytes of some words.
 pub fn joined(alloc: Global, words: &[&str]) -> Result<Vec<u8>, Fail> {
     let mut bytes = Vec::new(alloc);
-    for word in words {
-        for byte in hex::decode(alloc, word).map_err(|_| "no digits")? {
-            bytes.push(byte)?;
-        }
+    for &word in words {
+        bytes.extend_from_slice(&bytes_of(alloc, word)?)?;
     }
     Ok(bytes)
 }

@@ -1,5 +1,6 @@
 //! What an echo says to a stream of bytes, in pieces of each size.
 
+use crate::talking::{SIZES, joined};
 use linx_outside::{MemSink, MemSource};
 use request_stream::ServeStop;
 use std::alloc::Global;
@@ -45,7 +46,13 @@ const PING: &str = "01030000000000000000000000000000";
 const PONG: &str = "01040000000000000000000000000000";
 
 /// The words of what is asked, of what is said, and how the session ends.
-const CASES: &[(&[&str], &[&str], Result<(), ServeStop>)] = &[
+type Case = (
+    &'static [&'static str],
+    &'static [&'static str],
+    Result<(), ServeStop>,
+);
+
+const CASES: &[Case] = &[
     (&[], &[], Ok(())),
     (&[CONN], &[GREETING], Ok(())),
     (&[CONN, QUERY], &[GREETING, PUBLISH], Ok(())),
@@ -116,30 +123,31 @@ const CASES: &[(&[&str], &[&str], Result<(), ServeStop>)] = &[
     ),
 ];
 
-/// The bytes of some words.
-fn joined(alloc: Global, words: &[&str]) -> Result<Vec<u8>, Fail> {
-    let mut bytes = Vec::new(alloc);
-    for word in words {
-        for byte in hex::decode(alloc, word).map_err(|_| "no digits")? {
-            bytes.push(byte)?;
+/// Whether an echo says exactly this, and ends so, in pieces of so many bytes at most.
+fn is_said(alloc: Global, (asked, said, ends): Case, most: usize) -> Result<bool, Fail> {
+    if most == 0 {
+        return Ok(false);
+    }
+    let mut source = MemSource::new(joined(alloc, asked)?, most, Vec::new(alloc));
+    let mut sink = MemSink::new(alloc, most, 65536, Vec::new(alloc))?;
+    let ended = serve(alloc, &mut source, &mut sink);
+    Ok(ended == ends && sink.held() == joined(alloc, said)?.as_slice())
+}
+
+/// It fails at the first size of pieces in which a case goes otherwise.
+fn says(alloc: Global, case: Case) -> Result<(), Fail> {
+    for &most in SIZES {
+        if !is_said(alloc, case, most)? {
+            return Err(Fail::new(format_args!("{:?} by {most}", case.0)));
         }
     }
-    Ok(bytes)
+    Ok(())
 }
 
 #[test]
 fn an_echo_says_exactly_this_in_any_pieces(rt: HostRuntime) -> Result<(), Fail> {
-    for &(asked, said, ends) in CASES {
-        for most in [1, 3, 16, 4096] {
-            let mut source = MemSource::new(joined(rt.alloc(), asked)?, most, Vec::new(rt.alloc()));
-            let mut sink = MemSink::new(rt.alloc(), most, 65536, Vec::new(rt.alloc()))?;
-            let ended = serve(rt.alloc(), &mut source, &mut sink);
-            assert!(rt; ended == ends, "{asked:?} by {most} ends {ended:?}");
-            assert!(rt;
-                sink.held() == joined(rt.alloc(), said)?.as_slice(),
-                "{asked:?} by {most}"
-            );
-        }
+    for &case in CASES {
+        says(rt.alloc(), case)?;
     }
     Ok(())
 }

@@ -1,7 +1,7 @@
 //! Readers and writers of std as sources and sinks, among them one that halts.
 
-use crate::sinks::takes;
-use crate::sources::gives;
+use crate::streams::sinks::takes;
+use crate::streams::sources::gives;
 use linx_outside::{ReadFrom, Sink, WriteAnswer, WriteTo};
 use std::io;
 use std::io::{ErrorKind, Read, Write};
