@@ -1,0 +1,4 @@
+//! The rules of orders, and runs in an order.
+
+mod rules;
+mod runs;
