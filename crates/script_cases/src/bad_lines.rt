@@ -251,37 +251,41 @@ fn bad_line(rt: &HostRuntime, text: &[u8]) -> Option<(u32, BadKind)> {
     }
 }
 
+/// Fails unless the text of a case has its bad line.
+fn is_bad(rt: &HostRuntime, (piece, times, end, line, kind): Case) -> Result<(), Fail> {
+    let text = repeated(rt, piece, times, end)?;
+    if bad_line(rt, &text) != Some((line, kind)) {
+        return Err(Fail::new(format_args!("not {kind} in {piece} {end}")));
+    }
+    Ok(())
+}
+
 #[test]
 fn each_kind_of_bad_line(rt: HostRuntime) -> Result<(), Fail> {
-    for &(piece, times, end, line, kind) in KINDS {
-        let text = repeated(&rt, piece, times, end)?;
-        assert_eq!(rt; bad_line(&rt, &text), Some((line, kind)));
+    for &case in KINDS {
+        is_bad(&rt, case)?;
     }
     Ok(())
 }
 
 #[test]
 fn the_first_of_two_kinds(rt: HostRuntime) -> Result<(), Fail> {
-    for &((piece, times, end, line, kind), second) in FIRST_OF_TWO {
-        let text = repeated(&rt, piece, times, end)?;
-        assert_eq!(rt; bad_line(&rt, &text), Some((line, kind)), "and {second}");
+    for &(case, _second) in FIRST_OF_TWO {
+        is_bad(&rt, case)?;
     }
     Ok(())
 }
 
 #[test]
-fn each_bad_line_with_its_number_and_kind(rt: HostRuntime) {
+fn each_bad_line_with_its_number_and_kind(rt: HostRuntime) -> Result<(), Fail> {
     for &(text, line, kind) in BAD {
-        assert_eq!(rt;
-            bad_line(&rt, text.as_bytes()),
-            Some((line, kind)),
-            "at {text}"
-        );
+        is_bad(&rt, ("", 0, text, line, kind))?;
     }
+    Ok(())
 }
 
 /// Long texts: a piece, how often it stands, an end, and the bad line with its kind.
-const LONG: [(&str, u32, &str, Option<(u32, BadKind)>); 4] = [
+const LONG: &[(&str, u32, &str, Option<(u32, BadKind)>)] = &[
     ("#", 4096, "\n", None),
     (" ", 4096, "\r\n", Some((1, BadKind::LineTooLong))),
     (LINE, 16384, "", None),
@@ -293,12 +297,17 @@ const LONG: [(&str, u32, &str, Option<(u32, BadKind)>); 4] = [
     ),
 ];
 
+/// Whether a text is a script, where it has no bad line, and none, where it has one.
+fn is_read_so(rt: &HostRuntime, text: &[u8], wanted: Option<(u32, BadKind)>) -> bool {
+    let is_script = parse(rt.alloc(), text).is_ok();
+    bad_line(rt, text) == wanted && is_script == wanted.is_none()
+}
+
 #[test]
 fn lines_and_scripts_at_their_longest(rt: HostRuntime) -> Result<(), Fail> {
-    for (piece, times, end, wanted) in LONG {
+    for &(piece, times, end, wanted) in LONG {
         let text = repeated(&rt, piece, times, end)?;
-        assert_eq!(rt; bad_line(&rt, &text), wanted);
-        assert_eq!(rt; parse(rt.alloc(), &text).is_ok(), wanted.is_none());
+        assert!(rt; is_read_so(&rt, &text, wanted), "{times} times {piece}");
     }
     Ok(())
 }
@@ -606,14 +615,28 @@ const SAID: &[(&str, &str, u32, &str, &str)] = &[
     ),
 ];
 
+/// A text behind another one.
+fn joined(rt: &HostRuntime, begin: &str, behind: &[u8]) -> Result<Vec<u8>, Fail> {
+    let mut text = Vec::new(rt.alloc());
+    text.extend_from_slice(begin.as_bytes())?;
+    text.extend_from_slice(behind)?;
+    Ok(text)
+}
+
+/// What is said of the first bad line of a text.
+fn said_of(rt: &HostRuntime, text: &[u8]) -> Result<String, Fail> {
+    let error = parse(rt.alloc(), text).err().ok_or("no bad line")?;
+    Ok(format!(in rt.alloc(); "{error}")?)
+}
+
 #[test]
 fn what_is_said_of_bad_lines(rt: HostRuntime) -> Result<(), Fail> {
-    for &(begin, piece, times, end, said) in SAID {
-        let mut text = Vec::new(rt.alloc());
-        text.extend_from_slice(begin.as_bytes())?;
-        text.extend_from_slice(&repeated(&rt, piece, times, end)?)?;
-        let error = parse(rt.alloc(), &text).err().ok_or("no bad line")?;
-        assert_eq!(rt; format!(in rt.alloc(); "{error}")?.as_str(), said);
+    for &(begin, piece, times, end, wanted) in SAID {
+        let behind = repeated(&rt, piece, times, end)?;
+        let said = said_of(&rt, &joined(&rt, begin, &behind)?)?;
+        if said.as_str() != wanted {
+            return Err(Fail::from(wanted));
+        }
     }
     Ok(())
 }

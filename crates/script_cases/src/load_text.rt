@@ -1,22 +1,35 @@
 //! The text of the load of number 7.
 
 use std::alloc::Global;
+use std::fmt::Write;
 use std::test::Fail;
 
 /// The number of the load.
 pub const N: u32 = 7;
 
-/// The line of a plan: the j-th verdict goes by the last digit of N + 3j + k, and 1 more for `<`.
-fn add_plan(text: &mut String, k: u8, direction: &str, shift: u8) -> Result<(), Fail> {
-    text.push_str(&format!(in *text.allocator(); "plan l{k} {direction}")?)?;
-    for j in 1..=200u32 {
-        text.push_str(match (N + 3 * j + u32::from(k) + u32::from(shift)) % 10 {
-            0 => " L",
-            3 => " R",
-            6 => " S2",
-            _ => " D",
-        })?;
+/// The verdict of a last digit.
+fn verdict_of(digit: u32) -> &'static str {
+    match digit {
+        0 => " L",
+        3 => " R",
+        6 => " S2",
+        _ => " D",
     }
+}
+
+/// The verdicts of a plan: the j-th one goes by the last digit of N + 3j + k, and 1 more for `<`.
+fn add_verdicts(text: &mut String, k: u8, shift: u8) -> Result<(), Fail> {
+    let first = N + u32::from(k) + u32::from(shift);
+    for j in 1..=200u32 {
+        text.push_str(verdict_of((first + 3 * j) % 10))?;
+    }
+    Ok(())
+}
+
+/// The line of a plan.
+fn add_plan(text: &mut String, k: u8, direction: &str, shift: u8) -> Result<(), Fail> {
+    write!(text, "plan l{k} {direction}")?;
+    add_verdicts(text, k, shift)?;
     text.push('\n')?;
     Ok(())
 }

@@ -155,15 +155,25 @@ fn good_script(alloc: Global) -> Result<Script, Fail> {
     Ok(parse(alloc, GOOD.as_bytes())?)
 }
 
+/// The links of a script, each on a line.
+fn shown_links(alloc: Global, script: &Script) -> Result<String, Fail> {
+    let mut all = String::new(alloc);
+    for link in script.links() {
+        all.push_str(&shown_link(alloc, link)?)?;
+        all.push('\n')?;
+    }
+    Ok(all)
+}
+
 #[test]
 fn links_with_and_without_sizes(rt: HostRuntime) -> Result<(), Fail> {
     let script = good_script(rt.alloc())?;
     assert!(rt; script.names().nodes.len() == 2 && script.names().links.len() == 2);
-    let [l, k] = script.links() else {
-        return Err(Fail::from("two links"));
-    };
-    assert!(rt; shown_link(rt.alloc(), l)?.as_str() == "1 2 window 32 piece 1400");
-    assert!(rt; shown_link(rt.alloc(), k)?.as_str() == "2 1 window 2 piece 64");
+    let links = shown_links(rt.alloc(), &script)?;
+    assert_eq!(rt;
+        links.as_str(),
+        "1 2 window 32 piece 1400\n2 1 window 2 piece 64\n"
+    );
     Ok(())
 }
 

@@ -1,6 +1,6 @@
 //! Lines that are no orders, and the turns that orders list: the actors are 1 and 2, the link is 3.
 
-use crate::scripts::front_behind;
+use crate::order_rows::scripts::front_behind;
 use std::test::Fail;
 
 /// Lines behind a script, and the makers that come first.

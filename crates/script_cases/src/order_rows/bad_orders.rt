@@ -1,6 +1,6 @@
 //! Bad orders, by their first bad line; and a script that is bad elsewhere, of which that is told.
 
-use crate::scripts::front_behind;
+use crate::order_rows::scripts::front_behind;
 use std::test::Fail;
 
 /// Lines behind a script of nine, and what is said of the first bad one.
