@@ -1,6 +1,7 @@
 //! Journals of steps that are written as lines.
 
 use crate::lines::{effect, head};
+use case_words::link_of;
 use journal::{By, Effects, Journal, Step};
 use linx_base::{Name, NameList, Names};
 use std::alloc::Global;
@@ -26,10 +27,18 @@ fn effects(alloc: Global, texts: &str) -> Result<Effects, Fail> {
     Ok(Effects::of(effects))
 }
 
-/// A step of a line: the number of its actor, its head, and its effects, a plus before each.
-fn step(alloc: Global, line: &str) -> Result<Step, Fail> {
-    let (actor, rest) = line.split_once(' ').ok_or("no maker")?;
-    let by = By::Actor(actor.parse()?);
+/// Who makes a step: an actor by its number, or the pump of a link, as `P1`.
+fn maker(word: &str) -> Result<By, Fail> {
+    match word.strip_prefix('P') {
+        None => Ok(By::Actor(word.parse()?)),
+        Some(link) => Ok(By::Pump(link_of(link)?)),
+    }
+}
+
+/// A step of a line: its maker, its head, and its effects, a plus before each.
+pub fn step(alloc: Global, line: &str) -> Result<Step, Fail> {
+    let (by, rest) = line.split_once(' ').ok_or("no maker")?;
+    let by = maker(by)?;
     match rest.split_once(" + ") {
         None => Ok(Step {
             by,
@@ -44,7 +53,7 @@ fn step(alloc: Global, line: &str) -> Result<Step, Fail> {
     }
 }
 
-fn add(journal: &mut Journal, step: Step) -> Result<(), Fail> {
+pub fn add(journal: &mut Journal, step: Step) -> Result<(), Fail> {
     journal.reserve(1)?;
     journal.push(step);
     Ok(())

@@ -1,8 +1,13 @@
-//! Cases of what is printed of a journal: each line of a step, the logs, the whole text, and what
-//! goes out to a sink. They stand apart from `journal_text` and `report`, so that those are proved
-//! once.
+//! Cases of a journal and its text: what is printed of it, each line of a step, the logs, the whole
+//! text, and what goes out to a sink; the check of journals (`checked`); texts that are read back
+//! (`read`); and what is drawn of a journal (`charts`). They stand apart from the layers, so that those
+//! are proved once; and in one crate, since each crate loads anew what it stands on.
 #![tactic(auto)]
 
+#[cfg(test)]
+mod charts;
+#[cfg(test)]
+mod checked;
 #[cfg(test)]
 mod effects;
 #[cfg(test)]
@@ -13,6 +18,8 @@ mod journals;
 mod lines;
 #[cfg(test)]
 mod logs;
+#[cfg(test)]
+mod read;
 #[cfg(test)]
 mod reports;
 #[cfg(test)]

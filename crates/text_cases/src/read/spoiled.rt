@@ -1,6 +1,6 @@
 //! The first bad line of texts that were spoiled.
 
-use crate::texts::names;
+use crate::read::texts::names;
 use journal_read::{Unread, read};
 use std::alloc::Global;
 use std::test::Fail;

@@ -1,6 +1,6 @@
 //! The logs of a text beside its steps.
 
-use crate::texts::{SENDS_TO_ITSELF, names};
+use crate::read::texts::{SENDS_TO_ITSELF, names};
 use journal_read::read;
 use std::alloc::Global;
 use std::test::Fail;

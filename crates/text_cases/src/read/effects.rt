@@ -1,7 +1,7 @@
 //! The first bad line of texts whose effects were spoiled, and of all words, line by line.
 
-use crate::spoiled::bad_line;
-use crate::texts::ALL_WORDS;
+use crate::read::spoiled::bad_line;
+use crate::read::texts::ALL_WORDS;
 use std::alloc::Global;
 use std::test::Fail;
 

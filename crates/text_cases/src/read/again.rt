@@ -1,6 +1,6 @@
 //! Texts that are read and printed again.
 
-use crate::texts::{ALL_WORDS, SENDS_TO_ITSELF, names};
+use crate::read::texts::{ALL_WORDS, SENDS_TO_ITSELF, names};
 use journal::{Head, Journal};
 use journal_read::read;
 use journal_text::{text, write_count, write_step};

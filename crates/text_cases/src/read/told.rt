@@ -1,6 +1,6 @@
 //! What the notifications of a text that was read are told by their attaches.
 
-use crate::texts::names;
+use crate::read::texts::names;
 use journal::Effect;
 use journal_read::read;
 use journal_told::with_told;

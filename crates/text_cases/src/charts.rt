@@ -1,0 +1,4 @@
+//! Charts and pictures.
+
+mod drawn;
+mod pictures;
