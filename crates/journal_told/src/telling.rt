@@ -90,10 +90,11 @@ fn told_step(alloc: Global, journal: &Journal, first: u64, step: &Step) -> Resul
           step.now.effects;
     }) }
 {
+    let effects = told_effects(alloc, journal, first, step.effects.as_slice())?;
     Ok(Step {
         by: step.by,
         head: copy_head(&step.head)?,
-        effects: told_effects(alloc, journal, first, step.effects.as_slice())?,
+        effects,
     })
 }
 

@@ -15,7 +15,7 @@ pub(crate) fn begin(parts: &mut Parts) -> Result<(), NoMemory>
     ensures was { parts.new.was ≡ parts.old.was }
 {
     parts.empty();
-    parts.say(&Rlnh::Init)?;
+    parts.say(Rlnh::Init)?;
     Ok(())
 }
 
@@ -25,7 +25,7 @@ pub(crate) fn query(parts: &mut Parts, name: &Name) -> Result<(), NoMemory>
         (parts.new.is ≡ after parts.old.is (query_of parts.old.is.tables name.now)) }
     ensures was { parts.new.was ≡ parts.old.was }
 {
-    parts.say(&Rlnh::QueryName(name.copy()?))?;
+    parts.say(Rlnh::QueryName(name.copy()?))?;
     Ok(())
 }
 
@@ -39,7 +39,7 @@ fn announce(parts: &mut Parts, inc: Inc, name: &Name) -> Result<(), NoMemory>
 {
     let name = name.copy()?;
     let addr = parts.own.publish(inc)?;
-    parts.say(&Rlnh::Publish { addr, inc, name })?;
+    parts.say(Rlnh::Publish { addr, inc, name })?;
     Ok(())
 }
 
@@ -78,7 +78,7 @@ pub(crate) fn close(parts: &mut Parts, inc: Inc) -> Result<(), NoMemory>
     ensures was { parts.new.was ≡ parts.old.was }
 {
     match parts.own.closing(inc) {
-        Some(addr) => parts.say(&Rlnh::Unpublish(addr)),
+        Some(addr) => parts.say(Rlnh::Unpublish(addr)),
         None => Ok(()),
     }
 }

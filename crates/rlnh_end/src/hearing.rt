@@ -50,7 +50,7 @@ fn hear_unpublish(parts: &mut Parts, addr: u32) -> Result<Up, NoMemory>
         return Ok(Up::Bad);
     };
     parts.part(addr)?;
-    parts.say(&Rlnh::UnpublishAck(addr))?;
+    parts.say(Rlnh::UnpublishAck(addr))?;
     Ok(Up::Gone { inc })
 }
 
@@ -97,7 +97,7 @@ fn hear_init(parts: &mut Parts) -> Result<Up, NoMemory>
         IfOk result (λ up. gives parts.new.is up ≡ reacts parts.old.is heard) }
     ensures was { parts.new.was ≡ parts.old.was }
 {
-    parts.say(&Rlnh::InitReply)?;
+    parts.say(Rlnh::InitReply)?;
     Ok(Up::Nothing)
 }
 

@@ -164,19 +164,26 @@ impl Parts {
     }
 
     /// A message of RLNH goes out behind the others. A refusal changes nothing.
-    pub(crate) fn say(&mut self, message: &Rlnh) -> Result<(), NoMemory>
-        requires { HasAddress message.now }
-        ensures is { OnOk result (self.new.is ≡ put self.old.is (control_message message.now)) }
+    pub(crate) fn say(&mut self, message: Rlnh) -> Result<(), NoMemory>
+        requires { HasAddress message }
+        ensures is { OnOk result (self.new.is ≡ put self.old.is (control_message message)) }
         ensures was { self.new.was ≡ self.old.was }
         ensures err { OnErr result (self.new ≡ self.old) }
     {
-        let body = write(self.alloc, message)?;
-        self.put(Message {
-            from: 0,
-            to: 0,
-            body,
-        })?;
-        Ok(())
+        match write(self.alloc, &message) {
+            Ok(body) => {
+                drop(message);
+                self.put(Message {
+                    from: 0,
+                    to: 0,
+                    body,
+                })
+            }
+            Err(refusal) => {
+                drop(message);
+                Err(refusal)
+            }
+        }
     }
 
     /// The message that goes out next, `None` exactly where there is none.

@@ -35,8 +35,7 @@ pub fn serve<S: Source, K: Sink>(
         Ok(echo) => echo,
         Err(_) => return Err(ServeStop::NoMemory),
     };
-    match serve_stream(alloc, &mut echo, source, sink) {
-        Ok(()) => Ok(()),
-        Err(stop) => Err(stop),
-    }
+    let served = serve_stream(alloc, &mut echo, source, sink);
+    drop(echo);
+    served
 }

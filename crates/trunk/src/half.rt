@@ -7,7 +7,7 @@ ghost use Rattle.rlnh_end.specs.declared.heard.Heard.{Heard as AnyHeard};
 ghost use Rattle.rlnh_end.specs.Calls.{close_of, opened_of, publish_of, query_of, send_of};
 ghost use Rattle.rlnh_end.specs.Hearing.{IsRead, hears};
 ghost use Rattle.rlnh_end.specs.States.{addr_met, after_out, next_of};
-ghost use Rattle.trunk.specs.Events.{new_trunk_side, told_up};
+ghost use Rattle.trunk.specs.Events.{given_up, giving_all, new_trunk_side, told_up};
 ghost use Rattle.trunk.specs.Publishing.{newest_unpublished};
 ghost use Rattle.trunk.specs.Parts.{side_begins, side_ends, side_hears, side_says};
 
@@ -42,6 +42,61 @@ impl Model for Half {
     } };
 
     ghost invariant = { λ h. h.touched ≡ false → (h.end.was ≡ h.end.is) × (h.kept.was ≡ h.kept.is) };
+}
+
+/// What is handed up is recorded.
+fn note_up(kept: &mut History, up: &Up) -> Result<(), NoMemory>
+    ensures is { OnOk result (kept.new.is ≡ giving_all (given_up up.now) kept.old.is) }
+    ensures was { kept.new.was ≡ kept.old.was }
+{
+    match up {
+        Up::Nothing => Ok(()),
+        Up::Arrived { from, to, signal } => {
+            kept.note(Note::Arrived {
+                from: *from,
+                to: *to,
+                signal: signal.note()?,
+            });
+            Ok(())
+        }
+        Up::Freed { from, to, signal } => {
+            kept.note(Note::Freed {
+                from: *from,
+                to: *to,
+                signal: signal.note()?,
+            });
+            Ok(())
+        }
+        Up::Met { inc, name } => {
+            kept.note(Note::Met {
+                inc: *inc,
+                name: name.copy()?,
+            });
+            Ok(())
+        }
+        Up::Gone { inc } => {
+            kept.note(Note::Gone(*inc));
+            Ok(())
+        }
+        Up::Asked { name } => {
+            kept.note(Note::AskedFor(name.copy()?));
+            Ok(())
+        }
+        Up::Bad => Ok(()),
+    }
+}
+
+/// What the node is told of what is handed up.
+fn told_up(up: Up) -> TrunkUp
+    ensures { result ≡ told_up up }
+{
+    match up {
+        Up::Nothing | Up::Freed { .. } | Up::Bad => TrunkUp::Nothing,
+        Up::Arrived { from, to, signal } => TrunkUp::Arrived { from, to, signal },
+        Up::Met { inc, name } => TrunkUp::Met { inc, name },
+        Up::Gone { inc } => TrunkUp::Gone { inc },
+        Up::Asked { name } => TrunkUp::Asked { name },
+    }
 }
 
 impl Half {
@@ -171,41 +226,12 @@ impl Half {
         ensures was { self.new.was ≡ self.old.was }
     {
         self.touched = true;
-        match self.end.input(m)? {
-            Up::Nothing => Ok(TrunkUp::Nothing),
-            Up::Arrived { from, to, signal } => {
-                self.kept.note(Note::Arrived {
-                    from,
-                    to,
-                    signal: signal.note()?,
-                });
-                Ok(TrunkUp::Arrived { from, to, signal })
-            }
-            Up::Freed { from, to, signal } => {
-                self.kept.note(Note::Freed {
-                    from,
-                    to,
-                    signal: signal.note()?,
-                });
-                Ok(TrunkUp::Nothing)
-            }
-            Up::Met { inc, name } => {
-                self.kept.note(Note::Met {
-                    inc,
-                    name: name.copy()?,
-                });
-                Ok(TrunkUp::Met { inc, name })
-            }
-            Up::Gone { inc } => {
-                self.kept.note(Note::Gone(inc));
-                Ok(TrunkUp::Gone { inc })
-            }
-            Up::Asked { name } => {
-                self.kept.note(Note::AskedFor(name.copy()?));
-                Ok(TrunkUp::Asked { name })
-            }
-            Up::Bad => Ok(TrunkUp::Nothing),
+        let up = self.end.input(m)?;
+        if let Err(refusal) = note_up(&mut self.kept, &up) {
+            drop(up);
+            return Err(refusal);
         }
+        Ok(told_up(up))
     }
 
     /// The next message that goes to the other side, `None` exactly where there is none.

@@ -55,8 +55,13 @@ pub(crate) fn deliver(
         }
         Handed::Got(message) => {
             let up = parts.hear(side, &message)?;
-            parts.send_out(side)?;
-            Ok(up)
+            match parts.send_out(side) {
+                Ok(()) => Ok(up),
+                Err(refusal) => {
+                    drop(up);
+                    Err(refusal)
+                }
+            }
         }
     }
 }

@@ -2,6 +2,7 @@
 
 ghost use Rattle.std.specs.Prelude.{◌≡◌, ◌++◌, codes, OnOk, IfOk};
 ghost use Rattle.script_words.specs.declared.target.Target.TheVariants as targets;
+ghost use Rattle.script_lang.specs.Copies.{copies};
 ghost use Rattle.work_gen.specs.Generated.{receive, server_commands, finding, request, asking};
 ghost use Rattle.work_gen.specs.Generated.{leaving, client_commands};
 
@@ -47,6 +48,19 @@ fn server_kept(alloc: Global) -> Result<Target, NoMemory>
     Ok(Target::Kept(name_of(alloc, b"s")?))
 }
 
+/// Adds so many rounds of these commands.
+fn add_rounds<const N: usize>(
+    commands: &mut Commands,
+    rounds: u32,
+    round: [Command; N],
+) -> Result<(), NoMemory>
+    ensures { OnOk result (commands.new ≡ commands.old ++ copies rounds round) }
+{
+    let added = add_copies(commands, rounds, &round);
+    drop(round);
+    added
+}
+
 /// What the server of link k, from 1, does.
 #[tactic(auto, unfolding(crate::specs::Generated::server_commands))]
 pub(crate) fn server_commands(alloc: Global, k: u32) -> Result<Commands, NoMemory>
@@ -54,17 +68,15 @@ pub(crate) fn server_commands(alloc: Global, k: u32) -> Result<Commands, NoMemor
 {
     let mut commands = Commands::new(alloc);
     commands.push(Command::Open(numbered_name(alloc, b's', k)?))?;
+    let request = receive_of(alloc, REQUEST)?;
     let answer = Command::Send {
         to: Target::Last,
         number: ANSWER,
         bytes: Filling::EMPTY,
     };
-    add_copies(
-        &mut commands,
-        CLIENTS * REQUESTS,
-        &[receive_of(alloc, REQUEST)?, answer],
-    )?;
-    add_copies(&mut commands, CLIENTS, &[receive_of(alloc, DONE)?])?;
+    add_rounds(&mut commands, CLIENTS * REQUESTS, [request, answer])?;
+    let done = receive_of(alloc, DONE)?;
+    add_rounds(&mut commands, CLIENTS, [done])?;
     Ok(commands)
 }
 
@@ -85,9 +97,10 @@ fn finding(alloc: Global, k: u32, i: u32) -> Result<Commands, NoMemory>
     })?;
     commands.push(receive_of(alloc, FOUND)?)?;
     commands.push(Command::Keep(name_of(alloc, b"s")?))?;
+    let r = name_of(alloc, b"r")?;
     commands.push(Command::Attach {
         to: server_kept(alloc)?,
-        r: name_of(alloc, b"r")?,
+        r,
         number: ENDED,
         bytes: Filling::EMPTY,
     })?;
@@ -109,13 +122,21 @@ fn request_of(n: u32, i: u32) -> Filling
 fn add_asking(alloc: Global, commands: &mut Commands, n: u32, i: u32) -> Result<(), NoMemory>
     ensures { OnOk result (commands.new ≡ commands.old ++ asking n i) }
 {
-    let ask = Command::Send {
-        to: server_kept(alloc)?,
-        number: REQUEST,
-        bytes: request_of(n, i),
-    };
-    add_copies(commands, REQUESTS, &[ask, receive_of(alloc, ANSWER)?])?;
-    Ok(())
+    let to = server_kept(alloc)?;
+    match receive_of(alloc, ANSWER) {
+        Ok(answer) => {
+            let ask = Command::Send {
+                to,
+                number: REQUEST,
+                bytes: request_of(n, i),
+            };
+            add_rounds(commands, REQUESTS, [ask, answer])
+        }
+        Err(refusal) => {
+            drop(to);
+            Err(refusal)
+        }
+    }
 }
 
 /// Adds how a client takes leave of its server.
