@@ -4,8 +4,8 @@
     bench/try edits [CRATE ..]     the edits of these crates, or of all: each must be refused
     bench/try edits --read         only whether each can be made: its old text stands once
 
-The gate proves a crate a second time to try its edits, so it tries those in `must-fail/`, of crates
-that are proved within a minute. Those of the others lie in `edits/`, in the same form. Here both are
+The gate tries those in `must-fail/`. Those of the crates that take longest lie in `edits/`, in the
+same form, since it proves a crate a second time to try its edits; no gate looks at them. Here both are
 tried, by `rt must-fail`, over a copy in which they lie together, with the libraries that are built.
 Say it for the crates that you changed; for all it takes some two hours on four processors.
 """
